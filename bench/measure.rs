@@ -1,0 +1,166 @@
+//! Times `stompd`, the baseline and `cat` on each input of `bench/relay` and prints the table:
+//! `measure STOMPD BASELINE FOLDER`. It refuses outputs that differ, and judges no time.
+
+use std::env;
+use std::fs::{self, File};
+use std::io::{self, BufReader, Read};
+use std::path::{Path, PathBuf};
+use std::process::{Command, ExitCode};
+use std::time::{Duration, Instant};
+
+const INPUTS: [&str; 4] = ["bodies-16", "bodies-1K", "bodies-1M", "headers"];
+const RUNS: usize = 5;
+
+/// What one program took: the best time and the largest peak of all its runs.
+#[derive(Clone, Copy)]
+struct Cost {
+    time: Duration,
+    peak: u64,
+}
+
+impl Cost {
+    const NONE: Cost = Cost {
+        time: Duration::MAX,
+        peak: 0,
+    };
+
+    fn add(&mut self, other: Cost) {
+        self.time = self.time.min(other.time);
+        self.peak = self.peak.max(other.peak);
+    }
+
+    fn milliseconds(self) -> f64 {
+        self.time.as_secs_f64() * 1_000.0
+    }
+
+    fn mebibytes(self) -> f64 {
+        self.peak as f64 / 1_048_576.0
+    }
+}
+
+/// A child's use of the machine, as `wait4` of Linux on 64-bit processors tells it.
+#[repr(C)]
+#[derive(Default)]
+struct Usage {
+    user: [i64; 2],
+    system: [i64; 2],
+    peak_kibibytes: i64,
+    others: [i64; 13],
+}
+
+unsafe extern "C" {
+    fn wait4(child: i32, status: *mut i32, options: i32, usage: *mut Usage) -> i32;
+}
+
+/// Waits for the child to end; its raw status (0 where it ended with 0) and its use.
+fn wait(child: u32) -> io::Result<(i32, Usage)> {
+    let (mut status, mut usage) = (0, Usage::default());
+    // Safe: both places are of this call alone, with the layout that Linux gives them.
+    let ended = unsafe { wait4(child as i32, &mut status, 0, &mut usage) };
+    if ended < 0 {
+        Err(io::Error::last_os_error())
+    } else {
+        Ok((status, usage))
+    }
+}
+
+/// Runs the program once, from one file to another.
+fn run(words: &[&str], input: &Path, output: &Path) -> io::Result<Cost> {
+    let mut command = Command::new(words[0]);
+    command.args(&words[1..]);
+    command
+        .stdin(File::open(input)?)
+        .stdout(File::create(output)?);
+    let start = Instant::now();
+    let child = command.spawn()?;
+    let (status, usage) = wait(child.id())?;
+    let time = start.elapsed();
+    if status != 0 {
+        let told = format!(
+            "{} on {}: wait status {status}",
+            words.join(" "),
+            input.display()
+        );
+        return Err(io::Error::other(told));
+    }
+    Ok(Cost {
+        time,
+        peak: usage.peak_kibibytes as u64 * 1_024,
+    })
+}
+
+/// Whether two files have the same octets. It keeps to small buffers, since a child's peak
+/// counts what its parent held when it was started.
+fn are_equal(left: &Path, right: &Path) -> io::Result<bool> {
+    if fs::metadata(left)?.len() != fs::metadata(right)?.len() {
+        return Ok(false);
+    }
+    let left = BufReader::new(File::open(left)?).bytes();
+    let right = BufReader::new(File::open(right)?).bytes();
+    for (one, other) in left.zip(right) {
+        if one? != other? {
+            return Ok(false);
+        }
+    }
+    Ok(true)
+}
+
+/// Runs each program so many times by turns; what stompd, the baseline and `cat` took.
+fn measure(stompd: &str, baseline: &str, folder: &Path, name: &str) -> io::Result<[Cost; 3]> {
+    let input = folder.join(name).with_extension("stomp");
+    let programs: [&[&str]; 3] = [&[stompd, "relay", "A"], &[baseline, "A"], &["cat"]];
+    let outputs: [PathBuf; 3] = ["stompd", "baseline", "cat"]
+        .map(|program| folder.join(name).with_extension(format!("{program}.out")));
+    let mut costs = [Cost::NONE; 3];
+    for _ in 0..RUNS {
+        for place in 0..3 {
+            costs[place].add(run(programs[place], &input, &outputs[place])?);
+        }
+        if !are_equal(&outputs[0], &outputs[1])? {
+            return Err(io::Error::other(format!(
+                "{name}: stompd and the baseline differ"
+            )));
+        }
+    }
+    for output in &outputs {
+        fs::remove_file(output)?;
+    }
+    Ok(costs)
+}
+
+fn print_table(stompd: &str, baseline: &str, folder: &Path) -> io::Result<()> {
+    println!("best of {RUNS} runs, from file to file; ms is time, MiB is peak memory");
+    println!(
+        "            input |     stompd      |    baseline     |       cat       |  stompd over"
+    );
+    println!(
+        "              MiB |    ms       MiB |    ms       MiB |    ms       MiB | baseline input"
+    );
+    for name in INPUTS {
+        let size = fs::metadata(folder.join(name).with_extension("stomp"))?.len();
+        let costs = measure(stompd, baseline, folder, name)?;
+        print!("{name:<11} {:5.1} |", size as f64 / 1_048_576.0);
+        for cost in costs {
+            print!(" {:7.1} {:7.1} |", cost.milliseconds(), cost.mebibytes());
+        }
+        let time = costs[0].milliseconds() / costs[1].milliseconds();
+        let memory = costs[0].peak as f64 / size as f64;
+        println!(" {time:7.2}  {memory:4.2}");
+    }
+    Ok(())
+}
+
+fn main() -> ExitCode {
+    let words: Vec<String> = env::args().skip(1).collect();
+    let [stompd, baseline, folder] = &words[..] else {
+        eprintln!("usage: measure STOMPD BASELINE FOLDER");
+        return ExitCode::FAILURE;
+    };
+    match print_table(stompd, baseline, Path::new(folder)) {
+        Ok(()) => ExitCode::SUCCESS,
+        Err(error) => {
+            eprintln!("bench/relay: {error}");
+            ExitCode::FAILURE
+        }
+    }
+}

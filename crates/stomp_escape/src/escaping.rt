@@ -1,0 +1,53 @@
+//! Writing escapes.
+
+ghost use Rattle.std.specs.Prelude.{◌≡◌, ◌++◌, IfOk, OnOk, OnErr};
+ghost use Rattle.stomp_escape.specs.Escape.{letter_of, escaped, Spells, IsUnbroken, AppendsFront};
+
+use crate::no_memory::NoMemory;
+use crate::octets::Octets;
+use std::alloc::Global;
+
+// The letter of the octet's escape, where it has one.
+fn letter_for(octet: u8) -> Option<u8>
+    ensures { result ≡ letter_of octet }
+{
+    match octet {
+        b'\r' => Some(b'r'),
+        b'\n' => Some(b'n'),
+        b':' => Some(b'c'),
+        b'\\' => Some(b'\\'),
+        _ => None,
+    }
+}
+
+/// Appends the escaped text: each CR as `\r`, LF as `\n`, colon as `\c` and backslash as `\\`, and
+/// every other octet as itself (STOMP 1.2, "Value Encoding"). After `NoMemory` a front of the
+/// escaped text may stand behind what was there.
+pub fn escape_into(text: &[u8], out: &mut Octets) -> Result<(), NoMemory>
+    ensures ok { OnOk result (out.new ≡ out.old ++ escaped text.now) }
+    ensures err { OnErr result (AppendsFront (escaped text.now) out.old out.new) }
+{
+    // The octets from `start` up to `at` have no escape, and wait to be copied at once.
+    let mut start = 0;
+    for at in 0..text.len() {
+        if let Some(letter) = letter_for(text[at]) {
+            out.extend(&text[start..at])?;
+            out.extend(&[b'\\', letter])?;
+            start = at + 1;
+        }
+    }
+    out.extend(&text[start..])?;
+    Ok(())
+}
+
+/// The escaped text, as `escape_into` appends it: it spells the text that was passed, and it has no
+/// CR, LF or colon, so it ends neither a header's name nor its line.
+pub fn escape(alloc: Global, text: &[u8]) -> Result<Octets, NoMemory>
+    ensures value { IfOk result (λ o. o ≡ escaped text.now) }
+    ensures spelling { IfOk result (λ o. Spells o text.now) }
+    ensures unbroken { IfOk result (λ o. IsUnbroken o) }
+{
+    let mut out = Octets::with_capacity(alloc, text.len())?;
+    escape_into(text, &mut out)?;
+    Ok(out)
+}

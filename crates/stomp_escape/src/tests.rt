@@ -1,0 +1,155 @@
+//! Worked examples of the definitions, the calls with ample memory, and their answers without it.
+
+use crate::{EscapeFault, NoMemory, Octets, escape, escape_into, unescape};
+use std::test::Fail;
+
+/// The four octets that have an escape, and the text that spells them.
+const ESCAPED_OCTETS: &[u8] = b"\r\n:\\";
+
+const FOUR_ESCAPES: &[u8] = b"\\r\\n\\c\\\\";
+
+/// Texts that spell no value, each with its first fault from the left and that fault's number.
+const FAULTY: [(&[u8], EscapeFault, u32); 7] = [
+    (b"\\t", EscapeFault::Undefined(0), 1),
+    (b"a\\", EscapeFault::Cut, 2),
+    (b"\\", EscapeFault::Cut, 2),
+    (b"ab\\x\\", EscapeFault::Undefined(2), 1),
+    (b"\\\\\\", EscapeFault::Cut, 2),
+    (b"\\c\\C\\t", EscapeFault::Undefined(2), 1),
+    (b"\\\\\\R", EscapeFault::Undefined(2), 1),
+];
+
+#[test]
+fn the_four_escapes(rt: HostRuntime) -> Result<(), Fail> {
+    let alloc = rt.alloc();
+    assert_eq!(rt; escape(alloc, ESCAPED_OCTETS)?.as_slice(), FOUR_ESCAPES);
+    assert_eq!(rt; unescape(alloc, FOUR_ESCAPES)?.as_slice(), ESCAPED_OCTETS);
+    assert_eq!(rt;
+        escape(alloc, b"a:\\\n")?.as_slice(),
+        b"a\\c\\\\\\n".as_slice()
+    );
+    assert_eq!(rt;
+        unescape(alloc, b"a\\c\\\\\\n")?.as_slice(),
+        b"a:\\\n".as_slice()
+    );
+    Ok(())
+}
+
+#[test]
+fn other_octets_stand_for_themselves(rt: HostRuntime) -> Result<(), Fail> {
+    let alloc = rt.alloc();
+    for text in [b"".as_slice(), b"plain", b"\0\t\x7f\xc3\xa9\xff"] {
+        assert_eq!(rt; escape(alloc, text)?.as_slice(), text);
+        assert_eq!(rt; unescape(alloc, text)?.as_slice(), text);
+    }
+    for text in [b":".as_slice(), b"a:b", b"\r\n"] {
+        assert_eq!(rt; unescape(alloc, text)?.as_slice(), text);
+    }
+    Ok(())
+}
+
+#[test]
+fn all_octets_come_back(rt: HostRuntime) -> Result<(), Fail> {
+    let alloc = rt.alloc();
+    let mut value = Octets::new(alloc);
+    for octet in 0..=255u8 {
+        value.push(octet)?;
+    }
+    let text = escape(alloc, value.as_slice())?;
+    assert_eq!(rt; text.len(), 260);
+    assert_eq!(rt;
+        unescape(alloc, text.as_slice())?.as_slice(),
+        value.as_slice()
+    );
+    Ok(())
+}
+
+#[test]
+fn the_first_fault_is_told(rt: HostRuntime) {
+    for (text, fault, number) in FAULTY {
+        let told = unescape(rt.alloc(), text).err();
+        assert_eq!(rt; told, Some(fault));
+        assert_eq!(rt; fault.number(), number);
+    }
+    assert_eq!(rt; EscapeFault::NoMemory.number(), 3);
+}
+
+#[test]
+fn octets_grow(rt: HostRuntime) -> Result<(), Fail> {
+    let alloc = rt.alloc();
+    let mut octets = Octets::with_capacity(alloc, 2)?;
+    assert!(rt; octets.is_empty() && Octets::new(alloc).is_empty());
+    octets.push(b'k')?;
+    octets.extend(b"=")?;
+    escape_into(b"a:b", &mut octets)?;
+    assert_eq!(rt; octets.as_slice(), b"k=a\\cb".as_slice());
+    assert_eq!(rt; octets.len(), 6);
+    let copy = Octets::from_slice(alloc, octets.as_slice())?;
+    assert_eq!(rt; copy.as_slice(), octets.as_slice());
+    assert!(rt; !copy.is_empty());
+    octets.truncate(9);
+    assert_eq!(rt; octets.len(), 6);
+    octets.truncate(2);
+    assert_eq!(rt; octets.as_slice(), b"k=".as_slice());
+    Ok(())
+}
+
+#[test]
+fn faults_say_what_to_do(rt: HostRuntime) -> Result<(), Fail> {
+    let memory = "out of memory: try again once other work has ended, or give the program more";
+    for (fault, message) in [
+        (
+            EscapeFault::Undefined(2),
+            "undefined escape at octet 2: write a backslash only before r, n, c or a backslash",
+        ),
+        (
+            EscapeFault::Cut,
+            "the text ends within an escape: write a single backslash as two",
+        ),
+        (EscapeFault::NoMemory, memory),
+    ] {
+        assert_eq!(rt; fault.to_string(rt.alloc())?.as_str(), message);
+    }
+    assert_eq!(rt; NoMemory.to_string(rt.alloc())?.as_str(), memory);
+    Ok(())
+}
+
+/// Holds whichever allocation fails: the answer is then `NoMemory`, and never another one.
+#[test]
+fn want_of_memory_changes_no_answer(rt: HostRuntime) {
+    let alloc = rt.alloc();
+    if let Ok(text) = escape(alloc, ESCAPED_OCTETS) {
+        assert_eq!(rt; text.as_slice(), FOUR_ESCAPES);
+    }
+    match unescape(alloc, FOUR_ESCAPES) {
+        Ok(value) => assert_eq!(rt; value.as_slice(), ESCAPED_OCTETS),
+        Err(fault) => assert_eq!(rt; fault, EscapeFault::NoMemory),
+    }
+    for (text, fault, _) in FAULTY {
+        let told = unescape(alloc, text).err();
+        assert!(rt; told == Some(fault) || told == Some(EscapeFault::NoMemory));
+    }
+    if let Ok(copy) = Octets::from_slice(alloc, FOUR_ESCAPES) {
+        assert_eq!(rt; copy.as_slice(), FOUR_ESCAPES);
+    }
+}
+
+/// Holds whichever allocation fails: what was not taken leaves the list as it was.
+#[test]
+fn want_of_memory_leaves_octets(rt: HostRuntime) {
+    let mut octets = Octets::with_capacity(rt.alloc(), 1).unwrap_or(Octets::new(rt.alloc()));
+    let mut taken = 0u64;
+    for _ in 0..100u8 {
+        if octets.push(b'x').is_ok() {
+            taken = taken.saturating_add(1);
+        }
+        if octets.extend(b"yz").is_ok() {
+            taken = taken.saturating_add(2);
+        }
+        assert_eq!(rt; octets.len() as u64, taken);
+    }
+    let before = octets.len();
+    let whole = escape_into(b"a:b", &mut octets).is_ok();
+    let written = &octets.as_slice()[before..];
+    assert!(rt; b"a\\cb".starts_with(written) && (!whole || written.len() == 4));
+}
