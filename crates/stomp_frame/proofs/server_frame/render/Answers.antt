@@ -1,0 +1,13 @@
+use Rattle.std.proofs.Common.{◌≡◌, arith, rules}
+use Rattle.stomp_frame.specs.declared.command.Command.TheVariants as commands
+use Rattle.stomp_frame.specs.declared.frame.RawFrame.{RawFrame}
+use Rattle.stomp_frame.specs.ServerFrames.{message_id, message_frame}
+use Rattle.stomp_frame.proofs.Messages.{made_writable}
+use Rattle.stomp_frame.proofs.server_frame.render.Goals as goal
+
+pub returns-in_ok-from_slice-in-Message-clause-writable : goal.returns-in_ok-from_slice-in-Message-clause-writable
+returns-in_ok-from_slice-in-Message-clause-writable c =
+    let m = c.in-Message in
+    let made : RawFrame = record { command = commands.Message; headers = c.in_ok-headers-in-Message.headers; body = c.in_ok-from_slice-in-Message.field-0 } in
+    let same : made ≡ message_frame m.subscription (message_id m.n m.topic m.index) m.headers m.body = search rules in
+    made_writable made m.subscription (message_id m.n m.topic m.index) m.headers m.body same c.are_pairs.ensures (omega arith)

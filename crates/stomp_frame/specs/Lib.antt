@@ -1,0 +1,12 @@
+pub mod Headers
+pub mod Commands
+pub mod ContentLength
+pub mod Grammar
+pub mod Checks
+pub mod Laws
+pub mod Faults
+pub mod Reader
+pub mod Runs
+pub mod Reading
+pub mod Writing
+pub mod ServerFrames

@@ -1,0 +1,90 @@
+//! Headers.
+
+ghost use Rattle.std.specs.Prelude.{◌≡◌, ◌∷◌, [], ◌++◌, ◌↔◌, IsTrue, List, ℕ, length, ◌<◌, slice_get, Some, OnOk, OnErr};
+ghost use Rattle.std.specs.List.{AllByRecursion};
+ghost use Rattle.std.specs.Option.{option_map};
+ghost use Rattle.stomp_frame.specs.Headers.{IsPair, first_of};
+
+use std::alloc::Global;
+use std::marker::Model;
+use stomp_escape::{NoMemory, Octets};
+
+/// A frame's headers in their order: pairs of a name and a value (STOMP 1.2, "Frames and Headers").
+/// The type keeps that no name is empty, and that names and values are UTF-8 without NULL.
+#[derive(Drop)]
+pub struct Headers {
+    pairs: Vec<(Octets, Octets)>,
+}
+
+impl Model for Headers {
+    ghost use Rattle.std.specs.Prelude.{List, ℕ};
+    ghost use Rattle.std.specs.List.{AllByRecursion};
+    ghost use Rattle.stomp_frame.specs.Headers.{IsPair};
+
+    ghost Value = { List (List ℕ × List ℕ) };
+
+    ghost view = { λ h. h.pairs.items };
+
+    ghost invariant = { λ h. AllByRecursion IsPair h.pairs.items };
+}
+
+impl Headers {
+    /// No headers.
+    pub fn new(alloc: Global) -> Headers
+        ensures { result ≡ [] }
+    {
+        Headers {
+            pairs: Vec::new(alloc),
+        }
+    }
+
+    /// How many there are.
+    pub fn len(&self) -> usize
+        ensures { result ≡ length self.now }
+    {
+        self.pairs.len()
+    }
+
+    /// Whether there is none.
+    pub fn is_empty(&self) -> bool
+        ensures { IsTrue result ↔ (self.now ≡ []) }
+    {
+        self.pairs.is_empty()
+    }
+
+    /// Puts a header at the end.
+    pub fn push(&mut self, name: Octets, value: Octets) -> Result<(), NoMemory>
+        requires { IsPair (name, value) }
+        ensures ok { OnOk result (self.new ≡ self.old ++ (name, value) ∷ []) }
+        ensures err { OnErr result (self.new ≡ self.old) }
+    {
+        self.pairs.push((name, value))?;
+        Ok(())
+    }
+
+    /// The name and the value of the header at place `i`, from 0.
+    pub fn pair(&self, i: usize) -> (&[u8], &[u8])
+        requires { i < length self.now }
+        ensures { slice_get self.now i ≡ Some (result.0.now, result.1.now) }
+    {
+        let pair = &self.pairs[i];
+        (pair.0.as_slice(), pair.1.as_slice())
+    }
+
+    /// The value of the first header of this name (STOMP 1.2, "Repeated Header Entries").
+    pub fn first(&self, name: &[u8]) -> Option<&[u8]>
+        ensures { option_map (λ v. v.now) result ≡ first_of name.now self.now }
+    {
+        self.pairs
+            .iter()
+            .find(|pair| pair.0.as_slice() == name)
+            .map(|pair| pair.1.as_slice())
+    }
+
+    /// What the type keeps of each header, for proofs: it does nothing.
+    pub fn are_pairs(&self)
+        ensures { AllByRecursion IsPair self.now }
+    {
+        let _pairs = &self.pairs;
+    }
+}

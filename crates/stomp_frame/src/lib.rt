@@ -1,0 +1,32 @@
+//! STOMP 1.2 frames: a reader of streams, a writer, and the frames that a server sends.
+#![tactic(auto)]
+
+mod command;
+mod content_length;
+mod fault;
+mod frame;
+mod headers;
+mod law;
+mod limits;
+mod parts;
+mod reader;
+mod scan;
+mod server_frame;
+mod server_headers;
+mod writer;
+
+pub use command::Command;
+pub use fault::{Check, FrameFault};
+pub use frame::RawFrame;
+pub use headers::Headers;
+pub use law::{
+    any_pieces, more_changes_nothing, one_first_frame, one_reading, open_or_at_one_fault,
+    what_is_written_is_read,
+};
+pub use limits::Limits;
+pub use reader::FrameReader;
+pub use server_frame::{ServerFrame, render};
+pub use writer::{writable, write_frame};
+
+#[cfg(test)]
+mod tests;

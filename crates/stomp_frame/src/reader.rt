@@ -1,0 +1,108 @@
+//! Reading a stream.
+
+ghost use Rattle.std.specs.Prelude.{◌≡◌, ◌≢◌, ◌⊎◌, ◌↔◌, [], Option, Some, Result, Ok, Err, IsTrue, IsErrOf, IsSome, IsOk, OnOk, OnErr, IfSome};
+ghost use Rattle.stomp_frame.specs.declared.frame.RawFrame.{RawFrame};
+ghost use Rattle.stomp_frame.specs.declared.fault.FrameFault.{FrameFault};
+ghost use Rattle.stomp_frame.specs.Reader.{Unread, ReadsNext, Answers, fed, unread_of};
+
+use crate::fault::{Check, FrameFault, Stop};
+use crate::frame::RawFrame;
+use crate::limits::Limits;
+use crate::parts::{eols_from, frame_from};
+use std::alloc::Global;
+use std::marker::Model;
+use stomp_escape::NoMemory;
+
+/// Reads the frames of a stream from its front. It is seen as its limits, the text that it was fed and hasn't read,
+/// and the fault that it answered.
+#[derive(Drop)]
+pub struct FrameReader {
+    limits: Limits,
+    text: Vec<u8>,
+    /// Where what is unread begins.
+    start: usize,
+    answered: Option<Check>,
+}
+
+impl Model for FrameReader {
+    ghost use Rattle.std.specs.Prelude.{drop, length, ◌≤◌};
+    ghost use Rattle.stomp_frame.specs.Reader.{Unread};
+
+    ghost Value = { Unread };
+
+    ghost view = { λ r. record { limits = r.limits; text = drop r.start r.text.items; answered = r.answered } };
+
+    ghost invariant = { λ r. r.start ≤ length r.text.items };
+}
+
+impl FrameReader {
+    /// A reader of an empty text.
+    pub fn new(alloc: Global, limits: Limits) -> FrameReader
+        ensures { result ≡ unread_of limits }
+    {
+        FrameReader {
+            limits,
+            text: Vec::new(alloc),
+            start: 0,
+            answered: None,
+        }
+    }
+
+    /// Puts a piece at the text's end, or drops it once a fault was answered.
+    pub fn feed(&mut self, piece: &[u8]) -> Result<(), NoMemory>
+        ensures ok { OnOk result (self.new ≡ fed self.old piece.now) }
+        ensures err { OnErr result (self.new ≡ self.old) }
+        ensures dropped { IsSome self.old.answered → IsOk result }
+    {
+        if self.answered.is_some() {
+            return Ok(());
+        }
+        self.text.extend_from_slice(piece)?;
+        Ok(())
+    }
+
+    // Reads on, where no fault was answered.
+    fn read_next(&mut self, alloc: Global) -> Result<Option<RawFrame>, FrameFault>
+        ensures answer { (result ≢ Err FrameFault.NoMemory) → ReadsNext self.old result self.new }
+        ensures no_memory { result ≡ Err FrameFault.NoMemory → self.new ≡ self.old }
+    {
+        match frame_from(alloc, &self.limits, self.text.as_slice(), self.start) {
+            Ok((frame, start)) => {
+                self.start = start;
+                Ok(Some(frame))
+            }
+            Err(Stop::Open) => {
+                self.start = eols_from(self.text.as_slice(), self.start);
+                Ok(None)
+            }
+            Err(Stop::Memory) => Err(FrameFault::NoMemory),
+            Err(Stop::Fault(check)) => {
+                self.answered = Some(check);
+                Err(check.fault())
+            }
+        }
+    }
+
+    /// The first frame of the text, `None` where more is due, or the fault of what stands there.
+    /// After a fault but `NoMemory` (11) each call answers it again; after 11 the reader is as it was.
+    pub fn next(&mut self, alloc: Global) -> Result<Option<RawFrame>, FrameFault>
+        ensures answer { (result ≢ Err FrameFault.NoMemory) → Answers self.old result self.new }
+        ensures no_memory { result ≡ Err FrameFault.NoMemory → self.new ≡ self.old }
+        // No other answer stands for this text, unless memory runs out.
+        ensures only { (r : Result (Option RawFrame) FrameFault) (new : Unread) → Answers self.old r new
+            → (result ≡ Err FrameFault.NoMemory) ⊎ ((result ≡ r) × (self.new ≡ new)) }
+        ensures again { IfSome self.old.answered (λ k. Answers self.old result self.new) }
+    {
+        match self.answered {
+            Some(check) => Err(check.fault()),
+            None => self.read_next(alloc),
+        }
+    }
+
+    /// Whether nothing is unread: after a `next` that answered `None`, whether the stream ends behind its last frame.
+    pub fn clean(&self) -> bool
+        ensures { IsTrue result ↔ (self.now.text ≡ []) }
+    {
+        self.start == self.text.len()
+    }
+}

@@ -1,0 +1,300 @@
+//! Worked examples of what is written, and answers without memory.
+
+ghost use Rattle.std.specs.Prelude.{◌≡◌, ◌&&◌, nat_le, IfOk};
+ghost use Rattle.std.specs.List.{list_all};
+ghost use Rattle.stomp_frame.specs.Headers.{IsText, IsPair};
+
+use crate::{Command, Headers, RawFrame, ServerFrame, render, writable, write_frame};
+use std::alloc::Global;
+use std::test::Fail;
+use stomp_escape::{NoMemory, Octets};
+
+type Pairs<'a> = &'a [(&'a [u8], &'a [u8])];
+
+fn is_ascii(octets: &[u8]) -> bool
+    ensures { result ≡ list_all (λ b. nat_le 1 b && nat_le b 127) octets.now }
+{
+    octets.iter().all(|b| 1 <= *b && *b <= 127)
+}
+
+/// The octets, where they are ASCII without NULL, as those of these tests are.
+fn text(alloc: Global, octets: &[u8]) -> Result<Octets, NoMemory>
+    ensures { IfOk result (λ o. IsText o) }
+{
+    if !is_ascii(octets) {
+        return Err(NoMemory);
+    }
+    let text = Octets::from_slice(alloc, octets)?;
+    Ok(text)
+}
+
+fn pair(alloc: Global, name: &[u8], value: &[u8]) -> Result<(Octets, Octets), NoMemory>
+    ensures { IfOk result (λ p. IsPair p) }
+{
+    let name = text(alloc, name)?;
+    if name.is_empty() {
+        return Err(NoMemory);
+    }
+    Ok((name, text(alloc, value)?))
+}
+
+fn headers(alloc: Global, pairs: Pairs) -> Result<Headers, NoMemory> {
+    let mut headers = Headers::new(alloc);
+    for (name, value) in pairs {
+        let (name, value) = pair(alloc, name, value)?;
+        headers.push(name, value)?;
+    }
+    Ok(headers)
+}
+
+fn raw(alloc: Global, command: Command, pairs: Pairs, body: &[u8]) -> Result<RawFrame, NoMemory> {
+    Ok(RawFrame {
+        command,
+        headers: headers(alloc, pairs)?,
+        body: Octets::from_slice(alloc, body)?,
+    })
+}
+
+/// What is written of the MESSAGE for the subscription `s`.
+fn message(
+    alloc: Global,
+    stamp: (u64, u32, u32),
+    pairs: Pairs,
+    body: &[u8],
+) -> Result<Octets, NoMemory> {
+    let frame = ServerFrame::Message {
+        subscription: text(alloc, b"s")?,
+        n: stamp.0,
+        topic: stamp.1,
+        index: stamp.2,
+        headers: headers(alloc, pairs)?,
+        body: Octets::from_slice(alloc, body)?,
+    };
+    let mut out = Octets::new(alloc);
+    write_frame(&render(alloc, &frame)?, &mut out)?;
+    Ok(out)
+}
+
+fn error(
+    alloc: Global,
+    title: &[u8],
+    asked: Option<&[u8]>,
+    version: bool,
+) -> Result<Octets, NoMemory> {
+    let receipt = match asked {
+        Some(asked) => Some(text(alloc, asked)?),
+        None => None,
+    };
+    let frame = ServerFrame::Error {
+        message: text(alloc, title)?,
+        receipt,
+        version,
+    };
+    let mut out = Octets::new(alloc);
+    write_frame(&render(alloc, &frame)?, &mut out)?;
+    Ok(out)
+}
+
+#[test]
+fn messages(rt: HostRuntime) -> Result<(), Fail> {
+    let alloc = rt.alloc();
+    assert_eq!(rt;
+        message(
+            alloc,
+            (1, 0, 0),
+            &[(b"destination", b"A"), (b"content-length", b"3")],
+            b"a\0b"
+        )?
+        .as_slice(),
+        b"MESSAGE\nsubscription:s\nmessage-id:1.0.0\ndestination:A\ncontent-length:3\n\na\0b\0".as_slice()
+    );
+    assert_eq!(rt;
+        message(
+            alloc,
+            (1, 0, 0),
+            &[
+                (b"destination", b"A"),
+                (b"content-type", b"text/plain"),
+                (b"receipt", b"q"),
+                (b"x", b"1"),
+                (b"x", b"2"),
+            ],
+            b"hi",
+        )?
+        .as_slice(),
+        b"MESSAGE\nsubscription:s\nmessage-id:1.0.0\ndestination:A\ncontent-length:2\ncontent-type:text/plain\nx:1\n\nhi\0".as_slice()
+    );
+    assert_eq!(rt;
+        message(
+            alloc,
+            (1, 0, 0),
+            &[(b"destination", b"A"), (b"k", b"a:\\\n")],
+            b""
+        )?
+        .as_slice(),
+        b"MESSAGE\nsubscription:s\nmessage-id:1.0.0\ndestination:A\ncontent-length:0\nk:a\\c\\\\\\n\n\n\0".as_slice()
+    );
+    Ok(())
+}
+
+/// A message-id of the greatest numbers, two destinations or none, and headers that stay behind.
+#[test]
+fn messages_of_odd_headers(rt: HostRuntime) -> Result<(), Fail> {
+    let alloc = rt.alloc();
+    let own: Pairs = &[
+        (b"ack", b"1"),
+        (b"message-id", b"2"),
+        (b"transaction", b"3"),
+        (b"subscription", b"4"),
+        (b"content-length", b"2"),
+    ];
+    assert_eq!(rt;
+        message(
+            alloc,
+            (18_446_744_073_709_551_615, 4_294_967_295, 63),
+            own,
+            b"hi"
+        )?
+        .as_slice(),
+        b"MESSAGE\nsubscription:s\nmessage-id:18446744073709551615.4294967295.63\ncontent-length:2\n\nhi\0".as_slice()
+    );
+    let twice: Pairs = &[
+        (b"b", b"1"),
+        (b"destination", b"A"),
+        (b"a", b""),
+        (b"destination", b"B"),
+        (b"b", b"2"),
+        (b"a", b"x"),
+    ];
+    assert_eq!(rt;
+        message(alloc, (10, 2, 1), twice, b"0123456789")?.as_slice(),
+        b"MESSAGE\nsubscription:s\nmessage-id:10.2.1\ndestination:A\ncontent-length:10\nb:1\na:\n\n0123456789\0".as_slice()
+    );
+    Ok(())
+}
+
+#[test]
+fn errors(rt: HostRuntime) -> Result<(), Fail> {
+    let alloc = rt.alloc();
+    for (title, asked, version, want) in [
+        (
+            b"4 BadEscape".as_slice(),
+            None,
+            false,
+            b"ERROR\nmessage:4 BadEscape\ncontent-length:0\n\n\0".as_slice(),
+        ),
+        (
+            b"67 UnknownDestination",
+            Some(b"q:1".as_slice()),
+            false,
+            b"ERROR\nmessage:67 UnknownDestination\nreceipt-id:q\\c1\ncontent-length:0\n\n\0",
+        ),
+        (
+            b"62 NoVersion",
+            Some(b""),
+            true,
+            b"ERROR\nmessage:62 NoVersion\nreceipt-id:\nversion:1.2\ncontent-length:0\n\n\0",
+        ),
+    ] {
+        assert_eq!(rt; error(alloc, title, asked, version)?.as_slice(), want);
+    }
+    Ok(())
+}
+
+/// Which frames can be written: each rule kept, and broken.
+#[test]
+fn what_can_be_written(rt: HostRuntime) -> Result<(), Fail> {
+    let alloc = rt.alloc();
+    let two: (&[u8], &[u8]) = (b"content-length", b"2");
+    let none: (&[u8], &[u8]) = (b"content-length", b"00");
+    for (number, (command, pairs, body, want)) in [
+        (Command::Send, [two].as_slice(), b"hi".as_slice(), true),
+        (Command::Send, &[none, two], b"", true),
+        (Command::Send, &[two, none], b"", false),
+        (Command::Send, &[two], b"h", false),
+        (Command::Message, &[], b"", false),
+        (Command::Error, &[(b"content-length", b"")], b"", false),
+        (Command::Error, &[(b"content-length", b"+0")], b"", false),
+        (
+            Command::Error,
+            &[(b"content-length", b"00000000000")],
+            b"",
+            false,
+        ),
+        (Command::Receipt, &[(b"a", b"b\r\n:\\")], b"", true),
+        (Command::Receipt, &[none], b"", true),
+        (Command::Receipt, &[two], b"", false),
+        (Command::Receipt, &[two], b"hi", false),
+        (Command::Receipt, &[], b"hi", false),
+        (Command::Connect, &[(b"a\\", b"b:\\")], b"", true),
+        (Command::Connect, &[(b"a", b"\n")], b"", false),
+        (Command::Stomp, &[(b"a", b""), (b"a", b"\r")], b"", false),
+        (Command::Connected, &[(b"a:", b"")], b"", false),
+        (Command::Connected, &[(b"a\n", b"")], b"", false),
+        (Command::Connected, &[(b"\ra", b"")], b"", false),
+    ]
+    .into_iter()
+    .enumerate()
+    {
+        assert_eq!(rt;
+            writable(&raw(alloc, command, pairs, body)?),
+            want,
+            "at {number}"
+        );
+    }
+    Ok(())
+}
+
+/// A frame goes behind what is there, with no escapes under CONNECT.
+#[test]
+fn frames_are_appended(rt: HostRuntime) -> Result<(), Fail> {
+    let alloc = rt.alloc();
+    let mut out = Octets::new(alloc);
+    for (command, pairs) in [
+        (
+            Command::Begin,
+            [(b"a:b".as_slice(), b"\r\n:\\".as_slice())].as_slice(),
+        ),
+        (
+            Command::Connected,
+            &[(b"version", b"1.2"), (b"server", b"a:b\\n")],
+        ),
+    ] {
+        let frame = raw(alloc, command, pairs, b"")?;
+        assert!(rt; writable(&frame));
+        write_frame(&frame, &mut out)?;
+    }
+    assert_eq!(rt;
+        out.as_slice(),
+        b"BEGIN\na\\cb:\\r\\n\\c\\\\\n\n\0CONNECTED\nversion:1.2\nserver:a:b\\n\n\n\0".as_slice()
+    );
+    Ok(())
+}
+
+/// Holds whichever allocation fails: what isn't written whole leaves nothing.
+#[test]
+fn want_of_memory_leaves_nothing(rt: HostRuntime) {
+    let alloc = rt.alloc();
+    let mut out = Octets::new(alloc);
+    for _ in 0..20u8 {
+        let Ok(frame) = raw(alloc, Command::Begin, &[(b"a", b":"), (b"bc", b"d\n")], b"") else {
+            continue;
+        };
+        assert!(rt; writable(&frame));
+        let before = out.len();
+        let whole = write_frame(&frame, &mut out).is_ok();
+        let written = &out.as_slice()[before..];
+        let want = if whole {
+            b"BEGIN\na:\\c\nbc:d\\n\n\n\0".as_slice()
+        } else {
+            b""
+        };
+        assert_eq!(rt; written, want);
+    }
+    if let Ok(out) = message(alloc, (1, 0, 0), &[(b"x", b"1"), (b"x", b"2")], b"hi") {
+        assert_eq!(rt;
+            out.as_slice(),
+            b"MESSAGE\nsubscription:s\nmessage-id:1.0.0\ncontent-length:2\nx:1\n\nhi\0".as_slice()
+        );
+    }
+}

@@ -1,0 +1,130 @@
+//! Writing frames.
+
+ghost use Rattle.std.specs.Prelude.{◌≡◌, ◌++◌, ◌∷◌, [], ◌↔◌, ◌==◌, ◌||◌, ◌&&◌, not, IsTrue, OnOk, OnErr, false};
+ghost use Rattle.std.specs.List.{AllByRecursion, list_any};
+ghost use Rattle.stomp_frame.specs.Commands.{may_have_body};
+ghost use Rattle.stomp_frame.specs.ContentLength.{content_length};
+ghost use Rattle.stomp_frame.specs.Writing.{written, header_line, header_lines, spelled, IsBare, HasItsLength, IsWritable, Extends};
+
+use crate::content_length::length_in;
+use crate::frame::RawFrame;
+use crate::headers::Headers;
+use stomp_escape::{NoMemory, Octets, escape_into};
+
+fn ends_in_name(name: &[u8]) -> bool
+    ensures { result ≡ list_any (λ b. b == 10 || b == 13 || b == 58) name.now }
+{
+    name.iter()
+        .any(|b| *b == b'\n' || *b == b'\r' || *b == b':')
+}
+
+fn ends_in_value(value: &[u8]) -> bool
+    ensures { result ≡ list_any (λ b. b == 10 || b == 13) value.now }
+{
+    value.iter().any(|b| *b == b'\n' || *b == b'\r')
+}
+
+fn is_bare(name: &[u8], value: &[u8]) -> bool
+    ensures { result ≡ (not (list_any (λ b. b == 10 || b == 13 || b == 58) name.now)
+        && not (list_any (λ b. b == 10 || b == 13) value.now)) }
+{
+    !ends_in_name(name) && !ends_in_value(value)
+}
+
+fn are_bare(headers: &Headers) -> bool
+    ensures { IsTrue result ↔ AllByRecursion (λ h. IsBare false h) headers.now }
+{
+    for i in 0..headers.len() {
+        let (name, value) = headers.pair(i);
+        if !is_bare(name, value) {
+            return false;
+        }
+    }
+    true
+}
+
+fn has_its_length(frame: &RawFrame) -> bool
+    ensures { IsTrue result ↔ HasItsLength (may_have_body frame.now.command) frame.now.body
+        (content_length frame.now.headers) }
+{
+    let may_have_body = frame.command.may_have_body();
+    match frame.headers.first(b"content-length") {
+        None => !may_have_body && frame.body.is_empty(),
+        Some(digits) => {
+            (may_have_body || frame.body.is_empty()) && length_in(digits) == Some(frame.body.len())
+        }
+    }
+}
+
+/// Whether the frame can be written so that it is read again as itself: under CONNECT, STOMP and
+/// CONNECTED, where nothing is escaped, no header has CR or LF, nor its name a colon; a SEND, MESSAGE
+/// or ERROR says its body's length in octets by its first content-length; any other frame has no
+/// body, and no content-length but one of 0 (STOMP 1.2, "Value Encoding", "Header content-length",
+/// "Body"). It takes no memory.
+pub fn writable(frame: &RawFrame) -> bool
+    ensures { IsTrue result ↔ IsWritable frame.now }
+{
+    frame.headers.are_pairs();
+    (frame.command.has_escapes() || are_bare(&frame.headers)) && has_its_length(frame)
+}
+
+fn put_field(escapes: bool, text: &[u8], out: &mut Octets) -> Result<(), NoMemory>
+    ensures ok { OnOk result (out.new ≡ out.old ++ written escapes text.now) }
+    ensures err { OnErr result (Extends out.old out.new) }
+{
+    if escapes {
+        escape_into(text, out)
+    } else {
+        out.extend(text)
+    }
+}
+
+fn put_header(escapes: bool, name: &[u8], value: &[u8], out: &mut Octets) -> Result<(), NoMemory>
+    ensures ok { OnOk result
+        (out.new ≡ out.old ++ (header_line escapes (name.now, value.now) ++ 10 ∷ [])) }
+    ensures err { OnErr result (Extends out.old out.new) }
+{
+    put_field(escapes, name, out)?;
+    out.push(b':')?;
+    put_field(escapes, value, out)?;
+    out.push(b'\n')
+}
+
+fn put_headers(escapes: bool, headers: &Headers, out: &mut Octets) -> Result<(), NoMemory>
+    ensures ok { OnOk result (out.new ≡ out.old ++ header_lines escapes headers.now) }
+    ensures err { OnErr result (Extends out.old out.new) }
+{
+    for i in 0..headers.len() {
+        let (name, value) = headers.pair(i);
+        put_header(escapes, name, value, out)?;
+    }
+    Ok(())
+}
+
+fn put_frame(frame: &RawFrame, out: &mut Octets) -> Result<(), NoMemory>
+    ensures ok { OnOk result (out.new ≡ out.old ++ spelled frame.now) }
+    ensures err { OnErr result (Extends out.old out.new) }
+{
+    out.extend(frame.command.word())?;
+    out.push(b'\n')?;
+    put_headers(frame.command.has_escapes(), &frame.headers, out)?;
+    out.push(b'\n')?;
+    out.extend(frame.body.as_slice())?;
+    out.push(0)
+}
+
+/// Appends the frame as it is written (STOMP 1.2, "Augmented BNF"): its command and LF, each header
+/// as `name:value` and LF, LF, its body and NULL, with names and values escaped except under
+/// CONNECT, STOMP and CONNECTED. After `NoMemory` the octets are what they were.
+pub fn write_frame(frame: &RawFrame, out: &mut Octets) -> Result<(), NoMemory>
+    requires { IsWritable frame.now }
+    ensures ok { OnOk result (out.new ≡ out.old ++ spelled frame.now) }
+    ensures err { OnErr result (out.new ≡ out.old) }
+{
+    let before = out.len();
+    let done = put_frame(frame, out);
+    if done.is_err() {
+        out.truncate(before);
+    }
+    done
+}
