@@ -1,0 +1,4 @@
+mod Relayed
+mod Sent
+mod SoFar
+mod Turning

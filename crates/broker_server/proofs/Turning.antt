@@ -1,0 +1,109 @@
+-- What comes next of a stream.
+use Rattle.std.proofs.Common.{◌≡◌, ◌≢◌, inl, inr, ℕ, zero, suc, Bool, true, false, not, eqb, ltb, ◌&&◌, lit<, List, [], ◌∷◌, Option, Some, None, Result, Ok, Err, cond, refl, sym, ap, subst, ◌∙◌}
+use Rattle.std.specs.Prelude.{codes, find, is_some, MatchOption}
+use Rattle.std.specs.List.{AllByRecursion, list_all}
+use Rattle.std.specs.Option.{option_map}
+use Rattle.std.specs.Str.{bytes_eq, IsAscii}
+use Rattle.std.proofs.lemmas.Bool.{and_parts, eqb-false, ltb-true}
+use Rattle.std.proofs.lemmas.Str.{IsUtf8-from_ascii}
+use Rattle.stomp_frame.specs.declared.frame.RawFrame.{RawFrame}
+use Rattle.stomp_frame.specs.declared.fault.FrameFault.{FrameFault}
+use Rattle.stomp_frame.specs.declared.fault.FrameFault.TheVariants as faults
+use Rattle.stomp_frame.specs.declared.fault.Check.TheVariants as checks
+use Rattle.stomp_frame.specs.declared.server_frame.ServerFrame.{ServerFrame}
+use Rattle.stomp_frame.specs.declared.server_frame.ServerFrame.TheVariants.{Error}
+use Rattle.stomp_frame.specs.Faults.{title_of, fault_of}
+use Rattle.stomp_frame.specs.Headers.{Header, IsText, IsPair, first_of}
+use Rattle.stomp_frame.specs.Reader.{Unread, Answers}
+use Rattle.stomp_frame.specs.ServerFrames.{error_frame, rendered, IsRenderable}
+use Rattle.broker_server.specs.declared.refusal.Refusal.{Refusal}
+use Rattle.broker_server.specs.declared.refusal.Refusal.TheVariants as refusals
+use Rattle.broker_server.specs.declared.turn.Turn.{Turn}
+use Rattle.broker_server.specs.declared.turn.Turn.TheVariants.{End}
+use Rattle.broker_server.specs.Refusals.{refusal, refusal_title}
+use Rattle.broker_server.specs.Relay.{standard, refusal_error, check_error, end_error, EndsIn}
+use Rattle.broker_server.specs.Steps.{reading, fault_turn, Answered, Turns}
+
+-- ---- what is told can be written
+
+from_not : (b : Bool) → not b ≡ true → b ≡ false
+from_not true e = absurd cc
+from_not false e = refl
+
+-- each octet is from 1 to 127
+all_ascii : (text : List ℕ) → list_all (λ b. not (eqb b 0) && ltb b 128) text ≡ true → AllByRecursion (λ b. b ≢ 0) text × IsAscii text
+all_ascii [] e = (tt, λ i. lit< tt)
+all_ascii (b ∷ text) e =
+    let p = and_parts (not (eqb b 0) && ltb b 128) (list_all (λ b. not (eqb b 0) && ltb b 128) text) e in
+    let q = and_parts (not (eqb b 0)) (ltb b 128) p.0 in
+    let others = all_ascii text p.1 in
+    let here : b ≢ 0 = eqb-false b 0 (from_not (eqb b 0) q.0) in
+    ((here, others.0), elim [ zero ↦ ltb-true b 128 q.1 | suc i ↦ others.1 i ])
+
+is_text : (text : List ℕ) → list_all (λ b. not (eqb b 0) && ltb b 128) text ≡ true → IsText text
+is_text text e = let a = all_ascii text e in record { utf8 = IsUtf8-from_ascii text a.1; no_null = a.0 }
+
+refusal_text : (r : Refusal) → IsText (refusal_title r)
+refusal_text refusals.Unsupported = is_text (codes "21 Unsupported") refl
+refusal_text refusals.MissingDestination = is_text (codes "22 Missing destination") refl
+refusal_text refusals.UnknownDestination = is_text (codes "67 UnknownDestination") refl
+refusal_text refusals.NoSuchTxn = is_text (codes "66 NoSuchTxn") refl
+
+fault_text : (f : FrameFault) → IsText (title_of f)
+fault_text faults.BadCommand = is_text (codes "1 BadCommand") refl
+fault_text faults.BadLine = is_text (codes "2 BadLine") refl
+fault_text faults.BadHeader = is_text (codes "3 BadHeader") refl
+fault_text faults.BadEscape = is_text (codes "4 BadEscape") refl
+fault_text faults.BadText = is_text (codes "5 BadText") refl
+fault_text faults.BadLength = is_text (codes "6 BadLength") refl
+fault_text faults.BadEnd = is_text (codes "7 BadEnd") refl
+fault_text faults.LineTooLong = is_text (codes "8 LineTooLong") refl
+fault_text faults.TooManyHeaders = is_text (codes "9 TooManyHeaders") refl
+fault_text faults.BodyTooLong = is_text (codes "10 BodyTooLong") refl
+fault_text faults.NoMemory = is_text (codes "11 NoMemory") refl
+
+pub zero_text : IsText (codes "0")
+zero_text = is_text (codes "0") refl
+
+-- the value of a header
+first_text : (name : List ℕ) (hs : List Header) → AllByRecursion IsPair hs → MatchOption (first_of name hs) (Unit {0}) IsText
+first_text name [] p = tt
+first_text name (h ∷ hs) p =
+    elim (bytes_eq h.0 name) as (λ b. MatchOption (option_map (λ (h : Header). h.1) (cond b (Some h) (find (λ (h : Header). bytes_eq h.0 name) hs))) (Unit {0}) IsText) [
+      | true ↦ p.0.value
+      | false ↦ first_text name hs p.1
+    ]
+
+-- ---- turns
+
+pub refused_turn : (name : List ℕ) (n : ℕ) (f : RawFrame) (r : Refusal) (title : List ℕ) (receipt : Option (List ℕ)) (error : ServerFrame) → Some r ≡ refusal name f → AllByRecursion IsPair f.headers
+    → receipt ≡ first_of (codes "receipt") f.headers → title ≡ refusal_title r → error ≡ Error title receipt false → Answered name n f (End (Some error))
+refused_turn name n f r title receipt error h pairs e d is =
+    let first = first_of (codes "receipt") f.headers in
+    let whole : error ≡ Error (refusal_title r) first false = is ∙ ap (λ (t : List ℕ). Error t receipt false) d ∙ ap (λ (o : Option (List ℕ)). Error (refusal_title r) o false) e in
+    let told : RawFrame = error_frame (refusal_title r) first false in (
+      ap is_some (sym h),
+      ap (λ (e : ServerFrame). Some (rendered e)) whole ∙ ap (option_map (λ (r : Refusal). error_frame (refusal_title r) first false)) h,
+      subst IsRenderable (sym whole) (refusal_text r, first_text (codes "receipt") f.headers pairs),
+    )
+
+fault_error : (name : List ℕ) (n : ℕ) (text : List ℕ) (new : Unread) (fault : FrameFault) (turn : Turn) → turn ≡ fault_turn fault → Turns name n (reading text) (fault_turn fault) new → Turns name n (reading text) turn new
+fault_error name n text new fault turn e t = subst (λ (t : Turn). Turns name n (reading text) t new) (sym e) t
+
+within : (rest : List ℕ) → rest ≢ [] → Some (check_error checks.BadEnd) ≡ end_error rest
+within [] h = absurd (h refl)
+within (b ∷ rest) h = refl
+
+pub open_turn : (name : List ℕ) (n : ℕ) (old after new : Unread) (turn : Turn) → old ≡ reading old.text → Answers old (Ok None) after → after.text ≢ [] → turn ≡ fault_turn faults.BadEnd → Turns name n old turn new
+open_turn name n old after new turn fresh a some e =
+    let read = subst (λ (u : Unread). Answers u (Ok None) after) fresh a in
+    let left : read.0 ≢ [] = λ nil. some (ap (λ (u : Unread). u.text) read.3 ∙ nil) in
+    let told = fault_error name n old.text new faults.BadEnd turn e (inr (read.0, read.1, inl (read.2, within read.0 left)), (fault_text faults.BadEnd, tt)) in
+    subst (λ (u : Unread). Turns name n u turn new) (sym fresh) told
+
+pub fault_turns : (name : List ℕ) (n : ℕ) (old after new : Unread) (fault : FrameFault) (turn : Turn) → old ≡ reading old.text → Answers old (Err fault) after → turn ≡ fault_turn fault → Turns name n old turn new
+fault_turns name n old after new fault turn fresh a e =
+    let read = subst (λ (u : Unread). Answers u (Err fault) after) fresh a in
+    let which : rendered (Error (title_of fault) None false) ≡ check_error read.1 = ap (λ (f : FrameFault). error_frame (title_of f) None false) read.4 in
+    let told = fault_error name n old.text new fault turn e (inr (read.0, read.2, inr (read.1, read.3, ap (λ (f : RawFrame). Some f) which)), (fault_text fault, tt)) in
+    subst (λ (u : Unread). Turns name n u turn new) (sym fresh) told

@@ -1,0 +1,81 @@
+//! What is written, gathered into large writes.
+
+ghost use Rattle.std.specs.Prelude.{◌≡◌, ◌≢◌, ◌++◌, [], Err, IfOk, OnOk, IfSome, IsErrOf};
+ghost use Rattle.std.specs.Io.KnownBytes.{Appends};
+ghost use Rattle.std.specs.Option.{option_map, option_map_or};
+ghost use Rattle.stomp_frame.specs.Writing.{spelled};
+ghost use Rattle.stomp_frame.specs.ServerFrames.{rendered, IsRenderable};
+ghost use Rattle.broker_server.specs.Counts.{Fails, FailsNot};
+ghost use Rattle.broker_server.specs.Steps.{Sends};
+
+use crate::counting::Counting;
+use crate::program_fault::ProgramFault;
+use std::alloc::Global;
+use std::io::Write;
+use stomp_escape::Octets;
+use stomp_frame::{ServerFrame, render, write_frame};
+
+/// How many octets wait before they are written.
+const FULL: usize = 65_536;
+
+/// Puts the frame behind the octets that wait, and writes them once they are many.
+pub(crate) fn put<W: Write>(
+    alloc: Global,
+    frame: &ServerFrame,
+    waiting: &mut Octets,
+    writer: &mut Counting<W>,
+) -> Result<(), ProgramFault>
+    requires { IsRenderable frame.now }
+    ensures sent { OnOk result (Sends (W.contents writer.old.inner) waiting.old
+        (W.contents writer.new.inner) waiting.new (spelled (rendered frame.now))) }
+    ensures io { IsErrOf result ProgramFault.Io → Fails writer.old writer.new }
+    ensures heard { (result ≢ Err ProgramFault.Io) → FailsNot writer.old writer.new }
+{
+    let frame = render(alloc, frame)?;
+    write_frame(&frame, waiting)?;
+    if waiting.len() < FULL {
+        return Ok(());
+    }
+    drain(waiting, writer)
+}
+
+/// Writes all that waits.
+fn drain<W: Write>(waiting: &mut Octets, writer: &mut Counting<W>) -> Result<(), ProgramFault>
+    ensures sent { OnOk result
+        (Appends (W.contents writer.old.inner) (W.contents writer.new.inner) waiting.old
+        × (waiting.new ≡ [])) }
+    ensures io { IsErrOf result ProgramFault.Io → Fails writer.old writer.new }
+    ensures heard { (result ≢ Err ProgramFault.Io) → FailsNot writer.old writer.new }
+{
+    writer.write_all(waiting.as_slice())?;
+    waiting.truncate(0);
+    Ok(())
+}
+
+/// Writes all that waits and then the error, if there is one, and answers the status.
+pub(crate) fn finish<W: Write>(
+    alloc: Global,
+    error: Option<ServerFrame>,
+    waiting: &mut Octets,
+    writer: &mut Counting<W>,
+) -> Result<u8, ProgramFault>
+    requires { IfSome error IsRenderable }
+    ensures written { OnOk result
+        (Appends (W.contents writer.old.inner) (W.contents writer.new.inner)
+        (waiting.old ++ option_map_or spelled (option_map rendered error) [])) }
+    ensures status { IfOk result (λ status.
+        status ≡ option_map_or (λ f. 2) (option_map rendered error) 0) }
+    ensures io { IsErrOf result ProgramFault.Io → Fails writer.old writer.new }
+    ensures heard { (result ≢ Err ProgramFault.Io) → FailsNot writer.old writer.new }
+{
+    let status = match &error {
+        Some(frame) => {
+            put(alloc, frame, waiting, writer)?;
+            2
+        }
+        None => 0,
+    };
+    drain(waiting, writer)?;
+    writer.flush()?;
+    Ok(status)
+}

@@ -1,0 +1,138 @@
+//! The relay of one topic.
+
+ghost use Rattle.std.specs.Prelude.{◌≡◌, ◌≢◌, ◌⊎◌, ◌≤◌, [], List, ℕ, Err, IfOk, IfSome, IsErrOf, length};
+ghost use Rattle.std.specs.Prelude.{vec_len};
+ghost use Rattle.std.specs.Io.KnownBytes.{Appends};
+ghost use Rattle.broker_server.specs.Counts.{Fails, FailsNot, RunsOut};
+ghost use Rattle.broker_server.specs.Relay.{input_limit, too_long, IsAnswered, IsRelayed};
+ghost use Rattle.broker_server.specs.Steps.{reading, IsGathered};
+
+use crate::counting::Counting;
+use crate::output::{finish, put};
+use crate::program_fault::ProgramFault;
+use crate::turn::Turn;
+use std::alloc::{AllocError, Global};
+use std::io::{ErrorKind, Read, Write};
+use stomp_escape::Octets;
+use stomp_frame::{FrameReader, Limits};
+
+/// How many octets of input are taken.
+const INPUT_LIMIT: usize = 16_777_216;
+
+/// How often the reader is called at most: for one octet each time, one past the limit, and the end.
+const TURNS: u64 = 16_777_218;
+
+/// How many octets are read at once.
+const PIECE: usize = 65_536;
+
+/// Relays the SEND frames of the reader's whole input to the topic of this name (one or more octets
+/// from 33 to 126): writes a MESSAGE for each frame before the first that is refused, and then the
+/// ERROR (STOMP 1.2, "SEND", "MESSAGE", "ERROR"). Nothing is written before the whole input was read.
+/// The status is 0; or 2 after an ERROR, and where the input is longer than 16,777,216 octets, of
+/// which `bad 112 TooLong` and LF are said alone.
+///
+/// Errors: `Io` (status 5) where a read or a write failed, a write took nothing, or the input hadn't
+/// ended after 16,777,218 reads (a read that is interrupted is one of these, and is tried again);
+/// `NoMemory` (status 4). After either, messages may have been written.
+pub fn run_relay<R: Read, W: Write>(
+    alloc: Global,
+    name: &[u8],
+    reader: &mut Counting<R>,
+    writer: &mut Counting<W>,
+) -> Result<u8, ProgramFault>
+    ensures relayed { IfOk result (λ status. IfSome (R.remaining reader.old.inner) (λ input.
+        (output : List ℕ) × Appends (W.contents writer.old.inner) (W.contents writer.new.inner) output
+        × IsRelayed name.now input output status)) }
+    // Where it isn't the writer that failed, it wasn't called.
+    ensures io { IsErrOf result ProgramFault.Io → Fails writer.old writer.new
+        ⊎ ((writer.new ≡ writer.old)
+        × (Fails reader.old reader.new ⊎ RunsOut reader.old reader.new)) }
+    // A failure is never passed over.
+    ensures heard { (result ≢ Err ProgramFault.Io)
+        → FailsNot reader.old reader.new × FailsNot writer.old writer.new }
+{
+    let mut frames = FrameReader::new(alloc, Limits::standard());
+    if gather(alloc, reader, &mut frames)? {
+        relay_frames(alloc, name, &mut frames, writer)
+    } else {
+        refuse_length(writer)
+    }
+}
+
+/// Reads the whole input, and answers whether it is within the limit.
+fn gather<R: Read>(
+    alloc: Global,
+    reader: &mut Counting<R>,
+    frames: &mut FrameReader,
+) -> Result<bool, ProgramFault>
+    requires { frames.old ≡ reading [] }
+    ensures gathered { IfOk result (λ whole.
+        IsGathered whole (R.remaining reader.old.inner) (R.remaining reader.new.inner) frames.new) }
+    ensures io { IsErrOf result ProgramFault.Io
+        → Fails reader.old reader.new ⊎ RunsOut reader.old reader.new }
+    ensures heard { (result ≢ Err ProgramFault.Io) → FailsNot reader.old reader.new }
+{
+    let mut piece = zeros(alloc, PIECE)?;
+    let mut total = 0;
+    'turns: for _turn in 0..TURNS {
+        let count = match reader.read(&mut piece) {
+            Ok(count) => count,
+            Err(e) if e.kind() == ErrorKind::Interrupted => continue 'turns,
+            Err(_) => return Err(ProgramFault::Io),
+        };
+        if count == 0 {
+            return Ok(true);
+        }
+        total += count;
+        if total > INPUT_LIMIT {
+            return Ok(false);
+        }
+        frames.feed(&piece[..count])?;
+    }
+    Err(ProgramFault::Io)
+}
+
+/// So many zeros.
+fn zeros(alloc: Global, len: usize) -> Result<Vec<u8>, AllocError>
+    ensures { IfOk result (λ zeros. vec_len zeros ≡ len) }
+{
+    Ok(vec![in alloc; 0u8; len]?)
+}
+
+/// Says that the input is too long.
+fn refuse_length<W: Write>(writer: &mut Counting<W>) -> Result<u8, ProgramFault>
+    ensures told { IfOk result (λ status. (status ≡ 2)
+        × Appends (W.contents writer.old.inner) (W.contents writer.new.inner) too_long) }
+    ensures io { IsErrOf result ProgramFault.Io → Fails writer.old writer.new }
+    ensures heard { (result ≢ Err ProgramFault.Io) → FailsNot writer.old writer.new }
+{
+    writer.write_all(b"bad 112 TooLong\n")?;
+    writer.flush()?;
+    Ok(2)
+}
+
+/// Writes the messages of the frames that are read, and then the error.
+fn relay_frames<W: Write>(
+    alloc: Global,
+    name: &[u8],
+    frames: &mut FrameReader,
+    writer: &mut Counting<W>,
+) -> Result<u8, ProgramFault>
+    requires fresh { frames.old ≡ reading frames.old.text }
+    requires short { length frames.old.text ≤ input_limit }
+    ensures answered { IfOk result (λ status. (output : List ℕ)
+        × Appends (W.contents writer.old.inner) (W.contents writer.new.inner) output
+        × IsAnswered name.now frames.old.text output status) }
+    ensures io { IsErrOf result ProgramFault.Io → Fails writer.old writer.new }
+    ensures heard { (result ≢ Err ProgramFault.Io) → FailsNot writer.old writer.new }
+{
+    let mut waiting = Octets::new(alloc);
+    let mut n = 1;
+    'frames: loop {
+        match Turn::next(alloc, name, n, frames)? {
+            Turn::Message(message) => put(alloc, &message, &mut waiting, writer)?,
+            Turn::End(error) => return finish(alloc, error, &mut waiting, writer),
+        }
+        n += 1;
+    }
+}
