@@ -1,10 +1,10 @@
 -- Reading answers fault k exactly where the rest is at fault k.
-use Rattle.std.proofs.Common.{◌≡◌, ◌≢◌, ℕ, zero, suc, ◌+◌, ◌-◌, ◌<◌, ◌≤◌, ◌⊎◌, inl, inr, Bool, true, false, cond, ltb, leb, eqb, ◌&&◌, ◌||◌, List, [], ◌∷◌, ◌++◌, length, take, drop, get_or, Option, Some, None, Result, Ok, Err, refl, sym, ap, subst, ◌∙◌, append_assoc, arith}
-use Rattle.std.specs.Prelude.{codes, IsTrue}
+use Rattle.std.proofs.Common.{◌≡◌, ◌≢◌, ℕ, zero, suc, ◌+◌, ◌<◌, ◌≤◌, ◌⊎◌, inl, inr, Bool, true, false, cond, ltb, leb, eqb, ◌&&◌, ◌||◌, List, [], ◌∷◌, ◌++◌, length, take, drop, get_or, Option, Some, None, Result, Ok, Err, refl, sym, ap, subst, ◌∙◌, append_assoc, arith}
+use Rattle.std.specs.Prelude.{IsTrue}
 use Rattle.std.specs.Option.{option_map_or}
 use Rattle.std.specs.List.{AllByRecursion, list_any}
 use Rattle.std.specs.Str.{IsUtf8, is_utf8, bytes_eq}
-use Rattle.std.proofs.lemmas.Bool.{cases_Bool, eq-eqb, ne_eqb, cases_eq, eqb-true, eqb-false, ltb-true, ltb-false, lt-ltb, le-ltb, leb-true, leb-false, le-leb, lt-leb, cases_lt, or_parts, and_parts, and_right, false_from_ne_true}
+use Rattle.std.proofs.lemmas.Bool.{cases_Bool, eq-eqb, ne_eqb, cases_eq, eqb-true, eqb-false, ltb-true, ltb-false, lt-ltb, le-ltb, leb-false, lt-leb, cases_lt, or_parts, and_parts, and_right, false_from_ne_true}
 use Rattle.std.proofs.lemmas.Str.{IsUtf8-from_is_utf8, is_utf8-from_IsUtf8, IsUtf8-from_ascii}
 use Rattle.std.proofs.lemmas.List.{length-append, take-append-drop, drop_more, length-take-le, get_or_at}
 use Rattle.stomp_frame.specs.declared.command.Command.{Command}
@@ -16,18 +16,17 @@ use Rattle.stomp_frame.specs.declared.fault.Check.TheVariants.{BadCommand, BadLi
 use Rattle.stomp_frame.specs.Headers.{Header}
 use Rattle.stomp_frame.specs.Commands.{word, has_escapes, is_read}
 use Rattle.stomp_frame.specs.ContentLength.{length_of, content_length}
-use Rattle.stomp_frame.specs.Grammar.{IsLine, IsCommandLine, Stands, AreHeaders}
-use Rattle.stomp_frame.specs.Checks.{Place, AtCommand, AtHeader, AtBody, Reaches, HasLine, FailsAsLine, Passes, FailsAsCommand, IsNameless, IsNoSpelling, HasBadEscape, FailsAsHeader, IsCounted, FailsAsBody, FailsAt, IsAtFault}
+use Rattle.stomp_frame.specs.Grammar.{IsLine, IsCommandLine, AreHeaders}
+use Rattle.stomp_frame.specs.Checks.{AtCommand, AtHeader, AtBody, HasLine, FailsAsLine, Passes, FailsAsCommand, IsNameless, IsNoSpelling, HasBadEscape, FailsAsHeader, IsCounted, FailsAsBody, IsAtFault}
 use Rattle.stomp_frame.specs.Reading.{Halt, Open, Fault, ◌>>=◌, cut, without_cr, checked, line_at, after_eols, command_of, or_bad_escape, field_of, named, header_of, headers_at, counted_at, uncounted_at, body_at, frame_at}
 use Rattle.stomp_frame.proofs.Cuts.{Without, cut_splits, cut_first, cut_past, cut_without}
 use Rattle.stomp_frame.proofs.Steady.{too_long, line_cut, line_open, line_endless, uncounted_cut, uncounted_none}
-use Rattle.stomp_escape.specs.Escape.{Spells}
 use Rattle.stomp_escape.specs.declared.fault.EscapeFault.{EscapeFault}
 use Rattle.stomp_escape.specs.Unescaping.{unescaped}
 use Rattle.stomp_escape.proofs.Laws.{is_found, read_again}
 use Rattle.std.proofs.lemmas.Slice.Eq.{bytes_eq-Decides}
 use Rattle.stomp_frame.proofs.Eols.{skip_lf, skip_crlf, skip_none, eols_nil}
-use Rattle.stomp_frame.proofs.Sound.{done, bind_ok, ok_is, chosen, line_takes, line_again, cr_cases, without_cr-cr, checked_again, IsContent, passes, not_empty, some_length, colon_inside, header_takes, header_again, headers_take, TakesHeaders, headers_again, field_again, command_takes, command_again, line_first, body_again, Without-front, Without-append}
+use Rattle.stomp_frame.proofs.Sound.{done, chosen, line_takes, line_again, cr_cases, without_cr-cr, checked_again, not_empty, some_length, colon_inside, header_takes, header_again, headers_take, headers_again, command_takes, command_again, line_first, Without-front, Without-append}
 
 abbrev pub failing : {A : Type 0} → Check → Result A Halt
 failing k = Err (Fault k)

@@ -1,6 +1,5 @@
 -- Reading in any pieces.
-use Rattle.std.proofs.Common.{◌≡◌, ℕ, Bool, List, [], ◌∷◌, ◌++◌, Option, Some, None, Ok, Err, refl, sym, ap, subst, ◌∙◌, append_assoc}
-use Rattle.std.specs.List.{flat_map}
+use Rattle.std.proofs.Common.{◌≡◌, ℕ, List, [], ◌∷◌, ◌++◌, Option, Some, None, refl, sym, ap, subst, ◌∙◌, append_assoc}
 use Rattle.std.proofs.lemmas.List.{append-nil}
 use Rattle.std.proofs.lemmas.List.Concat.{flat_map-append}
 use Rattle.stomp_frame.specs.declared.limits.Limits.{Limits}
@@ -12,9 +11,9 @@ use Rattle.stomp_frame.specs.declared.fault.FrameFault.TheVariants as faults
 use Rattle.stomp_frame.specs.Faults.{fault_of}
 use Rattle.stomp_frame.specs.Grammar.{eol, AreEols, BeginsWith, Leaves, Stream}
 use Rattle.stomp_frame.specs.Checks.{IsAtFault}
-use Rattle.stomp_frame.specs.Reader.{Unread, unread_of, fed, ReadsNext}
+use Rattle.stomp_frame.specs.Reader.{Unread, fed}
 use Rattle.stomp_frame.specs.Runs.{Run, begins, feeds, gives, waits, GivesFirstFrames, WaitsBehindAll, FaultsBehindAll}
-use Rattle.stomp_frame.proofs.Whole.{one_reading, has_reading, keeps_first_frame, fault_is_in_rest}
+use Rattle.stomp_frame.proofs.Whole.{one_reading, has_reading, keeps_first_frame}
 
 eols_before : (eols more : List ℕ) → AreEols eols → AreEols more → AreEols (eols ++ more)
 eols_before eols more a b = (a.0 ++ b.0, rw (a.1, b.1) (sym (flat_map-append eol a.0 b.0)))

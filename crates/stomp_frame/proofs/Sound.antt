@@ -1,13 +1,13 @@
 -- What is read is spelled so.
 use Rattle.std.proofs.Common.{◌≡◌, ◌≢◌, ℕ, zero, suc, ◌+◌, ◌-◌, ◌<◌, ◌≤◌, ◌⊎◌, inl, inr, Bool, true, false, cond, ltb, leb, eqb, ◌&&◌, ◌||◌, List, [], ◌∷◌, ◌++◌, length, take, drop, get_or, Option, Some, None, Result, Ok, Err, refl, sym, ap, subst, ◌∙◌, append_assoc, arith}
-use Rattle.std.specs.Prelude.{codes, MatchOption, IsTrue}
-use Rattle.std.specs.Option.{option_map, option_map_or}
+use Rattle.std.specs.Prelude.{MatchOption, IsTrue}
+use Rattle.std.specs.Option.{option_map_or}
 use Rattle.std.specs.List.{flat_map, AllByRecursion, list_any}
 use Rattle.std.specs.Str.{IsUtf8, is_utf8, bytes_eq}
-use Rattle.std.proofs.lemmas.Bool.{cases_Bool, eq-eqb, ne_eqb, cases_eq, eqb-true, eqb-false, ltb-true, ltb-false, lt-ltb, le-ltb, leb-true, leb-false, le-leb, lt-leb, cases_lt, and_parts, and_right, or_parts}
+use Rattle.std.proofs.lemmas.Bool.{cases_Bool, eq-eqb, ne_eqb, cases_eq, eqb-true, eqb-false, ltb-false, le-ltb, leb-false, lt-leb, cases_lt, and_parts, and_right, or_parts}
 use Rattle.std.proofs.lemmas.Str.{IsUtf8-from_is_utf8, is_utf8-from_IsUtf8}
 use Rattle.std.proofs.lemmas.Slice.Eq.{bytes_eq-Decides}
-use Rattle.std.proofs.lemmas.List.{length-append, append-nil, nil_from_length, take-append-drop, drop_more, length-take-le, length-drop, get_or_at, take_at, drop_at}
+use Rattle.std.proofs.lemmas.List.{length-append, nil_from_length, take-append-drop, drop_more, length-take-le, length-drop, get_or_at, take_at, drop_at}
 use Rattle.stomp_escape.specs.Escape.{Spells}
 use Rattle.stomp_escape.specs.declared.fault.EscapeFault.{EscapeFault}
 use Rattle.stomp_escape.specs.Unescaping.{unescaped}
@@ -21,11 +21,11 @@ use Rattle.stomp_frame.specs.declared.fault.Check.TheVariants.{BadCommand, BadTe
 use Rattle.stomp_frame.specs.Headers.{Header}
 use Rattle.stomp_frame.specs.Commands.{word, has_escapes, is_read}
 use Rattle.stomp_frame.specs.ContentLength.{length_of, content_length}
-use Rattle.stomp_frame.specs.Grammar.{IsLine, Stands, IsHeader, AreHeaders, IsBody, IsSpelling, eol, AreEols}
+use Rattle.stomp_frame.specs.Grammar.{IsLine, Stands, IsHeader, AreHeaders, IsSpelling, eol}
 use Rattle.stomp_frame.specs.Reading.{Halt, Open, Fault, ◌>>=◌, cut, without_cr, checked, line_at, after_eols, command_of, or_bad_escape, field_of, named, header_of, headers_at, counted_at, uncounted_at, body_at, frame_at}
 use Rattle.stomp_frame.proofs.Eols.{skip_lf, skip_crlf, skip_none, eols_nil}
 use Rattle.stomp_frame.proofs.Steady.{line_cut, line_open, line_endless, uncounted_cut, uncounted_none}
-use Rattle.stomp_frame.proofs.Cuts.{behind, Without, cut_splits, cut_first, cut_without, cut_past, cut_more}
+use Rattle.stomp_frame.proofs.Cuts.{Without, cut_splits, cut_first}
 
 -- the value of a step that did not fail
 pub bind_ok : {A B : Type 0} (r : Result A Halt) (f : A → Result B Halt) (y : B) → (r >>= f) ≡ Ok y → (x : A) × (r ≡ Ok x) × (f x ≡ Ok y)

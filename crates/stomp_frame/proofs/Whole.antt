@@ -1,21 +1,21 @@
 -- Reading from the front is the one way to take a text apart.
 use Rattle.std.proofs.Common.{◌≡◌, ◌≢◌, ℕ, zero, suc, ◌+◌, ◌<◌, ◌≤◌, ◌⊎◌, inl, inr, Bool, true, false, eqb, ◌&&◌, List, [], ◌∷◌, ◌++◌, length, get_or, Option, Some, None, Result, Ok, Err, refl, sym, ap, subst, ◌∙◌, append_assoc, arith}
 use Rattle.std.specs.List.{flat_map}
-use Rattle.std.proofs.lemmas.Bool.{cases_Bool, and_parts, eqb-true, cases_lt}
-use Rattle.std.proofs.lemmas.List.{append-nil, length-append}
+use Rattle.std.proofs.lemmas.Bool.{and_parts, eqb-true}
+use Rattle.std.proofs.lemmas.List.{length-append}
 use Rattle.stomp_frame.specs.declared.limits.Limits.{Limits}
 use Rattle.stomp_frame.specs.declared.frame.RawFrame.{RawFrame}
 use Rattle.stomp_frame.specs.declared.fault.Check.{Check}
 use Rattle.stomp_frame.specs.declared.fault.FrameFault.{FrameFault}
 use Rattle.stomp_frame.specs.Faults.{fault_of}
-use Rattle.stomp_frame.specs.Grammar.{IsSpelling, eol, AreEols, BeginsWith, IsRest, Leaves, Stream}
+use Rattle.stomp_frame.specs.Grammar.{IsSpelling, eol, BeginsWith, IsRest, Leaves, Stream}
 use Rattle.stomp_frame.specs.Checks.{IsAtFault, IsOpen}
 use Rattle.stomp_frame.specs.Laws.{OneReading, HasReading, OpenOrAtFault, OneFault, FaultIsInRest, KeepsFrames, KeepsFault, OneFirstFrame, KeepsFirstFrame}
 use Rattle.stomp_frame.specs.Reader.{Unread, ReadsNext}
-use Rattle.stomp_frame.specs.Reading.{Halt, Open, Fault, cut, line_at, after_eols, frame_at}
+use Rattle.stomp_frame.specs.Reading.{Halt, Open, Fault, cut, after_eols, frame_at}
 use Rattle.stomp_frame.proofs.Eols.{skip_none}
-use Rattle.stomp_frame.proofs.Sound.{ok_is, TakesFrame, frame_takes, frame_again, eols_take, eols_again, line_first}
-use Rattle.stomp_frame.proofs.Steady.{Extends, line_open, eols_cases, frame_steady}
+use Rattle.stomp_frame.proofs.Sound.{ok_is, frame_takes, frame_again, eols_take, eols_again, line_first}
+use Rattle.stomp_frame.proofs.Steady.{line_open, eols_cases, frame_steady}
 use Rattle.stomp_frame.proofs.AtFault.{failing, fault_is, no_eol, frame_fault, frame_faulty, fault_first}
 
 -- Reading depends on what stands behind the end-of-lines.

@@ -1,5 +1,4 @@
-use Rattle.std.proofs.Common.{◌≡◌, drop, Some, Ok, Err, None, sym, ap, subst}
-use Rattle.stomp_frame.specs.Faults.{fault_of}
+use Rattle.std.proofs.Common.{drop, Some, Ok, Err, None, subst}
 use Rattle.stomp_frame.specs.Reader.{Unread, ReadsNext}
 use Rattle.stomp_frame.proofs.Whole.{answers_frame, answers_none, answers_fault}
 use Rattle.stomp_frame.proofs.reader.FrameReader.read_next.Goals as goal
