@@ -4,7 +4,7 @@ use Rattle.std.specs.Prelude.{codes, decimal}
 use Rattle.std.specs.List.{AllByRecursion, list_all}
 use Rattle.std.proofs.lemmas.Bool.{and_parts, leb-true, le-leb}
 use Rattle.std.proofs.lemmas.Bool.Decides.{nat_tests}
-use Rattle.std.proofs.lemmas.Fmt.{decimal_by_steps, decimal_nonempty, length-decimal-le}
+use Rattle.std.proofs.lemmas.Fmt.{decimal_by_steps, decimal_nonempty}
 use Rattle.std.proofs.lemmas.List.Folds.{list_all-append}
 use Rattle.std.proofs.lemmas.List.Sums.{fold_push}
 use Rattle.std.proofs.lemmas.Str.{IsUtf8-from_ascii}
@@ -70,13 +70,13 @@ writes n lt = decimal_by_steps Writes one_digit more_digits n lt
 pub decimal_text : (n : ℕ) → n < 2 ^ 64 → IsText (decimal n)
 decimal_text n lt = ascii_text (decimal n) (writes n lt).ascii
 
--- A number of at most ten digits is what a content-length of its digits says.
-pub says : (n : ℕ) → n ≤ 9999999999 → length_of (decimal n) ≡ Some n
-says n le =
-    let w = writes n (omega arith) in
-    let some = le-leb 1 (length (decimal n)) (decimal_nonempty n (omega arith)) in
-    let few = le-leb (length (decimal n)) 10 (length-decimal-le 10 n (omega arith) (omega arith) (omega arith)) in
-    rw (some, few, w.digits, w.value) refl
+-- At most ten digits of a number are a content-length that says it.
+pub says : (n : ℕ) → n < 2 ^ 64 → length (decimal n) ≤ 10 → length_of (decimal n) ≡ Some n
+says n lt few =
+    let w = writes n lt in
+    let some = le-leb 1 (length (decimal n)) (decimal_nonempty n lt) in
+    let ten = le-leb (length (decimal n)) 10 few in
+    rw (some, ten, w.digits, w.value) refl
 
 join : (xs ys : List ℕ) → list_all is_ascii xs ≡ true → list_all is_ascii ys ≡ true → list_all is_ascii (xs ++ ys) ≡ true
 join xs ys e f = list_all-append is_ascii xs ys ∙ rw (e, f) refl

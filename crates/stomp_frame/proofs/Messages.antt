@@ -1,16 +1,16 @@
 -- The frames that a server sends can be written.
-use Rattle.std.proofs.Common.{◌≡◌, ℕ, ◌≤◌, Bool, true, false, cond, List, [], ◌∷◌, ◌++◌, length, Option, Some, None, Bor, sym, subst}
+use Rattle.std.proofs.Common.{◌≡◌, ℕ, Bool, true, false, cond, List, [], ◌∷◌, ◌++◌, length, Option, Some, None, Bor, inr, refl, sym, subst}
 use Rattle.std.specs.Prelude.{codes, decimal, find, MatchOption}
 use Rattle.std.specs.List.{AllByRecursion, list_all}
 use Rattle.std.specs.Option.{option_map}
 use Rattle.std.specs.Str.{bytes_eq}
 use Rattle.stomp_frame.specs.declared.frame.RawFrame.{RawFrame}
 use Rattle.stomp_frame.specs.Headers.{Header, IsText, IsPair, first_of}
-use Rattle.stomp_frame.specs.ContentLength.{length_of, content_length}
+use Rattle.stomp_frame.specs.ContentLength.{content_length}
 use Rattle.stomp_frame.specs.ServerFrames.{optional, first_entries, kept_back, message_headers, message_frame}
-use Rattle.stomp_frame.specs.Writing.{IsWritable}
+use Rattle.stomp_frame.specs.Writing.{SaysLength, IsWritable}
 use Rattle.stomp_frame.proofs.Bare.{escaped_bare}
-use Rattle.stomp_frame.proofs.Digits.{is_ascii, ascii_text, says}
+use Rattle.stomp_frame.proofs.Digits.{is_ascii, ascii_text}
 
 -- a header of a name of ASCII
 pub named_pair : (b : ℕ) (name value : List ℕ) → list_all is_ascii (b ∷ name) ≡ true → IsText value → IsPair (b ∷ name, value)
@@ -33,19 +33,19 @@ pub optional_pair : (o : Option (Bor (List ℕ))) (b : ℕ) (name : List ℕ) �
 optional_pair None b name e t = tt
 optional_pair (Some v) b name e t = named_pair b name v.now e t
 
-says_its_length : (o : Option (List ℕ)) (subscription id : List ℕ) (size : ℕ) (others : List Header) → size ≤ 9999999999
-    → MatchOption (content_length ((codes "subscription", subscription) ∷ (codes "message-id", id) ∷ (optional (codes "destination") o ++ (codes "content-length", decimal size) ∷ others))) ⊥ (λ d. length_of d ≡ Some size)
-says_its_length None subscription id size others le = says size le
-says_its_length (Some v) subscription id size others le = says size le
+says_its_length : (o : Option (List ℕ)) (subscription id : List ℕ) (size : ℕ) (others : List Header)
+    → MatchOption (content_length ((codes "subscription", subscription) ∷ (codes "message-id", id) ∷ (optional (codes "destination") o ++ (codes "content-length", decimal size) ∷ others))) ⊥ (λ d. SaysLength d size)
+says_its_length None subscription id size others = inr refl
+says_its_length (Some v) subscription id size others = inr refl
 
-pub message_writable : (subscription id : List ℕ) (sent : List Header) (body : List ℕ) → AllByRecursion IsPair (message_headers subscription id sent (length body)) → length body ≤ 9999999999 → IsWritable (message_frame subscription id sent body)
-message_writable subscription id sent body pairs le = record {
+pub message_writable : (subscription id : List ℕ) (sent : List Header) (body : List ℕ) → AllByRecursion IsPair (message_headers subscription id sent (length body)) → IsWritable (message_frame subscription id sent body)
+message_writable subscription id sent body pairs = record {
   pairs = pairs;
   bare = escaped_bare (message_headers subscription id sent (length body));
-  sized = says_its_length (first_of (codes "destination") sent) subscription id (length body) (first_entries kept_back sent) le;
+  sized = says_its_length (first_of (codes "destination") sent) subscription id (length body) (first_entries kept_back sent);
 }
 
 -- the same of what was made so
-pub made_writable : (f : RawFrame) (subscription id : List ℕ) (sent : List Header) (body : List ℕ) → f ≡ message_frame subscription id sent body → AllByRecursion IsPair f.headers → length body ≤ 9999999999 → IsWritable f
-made_writable f subscription id sent body e pairs le =
-    subst IsWritable (sym e) (message_writable subscription id sent body (subst (λ (g : RawFrame). AllByRecursion IsPair g.headers) e pairs) le)
+pub made_writable : (f : RawFrame) (subscription id : List ℕ) (sent : List Header) (body : List ℕ) → f ≡ message_frame subscription id sent body → AllByRecursion IsPair f.headers → IsWritable f
+made_writable f subscription id sent body e pairs =
+    subst IsWritable (sym e) (message_writable subscription id sent body (subst (λ (g : RawFrame). AllByRecursion IsPair g.headers) e pairs))

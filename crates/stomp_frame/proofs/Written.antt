@@ -1,5 +1,5 @@
 -- What is written is a spelling.
-use Rattle.std.proofs.Common.{◌≡◌, ◌≢◌, ℕ, zero, suc, ◌+◌, ◌≤◌, ◌<◌, inl, inr, Bool, true, false, leb, ◌&&◌, List, [], ◌∷◌, ◌++◌, length, take, get_or, Option, Some, None, refl, sym, ap, ◌∙◌, append_assoc, arith}
+use Rattle.std.proofs.Common.{◌≡◌, ◌≢◌, ℕ, zero, suc, ◌+◌, ◌^◌, ◌≤◌, ◌<◌, inl, inr, subst, Bool, true, false, leb, ◌&&◌, List, [], ◌∷◌, ◌++◌, length, take, get_or, Option, Some, None, refl, sym, ap, ◌∙◌, append_assoc, arith}
 use Rattle.std.specs.Prelude.{MatchOption, slice_get}
 use Rattle.std.specs.List.{AllByRecursion, list_all}
 use Rattle.std.proofs.lemmas.Bool.{and_parts, leb-true}
@@ -19,7 +19,8 @@ use Rattle.stomp_frame.specs.Headers.{Header, IsText, IsPair}
 use Rattle.stomp_frame.specs.Commands.{word, has_escapes, may_have_body}
 use Rattle.stomp_frame.specs.ContentLength.{length_of, content_length}
 use Rattle.stomp_frame.specs.Grammar.{IsLine, Stands, IsHeader, AreHeaders, IsSpelling, BeginsWith}
-use Rattle.stomp_frame.specs.Writing.{written, header_line, header_lines, spelled, IsBare, HasItsLength, IsWritable, IsWithin}
+use Rattle.stomp_frame.specs.Writing.{written, header_line, header_lines, spelled, IsBare, SaysLength, HasItsLength, IsWritable, IsWithin}
+use Rattle.stomp_frame.proofs.Digits.{says}
 use Rattle.stomp_frame.proofs.Texts.{escaped_utf8, with_ascii, option_cases}
 
 abbrev Plain : ℕ → Type 0
@@ -137,12 +138,17 @@ word_upper Error = refl
 word_is : (limits : Limits) (c : Command) → length (word c) ≤ limits.line → IsLine limits (word c ++ 10 ∷ []) (word c)
 word_is limits c short = let a = all_upper (word c) (word_upper c) in record { ended = inl refl; short = short; plain = a.0; utf8 = IsUtf8-from_ascii (word c) a.1 }
 
+-- the digits, where they are few enough, are a content-length of the body
+digits_say : (d : List ℕ) (n : ℕ) → n < 2 ^ 64 → length d ≤ 10 → SaysLength d n → length_of d ≡ Some n
+digits_say d n lt few (inl e) = e
+digits_say d n lt few (inr e) = ap length_of e ∙ says n lt (subst (λ (t : List ℕ). length t ≤ 10) e few)
+
 -- the body is as long as the first content-length says, or there is neither
-body_is : (limits : Limits) (may : Bool) (body : List ℕ) (digits : Option (List ℕ)) → HasItsLength may body digits → MatchOption digits (AllByRecursion (λ b. b ≢ 0) body) (λ d. length_of d ≡ Some (length body))
-body_is limits true body None h = absurd h
-body_is limits true body (Some d) h = h
-body_is limits false body None h = rw h.0 tt
-body_is limits false body (Some d) h = rw h.0 h.1
+body_is : (may : Bool) (body : List ℕ) (digits : Option (List ℕ)) → length body < 2 ^ 64 → MatchOption digits (Unit {0}) (λ d. length d ≤ 10) → HasItsLength may body digits → MatchOption digits (AllByRecursion (λ b. b ≢ 0) body) (λ d. length_of d ≡ Some (length body))
+body_is true body None lt few h = absurd h
+body_is true body (Some d) lt few h = digits_say d (length body) lt few h
+body_is false body None lt few h = rw h.0 tt
+body_is false body (Some d) lt few h = rw h.0 h.1
 
 pub spelled_is : (limits : Limits) (f : RawFrame) → IsWritable f → IsWithin limits f → IsSpelling limits (spelled f) f
 spelled_is limits f w i =
@@ -154,7 +160,7 @@ spelled_is limits f w i =
       command = (word_is limits f.command i.command, i.read);
       headers = (headers_are limits (has_escapes f.command) f.headers w.pairs w.bare i.lines, i.headers);
       empty = record { ended = inl refl; short = omega arith; plain = tt; utf8 = IsUtf8-from_ascii [] (λ i. omega arith) };
-      body = (i.body, body_is limits (may_have_body f.command) f.body (content_length f.headers) w.sized);
+      body = (i.body.0, body_is (may_have_body f.command) f.body (content_length f.headers) i.body.1 i.digits w.sized);
     }
 
 pub spelled_first : (limits : Limits) (f : RawFrame) (more : List ℕ) → IsWritable f → IsWithin limits f → BeginsWith limits (spelled f ++ more) f more

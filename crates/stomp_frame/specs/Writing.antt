@@ -1,5 +1,5 @@
 -- The one spelling of a frame that is written (STOMP 1.2, "Augmented BNF").
-use Rattle.std.specs.Prelude.{◌≡◌, ◌≢◌, ℕ, ◌≤◌, Bool, true, false, List, [], ◌∷◌, ◌++◌, length, IsTrue, Option, Some, MatchOption}
+use Rattle.std.specs.Prelude.{◌≡◌, ◌≢◌, ◌⊎◌, ℕ, ◌≤◌, ◌<◌, ◌^◌, Bool, true, false, List, [], ◌∷◌, ◌++◌, length, decimal, IsTrue, Option, Some, MatchOption}
 use Rattle.std.specs.List.{flat_map, AllByRecursion}
 use Rattle.stomp_escape.specs.Escape.{escaped}
 use Rattle.stomp_frame.specs.declared.limits.Limits.{Limits}
@@ -30,10 +30,14 @@ abbrev pub IsBare : Bool → Header → Type 0
 IsBare true h = Unit {0}
 IsBare false h = AllByRecursion (λ b. (b ≢ 10) × (b ≢ 13) × (b ≢ 58)) h.0 × AllByRecursion (λ b. (b ≢ 10) × (b ≢ 13)) h.1
 
+-- The digits say this length: as a content-length that is read does, in 1 to 10 digits, or plainly.
+abbrev pub SaysLength : List ℕ → ℕ → Type 0
+SaysLength digits n = (length_of digits ≡ Some n) ⊎ (digits ≡ decimal n)
+
 -- SEND, MESSAGE and ERROR say the body's length (STOMP 1.2, "Header content-length": they SHOULD; that they must is (own)).
 -- The others have no body, and say so if they say anything.
 abbrev pub HasItsLength : Bool → List ℕ → Option (List ℕ) → Type 0
-HasItsLength true body digits = MatchOption digits ⊥ (λ d. length_of d ≡ Some (length body))
+HasItsLength true body digits = MatchOption digits ⊥ (λ d. SaysLength d (length body))
 HasItsLength false body digits = (body ≡ []) × MatchOption digits (Unit {0}) (λ d. length_of d ≡ Some 0)
 
 -- what can be written so that it is read again as itself
@@ -53,4 +57,5 @@ pub record IsWithin (limits : Limits) (f : RawFrame) : Type 0 where
   pub command : length (word f.command) ≤ limits.line
   pub lines : AllByRecursion (λ h. length (header_line (has_escapes f.command) h) ≤ limits.line) f.headers
   pub headers : length f.headers ≤ limits.headers
-  pub body : length f.body ≤ limits.body
+  pub digits : MatchOption (content_length f.headers) (Unit {0}) (λ d. length d ≤ 10)
+  pub body : (length f.body ≤ limits.body) × (length f.body < 2 ^ 64)

@@ -11,9 +11,6 @@ use crate::server_headers::{error_headers, message_headers, message_id};
 use std::alloc::Global;
 use stomp_escape::{NoMemory, Octets};
 
-/// The greatest length in octets that a content-length of ten digits says.
-const MOST_IN_TEN_DIGITS: usize = 9_999_999_999;
-
 /// A frame that a server sends (STOMP 1.2, "Server Frames").
 #[derive(Drop)]
 pub enum ServerFrame {
@@ -47,8 +44,7 @@ pub enum ServerFrame {
 /// subscription, message-id (the numbers of the stamp, of its topic and of the index, with dots
 /// between them), destination where the SEND has one, content-length, and then the first entry of
 /// each other header of the SEND. An ERROR has message, receipt-id and version where there are such,
-/// and content-length 0. A body of more than 9,999,999,999 octets, whose length no content-length
-/// says, is answered as want of memory.
+/// and content-length 0.
 pub fn render(alloc: Global, frame: &ServerFrame) -> Result<RawFrame, NoMemory>
     requires { IsRenderable frame.now }
     ensures value { IfOk result (λ f. f ≡ rendered frame.now) }
@@ -63,9 +59,6 @@ pub fn render(alloc: Global, frame: &ServerFrame) -> Result<RawFrame, NoMemory>
             headers,
             body,
         } => {
-            if body.len() > MOST_IN_TEN_DIGITS {
-                return Err(NoMemory);
-            }
             let id = message_id(alloc, *n, *topic, *index)?;
             let headers = message_headers(
                 alloc,

@@ -4,11 +4,12 @@ ghost use Rattle.std.specs.Prelude.{◌≡◌, ◌++◌, ◌∷◌, [], ◌↔�
 ghost use Rattle.std.specs.List.{AllByRecursion, list_any};
 ghost use Rattle.stomp_frame.specs.Commands.{may_have_body};
 ghost use Rattle.stomp_frame.specs.ContentLength.{content_length};
-ghost use Rattle.stomp_frame.specs.Writing.{written, header_line, header_lines, spelled, IsBare, HasItsLength, IsWritable, Extends};
+ghost use Rattle.stomp_frame.specs.Writing.{written, header_line, header_lines, spelled, IsBare, SaysLength, HasItsLength, IsWritable, Extends};
 
 use crate::content_length::length_in;
 use crate::frame::RawFrame;
 use crate::headers::Headers;
+use itoa::Buffer;
 use stomp_escape::{NoMemory, Octets, escape_into};
 
 fn ends_in_name(name: &[u8]) -> bool
@@ -43,6 +44,12 @@ fn are_bare(headers: &Headers) -> bool
     true
 }
 
+fn says_length(digits: &[u8], len: usize) -> bool
+    ensures { IsTrue result ↔ SaysLength digits.now len }
+{
+    length_in(digits) == Some(len) || digits == Buffer::new().format(len).as_bytes()
+}
+
 fn has_its_length(frame: &RawFrame) -> bool
     ensures { IsTrue result ↔ HasItsLength (may_have_body frame.now.command) frame.now.body
         (content_length frame.now.headers) }
@@ -50,9 +57,8 @@ fn has_its_length(frame: &RawFrame) -> bool
     let may_have_body = frame.command.may_have_body();
     match frame.headers.first(b"content-length") {
         None => !may_have_body && frame.body.is_empty(),
-        Some(digits) => {
-            (may_have_body || frame.body.is_empty()) && length_in(digits) == Some(frame.body.len())
-        }
+        Some(digits) if may_have_body => says_length(digits, frame.body.len()),
+        Some(digits) => frame.body.is_empty() && length_in(digits) == Some(0),
     }
 }
 

@@ -1,4 +1,4 @@
-use Rattle.std.proofs.Common.{◌≡◌, arith, rules}
+use Rattle.std.proofs.Common.{◌≡◌, rules}
 use Rattle.stomp_frame.specs.declared.command.Command.TheVariants as commands
 use Rattle.stomp_frame.specs.declared.frame.RawFrame.{RawFrame}
 use Rattle.stomp_frame.specs.ServerFrames.{message_id, message_frame}
@@ -10,4 +10,4 @@ returns-in_ok-from_slice-in-Message-clause-writable c =
     let m = c.in-Message in
     let made : RawFrame = record { command = commands.Message; headers = c.in_ok-headers-in-Message.headers; body = c.in_ok-from_slice-in-Message.field-0 } in
     let same : made ≡ message_frame m.subscription (message_id m.n m.topic m.index) m.headers m.body = search rules in
-    made_writable made m.subscription (message_id m.n m.topic m.index) m.headers m.body same c.are_pairs.ensures (omega arith)
+    made_writable made m.subscription (message_id m.n m.topic m.index) m.headers m.body same c.are_pairs.ensures
