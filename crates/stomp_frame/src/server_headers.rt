@@ -12,6 +12,9 @@ use itoa::Buffer;
 use std::alloc::Global;
 use stomp_escape::{NoMemory, Octets};
 
+/// Octets of the longest message-id: numbers of 20, 10 and 10 digits, and two dots.
+const LONGEST_ID: usize = 42;
+
 fn put(alloc: Global, headers: &mut Headers, name: &[u8], value: &[u8]) -> Result<(), NoMemory>
     requires { IsPair (name.now, value.now) }
     ensures { OnOk result (headers.new ≡ headers.old ++ (name.now, value.now) ∷ []) }
@@ -57,7 +60,8 @@ fn is_passed_over(headers: &Headers, name: &[u8]) -> bool
 }
 
 fn put_first_entries(alloc: Global, headers: &mut Headers, sent: &Headers) -> Result<(), NoMemory>
-    requires { AllByRecursion (λ h. IsTrue (list_any (λ kept. bytes_eq h.0 kept) kept_back)) headers.old }
+    requires { AllByRecursion (λ h. IsTrue (list_any (λ kept. bytes_eq h.0 kept) kept_back))
+        headers.old }
     ensures { OnOk result (headers.new ≡ headers.old ++ first_entries kept_back sent.now) }
 {
     sent.are_pairs();
@@ -76,7 +80,7 @@ pub(crate) fn message_id(alloc: Global, n: u64, topic: u32, index: u32) -> Resul
     ensures text { IfOk result (λ id. IsText id) }
 {
     let mut digits = Buffer::new();
-    let mut id = Octets::with_capacity(alloc, 42)?;
+    let mut id = Octets::with_capacity(alloc, LONGEST_ID)?;
     id.extend(digits.format(n).as_bytes())?;
     id.push(b'.')?;
     id.extend(digits.format(topic).as_bytes())?;
