@@ -40,7 +40,8 @@ abbrev pub AreHeaders : Limits → Bool → List ℕ → List Header → Type 0
 AreHeaders limits escapes text [] = text ≡ []
 AreHeaders limits escapes text (h ∷ hs) = (line others : List ℕ) × (text ≡ line ++ others) × IsHeader limits escapes line h × AreHeaders limits escapes others hs
 
--- A body is as long as the first content-length says, or has no NULL where there is none (STOMP 1.2, "Body").
+-- A body is as long as the first content-length says (STOMP 1.2, "Header content-length"), or has no NULL where there
+-- is none ("Body").
 abbrev pub IsBody : Limits → RawFrame → Type 0
 IsBody limits f = (length f.body ≤ limits.body) × MatchOption (content_length f.headers) (AllByRecursion (λ b. b ≢ 0) f.body) (λ digits. length_of digits ≡ Some (length f.body))
 

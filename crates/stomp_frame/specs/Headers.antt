@@ -1,4 +1,4 @@
--- Headers: pairs of a name and a value (STOMP 1.2, "Frames and Headers").
+-- Headers: pairs of a name and a value (STOMP 1.2, "STOMP Frames").
 use Rattle.std.specs.Prelude.{ℕ, ◌≢◌, List, [], Option, find}
 use Rattle.std.specs.List.{AllByRecursion}
 use Rattle.std.specs.Option.{option_map}

@@ -30,17 +30,17 @@ abbrev pub IsBare : Bool → Header → Type 0
 IsBare true h = Unit {0}
 IsBare false h = AllByRecursion (λ b. (b ≢ 10) × (b ≢ 13) × (b ≢ 58)) h.0 × AllByRecursion (λ b. (b ≢ 10) × (b ≢ 13)) h.1
 
--- The digits say this length: as a content-length that is read does, in 1 to 10 digits, or plainly.
+-- The digits say this length: as a content-length that is read does, in 1 to 10 digits, or as the plain decimal number.
 abbrev pub SaysLength : List ℕ → ℕ → Type 0
 SaysLength digits n = (length_of digits ≡ Some n) ⊎ (digits ≡ decimal n)
 
--- SEND, MESSAGE and ERROR say the body's length (STOMP 1.2, "Header content-length": they SHOULD; that they must is (own)).
--- The others have no body, and say so if they say anything.
+-- SEND, MESSAGE and ERROR say the body's length (STOMP 1.2, "SEND", "MESSAGE", "ERROR": they SHOULD where there is a
+-- body; that they must is (own)). The others have no body ("Body"), and say so if they say anything.
 abbrev pub HasItsLength : Bool → List ℕ → Option (List ℕ) → Type 0
 HasItsLength true body digits = MatchOption digits ⊥ (λ d. SaysLength d (length body))
 HasItsLength false body digits = (body ≡ []) × MatchOption digits (Unit {0}) (λ d. length_of d ≡ Some 0)
 
--- what can be written so that it is read again as itself
+-- what can be written, so that a reader of its command reads it as itself, within that reader's limits (IsWithin)
 pub record IsWritable (f : RawFrame) : Type 0 where
   pub pairs : AllByRecursion IsPair f.headers
   pub bare : AllByRecursion (λ h. IsBare (has_escapes f.command) h) f.headers
@@ -51,7 +51,8 @@ pub record Extends (old new : List ℕ) : Type 0 where
   pub more : List ℕ
   pub grown : new ≡ old ++ more
 
--- what a reader with these limits takes of what is written
+-- what a reader with these limits takes of what is written (that a body has fewer than 2 ^ 64 octets is so of each body
+-- that a program holds)
 pub record IsWithin (limits : Limits) (f : RawFrame) : Type 0 where
   pub read : IsTrue (is_read f.command)
   pub command : length (word f.command) ≤ limits.line

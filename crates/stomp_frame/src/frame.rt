@@ -4,7 +4,7 @@ use crate::command::Command;
 use crate::headers::Headers;
 use stomp_escape::Octets;
 
-/// A frame as it came, with each of its headers in order (STOMP 1.2, "STOMP Frames").
+/// A frame with all of its headers in order, repeated ones too, and their escapes read (STOMP 1.2, "STOMP Frames").
 #[derive(Drop)]
 pub struct RawFrame {
     pub command: Command,

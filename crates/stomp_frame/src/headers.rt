@@ -9,7 +9,7 @@ use std::alloc::Global;
 use std::marker::Model;
 use stomp_escape::{NoMemory, Octets};
 
-/// A frame's headers in their order: pairs of a name and a value (STOMP 1.2, "Frames and Headers").
+/// A frame's headers in their order: pairs of a name and a value (STOMP 1.2, "STOMP Frames").
 /// The type keeps that no name is empty, and that names and values are UTF-8 without NULL.
 #[derive(Drop)]
 pub struct Headers {

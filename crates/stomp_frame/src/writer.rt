@@ -62,11 +62,11 @@ fn has_its_length(frame: &RawFrame) -> bool
     }
 }
 
-/// Whether the frame can be written so that it is read again as itself: under CONNECT, STOMP and
-/// CONNECTED, where nothing is escaped, no header has CR or LF, nor its name a colon; a SEND, MESSAGE
-/// or ERROR says its body's length in octets by its first content-length; any other frame has no
-/// body, and no content-length but one of 0 (STOMP 1.2, "Value Encoding", "Header content-length",
-/// "Body"). It takes no memory.
+/// Whether the frame can be written: under CONNECT, STOMP and CONNECTED, where nothing is escaped, no
+/// header has CR or LF, nor its name a colon (STOMP 1.2, "Value Encoding"); a SEND, MESSAGE or ERROR
+/// says its body's length in octets by its first content-length, which STOMP 1.2 only recommends; any
+/// other frame has no body (STOMP 1.2, "Body"), and no content-length but one of 0. A reader of its
+/// command, within whose limits it is, reads it as itself. It takes no memory.
 pub fn writable(frame: &RawFrame) -> bool
     ensures { IsTrue result ↔ IsWritable frame.now }
 {

@@ -145,6 +145,68 @@ fn the_first_fault_is_told(rt: HostRuntime) {
     }
 }
 
+/// Each text has two faults, and the one that is checked first is told.
+#[test]
+fn of_two_faults_the_first_is_told(rt: HostRuntime) {
+    for (text, told) in [
+        (
+            b"SEND\n12345678901234567890\r1\n".as_slice(),
+            FrameFault::LineTooLong,
+        ),
+        (b"SEND\n\xff\0\n", FrameFault::BadLine),
+        (b"\xff\n", FrameFault::BadText),
+        (b"SEND\na:\nb:\nabc\n", FrameFault::TooManyHeaders),
+        (b"SEND\n:\\t\n", FrameFault::BadHeader),
+    ] {
+        assert_eq!(rt; fault(rt.alloc(), SMALL, text), Some(told));
+    }
+    for text in [
+        b"SEND\ncontent-length:99999999999\n\n".as_slice(),
+        b"SEND\ncontent-length:x\ncontent-length:1\n\nab",
+    ] {
+        let told = fault(rt.alloc(), Limits::standard(), text);
+        assert_eq!(rt; told, Some(FrameFault::BadLength));
+    }
+}
+
+#[test]
+fn octet_by_octet(rt: HostRuntime) -> Result<(), Fail> {
+    let alloc = rt.alloc();
+    let mut reader = FrameReader::new(alloc, Limits::standard());
+    let mut bodies = Vec::new(alloc);
+    for octet in b"\r\nSEND\r\nn\xc3\xa4me:\xe2\x82\xac\n\nhi\0\nSEND\ncontent-length:0000000003\n\na\0b\0"
+    {
+        reader.feed(&[*octet])?;
+        if let Some(read) = reader.next(alloc)? {
+            bodies.extend_from_slice(read.body.as_slice())?;
+            bodies.push(b'|')?;
+        }
+    }
+    assert_eq!(rt; bodies.as_slice(), b"hi|a\0b|".as_slice());
+    assert!(rt; reader.clean());
+    Ok(())
+}
+
+#[test]
+fn limits_of_nothing(rt: HostRuntime) -> Result<(), Fail> {
+    let alloc = rt.alloc();
+    let limits = Limits {
+        line: 4,
+        headers: 0,
+        body: 0,
+    };
+    assert_eq!(rt; fault(alloc, limits, b"SEND\n\n\0"), None);
+    assert_eq!(rt;
+        fault(alloc, limits, b"SEND\na:b\n"),
+        Some(FrameFault::TooManyHeaders)
+    );
+    assert_eq!(rt;
+        fault(alloc, limits, b"SEND\n\nx"),
+        Some(FrameFault::BodyTooLong)
+    );
+    Ok(())
+}
+
 #[test]
 fn more_is_due(rt: HostRuntime) -> Result<(), Fail> {
     let alloc = rt.alloc();

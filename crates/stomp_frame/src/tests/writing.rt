@@ -4,7 +4,9 @@ ghost use Rattle.std.specs.Prelude.{◌≡◌, ◌&&◌, nat_le, IfOk};
 ghost use Rattle.std.specs.List.{list_all};
 ghost use Rattle.stomp_frame.specs.Headers.{IsText, IsPair};
 
-use crate::{Command, Headers, RawFrame, ServerFrame, render, writable, write_frame};
+use crate::{
+    Command, FrameReader, Headers, Limits, RawFrame, ServerFrame, render, writable, write_frame,
+};
 use std::alloc::Global;
 use std::test::Fail;
 use stomp_escape::{NoMemory, Octets};
@@ -268,6 +270,35 @@ fn frames_are_appended(rt: HostRuntime) -> Result<(), Fail> {
         out.as_slice(),
         b"BEGIN\na\\cb:\\r\\n\\c\\\\\n\n\0CONNECTED\nversion:1.2\nserver:a:b\\n\n\n\0".as_slice()
     );
+    Ok(())
+}
+
+#[test]
+fn what_is_written_is_read_again(rt: HostRuntime) -> Result<(), Fail> {
+    let alloc = rt.alloc();
+    let pairs = [
+        (b"a:b".as_slice(), b"\r\n:\\".as_slice()),
+        (b"content-length", b"3"),
+        (b"a:b", b""),
+    ];
+    let sent = raw(alloc, Command::Send, &pairs, b"a\0b")?;
+    assert!(rt; writable(&sent));
+    let mut out = Octets::new(alloc);
+    write_frame(&sent, &mut out)?;
+    out.extend(b"SEN")?;
+    let mut reader = FrameReader::new(alloc, Limits::standard());
+    reader.feed(out.as_slice())?;
+    let Some(read) = reader.next(alloc)? else {
+        return Err(Fail::new("no frame"));
+    };
+    assert_eq!(rt; read.command, Command::Send);
+    assert_eq!(rt; read.body.as_slice(), b"a\0b".as_slice());
+    assert_eq!(rt; read.headers.len(), 3);
+    for i in 0..read.headers.len() {
+        let (name, value) = read.headers.pair(i);
+        assert!(rt; i < pairs.len() && name == pairs[i].0 && value == pairs[i].1);
+    }
+    assert!(rt; reader.next(alloc)?.is_none());
     Ok(())
 }
 
