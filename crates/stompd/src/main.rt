@@ -2,9 +2,8 @@
 #![tactic(auto)]
 
 use broker_server::{Counting, Program, USAGE, run_relay};
-use std::env;
-use std::io;
 use std::process::ExitCode;
+use std::{env, io};
 
 fn main(rt: HostRuntime) -> ExitCode {
     ExitCode::from(run(&rt))
