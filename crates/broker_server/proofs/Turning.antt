@@ -1,5 +1,5 @@
 -- What comes next of a stream.
-use Rattle.std.proofs.Common.{◌≡◌, ◌≢◌, inl, inr, ℕ, zero, suc, Bool, true, false, not, eqb, ltb, ◌&&◌, lit<, List, [], ◌∷◌, Option, Some, None, Result, Ok, Err, cond, refl, sym, ap, subst, ◌∙◌}
+use Rattle.std.proofs.Common.{◌≡◌, ◌≢◌, inl, inr, ℕ, zero, suc, Bool, true, false, not, eqb, ltb, ◌&&◌, lit<, List, [], ◌∷◌, Option, Some, None, Ok, Err, cond, refl, sym, ap, subst, ◌∙◌}
 use Rattle.std.specs.Prelude.{codes, find, is_some, MatchOption}
 use Rattle.std.specs.List.{AllByRecursion, list_all}
 use Rattle.std.specs.Option.{option_map}
@@ -12,7 +12,7 @@ use Rattle.stomp_frame.specs.declared.fault.FrameFault.TheVariants as faults
 use Rattle.stomp_frame.specs.declared.fault.Check.TheVariants as checks
 use Rattle.stomp_frame.specs.declared.server_frame.ServerFrame.{ServerFrame}
 use Rattle.stomp_frame.specs.declared.server_frame.ServerFrame.TheVariants.{Error}
-use Rattle.stomp_frame.specs.Faults.{title_of, fault_of}
+use Rattle.stomp_frame.specs.Faults.{title_of}
 use Rattle.stomp_frame.specs.Headers.{Header, IsText, IsPair, first_of}
 use Rattle.stomp_frame.specs.Reader.{Unread, Answers}
 use Rattle.stomp_frame.specs.ServerFrames.{error_frame, rendered, IsRenderable}
@@ -21,7 +21,7 @@ use Rattle.broker_server.specs.declared.refusal.Refusal.TheVariants as refusals
 use Rattle.broker_server.specs.declared.turn.Turn.{Turn}
 use Rattle.broker_server.specs.declared.turn.Turn.TheVariants.{End}
 use Rattle.broker_server.specs.Refusals.{refusal, refusal_title}
-use Rattle.broker_server.specs.Relay.{standard, refusal_error, check_error, end_error, EndsIn}
+use Rattle.broker_server.specs.Relay.{check_error, end_error}
 use Rattle.broker_server.specs.Steps.{reading, fault_turn, Answered, Turns}
 
 -- ---- what is told can be written
@@ -30,17 +30,20 @@ from_not : (b : Bool) → not b ≡ true → b ≡ false
 from_not true e = absurd cc
 from_not false e = refl
 
--- each octet is from 1 to 127
-all_ascii : (text : List ℕ) → list_all (λ b. not (eqb b 0) && ltb b 128) text ≡ true → AllByRecursion (λ b. b ≢ 0) text × IsAscii text
+abbrev is_ascii : ℕ → Bool
+is_ascii b = not (eqb b 0) && ltb b 128
+
+-- Octets from 1 to 127 can be told.
+all_ascii : (text : List ℕ) → list_all is_ascii text ≡ true → AllByRecursion (λ b. b ≢ 0) text × IsAscii text
 all_ascii [] e = (tt, λ i. lit< tt)
 all_ascii (b ∷ text) e =
-    let p = and_parts (not (eqb b 0) && ltb b 128) (list_all (λ b. not (eqb b 0) && ltb b 128) text) e in
+    let p = and_parts (is_ascii b) (list_all is_ascii text) e in
     let q = and_parts (not (eqb b 0)) (ltb b 128) p.0 in
     let others = all_ascii text p.1 in
     let here : b ≢ 0 = eqb-false b 0 (from_not (eqb b 0) q.0) in
     ((here, others.0), elim [ zero ↦ ltb-true b 128 q.1 | suc i ↦ others.1 i ])
 
-is_text : (text : List ℕ) → list_all (λ b. not (eqb b 0) && ltb b 128) text ≡ true → IsText text
+is_text : (text : List ℕ) → list_all is_ascii text ≡ true → IsText text
 is_text text e = let a = all_ascii text e in record { utf8 = IsUtf8-from_ascii text a.1; no_null = a.0 }
 
 refusal_text : (r : Refusal) → IsText (refusal_title r)
@@ -62,9 +65,6 @@ fault_text faults.TooManyHeaders = is_text (codes "9 TooManyHeaders") refl
 fault_text faults.BodyTooLong = is_text (codes "10 BodyTooLong") refl
 fault_text faults.NoMemory = is_text (codes "11 NoMemory") refl
 
-pub zero_text : IsText (codes "0")
-zero_text = is_text (codes "0") refl
-
 -- the value of a header
 first_text : (name : List ℕ) (hs : List Header) → AllByRecursion IsPair hs → MatchOption (first_of name hs) (Unit {0}) IsText
 first_text name [] p = tt
@@ -80,8 +80,7 @@ pub refused_turn : (name : List ℕ) (n : ℕ) (f : RawFrame) (r : Refusal) (tit
     → receipt ≡ first_of (codes "receipt") f.headers → title ≡ refusal_title r → error ≡ Error title receipt false → Answered name n f (End (Some error))
 refused_turn name n f r title receipt error h pairs e d is =
     let first = first_of (codes "receipt") f.headers in
-    let whole : error ≡ Error (refusal_title r) first false = is ∙ ap (λ (t : List ℕ). Error t receipt false) d ∙ ap (λ (o : Option (List ℕ)). Error (refusal_title r) o false) e in
-    let told : RawFrame = error_frame (refusal_title r) first false in (
+    let whole : error ≡ Error (refusal_title r) first false = is ∙ ap (λ (t : List ℕ). Error t receipt false) d ∙ ap (λ (o : Option (List ℕ)). Error (refusal_title r) o false) e in (
       ap is_some (sym h),
       ap (λ (e : ServerFrame). Some (rendered e)) whole ∙ ap (option_map (λ (r : Refusal). error_frame (refusal_title r) first false)) h,
       subst IsRenderable (sym whole) (refusal_text r, first_text (codes "receipt") f.headers pairs),

@@ -26,11 +26,11 @@ fn too_long(rt: HostRuntime) -> Result<(), Fail> {
     Ok(())
 }
 
-/// An input at the limit is read whole, also where it comes little by little.
+/// An input at the limit is read whole, also where it comes one octet at a time.
 #[test]
 fn at_the_limit(rt: HostRuntime) -> Result<(), Fail> {
     let alloc = rt.alloc();
-    for at_once in [usize::MAX, 4] {
+    for at_once in [usize::MAX, 1] {
         let mut reader = Counting::new(Lines {
             left: LIMIT,
             at_once,

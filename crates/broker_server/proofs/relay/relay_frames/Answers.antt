@@ -1,4 +1,4 @@
-use Rattle.std.proofs.Common.{◌≡◌, ℕ, ◌+◌, List, [], ◌++◌, Option, subst, ◌∙◌}
+use Rattle.std.proofs.Common.{◌+◌, [], ◌++◌, subst, ◌∙◌}
 use Rattle.std.specs.Option.{option_map, option_map_or}
 use Rattle.stomp_frame.specs.declared.frame.RawFrame.{RawFrame}
 use Rattle.stomp_frame.specs.Writing.{spelled}
