@@ -3,7 +3,7 @@
 ghost use Rattle.std.specs.Prelude.{◌≡◌, ◌≢◌, ◌⊎◌, ◌≤◌, [], List, ℕ, Err, IfOk, IfSome, IsErrOf, length};
 ghost use Rattle.std.specs.Prelude.{vec_len};
 ghost use Rattle.std.specs.Io.KnownBytes.{Appends};
-ghost use Rattle.broker_server.specs.Counts.{Fails, FailsNot, RunsOut};
+ghost use Rattle.broker_server.specs.Counts.{plus, turns, Fails, FailsNot, RunsOut};
 ghost use Rattle.broker_server.specs.Relay.{input_limit, too_long, IsAnswered, IsRelayed};
 ghost use Rattle.broker_server.specs.Steps.{reading, IsGathered};
 
@@ -46,7 +46,9 @@ pub fn run_relay<R: Read, W: Write>(
     // Where it isn't the writer that failed, it wasn't called.
     ensures io { IsErrOf result ProgramFault.Io → Fails writer.old writer.new
         ⊎ ((writer.new ≡ writer.old)
-        × (Fails reader.old reader.new ⊎ RunsOut reader.old reader.new)) }
+        × (Fails reader.old reader.new ⊎ RunsOut reader.old reader.new
+        (R.remaining reader.old.inner) (R.remaining reader.new.inner))) }
+    ensures turns { reader.new.calls ≤ plus reader.old.calls turns }
     // A failure is never passed over.
     ensures heard { (result ≢ Err ProgramFault.Io)
         → FailsNot reader.old reader.new × FailsNot writer.old writer.new }
@@ -69,7 +71,9 @@ fn gather<R: Read>(
     ensures gathered { IfOk result (λ whole.
         IsGathered whole (R.remaining reader.old.inner) (R.remaining reader.new.inner) frames.new) }
     ensures io { IsErrOf result ProgramFault.Io
-        → Fails reader.old reader.new ⊎ RunsOut reader.old reader.new }
+        → Fails reader.old reader.new ⊎ RunsOut reader.old reader.new
+        (R.remaining reader.old.inner) (R.remaining reader.new.inner) }
+    ensures turns { reader.new.calls ≤ plus reader.old.calls turns }
     ensures heard { (result ≢ Err ProgramFault.Io) → FailsNot reader.old reader.new }
 {
     let mut piece = zeros(alloc, PIECE)?;

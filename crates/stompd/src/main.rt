@@ -1,7 +1,8 @@
 //! The program `stompd`.
 #![tactic(auto)]
 
-use broker_server::{Counting, Program, USAGE, run_relay};
+use broker_server::{Counting, Program, ProgramFault, USAGE, run_relay};
+use std::io::ErrorKind;
 use std::process::ExitCode;
 use std::{env, io};
 
@@ -11,8 +12,10 @@ fn main(rt: HostRuntime) -> ExitCode {
 
 /// Runs the program that the arguments ask for, and answers its status.
 fn run(rt: &HostRuntime) -> u8 {
-    let Ok(words) = words(rt) else {
-        return refuse(rt);
+    let words = match words(rt) {
+        Ok(words) => words,
+        Err(e) if e.kind() == ErrorKind::OutOfMemory => return stop(rt, ProgramFault::NoMemory),
+        Err(_) => return refuse(rt),
     };
     let Some(program) = Program::parse(words.as_slice()) else {
         return refuse(rt);
@@ -26,10 +29,7 @@ fn run(rt: &HostRuntime) -> u8 {
     };
     match ended {
         Ok(status) => status,
-        Err(fault) => {
-            let _ = eprintln!(rt; "{fault}");
-            fault.status()
-        }
+        Err(fault) => stop(rt, fault),
     }
 }
 
@@ -37,6 +37,12 @@ fn run(rt: &HostRuntime) -> u8 {
 fn words(rt: &HostRuntime) -> io::Result<Vec<String>> {
     let words: Vec<String> = env::args(rt)?.skip(1).collect(rt.alloc())?;
     Ok(words)
+}
+
+/// Says why the program can't go on, and answers its status.
+fn stop(rt: &HostRuntime, fault: ProgramFault) -> u8 {
+    let _ = eprintln!(rt; "{fault}");
+    fault.status()
 }
 
 /// Says how the program is used, and answers the status of wrong arguments.
