@@ -169,20 +169,23 @@ fn of_two_faults_the_first_is_told(rt: HostRuntime) {
     }
 }
 
+/// Two frames, with end-of-lines of both forms, letters of two and three octets, and a NULL in a body.
+const TWO_FRAMES: &[u8] =
+    b"\r\nSEND\r\nn\xc3\xa4me:\xe2\x82\xac\n\nhi\0\nSEND\ncontent-length:0000000003\n\na\0b\0";
+
 #[test]
 fn octet_by_octet(rt: HostRuntime) -> Result<(), Fail> {
     let alloc = rt.alloc();
     let mut reader = FrameReader::new(alloc, Limits::standard());
-    let mut bodies = Vec::new(alloc);
-    for octet in b"\r\nSEND\r\nn\xc3\xa4me:\xe2\x82\xac\n\nhi\0\nSEND\ncontent-length:0000000003\n\na\0b\0"
-    {
+    let mut lengths = 0;
+    for octet in TWO_FRAMES {
         reader.feed(&[*octet])?;
         if let Some(read) = reader.next(alloc)? {
-            bodies.extend_from_slice(read.body.as_slice())?;
-            bodies.push(b'|')?;
+            assert!(rt; lengths == 0 || lengths == 2);
+            lengths = 10 * lengths + read.body.len().min(9);
         }
     }
-    assert_eq!(rt; bodies.as_slice(), b"hi|a\0b|".as_slice());
+    assert_eq!(rt; lengths, 23);
     assert!(rt; reader.clean());
     Ok(())
 }
