@@ -14,7 +14,7 @@ pub enum ProgramFault {
     /// Status 4: there was no memory. Run it with more.
     #[error("no memory")]
     NoMemory,
-    /// Status 5: a read or a write failed, a write took nothing, or the input gave too little at a time.
+    /// Status 5: a read or a write failed, a write took nothing, or 16,777,218 reads met no end.
     #[error("io fault")]
     Io,
 }
