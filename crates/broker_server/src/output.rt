@@ -12,7 +12,7 @@ use crate::counting::Counting;
 use crate::program_fault::ProgramFault;
 use std::alloc::Global;
 use std::io::Write;
-use stomp_escape::Octets;
+use stomp_frame::Octets;
 use stomp_frame::{ServerFrame, render, write_frame};
 
 /// How many octets wait before they are written.

@@ -13,7 +13,7 @@ use crate::program_fault::ProgramFault;
 use crate::turn::Turn;
 use std::alloc::{AllocError, Global};
 use std::io::{ErrorKind, Read, Write};
-use stomp_escape::Octets;
+use stomp_frame::Octets;
 use stomp_frame::{FrameReader, Limits};
 
 /// How many octets of input are taken.

@@ -25,6 +25,7 @@ pub use law::{
 };
 pub use limits::Limits;
 pub use reader::FrameReader;
+pub use stomp_escape::{NoMemory, Octets};
 pub use server_frame::{ServerFrame, render};
 pub use writer::{writable, write_frame};
 
