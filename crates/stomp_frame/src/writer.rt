@@ -2,10 +2,11 @@
 
 ghost use Rattle.std.specs.Prelude.{◌≡◌, ◌++◌, ◌∷◌, [], ◌↔◌, ◌==◌, ◌||◌, ◌&&◌, not, IsTrue, OnOk, OnErr, false};
 ghost use Rattle.std.specs.List.{AllByRecursion, list_any};
-ghost use Rattle.stomp_frame.specs.Commands.{may_have_body};
+ghost use Rattle.stomp_frame.specs.Commands.{word, has_escapes, may_have_body};
 ghost use Rattle.stomp_frame.specs.ContentLength.{content_length};
 ghost use Rattle.stomp_frame.specs.Writing.{written, header_line, header_lines, spelled, IsBare, SaysLength, HasItsLength, IsWritable, Extends};
 
+use crate::command::Command;
 use crate::content_length::length_in;
 use crate::frame::RawFrame;
 use crate::headers::Headers;
@@ -65,8 +66,8 @@ fn has_its_length(frame: &RawFrame) -> bool
 /// Whether the frame can be written: under CONNECT, STOMP and CONNECTED, where nothing is escaped, no
 /// header has CR or LF, nor its name a colon (STOMP 1.2, "Value Encoding"); a SEND, MESSAGE or ERROR
 /// says its body's length in octets by its first content-length, which STOMP 1.2 only recommends; any
-/// other frame has no body (STOMP 1.2, "Body"), and no content-length but one of 0. A reader of its
-/// command, within whose limits it is, reads it as itself. It takes no memory.
+/// other frame has no body (STOMP 1.2, "Body"), and no content-length but one of 0. A reader, within
+/// whose limits it is, reads it as itself. It takes no memory.
 pub fn writable(frame: &RawFrame) -> bool
     ensures { IsTrue result ↔ IsWritable frame.now }
 {
@@ -107,16 +108,32 @@ fn put_headers(escapes: bool, headers: &Headers, out: &mut Octets) -> Result<(),
     Ok(())
 }
 
-fn put_frame(frame: &RawFrame, out: &mut Octets) -> Result<(), NoMemory>
+fn put_frame(
+    first: &[u8],
+    escapes: bool,
+    frame: &RawFrame,
+    out: &mut Octets,
+) -> Result<(), NoMemory>
+    requires first { first.now ≡ word frame.now.command }
+    requires escapes { escapes ≡ has_escapes frame.now.command }
     ensures ok { OnOk result (out.new ≡ out.old ++ spelled frame.now) }
     ensures err { OnErr result (Extends out.old out.new) }
 {
-    out.extend(frame.command.word())?;
+    out.extend(first)?;
     out.push(b'\n')?;
-    put_headers(frame.command.has_escapes(), &frame.headers, out)?;
+    put_headers(escapes, &frame.headers, out)?;
     out.push(b'\n')?;
     out.extend(frame.body.as_slice())?;
     out.push(0)
+}
+
+/// How the frames of each command are spelled: the command's word, and whether the headers have escapes.
+macro_rules! spelling {
+    ($command:expr; $($variant:ident => $word:literal, $escapes:literal;)*) => {
+        match $command {
+            $(Command::$variant => ($word.as_slice(), $escapes),)*
+        }
+    };
 }
 
 /// Appends the frame as it is written (STOMP 1.2, "Augmented BNF"): its command and LF, each header
@@ -127,8 +144,25 @@ pub fn write_frame(frame: &RawFrame, out: &mut Octets) -> Result<(), NoMemory>
     ensures ok { OnOk result (out.new ≡ out.old ++ spelled frame.now) }
     ensures err { OnErr result (out.new ≡ out.old) }
 {
+    let (word, escapes) = spelling!(frame.command;
+        Send => b"SEND", true;
+        Subscribe => b"SUBSCRIBE", true;
+        Unsubscribe => b"UNSUBSCRIBE", true;
+        Begin => b"BEGIN", true;
+        Commit => b"COMMIT", true;
+        Abort => b"ABORT", true;
+        Ack => b"ACK", true;
+        Nack => b"NACK", true;
+        Disconnect => b"DISCONNECT", true;
+        Connect => b"CONNECT", false;
+        Stomp => b"STOMP", false;
+        Connected => b"CONNECTED", false;
+        Message => b"MESSAGE", true;
+        Receipt => b"RECEIPT", true;
+        Error => b"ERROR", true;
+    );
     let before = out.len();
-    let done = put_frame(frame, out);
+    let done = put_frame(word, escapes, frame, out);
     if done.is_err() {
         out.truncate(before);
     }
