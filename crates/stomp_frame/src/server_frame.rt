@@ -67,7 +67,6 @@ pub fn render(alloc: Global, frame: &ServerFrame) -> Result<RawFrame, NoMemory>
                 headers,
                 body.len(),
             )?;
-            headers.are_pairs();
             Ok(RawFrame {
                 command: Command::Message,
                 headers,
