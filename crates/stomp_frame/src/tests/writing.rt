@@ -203,46 +203,51 @@ fn errors(rt: HostRuntime) -> Result<(), Fail> {
     Ok(())
 }
 
+/// A frame's command, headers and body, and whether it can be written.
+type Writable = (Command, Pairs<'static>, &'static [u8], bool);
+
 /// Which frames can be written: each rule kept, and broken.
+const WRITABLE: [Writable; 19] = [
+    (Command::Send, &[(b"content-length", b"2")], b"hi", true),
+    (
+        Command::Send,
+        &[(b"content-length", b"00"), (b"content-length", b"2")],
+        b"",
+        true,
+    ),
+    (
+        Command::Send,
+        &[(b"content-length", b"2"), (b"content-length", b"00")],
+        b"",
+        false,
+    ),
+    (Command::Send, &[(b"content-length", b"2")], b"h", false),
+    (Command::Message, &[], b"", false),
+    (Command::Error, &[(b"content-length", b"")], b"", false),
+    (Command::Error, &[(b"content-length", b"+0")], b"", false),
+    (
+        Command::Error,
+        &[(b"content-length", b"00000000000")],
+        b"",
+        false,
+    ),
+    (Command::Receipt, &[(b"a", b"b\r\n:\\")], b"", true),
+    (Command::Receipt, &[(b"content-length", b"00")], b"", true),
+    (Command::Receipt, &[(b"content-length", b"2")], b"", false),
+    (Command::Receipt, &[(b"content-length", b"2")], b"hi", false),
+    (Command::Receipt, &[], b"hi", false),
+    (Command::Connect, &[(b"a\\", b"b:\\")], b"", true),
+    (Command::Connect, &[(b"a", b"\n")], b"", false),
+    (Command::Stomp, &[(b"a", b""), (b"a", b"\r")], b"", false),
+    (Command::Connected, &[(b"a:", b"")], b"", false),
+    (Command::Connected, &[(b"a\n", b"")], b"", false),
+    (Command::Connected, &[(b"\ra", b"")], b"", false),
+];
+
 #[test]
 fn what_can_be_written(rt: HostRuntime) -> Result<(), Fail> {
-    let alloc = rt.alloc();
-    let two: (&[u8], &[u8]) = (b"content-length", b"2");
-    let none: (&[u8], &[u8]) = (b"content-length", b"00");
-    for (number, (command, pairs, body, want)) in [
-        (Command::Send, [two].as_slice(), b"hi".as_slice(), true),
-        (Command::Send, &[none, two], b"", true),
-        (Command::Send, &[two, none], b"", false),
-        (Command::Send, &[two], b"h", false),
-        (Command::Message, &[], b"", false),
-        (Command::Error, &[(b"content-length", b"")], b"", false),
-        (Command::Error, &[(b"content-length", b"+0")], b"", false),
-        (
-            Command::Error,
-            &[(b"content-length", b"00000000000")],
-            b"",
-            false,
-        ),
-        (Command::Receipt, &[(b"a", b"b\r\n:\\")], b"", true),
-        (Command::Receipt, &[none], b"", true),
-        (Command::Receipt, &[two], b"", false),
-        (Command::Receipt, &[two], b"hi", false),
-        (Command::Receipt, &[], b"hi", false),
-        (Command::Connect, &[(b"a\\", b"b:\\")], b"", true),
-        (Command::Connect, &[(b"a", b"\n")], b"", false),
-        (Command::Stomp, &[(b"a", b""), (b"a", b"\r")], b"", false),
-        (Command::Connected, &[(b"a:", b"")], b"", false),
-        (Command::Connected, &[(b"a\n", b"")], b"", false),
-        (Command::Connected, &[(b"\ra", b"")], b"", false),
-    ]
-    .into_iter()
-    .enumerate()
-    {
-        assert_eq!(rt;
-            writable(&raw(alloc, command, pairs, body)?),
-            want,
-            "at {number}"
-        );
+    for (command, pairs, body, want) in WRITABLE {
+        assert_eq!(rt; writable(&raw(rt.alloc(), command, pairs, body)?), want);
     }
     Ok(())
 }
@@ -273,32 +278,57 @@ fn frames_are_appended(rt: HostRuntime) -> Result<(), Fail> {
     Ok(())
 }
 
-#[test]
-fn what_is_written_is_read_again(rt: HostRuntime) -> Result<(), Fail> {
-    let alloc = rt.alloc();
-    let pairs = [
-        (b"a:b".as_slice(), b"\r\n:\\".as_slice()),
-        (b"content-length", b"3"),
-        (b"a:b", b""),
-    ];
-    let sent = raw(alloc, Command::Send, &pairs, b"a\0b")?;
-    assert!(rt; writable(&sent));
-    let mut out = Octets::new(alloc);
-    write_frame(&sent, &mut out)?;
-    out.extend(b"SEN")?;
+/// Each command in a frame, as it is written, and a frame with all that can be escaped.
+const FRAMES: [(Command, &'static [u8]); 17] = [
+    (Command::Send, b"SEND\ncontent-length:0\n\n\0"),
+    (Command::Subscribe, b"SUBSCRIBE\n\n\0"),
+    (Command::Unsubscribe, b"UNSUBSCRIBE\n\n\0"),
+    (Command::Begin, b"BEGIN\n\n\0"),
+    (Command::Commit, b"COMMIT\n\n\0"),
+    (Command::Abort, b"ABORT\n\n\0"),
+    (Command::Ack, b"ACK\n\n\0"),
+    (Command::Nack, b"NACK\n\n\0"),
+    (Command::Disconnect, b"DISCONNECT\n\n\0"),
+    (Command::Connect, b"CONNECT\n\n\0"),
+    (Command::Stomp, b"STOMP\n\n\0"),
+    (Command::Connected, b"CONNECTED\n\n\0"),
+    (Command::Message, b"MESSAGE\ncontent-length:0\n\n\0"),
+    (Command::Receipt, b"RECEIPT\n\n\0"),
+    (Command::Error, b"ERROR\ncontent-length:0\n\n\0"),
+    (Command::Connect, b"CONNECT\nhost:a\\t\n\n\0"),
+    (
+        Command::Send,
+        b"SEND\na\\cb:\\r\\n\\c\\\\\ncontent-length:3\na\\cb:\n\na\0b\0",
+    ),
+];
+
+/// The first frame of this text.
+fn read(alloc: Global, text: &[u8]) -> Result<RawFrame, Fail> {
     let mut reader = FrameReader::new(alloc, Limits::standard());
-    reader.feed(out.as_slice())?;
-    let Some(read) = reader.next(alloc)? else {
-        return Err(Fail::new("no frame"));
-    };
-    assert_eq!(rt; read.command, Command::Send);
-    assert_eq!(rt; read.body.as_slice(), b"a\0b".as_slice());
-    assert_eq!(rt; read.headers.len(), 3);
-    for i in 0..read.headers.len() {
-        let (name, value) = read.headers.pair(i);
-        assert!(rt; i < pairs.len() && name == pairs[i].0 && value == pairs[i].1);
+    reader.feed(text)?;
+    match reader.next(alloc)? {
+        Some(frame) => Ok(frame),
+        None => Err(Fail::new("no frame")),
     }
-    assert!(rt; reader.next(alloc)?.is_none());
+}
+
+/// The frame as it is written.
+fn written(alloc: Global, frame: &RawFrame) -> Result<Octets, Fail> {
+    if !writable(frame) {
+        return Err(Fail::new("not writable"));
+    }
+    let mut out = Octets::new(alloc);
+    write_frame(frame, &mut out)?;
+    Ok(out)
+}
+
+#[test]
+fn each_command_is_read_and_written_again(rt: HostRuntime) -> Result<(), Fail> {
+    for (command, text) in FRAMES {
+        let frame = read(rt.alloc(), text)?;
+        assert_eq!(rt; frame.command, command);
+        assert_eq!(rt; written(rt.alloc(), &frame)?.as_slice(), text);
+    }
     Ok(())
 }
 
