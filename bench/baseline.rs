@@ -67,24 +67,35 @@ impl Fault {
     }
 }
 
+/// A frame's command, as far as the relay tells them apart.
+#[derive(Clone, Copy)]
 enum Command {
     Send,
-    Message,
-    Error,
+    /// CONNECT, or STOMP, which stands for it.
+    Connect,
+    Connected,
+    Other,
 }
 
 impl Command {
     fn from_line(line: &[u8]) -> Result<Command, Fault> {
         match line {
             b"SEND" => Ok(Command::Send),
-            b"MESSAGE" => Ok(Command::Message),
-            b"ERROR" => Ok(Command::Error),
+            b"CONNECT" | b"STOMP" => Ok(Command::Connect),
+            b"CONNECTED" => Ok(Command::Connected),
+            b"SUBSCRIBE" | b"UNSUBSCRIBE" | b"BEGIN" | b"COMMIT" | b"ABORT" | b"ACK" | b"NACK"
+            | b"DISCONNECT" | b"MESSAGE" | b"RECEIPT" | b"ERROR" => Ok(Command::Other),
             _ => Err(Fault::BadCommand),
         }
     }
+
+    /// Whether a backslash in its headers begins an escape.
+    fn has_escapes(self) -> bool {
+        !matches!(self, Command::Connect | Command::Connected)
+    }
 }
 
-/// A header without its escapes. What had none is borrowed from the text.
+/// A header without its escapes, where it may have some. What had none is borrowed from the text.
 struct Header<'a> {
     name: Cow<'a, [u8]>,
     value: Cow<'a, [u8]>,
@@ -92,12 +103,16 @@ struct Header<'a> {
 
 impl<'a> Header<'a> {
     /// Parts a line at its first colon.
-    fn from_line(line: &'a [u8]) -> Result<Header<'a>, Fault> {
+    fn from_line(line: &'a [u8], escapes: bool) -> Result<Header<'a>, Fault> {
+        let read = |text| match escapes {
+            true => unescape(text),
+            false => Ok(Cow::Borrowed(text)),
+        };
         match line.iter().position(|octet| *octet == b':') {
             None | Some(0) => Err(Fault::BadHeader),
             Some(colon) => Ok(Header {
-                name: unescape(&line[..colon])?,
-                value: unescape(&line[colon + 1..])?,
+                name: read(&line[..colon])?,
+                value: read(&line[colon + 1..])?,
             }),
         }
     }
@@ -112,6 +127,14 @@ struct Frame<'a> {
 impl Frame<'_> {
     fn first(&self, name: &[u8]) -> Option<&[u8]> {
         first(&self.headers, name)
+    }
+
+    /// The receipt that it asks for; a CONNECT can't ask for one.
+    fn receipt(&self) -> Option<&[u8]> {
+        match self.command {
+            Command::Connect => None,
+            _ => self.first(b"receipt"),
+        }
     }
 }
 
@@ -147,7 +170,7 @@ impl<'a> Frames<'a> {
 
     fn frame(&mut self) -> Result<Frame<'a>, Fault> {
         let command = Command::from_line(self.line()?)?;
-        let headers = self.headers()?;
+        let headers = self.headers(command.has_escapes())?;
         let body = self.body(first(&headers, b"content-length"))?;
         Ok(Frame {
             command,
@@ -156,7 +179,7 @@ impl<'a> Frames<'a> {
         })
     }
 
-    fn headers(&mut self) -> Result<Vec<Header<'a>>, Fault> {
+    fn headers(&mut self, escapes: bool) -> Result<Vec<Header<'a>>, Fault> {
         let mut headers = Vec::new();
         loop {
             let line = self.line()?;
@@ -166,7 +189,7 @@ impl<'a> Frames<'a> {
             if headers.len() == HEADERS_LIMIT {
                 return Err(Fault::TooManyHeaders);
             }
-            headers.push(Header::from_line(line)?);
+            headers.push(Header::from_line(line, escapes)?);
         }
     }
 
@@ -349,7 +372,7 @@ fn relay(topic: &[u8], text: &[u8], out: &mut impl Write) -> io::Result<bool> {
             }
         };
         if let Some(fault) = refusal(&frame, topic) {
-            write_error(fault, frame.first(b"receipt"), out)?;
+            write_error(fault, frame.receipt(), out)?;
             return Ok(false);
         }
         write_message(place + 1, topic, &frame, out)?;

@@ -40,6 +40,24 @@ const HEADERS: [&str; 24] = [
     "transaction:t",
 ];
 
+/// Commands that the relay doesn't take.
+const OTHERS: [&str; 14] = [
+    "CONNECT",
+    "STOMP",
+    "CONNECTED",
+    "SUBSCRIBE",
+    "UNSUBSCRIBE",
+    "BEGIN",
+    "COMMIT",
+    "ABORT",
+    "ACK",
+    "NACK",
+    "DISCONNECT",
+    "MESSAGE",
+    "RECEIPT",
+    "ERROR",
+];
+
 /// What stands for a content-length besides the right one.
 const LENGTHS: [&str; 14] = [
     "",
@@ -133,11 +151,14 @@ impl Streams {
     /// mostly takes.
     fn frame(&mut self, text: &mut Vec<u8>) {
         let command = if self.one_in(16) {
-            self.pick(&["MESSAGE", "ERROR"])
+            self.pick(&OTHERS)
         } else {
             "SEND"
         };
         self.line(command, text);
+        if ["CONNECT", "STOMP", "CONNECTED"].contains(&command) && self.one_in(2) {
+            self.line("host\\:a\\t", text);
+        }
         if !self.one_in(16) {
             self.line("destination:A", text);
         }
