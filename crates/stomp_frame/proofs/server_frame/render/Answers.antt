@@ -10,4 +10,4 @@ returns-in_ok-from_slice-in-Message-clause-writable c =
     let m = c.in-Message in
     let made : RawFrame = record { command = commands.Message; headers = c.in_ok-headers-in-Message.headers; body = c.in_ok-from_slice-in-Message.field-0 } in
     let same : made ≡ message_frame m.subscription (message_id m.n m.topic m.index) m.headers m.body = search rules in
-    made_writable made m.subscription (message_id m.n m.topic m.index) m.headers m.body same c.are_pairs.ensures
+    made_writable made m.subscription (message_id m.n m.topic m.index) m.headers m.body same c.are_pairs-in-Message.ensures
