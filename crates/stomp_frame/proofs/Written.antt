@@ -157,7 +157,7 @@ spelled_is limits f w i =
       middle = header_lines (has_escapes f.command) f.headers;
       last = 10 ∷ [];
       parts = refl;
-      command = (word_is limits f.command i.command, i.read);
+      command = word_is limits f.command i.command;
       headers = (headers_are limits (has_escapes f.command) f.headers w.pairs w.bare i.lines, i.headers);
       empty = record { ended = inl refl; short = omega arith; plain = tt; utf8 = IsUtf8-from_ascii [] (λ i. omega arith) };
       body = (i.body.0, body_is (may_have_body f.command) f.body (content_length f.headers) i.body.1 i.digits w.sized);

@@ -1,5 +1,6 @@
 pub mod Headers
 pub mod Commands
+pub mod Receipts
 pub mod ContentLength
 pub mod Grammar
 pub mod Checks

@@ -17,14 +17,9 @@ use stomp_escape::{EscapeFault, Octets, unescape};
 fn command_for(line: &[u8]) -> Result<Command, Stop>
     ensures { Gives (λ x. x) result (command_of line.now) }
 {
-    if line == b"SEND".as_slice() {
-        Ok(Command::Send)
-    } else if line == b"MESSAGE".as_slice() {
-        Ok(Command::Message)
-    } else if line == b"ERROR".as_slice() {
-        Ok(Command::Error)
-    } else {
-        Err(Stop::Fault(Check::BadCommand))
+    match Command::named(line) {
+        Some(command) => Ok(command),
+        None => Err(Stop::Fault(Check::BadCommand)),
     }
 }
 
