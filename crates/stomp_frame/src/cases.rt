@@ -42,7 +42,10 @@ pub fn classify(frame: RawFrame) -> Result<ClientFrame, (RawFrame, CaseFault)>
 {
     macro_rules! cases {
         (
-            takes { $($command:ident => $variant:ident($frame:ident) [$($required:ident),*] $body:literal;)* }
+            takes {
+                $($command:ident =>
+                    $variant:ident($frame:ident) [$($required:ident),*] $body:literal;)*
+            }
             refuses { $($refused:ident => $fault:ident;)* }
         ) => {
             match frame.command {
@@ -58,23 +61,23 @@ pub fn classify(frame: RawFrame) -> Result<ClientFrame, (RawFrame, CaseFault)>
     }
     cases! {
         takes {
-        Connect => Connect(ConnectFrame) [AcceptVersion, Host] false;
-        Stomp => Connect(ConnectFrame) [AcceptVersion, Host] false;
-        Send => Send(SendFrame) [Destination] true;
-        Subscribe => Subscribe(SubscribeFrame) [Destination, Id] false;
-        Unsubscribe => Unsubscribe(UnsubscribeFrame) [Id] false;
-        Begin => Begin(BeginFrame) [Transaction] false;
-        Commit => Commit(CommitFrame) [Transaction] false;
-        Abort => Abort(AbortFrame) [Transaction] false;
-        Disconnect => Disconnect(DisconnectFrame) [] false;
+            Connect => Connect(ConnectFrame) [AcceptVersion, Host] false;
+            Stomp => Connect(ConnectFrame) [AcceptVersion, Host] false;
+            Send => Send(SendFrame) [Destination] true;
+            Subscribe => Subscribe(SubscribeFrame) [Destination, Id] false;
+            Unsubscribe => Unsubscribe(UnsubscribeFrame) [Id] false;
+            Begin => Begin(BeginFrame) [Transaction] false;
+            Commit => Commit(CommitFrame) [Transaction] false;
+            Abort => Abort(AbortFrame) [Transaction] false;
+            Disconnect => Disconnect(DisconnectFrame) [] false;
         }
         refuses {
-        Ack => Unsupported;
-        Nack => Unsupported;
-        Connected => NotClient;
-        Message => NotClient;
-        Receipt => NotClient;
-        Error => NotClient;
+            Ack => Unsupported;
+            Nack => Unsupported;
+            Connected => NotClient;
+            Message => NotClient;
+            Receipt => NotClient;
+            Error => NotClient;
         }
     }
 }

@@ -70,14 +70,8 @@ impl ConnectFrame {
     pub fn accept_version(&self) -> &[u8]
         ensures { Some result.now ≡ first_of (codes "accept-version") self.now.raw.headers }
     {
-        self.raw.headers.first(b"accept-version").unwrap()
-    }
-
-    /// The virtual host that the client wants to speak with: the value of host.
-    pub fn host(&self) -> &[u8]
-        ensures { Some result.now ≡ first_of (codes "host") self.now.raw.headers }
-    {
-        self.raw.headers.first(b"host").unwrap()
+        let versions = self.raw.headers.first(b"accept-version");
+        versions.unwrap()
     }
 }
 
@@ -86,7 +80,8 @@ impl SendFrame {
     pub fn destination(&self) -> &[u8]
         ensures { Some result.now ≡ first_of (codes "destination") self.now.raw.headers }
     {
-        self.raw.headers.first(b"destination").unwrap()
+        let sent_to = self.raw.headers.first(b"destination");
+        sent_to.unwrap()
     }
 }
 
@@ -95,14 +90,16 @@ impl SubscribeFrame {
     pub fn destination(&self) -> &[u8]
         ensures { Some result.now ≡ first_of (codes "destination") self.now.raw.headers }
     {
-        self.raw.headers.first(b"destination").unwrap()
+        let subscribed_to = self.raw.headers.first(b"destination");
+        subscribed_to.unwrap()
     }
 
     /// The subscription's id, one within its connection.
     pub fn id(&self) -> &[u8]
         ensures { Some result.now ≡ first_of (codes "id") self.now.raw.headers }
     {
-        self.raw.headers.first(b"id").unwrap()
+        let new_id = self.raw.headers.first(b"id");
+        new_id.unwrap()
     }
 }
 
@@ -111,7 +108,8 @@ impl UnsubscribeFrame {
     pub fn id(&self) -> &[u8]
         ensures { Some result.now ≡ first_of (codes "id") self.now.raw.headers }
     {
-        self.raw.headers.first(b"id").unwrap()
+        let ended_id = self.raw.headers.first(b"id");
+        ended_id.unwrap()
     }
 }
 
@@ -120,7 +118,8 @@ impl BeginFrame {
     pub fn transaction(&self) -> &[u8]
         ensures { Some result.now ≡ first_of (codes "transaction") self.now.raw.headers }
     {
-        self.raw.headers.first(b"transaction").unwrap()
+        let begun = self.raw.headers.first(b"transaction");
+        begun.unwrap()
     }
 }
 
@@ -129,7 +128,8 @@ impl CommitFrame {
     pub fn transaction(&self) -> &[u8]
         ensures { Some result.now ≡ first_of (codes "transaction") self.now.raw.headers }
     {
-        self.raw.headers.first(b"transaction").unwrap()
+        let committed = self.raw.headers.first(b"transaction");
+        committed.unwrap()
     }
 }
 
@@ -138,7 +138,8 @@ impl AbortFrame {
     pub fn transaction(&self) -> &[u8]
         ensures { Some result.now ≡ first_of (codes "transaction") self.now.raw.headers }
     {
-        self.raw.headers.first(b"transaction").unwrap()
+        let aborted = self.raw.headers.first(b"transaction");
+        aborted.unwrap()
     }
 }
 
@@ -158,8 +159,8 @@ pub enum ClientFrame {
 impl ClientFrame {
     ghost use Rattle.stomp_frame.specs.ClientFrames.{raw_of};
 
-    /// The frame as it came.
-    pub fn raw(&self) -> &RawFrame
+    // The frame as it came.
+    fn raw(&self) -> &RawFrame
         ensures { result.now ≡ raw_of self.now }
     {
         match self {

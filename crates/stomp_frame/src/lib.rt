@@ -34,8 +34,8 @@ pub use law::{
 };
 pub use limits::Limits;
 pub use reader::FrameReader;
-pub use stomp_escape::{NoMemory, Octets};
 pub use server_frame::{ServerFrame, render};
+pub use stomp_escape::{NoMemory, Octets};
 pub use writer::{writable, write_frame};
 
 #[cfg(test)]
