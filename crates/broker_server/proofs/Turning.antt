@@ -1,9 +1,9 @@
 -- What comes next of a stream.
-use Rattle.std.proofs.Common.{◌≡◌, ◌≢◌, inl, inr, ℕ, zero, suc, Bool, true, false, not, eqb, ltb, ◌&&◌, lit<, List, [], ◌∷◌, Option, Some, None, Ok, Err, cond, refl, sym, ap, subst, ◌∙◌}
-use Rattle.std.specs.Prelude.{codes, find, is_some, MatchOption}
+use Rattle.std.proofs.Common.{◌≡◌, ◌≢◌, inl, inr, ℕ, zero, suc, Bool, true, false, not, eqb, ltb, ◌&&◌, lit<, List, [], ◌∷◌, Option, Some, None, Bor, Ok, Err, refl, sym, ap, subst, ◌∙◌}
+use Rattle.std.specs.Prelude.{codes, is_some, IfSome, MatchOption}
 use Rattle.std.specs.List.{AllByRecursion, list_all}
 use Rattle.std.specs.Option.{option_map}
-use Rattle.std.specs.Str.{bytes_eq, IsAscii}
+use Rattle.std.specs.Str.{IsAscii}
 use Rattle.std.proofs.lemmas.Bool.{and_parts, eqb-false, ltb-true}
 use Rattle.std.proofs.lemmas.Str.{IsUtf8-from_ascii}
 use Rattle.stomp_frame.specs.declared.frame.RawFrame.{RawFrame}
@@ -13,7 +13,8 @@ use Rattle.stomp_frame.specs.declared.fault.Check.TheVariants as checks
 use Rattle.stomp_frame.specs.declared.server_frame.ServerFrame.{ServerFrame}
 use Rattle.stomp_frame.specs.declared.server_frame.ServerFrame.TheVariants.{Error}
 use Rattle.stomp_frame.specs.Faults.{title_of}
-use Rattle.stomp_frame.specs.Headers.{Header, IsText, IsPair, first_of}
+use Rattle.stomp_frame.specs.Headers.{IsText}
+use Rattle.stomp_frame.specs.Receipts.{receipt_of}
 use Rattle.stomp_frame.specs.Reader.{Unread, Answers}
 use Rattle.stomp_frame.specs.ServerFrames.{error_frame, rendered, IsRenderable}
 use Rattle.broker_server.specs.declared.refusal.Refusal.{Refusal}
@@ -65,25 +66,21 @@ fault_text faults.TooManyHeaders = is_text (codes "9 TooManyHeaders") refl
 fault_text faults.BodyTooLong = is_text (codes "10 BodyTooLong") refl
 fault_text faults.NoMemory = is_text (codes "11 NoMemory") refl
 
--- the value of a header
-first_text : (name : List ℕ) (hs : List Header) → AllByRecursion IsPair hs → MatchOption (first_of name hs) (Unit {0}) IsText
-first_text name [] p = tt
-first_text name (h ∷ hs) p =
-    elim (bytes_eq h.0 name) as (λ b. MatchOption (option_map (λ (h : Header). h.1) (cond b (Some h) (find (λ (h : Header). bytes_eq h.0 name) hs))) (Unit {0}) IsText) [
-      | true ↦ p.0.value
-      | false ↦ first_text name hs p.1
-    ]
+-- what is seen of a text is a text
+seen_text : (o : Option (Bor (List ℕ))) → IfSome o (λ r. IsText r.now) → MatchOption (option_map (λ r. r.now) o) (Unit {0}) IsText
+seen_text None t = tt
+seen_text (Some r) t = t
 
 -- ---- turns
 
-pub refused_turn : (name : List ℕ) (n : ℕ) (f : RawFrame) (r : Refusal) (title : List ℕ) (receipt : Option (List ℕ)) (error : ServerFrame) → Some r ≡ refusal name f → AllByRecursion IsPair f.headers
-    → receipt ≡ first_of (codes "receipt") f.headers → title ≡ refusal_title r → error ≡ Error title receipt false → Answered name n f (End (Some error))
-refused_turn name n f r title receipt error h pairs e d is =
-    let first = first_of (codes "receipt") f.headers in
-    let whole : error ≡ Error (refusal_title r) first false = is ∙ ap (λ (t : List ℕ). Error t receipt false) d ∙ ap (λ (o : Option (List ℕ)). Error (refusal_title r) o false) e in (
+pub refused_turn : (name : List ℕ) (n : ℕ) (f : RawFrame) (r : Refusal) (title : List ℕ) (receipt : Option (Bor (List ℕ))) (error : ServerFrame) → Some r ≡ refusal name f → IfSome receipt (λ v. IsText v.now)
+    → option_map (λ v. v.now) receipt ≡ receipt_of f → title ≡ refusal_title r → error ≡ Error title (option_map (λ v. v.now) receipt) false → Answered name n f (End (Some error))
+refused_turn name n f r title receipt error h text e d is =
+    let seen : Option (List ℕ) = option_map (λ v. v.now) receipt in
+    let whole : error ≡ Error (refusal_title r) (receipt_of f) false = is ∙ ap (λ (t : List ℕ). Error t seen false) d ∙ ap (λ (o : Option (List ℕ)). Error (refusal_title r) o false) e in (
       ap is_some (sym h),
-      ap (λ (e : ServerFrame). Some (rendered e)) whole ∙ ap (option_map (λ (r : Refusal). error_frame (refusal_title r) first false)) h,
-      subst IsRenderable (sym whole) (refusal_text r, first_text (codes "receipt") f.headers pairs),
+      ap (λ (e : ServerFrame). Some (rendered e)) whole ∙ ap (option_map (λ (r : Refusal). error_frame (refusal_title r) (receipt_of f) false)) h,
+      subst IsRenderable (sym whole) (refusal_text r, subst (λ (o : Option (List ℕ)). MatchOption o (Unit {0}) IsText) e (seen_text receipt text)),
     )
 
 fault_error : (name : List ℕ) (n : ℕ) (text : List ℕ) (new : Unread) (fault : FrameFault) (turn : Turn) → turn ≡ fault_turn fault → Turns name n (reading text) (fault_turn fault) new → Turns name n (reading text) turn new

@@ -43,9 +43,7 @@ impl Turn {
         ensures { IfOk result (Answered name.now n frame) }
     {
         if let Some(refusal) = Refusal::of(name, &frame) {
-            frame.headers.are_pairs();
-            let receipt = frame.headers.first(b"receipt");
-            let error = error(alloc, refusal.title(), receipt)?;
+            let error = error(alloc, refusal.title(), frame.receipt())?;
             return Ok(Turn::End(Some(error)));
         }
         Ok(Turn::Message(ServerFrame::Message {

@@ -1,8 +1,8 @@
 //! The frames that a client sends.
 
-ghost use Rattle.std.specs.Prelude.{◌≡◌, codes, Some};
+ghost use Rattle.std.specs.Prelude.{◌≡◌, codes, Some, IfSome};
 ghost use Rattle.std.specs.Option.{option_map};
-ghost use Rattle.stomp_frame.specs.Headers.{first_of};
+ghost use Rattle.stomp_frame.specs.Headers.{IsText, first_of};
 ghost use Rattle.stomp_frame.specs.Receipts.{receipt_of};
 ghost use Rattle.stomp_frame.specs.Cases.{IsCase, IsConnect};
 ghost use Rattle.stomp_frame.specs.declared.command.Command.TheVariants as commands;
@@ -184,12 +184,10 @@ impl ClientFrame {
 
     /// The receipt that the frame asks for (STOMP 1.2, "Standard Headers", "receipt"); none in a CONNECT or a STOMP.
     pub fn receipt(&self) -> Option<&[u8]>
-        ensures { option_map (λ v. v.now) result ≡ receipt_of (raw_of self.now) }
+        ensures value { option_map (λ v. v.now) result ≡ receipt_of (raw_of self.now) }
+        ensures text { IfSome result (λ v. IsText v.now) }
     {
-        match self {
-            ClientFrame::Connect(_) => None,
-            _ => self.field(b"receipt"),
-        }
+        self.raw().receipt()
     }
 
     /// The frame as it came, moved out.

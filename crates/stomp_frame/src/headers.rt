@@ -65,7 +65,8 @@ impl Headers {
     /// The name and the value of the header at place `i`, from 0.
     pub fn pair(&self, i: usize) -> (&[u8], &[u8])
         requires { i < length self.now }
-        ensures { slice_get self.now i ≡ Some (result.0.now, result.1.now) }
+        ensures value { slice_get self.now i ≡ Some (result.0.now, result.1.now) }
+        ensures pairs { AllByRecursion IsPair self.now }
     {
         let pair = &self.pairs[i];
         (pair.0.as_slice(), pair.1.as_slice())
@@ -73,18 +74,12 @@ impl Headers {
 
     /// The value of the first header of this name (STOMP 1.2, "Repeated Header Entries").
     pub fn first(&self, name: &[u8]) -> Option<&[u8]>
-        ensures { option_map (λ v. v.now) result ≡ first_of name.now self.now }
+        ensures value { option_map (λ v. v.now) result ≡ first_of name.now self.now }
+        ensures pairs { AllByRecursion IsPair self.now }
     {
         self.pairs
             .iter()
             .find(|pair| pair.0.as_slice() == name)
             .map(|pair| pair.1.as_slice())
-    }
-
-    /// What the type keeps of each header, for proofs: it does nothing.
-    pub fn are_pairs(&self)
-        ensures { AllByRecursion IsPair self.now }
-    {
-        let _pairs = &self.pairs;
     }
 }

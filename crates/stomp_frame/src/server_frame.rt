@@ -68,15 +68,11 @@ pub fn render(alloc: Global, frame: &ServerFrame) -> Result<RawFrame, NoMemory>
     macro_rules! frames {
         ($($command:ident $fields:tt => $headers:expr, $body:expr;)*) => {
             match frame {
-                $(ServerFrame::$command $fields => {
-                    let headers = $headers?;
-                    headers.are_pairs();
-                    Ok(RawFrame {
-                        command: Command::$command,
-                        headers,
-                        body: $body?,
-                    })
-                })*
+                $(ServerFrame::$command $fields => Ok(RawFrame {
+                    command: Command::$command,
+                    headers: $headers?,
+                    body: $body?,
+                }),)*
             }
         };
     }

@@ -64,7 +64,6 @@ fn put_first_entries(alloc: Global, headers: &mut Headers, sent: &Headers) -> Re
         headers.old }
     ensures { OnOk result (headers.new ≡ headers.old ++ first_entries kept_back sent.now) }
 {
-    sent.are_pairs();
     for i in 0..sent.len() {
         let (name, value) = sent.pair(i);
         if !is_passed_over(headers, name) {
@@ -99,10 +98,10 @@ pub(crate) fn message_headers(
 ) -> Result<Headers, NoMemory>
     requires subscription { IsText subscription.now }
     requires id { IsText id.now }
-    ensures { IfOk result
+    ensures value { IfOk result
         (λ h. h ≡ message_headers subscription.now id.now sent.now length) }
+    ensures pairs { IfOk result (λ h. AllByRecursion IsPair h) }
 {
-    sent.are_pairs();
     let mut digits = Buffer::new();
     let mut headers = Headers::new(alloc);
     put(alloc, &mut headers, b"subscription", subscription)?;
