@@ -11,3 +11,5 @@ pub mod Runs
 pub mod Reading
 pub mod Writing
 pub mod ServerFrames
+pub mod Cases
+pub mod ClientFrames

@@ -6,7 +6,7 @@ use Rattle.std.specs.Str.{bytes_eq}
 use Rattle.stomp_frame.specs.declared.command.Command.TheVariants as commands
 use Rattle.stomp_frame.specs.declared.frame.RawFrame.{RawFrame}
 use Rattle.stomp_frame.specs.declared.server_frame.ServerFrame.{ServerFrame}
-use Rattle.stomp_frame.specs.declared.server_frame.ServerFrame.TheVariants.{Message, Error}
+use Rattle.stomp_frame.specs.declared.server_frame.ServerFrame.TheVariants.{Connected, Message, Receipt, Error}
 use Rattle.stomp_frame.specs.Headers.{Header, IsText, first_of}
 
 -- the first entry of each header whose name isn't among these
@@ -44,12 +44,27 @@ error_headers message receipt version = (codes "message", message) ∷ (optional
 abbrev pub error_frame : List ℕ → Option (List ℕ) → Bool → RawFrame
 error_frame message receipt version = record { command = commands.Error; headers = error_headers message receipt version; body = [] }
 
+-- The answer to a CONNECT (STOMP 1.2, "CONNECTED Frame"): this version, and no heart-beats ("Heart-beating").
+abbrev pub connected_headers : List Header
+connected_headers = (codes "version", codes "1.2") ∷ (codes "heart-beat", codes "0,0") ∷ []
+
+abbrev pub connected_frame : RawFrame
+connected_frame = record { command = commands.Connected; headers = connected_headers; body = [] }
+
+-- what tells a client that its frame with this receipt has had its effect (STOMP 1.2, "RECEIPT")
+abbrev pub receipt_frame : List ℕ → RawFrame
+receipt_frame id = record { command = commands.Receipt; headers = (codes "receipt-id", id) ∷ []; body = [] }
+
 -- the frame of each
 abbrev pub rendered : ServerFrame → RawFrame
+rendered Connected = connected_frame
 rendered (Message subscription n topic index headers body) = message_frame subscription (message_id n topic index) headers body
+rendered (Receipt id) = receipt_frame id
 rendered (Error message receipt version) = error_frame message receipt version
 
 -- The texts that it is given are UTF-8 without NULL.
 abbrev pub IsRenderable : ServerFrame → Type 0
+IsRenderable Connected = Unit {0}
 IsRenderable (Message subscription n topic index headers body) = IsText subscription
+IsRenderable (Receipt id) = IsText id
 IsRenderable (Error message receipt version) = IsText message × MatchOption receipt (Unit {0}) IsText

@@ -1,6 +1,9 @@
 //! STOMP 1.2 frames: a reader of streams, a writer, and the frames that a server sends.
 #![tactic(auto)]
 
+mod case_fault;
+mod cases;
+mod client_frame;
 mod command;
 mod content_length;
 mod fault;
@@ -15,6 +18,12 @@ mod server_frame;
 mod server_headers;
 mod writer;
 
+pub use case_fault::{CaseFault, RequiredHeader};
+pub use cases::classify;
+pub use client_frame::{
+    AbortFrame, BeginFrame, ClientFrame, CommitFrame, ConnectFrame, DisconnectFrame, SendFrame,
+    SubscribeFrame, UnsubscribeFrame,
+};
 pub use command::Command;
 pub use fault::{Check, FrameFault};
 pub use frame::RawFrame;

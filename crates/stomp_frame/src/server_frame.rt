@@ -1,19 +1,23 @@
 //! The frames that a server sends.
 
-ghost use Rattle.std.specs.Prelude.{◌≡◌, IfOk};
+ghost use Rattle.std.specs.Prelude.{◌≡◌, [], IfOk};
 ghost use Rattle.stomp_frame.specs.ServerFrames.{rendered, IsRenderable};
 ghost use Rattle.stomp_frame.specs.Writing.{IsWritable};
 
 use crate::command::Command;
 use crate::frame::RawFrame;
 use crate::headers::Headers;
-use crate::server_headers::{error_headers, message_headers, message_id};
+use crate::server_headers::{
+    connected_headers, error_headers, message_headers, message_id, receipt_headers,
+};
 use std::alloc::Global;
 use stomp_escape::{NoMemory, Octets};
 
 /// A frame that a server sends (STOMP 1.2, "Server Frames").
 #[derive(Drop)]
 pub enum ServerFrame {
+    /// The answer to a CONNECT: version 1.2, and no heart-beats (STOMP 1.2, "CONNECTED Frame").
+    Connected,
     /// A SEND as a subscriber gets it (STOMP 1.2, "MESSAGE").
     Message {
         /// The subscription's id.
@@ -29,6 +33,11 @@ pub enum ServerFrame {
         /// The body of the SEND.
         body: Octets,
     },
+    /// What tells that a client's frame has had its effect (STOMP 1.2, "RECEIPT").
+    Receipt {
+        /// The receipt that the frame asked for.
+        id: Octets,
+    },
     /// The last frame of a connection that went wrong (STOMP 1.2, "ERROR").
     Error {
         /// What went wrong: a number, a space and a name.
@@ -38,6 +47,12 @@ pub enum ServerFrame {
         /// Whether the frame says which version is supported.
         version: bool,
     },
+}
+
+fn empty(alloc: Global) -> Result<Octets, NoMemory>
+    ensures { IfOk result (λ o. o ≡ []) }
+{
+    Ok(Octets::new(alloc))
 }
 
 /// The raw frame of a server's frame (STOMP 1.2, "Server Frames"), which can be written. A MESSAGE has
@@ -50,42 +65,25 @@ pub fn render(alloc: Global, frame: &ServerFrame) -> Result<RawFrame, NoMemory>
     ensures value { IfOk result (λ f. f ≡ rendered frame.now) }
     ensures writable { IfOk result (λ f. IsWritable f) }
 {
-    match frame {
-        ServerFrame::Message {
-            subscription,
-            n,
-            topic,
-            index,
-            headers,
-            body,
-        } => {
-            let id = message_id(alloc, *n, *topic, *index)?;
-            let headers = message_headers(
-                alloc,
-                subscription.as_slice(),
-                id.as_slice(),
-                headers,
-                body.len(),
-            )?;
-            Ok(RawFrame {
-                command: Command::Message,
-                headers,
-                body: Octets::from_slice(alloc, body.as_slice())?,
-            })
-        }
-        ServerFrame::Error {
-            message,
-            receipt,
-            version,
-        } => Ok(RawFrame {
-            command: Command::Error,
-            headers: error_headers(
-                alloc,
-                message.as_slice(),
-                receipt.as_ref().map(|receipt| receipt.as_slice()),
-                *version,
-            )?,
-            body: Octets::new(alloc),
-        }),
+    macro_rules! frames {
+        ($($command:ident $fields:tt => $headers:expr, $body:expr;)*) => {
+            match frame {
+                $(ServerFrame::$command $fields => Ok(RawFrame {
+                    command: Command::$command,
+                    headers: $headers?,
+                    body: $body?,
+                }),)*
+            }
+        };
+    }
+    frames! {
+        Connected {} => connected_headers(alloc), empty(alloc);
+        Message { subscription, n, topic, index, headers, body } =>
+            message_headers(alloc, subscription.as_slice(), message_id(alloc, *n, *topic, *index)?.as_slice(), headers, body.len()),
+            Octets::from_slice(alloc, body.as_slice());
+        Receipt { id } => receipt_headers(alloc, id.as_slice()), empty(alloc);
+        Error { message, receipt, version } =>
+            error_headers(alloc, message.as_slice(), receipt.as_ref().map(|receipt| receipt.as_slice()), *version),
+            empty(alloc);
     }
 }

@@ -5,7 +5,7 @@ ghost use Rattle.std.specs.List.{AllByRecursion, list_any};
 ghost use Rattle.std.specs.Option.{option_map};
 ghost use Rattle.std.specs.Str.{bytes_eq};
 ghost use Rattle.stomp_frame.specs.Headers.{IsText, IsPair, first_of};
-ghost use Rattle.stomp_frame.specs.ServerFrames.{first_entries, kept_back, message_id, optional, message_headers, error_headers};
+ghost use Rattle.stomp_frame.specs.ServerFrames.{first_entries, kept_back, message_id, optional, connected_headers, message_headers, error_headers};
 
 use crate::headers::Headers;
 use itoa::Buffer;
@@ -119,6 +119,26 @@ pub(crate) fn message_headers(
         digits.format(length).as_bytes(),
     )?;
     put_first_entries(alloc, &mut headers, sent)?;
+    Ok(headers)
+}
+
+/// The headers of a CONNECTED.
+pub(crate) fn connected_headers(alloc: Global) -> Result<Headers, NoMemory>
+    ensures { IfOk result (λ h. h ≡ connected_headers) }
+{
+    let mut headers = Headers::new(alloc);
+    put(alloc, &mut headers, b"version", b"1.2")?;
+    put(alloc, &mut headers, b"heart-beat", b"0,0")?;
+    Ok(headers)
+}
+
+/// The header of a RECEIPT.
+pub(crate) fn receipt_headers(alloc: Global, id: &[u8]) -> Result<Headers, NoMemory>
+    requires { IsText id.now }
+    ensures { IfOk result (λ h. h ≡ (codes "receipt-id", id.now) ∷ []) }
+{
+    let mut headers = Headers::new(alloc);
+    put(alloc, &mut headers, b"receipt-id", id)?;
     Ok(headers)
 }
 

@@ -245,6 +245,27 @@ const WRITABLE: [Writable; 19] = [
 ];
 
 #[test]
+fn connected_and_receipts(rt: HostRuntime) -> Result<(), Fail> {
+    let alloc = rt.alloc();
+    let mut out = Octets::new(alloc);
+    write_frame(&render(alloc, &ServerFrame::Connected)?, &mut out)?;
+    assert_eq!(rt;
+        out.as_slice(),
+        b"CONNECTED\nversion:1.2\nheart-beat:0,0\n\n\0".as_slice()
+    );
+    let receipt = ServerFrame::Receipt {
+        id: text(alloc, b"r:1")?,
+    };
+    let mut out = Octets::new(alloc);
+    write_frame(&render(alloc, &receipt)?, &mut out)?;
+    assert_eq!(rt;
+        out.as_slice(),
+        b"RECEIPT\nreceipt-id:r\\c1\n\n\0".as_slice()
+    );
+    Ok(())
+}
+
+#[test]
 fn what_can_be_written(rt: HostRuntime) -> Result<(), Fail> {
     for (command, pairs, body, want) in WRITABLE {
         assert_eq!(rt; writable(&raw(rt.alloc(), command, pairs, body)?), want);

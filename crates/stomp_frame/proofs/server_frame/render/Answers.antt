@@ -8,6 +8,6 @@ use Rattle.stomp_frame.proofs.server_frame.render.Goals as goal
 pub returns-in_ok-from_slice-in-Message-clause-writable : goal.returns-in_ok-from_slice-in-Message-clause-writable
 returns-in_ok-from_slice-in-Message-clause-writable c =
     let m = c.in-Message in
-    let made : RawFrame = record { command = commands.Message; headers = c.in_ok-headers-in-Message.headers; body = c.in_ok-from_slice-in-Message.field-0 } in
+    let made : RawFrame = record { command = commands.Message; headers = c.in_ok-message_headers-in-Message.field-0; body = c.in_ok-from_slice-in-Message.field-0 } in
     let same : made ≡ message_frame m.subscription (message_id m.n m.topic m.index) m.headers m.body = search rules in
-    made_writable made m.subscription (message_id m.n m.topic m.index) m.headers m.body same c.in_ok-headers-in-Message.ensures.pairs
+    made_writable made m.subscription (message_id m.n m.topic m.index) m.headers m.body same c.in_ok-message_headers-in-Message.ensures.pairs
