@@ -203,47 +203,6 @@ fn errors(rt: HostRuntime) -> Result<(), Fail> {
     Ok(())
 }
 
-/// A frame's command, headers and body, and whether it can be written.
-type Writable = (Command, Pairs<'static>, &'static [u8], bool);
-
-/// Which frames can be written: each rule kept, and broken.
-const WRITABLE: [Writable; 19] = [
-    (Command::Send, &[(b"content-length", b"2")], b"hi", true),
-    (
-        Command::Send,
-        &[(b"content-length", b"00"), (b"content-length", b"2")],
-        b"",
-        true,
-    ),
-    (
-        Command::Send,
-        &[(b"content-length", b"2"), (b"content-length", b"00")],
-        b"",
-        false,
-    ),
-    (Command::Send, &[(b"content-length", b"2")], b"h", false),
-    (Command::Message, &[], b"", false),
-    (Command::Error, &[(b"content-length", b"")], b"", false),
-    (Command::Error, &[(b"content-length", b"+0")], b"", false),
-    (
-        Command::Error,
-        &[(b"content-length", b"00000000000")],
-        b"",
-        false,
-    ),
-    (Command::Receipt, &[(b"a", b"b\r\n:\\")], b"", true),
-    (Command::Receipt, &[(b"content-length", b"00")], b"", true),
-    (Command::Receipt, &[(b"content-length", b"2")], b"", false),
-    (Command::Receipt, &[(b"content-length", b"2")], b"hi", false),
-    (Command::Receipt, &[], b"hi", false),
-    (Command::Connect, &[(b"a\\", b"b:\\")], b"", true),
-    (Command::Connect, &[(b"a", b"\n")], b"", false),
-    (Command::Stomp, &[(b"a", b""), (b"a", b"\r")], b"", false),
-    (Command::Connected, &[(b"a:", b"")], b"", false),
-    (Command::Connected, &[(b"a\n", b"")], b"", false),
-    (Command::Connected, &[(b"\ra", b"")], b"", false),
-];
-
 #[test]
 fn connected_and_receipts(rt: HostRuntime) -> Result<(), Fail> {
     let alloc = rt.alloc();
@@ -265,10 +224,68 @@ fn connected_and_receipts(rt: HostRuntime) -> Result<(), Fail> {
     Ok(())
 }
 
+/// A frame's command, its one header, its body, and whether it can be written.
+type Writable = (Command, &'static [u8], &'static [u8], &'static [u8], bool);
+
+/// Which frames can be written: each rule kept, and broken.
+const WRITABLE: [Writable; 14] = [
+    (Command::Send, b"content-length", b"2", b"hi", true),
+    (Command::Send, b"content-length", b"2", b"h", false),
+    (Command::Error, b"content-length", b"", b"", false),
+    (Command::Error, b"content-length", b"+0", b"", false),
+    (
+        Command::Error,
+        b"content-length",
+        b"00000000000",
+        b"",
+        false,
+    ),
+    (Command::Receipt, b"a", b"b\r\n:\\", b"", true),
+    (Command::Receipt, b"content-length", b"00", b"", true),
+    (Command::Receipt, b"content-length", b"2", b"", false),
+    (Command::Receipt, b"content-length", b"2", b"hi", false),
+    (Command::Connect, b"a\\", b"b:\\", b"", true),
+    (Command::Connect, b"a", b"\n", b"", false),
+    (Command::Connected, b"a:", b"", b"", false),
+    (Command::Connected, b"a\n", b"", b"", false),
+    (Command::Connected, b"\ra", b"", b"", false),
+];
+
 #[test]
 fn what_can_be_written(rt: HostRuntime) -> Result<(), Fail> {
-    for (command, pairs, body, want) in WRITABLE {
-        assert_eq!(rt; writable(&raw(rt.alloc(), command, pairs, body)?), want);
+    for (command, name, value, body, want) in WRITABLE {
+        let frame = raw(rt.alloc(), command, &[(name, value)], body)?;
+        assert_eq!(rt; writable(&frame), want);
+    }
+    Ok(())
+}
+
+/// A SEND or MESSAGE must say the length of its body, and a RECEIPT has none.
+#[test]
+fn no_headers(rt: HostRuntime) -> Result<(), Fail> {
+    let alloc = rt.alloc();
+    let message = raw(alloc, Command::Message, &[], b"")?;
+    assert!(rt; !writable(&message));
+    let receipt = raw(alloc, Command::Receipt, &[], b"hi")?;
+    assert!(rt; !writable(&receipt));
+    Ok(())
+}
+
+/// Two headers of one name, with these values.
+type Twice = (Command, &'static [u8], &'static [u8], &'static [u8], bool);
+
+/// The first content-length counts, and each header must be one that can be written.
+const TWICE: [Twice; 3] = [
+    (Command::Send, b"content-length", b"00", b"2", true),
+    (Command::Send, b"content-length", b"2", b"00", false),
+    (Command::Stomp, b"a", b"", b"\r", false),
+];
+
+#[test]
+fn two_headers(rt: HostRuntime) -> Result<(), Fail> {
+    for (command, name, first, second, want) in TWICE {
+        let frame = raw(rt.alloc(), command, &[(name, first), (name, second)], b"")?;
+        assert_eq!(rt; writable(&frame), want);
     }
     Ok(())
 }
