@@ -1,392 +1,56 @@
 //! The relay in plain Rust, with the standard library alone: `baseline NAME` does the job of
 //! `stompd relay NAME`. It is the yardstick of `bench/relay` and the second opinion of
-//! `bench/check`: it follows docs/PROTOCOL.md and shares no code with the crates.
+//! `bench/check`.
 
-use std::borrow::Cow;
+mod stomp;
+
 use std::env;
-use std::fs::File;
-use std::io::{self, BufRead, BufWriter, Read, Write};
-use std::os::fd::AsFd;
+use std::io::{self, Read, Write};
 use std::os::unix::ffi::OsStrExt;
 use std::process::ExitCode;
+use stomp::{write_error, write_message, Command, Frame, Frames};
 
 const INPUT_LIMIT: usize = 16_777_216;
-const LINE_LIMIT: usize = 4_096;
-const HEADERS_LIMIT: usize = 64;
-const BODY_LIMIT: usize = 1_048_576;
 
-/// The headers of a SEND that don't go on to its MESSAGE, which sets its own.
-const NOT_CARRIED: [&[u8]; 7] = [
-    b"destination",
-    b"transaction",
-    b"receipt",
-    b"content-length",
-    b"subscription",
-    b"message-id",
-    b"ack",
-];
-
-/// Why the relay stops: the reader's faults, then those of a whole frame.
-#[derive(Clone, Copy)]
-enum Fault {
-    BadCommand,
-    BadLine,
-    BadHeader,
-    BadEscape,
-    BadText,
-    BadLength,
-    BadEnd,
-    LineTooLong,
-    TooManyHeaders,
-    BodyTooLong,
-    Unsupported,
-    MissingDestination,
-    NoSuchTxn,
-    UnknownDestination,
-}
-
-impl Fault {
-    /// What the ERROR frame's `message` header says.
-    fn message(self) -> &'static str {
-        match self {
-            Fault::BadCommand => "1 BadCommand",
-            Fault::BadLine => "2 BadLine",
-            Fault::BadHeader => "3 BadHeader",
-            Fault::BadEscape => "4 BadEscape",
-            Fault::BadText => "5 BadText",
-            Fault::BadLength => "6 BadLength",
-            Fault::BadEnd => "7 BadEnd",
-            Fault::LineTooLong => "8 LineTooLong",
-            Fault::TooManyHeaders => "9 TooManyHeaders",
-            Fault::BodyTooLong => "10 BodyTooLong",
-            Fault::Unsupported => "21 Unsupported",
-            Fault::MissingDestination => "22 Missing destination",
-            Fault::NoSuchTxn => "66 NoSuchTxn",
-            Fault::UnknownDestination => "67 UnknownDestination",
-        }
-    }
-}
-
-/// A frame's command, as far as the relay tells them apart.
-#[derive(Clone, Copy)]
-enum Command {
-    Send,
-    /// CONNECT, or STOMP, which stands for it.
-    Connect,
-    Connected,
-    Other,
-}
-
-impl Command {
-    fn from_line(line: &[u8]) -> Result<Command, Fault> {
-        match line {
-            b"SEND" => Ok(Command::Send),
-            b"CONNECT" | b"STOMP" => Ok(Command::Connect),
-            b"CONNECTED" => Ok(Command::Connected),
-            b"SUBSCRIBE" | b"UNSUBSCRIBE" | b"BEGIN" | b"COMMIT" | b"ABORT" | b"ACK" | b"NACK"
-            | b"DISCONNECT" | b"MESSAGE" | b"RECEIPT" | b"ERROR" => Ok(Command::Other),
-            _ => Err(Fault::BadCommand),
-        }
-    }
-
-    /// Whether a backslash in its headers begins an escape.
-    fn has_escapes(self) -> bool {
-        !matches!(self, Command::Connect | Command::Connected)
-    }
-}
-
-/// A header without its escapes, where it may have some. What had none is borrowed from the text.
-struct Header<'a> {
-    name: Cow<'a, [u8]>,
-    value: Cow<'a, [u8]>,
-}
-
-impl<'a> Header<'a> {
-    /// Parts a line at its first colon.
-    fn from_line(line: &'a [u8], escapes: bool) -> Result<Header<'a>, Fault> {
-        let read = |text| match escapes {
-            true => unescape(text),
-            false => Ok(Cow::Borrowed(text)),
-        };
-        match line.iter().position(|octet| *octet == b':') {
-            None | Some(0) => Err(Fault::BadHeader),
-            Some(colon) => Ok(Header {
-                name: read(&line[..colon])?,
-                value: read(&line[colon + 1..])?,
-            }),
-        }
-    }
-}
-
-struct Frame<'a> {
-    command: Command,
-    headers: Vec<Header<'a>>,
-    body: &'a [u8],
-}
-
-impl Frame<'_> {
-    fn first(&self, name: &[u8]) -> Option<&[u8]> {
-        first(&self.headers, name)
-    }
-
-    /// The receipt that it asks for; a CONNECT can't ask for one.
-    fn receipt(&self) -> Option<&[u8]> {
-        match self.command {
-            Command::Connect => None,
-            _ => self.first(b"receipt"),
-        }
-    }
-}
-
-/// The value of the first header of that name.
-fn first<'h>(headers: &'h [Header], name: &[u8]) -> Option<&'h [u8]> {
-    let header = headers.iter().find(|header| *header.name == *name)?;
-    Some(&header.value)
-}
-
-/// The frames of a whole text, up to its first fault.
-struct Frames<'a> {
-    unread: &'a [u8],
-}
-
-impl<'a> Iterator for Frames<'a> {
-    type Item = Result<Frame<'a>, Fault>;
-
-    fn next(&mut self) -> Option<Self::Item> {
-        self.skip_end_of_lines();
-        if self.unread.is_empty() {
-            return None;
-        }
-        Some(self.frame())
-    }
-}
-
-impl<'a> Frames<'a> {
-    fn skip_end_of_lines(&mut self) {
-        while let [b'\n', rest @ ..] | [b'\r', b'\n', rest @ ..] = self.unread {
-            self.unread = rest;
-        }
-    }
-
-    fn frame(&mut self) -> Result<Frame<'a>, Fault> {
-        let command = Command::from_line(self.line()?)?;
-        let headers = self.headers(command.has_escapes())?;
-        let body = self.body(first(&headers, b"content-length"))?;
-        Ok(Frame {
-            command,
-            headers,
-            body,
-        })
-    }
-
-    fn headers(&mut self, escapes: bool) -> Result<Vec<Header<'a>>, Fault> {
-        let mut headers = Vec::new();
-        loop {
-            let line = self.line()?;
-            if line.is_empty() {
-                return Ok(headers);
-            }
-            if headers.len() == HEADERS_LIMIT {
-                return Err(Fault::TooManyHeaders);
-            }
-            headers.push(Header::from_line(line, escapes)?);
-        }
-    }
-
-    /// The next line, without its LF and one CR before that.
-    fn line(&mut self) -> Result<&'a [u8], Fault> {
-        let Some(end) = find(b'\n', self.unread) else {
-            let too_long = self.unread.len() >= LINE_LIMIT + 2;
-            return Err(if too_long {
-                Fault::LineTooLong
-            } else {
-                Fault::BadEnd
-            });
-        };
-        let line = &self.unread[..end];
-        self.unread = &self.unread[end + 1..];
-        let content = line.strip_suffix(b"\r").unwrap_or(line);
-        if content.len() > LINE_LIMIT {
-            return Err(Fault::LineTooLong);
-        }
-        if content.contains(&b'\r') || content.contains(&0) {
-            return Err(Fault::BadLine);
-        }
-        if std::str::from_utf8(content).is_err() {
-            return Err(Fault::BadText);
-        }
-        Ok(content)
-    }
-
-    /// The body, counted where there is a content-length, and the NULL behind it.
-    fn body(&mut self, content_length: Option<&[u8]>) -> Result<&'a [u8], Fault> {
-        let length = match content_length {
-            Some(digits) => counted(digits)?,
-            None => self.uncounted()?,
-        };
-        if self.unread.get(length) != Some(&0) {
-            return Err(Fault::BadEnd);
-        }
-        let body = &self.unread[..length];
-        self.unread = &self.unread[length + 1..];
-        Ok(body)
-    }
-
-    /// The length of a body that ends before the first NULL.
-    fn uncounted(&self) -> Result<usize, Fault> {
-        match find(0, &self.unread[..self.unread.len().min(BODY_LIMIT + 1)]) {
-            Some(length) => Ok(length),
-            None if self.unread.len() > BODY_LIMIT => Err(Fault::BodyTooLong),
-            None => Err(Fault::BadEnd),
-        }
-    }
-}
-
-/// The length that a content-length tells: 1 to 10 digits, and at most the limit.
-fn counted(digits: &[u8]) -> Result<usize, Fault> {
-    if digits.is_empty() || digits.len() > 10 || !digits.iter().all(u8::is_ascii_digit) {
-        return Err(Fault::BadLength);
-    }
-    let value = digits
-        .iter()
-        .fold(0, |sum, digit| 10 * sum + u64::from(digit - b'0'));
-    if value > BODY_LIMIT as u64 {
-        return Err(Fault::BodyTooLong);
-    }
-    Ok(value as usize)
-}
-
-/// Where the octet stands first. `skip_until` searches words at a time, and `position` octets.
-fn find(octet: u8, mut text: &[u8]) -> Option<usize> {
-    let whole = text;
-    let taken = text.skip_until(octet).expect("a slice can be read");
-    (taken > 0 && whole[taken - 1] == octet).then(|| taken - 1)
-}
-
-/// The octets that a name or a value stands for.
-fn unescape(text: &[u8]) -> Result<Cow<'_, [u8]>, Fault> {
-    if !text.contains(&b'\\') {
-        return Ok(Cow::Borrowed(text));
-    }
-    let mut value = Vec::with_capacity(text.len());
-    let mut octets = text.iter();
-    while let Some(&octet) = octets.next() {
-        let meant = match octet {
-            b'\\' => match octets.next() {
-                Some(b'r') => b'\r',
-                Some(b'n') => b'\n',
-                Some(b'c') => b':',
-                Some(b'\\') => b'\\',
-                _ => return Err(Fault::BadEscape),
-            },
-            _ => octet,
-        };
-        value.push(meant);
-    }
-    Ok(Cow::Owned(value))
-}
-
-/// How an octet is written in a name or value, where it can't stand as itself.
-fn escape_of(octet: u8) -> Option<&'static [u8]> {
-    match octet {
-        b'\r' => Some(b"\\r"),
-        b'\n' => Some(b"\\n"),
-        b':' => Some(b"\\c"),
-        b'\\' => Some(b"\\\\"),
-        _ => None,
-    }
-}
-
-fn write_escaped(value: &[u8], out: &mut impl Write) -> io::Result<()> {
-    let mut plain = 0;
-    for (place, octet) in value.iter().enumerate() {
-        if let Some(escape) = escape_of(*octet) {
-            out.write_all(&value[plain..place])?;
-            out.write_all(escape)?;
-            plain = place + 1;
-        }
-    }
-    out.write_all(&value[plain..])
-}
-
-/// Why a whole frame is refused by the relay of that topic.
-fn refusal(frame: &Frame, topic: &[u8]) -> Option<Fault> {
+/// Why a whole frame is refused by the relay of that topic, as the ERROR says it.
+fn refusal(frame: &Frame, topic: &[u8]) -> Option<&'static str> {
     if !matches!(frame.command, Command::Send) {
-        return Some(Fault::Unsupported);
+        return Some("21 Unsupported");
     }
     match frame.first(b"destination") {
-        None => Some(Fault::MissingDestination),
-        Some(destination) if destination != topic => Some(Fault::UnknownDestination),
-        Some(_) => frame.first(b"transaction").map(|_| Fault::NoSuchTxn),
+        None => Some("22 Missing destination"),
+        Some(destination) if destination != topic => Some("67 UnknownDestination"),
+        Some(_) => frame.first(b"transaction").map(|_| "66 NoSuchTxn"),
     }
-}
-
-/// The MESSAGE that a subscriber of the topic gets for its SEND of that number.
-fn write_message(
-    number: usize,
-    topic: &[u8],
-    send: &Frame,
-    out: &mut impl Write,
-) -> io::Result<()> {
-    write!(
-        out,
-        "MESSAGE\nsubscription:0\nmessage-id:{number}.0.0\ndestination:"
-    )?;
-    write_escaped(topic, out)?;
-    writeln!(out, "\ncontent-length:{}", send.body.len())?;
-    for (place, header) in send.headers.iter().enumerate() {
-        let repeated = send.headers[..place]
-            .iter()
-            .any(|earlier| earlier.name == header.name);
-        if !repeated && !NOT_CARRIED.contains(&&*header.name) {
-            write_escaped(&header.name, out)?;
-            out.write_all(b":")?;
-            write_escaped(&header.value, out)?;
-            out.write_all(b"\n")?;
-        }
-    }
-    out.write_all(b"\n")?;
-    out.write_all(send.body)?;
-    out.write_all(&[0])
-}
-
-fn write_error(fault: Fault, receipt: Option<&[u8]>, out: &mut impl Write) -> io::Result<()> {
-    write!(out, "ERROR\nmessage:{}\n", fault.message())?;
-    if let Some(receipt) = receipt {
-        out.write_all(b"receipt-id:")?;
-        write_escaped(receipt, out)?;
-        out.write_all(b"\n")?;
-    }
-    out.write_all(b"content-length:0\n\n\0")
 }
 
 /// Writes what a subscriber of the topic gets; answers whether the whole text was read
 /// without a fault.
 fn relay(topic: &[u8], text: &[u8], out: &mut impl Write) -> io::Result<bool> {
-    for (place, frame) in (Frames { unread: text }).enumerate() {
+    for (place, frame) in Frames::new(text).enumerate() {
         let frame = match frame {
             Ok(frame) => frame,
             Err(fault) => {
-                write_error(fault, None, out)?;
+                write_error(fault.message(), None, out)?;
                 return Ok(false);
             }
         };
-        if let Some(fault) = refusal(&frame, topic) {
-            write_error(fault, frame.receipt(), out)?;
+        if let Some(message) = refusal(&frame, topic) {
+            write_error(message, frame.receipt(), out)?;
             return Ok(false);
         }
-        write_message(place + 1, topic, &frame, out)?;
+        write_message("0", place + 1, &frame, out)?;
     }
     Ok(true)
 }
 
 /// Reads all of standard input, then writes to standard output.
 fn run(topic: &[u8]) -> io::Result<bool> {
-    let input = File::from(io::stdin().as_fd().try_clone_to_owned()?);
-    let output = File::from(io::stdout().as_fd().try_clone_to_owned()?);
     let mut text = Vec::new();
-    input.take(INPUT_LIMIT as u64 + 1).read_to_end(&mut text)?;
-    let mut out = BufWriter::with_capacity(65_536, output);
+    stomp::input()?
+        .take(INPUT_LIMIT as u64 + 1)
+        .read_to_end(&mut text)?;
+    let mut out = stomp::output()?;
     let done = if text.len() > INPUT_LIMIT {
         out.write_all(b"bad 112 TooLong\n")?;
         false

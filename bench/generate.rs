@@ -1,10 +1,11 @@
-//! Writes the four inputs of `bench/relay` into a folder: `generate FOLDER`. Each is as many
-//! whole SEND frames to topic A as fit the relay's 16,777,216 octets of input.
+//! Writes the inputs of `bench/relay` and `bench/frames` into a folder: `generate FOLDER NAME..`.
+//! Each is as many of its frames, or of its sessions, as fit the relay's 16,777,216 octets of
+//! input. Those of `bench/relay` are SENDs to topic A alone.
 
 mod numbers;
 
 use numbers::Numbers;
-use std::io::{self, Write};
+use std::io;
 use std::path::Path;
 use std::{env, fs, process};
 
@@ -52,41 +53,72 @@ fn with_headers(numbers: &mut Numbers) -> Vec<u8> {
     frame
 }
 
-/// Writes frames for as long as a next one fits.
-fn write_input(path: &Path, mut frame: impl FnMut(usize) -> Vec<u8>) -> io::Result<()> {
+/// A SEND with a receipt and a body of 16 octets.
+fn with_receipt(place: usize, numbers: &mut Numbers) -> Vec<u8> {
+    let mut frame = format!("SEND\ndestination:A\nreceipt:r{place}\n\n").into_bytes();
+    frame.extend(body(16, numbers));
+    frame.push(0);
+    frame
+}
+
+/// A client's session: a transaction of four SENDs with bodies of 64 octets, and an ACK, which
+/// is refused. Three of its eleven frames ask for a receipt.
+fn session(place: usize, numbers: &mut Numbers) -> Vec<u8> {
+    let mut frames = b"CONNECT\naccept-version:1.2\nhost:broker\nheart-beat:0,0\n\n\0".to_vec();
+    let subscribe = format!("SUBSCRIBE\ndestination:A\nid:s\nack:auto\nreceipt:s{place}\n\n\0");
+    frames.extend(subscribe.bytes());
+    frames.extend(format!("BEGIN\ntransaction:t{place}\n\n\0").bytes());
+    for _ in 0..4 {
+        let headers = format!("destination:A\ntransaction:t{place}\ncontent-type:text/plain");
+        frames.extend(format!("SEND\n{headers}\ncontent-length:64\n\n").bytes());
+        frames.extend(body(64, numbers));
+        frames.push(0);
+    }
+    frames.extend(format!("ACK\nid:{place}\n\n\0").bytes());
+    frames.extend(format!("COMMIT\ntransaction:t{place}\nreceipt:c{place}\n\n\0").bytes());
+    frames.extend(b"UNSUBSCRIBE\nid:s\n\n\0");
+    frames.extend(format!("DISCONNECT\nreceipt:d{place}\n\n\0").bytes());
+    frames
+}
+
+/// The frames of the input of that name, at that place.
+fn frames(name: &str, place: usize, numbers: &mut Numbers) -> Option<Vec<u8>> {
+    match name {
+        "bodies-16" => Some(with_body(place, 16, numbers)),
+        "bodies-1K" => Some(with_body(place, 1_024, numbers)),
+        "bodies-1M" => Some(with_body(place, 1_048_576, numbers)),
+        "headers" => Some(with_headers(numbers)),
+        "receipts" => Some(with_receipt(place, numbers)),
+        "sessions" => Some(session(place, numbers)),
+        _ => None,
+    }
+}
+
+/// Writes frames for as long as the next ones fit.
+fn write_input(folder: &Path, name: &str) -> io::Result<()> {
+    let mut numbers = Numbers::new(0);
     let mut text = Vec::with_capacity(INPUT_LIMIT);
     for place in 0.. {
-        let next = frame(place);
+        let next = frames(name, place, &mut numbers)
+            .ok_or_else(|| io::Error::other(format!("no input has the name {name}")))?;
         if text.len() + next.len() > INPUT_LIMIT {
             break;
         }
         text.extend(next);
     }
-    fs::File::create(path)?.write_all(&text)
-}
-
-fn write_inputs(folder: &Path) -> io::Result<()> {
-    let mut numbers = Numbers::new(0);
-    for (name, length) in [
-        ("bodies-16", 16),
-        ("bodies-1K", 1_024),
-        ("bodies-1M", 1_048_576),
-    ] {
-        let path = folder.join(name).with_extension("stomp");
-        write_input(&path, |place| with_body(place, length, &mut numbers))?;
-    }
-    write_input(&folder.join("headers.stomp"), |_| {
-        with_headers(&mut numbers)
-    })
+    fs::write(folder.join(name).with_extension("stomp"), text)
 }
 
 fn main() {
-    let Some(folder) = env::args_os().nth(1) else {
-        eprintln!("usage: generate FOLDER");
+    let words: Vec<String> = env::args().skip(1).collect();
+    let [folder, names @ ..] = &words[..] else {
+        eprintln!("usage: generate FOLDER NAME..");
         process::exit(1);
     };
-    if let Err(error) = write_inputs(Path::new(&folder)) {
-        eprintln!("generate: {error}");
-        process::exit(1);
+    for name in names {
+        if let Err(error) = write_input(Path::new(folder), name) {
+            eprintln!("generate: {error}");
+            process::exit(1);
+        }
     }
 }

@@ -1,14 +1,16 @@
-//! Times `stompd`, the baseline and `cat` on each input of `bench/relay` and prints the table:
-//! `measure STOMPD BASELINE FOLDER`. It refuses outputs that differ, and judges no time.
+//! Times a program and its baseline on each input of a benchmark and prints the table:
+//! `measure relay|frames PROGRAM BASELINE FOLDER`. It refuses outputs that differ, and judges no
+//! time.
 
 use std::env;
 use std::fs::{self, File};
-use std::io::{self, BufReader, Read};
+use std::io::{self, BufRead, BufReader, Read};
 use std::path::{Path, PathBuf};
 use std::process::{Command, ExitCode};
 use std::time::{Duration, Instant};
 
-const INPUTS: [&str; 4] = ["bodies-16", "bodies-1K", "bodies-1M", "headers"];
+const RELAY_INPUTS: [&str; 4] = ["bodies-16", "bodies-1K", "bodies-1M", "headers"];
+const FRAMES_INPUTS: [&str; 2] = ["receipts", "sessions"];
 const RUNS: usize = 5;
 
 /// What one program took: the best time and the largest peak of all its runs.
@@ -105,20 +107,24 @@ fn are_equal(left: &Path, right: &Path) -> io::Result<bool> {
     Ok(true)
 }
 
-/// Runs each program so many times by turns; what stompd, the baseline and `cat` took.
-fn measure(stompd: &str, baseline: &str, folder: &Path, name: &str) -> io::Result<[Cost; 3]> {
+/// Runs each program so many times by turns; what each took. The first two must write the same.
+fn measure<const N: usize>(
+    programs: [&[&str]; N],
+    folder: &Path,
+    name: &str,
+) -> io::Result<[Cost; N]> {
     let input = folder.join(name).with_extension("stomp");
-    let programs: [&[&str]; 3] = [&[stompd, "relay", "A"], &[baseline, "A"], &["cat"]];
-    let outputs: [PathBuf; 3] = ["stompd", "baseline", "cat"]
-        .map(|program| folder.join(name).with_extension(format!("{program}.out")));
-    let mut costs = [Cost::NONE; 3];
+    let outputs: [PathBuf; N] =
+        std::array::from_fn(|place| folder.join(name).with_extension(format!("{place}.out")));
+    let mut costs = [Cost::NONE; N];
     for _ in 0..RUNS {
-        for place in 0..3 {
+        for place in 0..N {
             costs[place].add(run(programs[place], &input, &outputs[place])?);
         }
         if !are_equal(&outputs[0], &outputs[1])? {
             return Err(io::Error::other(format!(
-                "{name}: stompd and the baseline differ"
+                "{name}: the outputs of {} and {} differ",
+                programs[0][0], programs[1][0]
             )));
         }
     }
@@ -128,7 +134,12 @@ fn measure(stompd: &str, baseline: &str, folder: &Path, name: &str) -> io::Resul
     Ok(costs)
 }
 
-fn print_table(stompd: &str, baseline: &str, folder: &Path) -> io::Result<()> {
+/// The length of an input, in octets.
+fn length(folder: &Path, name: &str) -> io::Result<f64> {
+    Ok(fs::metadata(folder.join(name).with_extension("stomp"))?.len() as f64)
+}
+
+fn print_relay(stompd: &str, baseline: &str, folder: &Path) -> io::Result<()> {
     println!("best of {RUNS} runs, from file to file; ms is time, MiB is peak memory");
     println!(
         "            input |     stompd      |    baseline     |       cat       |  stompd over"
@@ -136,30 +147,68 @@ fn print_table(stompd: &str, baseline: &str, folder: &Path) -> io::Result<()> {
     println!(
         "              MiB |    ms       MiB |    ms       MiB |    ms       MiB | baseline input"
     );
-    for name in INPUTS {
-        let size = fs::metadata(folder.join(name).with_extension("stomp"))?.len();
-        let costs = measure(stompd, baseline, folder, name)?;
-        print!("{name:<11} {:5.1} |", size as f64 / 1_048_576.0);
+    for name in RELAY_INPUTS {
+        let size = length(folder, name)?;
+        let programs: [&[&str]; 3] = [&[stompd, "relay", "A"], &[baseline, "A"], &["cat"]];
+        let costs = measure(programs, folder, name)?;
+        print!("{name:<11} {:5.1} |", size / 1_048_576.0);
         for cost in costs {
             print!(" {:7.1} {:7.1} |", cost.milliseconds(), cost.mebibytes());
         }
         let time = costs[0].milliseconds() / costs[1].milliseconds();
-        let memory = costs[0].peak as f64 / size as f64;
+        let memory = costs[0].peak as f64 / size;
         println!(" {time:7.2}  {memory:4.2}");
+    }
+    Ok(())
+}
+
+/// How many frames an input of `bench/frames` has: each ends by a NULL, and no body has one.
+fn count_frames(folder: &Path, name: &str) -> io::Result<usize> {
+    let mut input = BufReader::new(File::open(folder.join(name).with_extension("stomp"))?);
+    let mut count = 0;
+    while input.skip_until(0)? > 0 {
+        count += 1;
+    }
+    Ok(count)
+}
+
+fn print_frames(program: &str, baseline: &str, folder: &Path) -> io::Result<()> {
+    println!("best of {RUNS} runs, from file to file; /s is frames read in a second");
+    println!("          input          |     stomp_frame     |      baseline       | time, one");
+    println!("              MiB frames |     ms           /s |     ms           /s | over other");
+    for name in FRAMES_INPUTS {
+        let size = length(folder, name)?;
+        let frames = count_frames(folder, name)?;
+        let costs = measure([&[program], &[baseline]], folder, name)?;
+        print!("{name:<11} {:5.1} {frames:6} |", size / 1_048_576.0);
+        for cost in costs {
+            let speed = frames as f64 / cost.time.as_secs_f64();
+            print!(" {:6.1} {speed:12.0} |", cost.milliseconds());
+        }
+        println!(" {:8.2}", costs[0].milliseconds() / costs[1].milliseconds());
     }
     Ok(())
 }
 
 fn main() -> ExitCode {
     let words: Vec<String> = env::args().skip(1).collect();
-    let [stompd, baseline, folder] = &words[..] else {
-        eprintln!("usage: measure STOMPD BASELINE FOLDER");
-        return ExitCode::FAILURE;
+    let words: Vec<&str> = words.iter().map(String::as_str).collect();
+    let (bench, result) = match words[..] {
+        ["relay", stompd, baseline, folder] => {
+            ("relay", print_relay(stompd, baseline, Path::new(folder)))
+        }
+        ["frames", program, baseline, folder] => {
+            ("frames", print_frames(program, baseline, Path::new(folder)))
+        }
+        _ => {
+            eprintln!("usage: measure relay|frames PROGRAM BASELINE FOLDER");
+            return ExitCode::FAILURE;
+        }
     };
-    match print_table(stompd, baseline, Path::new(folder)) {
+    match result {
         Ok(()) => ExitCode::SUCCESS,
         Err(error) => {
-            eprintln!("bench/relay: {error}");
+            eprintln!("bench/{bench}: {error}");
             ExitCode::FAILURE
         }
     }

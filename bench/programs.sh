@@ -1,12 +1,15 @@
-# What bench/relay and bench/check share; both source it at the top of the repository.
+# What the scripts of this folder share; each sources it at the top of the repository.
 
-stompd=${STOMPD:-crates/stompd/out/stompd}
-if [ ! -x "$stompd" ]; then
-    echo "There is no program $stompd. Build it by" >&2
-    echo "    cd crates/stompd && rt run -- relay A < ../../examples/two_messages.stomp" >&2
-    echo "or name another by the variable STOMPD." >&2
-    exit 1
-fi
+# Sets `stompd` to the program crates/stompd/out/stompd, or to the one that STOMPD names.
+find_stompd() {
+    stompd=${STOMPD:-crates/stompd/out/stompd}
+    if [ ! -x "$stompd" ]; then
+        echo "There is no program $stompd. Build it by" >&2
+        echo "    cd crates/stompd && rt run -- relay A < ../../examples/two_messages.stomp" >&2
+        echo "or name another by the variable STOMPD." >&2
+        exit 1
+    fi
+}
 
 # Compiles bench/NAME.rs into bench/out/NAME for each NAME, where a source is newer.
 build() {
