@@ -12,8 +12,7 @@ use crate::counting::Counting;
 use crate::program_fault::ProgramFault;
 use std::alloc::Global;
 use std::io::Write;
-use stomp_frame::Octets;
-use stomp_frame::{ServerFrame, render, write_frame};
+use stomp_frame::{Octets, ServerFrame, render, write_frame};
 
 /// How many octets wait before they are written.
 const FULL: usize = 65_536;

@@ -13,8 +13,7 @@ use crate::program_fault::ProgramFault;
 use crate::turn::Turn;
 use std::alloc::{AllocError, Global};
 use std::io::{ErrorKind, Read, Write};
-use stomp_frame::Octets;
-use stomp_frame::{FrameReader, Limits};
+use stomp_frame::{FrameReader, Limits, Octets};
 
 /// How many octets of input are taken.
 const INPUT_LIMIT: usize = 16_777_216;

@@ -7,8 +7,7 @@ ghost use Rattle.broker_server.specs.Steps.{reading, fault_turn, Answered, Turns
 
 use crate::refusal::Refusal;
 use std::alloc::Global;
-use stomp_frame::{NoMemory, Octets};
-use stomp_frame::{FrameFault, FrameReader, RawFrame, ServerFrame};
+use stomp_frame::{FrameFault, FrameReader, NoMemory, Octets, RawFrame, ServerFrame};
 
 /// What comes next of a stream.
 #[derive(Drop)]
