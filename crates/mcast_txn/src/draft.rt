@@ -7,9 +7,12 @@ ghost use Rattle.mcast_txn.specs.Draft.{max_sends};
 use crate::entry::Entry;
 use crate::fault::DraftFault;
 use crate::id::Topic;
+use crate::send::PartSend;
+use crate::topic_set::TopicSet;
 use crate::txn::Txn;
-use std::alloc::Global;
+use std::alloc::{AllocFailed, Global};
 use std::marker::Model;
+use std::sync::Arc;
 use stomp_frame::{Headers, NoMemory, Octets};
 
 /// The most SENDs of a transaction (own).
@@ -75,10 +78,34 @@ impl Draft {
         ensures back { IfErr result (λ refused. (refused.0 ≡ headers) × (refused.1 ≡ body)) }
         ensures err { OnErr result (self.new ≡ self.old) }
     {
-        if self.entries.len() >= MAX_SENDS {
+        let index = self.entries.len();
+        if index >= MAX_SENDS {
             return Err((headers, body, DraftFault::TooManySends));
         }
-        Err((headers, body, DraftFault::NoMemory))
+        if self.entries.reserve(1).is_err() {
+            return Err((headers, body, DraftFault::NoMemory));
+        }
+        let send = PartSend {
+            index: index as u32,
+            headers,
+            body,
+        };
+        match Arc::new(self.alloc, send) {
+            Ok(send) => {
+                self.entries.push_reserved(Entry { topic, send });
+                Ok(())
+            }
+            Err(refused) => {
+                let AllocFailed {
+                    value: PartSend {
+                        index: _,
+                        headers,
+                        body,
+                    },
+                } = refused;
+                Err((headers, body, DraftFault::NoMemory))
+            }
+        }
     }
 
     /// The transaction of these SENDs, or `None` where there is none: that takes no memory. After want of memory the draft is handed back.
@@ -90,6 +117,13 @@ impl Draft {
         if self.entries.is_empty() {
             return Ok(None);
         }
-        Err((self, NoMemory))
+        let Ok(topics) = TopicSet::of(self.alloc, &self.entries) else {
+            return Err((self, NoMemory));
+        };
+        let Ok(topics) = Arc::new(self.alloc, topics) else {
+            return Err((self, NoMemory));
+        };
+        let Draft { alloc: _, entries } = self;
+        Ok(Some(Txn { entries, topics }))
     }
 }
