@@ -1,3 +1,7 @@
 pub mod EntryLemmas
 pub mod Rising
+pub mod RowLemmas
+pub mod SlotLemmas
+pub mod StampLemmas
 pub mod TopicLemmas
+pub mod VoteLemmas

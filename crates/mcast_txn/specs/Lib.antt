@@ -1,7 +1,12 @@
+pub mod Ballot
+pub mod Decided
 pub mod Draft
 pub mod Entries
 pub mod Faults
+pub mod Places
 pub mod Sealed
+pub mod Slots
 pub mod Stamp
 pub mod Topics
 pub mod Transaction
+pub mod Votes
