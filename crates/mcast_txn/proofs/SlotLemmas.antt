@@ -30,6 +30,13 @@ module _ {S A : Type 0} (f : S → Topic × Option A) where
       let ih = slot_at-none xs t all.1 in
       grind (arith, nat_tests, all.0)
 
+  -- a write for a topic that has no place changes nothing
+  pub with_slot-others : (xs : List S) (t : Topic) (o : Option A) → AllByRecursion (λ s. number s ≢ t.0) xs → map f xs ≡ with_slot t o (map f xs)
+  with_slot-others [] t o all = refl
+  with_slot-others (x ∷ xs) t o all =
+      let ih = with_slot-others xs t o all.1 in
+      grind (arith, nat_tests, all.0)
+
   with_slot-none : (xs : List S) (t : Topic) (o : Option A) → AllByRecursion (λ s. t.0 < number s) xs → map f xs ≡ with_slot t o (map f xs)
   with_slot-none [] t o all = refl
   with_slot-none (x ∷ xs) t o all =
