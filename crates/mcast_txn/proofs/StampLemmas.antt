@@ -15,7 +15,7 @@ same_stamps a b h k =
     let f : a.topic.0 ≡ b.topic.0 = grind (arith, nat_tests) in
     ap (λ (n : ℕ). stamp n a.topic.0) e ∙ ap (stamp b.n) f
 
-lt_trans : (a b c : Stamp) → stamp_lt a b ≡ true → stamp_lt b c ≡ true → stamp_lt a c ≡ true
+pub lt_trans : (a b c : Stamp) → stamp_lt a b ≡ true → stamp_lt b c ≡ true → stamp_lt a c ≡ true
 lt_trans a b c h k = grind (arith, nat_tests)
 
 le_trans : (a b c : Stamp) → stamp_lt a b ≡ false → stamp_lt b c ≡ false → stamp_lt a c ≡ false

@@ -48,14 +48,14 @@ free_answer (Some n) h = absurd (true≢false h)
 
 -- at the topic's slot
 module _ (id : TxnId) (votes : List (Slot ℕ)) (rising : RisesBy (λ vote. vote.topic.0) votes) (ticket : Ticket) (i : ℕ) (place : IsPlace ticket.topic votes i) where
-  stands : (d : Slot ℕ) → d ≡ get_or votes i d → slot_at ticket.topic (votes_of votes) ≡ Some d.held
-  stands d read = slot_at-place vote_of votes i d ticket.topic rising place.in_range (place.has_topic d) ∙ ap (λ (s : Slot ℕ). Some s.held) (sym read)
+  stands : (d : Slot ℕ) → slot_at ticket.topic (votes_of votes) ≡ Some (get_or votes i d).held
+  stands d = slot_at-place vote_of votes i d ticket.topic rising place.in_range (place.has_topic d)
 
-  pub answer_twice : (d : Slot ℕ) → d ≡ get_or votes i d → same_id ticket.id id ≡ true → is_some d.held ≡ true → Err Twice ≡ put_answer (tally_of id votes) ticket
-  answer_twice d read same full = rw (same, stands d read) (sym (full_answer d.held full))
+  pub answer_twice : (d : Slot ℕ) → same_id ticket.id id ≡ true → is_some (get_or votes i d).held ≡ true → Err Twice ≡ put_answer (tally_of id votes) ticket
+  answer_twice d same full = rw (same, stands d) (sym (full_answer (get_or votes i d).held full))
 
-  pub answer_ok : (d : Slot ℕ) → d ≡ get_or votes i d → same_id ticket.id id ≡ true → is_some d.held ≡ false → Ok tt ≡ put_answer (tally_of id votes) ticket
-  answer_ok d read same free = rw (same, stands d read) (sym (free_answer d.held free))
+  pub answer_ok : (d : Slot ℕ) → same_id ticket.id id ≡ true → is_some (get_or votes i d).held ≡ false → Ok tt ≡ put_answer (tally_of id votes) ticket
+  answer_ok d same free = rw (same, stands d) (sym (free_answer (get_or votes i d).held free))
 
   abbrev voted : Slot ℕ
   voted = record { topic = ticket.topic; held = Some ticket.n }

@@ -1,10 +1,12 @@
 //! The tickets of a transaction.
 
-ghost use Rattle.std.specs.Prelude.{◌≡◌, ◌≤◌, [], length, map, Some, IfOk, IfErr, OnOk, OnErr, is_err, vec_len, vec_capacity};
+ghost use Rattle.std.specs.Prelude.{◌≡◌, ◌≤◌, [], length, map, Some, Ok, Err, IfOk, IfErr, OnOk, OnErr, is_err, vec_len, vec_capacity};
 ghost use Rattle.std.specs.List.{list_any};
 ghost use Rattle.std.specs.Option.{is_none};
 ghost use Rattle.mcast_txn.specs.Ballot.{given_rows, numbers_of, put_answer, tickets_of};
+ghost use Rattle.mcast_txn.specs.Places.{IsPlace};
 ghost use Rattle.mcast_txn.specs.Slots.{free_slots, with_slot};
+ghost use Rattle.mcast_txn.specs.Topics.{RisesBy};
 ghost use Rattle.mcast_txn.specs.Votes.{votes_of};
 
 use crate::fault::BallotFault;
@@ -67,6 +69,14 @@ impl Ballot {
         self.id
     }
 
+    /// What `put` answers to a ticket, which isn't taken.
+    pub fn check(&self, ticket: Ticket) -> Result<(), BallotFault>
+        ensures { result ≡ put_answer self.now ticket }
+    {
+        place_for(self.id, &self.votes, ticket)?;
+        Ok(())
+    }
+
     /// Takes a ticket, with no memory. Refused: 50 where it is of another transaction or of a topic that isn't
     /// named, 51 where the topic gave one before.
     pub fn put(&mut self, ticket: Ticket) -> Result<(), BallotFault>
@@ -75,15 +85,7 @@ impl Ballot {
             (self.new ≡ record self.old { numbers = with_slot ticket.topic (Some ticket.n) self.old.numbers }) }
         ensures err { OnErr result (self.new ≡ self.old) }
     {
-        if ticket.id != self.id {
-            return Err(BallotFault::NotNamed);
-        }
-        let Some(place) = place_of(&self.votes, ticket.topic) else {
-            return Err(BallotFault::NotNamed);
-        };
-        if self.votes[place].held.is_some() {
-            return Err(BallotFault::Twice);
-        }
+        let place = place_for(self.id, &self.votes, ticket)?;
         self.votes[place] = Slot {
             topic: ticket.topic,
             held: Some(ticket.n),
@@ -125,6 +127,27 @@ impl Ballot {
         fill_rows(&votes, &mut rows);
         Tickets { id, rows }
     }
+}
+
+// Where the number of a ticket goes.
+fn place_for(id: TxnId, votes: &[Slot<u64>], ticket: Ticket) -> Result<usize, BallotFault>
+    requires { RisesBy (λ vote. vote.topic.0) votes.now }
+    ensures fault { IfErr result
+        (λ fault. Err fault ≡ put_answer (record { id = id; numbers = votes_of votes.now }) ticket) }
+    ensures free { OnOk result
+        (Ok tt ≡ put_answer (record { id = id; numbers = votes_of votes.now }) ticket) }
+    ensures place { IfOk result (IsPlace ticket.topic votes.now) }
+{
+    if ticket.id != id {
+        return Err(BallotFault::NotNamed);
+    }
+    let Some(place) = place_of(votes, ticket.topic) else {
+        return Err(BallotFault::NotNamed);
+    };
+    if votes[place].held.is_some() {
+        return Err(BallotFault::Twice);
+    }
+    Ok(place)
 }
 
 // Whether a topic gave no number.
