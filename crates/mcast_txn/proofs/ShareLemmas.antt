@@ -135,6 +135,7 @@ made_shares {A} {B} f g slots topics rising e =
     firsts : (ts : List Topic) → map (λ (s : Topic × Option B). s.0) (map (λ t. (t, g t)) ts) ≡ ts
     firsts [] = refl
     firsts (t ∷ ts) = ap (λ rest. t ∷ rest) (firsts ts)
+
     map_same : (ts : List Topic) → map (λ t. t) ts ≡ ts
     map_same [] = refl
     map_same (t ∷ ts) = ap (λ rest. t ∷ rest) (map_same ts)

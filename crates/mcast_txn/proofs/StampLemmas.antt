@@ -26,6 +26,7 @@ later_zero x = zero_case (stamp_lt zero_stamp x) refl
   where
     none_before : stamp_lt x zero_stamp ≡ false
     none_before = grind (arith, nat_tests)
+
     zero_case : (b : Bool) → stamp_lt zero_stamp x ≡ b → later x zero_stamp ≡ (if b then x else zero_stamp)
     zero_case true h = rw none_before refl
     zero_case false h = rw none_before (same_stamps x zero_stamp none_before h)

@@ -18,7 +18,8 @@ use stomp_frame::{Headers, NoMemory, Octets};
 /// The most SENDs of a transaction (own).
 pub const MAX_SENDS: usize = 64;
 
-/// The SENDs of a transaction that isn't committed yet (STOMP 1.2, "BEGIN"). In contracts it is their list, in order.
+/// The SENDs of a transaction that isn't committed yet (STOMP 1.2, "BEGIN"). In contracts it is their list, in
+/// order.
 #[derive(Drop)]
 pub struct Draft {
     alloc: Global,
@@ -108,7 +109,8 @@ impl Draft {
         }
     }
 
-    /// The transaction of these SENDs, or `None` where there is none: that takes no memory. After want of memory the draft is handed back.
+    /// The transaction of these SENDs, or `None` where there is none: that takes no memory. After want of memory the
+    /// draft is handed back.
     pub fn seal(self) -> Result<Option<Txn>, (Draft, NoMemory)>
         ensures none { (result ≡ Ok None) ↔ (self ≡ []) }
         ensures some { IfOk result (λ sealed. IfSome sealed (λ txn. txn ≡ self)) }

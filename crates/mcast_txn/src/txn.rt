@@ -16,7 +16,8 @@ use std::marker::Model;
 use std::sync::Arc;
 use stomp_frame::NoMemory;
 
-/// A transaction that is committed (STOMP 1.2, "COMMIT"): its SENDs, at least one. In contracts it is their list, in order.
+/// A transaction that is committed (STOMP 1.2, "COMMIT"): its SENDs, at least one. In contracts it is their list, in
+/// order.
 #[derive(Drop)]
 pub struct Txn {
     pub(crate) entries: Vec<Entry>,

@@ -10,7 +10,8 @@ use crate::stamp::Stamp;
 use std::alloc::Global;
 use std::marker::Model;
 
-/// What the tickets of a transaction decide: each of its topics with the number that it gave, and the greatest of these as its stamp.
+/// What the tickets of a transaction decide: each of its topics with the number that it gave, and the greatest of
+/// these as its stamp. In contracts it is the transaction and these rows.
 #[derive(Drop)]
 pub struct Verdict {
     id: TxnId,
@@ -31,7 +32,9 @@ impl Model for Verdict {
 
 impl Verdict {
     // A place for a verdict.
-    pub(crate) fn blank(alloc: Global, id: TxnId) -> Verdict {
+    pub(crate) fn blank(alloc: Global, id: TxnId) -> Verdict
+        ensures { result ≡ record { id = id; rows = [] } }
+    {
         Verdict {
             id,
             rows: Vec::new(alloc),

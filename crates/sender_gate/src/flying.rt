@@ -115,10 +115,7 @@ impl Flying {
         } = self;
         let id = ballot.id();
         match ballot.close() {
-            Ok(verdict) => Ok((
-                Gate::resume(id.sender, id.seq, verdict.stamp()),
-                verdict,
-            )),
+            Ok(verdict) => Ok((Gate::resume(id.sender, id.seq, verdict.stamp()), verdict)),
             Err(ballot) => Err((Flying::new(floor, ballot, parts), GateFault::Incomplete)),
         }
     }

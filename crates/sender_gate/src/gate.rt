@@ -64,7 +64,8 @@ impl Gate {
     }
 
     /// Sends the transaction on its way, as the sender's next one. It makes the room that the flight's calls need.
-    /// Refused: 53 where the sender has used its last number, 55 for want of memory; gate and transaction are then handed back.
+    /// Refused: 53 where the sender has used its last number, 55 for want of memory; gate and transaction are then
+    /// handed back.
     pub fn begin(self, alloc: Global, txn: Txn) -> Result<Flying, (Gate, Txn, GateFault)>
         ensures ok { IfOk result (λ flying. flying ≡ flight_of self txn) }
         ensures full { self.seq ≡ last_seq → IsErr result }

@@ -92,7 +92,10 @@ fn the_65th_send_is_refused(rt: HostRuntime) -> Result<(), Fail> {
     for topic in 0..64 {
         assert!(rt; fault_of_add(rt.alloc(), &mut draft, topic).is_none());
     }
-    assert_eq!(rt; fault_of_add(rt.alloc(), &mut draft, 0), Some(DraftFault::TooManySends));
+    assert_eq!(rt;
+        fault_of_add(rt.alloc(), &mut draft, 0),
+        Some(DraftFault::TooManySends)
+    );
     assert_eq!(rt; draft.len(), MAX_SENDS);
     Ok(())
 }
