@@ -1,6 +1,6 @@
 //! A connection's session.
 
-ghost use Rattle.std.specs.Prelude.{◌≡◌, ◌∷◌, [], ◌++◌, codes, Some, IfOk, IfErr, OnOk, OnErr};
+ghost use Rattle.std.specs.Prelude.{◌≡◌, ◌∷◌, [], ◌++◌, codes, Some, None, IfOk, IfErr, OnOk, OnErr};
 ghost use Rattle.stomp_frame.specs.declared.command.Command.TheVariants as commands;
 ghost use Rattle.stomp_frame.specs.declared.frame.RawFrame.{RawFrame as Frame};
 ghost use Rattle.stomp_frame.specs.ClientFrames.{raw_of};
@@ -10,7 +10,8 @@ ghost use Rattle.stomp_session.specs.declared.fault.SessionFault.TheVariants as 
 ghost use Rattle.stomp_session.specs.Open.{closed, held_after, StandsFor};
 ghost use Rattle.stomp_session.specs.Refusals.{is_closed, is_new, first_fault, has_other_ack};
 ghost use Rattle.stomp_session.specs.Answers.{Accepts, Refuses};
-ghost use Rattle.stomp_session.specs.Effects.{Does, Denies};
+ghost use Rattle.stomp_session.specs.Effects.{Does, Denies, refusal_by};
+ghost use Rattle.stomp_session.specs.Frames.{topic_of};
 
 use crate::action::{Action, Step};
 use crate::fault::SessionFault;
@@ -18,10 +19,15 @@ use crate::names::Names;
 use crate::phase::Phase;
 use crate::subscriptions::Subscriptions;
 use crate::transactions::Transactions;
+use crate::versions::has_version;
+use mcast_txn::Topic;
 use std::alloc::Global;
 use std::marker::Model;
 use std::sync::Arc;
-use stomp_frame::{Headers, NoMemory, Octets, RawFrame, SubscribeFrame};
+use stomp_frame::{
+    AbortFrame, BeginFrame, CommitFrame, ConnectFrame, DisconnectFrame, Headers, NoMemory, Octets,
+    RawFrame, SendFrame, SubscribeFrame, UnsubscribeFrame,
+};
 
 /// The session of one connection: how far it is, and what its frames have opened. In contracts it is what it holds.
 #[derive(Drop)]
@@ -97,6 +103,26 @@ impl Session {
         }
     }
 
+    fn connect(&mut self, frame: &ConnectFrame) -> Result<Step, SessionFault>
+        ensures accepted { IfOk result (λ step. Does commands.Connect self.old frame.now.raw step self.new) }
+        ensures refused { IfErr result (Denies commands.Connect self.old frame.now.raw) }
+        ensures names { self.new.names ≡ self.old.names }
+    {
+        match self.phase {
+            Phase::New => {}
+            Phase::Connected => return Err(SessionFault::AlreadyConnected),
+            Phase::Closed => return Err(SessionFault::Closed),
+        }
+        if !has_version(b"1.2", frame.accept_version()) {
+            return Err(SessionFault::NoVersion);
+        }
+        self.phase = Phase::Connected;
+        Ok(Step {
+            action: Action::Connected,
+            receipt: None,
+        })
+    }
+
     fn subscribe(&mut self, frame: &SubscribeFrame) -> Result<Step, SessionFault>
         ensures accepted { IfOk result (λ step. Does commands.Subscribe self.old frame.now.raw step self.new) }
         ensures refused { IfErr result (Denies commands.Subscribe self.old frame.now.raw) }
@@ -123,5 +149,108 @@ impl Session {
             action: Action::Subscribe(subscribed, topic),
             receipt,
         })
+    }
+
+    fn unsubscribe(&mut self, frame: &UnsubscribeFrame) -> Result<Step, SessionFault>
+        ensures accepted { IfOk result (λ step. Does commands.Unsubscribe self.old frame.now.raw step self.new) }
+        ensures refused { IfErr result (Denies commands.Unsubscribe self.old frame.now.raw) }
+        ensures names { self.new.names ≡ self.old.names }
+    {
+        self.connected()?;
+        let id = frame.id();
+        if !self.subscriptions.close(id) {
+            return Err(SessionFault::NoSuchSub);
+        }
+        let receipt = receipt(self.alloc, &frame.raw.headers)?;
+        Ok(Step {
+            action: Action::Unsubscribe(Octets::from_slice(self.alloc, id)?),
+            receipt,
+        })
+    }
+
+    fn disconnect(&mut self, frame: &DisconnectFrame) -> Result<Step, SessionFault>
+        ensures accepted { IfOk result (λ step. Does commands.Disconnect self.old frame.now.raw step self.new) }
+        ensures refused { IfErr result (Denies commands.Disconnect self.old frame.now.raw) }
+        ensures names { self.new.names ≡ self.old.names }
+    {
+        self.connected()?;
+        let receipt = receipt(self.alloc, &frame.raw.headers)?;
+        self.end();
+        Ok(Step {
+            action: Action::Disconnect,
+            receipt,
+        })
+    }
+
+    fn begin(&mut self, frame: &BeginFrame) -> Result<Step, SessionFault>
+        ensures accepted { IfOk result (λ step. Does commands.Begin self.old frame.now.raw step self.new) }
+        ensures refused { IfErr result (Denies commands.Begin self.old frame.now.raw) }
+        ensures names { self.new.names ≡ self.old.names }
+    {
+        self.connected()?;
+        let name = frame.transaction();
+        if self.transactions.is_open(name) {
+            return Err(SessionFault::TxnInUse);
+        }
+        if self.transactions.is_full() {
+            return Err(SessionFault::TooManyTxns);
+        }
+        let receipt = receipt(self.alloc, &frame.raw.headers)?;
+        self.transactions.begin(name)?;
+        Ok(Step {
+            action: Action::Nothing,
+            receipt,
+        })
+    }
+
+    fn commit(&mut self, frame: &CommitFrame) -> Result<Step, SessionFault>
+        ensures accepted { IfOk result (λ step. Does commands.Commit self.old frame.now.raw step self.new) }
+        ensures refused { IfErr result (Denies commands.Commit self.old frame.now.raw) }
+        ensures names { self.new.names ≡ self.old.names }
+    {
+        self.connected()?;
+        let Some(draft) = self.transactions.take(frame.transaction()) else {
+            return Err(SessionFault::NoSuchTxn);
+        };
+        let receipt = receipt(self.alloc, &frame.raw.headers)?;
+        let action = match draft.seal() {
+            Ok(Some(txn)) => Action::Commit(txn),
+            Ok(None) => Action::Nothing,
+            Err((_, NoMemory)) => return Err(SessionFault::NoMemory),
+        };
+        Ok(Step { action, receipt })
+    }
+
+    fn abort(&mut self, frame: &AbortFrame) -> Result<Step, SessionFault>
+        ensures accepted { IfOk result (λ step. Does commands.Abort self.old frame.now.raw step self.new) }
+        ensures refused { IfErr result (Denies commands.Abort self.old frame.now.raw) }
+        ensures names { self.new.names ≡ self.old.names }
+    {
+        self.connected()?;
+        if self.transactions.take(frame.transaction()).is_none() {
+            return Err(SessionFault::NoSuchTxn);
+        }
+        let receipt = receipt(self.alloc, &frame.raw.headers)?;
+        Ok(Step {
+            action: Action::Nothing,
+            receipt,
+        })
+    }
+
+    // Whether a SEND is accepted: the topic that it goes to, and the receipt that it asks for.
+    fn accepts_send(&self, frame: &SendFrame) -> Result<(Topic, Option<Octets>), SessionFault>
+        ensures accepted { OnOk result (refusal_by commands.Send self.now frame.now.raw ≡ None) }
+        ensures topic { IfOk result (λ sent. sent.0 ≡ topic_of self.now.names frame.now.raw) }
+        ensures receipt { IfOk result (λ sent. sent.1 ≡ first_of (codes "receipt") frame.now.raw.headers) }
+        ensures refused { IfErr result (Denies commands.Send self.now frame.now.raw) }
+    {
+        self.connected()?;
+        let Some(topic) = self.names.find(frame.destination()) else {
+            return Err(SessionFault::UnknownDestination);
+        };
+        if let Some(name) = frame.raw.headers.first(b"transaction") {
+            self.transactions.takes_send(name)?;
+        }
+        Ok((topic, receipt(self.alloc, &frame.raw.headers)?))
     }
 }

@@ -1,7 +1,8 @@
 //! The transactions that are open.
 
-ghost use Rattle.std.specs.Prelude.{◌≡◌, true, false, not, [], ◌∷◌, ◌++◌, Some, is_some, IfSome, IfErr, OnOk, OnErr};
-ghost use Rattle.mcast_txn.specs.declared.send.Send.{Send};
+ghost use Rattle.std.specs.Prelude.{◌≡◌, true, false, not, [], ◌∷◌, ◌++◌, Some, codes, is_some, IsSomeAnd, IfSome, IfErr, OnOk};
+ghost use Rattle.std.specs.Option.{option_map_or};
+ghost use Rattle.stomp_frame.specs.Headers.{first_of};
 ghost use Rattle.stomp_session.specs.Refusals.{is_open, is_full, sends_in, first_fault};
 ghost use Rattle.stomp_session.specs.Effects.{without, with_send};
 ghost use Rattle.stomp_session.specs.declared.fault.SessionFault.TheVariants.{NoSuchTxn, TooManySends};
@@ -12,7 +13,7 @@ use indexmap::IndexMap;
 use mcast_txn::{Draft, MAX_SENDS, Topic};
 use std::alloc::Global;
 use std::marker::Model;
-use stomp_frame::{Headers, NoMemory, Octets};
+use stomp_frame::{NoMemory, RawFrame, SendFrame};
 
 /// The transactions of a connection that are open, by their names, in the order in which they were begun
 /// (STOMP 1.2, "BEGIN"). In contracts it is the list of the names with their SENDs.
@@ -82,23 +83,30 @@ impl Transactions {
         Ok(())
     }
 
-    /// Puts a SEND behind the others of the transaction of this name, or hands it back for want of memory.
-    pub(crate) fn send(
-        &mut self,
-        name: &[u8],
-        topic: Topic,
-        headers: Headers,
-        body: Octets,
-    ) -> Result<(), (Headers, Octets)>
-        requires { is_open name.now self.old ≡ true }
-        ensures ok { OnOk result
-            (self.new ≡ with_send name.now (record { topic = topic; headers = headers; body = body }) self.old) }
-        ensures back { IfErr result (λ refused. (refused.0 ≡ headers) × (refused.1 ≡ body)) }
+    /// Puts a SEND behind the others of the transaction that it names, or hands it back for want of memory.
+    pub(crate) fn send(&mut self, frame: SendFrame, topic: Topic) -> Result<(), SendFrame>
+        requires { IsSomeAnd (first_of (codes "transaction") frame.raw.headers) (λ name. is_open name self.old ≡ true) }
+        ensures ok { OnOk result (self.new ≡ option_map_or
+            (λ name. with_send name (record { topic = topic; headers = frame.raw.headers; body = frame.raw.body }) self.old)
+            (first_of (codes "transaction") frame.raw.headers) self.old) }
+        ensures back { IfErr result (λ refused. refused ≡ frame) }
     {
+        let name = frame.raw.headers.first(b"transaction").unwrap();
         let draft = self.drafts.get_mut(name).unwrap();
+        let RawFrame {
+            command,
+            headers,
+            body,
+        } = frame.raw;
         match draft.add(topic, headers, body) {
             Ok(()) => Ok(()),
-            Err((headers, body, _)) => Err((headers, body)),
+            Err((headers, body, _)) => Err(SendFrame {
+                raw: RawFrame {
+                    command,
+                    headers,
+                    body,
+                },
+            }),
         }
     }
 
