@@ -18,7 +18,7 @@ use Rattle.stomp_session.specs.declared.fault.SessionFault.{SessionFault}
 use Rattle.stomp_session.specs.declared.fault.SessionFault.TheVariants as faults
 use Rattle.stomp_session.specs.Frames.{topic_of, id_of, transaction_of, is_subscribe, is_unsubscribe, is_begin, is_end, is_send, is_disconnect, names_subscription, names_transaction, is_send_in, send_of}
 use Rattle.stomp_session.specs.Open.{Held, subscribed, begun, is_connected, is_ended, phase_of, held_after, closed}
-use Rattle.stomp_session.specs.Refusals.{is_closed, is_new, is_open, Check, first_fault, open_checks, checks_by, connect_checks}
+use Rattle.stomp_session.specs.Refusals.{is_closed, is_new, is_open, is_full, has_other_ack, has_unknown_destination, Check, first_fault, open_checks, checks_by, connect_checks}
 use Rattle.stomp_session.specs.Effects.{without, with_send, effect, refusal_by}
 use Rattle.stomp_session.proofs.Opened.{opened, opened-quiet, opened-open, opened-close, opened-send, list_any-push}
 
@@ -156,6 +156,20 @@ accepted-connected : (b : Bool) (others : List Check)
 accepted-connected true others none = (refl, none)
 accepted-connected false others none = cc
 
+or_all : (a : Bool) → (a || true) ≡ true
+or_all true = refl
+or_all false = refl
+
+first : (a b : Bool) (x y : SessionFault) → first_fault ((a, x) ∷ (b, y) ∷ []) ≡ None → a ≡ false
+first true b x y none = cc
+first false b x y none = refl
+
+third : (a b c d : Bool) (x y z w : SessionFault) → first_fault ((a, x) ∷ (b, y) ∷ (c, z) ∷ (d, w) ∷ []) ≡ None → c ≡ false
+third true b c d x y z w none = cc
+third false true c d x y z w none = cc
+third false false true d x y z w none = cc
+third false false false d x y z w none = refl
+
 module _ (names : List (List ℕ)) (frames : List RawFrame) (f : RawFrame) where
   is_ended-push : is_ended (frames ++ f ∷ []) ≡ (is_ended frames || is_disconnect f.command)
   is_ended-push = list_any-push (λ f. is_disconnect f.command) frames f
@@ -185,3 +199,119 @@ module _ (names : List (List ℕ)) (frames : List RawFrame) (f : RawFrame) where
       accepted-connected (is_connected frames) others
         (let phase_is : phase_of frames ≡ (if is_connected frames then Connected else New) = ap (λ b. if b then Closed else (if is_connected frames then Connected else New)) going in
          subst (λ p. first_fault ((is_closed p, faults.Closed) ∷ (is_new p, faults.NotConnected) ∷ others) ≡ None) phase_is none)
+
+  -- any but a CONNECT or a DISCONNECT
+  connected-push : (subscriptions : List (List ℕ × Topic)) (transactions : List (List ℕ × List Send))
+      → is_ended frames ≡ false → is_disconnect f.command ≡ false → is_connected frames ≡ true
+      → subscribed names (frames ++ f ∷ []) ≡ subscriptions
+      → begun names (frames ++ f ∷ []) ≡ transactions
+      → record { names = names; phase = if is_connected frames then Connected else New; subscriptions = subscriptions; transactions = transactions } ≡ held_after names (frames ++ f ∷ [])
+  connected-push subscriptions transactions going no_disconnect connected subscriptions_are transactions_are =
+      let phase_is : (if is_connected frames || is_connect f.command then Connected else New) ≡ (if is_connected frames then Connected else New) = rw connected in
+      live-push (if is_connected frames then Connected else New) subscriptions transactions going no_disconnect phase_is subscriptions_are transactions_are
+
+  not_send : is_send f.command ≡ false → (x : List ℕ) → is_send_in x f ≡ false
+  not_send none x = λ i. none i && option_map_or (λ y. bytes_eq y x) (first_of (codes "transaction") f.headers) false
+
+  -- what each frame changes is what it opens and closes in the list
+  abbrev pub Follows : Command → Type 0
+  Follows command = f.command ≡ command → refusal_by command (held_after names frames) f ≡ None → effect command (held_after names frames) f ≡ held_after names (frames ++ f ∷ [])
+
+  to_live : (command : Command) → is_ended frames ≡ false → effect command (live names frames) f ≡ held_after names (frames ++ f ∷ []) → effect command (held_after names frames) f ≡ held_after names (frames ++ f ∷ [])
+  to_live command going after = ap (λ s. effect command s f) (held_after-live names frames going) ∙ after
+
+  pub subscribe-follows : Follows commands.Subscribe
+  subscribe-follows e none =
+      let s : Held = held_after names frames in
+      let going : is_ended frames ≡ false = accepted-going commands.Subscribe names frames f none in
+      let checked : (is_connected frames ≡ true) × (first_fault (checks_by commands.Subscribe s f) ≡ None) = connected-checks (checks_by commands.Subscribe s f) going none in
+      let shut_here : is_open (id_of f) s.subscriptions ≡ false = third (has_other_ack f) (has_unknown_destination s f) (is_open (id_of f) s.subscriptions) (is_full s.subscriptions) faults.AckMode faults.UnknownDestination faults.SubIdInUse faults.TooManySubs checked.1 in
+      let shut : is_open (id_of f) (subscribed names frames) ≡ false = subst (λ b. is_open (id_of f) (if b then [] else subscribed names frames) ≡ false) going shut_here in
+      to_live commands.Subscribe going (connected-push _ _ going (ap is_disconnect e) checked.0
+        (subscribed-open names frames f (ap is_subscribe e) shut)
+        (begun-quiet names frames f (ap is_begin e) (ap is_end e) (not_send (ap is_send e))))
+
+  pub unsubscribe-follows : Follows commands.Unsubscribe
+  unsubscribe-follows e none =
+      let s : Held = held_after names frames in
+      let going : is_ended frames ≡ false = accepted-going commands.Unsubscribe names frames f none in
+      let checked : (is_connected frames ≡ true) × (first_fault (checks_by commands.Unsubscribe s f) ≡ None) = connected-checks (checks_by commands.Unsubscribe s f) going none in
+      to_live commands.Unsubscribe going (connected-push _ _ going (ap is_disconnect e) checked.0
+        (subscribed-close names frames f (ap is_subscribe e) (ap is_unsubscribe e))
+        (begun-quiet names frames f (ap is_begin e) (ap is_end e) (not_send (ap is_send e))))
+
+  pub begin-follows : Follows commands.Begin
+  begin-follows e none =
+      let s : Held = held_after names frames in
+      let going : is_ended frames ≡ false = accepted-going commands.Begin names frames f none in
+      let checked : (is_connected frames ≡ true) × (first_fault (checks_by commands.Begin s f) ≡ None) = connected-checks (checks_by commands.Begin s f) going none in
+      let shut_here : is_open (transaction_of f) s.transactions ≡ false = first (is_open (transaction_of f) s.transactions) (is_full s.transactions) faults.TxnInUse faults.TooManyTxns checked.1 in
+      let shut : is_open (transaction_of f) (begun names frames) ≡ false = subst (λ b. is_open (transaction_of f) (if b then [] else begun names frames) ≡ false) going shut_here in
+      to_live commands.Begin going (connected-push _ _ going (ap is_disconnect e) checked.0
+        (subscribed-quiet names frames f (ap is_subscribe e) (ap is_unsubscribe e))
+        (begun-open names frames f (ap is_begin e) (not_send (ap is_send e)) shut))
+
+  pub commit-follows : Follows commands.Commit
+  commit-follows e none =
+      let s : Held = held_after names frames in
+      let going : is_ended frames ≡ false = accepted-going commands.Commit names frames f none in
+      let checked : (is_connected frames ≡ true) × (first_fault (checks_by commands.Commit s f) ≡ None) = connected-checks (checks_by commands.Commit s f) going none in
+      to_live commands.Commit going (connected-push _ _ going (ap is_disconnect e) checked.0
+        (subscribed-quiet names frames f (ap is_subscribe e) (ap is_unsubscribe e))
+        (begun-close names frames f (ap is_begin e) (ap is_end e) (not_send (ap is_send e))))
+
+  pub abort-follows : Follows commands.Abort
+  abort-follows e none =
+      let s : Held = held_after names frames in
+      let going : is_ended frames ≡ false = accepted-going commands.Abort names frames f none in
+      let checked : (is_connected frames ≡ true) × (first_fault (checks_by commands.Abort s f) ≡ None) = connected-checks (checks_by commands.Abort s f) going none in
+      to_live commands.Abort going (connected-push _ _ going (ap is_disconnect e) checked.0
+        (subscribed-quiet names frames f (ap is_subscribe e) (ap is_unsubscribe e))
+        (begun-close names frames f (ap is_begin e) (ap is_end e) (not_send (ap is_send e))))
+
+  pub disconnect-follows : Follows commands.Disconnect
+  disconnect-follows e none =
+      let ended : true ≡ is_ended (frames ++ f ∷ []) = sym (is_ended-push ∙ (ap (λ c. is_ended frames || is_disconnect c) e) ∙ or_all (is_ended frames)) in
+      λ i. record {
+        names = names;
+        phase = if ended i then Closed else (if is_connected (frames ++ f ∷ []) then Connected else New);
+        subscriptions = if ended i then [] else subscribed names (frames ++ f ∷ []);
+        transactions = if ended i then [] else begun names (frames ++ f ∷ []);
+      }
+
+  connect-effect : is_connect f.command ≡ true → is_subscribe f.command ≡ false → is_unsubscribe f.command ≡ false → is_begin f.command ≡ false → is_end f.command ≡ false → is_send f.command ≡ false → is_disconnect f.command ≡ false
+      → is_ended frames ≡ false → effect commands.Connect (live names frames) f ≡ held_after names (frames ++ f ∷ [])
+  connect-effect connects no_subscribe no_unsubscribe no_begin no_end no_send no_disconnect going =
+      let phase_is : (if is_connected frames || is_connect f.command then Connected else New) ≡ Connected = ap (λ b. if is_connected frames || b then Connected else New) connects ∙ ap (λ b. if b then Connected else New) (or_all (is_connected frames)) in
+      live-push Connected _ _ going no_disconnect phase_is (subscribed-quiet names frames f no_subscribe no_unsubscribe) (begun-quiet names frames f no_begin no_end (not_send no_send))
+
+  pub connect-follows : Follows commands.Connect
+  connect-follows e none =
+      let going : is_ended frames ≡ false = accepted-going commands.Connect names frames f none in
+      to_live commands.Connect going (connect-effect (ap is_connect e) (ap is_subscribe e) (ap is_unsubscribe e) (ap is_begin e) (ap is_end e) (ap is_send e) (ap is_disconnect e) going)
+
+  pub stomp-follows : Follows commands.Stomp
+  stomp-follows e none =
+      let going : is_ended frames ≡ false = accepted-going commands.Stomp names frames f none in
+      to_live commands.Stomp going (connect-effect (ap is_connect e) (ap is_subscribe e) (ap is_unsubscribe e) (ap is_begin e) (ap is_end e) (ap is_send e) (ap is_disconnect e) going)
+
+  pub send-follows : Follows commands.Send
+  send-follows e none =
+      let s : Held = held_after names frames in
+      let going : is_ended frames ≡ false = accepted-going commands.Send names frames f none in
+      let checked : (is_connected frames ≡ true) × (first_fault (checks_by commands.Send s f) ≡ None) = connected-checks (checks_by commands.Send s f) going none in
+      to_live commands.Send going (by going checked.0 (first_of (codes "transaction") f.headers) refl e)
+    where
+      by : is_ended frames ≡ false → is_connected frames ≡ true → (o : Option (List ℕ)) → first_of (codes "transaction") f.headers ≡ o → f.command ≡ commands.Send
+          → option_map_or (λ x. record { names = names; phase = if is_connected frames then Connected else New; subscriptions = subscribed names frames; transactions = with_send x (send_of names f) (begun names frames) }) (first_of (codes "transaction") f.headers) (live names frames)
+            ≡ held_after names (frames ++ f ∷ [])
+      by going connected None at e =
+          let outside : (x : List ℕ) → is_send_in x f ≡ false = λ x. (λ i. is_send (e i) && option_map_or (λ y. bytes_eq y x) (at i) false) in
+          rw at (connected-push (subscribed names frames) (begun names frames) going (ap is_disconnect e) connected
+            (subscribed-quiet names frames f (ap is_subscribe e) (ap is_unsubscribe e))
+            (begun-quiet names frames f (ap is_begin e) (ap is_end e) outside))
+      by going connected (Some x) at e =
+          let inside : (y : List ℕ) → is_send_in y f ≡ bytes_eq x y = λ y. (λ i. is_send (e i) && option_map_or (λ z. bytes_eq z y) (at i) false) in
+          rw at (connected-push (subscribed names frames) (with_send x (send_of names f) (begun names frames)) going (ap is_disconnect e) connected
+            (subscribed-quiet names frames f (ap is_subscribe e) (ap is_unsubscribe e))
+            (begun-send names frames f (ap is_begin e) (ap is_end e) x inside))

@@ -1,6 +1,6 @@
 //! A connection's session.
 
-ghost use Rattle.std.specs.Prelude.{◌≡◌, ◌∷◌, [], ◌++◌, codes, Some, None, IfOk, IfErr, OnOk, OnErr};
+ghost use Rattle.std.specs.Prelude.{◌≡◌, ◌∷◌, [], ◌++◌, codes, List, Some, None, IfOk, IfErr, OnOk, OnErr};
 ghost use Rattle.stomp_frame.specs.declared.command.Command.TheVariants as commands;
 ghost use Rattle.stomp_frame.specs.declared.frame.RawFrame.{RawFrame as Frame};
 ghost use Rattle.stomp_frame.specs.ClientFrames.{raw_of};
@@ -20,12 +20,12 @@ use crate::phase::Phase;
 use crate::subscriptions::Subscriptions;
 use crate::transactions::Transactions;
 use crate::versions::has_version;
-use mcast_txn::Topic;
+use mcast_txn::{Topic, Txn};
 use std::alloc::Global;
 use std::marker::Model;
 use std::sync::Arc;
 use stomp_frame::{
-    AbortFrame, BeginFrame, CommitFrame, ConnectFrame, DisconnectFrame, Headers, NoMemory, Octets,
+    AbortFrame, BeginFrame, ClientFrame, CommitFrame, ConnectFrame, DisconnectFrame, Headers, NoMemory, Octets,
     RawFrame, SendFrame, SubscribeFrame, UnsubscribeFrame,
 };
 
@@ -65,6 +65,28 @@ fn receipt(alloc: Global, headers: &Headers) -> Result<Option<Octets>, NoMemory>
     match headers.first(b"receipt") {
         Some(receipt) => Ok(Some(Octets::from_slice(alloc, receipt)?)),
         None => Ok(None),
+    }
+}
+
+fn single(alloc: Global, frame: SendFrame, topic: Topic) -> Result<Txn, SendFrame>
+    ensures ok { IfOk result
+        (λ txn. txn ≡ record { topic = topic; headers = frame.raw.headers; body = frame.raw.body } ∷ []) }
+    ensures back { IfErr result (λ refused. refused ≡ frame) }
+{
+    let RawFrame {
+        command,
+        headers,
+        body,
+    } = frame.raw;
+    match Txn::single(alloc, topic, headers, body) {
+        Ok(txn) => Ok(txn),
+        Err((headers, body, NoMemory)) => Err(SendFrame {
+            raw: RawFrame {
+                command,
+                headers,
+                body,
+            },
+        }),
     }
 }
 
@@ -252,5 +274,84 @@ impl Session {
             self.transactions.takes_send(name)?;
         }
         Ok((topic, receipt(self.alloc, &frame.raw.headers)?))
+    }
+
+    fn send(&mut self, frame: SendFrame) -> Result<Step, (SendFrame, SessionFault)>
+        ensures accepted { IfOk result (λ step. Does commands.Send self.old frame.raw step self.new) }
+        ensures refused { IfErr result (λ e. Denies commands.Send self.old frame.raw e.1) }
+        ensures back { IfErr result (λ e. e.0 ≡ frame) }
+        ensures names { self.new.names ≡ self.old.names }
+    {
+        let (topic, receipt) = match self.accepts_send(&frame) {
+            Ok(accepted) => accepted,
+            Err(fault) => return Err((frame, fault)),
+        };
+        if frame.raw.headers.first(b"transaction").is_none() {
+            return match single(self.alloc, frame, topic) {
+                Ok(txn) => Ok(Step {
+                    action: Action::Commit(txn),
+                    receipt,
+                }),
+                Err(frame) => Err((frame, SessionFault::NoMemory)),
+            };
+        }
+        match self.transactions.send(frame, topic) {
+            Ok(()) => Ok(Step {
+                action: Action::Nothing,
+                receipt,
+            }),
+            Err(frame) => Err((frame, SessionFault::NoMemory)),
+        }
+    }
+
+    /// Takes a frame: what the connection has to do for it, or why it's refused, with the frame handed back.
+    pub fn step(&mut self, frame: ClientFrame) -> Result<Step, (ClientFrame, SessionFault)>
+        ensures accepted { IfOk result (λ step. (frames : List Frame) → StandsFor self.old frames
+            → Accepts (held_after self.old.names frames) (raw_of frame) step × StandsFor self.new (frames ++ raw_of frame ∷ [])) }
+        ensures refused { IfErr result (λ e. (frames : List Frame) → StandsFor self.old frames
+            → Refuses (held_after self.old.names frames) (raw_of frame) e.1) }
+        ensures back { IfErr result (λ e. e.0 ≡ frame) }
+        ensures closes { OnErr result (self.new ≡ closed self.old) }
+        ensures stays_closed { self.old.phase ≡ phases.Closed
+            → (result ≡ Err (frame, faults.Closed)) × (self.new ≡ self.old) }
+        ensures names { self.new.names ≡ self.old.names }
+    {
+        macro_rules! steps {
+            (lent { $($case:ident => $method:ident;)* } moved { $($owned:ident => $owner:ident;)* }) => {
+                match frame {
+                    $(ClientFrame::$case(frame) => match self.$method(&frame) {
+                        Ok(step) => Ok(step),
+                        Err(fault) => {
+                            self.end();
+                            Err((ClientFrame::$case(frame), fault))
+                        }
+                    },)*
+                    $(ClientFrame::$owned(frame) => match self.$owner(frame) {
+                        Ok(step) => Ok(step),
+                        Err((frame, fault)) => {
+                            self.end();
+                            Err((ClientFrame::$owned(frame), fault))
+                        }
+                    },)*
+                }
+            };
+        }
+        if let Phase::Closed = self.phase {
+            return Err((frame, SessionFault::Closed));
+        }
+        steps! {
+            lent {
+                Connect => connect;
+                Subscribe => subscribe;
+                Unsubscribe => unsubscribe;
+                Begin => begin;
+                Commit => commit;
+                Abort => abort;
+                Disconnect => disconnect;
+            }
+            moved {
+                Send => send;
+            }
+        }
     }
 }
