@@ -77,15 +77,15 @@ module _ (names : List (List ℕ)) (frames : List RawFrame) (f : RawFrame) where
   subscribed-open opens shut =
       let shut_here : is_open (id_of f) (opened opens_subscription names_subscription id_of (λ f after. topic_of names f) frames) ≡ false = ap (is_open (id_of f)) (sym (subscribed-opened names frames)) ∙ shut in
       subscribed-opened names (frames ++ f ∷ [])
-        ∙ opened-open opens_subscription names_subscription id_of (λ f after. topic_of names f) f opens (λ x. subscription_by_id x f opens) (λ g after. refl) frames shut_here
-        ∙ ap (λ them. them ++ (id_of f, topic_of names f) ∷ []) (sym (subscribed-opened names frames))
+      ∙ opened-open opens_subscription names_subscription id_of (λ f after. topic_of names f) f opens (λ x. subscription_by_id x f opens) (λ g after. refl) frames shut_here
+      ∙ ap (λ them. them ++ (id_of f, topic_of names f) ∷ []) (sym (subscribed-opened names frames))
 
   subscribed-close : is_subscribe f.command ≡ false → is_unsubscribe f.command ≡ true → subscribed names (frames ++ f ∷ []) ≡ without (id_of f) (subscribed names frames)
   subscribed-close no_subscribe closes =
       let by_id : (x : List ℕ) → names_subscription x f ≡ bytes_eq (id_of f) x = λ x i. (no_subscribe i || closes i) && bytes_eq (id_of f) x in
       subscribed-opened names (frames ++ f ∷ [])
-        ∙ opened-close opens_subscription names_subscription id_of (λ f after. topic_of names f) f subscription_by_id no_subscribe by_id (λ g after. refl) frames
-        ∙ ap (without (id_of f)) (sym (subscribed-opened names frames))
+      ∙ opened-close opens_subscription names_subscription id_of (λ f after. topic_of names f) f subscription_by_id no_subscribe by_id (λ g after. refl) frames
+      ∙ ap (without (id_of f)) (sym (subscribed-opened names frames))
 
   begun-quiet : is_begin f.command ≡ false → is_end f.command ≡ false → ((x : List ℕ) → is_send_in x f ≡ false) → begun names (frames ++ f ∷ []) ≡ begun names frames
   begun-quiet no_begin no_end no_send =
@@ -96,41 +96,41 @@ module _ (names : List (List ℕ)) (frames : List RawFrame) (f : RawFrame) where
   begun-open opens no_send shut =
       let shut_here : is_open (transaction_of f) (opened opens_transaction names_transaction transaction_of (sends_of names) frames) ≡ false = ap (is_open (transaction_of f)) (sym (begun-opened names frames)) ∙ shut in
       begun-opened names (frames ++ f ∷ [])
-        ∙ opened-open opens_transaction names_transaction transaction_of (sends_of names) f opens (λ x. transaction_by_id x f opens) (sends_of-quiet names f no_send) frames shut_here
-        ∙ ap (λ them. them ++ (transaction_of f, []) ∷ []) (sym (begun-opened names frames))
+      ∙ opened-open opens_transaction names_transaction transaction_of (sends_of names) f opens (λ x. transaction_by_id x f opens) (sends_of-quiet names f no_send) frames shut_here
+      ∙ ap (λ them. them ++ (transaction_of f, []) ∷ []) (sym (begun-opened names frames))
 
   begun-close : is_begin f.command ≡ false → is_end f.command ≡ true → ((x : List ℕ) → is_send_in x f ≡ false) → begun names (frames ++ f ∷ []) ≡ without (transaction_of f) (begun names frames)
   begun-close no_begin ends no_send =
       let by_id : (x : List ℕ) → names_transaction x f ≡ bytes_eq (transaction_of f) x = λ x i. (no_begin i || ends i) && bytes_eq (transaction_of f) x in
       begun-opened names (frames ++ f ∷ [])
-        ∙ opened-close opens_transaction names_transaction transaction_of (sends_of names) f transaction_by_id no_begin by_id (sends_of-quiet names f no_send) frames
-        ∙ ap (without (transaction_of f)) (sym (begun-opened names frames))
+      ∙ opened-close opens_transaction names_transaction transaction_of (sends_of names) f transaction_by_id no_begin by_id (sends_of-quiet names f no_send) frames
+      ∙ ap (without (transaction_of f)) (sym (begun-opened names frames))
 
   begun-send : is_begin f.command ≡ false → is_end f.command ≡ false → (x : List ℕ) → ((y : List ℕ) → is_send_in y f ≡ bytes_eq x y) → begun names (frames ++ f ∷ []) ≡ with_send x (send_of names f) (begun names frames)
   begun-send no_begin no_end x sends =
       let none : (y : List ℕ) → names_transaction y f ≡ false = λ y i. (no_begin i || no_end i) && bytes_eq (transaction_of f) y in
       let adds : (g : RawFrame) (after : List RawFrame) → sends_of names g (after ++ f ∷ []) ≡ (if bytes_eq x (transaction_of g) then sends_of names g after ++ send_of names f ∷ [] else sends_of names g after) =
-        λ g after. sends_of-push names f g after ∙ ap (λ b. if b then sends_of names g after ++ send_of names f ∷ [] else sends_of names g after) (sends (transaction_of g)) in
+      λ g after. sends_of-push names f g after ∙ ap (λ b. if b then sends_of names g after ++ send_of names f ∷ [] else sends_of names g after) (sends (transaction_of g)) in
       begun-opened names (frames ++ f ∷ [])
-        ∙ opened-send opens_transaction names_transaction transaction_of (sends_of names) f x (send_of names f) transaction_by_id no_begin none adds frames
-        ∙ ap (with_send x (send_of names f)) (sym (begun-opened names frames))
+      ∙ opened-send opens_transaction names_transaction transaction_of (sends_of names) f x (send_of names f) transaction_by_id no_begin none adds frames
+      ∙ ap (with_send x (send_of names f)) (sym (begun-opened names frames))
 
 -- what is held where no DISCONNECT came
 abbrev live : List (List ℕ) → List RawFrame → Held
 live names frames = record {
-    names = names;
-    phase = if is_connected frames then Connected else New;
-    subscriptions = subscribed names frames;
-    transactions = begun names frames;
-  }
+  names = names;
+  phase = if is_connected frames then Connected else New;
+  subscriptions = subscribed names frames;
+  transactions = begun names frames;
+}
 
 held_after-live : (names : List (List ℕ)) (frames : List RawFrame) → is_ended frames ≡ false → held_after names frames ≡ live names frames
 held_after-live names frames going = λ i. record {
-    names = names;
-    phase = if going i then Closed else (if is_connected frames then Connected else New);
-    subscriptions = if going i then [] else subscribed names frames;
-    transactions = if going i then [] else begun names frames;
-  }
+  names = names;
+  phase = if going i then Closed else (if is_connected frames then Connected else New);
+  subscriptions = if going i then [] else subscribed names frames;
+  transactions = if going i then [] else begun names frames;
+}
 
 -- a check that doesn't stand, where no fault is found
 first_fault-none : (check : Check) (others : List Check) → first_fault (check ∷ others) ≡ None → (check.0 ≡ false) × (first_fault others ≡ None)
@@ -188,7 +188,7 @@ module _ (names : List (List ℕ)) (frames : List RawFrame) (f : RawFrame) where
       let goes_on : is_ended (frames ++ f ∷ []) ≡ false = is_ended-push ∙ (λ i. going i || no_disconnect i) in
       let phase_now : (if is_connected (frames ++ f ∷ []) then Connected else New) ≡ phase = ap (λ b. if b then Connected else New) is_connected-push ∙ phase_is in
       let now : live names (frames ++ f ∷ []) ≡ record { names = names; phase = phase; subscriptions = subscriptions; transactions = transactions } =
-        λ i. record { names = names; phase = phase_now i; subscriptions = subscriptions_are i; transactions = transactions_are i } in
+      λ i. record { names = names; phase = phase_now i; subscriptions = subscriptions_are i; transactions = transactions_are i } in
       sym now ∙ sym (held_after-live names (frames ++ f ∷ []) goes_on)
 
   -- the checks of a frame but CONNECT, where no fault is found
@@ -197,8 +197,8 @@ module _ (names : List (List ℕ)) (frames : List RawFrame) (f : RawFrame) where
       → (is_connected frames ≡ true) × (first_fault others ≡ None)
   connected-checks others going none =
       accepted-connected (is_connected frames) others
-        (let phase_is : phase_of frames ≡ (if is_connected frames then Connected else New) = ap (λ b. if b then Closed else (if is_connected frames then Connected else New)) going in
-         subst (λ p. first_fault ((is_closed p, faults.Closed) ∷ (is_new p, faults.NotConnected) ∷ others) ≡ None) phase_is none)
+      (let phase_is : phase_of frames ≡ (if is_connected frames then Connected else New) = ap (λ b. if b then Closed else (if is_connected frames then Connected else New)) going in
+      subst (λ p. first_fault ((is_closed p, faults.Closed) ∷ (is_new p, faults.NotConnected) ∷ others) ≡ None) phase_is none)
 
   -- any but a CONNECT or a DISCONNECT
   connected-push : (subscriptions : List (List ℕ × Topic)) (transactions : List (List ℕ × List Send))
@@ -228,8 +228,8 @@ module _ (names : List (List ℕ)) (frames : List RawFrame) (f : RawFrame) where
       let shut_here : is_open (id_of f) s.subscriptions ≡ false = third (has_other_ack f) (has_unknown_destination s f) (is_open (id_of f) s.subscriptions) (is_full s.subscriptions) faults.AckMode faults.UnknownDestination faults.SubIdInUse faults.TooManySubs checked.1 in
       let shut : is_open (id_of f) (subscribed names frames) ≡ false = subst (λ b. is_open (id_of f) (if b then [] else subscribed names frames) ≡ false) going shut_here in
       to_live commands.Subscribe going (connected-push _ _ going (ap is_disconnect e) checked.0
-        (subscribed-open names frames f (ap is_subscribe e) shut)
-        (begun-quiet names frames f (ap is_begin e) (ap is_end e) (not_send (ap is_send e))))
+      (subscribed-open names frames f (ap is_subscribe e) shut)
+      (begun-quiet names frames f (ap is_begin e) (ap is_end e) (not_send (ap is_send e))))
 
   pub unsubscribe-follows : Follows commands.Unsubscribe
   unsubscribe-follows e none =
@@ -237,8 +237,8 @@ module _ (names : List (List ℕ)) (frames : List RawFrame) (f : RawFrame) where
       let going : is_ended frames ≡ false = accepted-going commands.Unsubscribe names frames f none in
       let checked : (is_connected frames ≡ true) × (first_fault (checks_by commands.Unsubscribe s f) ≡ None) = connected-checks (checks_by commands.Unsubscribe s f) going none in
       to_live commands.Unsubscribe going (connected-push _ _ going (ap is_disconnect e) checked.0
-        (subscribed-close names frames f (ap is_subscribe e) (ap is_unsubscribe e))
-        (begun-quiet names frames f (ap is_begin e) (ap is_end e) (not_send (ap is_send e))))
+      (subscribed-close names frames f (ap is_subscribe e) (ap is_unsubscribe e))
+      (begun-quiet names frames f (ap is_begin e) (ap is_end e) (not_send (ap is_send e))))
 
   pub begin-follows : Follows commands.Begin
   begin-follows e none =
@@ -248,8 +248,8 @@ module _ (names : List (List ℕ)) (frames : List RawFrame) (f : RawFrame) where
       let shut_here : is_open (transaction_of f) s.transactions ≡ false = first (is_open (transaction_of f) s.transactions) (is_full s.transactions) faults.TxnInUse faults.TooManyTxns checked.1 in
       let shut : is_open (transaction_of f) (begun names frames) ≡ false = subst (λ b. is_open (transaction_of f) (if b then [] else begun names frames) ≡ false) going shut_here in
       to_live commands.Begin going (connected-push _ _ going (ap is_disconnect e) checked.0
-        (subscribed-quiet names frames f (ap is_subscribe e) (ap is_unsubscribe e))
-        (begun-open names frames f (ap is_begin e) (not_send (ap is_send e)) shut))
+      (subscribed-quiet names frames f (ap is_subscribe e) (ap is_unsubscribe e))
+      (begun-open names frames f (ap is_begin e) (not_send (ap is_send e)) shut))
 
   pub commit-follows : Follows commands.Commit
   commit-follows e none =
@@ -257,8 +257,8 @@ module _ (names : List (List ℕ)) (frames : List RawFrame) (f : RawFrame) where
       let going : is_ended frames ≡ false = accepted-going commands.Commit names frames f none in
       let checked : (is_connected frames ≡ true) × (first_fault (checks_by commands.Commit s f) ≡ None) = connected-checks (checks_by commands.Commit s f) going none in
       to_live commands.Commit going (connected-push _ _ going (ap is_disconnect e) checked.0
-        (subscribed-quiet names frames f (ap is_subscribe e) (ap is_unsubscribe e))
-        (begun-close names frames f (ap is_begin e) (ap is_end e) (not_send (ap is_send e))))
+      (subscribed-quiet names frames f (ap is_subscribe e) (ap is_unsubscribe e))
+      (begun-close names frames f (ap is_begin e) (ap is_end e) (not_send (ap is_send e))))
 
   pub abort-follows : Follows commands.Abort
   abort-follows e none =
@@ -266,8 +266,8 @@ module _ (names : List (List ℕ)) (frames : List RawFrame) (f : RawFrame) where
       let going : is_ended frames ≡ false = accepted-going commands.Abort names frames f none in
       let checked : (is_connected frames ≡ true) × (first_fault (checks_by commands.Abort s f) ≡ None) = connected-checks (checks_by commands.Abort s f) going none in
       to_live commands.Abort going (connected-push _ _ going (ap is_disconnect e) checked.0
-        (subscribed-quiet names frames f (ap is_subscribe e) (ap is_unsubscribe e))
-        (begun-close names frames f (ap is_begin e) (ap is_end e) (not_send (ap is_send e))))
+      (subscribed-quiet names frames f (ap is_subscribe e) (ap is_unsubscribe e))
+      (begun-close names frames f (ap is_begin e) (ap is_end e) (not_send (ap is_send e))))
 
   pub disconnect-follows : Follows commands.Disconnect
   disconnect-follows e none =
@@ -304,14 +304,14 @@ module _ (names : List (List ℕ)) (frames : List RawFrame) (f : RawFrame) where
     where
       by : is_ended frames ≡ false → is_connected frames ≡ true → (o : Option (List ℕ)) → first_of (codes "transaction") f.headers ≡ o → f.command ≡ commands.Send
           → option_map_or (λ x. record { names = names; phase = if is_connected frames then Connected else New; subscriptions = subscribed names frames; transactions = with_send x (send_of names f) (begun names frames) }) (first_of (codes "transaction") f.headers) (live names frames)
-            ≡ held_after names (frames ++ f ∷ [])
+          ≡ held_after names (frames ++ f ∷ [])
       by going connected None at e =
           let outside : (x : List ℕ) → is_send_in x f ≡ false = λ x. (λ i. is_send (e i) && option_map_or (λ y. bytes_eq y x) (at i) false) in
           rw at (connected-push (subscribed names frames) (begun names frames) going (ap is_disconnect e) connected
-            (subscribed-quiet names frames f (ap is_subscribe e) (ap is_unsubscribe e))
-            (begun-quiet names frames f (ap is_begin e) (ap is_end e) outside))
+          (subscribed-quiet names frames f (ap is_subscribe e) (ap is_unsubscribe e))
+          (begun-quiet names frames f (ap is_begin e) (ap is_end e) outside))
       by going connected (Some x) at e =
           let inside : (y : List ℕ) → is_send_in y f ≡ bytes_eq x y = λ y. (λ i. is_send (e i) && option_map_or (λ z. bytes_eq z y) (at i) false) in
           rw at (connected-push (subscribed names frames) (with_send x (send_of names f) (begun names frames)) going (ap is_disconnect e) connected
-            (subscribed-quiet names frames f (ap is_subscribe e) (ap is_unsubscribe e))
-            (begun-send names frames f (ap is_begin e) (ap is_end e) x inside))
+          (subscribed-quiet names frames f (ap is_subscribe e) (ap is_unsubscribe e))
+          (begun-send names frames f (ap is_begin e) (ap is_end e) x inside))

@@ -21,12 +21,14 @@ accepts command s f step new e does same_names follows frames stands =
     let held : Held = held_after s.names frames in
     let accepted : refusal_by command held f ≡ None = subst (λ h. refusal_by command h f ≡ None) stands does.accepted in
     let action : step.action ≡ action_by command held f = subst (λ h. step.action ≡ action_by command h f) stands does.action in
-    let after : new ≡ held_after s.names (frames ++ f ∷ []) = does.held ∙ ap (λ h. effect command h f) stands ∙ follows frames e accepted in
-    (record {
-      accepted = subst (λ c. refusal_by c held f ≡ None) (sym e) accepted;
-      action = subst (λ c. step.action ≡ action_by c held f) (sym e) action;
-      receipt = subst (λ c. step.receipt ≡ asked_receipt c f.headers) (sym e) does.receipt;
-    }, subst (λ names. new ≡ held_after names (frames ++ f ∷ [])) (sym same_names) after)
+    let after : new ≡ held_after s.names (frames ++ f ∷ []) = does.held ∙ ap (λ h. effect command h f) stands ∙ follows frames e accepted in (
+      record {
+        accepted = subst (λ c. refusal_by c held f ≡ None) (sym e) accepted;
+        action = subst (λ c. step.action ≡ action_by c held f) (sym e) action;
+        receipt = subst (λ c. step.receipt ≡ asked_receipt c f.headers) (sym e) does.receipt;
+      },
+      subst (λ names. new ≡ held_after names (frames ++ f ∷ [])) (sym same_names) after,
+    )
 
 connect_or_stomp : (command : Command) → is_connect command ≡ true → (command ≡ commands.Connect) ⊎ (command ≡ commands.Stomp)
 connect_or_stomp commands.Connect e = inl refl

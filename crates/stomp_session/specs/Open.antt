@@ -55,11 +55,11 @@ pub record Held : Type 0 where
 -- what a session holds after these accepted frames
 abbrev pub held_after : List (List ℕ) → List RawFrame → Held
 held_after names frames = record {
-    names = names;
-    phase = phase_of frames;
-    subscriptions = open_subscriptions names frames;
-    transactions = open_transactions names frames;
-  }
+  names = names;
+  phase = phase_of frames;
+  subscriptions = open_subscriptions names frames;
+  transactions = open_transactions names frames;
+}
 
 -- The session holds just what is open after these accepted frames, and is connected or closed as they say.
 abbrev pub StandsFor : Held → List RawFrame → Type 0

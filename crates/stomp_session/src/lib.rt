@@ -15,3 +15,6 @@ pub use fault::SessionFault;
 pub use names::Names;
 pub use phase::Phase;
 pub use session::Session;
+
+#[cfg(test)]
+mod tests;

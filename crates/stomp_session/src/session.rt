@@ -25,8 +25,8 @@ use std::alloc::Global;
 use std::marker::Model;
 use std::sync::Arc;
 use stomp_frame::{
-    AbortFrame, BeginFrame, ClientFrame, CommitFrame, ConnectFrame, DisconnectFrame, Headers, NoMemory, Octets,
-    RawFrame, SendFrame, SubscribeFrame, UnsubscribeFrame,
+    AbortFrame, BeginFrame, ClientFrame, CommitFrame, ConnectFrame, DisconnectFrame, Headers,
+    NoMemory, Octets, RawFrame, SendFrame, SubscribeFrame, UnsubscribeFrame,
 };
 
 /// The session of one connection: how far it is, and what its frames have opened. In contracts it is what it holds.

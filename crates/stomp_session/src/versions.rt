@@ -29,5 +29,6 @@ fn trimmed(text: &[u8]) -> &[u8]
 pub(crate) fn has_version(version: &[u8], text: &[u8]) -> bool
     ensures { result ≡ has_version version.now text.now }
 {
-    text.split(|b| *b == b',').any(|item| trimmed(item) == version)
+    text.split(|b| *b == b',')
+        .any(|item| trimmed(item) == version)
 }

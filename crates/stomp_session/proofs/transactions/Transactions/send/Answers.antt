@@ -25,6 +25,6 @@ returns-clause-ok c =
     let named : first_of (codes "transaction") c.args.frame.raw.headers ≡ Some c.unwrap-name.result.now = sym c.first.ensures ∙ ap (option_map (λ v. v.now)) c.unwrap-name.ensures in
     let at : lookup (is_key c.unwrap-name.result.now) es ≡ Some c.unwrap-draft.result.now = sym c.get_mut.ensures.value ∙ ap option_copied_mut c.unwrap-draft.ensures in
     elim c.match-add.branch [
-        in-Ok w ↦ rw (w.result-is, (c.get_mut.follows.holds c.add.new.self).0, w.in-Ok.ensures.ok, named, ← c.self.view_is) (entries_of-set_value c.unwrap-name.result.now _ es c.unwrap-draft.result.now at)
+      | in-Ok w ↦ rw (w.result-is, (c.get_mut.follows.holds c.add.new.self).0, w.in-Ok.ensures.ok, named, ← c.self.view_is) (entries_of-set_value c.unwrap-name.result.now _ es c.unwrap-draft.result.now at)
       | in-Err w ↦ rw w.result-is tt
     ]
