@@ -196,12 +196,12 @@ impl Session {
         ensures names { self.new.names ≡ self.old.names }
     {
         self.connected()?;
-        let receipt = receipt(self.alloc, &frame.raw.headers)?;
-        self.end();
-        Ok(Step {
+        let step = Step {
             action: Action::Disconnect,
-            receipt,
-        })
+            receipt: receipt(self.alloc, &frame.raw.headers)?,
+        };
+        self.end();
+        Ok(step)
     }
 
     fn begin(&mut self, frame: &BeginFrame) -> Result<Step, SessionFault>
@@ -267,9 +267,10 @@ impl Session {
         ensures refused { IfErr result (Denies commands.Send self.now frame.now.raw) }
     {
         self.connected()?;
-        let Some(topic) = self.names.find(frame.destination()) else {
-            return Err(SessionFault::UnknownDestination);
-        };
+        let topic = self
+            .names
+            .find(frame.destination())
+            .ok_or(SessionFault::UnknownDestination)?;
         if let Some(name) = frame.raw.headers.first(b"transaction") {
             self.transactions.takes_send(name)?;
         }
@@ -304,7 +305,24 @@ impl Session {
         }
     }
 
-    /// Takes a frame: what the connection has to do for it, or why it's refused, with the frame handed back.
+    // A refusal closes the session.
+    fn refused(
+        &mut self,
+        frame: ClientFrame,
+        fault: SessionFault,
+    ) -> Result<Step, (ClientFrame, SessionFault)>
+        ensures told { result ≡ Err (frame, fault) }
+        ensures after { self.new ≡ closed self.old }
+    {
+        self.end();
+        Err((frame, fault))
+    }
+
+    /// Takes a frame: what the connection has to do for it, or the first of its refusals, with the frame handed back.
+    ///
+    /// 73 where the session is closed. A CONNECT is refused by 61 and 62, any other frame before it by 60. SUBSCRIBE: 68, 67, 63, 69.
+    /// UNSUBSCRIBE: 64. BEGIN: 65, 70. SEND: 67, 66, 71. COMMIT and ABORT: 66. Want of memory, 72, comes last. Each refusal but 73 closes
+    /// the session, as DISCONNECT does: its open subscriptions end, and its open transactions are aborted.
     pub fn step(&mut self, frame: ClientFrame) -> Result<Step, (ClientFrame, SessionFault)>
         ensures accepted { IfOk result (λ step. (frames : List Frame) → StandsFor self.old frames
             → Accepts (held_after self.old.names frames) (raw_of frame) step × StandsFor self.new (frames ++ raw_of frame ∷ [])) }
@@ -321,17 +339,11 @@ impl Session {
                 match frame {
                     $(ClientFrame::$case(frame) => match self.$method(&frame) {
                         Ok(step) => Ok(step),
-                        Err(fault) => {
-                            self.end();
-                            Err((ClientFrame::$case(frame), fault))
-                        }
+                        Err(fault) => self.refused(ClientFrame::$case(frame), fault),
                     },)*
                     $(ClientFrame::$owned(frame) => match self.$owner(frame) {
                         Ok(step) => Ok(step),
-                        Err((frame, fault)) => {
-                            self.end();
-                            Err((ClientFrame::$owned(frame), fault))
-                        }
+                        Err((frame, fault)) => self.refused(ClientFrame::$owned(frame), fault),
                     },)*
                 }
             };

@@ -7,6 +7,7 @@ ghost use Rattle.stomp_frame.specs.Headers.{IsText, IsPair};
 use crate::{Names, Session, SessionFault, Step};
 use std::alloc::Global;
 use std::sync::Arc;
+use std::test::Fail;
 use stomp_frame::{ClientFrame, Command, Headers, NoMemory, Octets, RawFrame, classify};
 
 pub(super) type Pairs<'a> = &'a [(&'a [u8], &'a [u8])];
@@ -75,6 +76,14 @@ pub(super) fn number(answer: &Answer) -> u32 {
     }
 }
 
+/// Whether the receipt is this one.
+pub(super) fn has(receipt: &Option<Octets>, want: &[u8]) -> bool {
+    match receipt {
+        Some(receipt) => receipt.as_slice() == want,
+        None => false,
+    }
+}
+
 /// A client of a server with the topics `A` and `B`.
 #[derive(Drop)]
 pub(super) struct Client {
@@ -107,6 +116,14 @@ impl Client {
     pub(super) fn answer(&mut self, command: Command, pairs: Pairs) -> Result<Answer, NoMemory> {
         let frame = frame(self.alloc, command, pairs)?;
         Ok(self.session.step(frame))
+    }
+
+    /// What an accepted frame is answered.
+    pub(super) fn step(&mut self, command: Command, pairs: Pairs) -> Result<Step, Fail> {
+        match self.answer(command, pairs)? {
+            Ok(step) => Ok(step),
+            Err(_) => Err(Fail::new("the frame is refused")),
+        }
     }
 
     pub(super) fn tell(&mut self, command: Command, pairs: Pairs) -> Result<u32, NoMemory> {

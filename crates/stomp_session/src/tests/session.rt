@@ -1,17 +1,10 @@
 //! The session's table: connections and subscriptions.
 
-use super::client::Client;
+use super::client::{Client, has};
 use crate::{Action, SessionFault, Step};
 use mcast_txn::Topic;
 use std::test::Fail;
-use stomp_frame::{Command, Octets};
-
-fn is_receipt(receipt: &Option<Octets>, want: &[u8]) -> bool {
-    match receipt {
-        Some(receipt) => receipt.as_slice() == want,
-        None => false,
-    }
-}
+use stomp_frame::Command;
 
 #[test]
 fn a_connect_comes_first_and_once(rt: HostRuntime) -> Result<(), Fail> {
@@ -88,30 +81,19 @@ fn sixty_four_subscriptions(rt: HostRuntime) -> Result<(), Fail> {
 #[test]
 fn what_a_subscription_answers(rt: HostRuntime) -> Result<(), Fail> {
     let mut client = Client::connected(rt.alloc())?;
-    let answer = client.answer(
+    let Step { action, receipt } = client.step(
         Command::Subscribe,
         &[(b"id", b"s"), (b"destination", b"B"), (b"receipt", b"r")],
     )?;
-    let Ok(
-        Step {
-            action: Action::Subscribe(id, topic),
-            receipt,
-        },
-    ) = answer
-    else {
+    assert!(rt; has(&receipt, b"r"));
+    let Action::Subscribe(id, topic) = action else {
         return Err(Fail::new("no Subscribe"));
     };
     assert!(rt; id.as_slice() == b"s".as_slice());
     assert_eq!(rt; topic, Topic(1));
-    assert!(rt; is_receipt(&receipt, b"r"));
-    let answer = client.answer(Command::Unsubscribe, &[(b"id", b"s")])?;
-    let Ok(
-        Step {
-            action: Action::Unsubscribe(id),
-            receipt: None,
-        },
-    ) = answer
-    else {
+    let Step { action, receipt } = client.step(Command::Unsubscribe, &[(b"id", b"s")])?;
+    assert!(rt; receipt.is_none());
+    let Action::Unsubscribe(id) = action else {
         return Err(Fail::new("no Unsubscribe"));
     };
     assert!(rt; id.as_slice() == b"s".as_slice());
@@ -121,7 +103,7 @@ fn what_a_subscription_answers(rt: HostRuntime) -> Result<(), Fail> {
 #[test]
 fn a_connection_begins_and_ends(rt: HostRuntime) -> Result<(), Fail> {
     let mut client = Client::new(rt.alloc())?;
-    let answer = client.answer(
+    let Step { action, receipt } = client.step(
         Command::Stomp,
         &[
             (b"accept-version", b"1.2"),
@@ -129,26 +111,11 @@ fn a_connection_begins_and_ends(rt: HostRuntime) -> Result<(), Fail> {
             (b"receipt", b"r"),
         ],
     )?;
-    let Ok(
-        Step {
-            action: Action::Connected,
-            receipt: None,
-        },
-    ) = answer
-    else {
-        return Err(Fail::new("no Connected"));
-    };
-    let answer = client.answer(Command::Disconnect, &[(b"receipt", b"q")])?;
-    let Ok(
-        Step {
-            action: Action::Disconnect,
-            receipt,
-        },
-    ) = answer
-    else {
-        return Err(Fail::new("no Disconnect"));
-    };
-    assert!(rt; is_receipt(&receipt, b"q"));
+    assert!(rt; matches!(&action, Action::Connected));
+    assert!(rt; receipt.is_none());
+    let Step { action, receipt } = client.step(Command::Disconnect, &[(b"receipt", b"q")])?;
+    assert!(rt; matches!(&action, Action::Disconnect));
+    assert!(rt; has(&receipt, b"q"));
     assert_eq!(rt; client.unsubscribe(b"a")?, 73);
     Ok(())
 }

@@ -1,6 +1,6 @@
 //! The session's table: transactions.
 
-use super::client::Client;
+use super::client::{Client, has};
 use crate::{Action, Step};
 use mcast_txn::Topic;
 use std::test::Fail;
@@ -64,20 +64,12 @@ fn sixty_four_sends(rt: HostRuntime) -> Result<(), Fail> {
 fn a_commit_without_sends_is_nothing(rt: HostRuntime) -> Result<(), Fail> {
     let mut client = Client::connected(rt.alloc())?;
     assert_eq!(rt; client.begin(b"x")?, 0);
-    let answer = client.answer(
+    let Step { action, receipt } = client.step(
         Command::Commit,
         &[(b"transaction", b"x"), (b"receipt", b"r")],
     )?;
-    let Ok(
-        Step {
-            action: Action::Nothing,
-            receipt: Some(receipt),
-        },
-    ) = answer
-    else {
-        return Err(Fail::new("no Nothing with a receipt"));
-    };
-    assert!(rt; receipt.as_slice() == b"r".as_slice());
+    assert!(rt; matches!(&action, Action::Nothing));
+    assert!(rt; has(&receipt, b"r"));
     Ok(())
 }
 
@@ -89,14 +81,8 @@ fn a_commit_has_the_sends_of_its_transaction(rt: HostRuntime) -> Result<(), Fail
     assert_eq!(rt; client.send(b"B", b"x")?, 0);
     assert_eq!(rt; client.send(b"A", b"y")?, 0);
     assert_eq!(rt; client.send(b"B", b"x")?, 0);
-    let answer = client.answer(Command::Commit, &[(b"transaction", b"x")])?;
-    let Ok(
-        Step {
-            action: Action::Commit(txn),
-            receipt: None,
-        },
-    ) = answer
-    else {
+    let step = client.step(Command::Commit, &[(b"transaction", b"x")])?;
+    let Action::Commit(txn) = step.action else {
         return Err(Fail::new("no Commit"));
     };
     assert_eq!(rt; txn.len(), 2);
@@ -107,18 +93,15 @@ fn a_commit_has_the_sends_of_its_transaction(rt: HostRuntime) -> Result<(), Fail
 #[test]
 fn a_send_outside_a_transaction_is_one_of_its_own(rt: HostRuntime) -> Result<(), Fail> {
     let mut client = Client::connected(rt.alloc())?;
-    let answer = client.answer(Command::Send, &[(b"destination", b"B"), (b"receipt", b"r")])?;
-    let Ok(
-        Step {
-            action: Action::Commit(txn),
-            receipt: Some(receipt),
-        },
-    ) = answer
-    else {
-        return Err(Fail::new("no Commit with a receipt"));
+    let Step { action, receipt } = client.step(
+        Command::Send,
+        &[(b"destination", b"B"), (b"receipt", b"r")],
+    )?;
+    assert!(rt; has(&receipt, b"r"));
+    let Action::Commit(txn) = action else {
+        return Err(Fail::new("no Commit"));
     };
     assert_eq!(rt; txn.len(), 1);
     assert!(rt; txn.topics().as_slice() == [Topic(1)].as_slice());
-    assert!(rt; receipt.as_slice() == b"r".as_slice());
     Ok(())
 }
