@@ -1,0 +1,169 @@
+//! A client that sends frames to a session.
+
+ghost use Rattle.std.specs.Prelude.{◌≡◌, ◌&&◌, nat_le, IfOk};
+ghost use Rattle.std.specs.List.{list_all};
+ghost use Rattle.stomp_frame.specs.Headers.{IsText, IsPair};
+
+use crate::{Names, Session, SessionFault, Step};
+use std::alloc::Global;
+use std::sync::Arc;
+use std::test::Fail;
+use stomp_frame::{ClientFrame, Command, Headers, NoMemory, Octets, RawFrame, classify};
+
+pub(super) type Pairs<'a> = &'a [(&'a [u8], &'a [u8])];
+
+pub(super) type Answer = Result<Step, (ClientFrame, SessionFault)>;
+
+fn is_ascii(octets: &[u8]) -> bool
+    ensures { result ≡ list_all (λ b. nat_le 1 b && nat_le b 127) octets.now }
+{
+    octets.iter().all(|b| 1 <= *b && *b <= 127)
+}
+
+/// The octets, where they are ASCII without NULL, as those of these tests are.
+fn text(alloc: Global, octets: &[u8]) -> Result<Octets, NoMemory>
+    ensures { IfOk result (λ o. IsText o) }
+{
+    if !is_ascii(octets) {
+        return Err(NoMemory);
+    }
+    let text = Octets::from_slice(alloc, octets)?;
+    Ok(text)
+}
+
+fn pair(alloc: Global, name: &[u8], value: &[u8]) -> Result<(Octets, Octets), NoMemory>
+    ensures { IfOk result (λ p. IsPair p) }
+{
+    let name = text(alloc, name)?;
+    if name.is_empty() {
+        return Err(NoMemory);
+    }
+    Ok((name, text(alloc, value)?))
+}
+
+/// A frame with these headers; its body is `m` where it is a SEND.
+pub(super) fn frame(
+    alloc: Global,
+    command: Command,
+    pairs: Pairs,
+) -> Result<ClientFrame, NoMemory> {
+    let mut headers = Headers::new(alloc);
+    for (name, value) in pairs {
+        let (name, value) = pair(alloc, name, value)?;
+        headers.push(name, value)?;
+    }
+    let body = if command == Command::Send {
+        b"m".as_slice()
+    } else {
+        b"".as_slice()
+    };
+    let raw = RawFrame {
+        command,
+        headers,
+        body: Octets::from_slice(alloc, body)?,
+    };
+    match classify(raw) {
+        Ok(frame) => Ok(frame),
+        Err(_) => Err(NoMemory),
+    }
+}
+
+/// The number of the fault, or 0 where the frame was accepted.
+pub(super) fn number(answer: &Answer) -> u32 {
+    match answer {
+        Ok(_) => 0,
+        Err((_, fault)) => fault.number(),
+    }
+}
+
+/// Whether the receipt is this one.
+pub(super) fn has(receipt: &Option<Octets>, want: &[u8]) -> bool {
+    match receipt {
+        Some(receipt) => receipt.as_slice() == want,
+        None => false,
+    }
+}
+
+/// A client of a server with the topics `A` and `B`.
+#[derive(Drop)]
+pub(super) struct Client {
+    alloc: Global,
+    session: Session,
+}
+
+impl Client {
+    pub(super) fn new(alloc: Global) -> Result<Client, NoMemory> {
+        let mut names = Names::new(alloc);
+        for name in [b"A".as_slice(), b"B"] {
+            if names.len() < 2 {
+                names.add(name)?;
+            }
+        }
+        let names = Arc::new(alloc, names)?;
+        Ok(Client {
+            alloc,
+            session: Session::new(alloc, names),
+        })
+    }
+
+    /// A client whose CONNECT was accepted.
+    pub(super) fn connected(alloc: Global) -> Result<Client, NoMemory> {
+        let mut client = Client::new(alloc)?;
+        client.connect(b"1.2")?;
+        Ok(client)
+    }
+
+    pub(super) fn answer(&mut self, command: Command, pairs: Pairs) -> Result<Answer, NoMemory> {
+        let frame = frame(self.alloc, command, pairs)?;
+        Ok(self.session.step(frame))
+    }
+
+    /// What an accepted frame is answered.
+    pub(super) fn step(&mut self, command: Command, pairs: Pairs) -> Result<Step, Fail> {
+        match self.answer(command, pairs)? {
+            Ok(step) => Ok(step),
+            Err(_) => Err(Fail::new("the frame is refused")),
+        }
+    }
+
+    pub(super) fn tell(&mut self, command: Command, pairs: Pairs) -> Result<u32, NoMemory> {
+        Ok(number(&self.answer(command, pairs)?))
+    }
+
+    pub(super) fn connect(&mut self, versions: &[u8]) -> Result<u32, NoMemory> {
+        self.tell(
+            Command::Connect,
+            &[(b"accept-version", versions), (b"host", b"h")],
+        )
+    }
+
+    pub(super) fn subscribe(&mut self, id: &[u8], destination: &[u8]) -> Result<u32, NoMemory> {
+        self.tell(
+            Command::Subscribe,
+            &[(b"id", id), (b"destination", destination)],
+        )
+    }
+
+    pub(super) fn unsubscribe(&mut self, id: &[u8]) -> Result<u32, NoMemory> {
+        self.tell(Command::Unsubscribe, &[(b"id", id)])
+    }
+
+    pub(super) fn begin(&mut self, name: &[u8]) -> Result<u32, NoMemory> {
+        self.tell(Command::Begin, &[(b"transaction", name)])
+    }
+
+    pub(super) fn send(&mut self, destination: &[u8], name: &[u8]) -> Result<u32, NoMemory> {
+        self.tell(
+            Command::Send,
+            &[(b"destination", destination), (b"transaction", name)],
+        )
+    }
+
+    pub(super) fn commit(&mut self, name: &[u8]) -> Result<u32, NoMemory> {
+        self.tell(Command::Commit, &[(b"transaction", name)])
+    }
+
+    pub(super) fn end(&mut self) {
+        self.session.end();
+    }
+}
