@@ -11,7 +11,7 @@ use Rattle.mcast_txn.specs.declared.ticket.Ticket.{Ticket}
 use Rattle.mcast_txn.specs.Ballot.{given_rows, numbers_of}
 use Rattle.mcast_txn.specs.Part.{parts_of, part_at}
 use Rattle.mcast_txn.specs.Slots.{Slots, free_slots, with_slot}
-use Rattle.mcast_txn.specs.Stamp.{stamp_lt, later, greatest}
+use Rattle.mcast_txn.specs.Stamp.{stamp_lt, greatest}
 use Rattle.mcast_txn.specs.Topics.{IsTopicSet}
 use Rattle.mcast_txn.specs.Transaction.{TopicPart, topics_of}
 use Rattle.mcast_txn.proofs.StampLemmas.{lt_trans}

@@ -103,25 +103,38 @@ fn a_number_is_above_the_floor(rt: HostRuntime) -> Result<(), Fail> {
     Ok(())
 }
 
+/// The floor that the flight's verdict leaves, if it has one.
+fn floor_of(flying: Flying) -> Option<Stamp> {
+    match flying.decide() {
+        Ok((gate, _verdict)) => Some(gate.floor()),
+        Err(_refused) => None,
+    }
+}
+
 #[test]
 fn a_flight_needs_one_ticket_of_each_topic(rt: HostRuntime) -> Result<(), Fail> {
-    let gate = Gate::new(Sender(6));
-    assert_eq!(rt; gate.sender(), Sender(6));
-    let mut flying = begun(rt.alloc(), gate, &[0, 1, 0])?;
-    assert_eq!(rt; flying.topics().as_slice(), [Topic(0), Topic(1)].as_slice());
+    let mut flying = begun(rt.alloc(), Gate::new(Sender(6)), &[0, 1, 0])?;
     put(&mut flying, 0, 1)?;
     assert_eq!(rt; put(&mut flying, 0, 1), Err(GateFault::Twice));
     assert_eq!(rt; put(&mut flying, 5, 1), Err(GateFault::NotNamed));
-    let Err((mut flying, fault)) = flying.decide() else {
-        return Err(Fail::new("decided without a ticket"));
-    };
-    assert_eq!(rt; fault, GateFault::Incomplete);
-    put(&mut flying, 1, 1)?;
+    match flying.decide() {
+        Ok(_decided) => Err(Fail::new("decided without a ticket")),
+        Err((mut flying, fault)) => {
+            assert_eq!(rt; fault, GateFault::Incomplete);
+            put(&mut flying, 1, 1)?;
+            assert_eq!(rt; floor_of(flying), Some(stamp(1, 1)));
+            Ok(())
+        }
+    }
+}
+
+#[test]
+fn a_flight_has_its_transactions_parts(rt: HostRuntime) -> Result<(), Fail> {
+    let gate = Gate::new(Sender(6));
+    assert_eq!(rt; gate.sender(), Sender(6));
+    let mut flying = begun(rt.alloc(), gate, &[0, 1, 0])?;
+    assert_eq!(rt; flying.topics().len(), 2);
     assert!(rt; flying.part(Topic(1)).is_some());
     assert!(rt; flying.part(Topic(1)).is_none());
-    let Ok((gate, _)) = flying.decide() else {
-        return Err(Fail::new("not decided"));
-    };
-    assert_eq!(rt; gate.floor(), stamp(1, 1));
     Ok(())
 }
