@@ -51,7 +51,7 @@ pub none_is_open : open_transactions names (connect ∷ begin (codes "x") ∷ di
 none_is_open = refl
 
 pub phases_follow : (phase_of [] ≡ New) × (phase_of (connect ∷ []) ≡ Connected) × (phase_of (connect ∷ disconnect ∷ []) ≡ Closed)
-phases_follow = (refl, (refl, refl))
+phases_follow = (refl, refl, refl)
 
 -- a frame before the CONNECT; an id that is open; the destination comes before the id
 pub refusals_in_order :
@@ -59,7 +59,7 @@ pub refusals_in_order :
     × (refusal (held_after names (connect ∷ subscribe (codes "a") (codes "A") ∷ [])) (subscribe (codes "a") (codes "A")) ≡ Some faults.SubIdInUse)
     × (refusal (held_after names (connect ∷ subscribe (codes "a") (codes "A") ∷ [])) (subscribe (codes "a") (codes "q")) ≡ Some faults.UnknownDestination)
     × (refusal (held_after names (connect ∷ subscribe (codes "a") (codes "A") ∷ unsubscribe (codes "a") ∷ [])) (subscribe (codes "a") (codes "A")) ≡ None)
-refusals_in_order = (refl, (refl, (refl, refl)))
+refusals_in_order = (refl, refl, refl, refl)
 
 pub versions : (has_version (codes "1.2") (codes "1.0, 1.2") ≡ true) × (has_version (codes "1.2") (codes " 1.2 ") ≡ true) × (has_version (codes "1.2") (codes "11.2") ≡ false) × (has_version (codes "1.2") [] ≡ false)
-versions = (refl, (refl, (refl, refl)))
+versions = (refl, refl, refl, refl)

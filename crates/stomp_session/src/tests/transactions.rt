@@ -22,8 +22,9 @@ fn a_commit_has_the_sends_of_its_transaction(rt: HostRuntime) -> Result<(), Fail
     let mut client = Client::begun(rt.alloc())?;
     client.letters(b'm', b'B', b'x')?;
     client.letters(b'm', b'B', b'x')?;
-    let step = client.step(Command::Commit, &[(b"transaction", b"x")])?;
-    let Action::Commit(txn) = step.action else {
+    let Step { action, receipt } = client.step(Command::Commit, &[(b"transaction", b"x")])?;
+    assert!(rt; receipt.is_none());
+    let Action::Commit(txn) = action else {
         return Err(Fail::new("no Commit"));
     };
     assert_eq!(rt; txn.len(), 2);
