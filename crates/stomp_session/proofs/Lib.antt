@@ -2,3 +2,4 @@ pub mod Entries
 pub mod Opened
 pub mod History
 pub mod Taken
+pub mod Examples

@@ -106,10 +106,11 @@ impl Client {
         })
     }
 
-    /// A client whose CONNECT was accepted.
-    pub(super) fn connected(alloc: Global) -> Result<Client, NoMemory> {
+    /// A client whose CONNECT was accepted, and then a BEGIN of `x`.
+    pub(super) fn begun(alloc: Global) -> Result<Client, NoMemory> {
         let mut client = Client::new(alloc)?;
         client.connect(b"1.2")?;
+        client.letters(b'b', b'x', b' ')?;
         Ok(client)
     }
 
@@ -130,6 +131,24 @@ impl Client {
         Ok(number(&self.answer(command, pairs)?))
     }
 
+    /// A frame in three letters: `c` is a CONNECT, `s` a SUBSCRIBE with id and destination, `u` an UNSUBSCRIBE with id, `b`, `e`, `a` a
+    /// BEGIN, a COMMIT, an ABORT with a transaction, `m` a SEND with destination and transaction, any other a DISCONNECT.
+    pub(super) fn letters(&mut self, letter: u8, x: u8, y: u8) -> Result<u32, NoMemory> {
+        match letter {
+            b'c' => self.connect(b"1.2"),
+            b's' => self.tell(Command::Subscribe, &[(b"id", &[x]), (b"destination", &[y])]),
+            b'u' => self.tell(Command::Unsubscribe, &[(b"id", &[x])]),
+            b'b' => self.tell(Command::Begin, &[(b"transaction", &[x])]),
+            b'e' => self.tell(Command::Commit, &[(b"transaction", &[x])]),
+            b'a' => self.tell(Command::Abort, &[(b"transaction", &[x])]),
+            b'm' => self.tell(
+                Command::Send,
+                &[(b"destination", &[x]), (b"transaction", &[y])],
+            ),
+            _ => self.tell(Command::Disconnect, &[]),
+        }
+    }
+
     pub(super) fn connect(&mut self, versions: &[u8]) -> Result<u32, NoMemory> {
         self.tell(
             Command::Connect,
@@ -137,33 +156,22 @@ impl Client {
         )
     }
 
-    pub(super) fn subscribe(&mut self, id: &[u8], destination: &[u8]) -> Result<u32, NoMemory> {
-        self.tell(
-            Command::Subscribe,
-            &[(b"id", id), (b"destination", destination)],
-        )
-    }
-
-    pub(super) fn unsubscribe(&mut self, id: &[u8]) -> Result<u32, NoMemory> {
-        self.tell(Command::Unsubscribe, &[(b"id", id)])
-    }
-
-    pub(super) fn begin(&mut self, name: &[u8]) -> Result<u32, NoMemory> {
-        self.tell(Command::Begin, &[(b"transaction", name)])
-    }
-
-    pub(super) fn send(&mut self, destination: &[u8], name: &[u8]) -> Result<u32, NoMemory> {
-        self.tell(
-            Command::Send,
-            &[(b"destination", destination), (b"transaction", name)],
-        )
-    }
-
-    pub(super) fn commit(&mut self, name: &[u8]) -> Result<u32, NoMemory> {
-        self.tell(Command::Commit, &[(b"transaction", name)])
-    }
-
     pub(super) fn end(&mut self) {
         self.session.end();
     }
+}
+
+/// The number that the last frame of a script is answered, where each one before was accepted; else 1000.
+pub(super) fn last_number(alloc: Global, script: &[u8]) -> Result<u32, NoMemory> {
+    let mut client = Client::new(alloc)?;
+    let mut last = 0;
+    for frame in script.chunks(4) {
+        if let [letter, x, y, ..] = frame {
+            if last != 0 {
+                return Ok(1000);
+            }
+            last = client.letters(*letter, *x, *y)?;
+        }
+    }
+    Ok(last)
 }

@@ -1,25 +1,47 @@
-//! The session's table: connections and subscriptions.
+//! The session's table: one row for each refusal but want of memory.
 
-use super::client::{Client, has};
-use crate::{Action, SessionFault, Step};
-use mcast_txn::Topic;
+use super::client::{Client, has, last_number};
+use crate::{Action, Step};
 use std::test::Fail;
 use stomp_frame::Command;
 
+/// Scripts, each with the number that its last frame is answered: 0 where it's accepted.
+const ROWS: [(&[u8], u32); 22] = [
+    (b"saA", 60),
+    (b"c..,c..", 61),
+    (b"c..,saA,saB", 63),
+    (b"c..,saA,ua.,saB", 0),
+    (b"c..,uq.", 64),
+    (b"c..,saq", 67),
+    (b"c..,saA,saq", 67),
+    (b"c..,bx.,bx.", 65),
+    (b"c..,bx.,ex.,bx.", 0),
+    (b"c..,bx.,ax.,bx.", 0),
+    (b"c..,eq.", 66),
+    (b"c..,aq.", 66),
+    (b"c..,bx.,ex.,ex.", 66),
+    (b"c..,bx.,ax.,ex.", 66),
+    (b"c..,mAx", 66),
+    (b"c..,mqx", 67),
+    (b"c..,bx.,mqx", 67),
+    (b"c..,bx.,mAx,ex.", 0),
+    (b"c..,bx.,mAy", 66),
+    (b"c..,d..", 0),
+    (b"c..,d..,saA", 73),
+    (b"bx.", 60),
+];
+
 #[test]
-fn a_connect_comes_first_and_once(rt: HostRuntime) -> Result<(), Fail> {
-    let alloc = rt.alloc();
-    let mut early = Client::new(alloc)?;
-    assert_eq!(rt; early.subscribe(b"a", b"A")?, 60);
-    assert_eq!(rt; early.connect(b"1.2")?, 73);
-    let mut twice = Client::connected(alloc)?;
-    assert_eq!(rt; twice.connect(b"1.2")?, 61);
-    assert_eq!(rt; twice.unsubscribe(b"a")?, 73);
+fn the_table(rt: HostRuntime) -> Result<(), Fail> {
+    for (script, want) in ROWS {
+        let told = last_number(rt.alloc(), script)?;
+        assert_eq!(rt; told, want);
+    }
     Ok(())
 }
 
 #[test]
-fn the_version_is_one_of_those_that_the_client_speaks(rt: HostRuntime) -> Result<(), Fail> {
+fn versions(rt: HostRuntime) -> Result<(), Fail> {
     let rows: [(&[u8], u32); 7] = [
         (b"1.2", 0),
         (b"1.0, 1.2", 0),
@@ -31,34 +53,21 @@ fn the_version_is_one_of_those_that_the_client_speaks(rt: HostRuntime) -> Result
     ];
     for (versions, want) in rows {
         let mut client = Client::new(rt.alloc())?;
-        assert_eq!(rt; client.connect(versions)?, want);
+        let told = client.connect(versions)?;
+        assert_eq!(rt; told, want);
     }
     Ok(())
 }
 
 #[test]
-fn a_subscription_is_open_until_its_unsubscribe(rt: HostRuntime) -> Result<(), Fail> {
-    let alloc = rt.alloc();
-    let mut client = Client::connected(alloc)?;
-    assert_eq!(rt; client.subscribe(b"a", b"A")?, 0);
-    assert_eq!(rt; client.unsubscribe(b"a")?, 0);
-    assert_eq!(rt; client.subscribe(b"a", b"B")?, 0);
-    assert_eq!(rt; client.subscribe(b"a", b"A")?, 63);
-    let mut unknown = Client::connected(alloc)?;
-    assert_eq!(rt; unknown.unsubscribe(b"q")?, 64);
-    Ok(())
-}
-
-#[test]
 fn an_ack_is_auto(rt: HostRuntime) -> Result<(), Fail> {
-    let rows: [(&[u8], &[u8], u32); 4] = [
+    let rows: [(&[u8], &[u8], u32); 3] = [
         (b"auto", b"A", 0),
-        (b"client", b"A", 68),
         (b"client", b"q", 68),
         (b"auto", b"q", 67),
     ];
     for (ack, destination, want) in rows {
-        let mut client = Client::connected(rt.alloc())?;
+        let mut client = Client::begun(rt.alloc())?;
         let told = client.tell(
             Command::Subscribe,
             &[(b"id", b"a"), (b"destination", destination), (b"ack", ack)],
@@ -69,18 +78,41 @@ fn an_ack_is_auto(rt: HostRuntime) -> Result<(), Fail> {
 }
 
 #[test]
-fn sixty_four_subscriptions(rt: HostRuntime) -> Result<(), Fail> {
-    let mut client = Client::connected(rt.alloc())?;
-    for k in 0..64u8 {
-        assert_eq!(rt; client.subscribe(&[64 + k % 63, 64 + k / 63], b"A")?, 0);
-    }
-    assert_eq!(rt; client.subscribe(b"one more", b"A")?, 69);
+fn a_fault_and_an_end_close(rt: HostRuntime) -> Result<(), Fail> {
+    let mut faulty = Client::begun(rt.alloc())?;
+    faulty.letters(b'u', b'q', b' ')?;
+    let told = faulty.letters(b's', b'a', b'A')?;
+    assert_eq!(rt; told, 73);
+    let mut ended = Client::begun(rt.alloc())?;
+    ended.end();
+    let told = ended.letters(b's', b'a', b'A')?;
+    assert_eq!(rt; told, 73);
     Ok(())
 }
 
 #[test]
-fn what_a_subscription_answers(rt: HostRuntime) -> Result<(), Fail> {
-    let mut client = Client::connected(rt.alloc())?;
+fn at_most_sixty_four(rt: HostRuntime) -> Result<(), Fail> {
+    let rows: [(u8, u32); 3] = [(b's', 69), (b'b', 70), (b'm', 71)];
+    for (letter, want) in rows {
+        let mut client = Client::begun(rt.alloc())?;
+        let mut told = 0;
+        for k in 0..65u8 {
+            if told == 0 {
+                told = match letter {
+                    b's' => client.letters(b's', 127 - k, b'A')?,
+                    b'b' => client.letters(b'b', k + 1, b' ')?,
+                    _ => client.letters(b'm', b'A', b'x')?,
+                };
+            }
+        }
+        assert_eq!(rt; told, want);
+    }
+    Ok(())
+}
+
+#[test]
+fn a_subscription_has_its_receipt(rt: HostRuntime) -> Result<(), Fail> {
+    let mut client = Client::begun(rt.alloc())?;
     let Step { action, receipt } = client.step(
         Command::Subscribe,
         &[(b"id", b"s"), (b"destination", b"B"), (b"receipt", b"r")],
@@ -90,18 +122,12 @@ fn what_a_subscription_answers(rt: HostRuntime) -> Result<(), Fail> {
         return Err(Fail::new("no Subscribe"));
     };
     assert!(rt; id.as_slice() == b"s".as_slice());
-    assert_eq!(rt; topic, Topic(1));
-    let Step { action, receipt } = client.step(Command::Unsubscribe, &[(b"id", b"s")])?;
-    assert!(rt; receipt.is_none());
-    let Action::Unsubscribe(id) = action else {
-        return Err(Fail::new("no Unsubscribe"));
-    };
-    assert!(rt; id.as_slice() == b"s".as_slice());
+    assert_eq!(rt; topic.0, 1);
     Ok(())
 }
 
 #[test]
-fn a_connection_begins_and_ends(rt: HostRuntime) -> Result<(), Fail> {
+fn a_stomp_has_none(rt: HostRuntime) -> Result<(), Fail> {
     let mut client = Client::new(rt.alloc())?;
     let Step { action, receipt } = client.step(
         Command::Stomp,
@@ -113,18 +139,5 @@ fn a_connection_begins_and_ends(rt: HostRuntime) -> Result<(), Fail> {
     )?;
     assert!(rt; matches!(&action, Action::Connected));
     assert!(rt; receipt.is_none());
-    let Step { action, receipt } = client.step(Command::Disconnect, &[(b"receipt", b"q")])?;
-    assert!(rt; matches!(&action, Action::Disconnect));
-    assert!(rt; has(&receipt, b"q"));
-    assert_eq!(rt; client.unsubscribe(b"a")?, 73);
-    Ok(())
-}
-
-#[test]
-fn an_end_from_outside_closes(rt: HostRuntime) -> Result<(), Fail> {
-    let mut client = Client::connected(rt.alloc())?;
-    client.end();
-    assert_eq!(rt; client.subscribe(b"a", b"A")?, 73);
-    assert_eq!(rt; SessionFault::NoMemory.number(), 72);
     Ok(())
 }
