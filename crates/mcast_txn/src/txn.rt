@@ -1,6 +1,6 @@
 //! A transaction that is committed.
 
-ghost use Rattle.std.specs.Prelude.{◌≡◌, length, IfOk, IfErr};
+ghost use Rattle.std.specs.Prelude.{◌≡◌, ◌≤◌, ◌∷◌, [], length, vec_capacity, IfOk, IfErr};
 ghost use Rattle.std.specs.Arc.{arc_value};
 ghost use Rattle.mcast_txn.specs.Flight.{id_of};
 ghost use Rattle.mcast_txn.specs.Part.{parts_of};
@@ -10,10 +10,12 @@ use crate::entry::Entry;
 use crate::flight::Flight;
 use crate::parts::Parts;
 use crate::topic_set::TopicSet;
-use std::alloc::Global;
+use crate::id::Topic;
+use crate::send::PartSend;
+use std::alloc::{AllocFailed, Global};
 use std::marker::Model;
 use std::sync::Arc;
-use stomp_frame::NoMemory;
+use stomp_frame::{Headers, NoMemory, Octets};
 
 /// A transaction that is committed (STOMP 1.2, "COMMIT"): its SENDs, at least one. In contracts it is their list, in order.
 #[derive(Drop)]
@@ -35,7 +37,56 @@ impl Model for Txn {
     ghost invariant = { λ t. IsSealed t.entries.items t.topics.value };
 }
 
+// Room for one SEND, and its topic.
+fn room_for_one(alloc: Global, topic: Topic) -> Result<(Vec<Entry>, Arc<TopicSet>), NoMemory>
+    ensures empty { IfOk result (λ room. room.0.items ≡ []) }
+    ensures room { IfOk result (λ room. 1 ≤ vec_capacity room.0) }
+    ensures topic { IfOk result (λ room. room.1.value ≡ topic ∷ []) }
+{
+    let entries = Vec::with_capacity(alloc, 1)?;
+    let topics = Arc::new(alloc, TopicSet::one(alloc, topic)?)?;
+    Ok((entries, topics))
+}
+
 impl Txn {
+    /// The transaction of one SEND (STOMP 1.2, "SEND" outside a transaction). After want of memory its
+    /// headers and body are handed back.
+    pub fn single(
+        alloc: Global,
+        topic: Topic,
+        headers: Headers,
+        body: Octets,
+    ) -> Result<Txn, (Headers, Octets, NoMemory)>
+        ensures ok { IfOk result
+            (λ txn. txn ≡ record { topic = topic; headers = headers; body = body } ∷ []) }
+        ensures back { IfErr result (λ refused. (refused.0 ≡ headers) × (refused.1 ≡ body)) }
+    {
+        let Ok((mut entries, topics)) = room_for_one(alloc, topic) else {
+            return Err((headers, body, NoMemory));
+        };
+        let send = PartSend {
+            index: 0,
+            headers,
+            body,
+        };
+        match Arc::new(alloc, send) {
+            Ok(send) => {
+                entries.push_reserved(Entry { topic, send });
+                Ok(Txn { entries, topics })
+            }
+            Err(refused) => {
+                let AllocFailed {
+                    value: PartSend {
+                        index: _,
+                        headers,
+                        body,
+                    },
+                } = refused;
+                Err((headers, body, NoMemory))
+            }
+        }
+    }
+
     /// Its topics: the destinations of its SENDs.
     pub fn topics(&self) -> &TopicSet
         ensures { result.now ≡ topics_of self.now }
