@@ -1,2 +1,15 @@
+pub mod Ballot
+pub mod Decided
+pub mod Draft
+pub mod Entries
+pub mod Faults
+pub mod Flight
+pub mod Part
+pub mod Places
+pub mod Sealed
+pub mod Shares
+pub mod Slots
 pub mod Stamp
+pub mod Topics
 pub mod Transaction
+pub mod Votes

@@ -1,7 +1,7 @@
 //! Stamps: the final timestamps of Skeen's protocol.
 
 ghost use Rattle.std.specs.Prelude.{◌≡◌};
-ghost use Rattle.mcast_txn.specs.Stamp.{stamp_lt};
+ghost use Rattle.mcast_txn.specs.Stamp.{later, stamp_lt};
 
 use crate::id::Topic;
 
@@ -25,5 +25,12 @@ impl Stamp {
         ensures { result ≡ stamp_lt self other }
     {
         self < other
+    }
+
+    /// The later of the two.
+    pub fn later(self, other: Stamp) -> Stamp
+        ensures { result ≡ later self other }
+    {
+        if self.is_before(other) { other } else { self }
     }
 }
