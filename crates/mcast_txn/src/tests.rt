@@ -1,1 +1,4 @@
-//! Tests of what no clause says.
+//! Worked examples of the definitions, and the calls with ample memory.
+
+mod deciding;
+mod sending;

@@ -1,9 +1,10 @@
 //! A transaction that is committed.
 
-ghost use Rattle.std.specs.Prelude.{◌≡◌, ◌≤◌, ◌∷◌, [], length, vec_capacity, IfOk, IfErr};
+ghost use Rattle.std.specs.Prelude.{◌≡◌, ◌<◌, ◌≤◌, ◌∷◌, [], length, vec_capacity, IfOk, IfErr};
 ghost use Rattle.std.specs.Arc.{arc_value};
 ghost use Rattle.mcast_txn.specs.Flight.{id_of};
 ghost use Rattle.mcast_txn.specs.Part.{parts_of};
+ghost use Rattle.mcast_txn.specs.Topics.{IsTopicSet};
 ghost use Rattle.mcast_txn.specs.Transaction.{topics_of};
 
 use crate::entry::Entry;
@@ -89,7 +90,8 @@ impl Txn {
 
     /// Its topics: the destinations of its SENDs.
     pub fn topics(&self) -> &TopicSet
-        ensures { result.now ≡ topics_of self.now }
+        ensures value { result.now ≡ topics_of self.now }
+        ensures rising { IsTopicSet result.now }
     {
         &self.topics
     }
@@ -107,7 +109,8 @@ impl Txn {
 
     /// How many SENDs it has, at least one.
     pub fn len(&self) -> usize
-        ensures { result ≡ length self.now }
+        ensures value { result ≡ length self.now }
+        ensures some { 0 < result }
     {
         self.entries.len()
     }

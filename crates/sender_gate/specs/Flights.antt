@@ -1,0 +1,13 @@
+-- What a flight stores.
+use Rattle.std.specs.Prelude.{◌≡◌, ◌≢◌, ◌<◌, ℕ, List, [], map}
+use Rattle.std.specs.List.{AllByRecursion}
+use Rattle.mcast_txn.specs.declared.stamp.Stamp.{Stamp}
+use Rattle.mcast_txn.specs.Ballot.{given_rows}
+use Rattle.mcast_txn.specs.Slots.{Slots}
+use Rattle.mcast_txn.specs.Transaction.{TopicPart}
+
+-- there is a topic, ballot and parts are of the same topics, and each number that was given is above the floor's
+pub record IsFlying (floor : Stamp) (numbers : Slots ℕ) (parts : Slots TopicPart) : Type 0 where
+  pub some : numbers ≢ []
+  pub alike : map (λ slot. slot.0) parts ≡ map (λ slot. slot.0) numbers
+  pub above : AllByRecursion (λ row. floor.n < row.n) (given_rows numbers)

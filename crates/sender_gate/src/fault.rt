@@ -1,0 +1,57 @@
+//! What a gate refuses.
+
+ghost use Rattle.std.specs.Prelude.{◌≡◌};
+ghost use Rattle.sender_gate.specs.Faults.{gate_number, gate_fault};
+
+use mcast_txn::BallotFault;
+use thiserror::Error;
+
+/// Why a gate or its flight refuses a call.
+#[derive(Clone, Copy, Debug, PartialEq, Eq, Error)]
+pub enum GateFault {
+    /// 50: the ticket is of another transaction, or of a topic that the transaction doesn't name.
+    #[error("50 NotNamed: put the tickets of this transaction's own topics")]
+    NotNamed,
+    /// 51: the topic gave its ticket before.
+    #[error("51 Twice: put one ticket for each topic")]
+    Twice,
+    /// 52: a topic of the transaction gave no ticket yet.
+    #[error("52 Incomplete: put the tickets of all topics first, or withdraw")]
+    Incomplete,
+    /// 53: the sender has used its last number, 2^64 - 1.
+    #[error("53 SeqFull: go on as another sender")]
+    SeqFull,
+    /// 54: the ticket's number is at most the floor's.
+    #[error("54 BelowFloor: propose with the flight's floor")]
+    BelowFloor,
+    /// 55: there was no memory; gate and transaction are as they were.
+    #[error("55 NoMemory: there was no memory for the transaction")]
+    NoMemory,
+}
+
+impl GateFault {
+    /// Its number, 50 to 55.
+    pub fn number(self) -> u32
+        ensures { result ≡ gate_number self }
+    {
+        match self {
+            GateFault::NotNamed => 50,
+            GateFault::Twice => 51,
+            GateFault::Incomplete => 52,
+            GateFault::SeqFull => 53,
+            GateFault::BelowFloor => 54,
+            GateFault::NoMemory => 55,
+        }
+    }
+}
+
+impl From<BallotFault> for GateFault {
+    ghost from_gives = { λ fault e. e ≡ gate_fault fault };
+
+    fn from(fault: BallotFault) -> GateFault {
+        match fault {
+            BallotFault::NotNamed => GateFault::NotNamed,
+            BallotFault::Twice => GateFault::Twice,
+        }
+    }
+}

@@ -1,0 +1,140 @@
+//! A sender with a transaction on its way.
+
+ghost use Rattle.std.specs.Prelude.{◌≡◌, [], map, Some, None, IsTrue, IfOk, IfErr, OnOk, OnErr, is_err};
+ghost use Rattle.std.specs.Arc.{arc_value};
+ghost use Rattle.std.specs.List.{list_any};
+ghost use Rattle.std.specs.Option.{is_none, option_map};
+ghost use Rattle.mcast_txn.specs.Ballot.{numbers_of, tickets_of};
+ghost use Rattle.mcast_txn.specs.Part.{data_of};
+ghost use Rattle.mcast_txn.specs.Slots.{held_at, with_slot};
+ghost use Rattle.mcast_txn.specs.Stamp.{greatest, stamp_lt};
+ghost use Rattle.sender_gate.specs.declared.fault.GateFault.TheVariants.{Incomplete};
+ghost use Rattle.sender_gate.specs.Flights.{IsFlying};
+ghost use Rattle.sender_gate.specs.Gate.{flight_answer, sender_after, tally_of};
+
+use crate::fault::GateFault;
+use crate::gate::Gate;
+use mcast_txn::{Ballot, Part, Parts, Stamp, Ticket, Tickets, Topic, TopicSet, TxnId, Verdict};
+use std::marker::Model;
+use std::sync::Arc;
+
+/// A sender that has a transaction on its way, and can begin no other. In contracts it is the transaction, the
+/// sender's floor, each topic with the number that it gave, if it did, and the parts that weren't taken out.
+#[derive(Drop)]
+pub struct Flying {
+    floor: Stamp,
+    ballot: Ballot,
+    parts: Parts,
+}
+
+impl Model for Flying {
+    ghost use Rattle.sender_gate.specs.Flights.{IsFlying};
+    ghost use Rattle.sender_gate.specs.Gate.{FlightState};
+
+    ghost Value = { FlightState };
+
+    ghost view = { λ f. record { id = f.ballot.id; floor = f.floor; numbers = f.ballot.numbers; parts = f.parts } };
+
+    ghost invariant = { λ f. IsFlying f.floor f.ballot.numbers f.parts };
+}
+
+impl Flying {
+    // A flight with this ballot and these parts.
+    pub(crate) fn new(floor: Stamp, ballot: Ballot, parts: Parts) -> Flying
+        requires { IsFlying floor ballot.numbers parts }
+        ensures { result ≡ record { id = ballot.id; floor = floor; numbers = ballot.numbers; parts = parts } }
+    {
+        Flying {
+            floor,
+            ballot,
+            parts,
+        }
+    }
+
+    /// The transaction.
+    pub fn id(&self) -> TxnId
+        ensures { result ≡ self.now.id }
+    {
+        self.ballot.id()
+    }
+
+    /// Its topics.
+    pub fn topics(&self) -> &TopicSet
+        ensures { result.now ≡ map (λ slot. slot.0) self.now.numbers }
+    {
+        self.parts.topics()
+    }
+
+    /// The sender's floor: the stamp is to be above it.
+    pub fn floor(&self) -> Stamp
+        ensures { result ≡ self.now.floor }
+    {
+        self.floor
+    }
+
+    /// Takes the topic's part out, with no memory: `None` where it was taken out before, or where the transaction
+    /// doesn't name the topic.
+    pub fn part(&mut self, topic: Topic) -> Option<Arc<Part>>
+        ensures part { option_map (λ part. data_of (arc_value part)) result ≡ held_at topic self.old.parts }
+        ensures taken { self.new ≡ record self.old { parts = with_slot topic None self.old.parts } }
+    {
+        self.parts.part(topic)
+    }
+
+    /// Takes a ticket, with no memory. Refused: 50 where it is of another transaction or of a topic that isn't
+    /// named, 51 where the topic gave one before, 54 where its number is at most the floor's.
+    pub fn put(&mut self, ticket: Ticket) -> Result<(), GateFault>
+        ensures answer { result ≡ flight_answer self.old ticket }
+        ensures ok { OnOk result
+            (self.new ≡ record self.old { numbers = with_slot ticket.topic (Some ticket.n) self.old.numbers }) }
+        ensures err { OnErr result (self.new ≡ self.old) }
+    {
+        self.ballot.check(ticket)?;
+        if ticket.n <= self.floor.n {
+            return Err(GateFault::BelowFloor);
+        }
+        self.ballot.put(ticket)?;
+        Ok(())
+    }
+
+    /// Ends with the verdict, whose stamp is the sender's new floor, with no memory. Refused (52) where a topic gave
+    /// no ticket: the flight is then handed back.
+    pub fn decide(self) -> Result<(Gate, Box<Verdict>), (Flying, GateFault)>
+        ensures incomplete { is_err result ≡ list_any (λ s. is_none s.1) self.numbers }
+        ensures id { IfOk result (λ decided. decided.1.value.id ≡ self.id) }
+        ensures rows { IfOk result (λ decided. numbers_of decided.1.value.rows ≡ self.numbers) }
+        ensures gate { IfOk result
+            (λ decided. decided.0 ≡ sender_after self (greatest decided.1.value.rows)) }
+        ensures above { IfOk result (λ decided. IsTrue (stamp_lt self.floor decided.0.floor)) }
+        ensures back { IfErr result (λ refused. refused ≡ (self, Incomplete)) }
+    {
+        let Flying {
+            floor,
+            ballot,
+            parts,
+        } = self;
+        let id = ballot.id();
+        match ballot.close() {
+            Ok(verdict) => Ok((
+                Gate::resume(id.sender, id.seq, verdict.stamp()),
+                verdict,
+            )),
+            Err(ballot) => Err((Flying::new(floor, ballot, parts), GateFault::Incomplete)),
+        }
+    }
+
+    /// Ends without a verdict, with no memory: the floor stays, the number stays used, and the tickets that were put
+    /// are handed back, by rising topic.
+    pub fn withdraw(self) -> (Gate, Tickets)
+        ensures gate { result.0 ≡ sender_after self self.floor }
+        ensures tickets { result.1 ≡ tickets_of (tally_of self) }
+    {
+        let Flying {
+            floor,
+            ballot,
+            parts: _,
+        } = self;
+        let id = ballot.id();
+        (Gate::resume(id.sender, id.seq, floor), ballot.withdraw())
+    }
+}
