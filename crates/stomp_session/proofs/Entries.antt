@@ -1,0 +1,102 @@
+-- A map of octets and its entries, as contracts see them.
+use Rattle.std.proofs.Common.{◌≡◌, ℕ, Bool, true, false, cond, List, [], ◌∷◌, ◌++◌, map, is_some, Option, Some, None, nat_eq, refl, sym, ap, ◌∙◌, Vec, arith, position, if◌then◌else◌, ◌||◌, true≢false, nat_lt, length, IfSome}
+use Rattle.std.specs.declared.alloc.Global.{Global}
+use Rattle.std.specs.List.{list_any, position_or_len}
+use Rattle.std.specs.Map.{lookup, remove_entry, set_value}
+use Rattle.std.specs.Str.{bytes_eq}
+use Rattle.indexmap.specs.IndexMap.{insert_entry}
+use Rattle.indexmap.specs.IndexSet.{insert_key}
+use Rattle.mcast_txn.specs.declared.send.Send.{Send}
+use Rattle.stomp_session.specs.Names.{is_known, place_of, with_name}
+use Rattle.stomp_session.specs.Stored.{octets_of, entries_of}
+use Rattle.stomp_session.specs.Refusals.{is_open, sends_in}
+use Rattle.stomp_session.specs.Effects.{without, with_send}
+
+abbrev pub Key : Type 0
+Key = Vec ℕ Global
+
+-- the test of a key by octets, and the equality of two keys
+abbrev pub is_key : List ℕ → Key → Bool
+is_key id k = bytes_eq id k.items
+
+abbrev pub same_key : Key → Key → Bool
+same_key x y = bytes_eq x.items y.items
+
+pub is_known-octets_of : (name : List ℕ) (ks : List Key) → is_known name (octets_of ks) ≡ list_any (is_key name) ks
+is_known-octets_of name [] = refl
+is_known-octets_of name (k ∷ ks) = grind (arith, is_known-octets_of name ks)
+
+if_append : (b : Bool) (ks : List Key) (k : Key) → octets_of (if b then ks else ks ++ k ∷ []) ≡ (if b then octets_of ks else octets_of ks ++ k.items ∷ [])
+if_append true ks k = refl
+if_append false ks k = octets_of-append ks
+  where
+    octets_of-append : (xs : List Key) → octets_of (xs ++ k ∷ []) ≡ octets_of xs ++ k.items ∷ []
+    octets_of-append [] = refl
+    octets_of-append (x ∷ xs) = ap (λ ys. x.items ∷ ys) (octets_of-append xs)
+
+pub octets_of-insert_key : (ks : List Key) (k : Key) → octets_of (insert_key same_key ks k) ≡ with_name k.items (octets_of ks)
+octets_of-insert_key ks k = if_append (list_any (same_key k) ks) ks k ∙ ap (λ b. if b then octets_of ks else octets_of ks ++ k.items ∷ []) (sym (is_known-octets_of k.items ks))
+
+pub place_of-octets_of : (name : List ℕ) (ks : List Key) → place_of name (octets_of ks) ≡ position_or_len (is_key name) ks
+place_of-octets_of name [] = refl
+place_of-octets_of name (k ∷ ks) = grind (arith, place_of-octets_of name ks)
+
+pub is_open-lookup : {X : Type 0} (id : List ℕ) (es : List (Key × X)) → is_open id (entries_of es) ≡ is_some (lookup (is_key id) es)
+is_open-lookup id [] = refl
+is_open-lookup id (e ∷ es) = by (bytes_eq id e.0.items) refl (is_open-lookup id es)
+  where
+    by : (b : Bool) → bytes_eq id e.0.items ≡ b → is_open id (entries_of es) ≡ is_some (lookup (is_key id) es) → is_open id (entries_of (e ∷ es)) ≡ is_some (lookup (is_key id) (e ∷ es))
+    by true t rest = rw t
+    by false t rest = rw t rest
+
+pub entries_of-remove : {X : Type 0} (id : List ℕ) (es : List (Key × X)) → entries_of (remove_entry (is_key id) es) ≡ without id (entries_of es)
+entries_of-remove id [] = refl
+entries_of-remove id (e ∷ es) = by (bytes_eq id e.0.items) refl (entries_of-remove id es)
+  where
+    by : (b : Bool) → bytes_eq id e.0.items ≡ b → entries_of (remove_entry (is_key id) es) ≡ without id (entries_of es) → entries_of (remove_entry (is_key id) (e ∷ es)) ≡ without id (entries_of (e ∷ es))
+    by true t rest = rw t
+    by false t rest = rw t (ap (λ them. (e.0.items, e.1) ∷ them) rest)
+
+pub entries_of-insert : {X : Type 0} (es : List (Key × X)) (k : Key) (v : X) → is_open k.items (entries_of es) ≡ false → entries_of (insert_entry same_key es k v) ≡ entries_of es ++ (k.items, v) ∷ []
+entries_of-insert [] k v new = refl
+entries_of-insert (e ∷ es) k v new = by (bytes_eq k.items e.0.items) refl new (entries_of-insert es k v)
+  where
+    by : (b : Bool) → bytes_eq k.items e.0.items ≡ b → (b || is_open k.items (entries_of es)) ≡ false
+        → (is_open k.items (entries_of es) ≡ false → entries_of (insert_entry same_key es k v) ≡ entries_of es ++ (k.items, v) ∷ [])
+        → entries_of (insert_entry same_key (e ∷ es) k v) ≡ entries_of (e ∷ es) ++ (k.items, v) ∷ []
+    by true t none rest = absurd (true≢false none)
+    by false t none rest = rw t (ap (λ them. (e.0.items, e.1) ∷ them) (rest none))
+
+pub sends_in-lookup : (id : List ℕ) (es : List (Key × List Send)) (d : List Send) → lookup (is_key id) es ≡ Some d → sends_in id (entries_of es) ≡ d
+sends_in-lookup id [] d at = cc
+sends_in-lookup id (e ∷ es) d at = by (bytes_eq id e.0.items) refl at (sends_in-lookup id es d)
+  where
+    by : (b : Bool) → bytes_eq id e.0.items ≡ b → cond b (Some e.1) (lookup (is_key id) es) ≡ Some d
+        → (lookup (is_key id) es ≡ Some d → sends_in id (entries_of es) ≡ d)
+        → sends_in id (entries_of (e ∷ es)) ≡ d
+    by true t here rest = rw t cc
+    by false t here rest = rw t (rest here)
+
+pub entries_of-set_value : (id : List ℕ) (send : Send) (es : List (Key × List Send)) (d : List Send) → lookup (is_key id) es ≡ Some d → entries_of (set_value (is_key id) es (d ++ send ∷ [])) ≡ with_send id send (entries_of es)
+entries_of-set_value id send [] d at = refl
+entries_of-set_value id send (e ∷ es) d at = by (bytes_eq id e.0.items) refl at (entries_of-set_value id send es d)
+  where
+    by : (b : Bool) → bytes_eq id e.0.items ≡ b → cond b (Some e.1) (lookup (is_key id) es) ≡ Some d
+        → (lookup (is_key id) es ≡ Some d → entries_of (set_value (is_key id) es (d ++ send ∷ [])) ≡ with_send id send (entries_of es))
+        → entries_of (set_value (is_key id) (e ∷ es) (d ++ send ∷ [])) ≡ with_send id send (entries_of (e ∷ es))
+    by true t here rest = let g : d ≡ e.1 = cc in rw t (ap (λ sends. (e.0.items, sends ++ send ∷ []) ∷ entries_of es) g)
+    by false t here rest = rw t (ap (λ them. (e.0.items, e.1) ∷ them) (rest here))
+
+pub position-Some : {X : Type 0} (p : X → Bool) (xs : List X) (i : ℕ) → position p xs ≡ Some i → i ≡ position_or_len p xs
+position-Some p xs i at = by (nat_lt (position_or_len p xs) (length xs)) at
+  where
+    by : (b : Bool) → cond b (Some (position_or_len p xs)) None ≡ Some i → i ≡ position_or_len p xs
+    by true at = cc
+    by false at = cc
+
+pub sends_in-found : (id : List ℕ) (es : List (Key × List Send)) → IfSome (lookup (is_key id) es) (λ d. d ≡ sends_in id (entries_of es))
+sends_in-found id es = by (lookup (is_key id) es) refl
+  where
+    by : (found : Option (List Send)) → lookup (is_key id) es ≡ found → IfSome found (λ d. d ≡ sends_in id (entries_of es))
+    by None at = tt
+    by (Some d) at = sym (sends_in-lookup id es d at)

@@ -1,0 +1,4 @@
+pub mod Entries
+pub mod Opened
+pub mod History
+pub mod Taken

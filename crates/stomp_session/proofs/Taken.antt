@@ -1,0 +1,57 @@
+-- What a step answers, over the list of the frames that were accepted.
+use Rattle.std.proofs.Common.{◌≡◌, ◌⊎◌, ℕ, true, false, List, [], ◌∷◌, ◌++◌, Option, Some, None, refl, sym, ap, subst, ◌∙◌, inl, inr}
+use Rattle.stomp_frame.specs.declared.command.Command.{Command}
+use Rattle.stomp_frame.specs.declared.command.Command.TheVariants as commands
+use Rattle.stomp_frame.specs.declared.frame.RawFrame.{RawFrame}
+use Rattle.stomp_frame.specs.Cases.{is_connect}
+use Rattle.stomp_frame.specs.Receipts.{asked_receipt}
+use Rattle.stomp_session.specs.declared.action.Step.{Step}
+use Rattle.stomp_session.specs.Open.{Held, held_after, StandsFor}
+use Rattle.stomp_session.specs.Answers.{Accepts, action_by}
+use Rattle.stomp_session.specs.Effects.{effect, refusal_by, Does}
+use Rattle.stomp_session.proofs.History.{Follows, connect-follows, stomp-follows}
+
+abbrev pub Answered : Held → RawFrame → Step → Held → List RawFrame → Type 0
+Answered s f step new frames = Accepts (held_after s.names frames) f step × (new ≡ held_after new.names (frames ++ f ∷ []))
+
+pub accepts : (command : Command) (s : Held) (f : RawFrame) (step : Step) (new : Held) → f.command ≡ command → Does command s f step new → new.names ≡ s.names
+    → ((frames : List RawFrame) → Follows s.names frames f command)
+    → (frames : List RawFrame) → StandsFor s frames → Answered s f step new frames
+accepts command s f step new e does same_names follows frames stands =
+    let held : Held = held_after s.names frames in
+    let accepted : refusal_by command held f ≡ None = subst (λ h. refusal_by command h f ≡ None) stands does.accepted in
+    let action : step.action ≡ action_by command held f = subst (λ h. step.action ≡ action_by command h f) stands does.action in
+    let after : new ≡ held_after s.names (frames ++ f ∷ []) = does.held ∙ ap (λ h. effect command h f) stands ∙ follows frames e accepted in
+    (record {
+      accepted = subst (λ c. refusal_by c held f ≡ None) (sym e) accepted;
+      action = subst (λ c. step.action ≡ action_by c held f) (sym e) action;
+      receipt = subst (λ c. step.receipt ≡ asked_receipt c f.headers) (sym e) does.receipt;
+    }, subst (λ names. new ≡ held_after names (frames ++ f ∷ [])) (sym same_names) after)
+
+connect_or_stomp : (command : Command) → is_connect command ≡ true → (command ≡ commands.Connect) ⊎ (command ≡ commands.Stomp)
+connect_or_stomp commands.Connect e = inl refl
+connect_or_stomp commands.Stomp e = inr refl
+connect_or_stomp commands.Connected e = cc
+connect_or_stomp commands.Send e = cc
+connect_or_stomp commands.Subscribe e = cc
+connect_or_stomp commands.Unsubscribe e = cc
+connect_or_stomp commands.Ack e = cc
+connect_or_stomp commands.Nack e = cc
+connect_or_stomp commands.Begin e = cc
+connect_or_stomp commands.Commit e = cc
+connect_or_stomp commands.Abort e = cc
+connect_or_stomp commands.Disconnect e = cc
+connect_or_stomp commands.Message e = cc
+connect_or_stomp commands.Receipt e = cc
+connect_or_stomp commands.Error e = cc
+
+-- a STOMP is a CONNECT
+pub accepts-connect : (s : Held) (f : RawFrame) (step : Step) (new : Held) → is_connect f.command ≡ true → Does commands.Connect s f step new → new.names ≡ s.names
+    → (frames : List RawFrame) → StandsFor s frames → Answered s f step new frames
+accepts-connect s f step new connects does same_names frames stands = by (connect_or_stomp f.command connects)
+  where
+    by : (f.command ≡ commands.Connect) ⊎ (f.command ≡ commands.Stomp) → Answered s f step new frames
+    by (inl e) = accepts commands.Connect s f step new e does same_names (λ frames. connect-follows s.names frames f) frames stands
+    by (inr e) =
+        let as_stomp : Does commands.Stomp s f step new = record { accepted = does.accepted; action = does.action; receipt = does.receipt; held = does.held } in
+        accepts commands.Stomp s f step new e as_stomp same_names (λ frames. stomp-follows s.names frames f) frames stands

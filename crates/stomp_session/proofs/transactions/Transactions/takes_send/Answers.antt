@@ -1,0 +1,35 @@
+use Rattle.std.proofs.Common.{◌≡◌, ◌<◌, ◌≤◌, ℕ, List, Option, sym, ap, ◌∙◌, Some, None, true, false, is_some, length, refl, arith, tests}
+use Rattle.std.proofs.lemmas.Bool.Decides.{nat_tests}
+use Rattle.std.specs.Map.{lookup}
+use Rattle.std.specs.Option.{option_copied}
+use Rattle.mcast_txn.specs.declared.send.Send.{Send}
+use Rattle.stomp_session.specs.Refusals.{is_open, is_full, sends_in}
+use Rattle.stomp_session.proofs.Entries.{Key, is_key, is_open-lookup, sends_in-lookup}
+use Rattle.stomp_session.proofs.transactions.Transactions.takes_send.Goals as goal
+
+below_is_not_full : (sends : List Send) → length sends < 64 → is_full sends ≡ false
+below_is_not_full sends few = grind (arith, nat_tests)
+
+many_is_full : (sends : List Send) → 64 ≤ length sends → is_full sends ≡ true
+many_is_full sends many = grind (arith, nat_tests)
+
+pub returns-in_default-clause-err : goal.returns-in_default-clause-err
+returns-in_default-clause-err c =
+    let shut : is_open c.args.name.now c.args.self.now ≡ false = rw (← c.self.view_is) (is_open-lookup c.args.name.now c.self.inside.drafts.entries ∙ ap is_some (sym c.get.ensures.value ∙ ap option_copied c.in_default.is)) in
+    rw shut
+
+pub returns-then-len-ge-MAX_SENDS-clause-err : goal.returns-then-len-ge-MAX_SENDS-clause-err
+returns-then-len-ge-MAX_SENDS-clause-err c =
+    let es = c.self.inside.drafts.entries in
+    let at : lookup (is_key c.args.name.now) es ≡ Some c.in-Some.draft.now = sym c.get.ensures.value ∙ ap option_copied c.in-Some.is in
+    let there : is_open c.args.name.now c.args.self.now ≡ true = rw (← c.self.view_is) (is_open-lookup c.args.name.now es ∙ ap is_some at) in
+    let sends : sends_in c.args.name.now c.args.self.now ≡ c.in-Some.draft.now = rw (← c.self.view_is) (sends_in-lookup c.args.name.now es c.in-Some.draft.now at) in
+    rw (there, sends, many_is_full c.in-Some.draft.now (omega arith))
+
+pub returns-clause-ok : goal.returns-clause-ok
+returns-clause-ok c =
+    let es = c.self.inside.drafts.entries in
+    let at : lookup (is_key c.args.name.now) es ≡ Some c.in-Some.draft.now = sym c.get.ensures.value ∙ ap option_copied c.in-Some.is in
+    let there : is_open c.args.name.now c.args.self.now ≡ true = rw (← c.self.view_is) (is_open-lookup c.args.name.now es ∙ ap is_some at) in
+    let sends : sends_in c.args.name.now c.args.self.now ≡ c.in-Some.draft.now = rw (← c.self.view_is) (sends_in-lookup c.args.name.now es c.in-Some.draft.now at) in
+    (there, rw sends (below_is_not_full c.in-Some.draft.now (omega arith)))

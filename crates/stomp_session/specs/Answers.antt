@@ -1,0 +1,43 @@
+-- What a session answers to a frame.
+use Rattle.std.specs.Prelude.{◌≡◌, ◌⊎◌, ℕ, List, [], ◌∷◌, codes, Some, None}
+use Rattle.std.specs.Option.{option_map_or}
+use Rattle.stomp_frame.specs.declared.command.Command.{Command}
+use Rattle.stomp_frame.specs.declared.command.Command.TheVariants as commands
+use Rattle.stomp_frame.specs.declared.frame.RawFrame.{RawFrame}
+use Rattle.stomp_frame.specs.Headers.{first_of}
+use Rattle.stomp_frame.specs.Receipts.{receipt_of}
+use Rattle.mcast_txn.specs.declared.send.Send.{Send}
+use Rattle.stomp_session.specs.declared.action.Action.{Action}
+use Rattle.stomp_session.specs.declared.action.Action.TheVariants as actions
+use Rattle.stomp_session.specs.declared.action.Step.{Step}
+use Rattle.stomp_session.specs.declared.fault.SessionFault.{SessionFault}
+use Rattle.stomp_session.specs.declared.fault.SessionFault.TheVariants.{NoMemory}
+use Rattle.stomp_session.specs.Frames.{topic_of, id_of, transaction_of, send_of}
+use Rattle.stomp_session.specs.Open.{Held}
+use Rattle.stomp_session.specs.Refusals.{sends_in, refusal}
+
+-- a transaction of these SENDs; none where there are none
+abbrev pub commit : List Send → Action
+commit [] = actions.Nothing
+commit (send ∷ sends) = actions.Commit (send ∷ sends)
+
+-- What the connection has to do for the frame. A SEND outside a transaction is one of its own (STOMP 1.2, "SEND").
+abbrev pub action_by : Command → Held → RawFrame → Action
+action_by commands.Connect s f = actions.Connected
+action_by commands.Stomp s f = actions.Connected
+action_by commands.Subscribe s f = actions.Subscribe (id_of f) (topic_of s.names f)
+action_by commands.Unsubscribe s f = actions.Unsubscribe (id_of f)
+action_by commands.Send s f = option_map_or (λ transaction. actions.Nothing) (first_of (codes "transaction") f.headers) (commit (send_of s.names f ∷ []))
+action_by commands.Commit s f = commit (sends_in (transaction_of f) s.transactions)
+action_by commands.Disconnect s f = actions.Disconnect
+action_by _ s f = actions.Nothing
+
+-- The frame is accepted, with this action and the receipt that it asks for.
+pub record Accepts (s : Held) (f : RawFrame) (step : Step) : Type 0 where
+  pub accepted : refusal s f ≡ None
+  pub action : step.action ≡ action_by f.command s f
+  pub receipt : step.receipt ≡ receipt_of f
+
+-- The frame is refused by its first refusal; or there is none, and no memory.
+abbrev pub Refuses : Held → RawFrame → SessionFault → Type 0
+Refuses s f fault = (refusal s f ≡ Some fault) ⊎ ((refusal s f ≡ None) × (fault ≡ NoMemory))

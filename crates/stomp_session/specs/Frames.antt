@@ -1,0 +1,69 @@
+-- What a client's frame names (STOMP 1.2, "Client Frames").
+use Rattle.std.specs.Prelude.{◌≡◌, ℕ, Bool, true, false, ◌||◌, ◌&&◌, List, [], codes, Option, Some, None}
+use Rattle.std.specs.Option.{option_map_or}
+use Rattle.std.specs.Str.{bytes_eq}
+use Rattle.stomp_frame.specs.declared.command.Command.{Command}
+use Rattle.stomp_frame.specs.declared.command.Command.TheVariants as commands
+use Rattle.stomp_frame.specs.declared.frame.RawFrame.{RawFrame}
+use Rattle.stomp_frame.specs.Headers.{first_of}
+use Rattle.mcast_txn.specs.declared.id.Topic.{Topic}
+use Rattle.mcast_txn.specs.declared.send.Send.{Send}
+use Rattle.stomp_session.specs.Names.{place_of}
+
+-- the value of a header that the case table requires of the frame
+abbrev pub field : List ℕ → RawFrame → List ℕ
+field name f = option_map_or (λ value. value) (first_of name f.headers) []
+
+-- the topic of a SEND's or a SUBSCRIBE's destination
+abbrev pub topic_of : List (List ℕ) → RawFrame → Topic
+topic_of names f = record { 0 = place_of (field (codes "destination") f) names }
+
+-- a SUBSCRIBE's or an UNSUBSCRIBE's subscription
+abbrev pub id_of : RawFrame → List ℕ
+id_of f = field (codes "id") f
+
+-- a BEGIN's, COMMIT's or ABORT's transaction
+abbrev pub transaction_of : RawFrame → List ℕ
+transaction_of f = field (codes "transaction") f
+
+abbrev pub is_subscribe : Command → Bool
+is_subscribe commands.Subscribe = true
+is_subscribe _ = false
+
+abbrev pub is_unsubscribe : Command → Bool
+is_unsubscribe commands.Unsubscribe = true
+is_unsubscribe _ = false
+
+abbrev pub is_send : Command → Bool
+is_send commands.Send = true
+is_send _ = false
+
+abbrev pub is_begin : Command → Bool
+is_begin commands.Begin = true
+is_begin _ = false
+
+-- a COMMIT or an ABORT
+abbrev pub is_end : Command → Bool
+is_end commands.Commit = true
+is_end commands.Abort = true
+is_end _ = false
+
+abbrev pub is_disconnect : Command → Bool
+is_disconnect commands.Disconnect = true
+is_disconnect _ = false
+
+-- a SUBSCRIBE or an UNSUBSCRIBE of this subscription
+abbrev pub names_subscription : List ℕ → RawFrame → Bool
+names_subscription id f = (is_subscribe f.command || is_unsubscribe f.command) && bytes_eq (id_of f) id
+
+-- a BEGIN, a COMMIT or an ABORT of this transaction
+abbrev pub names_transaction : List ℕ → RawFrame → Bool
+names_transaction x f = (is_begin f.command || is_end f.command) && bytes_eq (transaction_of f) x
+
+-- a SEND in this transaction
+abbrev pub is_send_in : List ℕ → RawFrame → Bool
+is_send_in x f = is_send f.command && option_map_or (λ y. bytes_eq y x) (first_of (codes "transaction") f.headers) false
+
+-- a SEND as a transaction has it
+abbrev pub send_of : List (List ℕ) → RawFrame → Send
+send_of names f = record { topic = topic_of names f; headers = f.headers; body = f.body }

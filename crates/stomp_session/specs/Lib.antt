@@ -1,0 +1,10 @@
+pub mod Names
+pub mod Stored
+pub mod Frames
+pub mod Open
+pub mod Versions
+pub mod Faults
+pub mod Refusals
+pub mod Answers
+pub mod Effects
+pub mod Sound

@@ -1,0 +1,70 @@
+-- What is open after a list of accepted frames, as the list itself says (STOMP 1.2, "SUBSCRIBE", "UNSUBSCRIBE", "BEGIN",
+-- "COMMIT", "ABORT", "DISCONNECT").
+use Rattle.std.specs.Prelude.{◌≡◌, ℕ, Bool, not, ◌&&◌, List, [], ◌∷◌, filter, map, if◌then◌else◌}
+use Rattle.std.specs.List.{list_any}
+use Rattle.stomp_frame.specs.declared.frame.RawFrame.{RawFrame}
+use Rattle.stomp_frame.specs.Cases.{is_connect}
+use Rattle.mcast_txn.specs.declared.id.Topic.{Topic}
+use Rattle.mcast_txn.specs.declared.send.Send.{Send}
+use Rattle.stomp_session.specs.declared.phase.Phase.{Phase}
+use Rattle.stomp_session.specs.declared.phase.Phase.TheVariants.{New, Connected, Closed}
+use Rattle.stomp_session.specs.Frames.{topic_of, id_of, transaction_of, is_subscribe, is_begin, is_disconnect, names_subscription, names_transaction, is_send_in, send_of}
+
+-- The subscriptions that SUBSCRIBEs of these frames opened, with their topics, in order: of each subscription the last
+-- frame that names it is a SUBSCRIBE.
+abbrev pub subscribed : List (List ℕ) → List RawFrame → List (List ℕ × Topic)
+subscribed names [] = []
+subscribed names (f ∷ after) =
+    if is_subscribe f.command && not (list_any (names_subscription (id_of f)) after)
+    then (id_of f, topic_of names f) ∷ subscribed names after
+    else subscribed names after
+
+-- The transactions that BEGINs of these frames opened, each with the SENDs that name it behind its BEGIN, in order: of
+-- each transaction the last frame that names it, SENDs aside, is a BEGIN.
+abbrev pub begun : List (List ℕ) → List RawFrame → List (List ℕ × List Send)
+begun names [] = []
+begun names (f ∷ after) =
+    if is_begin f.command && not (list_any (names_transaction (transaction_of f)) after)
+    then (transaction_of f, map (send_of names) (filter (is_send_in (transaction_of f)) after)) ∷ begun names after
+    else begun names after
+
+abbrev pub is_connected : List RawFrame → Bool
+is_connected frames = list_any (λ f. is_connect f.command) frames
+
+abbrev pub is_ended : List RawFrame → Bool
+is_ended frames = list_any (λ f. is_disconnect f.command) frames
+
+-- a DISCONNECT closes, a CONNECT connects
+abbrev pub phase_of : List RawFrame → Phase
+phase_of frames = if is_ended frames then Closed else (if is_connected frames then Connected else New)
+
+-- what is open; nothing after a DISCONNECT
+abbrev pub open_subscriptions : List (List ℕ) → List RawFrame → List (List ℕ × Topic)
+open_subscriptions names frames = if is_ended frames then [] else subscribed names frames
+
+abbrev pub open_transactions : List (List ℕ) → List RawFrame → List (List ℕ × List Send)
+open_transactions names frames = if is_ended frames then [] else begun names frames
+
+-- what a session holds: the names of the topics, how far it is, and what is open
+pub record Held : Type 0 where
+  pub names : List (List ℕ)
+  pub phase : Phase
+  pub subscriptions : List (List ℕ × Topic)
+  pub transactions : List (List ℕ × List Send)
+
+-- what a session holds after these accepted frames
+abbrev pub held_after : List (List ℕ) → List RawFrame → Held
+held_after names frames = record {
+    names = names;
+    phase = phase_of frames;
+    subscriptions = open_subscriptions names frames;
+    transactions = open_transactions names frames;
+  }
+
+-- The session holds just what is open after these accepted frames, and is connected or closed as they say.
+abbrev pub StandsFor : Held → List RawFrame → Type 0
+StandsFor s frames = s ≡ held_after s.names frames
+
+-- what a session is once it is closed: it holds nothing open
+abbrev pub closed : Held → Held
+closed s = record { names = s.names; phase = Closed; subscriptions = []; transactions = [] }

@@ -1,0 +1,17 @@
+//! One connection's session: what its frames open and close, and what the connection has to do for each.
+#![tactic(auto)]
+
+mod action;
+mod fault;
+mod names;
+mod phase;
+mod session;
+mod subscriptions;
+mod transactions;
+mod versions;
+
+pub use action::{Action, Step};
+pub use fault::SessionFault;
+pub use names::Names;
+pub use phase::Phase;
+pub use session::Session;
