@@ -14,7 +14,7 @@ some_lent (Some x) o e there = search rules
 
 pub unwrap-draft-requires : goal.unwrap-draft-requires
 unwrap-draft-requires c =
-    let named : first_of (codes "transaction") c.args.frame.raw.headers ≡ Some c.unwrap-name.result.now = sym c.first.ensures ∙ ap (option_map (λ v. v.now)) c.unwrap-name.ensures in
+    let named : first_of (codes "transaction") c.args.frame.raw.headers ≡ Some c.unwrap-name.result.now = sym c.first.ensures.value ∙ ap (option_map (λ v. v.now)) c.unwrap-name.ensures in
     let begun : is_open c.unwrap-name.result.now c.args.self.now ≡ true = rw named at c.requires in
     let there : is_some (lookup (is_key c.unwrap-name.result.now) c.self.inside.drafts.entries) ≡ true = rw (← is_open-lookup, c.self.view_is) begun in
     some_lent c.get_mut.result _ c.get_mut.ensures.value there
@@ -22,7 +22,7 @@ unwrap-draft-requires c =
 pub returns-clause-ok : goal.returns-clause-ok
 returns-clause-ok c =
     let es = c.self.inside.drafts.entries in
-    let named : first_of (codes "transaction") c.args.frame.raw.headers ≡ Some c.unwrap-name.result.now = sym c.first.ensures ∙ ap (option_map (λ v. v.now)) c.unwrap-name.ensures in
+    let named : first_of (codes "transaction") c.args.frame.raw.headers ≡ Some c.unwrap-name.result.now = sym c.first.ensures.value ∙ ap (option_map (λ v. v.now)) c.unwrap-name.ensures in
     let at : lookup (is_key c.unwrap-name.result.now) es ≡ Some c.unwrap-draft.result.now = sym c.get_mut.ensures.value ∙ ap option_copied_mut c.unwrap-draft.ensures in
     elim c.match-add.branch [
         in-Ok w ↦ rw (w.result-is, (c.get_mut.follows.holds c.add.new.self).0, w.in-Ok.ensures.ok, named, ← c.self.view_is) (entries_of-set_value c.unwrap-name.result.now _ es c.unwrap-draft.result.now at)
