@@ -1,6 +1,6 @@
-//! Writes the inputs of `bench/relay` and `bench/frames` into a folder: `generate FOLDER NAME..`.
-//! Each is as many of its frames, or of its sessions, as fit the relay's 16,777,216 octets of
-//! input. Those of `bench/relay` are SENDs to topic A alone.
+//! Writes the inputs of `bench/relay`, `bench/frames` and `bench/transactions` into a folder:
+//! `generate FOLDER NAME..`. Each is as many of its frames, of its sessions, or of its transactions
+//! as fit the relay's 16,777,216 octets of input. Those of `bench/relay` are SENDs to topic A alone.
 
 mod numbers;
 
@@ -61,23 +61,53 @@ fn with_receipt(place: usize, numbers: &mut Numbers) -> Vec<u8> {
     frame
 }
 
+const CONNECT: &[u8] = b"CONNECT\naccept-version:1.2\nhost:broker\nheart-beat:0,0\n\n\0";
+
+/// A SEND with a body of 64 octets, in the transaction of that number or in none.
+fn with_text(topic: char, transaction: Option<usize>, numbers: &mut Numbers) -> Vec<u8> {
+    let mut frame = format!("SEND\ndestination:{topic}\n").into_bytes();
+    if let Some(number) = transaction {
+        frame.extend(format!("transaction:t{number}\n").bytes());
+    }
+    frame.extend(b"content-type:text/plain\ncontent-length:64\n\n");
+    frame.extend(body(64, numbers));
+    frame.push(0);
+    frame
+}
+
 /// A client's session: a transaction of four SENDs with bodies of 64 octets, and an ACK, which
 /// is refused. Three of its eleven frames ask for a receipt.
 fn session(place: usize, numbers: &mut Numbers) -> Vec<u8> {
-    let mut frames = b"CONNECT\naccept-version:1.2\nhost:broker\nheart-beat:0,0\n\n\0".to_vec();
+    let mut frames = CONNECT.to_vec();
     let subscribe = format!("SUBSCRIBE\ndestination:A\nid:s\nack:auto\nreceipt:s{place}\n\n\0");
     frames.extend(subscribe.bytes());
     frames.extend(format!("BEGIN\ntransaction:t{place}\n\n\0").bytes());
     for _ in 0..4 {
-        let headers = format!("destination:A\ntransaction:t{place}\ncontent-type:text/plain");
-        frames.extend(format!("SEND\n{headers}\ncontent-length:64\n\n").bytes());
-        frames.extend(body(64, numbers));
-        frames.push(0);
+        frames.extend(with_text('A', Some(place), numbers));
     }
     frames.extend(format!("ACK\nid:{place}\n\n\0").bytes());
     frames.extend(format!("COMMIT\ntransaction:t{place}\nreceipt:c{place}\n\n\0").bytes());
     frames.extend(b"UNSUBSCRIBE\nid:s\n\n\0");
     frames.extend(format!("DISCONNECT\nreceipt:d{place}\n\n\0").bytes());
+    frames
+}
+
+/// One of the topics A to H.
+fn any_topic(numbers: &mut Numbers) -> char {
+    char::from(b'A' + (numbers.next() % 8) as u8)
+}
+
+/// A transaction of four SENDs, and a SEND outside; in the first place a CONNECT instead.
+fn transactions(place: usize, numbers: &mut Numbers) -> Vec<u8> {
+    if place == 0 {
+        return CONNECT.to_vec();
+    }
+    let mut frames = format!("BEGIN\ntransaction:t{place}\n\n\0").into_bytes();
+    for _ in 0..4 {
+        frames.extend(with_text(any_topic(numbers), Some(place), numbers));
+    }
+    frames.extend(format!("COMMIT\ntransaction:t{place}\n\n\0").bytes());
+    frames.extend(with_text(any_topic(numbers), None, numbers));
     frames
 }
 
@@ -90,6 +120,7 @@ fn frames(name: &str, place: usize, numbers: &mut Numbers) -> Option<Vec<u8>> {
         "headers" => Some(with_headers(numbers)),
         "receipts" => Some(with_receipt(place, numbers)),
         "sessions" => Some(session(place, numbers)),
+        "transactions" => Some(transactions(place, numbers)),
         _ => None,
     }
 }

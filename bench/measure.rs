@@ -1,6 +1,6 @@
 //! Times a program and its baseline on each input of a benchmark and prints the table:
-//! `measure relay|frames PROGRAM BASELINE FOLDER`. It refuses outputs that differ, and judges no
-//! time.
+//! `measure relay|frames|transactions PROGRAM BASELINE FOLDER`. It refuses outputs that differ,
+//! and judges no time.
 
 use std::env;
 use std::fs::{self, File};
@@ -10,7 +10,18 @@ use std::process::{Command, ExitCode};
 use std::time::{Duration, Instant};
 
 const RELAY_INPUTS: [&str; 4] = ["bodies-16", "bodies-1K", "bodies-1M", "headers"];
-const FRAMES_INPUTS: [&str; 2] = ["receipts", "sessions"];
+const FRAMES: Rate = Rate {
+    inputs: &["receipts", "sessions"],
+    unit: "frames",
+    program: "stomp_frame",
+    counts: |_| true,
+};
+const TRANSACTIONS: Rate = Rate {
+    inputs: &["transactions"],
+    unit: "transactions",
+    program: "sender_gate",
+    counts: is_transaction,
+};
 const RUNS: usize = 5;
 
 /// What one program took: the best time and the largest peak of all its runs.
@@ -162,27 +173,48 @@ fn print_relay(stompd: &str, baseline: &str, folder: &Path) -> io::Result<()> {
     Ok(())
 }
 
-/// How many frames an input of `bench/frames` has: each ends by a NULL, and no body has one.
-fn count_frames(folder: &Path, name: &str) -> io::Result<usize> {
+/// A benchmark that tells how many things a program does in a second.
+struct Rate {
+    inputs: &'static [&'static str],
+    unit: &'static str,
+    program: &'static str,
+    /// Whether a frame of an input counts for one.
+    counts: fn(&[u8]) -> bool,
+}
+
+/// Whether the frame ends a transaction: a COMMIT, or a SEND outside one.
+fn is_transaction(frame: &[u8]) -> bool {
+    let in_another = || frame.windows(13).any(|text| text == b"\ntransaction:");
+    frame.starts_with(b"COMMIT\n") || (frame.starts_with(b"SEND\n") && !in_another())
+}
+
+/// How many frames of an input count: each ends by a NULL, and no body has one.
+fn count(folder: &Path, name: &str, counts: fn(&[u8]) -> bool) -> io::Result<usize> {
     let mut input = BufReader::new(File::open(folder.join(name).with_extension("stomp"))?);
-    let mut count = 0;
-    while input.skip_until(0)? > 0 {
-        count += 1;
+    let (mut frame, mut count) = (Vec::new(), 0);
+    while input.read_until(0, &mut frame)? > 0 {
+        count += usize::from(counts(&frame));
+        frame.clear();
     }
     Ok(count)
 }
 
-fn print_frames(program: &str, baseline: &str, folder: &Path) -> io::Result<()> {
-    println!("best of {RUNS} runs, from file to file; /s is frames read in a second");
-    println!("          input          |     stomp_frame     |      baseline       | time, one");
-    println!("              MiB frames |     ms           /s |     ms           /s | over other");
-    for name in FRAMES_INPUTS {
+fn print_rate(rate: Rate, program: &str, baseline: &str, folder: &Path) -> io::Result<()> {
+    let Rate {
+        unit, program: of, ..
+    } = rate;
+    println!("best of {RUNS} runs, from file to file; /s is {unit} in a second");
+    println!("               input         |{of:^21}|      baseline       | time, one");
+    println!(
+        "              MiB {unit:>11} |     ms           /s |     ms           /s | over other"
+    );
+    for name in rate.inputs {
         let size = length(folder, name)?;
-        let frames = count_frames(folder, name)?;
+        let number = count(folder, name, rate.counts)?;
         let costs = measure([&[program], &[baseline]], folder, name)?;
-        print!("{name:<11} {:5.1} {frames:6} |", size / 1_048_576.0);
+        print!("{name:<12} {:4.1} {number:12} |", size / 1_048_576.0);
         for cost in costs {
-            let speed = frames as f64 / cost.time.as_secs_f64();
+            let speed = number as f64 / cost.time.as_secs_f64();
             print!(" {:6.1} {speed:12.0} |", cost.milliseconds());
         }
         println!(" {:8.2}", costs[0].milliseconds() / costs[1].milliseconds());
@@ -197,11 +229,16 @@ fn main() -> ExitCode {
         ["relay", stompd, baseline, folder] => {
             ("relay", print_relay(stompd, baseline, Path::new(folder)))
         }
-        ["frames", program, baseline, folder] => {
-            ("frames", print_frames(program, baseline, Path::new(folder)))
-        }
+        ["frames", program, baseline, folder] => (
+            "frames",
+            print_rate(FRAMES, program, baseline, Path::new(folder)),
+        ),
+        ["transactions", program, baseline, folder] => (
+            "transactions",
+            print_rate(TRANSACTIONS, program, baseline, Path::new(folder)),
+        ),
         _ => {
-            eprintln!("usage: measure relay|frames PROGRAM BASELINE FOLDER");
+            eprintln!("usage: measure relay|frames|transactions PROGRAM BASELINE FOLDER");
             return ExitCode::FAILURE;
         }
     };
