@@ -1,2 +1,3 @@
 pub mod Stamp
 pub mod Transaction
+pub mod Agreed

@@ -1,0 +1,5 @@
+pub mod Due
+pub mod World
+pub mod Events
+pub mod Runs
+pub mod Settled

@@ -1,0 +1,5 @@
+pub mod Checks
+pub mod Span
+pub mod Topics
+pub mod Sound
+pub mod Fitting
