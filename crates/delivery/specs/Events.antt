@@ -97,6 +97,11 @@ flight_at w c = flight_or (speaker w c).flight
 abbrev pub has_ticket : Topic → List Stamp → Bool
 has_ticket t tickets = list_any (λ a. a.topic.0 == t.0) tickets
 
+-- a ticket among others that rise by topic
+abbrev pub insert_ticket : Stamp → List Stamp → List Stamp
+insert_ticket a [] = a ∷ []
+insert_ticket a (b ∷ bs) = if nat_lt a.topic.0 b.topic.0 then a ∷ b ∷ bs else b ∷ insert_ticket a bs
+
 -- each named topic gave a ticket
 abbrev pub is_complete : Flight → Bool
 is_complete f = list_all (λ t. has_ticket t f.given) (topics_of f.txn.sends)
@@ -268,7 +273,7 @@ abbrev pub proposed_by : World → ℕ → Topic → Option ProposeFault → Wor
 proposed_by w c t None =
     let f = flight_at w c in
     with_flight (with_topic w t (proposed (speaker w c).floor (part_at t f.txn) (topic_at w t))) c
-      (record f { given = f.given ++ next_ticket w c t ∷ [] })
+      (record f { given = insert_ticket (next_ticket w c t) f.given })
 proposed_by w c t (Some fault) = with_flight w c (record (flight_at w c) { mark = Some fault })
 
 -- the stamp is the greatest ticket and the sender's floor; the verdict and the row of the commit list are kept
@@ -316,7 +321,7 @@ handed w s (Some item) = with_subscription w s (record (subscription_at w s) { t
 
 -- what the event does where it isn't refused
 abbrev pub effect : World → Event → World
-effect w (Topic_added clock) = record w { topics = w.topics ++ new_topic w.log_limit clock ∷ [] }
+effect w (Topic_added clock) = record w { topics = w.topics ++ new_topic (record { 0 = length w.topics }) w.log_limit clock ∷ [] }
 effect w Opened = record w {
     senders = w.senders ++ new_sender ∷ [];
     connections = w.connections ++ record { sender = length w.senders; standing = Standing.Open } ∷ [];

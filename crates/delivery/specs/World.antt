@@ -11,7 +11,7 @@ use Rattle.mcast_group.specs.declared.fault.ProposeFault.{ProposeFault}
 use Rattle.mcast_group.specs.Span.{LogRow, Item, Span, last_stamp}
 use Rattle.mcast_group.specs.Topics.{TopicState, Entry, Ended, Verdict, new_topic, find_entry}
 
--- a sender's undecided transaction: the tickets that it was given, and why a topic refused it, if one did (then it is marked)
+-- a sender's undecided transaction: the tickets that it was given, by rising topic, and why a topic refused it, if one did (then it is marked)
 pub record Flight : Type 0 where
   pub txn : Transaction
   pub given : List Stamp
@@ -68,20 +68,22 @@ pub record World : Type 0 where
   pub commits : List Row
   pub verdicts : List Verdict
 
--- no topic yet, nobody there
-abbrev pub empty_world : ℕ → ℕ → World
-empty_world capacity log_limit = record {
-    capacity = capacity; log_limit = log_limit; topics = []; senders = []; connections = []; subscriptions = []; commits = []; verdicts = [];
-  }
+-- topics with these opening clocks, numbered from i
+abbrev pub new_topics : ℕ → ℕ → List ℕ → List TopicState
+new_topics i log_limit [] = []
+new_topics i log_limit (clock ∷ clocks) = new_topic (record { 0 = i }) log_limit clock ∷ new_topics (i + 1) log_limit clocks
 
--- topics with these opening clocks, nobody there
+-- topics with these opening clocks, and nobody there
 abbrev pub start : ℕ → ℕ → List ℕ → World
-start capacity log_limit clocks = record (empty_world capacity log_limit) { topics = map (new_topic log_limit) clocks }
+start capacity log_limit clocks = record {
+    capacity = capacity; log_limit = log_limit; topics = new_topics 0 log_limit clocks;
+    senders = []; connections = []; subscriptions = []; commits = []; verdicts = [];
+  }
 
 -- ---- reading
 
 abbrev pub topic_at : World → Topic → TopicState
-topic_at w t = get_or w.topics t.0 (new_topic 0 0)
+topic_at w t = get_or w.topics t.0 (new_topic t 0 0)
 
 abbrev pub new_sender : SenderState
 new_sender = record { seq = 0; floor = zero_stamp; flight = None; leftovers = [] }

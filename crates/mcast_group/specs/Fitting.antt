@@ -3,12 +3,13 @@ use Rattle.std.specs.Prelude.{◌≡◌, true, false, Option, Some, None}
 use Rattle.mcast_txn.specs.declared.id.TxnId.{TxnId}
 use Rattle.mcast_txn.specs.declared.stamp.Stamp.{Stamp}
 use Rattle.mcast_txn.specs.Agreed.{same_id, In}
-use Rattle.mcast_group.specs.Topics.{TopicState, Pending, Verdict, is_foreign}
+use Rattle.mcast_group.specs.Topics.{TopicState, Pending, Verdict, IsVerdict, is_foreign}
 
 -- a verdict is found for the part: its own, with its ticket, and with the stamp that it learnt, if it did
 pub record HasVerdict (find : TxnId → Option Verdict) (p : Pending) : Type 0 where
   pub verdict : Verdict
   pub found : find p.part.id ≡ Some verdict
+  pub is : IsVerdict verdict
   pub own : is_foreign verdict p ≡ false
   pub learnt : (stamp : Stamp) → p.learnt ≡ Some stamp → stamp ≡ verdict.stamp
 

@@ -5,9 +5,9 @@ use Rattle.std.specs.Option.{is_some}
 use Rattle.mcast_txn.specs.declared.id.Topic.{Topic}
 use Rattle.mcast_txn.specs.declared.id.TxnId.{TxnId}
 use Rattle.mcast_txn.specs.declared.stamp.Stamp.{Stamp}
-use Rattle.mcast_txn.specs.Stamp.{zero_stamp, stamp_lt}
+use Rattle.mcast_txn.specs.Stamp.{zero_stamp, stamp_lt, greatest}
 use Rattle.mcast_txn.specs.Transaction.{TopicPart}
-use Rattle.mcast_txn.specs.Agreed.{same_id}
+use Rattle.mcast_txn.specs.Agreed.{same_id, In}
 use Rattle.mcast_group.specs.declared.cause.Cause.{Cause}
 use Rattle.mcast_group.specs.declared.cause.Cause.TheVariants.{Asked, Lag}
 use Rattle.mcast_group.specs.declared.fault.ProposeFault.{ProposeFault}
@@ -21,6 +21,10 @@ pub record Verdict : Type 0 where
   pub id : TxnId
   pub rows : List Stamp
   pub stamp : Stamp
+
+-- its stamp is the greatest of its rows, and it has one row for a topic
+abbrev pub IsVerdict : Verdict → Type 0
+IsVerdict v = (v.stamp ≡ greatest v.rows) × ((a b : Stamp) → In a v.rows → In b v.rows → a.topic ≡ b.topic → a ≡ b)
 
 -- a part that was proposed: the number of its ticket, and its stamp once that is learnt
 pub record Pending : Type 0 where
@@ -41,8 +45,9 @@ pub record Ended : Type 0 where
   pub accepted : List Item
   pub cause : Cause
 
--- a topic: its pending parts rise by id; base is the stamp of the last row that was drained; held are the rows after it; frontier is the stamp of the last row ever
+-- a topic, by its number: its pending parts rise by id; base is the stamp of the last row that was drained; held are the rows after it; frontier is the stamp of the last row ever
 pub record TopicState : Type 0 where
+  pub topic : Topic
   pub clock : ℕ
   pub log_limit : ℕ
   pub pending : List Pending
@@ -51,9 +56,11 @@ pub record TopicState : Type 0 where
   pub frontier : Stamp
   pub subscriptions : List Entry
 
-abbrev pub new_topic : ℕ → ℕ → TopicState
-new_topic log_limit clock = record {
-    clock = clock; log_limit = log_limit; pending = []; base = zero_stamp; held = []; frontier = zero_stamp; subscriptions = [];
+-- a topic with this log limit and opening clock
+abbrev pub new_topic : Topic → ℕ → ℕ → TopicState
+new_topic topic log_limit clock = record {
+    topic = topic; clock = clock; log_limit = log_limit; pending = []; base = zero_stamp; held = []; frontier = zero_stamp;
+    subscriptions = [];
   }
 
 -- the greatest number that a stamp can have

@@ -1,1 +1,4 @@
-
+pub mod Orders
+pub mod Members
+pub mod Sorting
+pub mod Greatest
