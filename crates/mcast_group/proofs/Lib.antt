@@ -1,3 +1,4 @@
 pub mod Parts
 pub mod Queues
 pub mod Keeping
+pub mod Turning

@@ -203,9 +203,13 @@ if_learnt (Some p) = if is_some p.learnt then Some p else None
 abbrev pub due_part : TopicState → Option Pending
 due_part x = if_learnt (least x.pending)
 
+abbrev pub released_if : (Entry → Bool) → TopicState → Option Pending → TopicState
+released_if takes x None = x
+released_if takes x (Some p) = released takes p x
+
 -- the release of what is due, if anything is
 abbrev pub release : (Entry → Bool) → TopicState → TopicState
-release takes x = elim (due_part x) [ None ↦ x | Some p ↦ released takes p x ]
+release takes x = released_if takes x (due_part x)
 
 -- ---- turn
 
