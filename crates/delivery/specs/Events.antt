@@ -163,51 +163,56 @@ cancelling w t (Some k) = cancel_refusal (cancel_fault k.id (topic_at w t))
 
 -- ---- what is refused
 
--- why the event has no effect: the first that stands, in this order
+-- what stands against the event, in this order: where the first holds it is refused
+abbrev pub checks : World → Event → List (Bool × Refusal)
+checks w (Topic_added clock) = []
+checks w Opened = []
+checks w (Commits c sends) = reads w c ++ (not (nat_lt (speaker w c).seq last_number), Refusal.SeqFull) ∷ []
+checks w (Subscribes c t) = reads w c ++ (not (is_topic w t), Refusal.NotNamed) ∷ []
+checks w (Unsubscribes c s) =
+    reads w c ++ (not (nat_lt s (length w.subscriptions) && is_live c (subscription_at w s)), Refusal.NoSub) ∷ []
+checks w (Disconnects c) = reads w c
+checks w (Errs c) = reads w c
+checks w (Lost c) = there w c ++ (not (is_open (connection_at w c).standing), Refusal.Busy) ∷ []
+checks w (Leaves c) =
+    there w c
+    ++ (is_open (connection_at w c).standing, Refusal.NotLeaving)
+    ∷ (not (is_some (oldest_live c 0 w.subscriptions))
+        && (is_some (speaker w c).flight || nat_lt 0 (length (speaker w c).leftovers)), Refusal.Busy) ∷ []
+checks w (Proposes c t memory) =
+    there w c
+    ++ (not (is_some (speaker w c).flight), Refusal.NoFlight)
+    ∷ (is_some (flight_at w c).mark, Refusal.Marked)
+    ∷ (not (is_topic w t && names t (topics_of (flight_at w c).txn.sends)), Refusal.NotNamed)
+    ∷ (has_ticket t (flight_at w c).given, Refusal.Twice) ∷ []
+checks w (Decides c) =
+    there w c
+    ++ (not (is_some (speaker w c).flight), Refusal.NoFlight)
+    ∷ (is_some (flight_at w c).mark, Refusal.Marked)
+    ∷ (not (is_complete (flight_at w c)), Refusal.Incomplete) ∷ []
+checks w (Withdraws c) =
+    there w c
+    ++ (not (is_some (speaker w c).flight), Refusal.NoFlight)
+    ∷ (not (is_some (flight_at w c).mark), Refusal.NotMarked) ∷ []
+checks w (Cancels c t) = there w c ++ (not (is_topic w t), Refusal.NotNamed) ∷ []
+checks w (Learns t id) = (not (is_topic w t), Refusal.NotNamed) ∷ []
+checks w (Releases t) =
+    (not (is_topic w t), Refusal.NotNamed) ∷ (not (is_some (due_part (topic_at w t))), Refusal.NothingDue) ∷ []
+checks w (Turns t) = (not (is_topic w t), Refusal.NotNamed) ∷ []
+checks w (Takes s) =
+    (not (nat_lt s (length w.subscriptions)), Refusal.NoSub)
+    ∷ (is_some (subscription_at w s).closed || not (is_open (connection_at w (subscription_at w s).connection).standing), Refusal.Gone)
+    ∷ (not (nat_lt (subscription_at w s).taken (length (accepted_at w s))) && not (is_some (end_at w s)), Refusal.NothingDue) ∷ []
+
+-- what the topic refuses of it then
+abbrev pub topic_refusal : World → Event → Option Refusal
+topic_refusal w (Cancels c t) = cancelling w t (find_leftover t (speaker w c).leftovers)
+topic_refusal w (Learns t id) = learning w t id (find_verdict id w.verdicts)
+topic_refusal w e = None
+
+-- why the event has no effect
 abbrev pub refusal : World → Event → Option Refusal
-refusal w (Topic_added clock) = None
-refusal w Opened = None
-refusal w (Commits c sends) =
-    first_refusal (reads w c ++ (not (nat_lt (speaker w c).seq last_number), Refusal.SeqFull) ∷ [])
-refusal w (Subscribes c t) = first_refusal (reads w c ++ (not (is_topic w t), Refusal.NotNamed) ∷ [])
-refusal w (Unsubscribes c s) =
-    first_refusal (reads w c ++ (not (nat_lt s (length w.subscriptions) && is_live c (subscription_at w s)), Refusal.NoSub) ∷ [])
-refusal w (Disconnects c) = first_refusal (reads w c)
-refusal w (Errs c) = first_refusal (reads w c)
-refusal w (Lost c) = first_refusal (there w c ++ (not (is_open (connection_at w c).standing), Refusal.Busy) ∷ [])
-refusal w (Leaves c) =
-    first_refusal (there w c
-      ++ (is_open (connection_at w c).standing, Refusal.NotLeaving)
-      ∷ (not (is_some (oldest_live c 0 w.subscriptions))
-          && (is_some (speaker w c).flight || nat_lt 0 (length (speaker w c).leftovers)), Refusal.Busy) ∷ [])
-refusal w (Proposes c t memory) =
-    first_refusal (there w c
-      ++ (not (is_some (speaker w c).flight), Refusal.NoFlight)
-      ∷ (is_some (flight_at w c).mark, Refusal.Marked)
-      ∷ (not (is_topic w t && names t (topics_of (flight_at w c).txn.sends)), Refusal.NotNamed)
-      ∷ (has_ticket t (flight_at w c).given, Refusal.Twice) ∷ [])
-refusal w (Decides c) =
-    first_refusal (there w c
-      ++ (not (is_some (speaker w c).flight), Refusal.NoFlight)
-      ∷ (is_some (flight_at w c).mark, Refusal.Marked)
-      ∷ (not (is_complete (flight_at w c)), Refusal.Incomplete) ∷ [])
-refusal w (Withdraws c) =
-    first_refusal (there w c
-      ++ (not (is_some (speaker w c).flight), Refusal.NoFlight)
-      ∷ (not (is_some (flight_at w c).mark), Refusal.NotMarked) ∷ [])
-refusal w (Cancels c t) =
-    or_else (first_refusal (there w c ++ (not (is_topic w t), Refusal.NotNamed) ∷ []))
-      (cancelling w t (find_leftover t (speaker w c).leftovers))
-refusal w (Learns t id) =
-    or_else (first_refusal ((not (is_topic w t), Refusal.NotNamed) ∷ [])) (learning w t id (find_verdict id w.verdicts))
-refusal w (Releases t) =
-    first_refusal ((not (is_topic w t), Refusal.NotNamed) ∷ (not (is_some (due_part (topic_at w t))), Refusal.NothingDue) ∷ [])
-refusal w (Turns t) = first_refusal ((not (is_topic w t), Refusal.NotNamed) ∷ [])
-refusal w (Takes s) =
-    first_refusal (
-      (not (nat_lt s (length w.subscriptions)), Refusal.NoSub)
-      ∷ (is_some (subscription_at w s).closed || not (is_open (connection_at w (subscription_at w s).connection).standing), Refusal.Gone)
-      ∷ (not (nat_lt (subscription_at w s).taken (length (accepted_at w s))) && not (is_some (end_at w s)), Refusal.NothingDue) ∷ [])
+refusal w e = or_else (first_refusal (checks w e)) (topic_refusal w e)
 
 -- ---- what is done
 
@@ -255,11 +260,14 @@ left_by w c (Some s) = closed_subscription w s
 abbrev pub leaving : World → ℕ → World
 leaving w c = with_standing w c Standing.Leaving
 
--- why the topic gives no ticket; where there is no memory, if nothing else stands against it
+abbrev pub or_no_memory : Bool → Option ProposeFault → Option ProposeFault
+or_no_memory memory None = if memory then None else Some ProposeFault.NoMemory
+or_no_memory memory (Some fault) = Some fault
+
+-- why the topic gives no ticket; want of memory, where nothing else stands against it
 abbrev pub proposal_fault : World → ℕ → Topic → Bool → Option ProposeFault
 proposal_fault w c t memory =
-    elim (propose_fault (speaker w c).floor (part_at t (flight_at w c).txn) (topic_at w t)) [
-      None ↦ (if memory then None else Some ProposeFault.NoMemory) | Some fault ↦ Some fault ]
+    or_no_memory memory (propose_fault (speaker w c).floor (part_at t (flight_at w c).txn) (topic_at w t))
 
 -- the ticket that the topic gives next
 abbrev pub next_ticket : World → ℕ → Topic → Stamp

@@ -111,12 +111,15 @@ least (p ∷ ps) = Some (least_of p ps)
 abbrev pub next_number : Stamp → TopicState → ℕ
 next_number floor x = max x.clock floor.n + 1
 
--- why the topic gives no ticket: the part is pending, no number is left, or the log is at its limit
-abbrev pub propose_fault : Stamp → TopicPart → TopicState → Option ProposeFault
-propose_fault floor part x = first_refusal (
+abbrev pub propose_checks : Stamp → TopicPart → TopicState → List (Bool × ProposeFault)
+propose_checks floor part x =
     (is_pending part.id x.pending, ProposeFault.Twice)
     ∷ (not (nat_lt (max x.clock floor.n) last_number), ProposeFault.ClockFull)
-    ∷ (not (nat_lt (length x.pending + length x.held) x.log_limit), ProposeFault.LogFull) ∷ [])
+    ∷ (not (nat_lt (length x.pending + length x.held) x.log_limit), ProposeFault.LogFull) ∷ []
+
+-- why the topic gives no ticket: the part is pending, no number is left, or the log is at its limit
+abbrev pub propose_fault : Stamp → TopicPart → TopicState → Option ProposeFault
+propose_fault floor part x = first_refusal (propose_checks floor part x)
 
 -- the part is pending with the next number, which becomes the clock
 abbrev pub proposed : Stamp → TopicPart → TopicState → TopicState
