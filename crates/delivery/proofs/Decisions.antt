@@ -216,7 +216,7 @@ Committed-more : (cs : List Row) (r : Row) (id : TxnId) (stamp : Stamp) → Comm
 Committed-more cs r id stamp h = record { row = h.row; stands = In-append_left h.row cs (r ∷ []) h.stands; id_is = h.id_is; stamp_is = h.stamp_is }
 
 Itemed-more : (cs : List Row) (r : Row) (t : Topic) (i : Item) → Itemed cs t i → Itemed (cs ++ r ∷ []) t i
-Itemed-more cs r t i h = record { row = h.row; stands = In-append_left h.row cs (r ∷ []) h.stands; is = h.is }
+Itemed-more cs r t i h = record { row = h.row; stands = In-append_left h.row cs (r ∷ []) h.stands; is = h.is; named = h.named }
 
 Tied-decided : (ts : List Row) (w : World) (s : ℕ) (f : Flight) → Holds ts w → Decision ts w s f → (u : Topic) → Tied ts (w.commits ++ row_by f ∷ []) u (topic_in w.topics u)
 Tied-decided ts w s f inv dec u =

@@ -59,6 +59,7 @@ pub record Itemed (cs : List Row) (t : Topic) (i : Item) : Type 0 where
   pub row : Row
   pub stands : In row cs
   pub is : item_at t row ≡ i
+  pub named : names t (topics_of row.txn.sends) ≡ true
 
 -- topic t, beside all tickets and the commit list
 pub record Tied (ts cs : List Row) (t : Topic) (x : TopicState) : Type 0 where

@@ -184,7 +184,7 @@ Tied-released ts cs t x takes p all h due =
       items = λ e k j l. let m = In-map_cases (delivered takes x.frontier (item_of p)) e x.subscriptions k in
           elim (In-delivered_cases takes x.frontier (item_of p) m.from j (subst (λ (z : Entry). In j z.accepted) (sym m.is) l)) [
               inl o ↦ h.items m.from m.stands j o
-            | inr d ↦ record { row = r.row; stands = r.stands; is = ap (λ z. item_at z r.row) (sym here) ∙ (r.item_is ∙ d) } ];
+            | inr d ↦ record { row = r.row; stands = r.stands; is = ap (λ z. item_at z r.row) (sym here) ∙ (r.item_is ∙ d); named = subst (λ z. names z (topics_of r.row.txn.sends) ≡ true) here r.named } ];
       undrained = h.undrained;
       sound = Sound-released takes p x h.sound due;
     }

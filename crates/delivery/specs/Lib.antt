@@ -3,3 +3,4 @@ pub mod World
 pub mod Events
 pub mod Runs
 pub mod Settled
+pub mod Laws
