@@ -32,7 +32,7 @@ use Rattle.delivery.proofs.Happening.{Reached, tickets, step_reached}
 
 -- ---- the start
 
-at_new : (P : TopicState → Type 0) (i log_limit : ℕ) (clocks : List ℕ) (j : ℕ) (t : Topic) → t.0 ≡ i + j → ((limit clock : ℕ) → P (new_topic t limit clock)) → P (get_or (new_topics i log_limit clocks) j (new_topic t 0 0))
+pub at_new : (P : TopicState → Type 0) (i log_limit : ℕ) (clocks : List ℕ) (j : ℕ) (t : Topic) → t.0 ≡ i + j → ((limit clock : ℕ) → P (new_topic t limit clock)) → P (get_or (new_topics i log_limit clocks) j (new_topic t 0 0))
 at_new P i log_limit [] j t e h = h 0 0
 at_new P i log_limit (clock ∷ clocks) zero t e h = subst (λ z. P (new_topic z log_limit clock)) (named t i (e ∙ plain i)) (h log_limit clock)
   where

@@ -127,19 +127,19 @@ pub flights_fewer : (past : List Outcome) (old new : List SenderState) → Fewer
 flights_fewer past old new h k s f e =
     let g = h s f e in subst (λ (z : Transaction). made z.id past ≡ z) g.2 (k s g.0 g.1)
 
-same_flights : (senders : List SenderState) → FewerFlights senders senders
+pub same_flights : (senders : List SenderState) → FewerFlights senders senders
 same_flights senders s f e = (f, e, refl)
 
-one_fewer : (senders : List SenderState) (s : ℕ) (x : SenderState) → x.flight ≡ None → FewerFlights senders (set senders s x)
+pub one_fewer : (senders : List SenderState) (s : ℕ) (x : SenderState) → x.flight ≡ None → FewerFlights senders (set senders s x)
 one_fewer senders s x n d f = at_set (λ (z : SenderState). z.flight ≡ Some f → (g : Flight) × ((sender_in senders d).flight ≡ Some g) × (g.txn ≡ f.txn)) senders s d x new_sender
     (λ e k. none_some f (sym n ∙ k)) (λ k. (f, k, refl))
 
-one_same : (senders : List SenderState) (s : ℕ) (x : SenderState) (f g : Flight) → (sender_in senders s).flight ≡ Some f → x.flight ≡ Some g → f.txn ≡ g.txn → FewerFlights senders (set senders s x)
+pub one_same : (senders : List SenderState) (s : ℕ) (x : SenderState) (f g : Flight) → (sender_in senders s).flight ≡ Some f → x.flight ≡ Some g → f.txn ≡ g.txn → FewerFlights senders (set senders s x)
 one_same senders s x f g e d same r y = at_set (λ (z : SenderState). z.flight ≡ Some y → (h : Flight) × ((sender_in senders r).flight ≡ Some h) × (h.txn ≡ y.txn)) senders s r x new_sender
     (λ n k. (f, subst (λ v. (sender_in senders v).flight ≡ Some f) (sym n) e, same ∙ ap (λ (z : Flight). z.txn) (some_same g y (sym d ∙ k)))) (λ k. (y, k, refl))
 
 -- a sender that keeps its flight
-one_kept : (senders : List SenderState) (s : ℕ) (x : SenderState) → x.flight ≡ (sender_in senders s).flight → FewerFlights senders (set senders s x)
+pub one_kept : (senders : List SenderState) (s : ℕ) (x : SenderState) → x.flight ≡ (sender_in senders s).flight → FewerFlights senders (set senders s x)
 one_kept senders s x e r y = at_set (λ (z : SenderState). z.flight ≡ Some y → (h : Flight) × ((sender_in senders r).flight ≡ Some h) × (h.txn ≡ y.txn)) senders s r x new_sender
     (λ n k. (y, subst (λ v. (sender_in senders v).flight ≡ Some y) (sym n) (sym e ∙ k), refl)) (λ k. (y, k, refl))
 
@@ -198,7 +198,7 @@ room_of w c t e =
     let p = passes (propose_checks (speaker w c).floor (part_at t (flight_at w c).txn) (topic_at w t)) e in
     record { apart = p.0; limit = ltb-true (length (topic_at w t).pending + length (topic_at w t).held) (topic_at w t).log_limit (false_not _ p.1.1.0) }
 
-no_fault : (w : World) (c : ℕ) (t : Topic) (memory : Bool) (o : Option ProposeFault) → propose_fault (speaker w c).floor (part_at t (flight_at w c).txn) (topic_at w t) ≡ o → or_no_memory memory o ≡ None → Room w c t
+pub no_fault : (w : World) (c : ℕ) (t : Topic) (memory : Bool) (o : Option ProposeFault) → propose_fault (speaker w c).floor (part_at t (flight_at w c).txn) (topic_at w t) ≡ o → or_no_memory memory o ≡ None → Room w c t
 no_fault w c t memory None e k = room_of w c t e
 no_fault w c t memory (Some fault) e k = none_some fault (sym k)
 

@@ -1,6 +1,6 @@
 //! Laws: functions that do nothing, whose contracts are theorems about every run of the core.
 
-ghost use Rattle.delivery.specs.Laws.{AcceptedIsDue, AgreedInSenderOrder, AgreedOnce, CommitsAreKept, SharedInOneOrder, StampIsGreatest};
+ghost use Rattle.delivery.specs.Laws.{AcceptedIsDue, AgreedInSenderOrder, AgreedOnce, CommitsAreKept, SettledLeavesNoneOut, SharedInOneOrder, StampIsGreatest};
 
 /// The core's commit list is that of the decisions in the run.
 pub fn commits()
@@ -31,4 +31,9 @@ pub fn total_order()
 /// A transaction's stamp is the greatest of the tickets that it was given.
 pub fn stamps()
     ensures { StampIsGreatest }
+{}
+
+/// A settled topic leaves no committed transaction out: each that names it stands in its log.
+pub fn validity()
+    ensures { SettledLeavesNoneOut }
 {}
