@@ -1,6 +1,6 @@
 //! Laws: functions that do nothing, whose contracts are theorems about every run of the core.
 
-ghost use Rattle.delivery.specs.Laws.{AcceptedIsDue, AgreedInSenderOrder, AgreedOnce, CommitsAreKept, SettledLeavesNoneOut, SharedInOneOrder, StampIsGreatest};
+ghost use Rattle.delivery.specs.Laws.{AcceptedIsDue, AgreedInSenderOrder, AgreedOnce, CommitsAreKept, FoundIsLearnt, LagsWhereFull, OddNeverComes, OthersUntouched, RefusalsChangeNothing, SettledLeavesNoneOut, SharedInOneOrder, StampIsGreatest, TicketIsOwn};
 
 /// The core's commit list is that of the decisions in the run.
 pub fn commits()
@@ -36,4 +36,28 @@ pub fn stamps()
 /// A settled topic leaves no committed transaction out: each that names it stands in its log.
 pub fn validity()
     ensures { SettledLeavesNoneOut }
+{}
+
+/// A refused event changes nothing.
+pub fn refusals_change_nothing()
+    ensures { RefusalsChangeNothing }
+{}
+
+/// An event at one topic changes no other, and only the topics that a transaction names give it a ticket,
+/// each computed from its own clock and the sender's floor.
+pub fn genuine()
+    ensures others { OthersUntouched }
+    ensures tickets { TicketIsOwn }
+{}
+
+/// No verdict is refused as another's or as a clash, and no decided part is cancelled.
+pub fn never()
+    ensures refused { OddNeverComes }
+    ensures in_turns { FoundIsLearnt }
+{}
+
+/// An open subscription lags exactly at a release at its topic where as many items as its capacity
+/// weren't handed on.
+pub fn lags_only_where_full()
+    ensures { LagsWhereFull }
 {}
