@@ -2,3 +2,4 @@ pub mod Parts
 pub mod Queues
 pub mod Keeping
 pub mod Turning
+pub mod Allowed

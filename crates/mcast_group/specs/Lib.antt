@@ -3,3 +3,4 @@ pub mod Span
 pub mod Topics
 pub mod Sound
 pub mod Fitting
+pub mod Laws

@@ -3,6 +3,7 @@
 
 mod cause;
 mod fault;
+pub mod law;
 
 pub use cause::Cause;
 pub use fault::{CancelFault, LearnFault, ProposeFault};
