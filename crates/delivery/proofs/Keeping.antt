@@ -14,7 +14,7 @@ use Rattle.mcast_group.specs.Span.{LogRow, Item}
 use Rattle.mcast_group.specs.Sound.{IsSound, IsQueueOf}
 use Rattle.mcast_group.specs.Topics.{TopicState, Pending, Entry, Ended, Verdict, IsVerdict, new_topic, key, told, learned, learn_fault, cancelled, without, delivered, released, released_if, release, due_part, row_of, item_of, turned, tried_all}
 use Rattle.mcast_group.proofs.Parts.{Waits, Waits-told, Waits-without, told_how, each_told, with_stamp, Least, Due, due_is, others, some_same, none_some, not_true}
-use Rattle.mcast_group.proofs.Queues.{Queue-closed, delivered_number, delivered_from, In-delivered_cases}
+use Rattle.mcast_group.proofs.Queues.{Queue-closed, delivered_number, delivered_from, In-delivered_cases, More, More-same, More-then, More-delivered}
 use Rattle.mcast_group.proofs.Keeping.{Learns, learns_is, Sound-learned, Sound-cancelled, Sound-released, next_of}
 use Rattle.mcast_group.proofs.Turning.{release_keeps, turn_keeps}
 use Rattle.delivery.specs.Due.{log_row, item_at}
@@ -97,6 +97,7 @@ pub record Entries (x y : TopicState) : Type 0 where
   pub are : y.subscriptions ≡ map step x.subscriptions
   pub number : (e : Entry) → (step e).number ≡ e.number
   pub from : (e : Entry) → (step e).from ≡ e.from
+  pub grows : (e : Entry) → More e.accepted (step e).accepted
 
 map_same : {X : Type 0} (xs : List X) → xs ≡ map (λ x. x) xs
 map_same [] = refl
@@ -107,7 +108,7 @@ map_map f g [] = refl
 map_map f g (x ∷ xs) = ap (λ z. g (f x) ∷ z) (map_map f g xs)
 
 pub Entries-same : (x y : TopicState) → y.subscriptions ≡ x.subscriptions → Entries x y
-Entries-same x y e = record { step = λ z. z; are = e ∙ map_same x.subscriptions; number = λ z. refl; from = λ z. refl }
+Entries-same x y e = record { step = λ z. z; are = e ∙ map_same x.subscriptions; number = λ z. refl; from = λ z. refl; grows = λ z. More-same z.accepted }
 
 Entries-then : (x y z : TopicState) → Entries x y → Entries y z → Entries x z
 Entries-then x y z a b = record {
@@ -115,6 +116,7 @@ Entries-then x y z a b = record {
   are = b.are ∙ (ap (map b.step) a.are ∙ map_map a.step b.step x.subscriptions);
   number = λ e. b.number (a.step e) ∙ a.number e;
   from = λ e. b.from (a.step e) ∙ a.from e;
+  grows = λ e. More-then e.accepted (a.step e).accepted (b.step (a.step e)).accepted (a.grows e) (b.grows (a.step e));
 }
 
 -- from x to y at topic t
@@ -205,6 +207,7 @@ Keeps-released ts cs t x takes p all h due = record {
     are = refl;
     number = delivered_number takes x.frontier (item_of p);
     from = delivered_from takes x.frontier (item_of p);
+    grows = More-delivered takes x.frontier (item_of p);
   };
   queues = λ from end accepted q. Queue-closed x.base x.frontier x.held from end accepted (row_of p) (item_of p) (next_of x p h.sound due.least.stands) q;
 }

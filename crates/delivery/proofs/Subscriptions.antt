@@ -43,7 +43,7 @@ pub at_end : {X : Type 0} (P : X → Type 0) (xs : List X) (v d : X) → P v →
 at_end P [] v d h = h
 at_end P (x ∷ xs) v d h = at_end P xs v d h
 
-push_length : {X : Type 0} (xs : List X) (x : X) → length (xs ++ x ∷ []) ≡ suc (length xs)
+pub push_length : {X : Type 0} (xs : List X) (x : X) → length (xs ++ x ∷ []) ≡ suc (length xs)
 push_length [] x = refl
 push_length (y ∷ xs) x = ap suc (push_length xs x)
 
@@ -178,7 +178,7 @@ ended_items : (frontier : Stamp) (n : ℕ) (from : Stamp) (to : Option Stamp) (a
 ended_items frontier n from None accepted i k = k
 ended_items frontier n from (Some end) accepted i k = k
 
-set_length : {X : Type 0} (xs : List X) (i : ℕ) (v : X) → length (set xs i v) ≡ length xs
+pub set_length : {X : Type 0} (xs : List X) (i : ℕ) (v : X) → length (set xs i v) ≡ length xs
 set_length [] i v = refl
 set_length (x ∷ xs) zero v = refl
 set_length (x ∷ xs) (suc i) v = ap suc (set_length xs i v)

@@ -1,5 +1,5 @@
 -- The core's events so far as they touch topics and transactions: what each refuses, what it does, and what it answers.
-use Rattle.std.specs.Prelude.{◌≡◌, ℕ, zero, suc, ◌-◌, ◌+◌, ◌==◌, nat_lt, Bool, true, false, not, ◌&&◌, ◌||◌, List, [], ◌∷◌, ◌++◌, map, length, get_or, set, slice_get, Option, Some, None, if◌then◌else◌}
+use Rattle.std.specs.Prelude.{◌≡◌, ℕ, zero, suc, ◌-◌, ◌+◌, ◌==◌, nat_lt, Bool, true, false, not, ◌&&◌, ◌||◌, List, [], ◌∷◌, ◌++◌, map, length, get_or, set, Option, Some, None, if◌then◌else◌}
 use Rattle.std.specs.List.{list_any, list_all}
 use Rattle.std.specs.Option.{is_some}
 use Rattle.mcast_txn.specs.declared.id.Topic.{Topic}
@@ -322,6 +322,12 @@ takes w e = nat_lt (length e.accepted - (subscription_at w e.number).taken) w.ca
 abbrev pub find_in : World → TxnId → Option Verdict
 find_in w id = find_verdict id w.verdicts
 
+-- the item of this number in a queue, from 0
+abbrev pub item_number : ℕ → List Item → Option Item
+item_number n [] = None
+item_number zero (i ∷ items) = Some i
+item_number (suc n) (i ∷ items) = item_number n items
+
 -- the next item is handed on; where there is none, the subscription has lagged, and its connection is leaving
 abbrev pub handed : World → ℕ → Option Item → World
 handed w s None = leaving w (subscription_at w s).connection
@@ -348,7 +354,7 @@ effect w (Cancels c t) = cancelled_at w c t (find_leftover t (speaker w c).lefto
 effect w (Learns t id) = learned_at w t id (find_verdict id w.verdicts)
 effect w (Releases t) = with_topic w t (release (takes w) (topic_at w t))
 effect w (Turns t) = with_topic w t (turned (takes w) (find_in w) (topic_at w t))
-effect w (Takes s) = handed w s (slice_get (accepted_at w s) (subscription_at w s).taken)
+effect w (Takes s) = handed w s (item_number (subscription_at w s).taken (accepted_at w s))
 
 -- ---- what is answered
 
@@ -394,7 +400,7 @@ answer w (Cancels c t) = cancel_answer t (find_leftover t (speaker w c).leftover
 answer w (Learns t id) = Learnt id t
 answer w (Releases t) = Released t
 answer w (Turns t) = Turned t
-answer w (Takes s) = take_answer w s (slice_get (accepted_at w s) (subscription_at w s).taken)
+answer w (Takes s) = take_answer w s (item_number (subscription_at w s).taken (accepted_at w s))
 
 -- ---- a step
 

@@ -146,3 +146,33 @@ delivered_items takes frontier i number from (Some end) accepted j k = inl k
 
 pub In-delivered_cases : (takes : Entry → Bool) (frontier : Stamp) (i : Item) (e : Entry) (j : Item) → In j (delivered takes frontier i e).accepted → In j e.accepted ⊎ (i ≡ j)
 In-delivered_cases takes frontier i e j k = delivered_items takes frontier i e.number e.from e.to e.accepted j k
+
+-- what a queue has accepted only grows
+pub record More (xs ys : List Item) : Type 0 where
+  pub more : List Item
+  pub is : ys ≡ xs ++ more
+
+nothing_more : (xs : List Item) → xs ≡ xs ++ []
+nothing_more [] = refl
+nothing_more (x ∷ xs) = ap (λ z. x ∷ z) (nothing_more xs)
+
+append_again : (xs ys zs : List Item) → (xs ++ ys) ++ zs ≡ xs ++ (ys ++ zs)
+append_again [] ys zs = refl
+append_again (x ∷ xs) ys zs = ap (λ z. x ∷ z) (append_again xs ys zs)
+
+pub More-same : (xs : List Item) → More xs xs
+More-same xs = record { more = []; is = nothing_more xs }
+
+pub More-then : (xs ys zs : List Item) → More xs ys → More ys zs → More xs zs
+More-then xs ys zs a b = record { more = a.more ++ b.more; is = b.is ∙ (ap (λ z. z ++ b.more) a.is ∙ append_again xs a.more b.more) }
+
+delivered_more : (takes : Entry → Bool) (frontier : Stamp) (i : Item) (number : ℕ) (from : Stamp) (to : Option Stamp) (accepted : List Item) → More accepted (delivered takes frontier i (entry number from to accepted)).accepted
+delivered_more takes frontier i number from None accepted = by (takes (entry number from None accepted))
+  where
+    by : (b : Bool) → More accepted (cond b (entry number from None (accepted ++ i ∷ [])) (entry number from (Some frontier) accepted)).accepted
+    by true = record { more = i ∷ []; is = refl }
+    by false = More-same accepted
+delivered_more takes frontier i number from (Some end) accepted = More-same accepted
+
+pub More-delivered : (takes : Entry → Bool) (frontier : Stamp) (i : Item) (e : Entry) → More e.accepted (delivered takes frontier i e).accepted
+More-delivered takes frontier i e = delivered_more takes frontier i e.number e.from e.to e.accepted
