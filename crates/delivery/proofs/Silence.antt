@@ -27,10 +27,6 @@ use Rattle.delivery.proofs.Subscriptions.{at_push, at_push_two, at_old, at_end, 
 use Rattle.delivery.proofs.Happening.{Reached, by_refusal, checked, step_reached, false_not}
 use Rattle.delivery.proofs.Accepting.{start_reached}
 
--- a subscription was closed, or its connection isn't open
-abbrev IsShut : List Connection → List Subscription → ℕ → Type 0
-IsShut connections subs s = is_some (sub_in subs s).closed ≡ true
-
 abbrev stands : List Connection → ℕ → Standing
 stands connections c = (get_or connections c nobody).standing
 
@@ -45,17 +41,17 @@ record Shuts (connections : List Connection) (subs : List Subscription) (others 
   count : length connections ≤ length others
   stay : (c : ℕ) → c < length connections → is_open (stands connections c) ≡ false → is_open (stands others c) ≡ false
   closed : (s : ℕ) → is_some (sub_in subs s).closed ≡ true → is_some (sub_in more s).closed ≡ true
-  subs : length subs ≤ length more
+  grow : length subs ≤ length more
   owner : (s : ℕ) → s < length subs → (sub_in more s).connection ≡ (sub_in subs s).connection
 
 Shuts-same : (connections : List Connection) (subs : List Subscription) → Shuts connections subs connections subs
-Shuts-same connections subs = record { count = omega arith; stay = λ c l e. e; closed = λ s e. e; subs = omega arith; owner = λ s l. refl }
+Shuts-same connections subs = record { count = omega arith; stay = λ c l e. e; closed = λ s e. e; grow = omega arith; owner = λ s l. refl }
 
 Shutting-on : (past : List Outcome) (cs ds : List Connection) (xs ys : List Subscription) → Shuts cs xs ds ys → Shutting past cs xs → Shutting past ds ys
 Shutting-on past cs ds xs ys g h = record {
   ended = λ s to i. g.closed s (h.ended s to i);
   shut = λ c o i k. let m = h.shut c o i k in let n = g.count in let l : c < length cs = m.0 in (omega arith, g.stay c m.0 m.1);
-  owner = λ s c t from i. let m = h.owner s c t from i in let n = g.subs in let l : s < length xs = m.0 in (omega arith, g.owner s m.0 ∙ m.1);
+  owner = λ s c t from i. let m = h.owner s c t from i in let n = g.grow in let l : s < length xs = m.0 in (omega arith, g.owner s m.0 ∙ m.1);
 }
 
 -- an outcome that closes nothing
@@ -106,7 +102,7 @@ Shuts-standing w c standing n = record {
   count = let m = set_length w.connections c (record { sender = (connection_at w c).sender; standing = standing }) in omega arith;
   stay = λ d l e. at_set (λ (z : Connection). is_open z.standing ≡ false) w.connections c d _ nobody (λ k. n) e;
   closed = λ s e. e;
-  subs = omega arith;
+  grow = omega arith;
   owner = λ s l. refl;
 }
 
@@ -133,7 +129,7 @@ Shuts-closed w s (Some e) = record {
   count = omega arith;
   stay = λ c l k. k;
   closed = λ r k. at_set (λ (z : Subscription). is_some z.closed ≡ true) w.subscriptions s r _ no_subscription (λ n. refl) k;
-  subs = let m = set_length w.subscriptions s _ in omega arith;
+  grow = let m : length (closed_with w s (Some e)).subscriptions ≡ length w.subscriptions = set_length w.subscriptions s _ in omega arith;
   owner = λ r l. at_set (λ (z : Subscription). z.connection ≡ (subscription_at w r).connection) w.subscriptions s r _ no_subscription
       (λ n. ap (λ k. (subscription_at w k).connection) (sym n)) refl;
 }
@@ -222,7 +218,7 @@ begun_shut past w c t h =
         count = omega arith;
         stay = λ d l e. e;
         closed = λ s e. at_push (λ (z : Subscription). is_some z.closed ≡ true) w.subscriptions s new no_subscription (λ k d. absurd (false≢true d)) e;
-        subs = omega arith;
+        grow = omega arith;
         owner = λ s l. at_old (λ (z : Subscription). z.connection ≡ (subscription_at w s).connection) w.subscriptions s new no_subscription l refl;
       }) h)
 
@@ -237,7 +233,7 @@ taken_shut past w s l (Some item) h =
         count = omega arith;
         stay = λ d l e. e;
         closed = λ r e. at_set (λ (z : Subscription). is_some z.closed ≡ true) w.subscriptions s r _ no_subscription (λ k. subst (λ n. is_some (subscription_at w n).closed ≡ true) k e) e;
-        subs = let m = set_length w.subscriptions s _ in omega arith;
+        grow = let m : length (handed w s (Some item)).subscriptions ≡ length w.subscriptions = set_length w.subscriptions s _ in omega arith;
         owner = λ r m. at_set (λ (z : Subscription). z.connection ≡ (subscription_at w r).connection) w.subscriptions s r _ no_subscription
             (λ k. ap (λ n. (subscription_at w n).connection) (sym k)) refl;
       }) h)
@@ -265,7 +261,7 @@ happens_shut past w Opened r h e =
         count = omega arith;
         stay = λ c l k. at_old (λ (z : Connection). is_open z.standing ≡ false) w.connections c _ nobody l k;
         closed = λ s k. k;
-        subs = omega arith;
+        grow = omega arith;
         owner = λ s l. refl;
       }) h)
   where
@@ -309,6 +305,69 @@ not_silent past w s h e (inl k) =
     true≢false (sym (h.ended s k.0 k.1) ∙ or_left (is_some (subscription_at w s).closed) _ p)
 not_silent past w s h e (inr k) =
     let p = (checked w (Takes s) e).1.0 in
-    let own = h.owner s k.0 k.1 k.2.0 k.2.2.1.0 in
-    let shut = h.shut k.0 k.2.2.0 k.2.2.1.1.0 k.2.2.1.1.1 in
+    let own = h.owner s k.0 k.1 k.2 k.4 in
+    let shut = h.shut k.0 k.3 k.5 k.6 in
     true≢false (sym (false_not _ (or_right (is_some (subscription_at w s).closed) _ p)) ∙ subst (λ z. is_open (stands w.connections z) ≡ false) (sym own.1) shut.1)
+
+silent_flown : (w : World) (c : ℕ) (sends : List Send) (past : List Outcome) → SilentAfterClose past → SilentAfterClose (flying_answer w c sends ∷ past)
+silent_flown w c [] past h = h
+silent_flown w c (first ∷ others) past h = h
+
+silent_propose : (w : World) (c : ℕ) (t : Topic) (o : Option ProposeFault) (past : List Outcome) → SilentAfterClose past → SilentAfterClose (propose_answer w c t o ∷ past)
+silent_propose w c t None past h = h
+silent_propose w c t (Some fault) past h = h
+
+silent_cancel : (t : Topic) (o : Option Leftover) (past : List Outcome) → SilentAfterClose past → SilentAfterClose (cancel_answer t o ∷ past)
+silent_cancel t None past h = h
+silent_cancel t (Some k) past h = h
+
+silent_leave : (w : World) (c : ℕ) (o : Option ℕ) (past : List Outcome) → SilentAfterClose past → SilentAfterClose (leave_answer w c o ∷ past)
+silent_leave w c None past h = h
+silent_leave w c (Some s) past h = h
+
+silent_take : (w : World) (s : ℕ) (o : Option Item) (past : List Outcome) → (IsSilent s past → Prim.⊥) → SilentAfterClose past → SilentAfterClose (take_answer w s o ∷ past)
+silent_take w s None past n h = h
+silent_take w s (Some item) past n h = (n, h)
+
+silent_answer : (past : List Outcome) (w : World) (e : Event) → Shutting past w.connections w.subscriptions → refusal w e ≡ None → SilentAfterClose past → SilentAfterClose (answer w e ∷ past)
+silent_answer past w (Topic_added clock) s e h = h
+silent_answer past w Opened s e h = h
+silent_answer past w (Commits c sends) s e h = silent_flown w c sends past h
+silent_answer past w (Subscribes c t) s e h = h
+silent_answer past w (Unsubscribes c n) s e h = h
+silent_answer past w (Disconnects c) s e h = h
+silent_answer past w (Errs c) s e h = h
+silent_answer past w (Lost c) s e h = h
+silent_answer past w (Leaves c) s e h = silent_leave w c (oldest_live c 0 w.subscriptions) past h
+silent_answer past w (Proposes c t memory) s e h = silent_propose w c t (proposal_fault w c t memory) past h
+silent_answer past w (Decides c) s e h = h
+silent_answer past w (Withdraws c) s e h = h
+silent_answer past w (Cancels c t) s e h = silent_cancel t (find_leftover t (speaker w c).leftovers) past h
+silent_answer past w (Learns t id) s e h = h
+silent_answer past w (Releases t) s e h = h
+silent_answer past w (Turns t) s e h = h
+silent_answer past w (Takes n) s e h = silent_take w n _ past (not_silent past w n s e) h
+
+record Both (past : List Outcome) (w : World) : Type 0 where
+  shutting : Shutting past w.connections w.subscriptions
+  silent : SilentAfterClose past
+
+step_both : (past : List Outcome) (w : World) (e : Event) → Reached past w → Both past w → Both (outcome w e ∷ past) (happens w e)
+step_both past w e r h =
+    by_refusal (λ v o. Both (o ∷ past) v) w e
+      (λ why. record {
+        shutting = note past w.connections w.subscriptions (Refused why) (record { ended = λ s to d. cc; shut = λ d k. k; owner = λ s d t from k. cc }) h.shutting;
+        silent = h.silent;
+      })
+      (λ n. record { shutting = happens_shut past w e r h.shutting n; silent = silent_answer past w e h.shutting n h.silent })
+
+run_both : (es : List Event) (past : List Outcome) (w : World) → Reached past w → Both past w → Both (outcomes es w past) (run es w)
+run_both [] past w r h = h
+run_both (e ∷ es) past w r h = run_both es (outcome w e ∷ past) (happens w e) (step_reached past w e r) (step_both past w e r h)
+
+pub closed_is_silent : Laws.ClosedIsSilent
+closed_is_silent r =
+    (run_both r.events [] (start r.capacity r.log_limit r.clocks) (start_reached r.capacity r.log_limit r.clocks) (record {
+      shutting = record { ended = λ s to k. absurd k; shut = λ c o k. absurd k; owner = λ s c t from k. absurd k };
+      silent = tt;
+    })).silent

@@ -1,6 +1,6 @@
 //! Laws: functions that do nothing, whose contracts are theorems about every run of the core.
 
-ghost use Rattle.delivery.specs.Laws.{AcceptedIsDue, AgreedInSenderOrder, AgreedOnce, CommitsAreKept, FoundIsLearnt, HandedIsPrefix, LagsWhereFull, OddNeverComes, OthersUntouched, RefusalsChangeNothing, SettledLeavesNoneOut, SharedInOneOrder, StampIsGreatest, TicketIsOwn};
+ghost use Rattle.delivery.specs.Laws.{AcceptedIsDue, AgreedInSenderOrder, AgreedOnce, ClosedIsSilent, CommitsAreKept, FoundIsLearnt, HandedIsPrefix, LagsWhereFull, OddNeverComes, OthersUntouched, RefusalsChangeNothing, SettledLeavesNoneOut, SharedInOneOrder, StampIsGreatest, TicketIsOwn};
 
 /// The core's commit list is that of the decisions in the run.
 pub fn commits()
@@ -65,4 +65,10 @@ pub fn lags_only_where_full()
 /// What was handed on of a subscription is a prefix of what its queue has accepted.
 pub fn handed_prefix()
     ensures { HandedIsPrefix }
+{}
+
+/// Nothing is handed on of a subscription after it was unsubscribed, or after its connection was closed by
+/// itself, by an ERROR or by loss.
+pub fn silent_after_close()
+    ensures { ClosedIsSilent }
 {}
