@@ -1,4 +1,5 @@
 -- Ballots: the tickets of a transaction's topics, and what they decide (Skeen's protocol).
+pub use Rattle.mcast_txn.specs.Ids.{same_id}
 use Rattle.std.specs.Prelude.{◌==◌, ◌&&◌, ℕ, Bool, List, [], ◌∷◌, map, Option, Some, None, Result, Ok, Err, if◌then◌else◌}
 use Rattle.std.specs.List.{flat_map}
 use Rattle.std.specs.Option.{option_map, option_to_list}
@@ -31,9 +32,6 @@ given_rows numbers = flat_map (λ s. option_to_list (option_map (λ n. record { 
 -- the tickets that were put
 abbrev pub tickets_of : Tally → List Ticket
 tickets_of tally = map (λ row. record { id = tally.id; topic = row.topic; n = row.n }) (given_rows tally.numbers)
-
-abbrev pub same_id : TxnId → TxnId → Bool
-same_id a b = a.sender.0 == b.sender.0 && a.seq == b.seq
 
 -- what a slot answers to a ticket: a topic that isn't named has none, and one that is takes one number
 abbrev pub slot_answer : Option (Option ℕ) → Result Unit BallotFault

@@ -1,9 +1,11 @@
+pub mod Agreed
 pub mod Ballot
 pub mod Decided
 pub mod Draft
 pub mod Entries
 pub mod Faults
 pub mod Flight
+pub mod Ids
 pub mod Part
 pub mod Places
 pub mod Sealed

@@ -1,0 +1,299 @@
+-- What was handed on is a prefix of what was accepted.
+use Rattle.std.proofs.Common.{◌≡◌, ◌≢◌, ℕ, zero, suc, ◌+◌, ◌<◌, ◌≤◌, ◌==◌, Bool, true, false, cond, not, ◌&&◌, ◌||◌, ◌⊎◌, inl, inr, List, [], ◌∷◌, ◌++◌, map, length, get_or, set, Option, Some, None, refl, sym, ap, subst, ◌∙◌, arith, ltb}
+use Rattle.std.specs.List.{filter}
+use Rattle.std.proofs.lemmas.Bool.{true≢false, false≢true, eqb-true, eq-eqb, cases_lt, ltb-true}
+use Rattle.mcast_txn.specs.Agreed.{Row, In}
+use Rattle.mcast_txn.specs.declared.id.Topic.{Topic}
+use Rattle.mcast_txn.specs.declared.id.TxnId.{TxnId}
+use Rattle.mcast_txn.specs.declared.send.Send.{Send}
+use Rattle.mcast_txn.specs.declared.stamp.Stamp.{Stamp}
+use Rattle.mcast_txn.proofs.Members.{at_set, at_set_within}
+use Rattle.mcast_group.specs.declared.fault.ProposeFault.{ProposeFault}
+use Rattle.mcast_group.specs.Span.{Item}
+use Rattle.mcast_group.specs.Topics.{TopicState, Entry, Ended, Verdict, new_topic, find_entry, ended, proposed, cancelled, learned, release, turned, unsubscribed}
+use Rattle.mcast_group.proofs.Parts.{some_same, none_some, not_true}
+use Rattle.mcast_group.proofs.Queues.{More, More-same, More-then}
+use Rattle.delivery.specs.World.{World, Leftover, SenderState, Subscription, no_subscription, topic_at, connection_at, speaker, subscription_at, entry_at, entry_items, accepted_at, start, with_topic}
+use Rattle.delivery.specs.Events
+use Rattle.delivery.specs.Events.{Event, Outcome, happens, outcome, refusal, effect, answer, find_leftover, find_verdict, find_in, oldest_live, flown, flying_answer, proposal_fault, proposed_by, propose_answer, cancelled_at, cancel_answer, learned_at, takes, handed, item_number, part_at, flight_at, take_answer, left_by, leave_answer, closed_subscription, closed_with}
+use Rattle.delivery.specs.Events.Event.{Topic_added, Opened, Commits, Subscribes, Unsubscribes, Disconnects, Errs, Lost, Leaves, Proposes, Decides, Withdraws, Cancels, Learns, Releases, Turns, Takes}
+use Rattle.delivery.specs.Events.Outcome.{Refused, Done, Flying, Subscribed, Unsubscribed, Leaving, Error, Gone, Ticket, Failed, Decided, Withdrawn, Cancelled, Learnt, Released, Turned, Handed}
+use Rattle.delivery.specs.Runs.{run, outcomes, handed_of}
+use Rattle.delivery.specs.Laws
+use Rattle.delivery.specs.Laws.{Run, came, after}
+use Rattle.delivery.proofs.Invariant.{topic_in, sub_in, Owned, Inv, Holds}
+use Rattle.delivery.proofs.Keeping.{Entries, Entries-same, Keeps-release, Keeps-turned, at_topic_from}
+use Rattle.delivery.proofs.Subscriptions.{at_push_two, at_old, at_end, at_added, set_length, push_length, found_entry, new_subscription, new_entry, topic_with, taken_more}
+use Rattle.delivery.proofs.Happening.{Reached, tickets, by_refusal, finds, step_reached, checked, false_not}
+use Rattle.delivery.proofs.Accepting.{start_reached}
+
+-- ---- queues grow
+
+find_more_case : (b : Bool) (e f : Entry) (o p : Option Entry) → More e.accepted f.accepted → More (entry_items o) (entry_items p) → More (entry_items (cond b (Some e) o)) (entry_items (cond b (Some f) p))
+find_more_case true e f o p h k = h
+find_more_case false e f o p h k = k
+
+find_more : (n : ℕ) (step : Entry → Entry) → ((e : Entry) → (step e).number ≡ e.number) → ((e : Entry) → More e.accepted (step e).accepted) → (es : List Entry) → More (entry_items (find_entry n es)) (entry_items (find_entry n (map step es)))
+find_more n step number grows [] = More-same []
+find_more n step number grows (e ∷ es) =
+    subst (λ (k : ℕ). More (entry_items (cond (e.number == n) (Some e) (find_entry n es))) (entry_items (cond (k == n) (Some (step e)) (find_entry n (map step es))))) (sym (number e))
+      (find_more_case (e.number == n) e (step e) (find_entry n es) (find_entry n (map step es)) (grows e) (find_more n step number grows es))
+
+abbrev items_by : Option Ended → Option Entry → List Item
+items_by closed entry = elim closed [ None ↦ entry_items entry | Some end ↦ end.accepted ]
+
+More-by : (closed : Option Ended) (a b : Option Entry) → More (entry_items a) (entry_items b) → More (items_by closed a) (items_by closed b)
+More-by None a b h = h
+More-by (Some end) a b h = More-same end.accepted
+
+-- after a step at one topic
+More-topic : (w : World) (t : Topic) (y : TopicState) (s : ℕ) (x : Subscription) → More (entry_items (find_entry s (topic_in w.topics t).subscriptions)) (entry_items (find_entry s y.subscriptions)) → More (items_by x.closed (find_entry s (topic_in w.topics x.topic).subscriptions)) (items_by x.closed (find_entry s (topic_in (set w.topics t.0 y) x.topic).subscriptions))
+More-topic w t y s x h =
+    More-by x.closed (find_entry s (topic_in w.topics x.topic).subscriptions) (find_entry s (topic_in (set w.topics t.0 y) x.topic).subscriptions)
+      (at_topic_from (λ u z. More (entry_items (find_entry s (topic_in w.topics u).subscriptions)) (entry_items (find_entry s z.subscriptions))) w.topics t x.topic y
+        (λ o. h) (More-same (entry_items (find_entry s (topic_in w.topics x.topic).subscriptions))))
+
+entries_more : (x y : TopicState) → Entries x y → (n : ℕ) → More (entry_items (find_entry n x.subscriptions)) (entry_items (find_entry n y.subscriptions))
+entries_more x y en n =
+    subst (λ z. More (entry_items (find_entry n x.subscriptions)) (entry_items (find_entry n z))) (sym en.are)
+      (find_more n en.step en.number en.grows x.subscriptions)
+
+-- ---- the run beside the queues
+
+pub record IsTaken (handed accepted : List Item) (taken : ℕ) : Type 0 where
+  pub rest : List Item
+  pub is : accepted ≡ handed ++ rest
+  pub count : taken ≡ length handed
+
+pub record Handing (past : List Outcome) (w : World) : Type 0 where
+  pub held : (s : ℕ) → s < length w.subscriptions → IsTaken (handed_of s past) (accepted_at w s) (subscription_at w s).taken
+  pub fresh : (s : ℕ) → length w.subscriptions ≤ s → handed_of s past ≡ []
+
+-- from one core to another: queues grow, and nothing is handed on
+record Grows (w v : World) : Type 0 where
+  same : length v.subscriptions ≡ length w.subscriptions
+  taken : (s : ℕ) → (subscription_at v s).taken ≡ (subscription_at w s).taken
+  more : (s : ℕ) → s < length w.subscriptions → More (accepted_at w s) (accepted_at v s)
+
+append_again : (xs ys zs : List Item) → (xs ++ ys) ++ zs ≡ xs ++ (ys ++ zs)
+append_again [] ys zs = refl
+append_again (x ∷ xs) ys zs = ap (λ z. x ∷ z) (append_again xs ys zs)
+
+IsTaken-more : (handed xs ys : List Item) (m n : ℕ) → More xs ys → n ≡ m → IsTaken handed xs m → IsTaken handed ys n
+IsTaken-more handed xs ys m n g e h = record {
+  rest = h.rest ++ g.more;
+  is = g.is ∙ (ap (λ z. z ++ g.more) h.is ∙ append_again handed h.rest g.more);
+  count = e ∙ h.count;
+}
+
+grown : (past : List Outcome) (w v : World) → Grows w v → Handing past w → Handing past v
+grown past w v g h = record {
+  held = λ s l. let m = g.same in let k : s < length w.subscriptions = omega arith in
+      IsTaken-more (handed_of s past) (accepted_at w s) (accepted_at v s) (subscription_at w s).taken (subscription_at v s).taken (g.more s k) (g.taken s) (h.held s k);
+  fresh = λ s l. h.fresh s (let m = g.same in omega arith);
+}
+
+-- an outcome that hands nothing on
+told : (past : List Outcome) (w : World) (o : Outcome) → ((s : ℕ) → handed_of s (o ∷ past) ≡ handed_of s past) → Handing past w → Handing (o ∷ past) w
+told past w o u h = record {
+  held = λ s l. subst (λ z. IsTaken z (accepted_at w s) (subscription_at w s).taken) (sym (u s)) (h.held s l);
+  fresh = λ s l. u s ∙ h.fresh s l;
+}
+
+Grows-topic : (w : World) (t : Topic) (y : TopicState) → ((n : ℕ) → More (entry_items (find_entry n (topic_in w.topics t).subscriptions)) (entry_items (find_entry n y.subscriptions))) → Grows w (record w { topics = set w.topics t.0 y })
+Grows-topic w t y h = record { same = refl; taken = λ s. refl; more = λ s l. More-topic w t y s (subscription_at w s) (h s) }
+
+Grows-same : (w : World) → Grows w w
+Grows-same w = record { same = refl; taken = λ s. refl; more = λ s l. More-same (accepted_at w s) }
+
+-- what says of the topics and subscriptions what w says
+Grows-parts : (w v : World) → ((s : ℕ) → More (accepted_at w s) (accepted_at v s)) → length v.subscriptions ≡ length w.subscriptions → ((s : ℕ) → (subscription_at v s).taken ≡ (subscription_at w s).taken) → Grows w v
+Grows-parts w v m a b = record { same = a; taken = b; more = λ s l. m s }
+
+-- ---- a subscription is closed
+
+kept_case : (b : Bool) (s n : ℕ) (e : Entry) (es : List Entry) → n ≢ s → (e.number == s) ≡ b → find_entry n (filter (λ z. not (z.number == s)) es) ≡ find_entry n es → find_entry n (cond (not b) (e ∷ filter (λ z. not (z.number == s)) es) (filter (λ z. not (z.number == s)) es)) ≡ find_entry n (e ∷ es)
+kept_case true s n e es ne d ih =
+    let k : (e.number == n) ≡ false = not_true (e.number == n) refl (λ f. ne (sym (eqb-true e.number n f) ∙ eqb-true e.number s d)) in
+    ih ∙ ap (λ (c : Bool). cond c (Some e) (find_entry n es)) (sym k)
+kept_case false s n e es ne d ih = ap (λ z. cond (e.number == n) (Some e) z) ih
+
+find_kept : (s n : ℕ) (es : List Entry) → n ≢ s → find_entry n (filter (λ z. not (z.number == s)) es) ≡ find_entry n es
+find_kept s n [] ne = refl
+find_kept s n (e ∷ es) ne = kept_case (e.number == s) s n e es ne refl (find_kept s n es ne)
+
+More-equal : (xs ys : List Item) → ys ≡ xs → More xs ys
+More-equal xs ys e = subst (λ z. More xs z) (sym e) (More-same xs)
+
+ended_same : (frontier : Stamp) (n : ℕ) (from : Stamp) (to : Option Stamp) (accepted : List Item) → (ended frontier (record { number = n; from = from; to = to; accepted = accepted })).accepted ≡ accepted
+ended_same frontier n from None accepted = refl
+ended_same frontier n from (Some end) accepted = refl
+
+open_items : (closed : Option Ended) (entry : Option Entry) → closed ≡ None → items_by closed entry ≡ entry_items entry
+open_items None entry e = refl
+open_items (Some end) entry e = none_some end (sym e)
+
+closed_grows : (past : List Outcome) (w : World) (s : ℕ) → Reached past w → (o : Option Entry) → entry_at w s ≡ o → Grows w (closed_with w s o)
+closed_grows past w s h None e = Grows-same w
+closed_grows past w s h (Some entry) e =
+    let t = (subscription_at w s).topic in let x = topic_in w.topics t in let y = unsubscribed s x in
+    let v = closed_with w s (Some entry) in
+    let f = found_entry s x.subscriptions entry e in
+    let own = subst (λ n. Owned w.subscriptions t n entry.from) f.is (h.inv.subscribes.owned t entry f.stands) in
+    record {
+      same = set_length w.subscriptions s _;
+      taken = λ r. at_set (λ (z : Subscription). z.taken ≡ (subscription_at w r).taken) w.subscriptions s r _ no_subscription
+          (λ k. ap (λ n. (subscription_at w n).taken) (sym k)) refl;
+      more = λ r l. at_set_within (λ (z : Subscription). More (accepted_at w r) (items_by z.closed (find_entry r (topic_in v.topics z.topic).subscriptions))) w.subscriptions s r _ no_subscription own.there
+          (λ k. subst (λ n. More (accepted_at w n) (ended x.frontier entry).accepted) (sym k)
+            (More-equal (accepted_at w s) (ended x.frontier entry).accepted
+              (ended_same x.frontier entry.number entry.from entry.to entry.accepted
+                ∙ sym (open_items (subscription_at w s).closed (entry_at w s) own.closed ∙ ap entry_items e))))
+          (λ ne. More-by (subscription_at w r).closed (find_entry r (topic_in w.topics (subscription_at w r).topic).subscriptions) (find_entry r (topic_in v.topics (subscription_at w r).topic).subscriptions)
+            (at_topic_from (λ u z. More (entry_items (find_entry r (topic_in w.topics u).subscriptions)) (entry_items (find_entry r z.subscriptions))) w.topics t (subscription_at w r).topic y
+              (λ k. More-equal _ _ (ap entry_items (find_kept s r x.subscriptions ne)))
+              (More-same _)));
+    }
+
+-- ---- a subscription begins
+
+push_case : (b : Bool) (n : ℕ) (e new : Entry) (o p : Option Entry) → p ≡ o → cond b (Some e) p ≡ cond b (Some e) o
+push_case b n e new o p f = ap (λ z. cond b (Some e) z) f
+
+find_pushed : (n : ℕ) (es : List Entry) (new : Entry) → new.number ≢ n → find_entry n (es ++ new ∷ []) ≡ find_entry n es
+find_pushed n [] new ne = ap (λ (c : Bool). cond c (Some new) None) (not_true (new.number == n) refl (λ e. ne (eqb-true new.number n e)))
+find_pushed n (e ∷ es) new ne = push_case (e.number == n) n e new (find_entry n es) (find_entry n (es ++ new ∷ [])) (find_pushed n es new ne)
+
+begun_handing : (past : List Outcome) (w : World) (c : ℕ) (t : Topic) → Handing past w → Handing past (effect w (Subscribes c t))
+begun_handing past w c t h =
+    let v = effect w (Subscribes c t) in record {
+      held = λ s l. at_push_two (λ (z : Subscription). IsTaken (handed_of s past) (items_by z.closed (find_entry s (topic_in v.topics z.topic).subscriptions)) z.taken) w.subscriptions s _ no_subscription
+          (λ k. record {
+            rest = entry_items (find_entry s (topic_in v.topics t).subscriptions);
+            is = ap (λ z. z ++ entry_items (find_entry s (topic_in v.topics t).subscriptions)) (sym (h.fresh s (omega arith)));
+            count = ap (λ (z : List Item). length z) (sym (h.fresh s (omega arith)));
+          })
+          (λ ne. let k : s < length w.subscriptions = (let m = push_length w.subscriptions (new_subscription w c t) in omega arith) in
+            IsTaken-more (handed_of s past) (accepted_at w s) _ (subscription_at w s).taken (subscription_at w s).taken
+              (More-topic w t (topic_with w t) s (subscription_at w s)
+                (More-equal _ _ (ap entry_items (find_pushed s (topic_in w.topics t).subscriptions (new_entry w t) (λ e. ne (sym e))))))
+              refl (h.held s k));
+      fresh = λ s l. h.fresh s (let m = push_length w.subscriptions (new_subscription w c t) in omega arith);
+    }
+
+-- ---- an item is handed on
+
+next_of : (xs rest : List Item) (i : Item) → item_number (length xs) (xs ++ rest) ≡ Some i → (others : List Item) × (rest ≡ i ∷ others)
+next_of [] [] i e = none_some i e
+next_of [] (r ∷ rest) i e = (rest, ap (λ z. z ∷ rest) (some_same r i e))
+next_of (x ∷ xs) rest i e = next_of xs rest i e
+
+length_push : (xs : List Item) (i : Item) → length xs + 1 ≡ length (xs ++ i ∷ [])
+length_push [] i = refl
+length_push (x ∷ xs) i = let m = length_push xs i in omega arith
+
+taken_next : (handed accepted : List Item) (n : ℕ) (i : Item) → IsTaken handed accepted n → item_number n accepted ≡ Some i → IsTaken (handed ++ i ∷ []) accepted (n + 1)
+taken_next handed accepted n i h e =
+    let k = next_of handed h.rest i (subst (λ z. item_number z (handed ++ h.rest) ≡ Some i) h.count (subst (λ z. item_number n z ≡ Some i) h.is e)) in
+    record {
+      rest = k.0;
+      is = h.is ∙ (ap (λ z. handed ++ z) k.1 ∙ sym (append_again handed (i ∷ []) k.0));
+      count = ap (λ (z : ℕ). z + 1) h.count ∙ length_push handed i;
+    }
+
+handed_other : (s r : ℕ) (i : Item) (past : List Outcome) → r ≢ s → handed_of s (Handed r i ∷ past) ≡ handed_of s past
+handed_other s r i past ne = ap (λ (b : Bool). cond b (handed_of s past ++ i ∷ []) (handed_of s past)) (not_true (r == s) refl (λ e. ne (eqb-true r s e)))
+
+handed_same : (s : ℕ) (i : Item) (past : List Outcome) → handed_of s (Handed s i ∷ past) ≡ handed_of s past ++ i ∷ []
+handed_same s i past = ap (λ (b : Bool). cond b (handed_of s past ++ i ∷ []) (handed_of s past)) (eq-eqb s s refl)
+
+handed_handing : (past : List Outcome) (w : World) (s : ℕ) → s < length w.subscriptions → Handing past w → (o : Option Item) → item_number (subscription_at w s).taken (accepted_at w s) ≡ o → Handing (take_answer w s o ∷ past) (handed w s o)
+handed_handing past w s l h None e = record { held = h.held; fresh = h.fresh }
+handed_handing past w s l h (Some i) e =
+    let v = handed w s (Some i) in record {
+      held = λ r m. at_set_within (λ (z : Subscription). IsTaken (handed_of r (Handed s i ∷ past)) (items_by z.closed (find_entry r (topic_in w.topics z.topic).subscriptions)) z.taken) w.subscriptions s r _ no_subscription l
+          (λ k. subst (λ n. IsTaken (handed_of n (Handed s i ∷ past)) (items_by (subscription_at w s).closed (find_entry n (topic_in w.topics (subscription_at w s).topic).subscriptions)) ((subscription_at w s).taken + 1)) (sym k)
+            (subst (λ z. IsTaken z (accepted_at w s) ((subscription_at w s).taken + 1)) (sym (handed_same s i past))
+              (taken_next (handed_of s past) (accepted_at w s) (subscription_at w s).taken i (h.held s l) e)))
+          (λ ne. subst (λ z. IsTaken z (accepted_at w r) (subscription_at w r).taken) (sym (handed_other r s i past (λ k. ne (sym k))))
+            (h.held r (let n = set_length w.subscriptions s (taken_more w s) in omega arith)));
+      fresh = λ r m. let n = set_length w.subscriptions s (taken_more w s) in
+          handed_other r s i past (λ k. omega arith) ∙ h.fresh r (omega arith);
+    }
+
+-- ---- each event
+
+flown_handing : (past : List Outcome) (w : World) (c : ℕ) (sends : List Send) → Handing past w → Handing (flying_answer w c sends ∷ past) (flown w c sends)
+flown_handing past w c [] h = record { held = h.held; fresh = h.fresh }
+flown_handing past w c (first ∷ others) h = record { held = h.held; fresh = h.fresh }
+
+pending_same : (w : World) (t : Topic) (y : TopicState) → y.subscriptions ≡ (topic_in w.topics t).subscriptions → Grows w (with_topic w t y)
+pending_same w t y e = Grows-topic w t y (entries_more (topic_in w.topics t) y (Entries-same (topic_in w.topics t) y e))
+
+proposed_handing : (past : List Outcome) (w : World) (c : ℕ) (t : Topic) (o : Option ProposeFault) → Handing past w → Handing (propose_answer w c t o ∷ past) (proposed_by w c t o)
+proposed_handing past w c t None h =
+    let k = grown past w (with_topic w t (proposed (speaker w c).floor (part_at t (flight_at w c).txn) (topic_at w t))) (pending_same w t _ refl) h in record { held = k.held; fresh = k.fresh }
+proposed_handing past w c t (Some fault) h = record { held = h.held; fresh = h.fresh }
+
+cancelled_handing : (past : List Outcome) (w : World) (c : ℕ) (t : Topic) (o : Option Leftover) → Handing past w → Handing (cancel_answer t o ∷ past) (cancelled_at w c t o)
+cancelled_handing past w c t None h = record { held = h.held; fresh = h.fresh }
+cancelled_handing past w c t (Some k) h =
+    let g = grown past w (with_topic w t (cancelled k.id (topic_at w t))) (pending_same w t _ refl) h in record { held = g.held; fresh = g.fresh }
+
+learned_handing : (past : List Outcome) (w : World) (t : Topic) (id : TxnId) (o : Option Verdict) → Handing past w → Handing (Learnt id t ∷ past) (learned_at w t id o)
+learned_handing past w t id None h = record { held = h.held; fresh = h.fresh }
+learned_handing past w t id (Some v) h =
+    let g = grown past w (with_topic w t (learned id v.stamp (topic_at w t))) (pending_same w t _ refl) h in record { held = g.held; fresh = g.fresh }
+
+left_handing : (past : List Outcome) (w : World) (c : ℕ) (o : Option ℕ) → Reached past w → Handing past w → Handing (leave_answer w c o ∷ past) (left_by w c o)
+left_handing past w c None r h = record { held = h.held; fresh = h.fresh }
+left_handing past w c (Some s) r h =
+    told past (closed_subscription w s) (leave_answer w c (Some s)) (λ n. refl)
+      (grown past w (closed_subscription w s) (closed_grows past w s r (entry_at w s) refl) h)
+
+happens_handing : (past : List Outcome) (w : World) (e : Event) → Reached past w → Handing past w → refusal w e ≡ None → Handing (answer w e ∷ past) (effect w e)
+happens_handing past w (Topic_added clock) r h e = told past (effect w (Topic_added clock)) Done (λ n. refl)
+    (grown past w (effect w (Topic_added clock)) (record {
+      same = refl;
+      taken = λ s. refl;
+      more = λ s l. More-by (subscription_at w s).closed (entry_at w s) (entry_at (effect w (Topic_added clock)) s)
+          (at_added (λ u z. More (entry_items (find_entry s (topic_in w.topics u).subscriptions)) (entry_items (find_entry s z.subscriptions))) w.topics w.log_limit clock (subscription_at w s).topic
+            (λ k. k) (More-same (entry_items (entry_at w s))));
+    }) h)
+happens_handing past w Opened r h e = record { held = h.held; fresh = h.fresh }
+happens_handing past w (Commits c sends) r h e = flown_handing past w c sends h
+happens_handing past w (Subscribes c t) r h e = told past (effect w (Subscribes c t)) (answer w (Subscribes c t)) (λ n. refl) (begun_handing past w c t h)
+happens_handing past w (Unsubscribes c s) r h e =
+    told past (closed_subscription w s) (answer w (Unsubscribes c s)) (λ n. refl)
+      (grown past w (closed_subscription w s) (closed_grows past w s r (entry_at w s) refl) h)
+happens_handing past w (Disconnects c) r h e = record { held = h.held; fresh = h.fresh }
+happens_handing past w (Errs c) r h e = record { held = h.held; fresh = h.fresh }
+happens_handing past w (Lost c) r h e = record { held = h.held; fresh = h.fresh }
+happens_handing past w (Leaves c) r h e = left_handing past w c (oldest_live c 0 w.subscriptions) r h
+happens_handing past w (Proposes c t memory) r h e = proposed_handing past w c t (proposal_fault w c t memory) h
+happens_handing past w (Decides c) r h e = record { held = h.held; fresh = h.fresh }
+happens_handing past w (Withdraws c) r h e = record { held = h.held; fresh = h.fresh }
+happens_handing past w (Cancels c t) r h e = cancelled_handing past w c t (find_leftover t (speaker w c).leftovers) h
+happens_handing past w (Learns t id) r h e = learned_handing past w t id (find_verdict id w.verdicts) h
+happens_handing past w (Releases t) r h e = told past (effect w (Releases t)) (Released t) (λ n. refl)
+    (grown past w (effect w (Releases t)) (Grows-topic w t _ (entries_more (topic_in w.topics t) _
+      (Keeps-release (tickets past) w.commits t (takes w) (topic_at w t) r.inv.consistent (r.inv.tied t)).entries)) h)
+happens_handing past w (Turns t) r h e = told past (effect w (Turns t)) (Turned t) (λ n. refl)
+    (grown past w (effect w (Turns t)) (Grows-topic w t _ (entries_more (topic_in w.topics t) _
+      (Keeps-turned (tickets past) w.commits t (takes w) (find_in w) (topic_at w t) r.inv.consistent (finds (tickets past) w r.inv) (r.inv.tied t)).entries)) h)
+happens_handing past w (Takes s) r h e =
+    handed_handing past w s (ltb-true s (length w.subscriptions) (false_not (ltb s (length w.subscriptions)) (checked w (Takes s) e).0)) h _ refl
+
+pub step_handing : (past : List Outcome) (w : World) (e : Event) → Reached past w → Handing past w → Handing (outcome w e ∷ past) (happens w e)
+step_handing past w e r h =
+    by_refusal (λ v o. Handing (o ∷ past) v) w e (λ why. told past w (Refused why) (λ n. refl) h) (λ n. happens_handing past w e r h n)
+
+pub run_handing : (es : List Event) (past : List Outcome) (w : World) → Reached past w → Handing past w → Handing (outcomes es w past) (run es w)
+run_handing [] past w r h = h
+run_handing (e ∷ es) past w r h = run_handing es (outcome w e ∷ past) (happens w e) (step_reached past w e r) (step_handing past w e r h)
+
+pub handed_is_prefix : Laws.HandedIsPrefix
+handed_is_prefix r s l =
+    let h = run_handing r.events [] (start r.capacity r.log_limit r.clocks) (start_reached r.capacity r.log_limit r.clocks)
+        (record { held = λ n k. absurd (omega arith); fresh = λ n k. refl }) in
+    ((h.held s l).rest, (h.held s l).is)

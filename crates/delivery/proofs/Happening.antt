@@ -1,0 +1,358 @@
+-- Every event keeps the invariant, and the commit list of the past is the core's.
+use Rattle.std.proofs.Common.{◌≡◌, ◌≢◌, ℕ, zero, suc, ◌+◌, ◌<◌, ◌≤◌, ◌==◌, max, Bool, true, false, cond, not, ◌&&◌, ◌||◌, ◌⊎◌, inl, inr, List, [], ◌∷◌, ◌++◌, map, length, get_or, set, slice_get, Option, Some, None, refl, sym, ap, subst, ◌∙◌, arith, ltb}
+use Rattle.std.specs.List.{filter, list_any, list_all}
+use Rattle.std.specs.Option.{is_some}
+use Rattle.std.proofs.lemmas.Bool.{true≢false, false≢true, not-true, and_parts, and_from, eqb-true, eq-eqb, ltb-true}
+use Rattle.mcast_txn.specs.Stamp.{stamp_lt, zero_stamp, greatest}
+use Rattle.mcast_txn.specs.Transaction.{TopicPart, topics_of, part_of}
+use Rattle.mcast_txn.specs.Agreed.{Transaction, Row, same_id, In, names, stamp_of}
+use Rattle.mcast_txn.specs.declared.id.Topic.{Topic}
+use Rattle.mcast_txn.specs.declared.id.TxnId.{TxnId}
+use Rattle.mcast_txn.specs.declared.send.Send.{Send}
+use Rattle.mcast_txn.specs.declared.stamp.Stamp.{Stamp}
+use Rattle.mcast_txn.proofs.Orders.{id_equal, id_same, id_itself, id_turned}
+use Rattle.mcast_txn.proofs.Members.{at_set, at_set_within}
+use Rattle.mcast_group.specs.declared.fault.ProposeFault.{ProposeFault}
+use Rattle.mcast_group.specs.declared.fault.LearnFault.{LearnFault}
+use Rattle.mcast_group.specs.Checks.{first_refusal}
+use Rattle.mcast_group.specs.Span.{LogRow, Item}
+use Rattle.mcast_group.specs.Topics.{TopicState, Pending, Entry, Ended, Verdict, IsVerdict, new_topic, propose_checks, propose_fault, is_pending, learn_fault, learned, released, release, turned, last_number}
+use Rattle.mcast_group.proofs.Parts.{some_same, none_some, not_true}
+use Rattle.delivery.specs.declared.refusal.Refusal.{Refusal}
+use Rattle.delivery.specs.World.{World, Flight, Leftover, SenderState, Connection, Subscription, Standing, topic_at, sender_at, new_sender, connection_at, speaker, subscription_at, entry_at, accepted_at, start, new_topics}
+use Rattle.delivery.specs.Events
+use Rattle.delivery.specs.Events.{Event, Outcome, happens, outcome, refusal, effect, answer, there, reads, flight_at, flight_or, find_leftover, find_verdict, find_in, oldest_live, has_ticket, is_complete, part_at, next_txn, next_ticket, flown, flying_answer, proposal_fault, proposed_by, propose_answer, decided, withdrawn, cancelled_at, cancelling, cancel_answer, learned_at, learning, takes, handed, take_answer, left_by, leave_answer, closed_subscription, closed_with, or_else, or_no_memory, learn_refusal, is_topic, checks, topic_refusal}
+use Rattle.delivery.specs.Events.Event.{Topic_added, Opened, Commits, Subscribes, Unsubscribes, Disconnects, Errs, Lost, Leaves, Proposes, Decides, Withdraws, Cancels, Learns, Releases, Turns, Takes}
+use Rattle.delivery.specs.Events.Outcome.{Refused, Done, Flying, Ticket, Failed, Decided}
+use Rattle.delivery.specs.Runs.{ outcomes, made, commits_of}
+use Rattle.delivery.proofs.Invariant.{row, Consistent, Tied, topic_in, Flies, Serves, sender_in, Voted, Subscribes as Subscribed, Inv, Holds, Committed}
+use Rattle.delivery.proofs.Keeping.{topic_step, Keeps, Keeps-learned, Keeps-release, Keeps-turned, Finds}
+use Rattle.delivery.proofs.Proposals.{New, enter_step, heard}
+use Rattle.delivery.proofs.Decisions
+use Rattle.delivery.proofs.Decisions.{flown_step, marked_step, decide_step, withdrawn_step, cancel_step}
+use Rattle.delivery.proofs.Subscriptions.{subscribe_step, end_step, take_step, added_step, opened_step, at_push}
+
+-- ---- refusals
+
+-- none of these holds
+abbrev pub NoneHolds : {F : Type 0} → List (Bool × F) → Type 0
+NoneHolds [] = Unit {0}
+NoneHolds (c ∷ cs) = (c.0 ≡ false) × NoneHolds cs
+
+passes_case : {F : Type 0} (b : Bool) (f : F) (rest : Option F) (P : Type 0) → (rest ≡ None → P) → cond b (Some f) rest ≡ None → (b ≡ false) × P
+passes_case true f rest P ih e = none_some f (sym e)
+passes_case false f rest P ih e = (refl, ih e)
+
+pub passes : {F : Type 0} (cs : List (Bool × F)) → first_refusal cs ≡ None → NoneHolds cs
+passes [] e = tt
+passes (c ∷ cs) e = passes_case c.0 c.1 (first_refusal cs) (NoneHolds cs) (passes cs) e
+
+-- an event is refused and nothing is changed, or it isn't
+refusal_case : (P : World → Outcome → Type 0) (w : World) (e : Event) (o : Option Refusal) → ((why : Refusal) → P w (Refused why)) → (o ≡ None → P (effect w e) (answer w e)) → P (elim o [ None ↦ effect w e | Some why ↦ w ]) (elim o [ None ↦ answer w e | Some why ↦ Refused why ])
+refusal_case P w e None h k = k refl
+refusal_case P w e (Some why) h k = h why
+
+pub by_refusal : (P : World → Outcome → Type 0) (w : World) (e : Event) → ((why : Refusal) → P w (Refused why)) → (refusal w e ≡ None → P (effect w e) (answer w e)) → P (happens w e) (outcome w e)
+by_refusal P w e h k = refusal_case P w e (refusal w e) h k
+
+or_else_first : (a b : Option Refusal) → or_else a b ≡ None → a ≡ None
+or_else_first None b e = refl
+or_else_first (Some why) b e = none_some why (sym e)
+
+pub or_else_after : (a b : Option Refusal) → or_else a b ≡ None → b ≡ None
+or_else_after None b e = e
+or_else_after (Some why) b e = none_some why (sym e)
+
+-- what an event that isn't refused says
+pub checked : (w : World) (e : Event) → refusal w e ≡ None → NoneHolds (checks w e)
+checked w e h = passes (checks w e) (or_else_first (first_refusal (checks w e)) (topic_refusal w e) h)
+
+-- the flight of an event that wants one
+pub record InFlight (w : World) (c : ℕ) : Type 0 where
+  pub flight : Flight
+  pub is : (speaker w c).flight ≡ Some flight
+  pub at : flight_at w c ≡ flight
+
+flight_case : (w : World) (c : ℕ) (o : Option Flight) → (speaker w c).flight ≡ o → not (is_some o) ≡ false → InFlight w c
+flight_case w c None e h = absurd (true≢false h)
+flight_case w c (Some f) e h = record { flight = f; is = e; at = ap flight_or e }
+
+pub in_flight : (w : World) (c : ℕ) → not (is_some (speaker w c).flight) ≡ false → InFlight w c
+in_flight w c h = flight_case w c (speaker w c).flight refl h
+
+pub false_not : (b : Bool) → not b ≡ false → b ≡ true
+false_not true e = refl
+false_not false e = absurd (true≢false e)
+
+-- ---- tickets of a past
+
+-- each ticket with its transaction
+abbrev pub tickets : List Outcome → List Row
+tickets [] = []
+tickets (Ticket id ticket ∷ before) = row (made id before) ticket ∷ tickets before
+tickets (o ∷ before) = tickets before
+
+-- each undecided transaction is as it was made
+abbrev pub Flights : List Outcome → List SenderState → Type 0
+Flights past senders = (s : ℕ) (f : Flight) → (sender_in senders s).flight ≡ Some f → made f.txn.id past ≡ f.txn
+
+pub record Reached (past : List Outcome) (w : World) : Type 0 where
+  pub inv : Holds (tickets past) w
+  pub flights : Flights past w.senders
+  pub commits : commits_of past ≡ w.commits
+
+-- ---- what is found
+
+find_verdict_case : (id : TxnId) (v u : Verdict) (vs : List Verdict) (b : Bool) → same_id v.id id ≡ b → (find_verdict id vs ≡ Some u → In u vs × (u.id ≡ id)) → cond b (Some v) (find_verdict id vs) ≡ Some u → In u (v ∷ vs) × (u.id ≡ id)
+find_verdict_case id v u vs true e ih d =
+    let same = some_same v u d in (inl same, subst (λ (z : Verdict). z.id ≡ id) same (id_equal v.id id e))
+find_verdict_case id v u vs false e ih d = let h = ih d in (inr h.0, h.1)
+
+pub verdict_found : (id : TxnId) (vs : List Verdict) (u : Verdict) → find_verdict id vs ≡ Some u → In u vs × (u.id ≡ id)
+verdict_found id [] u e = cc
+verdict_found id (v ∷ vs) u e = find_verdict_case id v u vs (same_id v.id id) refl (verdict_found id vs u) e
+
+pub finds : (ts : List Row) (w : World) → Holds ts w → Finds w.commits (find_in w)
+finds ts w inv id v e =
+    let f = verdict_found id w.verdicts v e in let k = inv.voted v f.0 in
+    (k.is, record { row = k.row; stands = k.stands; id_is = k.id_is; stamp_is = k.stamp_is })
+
+-- ---- the core keeps all, and its tickets stay, where no ticket is given
+
+-- one of the senders has less in flight
+abbrev pub FewerFlights : List SenderState → List SenderState → Type 0
+FewerFlights old new = (s : ℕ) (f : Flight) → (sender_in new s).flight ≡ Some f → (g : Flight) × ((sender_in old s).flight ≡ Some g) × (g.txn ≡ f.txn)
+
+pub flights_fewer : (past : List Outcome) (old new : List SenderState) → FewerFlights old new → Flights past old → Flights past new
+flights_fewer past old new h k s f e =
+    let g = h s f e in subst (λ (z : Transaction). made z.id past ≡ z) g.2 (k s g.0 g.1)
+
+pub same_flights : (senders : List SenderState) → FewerFlights senders senders
+same_flights senders s f e = (f, e, refl)
+
+pub one_fewer : (senders : List SenderState) (s : ℕ) (x : SenderState) → x.flight ≡ None → FewerFlights senders (set senders s x)
+one_fewer senders s x n d f = at_set (λ (z : SenderState). z.flight ≡ Some f → (g : Flight) × ((sender_in senders d).flight ≡ Some g) × (g.txn ≡ f.txn)) senders s d x new_sender
+    (λ e k. none_some f (sym n ∙ k)) (λ k. (f, k, refl))
+
+pub one_same : (senders : List SenderState) (s : ℕ) (x : SenderState) (f g : Flight) → (sender_in senders s).flight ≡ Some f → x.flight ≡ Some g → f.txn ≡ g.txn → FewerFlights senders (set senders s x)
+one_same senders s x f g e d same r y = at_set (λ (z : SenderState). z.flight ≡ Some y → (h : Flight) × ((sender_in senders r).flight ≡ Some h) × (h.txn ≡ y.txn)) senders s r x new_sender
+    (λ n k. (f, subst (λ v. (sender_in senders v).flight ≡ Some f) (sym n) e, same ∙ ap (λ (z : Flight). z.txn) (some_same g y (sym d ∙ k)))) (λ k. (y, k, refl))
+
+-- a sender that keeps its flight
+pub one_kept : (senders : List SenderState) (s : ℕ) (x : SenderState) → x.flight ≡ (sender_in senders s).flight → FewerFlights senders (set senders s x)
+one_kept senders s x e r y = at_set (λ (z : SenderState). z.flight ≡ Some y → (h : Flight) × ((sender_in senders r).flight ≡ Some h) × (h.txn ≡ y.txn)) senders s r x new_sender
+    (λ n k. (y, subst (λ v. (sender_in senders v).flight ≡ Some y) (sym n) (sym e ∙ k), refl)) (λ k. (y, k, refl))
+
+-- ---- each event
+
+made_new : (past : List Outcome) (txn : Transaction) → made txn.id (Flying txn ∷ past) ≡ txn
+made_new past txn = rw (id_itself txn.id) refl
+
+made_other : (past : List Outcome) (txn : Transaction) (id : TxnId) → same_id txn.id id ≡ false → made id (Flying txn ∷ past) ≡ made id past
+made_other past txn id e = rw e refl
+
+flown_reached : (past : List Outcome) (w : World) (c : ℕ) (sends : List Send) → Reached past w → Reached (flying_answer w c sends ∷ past) (flown w c sends)
+flown_reached past w c [] h = record { inv = h.inv; flights = h.flights; commits = h.commits }
+flown_reached past w c (first ∷ others) h =
+    let s = (connection_at w c).sender in let txn = next_txn w c (first ∷ others) in record {
+      inv = flown_step (tickets past) w s first others h.inv;
+      flights = λ d f. at_set (λ (z : SenderState). z.flight ≡ Some f → made f.txn.id (Flying txn ∷ past) ≡ f.txn) w.senders s d _ new_sender
+          (λ n k. made_txn txn f (ap (λ (z : Flight). z.txn) (some_same _ f k)))
+          (λ k. old d f k);
+      commits = h.commits;
+    }
+  where
+    made_txn : (txn : Transaction) (f : Flight) → txn ≡ f.txn → made f.txn.id (Flying txn ∷ past) ≡ f.txn
+    made_txn txn f e = subst (λ (z : Transaction). made z.id (Flying txn ∷ past) ≡ z) e (made_new past txn)
+    newer : (d : ℕ) (f : Flight) → (sender_in w.senders d).flight ≡ Some f → (next_txn w c (first ∷ others)).id ≡ f.txn.id → Prim.⊥
+    newer d f e k =
+        let g = (h.inv.serves d).flying f e in
+        let l : f.txn.id.seq ≤ (sender_in w.senders d).seq = g.seq_le in
+        let m : (sender_in w.senders (connection_at w c).sender).seq + 1 ≡ f.txn.id.seq = ap (λ (z : TxnId). z.seq) k in
+        let n : (connection_at w c).sender ≡ d = ap (λ (z : TxnId). z.sender.0) k ∙ g.sender in
+        let o : f.txn.id.seq ≤ (sender_in w.senders (connection_at w c).sender).seq = subst (λ v. f.txn.id.seq ≤ (sender_in w.senders v).seq) (sym n) l in
+        omega arith
+    old : (d : ℕ) (f : Flight) → (sender_in w.senders d).flight ≡ Some f → made f.txn.id (Flying (next_txn w c (first ∷ others)) ∷ past) ≡ f.txn
+    old d f e =
+        made_other past (next_txn w c (first ∷ others)) f.txn.id
+          (not_true (same_id (next_txn w c (first ∷ others)).id f.txn.id) refl (λ k. newer d f e (id_equal (next_txn w c (first ∷ others)).id f.txn.id k)))
+        ∙ h.flights d f e
+
+-- where no ticket is given and nothing is decided or made, the past says no more of these
+quiet : (past : List Outcome) (w v : World) → Reached past w → Inv (tickets past) v.commits v.verdicts v.topics v.senders v.subscriptions → FewerFlights w.senders v.senders → v.commits ≡ w.commits → Reached past v
+quiet past w v h inv few e = record {
+  inv = inv;
+  flights = flights_fewer past w.senders v.senders few h.flights;
+  commits = h.commits ∙ sym e;
+}
+
+-- ---- propose
+
+-- what a topic's leave for a ticket says
+pub record Room (w : World) (c : ℕ) (t : Topic) : Type 0 where
+  pub apart : is_pending (flight_at w c).txn.id (topic_at w t).pending ≡ false
+  pub limit : let x = topic_at w t in length x.pending + length x.held < x.log_limit
+
+room_of : (w : World) (c : ℕ) (t : Topic) → propose_fault (speaker w c).floor (part_at t (flight_at w c).txn) (topic_at w t) ≡ None → Room w c t
+room_of w c t e =
+    let p = passes (propose_checks (speaker w c).floor (part_at t (flight_at w c).txn) (topic_at w t)) e in
+    record { apart = p.0; limit = ltb-true (length (topic_at w t).pending + length (topic_at w t).held) (topic_at w t).log_limit (false_not _ p.1.1.0) }
+
+pub no_fault : (w : World) (c : ℕ) (t : Topic) (memory : Bool) (o : Option ProposeFault) → propose_fault (speaker w c).floor (part_at t (flight_at w c).txn) (topic_at w t) ≡ o → or_no_memory memory o ≡ None → Room w c t
+no_fault w c t memory None e k = room_of w c t e
+no_fault w c t memory (Some fault) e k = none_some fault (sym k)
+
+-- what a proposal that isn't refused says
+pub record Asks (w : World) (c : ℕ) (t : Topic) : Type 0 where
+  pub flying : InFlight w c
+  pub room : t.0 < length w.topics
+  pub named : names t (topics_of (flight_at w c).txn.sends) ≡ true
+  pub unheard : has_ticket t (flight_at w c).given ≡ false
+
+pub asks_of : (w : World) (c : ℕ) (t : Topic) (memory : Bool) → refusal w (Proposes c t memory) ≡ None → Asks w c t
+asks_of w c t memory e =
+    let p = checked w (Proposes c t memory) e in
+    let n = and_parts (is_topic w t) (names t (topics_of (flight_at w c).txn.sends)) (false_not _ p.1.1.1.1.0) in
+    record { flying = in_flight w c p.1.1.0; room = ltb-true t.0 (length w.topics) n.0; named = n.1; unheard = p.1.1.1.1.1.0 }
+
+pub new_ticket : (w : World) (c : ℕ) (t : Topic) (a : Asks w c t) → Room w c t → New w (connection_at w c).sender t (flight_at w c)
+new_ticket w c t a r = record {
+  flight = a.flying.is ∙ ap Some (sym a.flying.at); room = a.room; named = a.named; unheard = a.unheard; apart = r.apart; limit = r.limit;
+}
+
+proposed_case : (past : List Outcome) (w : World) (c : ℕ) (t : Topic) (memory : Bool) → Reached past w → Asks w c t → (o : Option ProposeFault) → proposal_fault w c t memory ≡ o → Reached (propose_answer w c t o ∷ past) (proposed_by w c t o)
+proposed_case past w c t memory h a None e =
+    let s = (connection_at w c).sender in let f = flight_at w c in
+    let new = new_ticket w c t a (no_fault w c t memory (propose_fault (speaker w c).floor (part_at t f.txn) (topic_at w t)) refl e) in record {
+      inv = subst (λ (z : Transaction). Holds (row z (next_ticket w c t) ∷ tickets past) (proposed_by w c t None)) (sym (h.flights s f new.flight)) (enter_step (tickets past) w s t f h.inv new);
+      flights = flights_fewer past w.senders _ (one_same w.senders s _ f _ new.flight refl refl) h.flights;
+      commits = h.commits;
+    }
+proposed_case past w c t memory h a (Some fault) e =
+    let s = (connection_at w c).sender in let f = flight_at w c in let k = a.flying.is ∙ ap Some (sym a.flying.at) in record {
+      inv = marked_step (tickets past) w s f (record f { mark = Some fault }) h.inv k refl refl;
+      flights = flights_fewer past w.senders _ (one_same w.senders s _ f _ k refl refl) h.flights;
+      commits = h.commits;
+    }
+
+-- ---- decide
+
+decided_reached : (past : List Outcome) (w : World) (c : ℕ) → Reached past w → refusal w (Decides c) ≡ None → Reached (answer w (Decides c) ∷ past) (decided w c)
+decided_reached past w c h e =
+    let p = checked w (Decides c) e in let fl = in_flight w c p.1.1.0 in
+    let s = (connection_at w c).sender in let f = flight_at w c in let k = fl.is ∙ ap Some (sym fl.at) in record {
+      inv = decide_step (tickets past) w s f h.inv (record { flight = k; complete = false_not _ p.1.1.1.1.0 });
+      flights = flights_fewer past w.senders _ (one_fewer w.senders s _ refl) h.flights;
+      commits = ap (λ (z : List Row). z ++ row (made f.txn.id past) (greatest f.given) ∷ []) h.commits
+          ∙ ap (λ (z : Transaction). w.commits ++ row z (greatest f.given) ∷ []) (h.flights s f k);
+    }
+
+-- ---- the others
+
+withdrawn_reached : (past : List Outcome) (w : World) (c : ℕ) → Reached past w → refusal w (Withdraws c) ≡ None → Reached (answer w (Withdraws c) ∷ past) (withdrawn w c)
+withdrawn_reached past w c h e =
+    let p = checked w (Withdraws c) e in let fl = in_flight w c p.1.1.0 in
+    let s = (connection_at w c).sender in let f = flight_at w c in let k = fl.is ∙ ap Some (sym fl.at) in record {
+      inv = withdrawn_step (tickets past) w s f h.inv k;
+      flights = flights_fewer past w.senders _ (one_fewer w.senders s _ refl) h.flights;
+      commits = h.commits;
+    }
+
+cancelled_case : (past : List Outcome) (w : World) (c : ℕ) (t : Topic) → Reached past w → (o : Option Leftover) → find_leftover t (speaker w c).leftovers ≡ o → Reached (cancel_answer t o ∷ past) (cancelled_at w c t o)
+cancelled_case past w c t h None e = record { inv = h.inv; flights = h.flights; commits = h.commits }
+cancelled_case past w c t h (Some k) e =
+    let s = (connection_at w c).sender in record {
+      inv = cancel_step (tickets past) w s t k h.inv e;
+      flights = flights_fewer past w.senders _ (one_kept w.senders s _ refl) h.flights;
+      commits = h.commits;
+    }
+
+no_learn_fault : (o : Option LearnFault) → learn_refusal o ≡ None → o ≡ None
+no_learn_fault None e = refl
+no_learn_fault (Some fault) e = none_some _ (sym e)
+
+learned_case : (past : List Outcome) (w : World) (t : Topic) (id : TxnId) → Reached past w → (o : Option Verdict) → find_verdict id w.verdicts ≡ o → learning w t id o ≡ None → Holds (tickets past) (learned_at w t id o)
+learned_case past w t id h None f e = none_some _ (sym e)
+learned_case past w t id h (Some v) f e =
+    let g = finds (tickets past) w h.inv id v f in
+    topic_step (tickets past) w t (learned id v.stamp (topic_at w t)) h.inv
+      (Keeps-learned (tickets past) w.commits t (topic_at w t) id v (h.inv.tied t) g.0 (no_learn_fault _ e) g.1)
+
+learned_same : (w : World) (t : Topic) (id : TxnId) (o : Option Verdict) → ((learned_at w t id o).senders ≡ w.senders) × ((learned_at w t id o).commits ≡ w.commits)
+learned_same w t id None = (refl, refl)
+learned_same w t id (Some v) = (refl, refl)
+
+learned_reached : (past : List Outcome) (w : World) (t : Topic) (id : TxnId) → Reached past w → refusal w (Learns t id) ≡ None → Reached past (effect w (Learns t id))
+learned_reached past w t id h e =
+    let o = find_verdict id w.verdicts in let same = learned_same w t id o in record {
+      inv = learned_case past w t id h o refl (or_else_after (first_refusal (checks w (Learns t id))) (learning w t id o) e);
+      flights = subst (λ z. Flights past z) (sym same.0) h.flights;
+      commits = h.commits ∙ sym same.1;
+    }
+
+closed_case : (past : List Outcome) (w : World) (s : ℕ) → Reached past w → (o : Option Entry) → entry_at w s ≡ o → Reached past (closed_with w s o)
+closed_case past w s h None e = h
+closed_case past w s h (Some entry) e = record { inv = end_step (tickets past) w s entry h.inv e; flights = h.flights; commits = h.commits }
+
+closed_reached : (past : List Outcome) (w : World) (s : ℕ) → Reached past w → Reached past (closed_subscription w s)
+closed_reached past w s h = closed_case past w s h (entry_at w s) refl
+
+-- an outcome that says nothing of tickets, transactions and decisions
+unspoken : (past : List Outcome) (w : World) (o : Outcome) → tickets (o ∷ past) ≡ tickets past → ((id : TxnId) → made id (o ∷ past) ≡ made id past) → commits_of (o ∷ past) ≡ commits_of past → Reached past w → Reached (o ∷ past) w
+unspoken past w o a b c h = record {
+  inv = subst (λ z. Holds z w) (sym a) h.inv;
+  flights = λ s f e. b f.txn.id ∙ h.flights s f e;
+  commits = c ∙ h.commits;
+}
+
+left_reached : (past : List Outcome) (w : World) (c : ℕ) (o : Option ℕ) → Reached past w → Reached (leave_answer w c o ∷ past) (left_by w c o)
+left_reached past w c None h = record { inv = h.inv; flights = h.flights; commits = h.commits }
+left_reached past w c (Some s) h = unspoken past (closed_subscription w s) _ refl (λ id. refl) refl (closed_reached past w s h)
+
+handed_reached : (past : List Outcome) (w : World) (s : ℕ) (o : Option Item) → Reached past w → Reached (take_answer w s o ∷ past) (handed w s o)
+handed_reached past w s None h = record { inv = h.inv; flights = h.flights; commits = h.commits }
+handed_reached past w s (Some item) h = record { inv = take_step (tickets past) w s h.inv; flights = h.flights; commits = h.commits }
+
+pub happens_reached : (past : List Outcome) (w : World) (e : Event) → Reached past w → refusal w e ≡ None → Reached (answer w e ∷ past) (effect w e)
+happens_reached past w (Topic_added clock) h e = record { inv = added_step (tickets past) w clock h.inv; flights = h.flights; commits = h.commits }
+happens_reached past w Opened h e = record {
+  inv = opened_step (tickets past) w h.inv;
+  flights = λ s f. at_push (λ (z : SenderState). z.flight ≡ Some f → made f.txn.id past ≡ f.txn) w.senders s new_sender new_sender (λ d o. o) (h.flights s f);
+  commits = h.commits;
+}
+happens_reached past w (Commits c sends) h e = flown_reached past w c sends h
+happens_reached past w (Subscribes c t) h e =
+    let p = checked w (Subscribes c t) e in
+    record {
+      inv = subscribe_step (tickets past) w c t h.inv (ltb-true t.0 (length w.topics) (false_not _ p.1.1.1.0));
+      flights = h.flights;
+      commits = h.commits;
+    }
+happens_reached past w (Unsubscribes c s) h e = unspoken past (closed_subscription w s) _ refl (λ id. refl) refl (closed_reached past w s h)
+happens_reached past w (Disconnects c) h e = record { inv = h.inv; flights = h.flights; commits = h.commits }
+happens_reached past w (Errs c) h e = record { inv = h.inv; flights = h.flights; commits = h.commits }
+happens_reached past w (Lost c) h e = record { inv = h.inv; flights = h.flights; commits = h.commits }
+happens_reached past w (Leaves c) h e = left_reached past w c (oldest_live c 0 w.subscriptions) h
+happens_reached past w (Proposes c t memory) h e = proposed_case past w c t memory h (asks_of w c t memory e) (proposal_fault w c t memory) refl
+happens_reached past w (Decides c) h e = decided_reached past w c h e
+happens_reached past w (Withdraws c) h e = withdrawn_reached past w c h e
+happens_reached past w (Cancels c t) h e = cancelled_case past w c t h (find_leftover t (speaker w c).leftovers) refl
+happens_reached past w (Learns t id) h e = unspoken past (effect w (Learns t id)) _ refl (λ id. refl) refl (learned_reached past w t id h e)
+happens_reached past w (Releases t) h e = record {
+  inv = topic_step (tickets past) w t (release (takes w) (topic_at w t)) h.inv
+      (Keeps-release (tickets past) w.commits t (takes w) (topic_at w t) h.inv.consistent (h.inv.tied t));
+  flights = h.flights;
+  commits = h.commits;
+}
+happens_reached past w (Turns t) h e = record {
+  inv = topic_step (tickets past) w t (turned (takes w) (find_in w) (topic_at w t)) h.inv
+      (Keeps-turned (tickets past) w.commits t (takes w) (find_in w) (topic_at w t) h.inv.consistent (finds (tickets past) w h.inv) (h.inv.tied t));
+  flights = h.flights;
+  commits = h.commits;
+}
+happens_reached past w (Takes s) h e = handed_reached past w s _ h
+
+pub step_reached : (past : List Outcome) (w : World) (e : Event) → Reached past w → Reached (outcome w e ∷ past) (happens w e)
+step_reached past w e h =
+    by_refusal (λ v o. Reached (o ∷ past) v) w e (λ why. record { inv = h.inv; flights = h.flights; commits = h.commits })
+      (λ n. happens_reached past w e h n)

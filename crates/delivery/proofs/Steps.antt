@@ -1,0 +1,310 @@
+-- What holds of each step.
+use Rattle.std.proofs.Common.{◌≡◌, ◌≢◌, ℕ, zero, suc, ◌+◌, ◌-◌, ◌<◌, ◌≤◌, ◌==◌, max, Bool, true, false, cond, not, ◌&&◌, ◌||◌, ◌⊎◌, inl, inr, List, [], ◌∷◌, ◌++◌, map, length, get_or, set, slice_get, Option, Some, None, refl, sym, ap, subst, ◌∙◌, arith, ltb}
+use Rattle.std.specs.Option.{is_some}
+use Rattle.std.proofs.lemmas.Bool.{true≢false, false≢true}
+use Rattle.mcast_txn.specs.Transaction.{topics_of}
+use Rattle.mcast_txn.specs.Agreed.{Row, In, names}
+use Rattle.mcast_txn.specs.declared.id.Topic.{Topic}
+use Rattle.mcast_txn.specs.declared.id.TxnId.{TxnId}
+use Rattle.mcast_txn.specs.declared.send.Send.{Send}
+use Rattle.mcast_txn.specs.declared.stamp.Stamp.{Stamp}
+use Rattle.mcast_txn.proofs.Members.{In-map, at_set, at_set_within}
+use Rattle.mcast_group.specs.declared.fault.ProposeFault.{ProposeFault}
+use Rattle.mcast_group.specs.declared.fault.LearnFault.{LearnFault}
+use Rattle.mcast_group.specs.declared.fault.CancelFault.{CancelFault}
+use Rattle.mcast_group.specs.Checks.{first_refusal}
+use Rattle.mcast_group.specs.Span.{Item}
+use Rattle.mcast_group.specs.Topics.{TopicState, Pending, Entry, Ended, Verdict, new_topic, find_pending, cancel_fault, cancel_fault_of, learn_fault, delivered, released, released_if, release, item_of, due_part}
+use Rattle.mcast_group.proofs.Parts.{Waits, found_part, some_same, none_some}
+use Rattle.delivery.specs.declared.refusal.Refusal.{Refusal}
+use Rattle.delivery.specs.World.{World, Flight, Leftover, SenderState, Subscription, topic_at, speaker, connection_at, subscription_at, entry_at, accepted_at, start}
+use Rattle.delivery.specs.Events
+use Rattle.delivery.specs.Events.{Event, Outcome, happens, outcome, refusal, checks, topic_refusal, or_else, effect, answer, flight_at, find_leftover, find_verdict, find_in, oldest_live, flown, flying_answer, proposal_fault, proposed_by, propose_answer, cancelled_at, cancelling, cancel_refusal, cancel_answer, learned_at, learning, learn_refusal, takes, handed, take_answer, left_by, leave_answer, closed_subscription, closed_with}
+use Rattle.delivery.specs.Events.Event.{Topic_added, Opened, Commits, Subscribes, Unsubscribes, Disconnects, Errs, Lost, Leaves, Proposes, Decides, Withdraws, Cancels, Learns, Releases, Turns, Takes}
+use Rattle.delivery.specs.Events.Outcome.{Refused, Done, Flying, Subscribed, Unsubscribed, Leaving, Error, Gone, Ticket, Failed, Decided, Withdrawn, Cancelled, Learnt, Released, Turned, Handed}
+use Rattle.delivery.specs.Runs.{run, outcomes}
+use Rattle.delivery.specs.Laws
+use Rattle.delivery.specs.Laws.{Run, came, after, topic_of, live_topic, is_odd, IsGiven}
+use Rattle.delivery.proofs.Invariant.{topic_in, Inv, Holds, Committed}
+use Rattle.delivery.proofs.Keeping.{same_topic}
+use Rattle.delivery.proofs.Decisions.{leftover_found}
+use Rattle.delivery.proofs.Subscriptions.{at_old}
+use Rattle.delivery.proofs.Happening.{Reached, tickets, by_refusal, checked, asks_of, Asks, step_reached, false_not}
+use Rattle.delivery.proofs.Accepting.{reached, start_reached}
+use Rattle.delivery.proofs.Voting.{learn_fault_is}
+
+-- ---- an answer is no refusal
+
+no_flying : (w : World) (c : ℕ) (sends : List Send) (why : Refusal) → flying_answer w c sends ≡ Refused why → Prim.⊥
+no_flying w c [] why e = cc
+no_flying w c (first ∷ others) why e = cc
+
+no_propose : (w : World) (c : ℕ) (t : Topic) (o : Option ProposeFault) (why : Refusal) → propose_answer w c t o ≡ Refused why → Prim.⊥
+no_propose w c t None why e = cc
+no_propose w c t (Some fault) why e = cc
+
+no_cancel : (t : Topic) (o : Option Leftover) (why : Refusal) → cancel_answer t o ≡ Refused why → Prim.⊥
+no_cancel t None why e = cc
+no_cancel t (Some k) why e = cc
+
+no_leave : (w : World) (c : ℕ) (o : Option ℕ) (why : Refusal) → leave_answer w c o ≡ Refused why → Prim.⊥
+no_leave w c None why e = cc
+no_leave w c (Some s) why e = cc
+
+no_take : (w : World) (s : ℕ) (o : Option Item) (why : Refusal) → take_answer w s o ≡ Refused why → Prim.⊥
+no_take w s None why e = cc
+no_take w s (Some item) why e = cc
+
+no_answer : (w : World) (e : Event) (why : Refusal) → answer w e ≡ Refused why → Prim.⊥
+no_answer w (Topic_added clock) why e = cc
+no_answer w Opened why e = cc
+no_answer w (Commits c sends) why e = no_flying w c sends why e
+no_answer w (Subscribes c t) why e = cc
+no_answer w (Unsubscribes c s) why e = cc
+no_answer w (Disconnects c) why e = cc
+no_answer w (Errs c) why e = cc
+no_answer w (Lost c) why e = cc
+no_answer w (Leaves c) why e = no_leave w c (oldest_live c 0 w.subscriptions) why e
+no_answer w (Proposes c t memory) why e = no_propose w c t (proposal_fault w c t memory) why e
+no_answer w (Decides c) why e = cc
+no_answer w (Withdraws c) why e = cc
+no_answer w (Cancels c t) why e = no_cancel t (find_leftover t (speaker w c).leftovers) why e
+no_answer w (Learns t id) why e = cc
+no_answer w (Releases t) why e = cc
+no_answer w (Turns t) why e = cc
+no_answer w (Takes s) why e = no_take w s _ why e
+
+pub refusals_change_nothing : Laws.RefusalsChangeNothing
+refusals_change_nothing w e why =
+    by_refusal (λ v o. o ≡ Refused why → v ≡ w) w e (λ other k. refl) (λ n k. absurd (no_answer w e why k))
+
+-- ---- other topics
+
+untouched : (topics : List TopicState) (t u : Topic) (y : TopicState) → (Some t ≡ Some u → Prim.⊥) → topic_in (set topics t.0 y) u ≡ topic_in topics u
+untouched topics t u y ne =
+    at_set (λ z. z ≡ topic_in topics u) topics t.0 u.0 y (new_topic u 0 0) (λ e. absurd (ne (ap Some (sym (same_topic u t e))))) refl
+
+flown_topics : (w : World) (c : ℕ) (sends : List Send) → (flown w c sends).topics ≡ w.topics
+flown_topics w c [] = refl
+flown_topics w c (first ∷ others) = refl
+
+closed_untouched : (w : World) (s : ℕ) (u : Topic) (o : Option Entry) → (Some (subscription_at w s).topic ≡ Some u → Prim.⊥) → topic_at (closed_with w s o) u ≡ topic_at w u
+closed_untouched w s u None ne = refl
+closed_untouched w s u (Some e) ne = untouched w.topics (subscription_at w s).topic u _ ne
+
+left_untouched : (w : World) (c : ℕ) (u : Topic) (o : Option ℕ) → (live_topic w o ≡ Some u → Prim.⊥) → topic_at (left_by w c o) u ≡ topic_at w u
+left_untouched w c u None ne = refl
+left_untouched w c u (Some s) ne = closed_untouched w s u (entry_at w s) ne
+
+proposed_untouched : (w : World) (c : ℕ) (t u : Topic) (o : Option ProposeFault) → (Some t ≡ Some u → Prim.⊥) → topic_at (proposed_by w c t o) u ≡ topic_at w u
+proposed_untouched w c t u None ne = untouched w.topics t u _ ne
+proposed_untouched w c t u (Some fault) ne = refl
+
+cancelled_untouched : (w : World) (c : ℕ) (t u : Topic) (o : Option Leftover) → (Some t ≡ Some u → Prim.⊥) → topic_at (cancelled_at w c t o) u ≡ topic_at w u
+cancelled_untouched w c t u None ne = refl
+cancelled_untouched w c t u (Some k) ne = untouched w.topics t u _ ne
+
+learned_untouched : (w : World) (t u : Topic) (id : TxnId) (o : Option Verdict) → (Some t ≡ Some u → Prim.⊥) → topic_at (learned_at w t id o) u ≡ topic_at w u
+learned_untouched w t u id None ne = refl
+learned_untouched w t u id (Some v) ne = untouched w.topics t u _ ne
+
+handed_topics : (w : World) (s : ℕ) (o : Option Item) → (handed w s o).topics ≡ w.topics
+handed_topics w s None = refl
+handed_topics w s (Some item) = refl
+
+effect_untouched : (w : World) (e : Event) (u : Topic) → u.0 < length w.topics → topic_of w e ≢ Some u → topic_at (effect w e) u ≡ topic_at w u
+effect_untouched w (Topic_added clock) u l ne = at_old (λ z. z ≡ topic_at w u) w.topics u.0 _ (new_topic u 0 0) l refl
+effect_untouched w Opened u l ne = refl
+effect_untouched w (Commits c sends) u l ne = ap (λ z. topic_in z u) (flown_topics w c sends)
+effect_untouched w (Subscribes c t) u l ne = untouched w.topics t u _ ne
+effect_untouched w (Unsubscribes c s) u l ne = closed_untouched w s u (entry_at w s) ne
+effect_untouched w (Disconnects c) u l ne = refl
+effect_untouched w (Errs c) u l ne = refl
+effect_untouched w (Lost c) u l ne = refl
+effect_untouched w (Leaves c) u l ne = left_untouched w c u (oldest_live c 0 w.subscriptions) ne
+effect_untouched w (Proposes c t memory) u l ne = proposed_untouched w c t u (proposal_fault w c t memory) ne
+effect_untouched w (Decides c) u l ne = refl
+effect_untouched w (Withdraws c) u l ne = refl
+effect_untouched w (Cancels c t) u l ne = cancelled_untouched w c t u (find_leftover t (speaker w c).leftovers) ne
+effect_untouched w (Learns t id) u l ne = learned_untouched w t u id (find_verdict id w.verdicts) ne
+effect_untouched w (Releases t) u l ne = untouched w.topics t u _ ne
+effect_untouched w (Turns t) u l ne = untouched w.topics t u _ ne
+effect_untouched w (Takes s) u l ne = ap (λ z. topic_in z u) (handed_topics w s _)
+
+pub others_untouched : Laws.OthersUntouched
+others_untouched w e u l ne = by_refusal (λ v o. topic_at v u ≡ topic_at w u) w e (λ why. refl) (λ n. effect_untouched w e u l ne)
+
+-- ---- tickets
+
+abbrev IsOwn : World → Event → TxnId → Stamp → Type 0
+IsOwn w e id ticket =
+    (c : ℕ) × (t : Topic) × (memory : Bool) × (e ≡ Proposes c t memory) × (id ≡ (flight_at w c).txn.id)
+    × (names t (topics_of (flight_at w c).txn.sends) ≡ true)
+    × (ticket ≡ record { n = max (topic_at w t).clock (speaker w c).floor.n + 1; topic = t })
+
+ticket_case : (w : World) (c : ℕ) (t : Topic) (memory : Bool) (o : Option ProposeFault) (id : TxnId) (ticket : Stamp) → Asks w c t → propose_answer w c t o ≡ Ticket id ticket → IsOwn w (Proposes c t memory) id ticket
+ticket_case w c t memory None id ticket a e = (c, t, memory, refl, (cc), a.named, cc)
+ticket_case w c t memory (Some fault) id ticket a e = cc
+
+no_ticket_flying : (w : World) (c : ℕ) (sends : List Send) (id : TxnId) (ticket : Stamp) → flying_answer w c sends ≡ Ticket id ticket → Prim.⊥
+no_ticket_flying w c [] id ticket e = cc
+no_ticket_flying w c (first ∷ others) id ticket e = cc
+
+no_ticket_cancel : (t : Topic) (o : Option Leftover) (id : TxnId) (ticket : Stamp) → cancel_answer t o ≡ Ticket id ticket → Prim.⊥
+no_ticket_cancel t None id ticket e = cc
+no_ticket_cancel t (Some k) id ticket e = cc
+
+no_ticket_leave : (w : World) (c : ℕ) (o : Option ℕ) (id : TxnId) (ticket : Stamp) → leave_answer w c o ≡ Ticket id ticket → Prim.⊥
+no_ticket_leave w c None id ticket e = cc
+no_ticket_leave w c (Some s) id ticket e = cc
+
+no_ticket_take : (w : World) (s : ℕ) (o : Option Item) (id : TxnId) (ticket : Stamp) → take_answer w s o ≡ Ticket id ticket → Prim.⊥
+no_ticket_take w s None id ticket e = cc
+no_ticket_take w s (Some item) id ticket e = cc
+
+answer_ticket : (w : World) (e : Event) (id : TxnId) (ticket : Stamp) → refusal w e ≡ None → answer w e ≡ Ticket id ticket → IsOwn w e id ticket
+answer_ticket w (Topic_added clock) id ticket n e = cc
+answer_ticket w Opened id ticket n e = cc
+answer_ticket w (Commits c sends) id ticket n e = absurd (no_ticket_flying w c sends id ticket e)
+answer_ticket w (Subscribes c t) id ticket n e = cc
+answer_ticket w (Unsubscribes c s) id ticket n e = cc
+answer_ticket w (Disconnects c) id ticket n e = cc
+answer_ticket w (Errs c) id ticket n e = cc
+answer_ticket w (Lost c) id ticket n e = cc
+answer_ticket w (Leaves c) id ticket n e = absurd (no_ticket_leave w c (oldest_live c 0 w.subscriptions) id ticket e)
+answer_ticket w (Proposes c t memory) id ticket n e = ticket_case w c t memory (proposal_fault w c t memory) id ticket (asks_of w c t memory n) e
+answer_ticket w (Decides c) id ticket n e = cc
+answer_ticket w (Withdraws c) id ticket n e = cc
+answer_ticket w (Cancels c t) id ticket n e = absurd (no_ticket_cancel t (find_leftover t (speaker w c).leftovers) id ticket e)
+answer_ticket w (Learns t i) id ticket n e = cc
+answer_ticket w (Releases t) id ticket n e = cc
+answer_ticket w (Turns t) id ticket n e = cc
+answer_ticket w (Takes s) id ticket n e = absurd (no_ticket_take w s _ id ticket e)
+
+pub ticket_is_own : Laws.TicketIsOwn
+ticket_is_own w e id ticket =
+    by_refusal (λ v o. o ≡ Ticket id ticket → IsOwn w e id ticket) w e (λ why k. absurd (by why k)) (λ n k. answer_ticket w e id ticket n k)
+  where
+    by : (why : Refusal) → Refused why ≡ Ticket id ticket → Prim.⊥
+    by why k = cc
+
+-- ---- what never comes
+
+abbrev AllUsual : List (Bool × Refusal) → Type 0
+AllUsual [] = Unit {0}
+AllUsual (c ∷ cs) = (is_odd c.1 ≡ false) × AllUsual cs
+
+usual_case : (b : Bool) (f why : Refusal) (rest : Option Refusal) → is_odd f ≡ false → (rest ≡ Some why → is_odd why ≡ false) → cond b (Some f) rest ≡ Some why → is_odd why ≡ false
+usual_case true f why rest h ih e = subst (λ z. is_odd z ≡ false) (some_same f why e) h
+usual_case false f why rest h ih e = ih e
+
+usual_first : (cs : List (Bool × Refusal)) (why : Refusal) → AllUsual cs → first_refusal cs ≡ Some why → is_odd why ≡ false
+usual_first [] why h e = none_some why e
+usual_first (c ∷ cs) why h e = usual_case c.0 c.1 why (first_refusal cs) h.0 (λ k. usual_first cs why h.1 k) e
+
+usual_checks : (w : World) (e : Event) → AllUsual (checks w e)
+usual_checks w (Topic_added clock) = tt
+usual_checks w Opened = tt
+usual_checks w (Commits c sends) = (refl, (refl, (refl, (refl, tt))))
+usual_checks w (Subscribes c t) = (refl, (refl, (refl, (refl, tt))))
+usual_checks w (Unsubscribes c s) = (refl, (refl, (refl, (refl, tt))))
+usual_checks w (Disconnects c) = (refl, (refl, (refl, tt)))
+usual_checks w (Errs c) = (refl, (refl, (refl, tt)))
+usual_checks w (Lost c) = (refl, (refl, (refl, tt)))
+usual_checks w (Leaves c) = (refl, (refl, (refl, (refl, tt))))
+usual_checks w (Proposes c t memory) = (refl, (refl, (refl, (refl, (refl, (refl, tt))))))
+usual_checks w (Decides c) = (refl, (refl, (refl, (refl, (refl, tt)))))
+usual_checks w (Withdraws c) = (refl, (refl, (refl, (refl, tt))))
+usual_checks w (Cancels c t) = (refl, (refl, (refl, tt)))
+usual_checks w (Learns t id) = (refl, tt)
+usual_checks w (Releases t) = (refl, (refl, tt))
+usual_checks w (Turns t) = (refl, tt)
+usual_checks w (Takes s) = (refl, (refl, (refl, tt)))
+
+usual_learn : (why : Refusal) (o : Option LearnFault) → (o ≡ None) ⊎ (o ≡ Some LearnFault.NotPending) → learn_refusal o ≡ Some why → is_odd why ≡ false
+usual_learn why o (inl n) e = none_some why (sym (ap learn_refusal n) ∙ e)
+usual_learn why o (inr n) e = subst (λ z. is_odd z ≡ false) (some_same Refusal.NotPending why (sym (ap learn_refusal n) ∙ e)) refl
+
+learning_usual : (past : List Outcome) (w : World) (t : Topic) (id : TxnId) (why : Refusal) → Reached past w → (o : Option Verdict) → find_verdict id w.verdicts ≡ o → learning w t id o ≡ Some why → is_odd why ≡ false
+learning_usual past w t id why h None f e = subst (λ z. is_odd z ≡ false) (some_same Refusal.NotDecided why e) refl
+learning_usual past w t id why h (Some v) f e = usual_learn why (learn_fault id v (topic_at w t)) (learn_fault_is (tickets past) w t id v h.inv f) e
+
+-- a leftover part hasn't learnt
+cancel_usual : (past : List Outcome) (w : World) (t : Topic) (k : Leftover) (why : Refusal) → Reached past w → ((p : Pending) → In p (topic_in w.topics t).pending → p.part.id ≡ k.id → is_some p.learnt ≡ false) → (o : Option Pending) → find_pending k.id (topic_in w.topics t).pending ≡ o → cancel_refusal (cancel_fault_of o) ≡ Some why → is_odd why ≡ false
+cancel_usual past w t k why h un None f e = subst (λ z. is_odd z ≡ false) (some_same Refusal.NotPending why e) refl
+cancel_usual past w t k why h un (Some p) f e =
+    let g = found_part k.id (topic_in w.topics t).pending p f in
+    none_some why (sym (ap (λ (b : Bool). cancel_refusal (cond b (Some CancelFault.Decided) None)) (un p g.stands g.is)) ∙ e)
+
+unlearnt : (past : List Outcome) (w : World) (t : Topic) (s : ℕ) (k : Leftover) → Reached past w → In k (Rattle.delivery.proofs.Invariant.sender_in w.senders s).leftovers → (p : Pending) → In p (topic_in w.topics t).pending → p.part.id ≡ k.id → (o : Option Stamp) → p.learnt ≡ o → is_some o ≡ false
+unlearnt past w t s k h i p j e None d = refl
+unlearnt past w t s k h i p j e (Some stamp) d =
+    let c = (h.inv.tied t).decided p j stamp d in
+    absurd (((h.inv.serves s).left k i).uncommitted c.row c.stands (Rattle.mcast_txn.proofs.Orders.id_same c.row.txn.id k.id (c.id_is ∙ e)))
+
+cancelling_usual : (past : List Outcome) (w : World) (c : ℕ) (t : Topic) (why : Refusal) → Reached past w → (o : Option Leftover) → find_leftover t (speaker w c).leftovers ≡ o → cancelling w t o ≡ Some why → is_odd why ≡ false
+cancelling_usual past w c t why h None f e = subst (λ z. is_odd z ≡ false) (some_same Refusal.NotNamed why e) refl
+cancelling_usual past w c t why h (Some k) f e =
+    let g = leftover_found t (speaker w c).leftovers k f in
+    cancel_usual past w t k why h (λ p i d. unlearnt past w t (connection_at w c).sender k h g.stands p i d p.learnt refl)
+      (find_pending k.id (topic_in w.topics t).pending) refl e
+
+topic_usual : (past : List Outcome) (w : World) (e : Event) (why : Refusal) → Reached past w → topic_refusal w e ≡ Some why → is_odd why ≡ false
+topic_usual past w (Cancels c t) why h e = cancelling_usual past w c t why h (find_leftover t (speaker w c).leftovers) refl e
+topic_usual past w (Learns t id) why h e = learning_usual past w t id why h (find_verdict id w.verdicts) refl e
+topic_usual past w e why h k = none_some why k
+
+else_usual : (a b : Option Refusal) (why : Refusal) → (a ≡ Some why → is_odd why ≡ false) → (b ≡ Some why → is_odd why ≡ false) → or_else a b ≡ Some why → is_odd why ≡ false
+else_usual None b why f g e = g e
+else_usual (Some x) b why f g e = f e
+
+refusal_usual : (past : List Outcome) (w : World) (e : Event) (why : Refusal) → Reached past w → refusal w e ≡ Some why → is_odd why ≡ false
+refusal_usual past w e why h =
+    else_usual (first_refusal (checks w e)) (topic_refusal w e) why (usual_first (checks w e) why (usual_checks w e)) (topic_usual past w e why h)
+
+outcome_case : (w : World) (e : Event) (why : Refusal) (o : Option Refusal) → (answer w e ≡ Refused why → Prim.⊥) → elim o [ None ↦ answer w e | Some other ↦ Refused other ] ≡ Refused why → o ≡ Some why
+outcome_case w e why None never k = absurd (never k)
+outcome_case w e why (Some other) never k = let d : other ≡ why = cc in ap Some d
+
+outcome_usual : (past : List Outcome) (w : World) (e : Event) (why : Refusal) → Reached past w → outcome w e ≡ Refused why → is_odd why ≡ false
+outcome_usual past w e why h k = refusal_usual past w e why h (outcome_case w e why (refusal w e) (no_answer w e why) k)
+
+odd_run : (es : List Event) (past : List Outcome) (w : World) → Reached past w → ((why : Refusal) → In (Refused why) past → is_odd why ≡ false) → (why : Refusal) → In (Refused why) (outcomes es w past) → is_odd why ≡ false
+odd_run [] past w h old = old
+odd_run (e ∷ es) past w h old =
+    odd_run es (outcome w e ∷ past) (happens w e) (step_reached past w e h)
+      (λ why i. elim i [ inl k ↦ outcome_usual past w e why h k | inr k ↦ old why k ])
+
+pub odd_never_comes : Laws.OddNeverComes
+odd_never_comes r = odd_run r.events [] (start r.capacity r.log_limit r.clocks) (start_reached r.capacity r.log_limit r.clocks) (λ why i. absurd i)
+
+pub found_is_learnt : Laws.FoundIsLearnt
+found_is_learnt r t id v e = learn_fault_is (tickets (came r)) (after r) t id v (reached r).inv e
+
+-- ---- lag
+
+given_case : (w : World) (frontier : Stamp) (p : Pending) (number : ℕ) (from : Stamp) (accepted : List Item) (b : Bool) → let before : Entry = record { number = number; from = from; to = None; accepted = accepted } in takes w before ≡ b → IsGiven w frontier p before (cond b (record before { accepted = accepted ++ item_of p ∷ [] }) (record before { to = Some frontier }))
+given_case w frontier p number from accepted true e = record { number = refl; room = λ k. (refl, refl); full = λ k. absurd (true≢false (sym e ∙ k)) }
+given_case w frontier p number from accepted false e = record { number = refl; room = λ k. absurd (true≢false (sym k ∙ e)); full = λ k. (refl, refl) }
+
+given_of : (w : World) (frontier : Stamp) (p : Pending) (number : ℕ) (from : Stamp) (to : Option Stamp) (accepted : List Item) → to ≡ None → let before : Entry = record { number = number; from = from; to = to; accepted = accepted } in IsGiven w frontier p before (delivered (takes w) frontier (item_of p) before)
+given_of w frontier p number from None accepted e = given_case w frontier p number from accepted (takes w (record { number = number; from = from; to = None; accepted = accepted })) refl
+given_of w frontier p number from (Some end) accepted e = none_some end (sym e)
+
+happens_when : (w : World) (e : Event) → refusal w e ≡ None → happens w e ≡ effect w e
+happens_when w e n = ap (λ (o : Option Refusal). pick o) n
+  where
+    pick : Option Refusal → World
+    pick o = elim o [ None ↦ effect w e | Some why ↦ w ]
+
+pub lags_where_full : Laws.LagsWhereFull
+lags_where_full w t p before n due i unended =
+    let x = topic_at w t in let later = delivered (takes w) x.frontier (item_of p) before in
+    let room = Rattle.std.proofs.lemmas.Bool.ltb-true t.0 (length w.topics) (false_not (ltb t.0 (length w.topics)) (checked w (Releases t) n).0) in
+    (later,
+     subst (λ (v : World). In later (topic_at v t).subscriptions) (sym (happens_when w (Releases t) n))
+       (at_set_within (λ (z : TopicState). In later z.subscriptions) w.topics t.0 t.0 (release (takes w) x) (new_topic t 0 0) room
+         (λ k. subst (λ (o : Option Pending). In later (released_if (takes w) x o).subscriptions) (sym due)
+           (In-map (delivered (takes w) x.frontier (item_of p)) before x.subscriptions i))
+         (λ ne. absurd (ne refl))),
+     given_of w x.frontier p before.number before.from before.to before.accepted unended)

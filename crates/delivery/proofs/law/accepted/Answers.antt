@@ -1,0 +1,5 @@
+use Rattle.delivery.proofs.Accepting.{accepted_is_due}
+use Rattle.delivery.proofs.law.accepted.Goals as goal
+
+pub returns : goal.returns
+returns c = accepted_is_due

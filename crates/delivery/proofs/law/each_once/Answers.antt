@@ -1,0 +1,5 @@
+use Rattle.delivery.proofs.Accepting.{agreed_once}
+use Rattle.delivery.proofs.law.each_once.Goals as goal
+
+pub returns : goal.returns
+returns c = agreed_once

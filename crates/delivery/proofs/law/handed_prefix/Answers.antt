@@ -1,0 +1,5 @@
+use Rattle.delivery.proofs.Handing.{handed_is_prefix}
+use Rattle.delivery.proofs.law.handed_prefix.Goals as goal
+
+pub returns : goal.returns
+returns c = handed_is_prefix

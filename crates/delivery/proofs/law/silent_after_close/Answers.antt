@@ -1,0 +1,5 @@
+use Rattle.delivery.proofs.Silence.{closed_is_silent}
+use Rattle.delivery.proofs.law.silent_after_close.Goals as goal
+
+pub returns : goal.returns
+returns c = closed_is_silent

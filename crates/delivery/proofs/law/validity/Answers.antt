@@ -1,0 +1,5 @@
+use Rattle.delivery.proofs.Settled.{settled_leaves_none_out}
+use Rattle.delivery.proofs.law.validity.Goals as goal
+
+pub returns : goal.returns
+returns c = settled_leaves_none_out

@@ -1,0 +1,413 @@
+-- The core's events so far as they touch topics and transactions: what each refuses, what it does, and what it answers.
+use Rattle.std.specs.Prelude.{◌≡◌, ℕ, zero, suc, ◌-◌, ◌+◌, ◌==◌, nat_lt, Bool, true, false, not, ◌&&◌, ◌||◌, List, [], ◌∷◌, ◌++◌, map, length, get_or, set, Option, Some, None, if◌then◌else◌}
+use Rattle.std.specs.List.{list_any, list_all}
+use Rattle.std.specs.Option.{is_some}
+use Rattle.mcast_txn.specs.declared.id.Topic.{Topic}
+use Rattle.mcast_txn.specs.declared.id.TxnId.{TxnId}
+use Rattle.mcast_txn.specs.declared.send.Send.{Send}
+use Rattle.mcast_txn.specs.declared.stamp.Stamp.{Stamp}
+use Rattle.mcast_txn.specs.Stamp.{zero_stamp, greatest}
+use Rattle.mcast_txn.specs.Transaction.{TopicPart, topics_of, part_of}
+use Rattle.mcast_txn.specs.Agreed.{Transaction, Row, same_id, names}
+use Rattle.mcast_group.specs.declared.fault.ProposeFault.{ProposeFault}
+use Rattle.mcast_group.specs.declared.fault.LearnFault.{LearnFault}
+use Rattle.mcast_group.specs.declared.fault.CancelFault.{CancelFault}
+use Rattle.mcast_group.specs.Checks.{first_refusal}
+use Rattle.mcast_group.specs.Span.{Item}
+use Rattle.mcast_group.specs.Topics.{TopicState, Entry, Ended, Verdict, Pending, new_topic, last_number, next_number, propose_fault, proposed, learn_fault, learned, cancel_fault, cancelled, due_part, release, released_times, tried_all, turned, key, subscribed, ended, unsubscribed}
+use Rattle.delivery.specs.declared.refusal.Refusal.{Refusal}
+use Rattle.delivery.specs.World.{World, Flight, Leftover, SenderState, Connection, Subscription, Standing, is_open, is_gone, topic_at, sender_at, new_sender, connection_at, speaker, subscription_at, entry_at, accepted_at, end_at, with_topic, with_sender, with_standing, with_subscription}
+
+pub data Event : Type 0 where
+  -- a topic is added, with this opening clock
+  Topic_added : (clock : ℕ) → Event
+  -- a connection is opened; a sender of its own comes with it
+  Opened : Event
+  -- a frame that commits these SENDs
+  Commits : (c : ℕ) (sends : List Send) → Event
+  -- SUBSCRIBE to t; UNSUBSCRIBE of s; DISCONNECT; a frame with a fault, which an ERROR answers
+  Subscribes : (c : ℕ) (t : Topic) → Event
+  Unsubscribes : (c s : ℕ) → Event
+  Disconnects : (c : ℕ) → Event
+  Errs : (c : ℕ) → Event
+  -- the connection is lost; the next step of its leaving
+  Lost : (c : ℕ) → Event
+  Leaves : (c : ℕ) → Event
+  -- the undecided transaction is proposed at t, with memory for its part or without
+  Proposes : (c : ℕ) (t : Topic) (memory : Bool) → Event
+  Decides : (c : ℕ) → Event
+  Withdraws : (c : ℕ) → Event
+  Cancels : (c : ℕ) (t : Topic) → Event
+  Learns : (t : Topic) (id : TxnId) → Event
+  Releases : (t : Topic) → Event
+  Turns : (t : Topic) → Event
+  Takes : (s : ℕ) → Event
+
+-- what came of an event, with all that a reader of the run needs
+pub data Outcome : Type 0 where
+  Refused : (why : Refusal) → Outcome
+  Done : Outcome
+  -- a transaction was made: it is in flight
+  Flying : (txn : Transaction) → Outcome
+  Subscribed : (s c : ℕ) (t : Topic) (from : Stamp) → Outcome
+  Unsubscribed : (s : ℕ) (to : Stamp) → Outcome
+  -- the connection is leaving: by itself, or by an ERROR; it is gone
+  Leaving : (c : ℕ) → Outcome
+  Error : (c : ℕ) → Outcome
+  Gone : (c : ℕ) → Outcome
+  -- a topic gave a ticket; it refused, and the transaction is marked
+  Ticket : (id : TxnId) (ticket : Stamp) → Outcome
+  Failed : (id : TxnId) (why : ProposeFault) → Outcome
+  -- the transaction was decided; it was withdrawn, and its connection is leaving by an ERROR
+  Decided : (id : TxnId) (stamp : Stamp) → Outcome
+  Withdrawn : (id : TxnId) (c : ℕ) → Outcome
+  Cancelled : (id : TxnId) (t : Topic) → Outcome
+  Learnt : (id : TxnId) (t : Topic) → Outcome
+  Released : (t : Topic) → Outcome
+  Turned : (t : Topic) → Outcome
+  Handed : (s : ℕ) (item : Item) → Outcome
+
+-- ---- tests
+
+-- there is no such connection, or it is gone
+abbrev pub there : World → ℕ → List (Bool × Refusal)
+there w c =
+    (not (nat_lt c (length w.connections)), Refusal.NoConn) ∷ (is_gone (connection_at w c).standing, Refusal.Gone) ∷ []
+
+-- so too where it is leaving or has an undecided transaction: no frame is read
+abbrev pub reads : World → ℕ → List (Bool × Refusal)
+reads w c =
+    there w c ++ (not (is_open (connection_at w c).standing) || is_some (speaker w c).flight, Refusal.Busy) ∷ []
+
+abbrev pub is_topic : World → Topic → Bool
+is_topic w t = nat_lt t.0 (length w.topics)
+
+abbrev pub no_flight : Flight
+no_flight = record {
+    txn = record { id = record { sender = record { 0 = 0 }; seq = 0 }; sends = [] }; given = []; mark = None;
+  }
+
+abbrev pub flight_or : Option Flight → Flight
+flight_or None = no_flight
+flight_or (Some f) = f
+
+abbrev pub flight_at : World → ℕ → Flight
+flight_at w c = flight_or (speaker w c).flight
+
+abbrev pub has_ticket : Topic → List Stamp → Bool
+has_ticket t tickets = list_any (λ a. a.topic.0 == t.0) tickets
+
+-- a ticket among others that rise by topic
+abbrev pub insert_ticket : Stamp → List Stamp → List Stamp
+insert_ticket a [] = a ∷ []
+insert_ticket a (b ∷ bs) = if nat_lt a.topic.0 b.topic.0 then a ∷ b ∷ bs else b ∷ insert_ticket a bs
+
+-- each named topic gave a ticket
+abbrev pub is_complete : Flight → Bool
+is_complete f = list_all (λ t. has_ticket t f.given) (topics_of f.txn.sends)
+
+-- the first uncancelled ticket of t
+abbrev pub find_leftover : Topic → List Leftover → Option Leftover
+find_leftover t [] = None
+find_leftover t (k ∷ ks) = if k.ticket.topic.0 == t.0 then Some k else find_leftover t ks
+
+-- these without the first of t
+abbrev pub drop_leftover : Topic → List Leftover → List Leftover
+drop_leftover t [] = []
+drop_leftover t (k ∷ ks) = if k.ticket.topic.0 == t.0 then ks else k ∷ drop_leftover t ks
+
+abbrev pub find_verdict : TxnId → List Verdict → Option Verdict
+find_verdict id [] = None
+find_verdict id (v ∷ vs) = if same_id v.id id then Some v else find_verdict id vs
+
+-- s is a subscription of c that isn't closed
+abbrev pub is_live : ℕ → Subscription → Bool
+is_live c x = x.connection == c && not (is_some x.closed)
+
+-- the number of the oldest subscription of c that isn't closed, where the first has number i
+abbrev pub oldest_live : ℕ → ℕ → List Subscription → Option ℕ
+oldest_live c i [] = None
+oldest_live c i (x ∷ xs) = if is_live c x then Some i else oldest_live c (i + 1) xs
+
+-- ---- the topics' own refusals
+
+abbrev pub of_learn : LearnFault → Refusal
+of_learn LearnFault.NotPending = Refusal.NotPending
+of_learn LearnFault.Foreign = Refusal.Foreign
+of_learn LearnFault.Clash = Refusal.Clash
+
+abbrev pub learn_refusal : Option LearnFault → Option Refusal
+learn_refusal None = None
+learn_refusal (Some fault) = Some (of_learn fault)
+
+abbrev pub of_cancel : CancelFault → Refusal
+of_cancel CancelFault.NotPending = Refusal.NotPending
+of_cancel CancelFault.Decided = Refusal.Decided
+
+abbrev pub cancel_refusal : Option CancelFault → Option Refusal
+cancel_refusal None = None
+cancel_refusal (Some fault) = Some (of_cancel fault)
+
+-- the first refusal, or else what comes after
+abbrev pub or_else : Option Refusal → Option Refusal → Option Refusal
+or_else None after = after
+or_else (Some why) after = Some why
+
+abbrev pub learning : World → Topic → TxnId → Option Verdict → Option Refusal
+learning w t id None = Some Refusal.NotDecided
+learning w t id (Some v) = learn_refusal (learn_fault id v (topic_at w t))
+
+abbrev pub cancelling : World → Topic → Option Leftover → Option Refusal
+cancelling w t None = Some Refusal.NotNamed
+cancelling w t (Some k) = cancel_refusal (cancel_fault k.id (topic_at w t))
+
+-- ---- what is refused
+
+-- what stands against the event, in this order: where the first holds it is refused
+abbrev pub checks : World → Event → List (Bool × Refusal)
+checks w (Topic_added clock) = []
+checks w Opened = []
+checks w (Commits c sends) = reads w c ++ (not (nat_lt (speaker w c).seq last_number), Refusal.SeqFull) ∷ []
+checks w (Subscribes c t) = reads w c ++ (not (is_topic w t), Refusal.NotNamed) ∷ []
+checks w (Unsubscribes c s) =
+    reads w c ++ (not (nat_lt s (length w.subscriptions) && is_live c (subscription_at w s)), Refusal.NoSub) ∷ []
+checks w (Disconnects c) = reads w c
+checks w (Errs c) = reads w c
+checks w (Lost c) = there w c ++ (not (is_open (connection_at w c).standing), Refusal.Busy) ∷ []
+checks w (Leaves c) =
+    there w c
+    ++ (is_open (connection_at w c).standing, Refusal.NotLeaving)
+    ∷ (not (is_some (oldest_live c 0 w.subscriptions))
+        && (is_some (speaker w c).flight || nat_lt 0 (length (speaker w c).leftovers)), Refusal.Busy) ∷ []
+checks w (Proposes c t memory) =
+    there w c
+    ++ (not (is_some (speaker w c).flight), Refusal.NoFlight)
+    ∷ (is_some (flight_at w c).mark, Refusal.Marked)
+    ∷ (not (is_topic w t && names t (topics_of (flight_at w c).txn.sends)), Refusal.NotNamed)
+    ∷ (has_ticket t (flight_at w c).given, Refusal.Twice) ∷ []
+checks w (Decides c) =
+    there w c
+    ++ (not (is_some (speaker w c).flight), Refusal.NoFlight)
+    ∷ (is_some (flight_at w c).mark, Refusal.Marked)
+    ∷ (not (is_complete (flight_at w c)), Refusal.Incomplete) ∷ []
+checks w (Withdraws c) =
+    there w c
+    ++ (not (is_some (speaker w c).flight), Refusal.NoFlight)
+    ∷ (not (is_some (flight_at w c).mark), Refusal.NotMarked) ∷ []
+checks w (Cancels c t) = there w c ++ (not (is_topic w t), Refusal.NotNamed) ∷ []
+checks w (Learns t id) = (not (is_topic w t), Refusal.NotNamed) ∷ []
+checks w (Releases t) =
+    (not (is_topic w t), Refusal.NotNamed) ∷ (not (is_some (due_part (topic_at w t))), Refusal.NothingDue) ∷ []
+checks w (Turns t) = (not (is_topic w t), Refusal.NotNamed) ∷ []
+checks w (Takes s) =
+    (not (nat_lt s (length w.subscriptions)), Refusal.NoSub)
+    ∷ (is_some (subscription_at w s).closed || not (is_open (connection_at w (subscription_at w s).connection).standing), Refusal.Gone)
+    ∷ (not (nat_lt (subscription_at w s).taken (length (accepted_at w s))) && not (is_some (end_at w s)), Refusal.NothingDue) ∷ []
+
+-- what the topic refuses of it then
+abbrev pub topic_refusal : World → Event → Option Refusal
+topic_refusal w (Cancels c t) = cancelling w t (find_leftover t (speaker w c).leftovers)
+topic_refusal w (Learns t id) = learning w t id (find_verdict id w.verdicts)
+topic_refusal w e = None
+
+-- why the event has no effect
+abbrev pub refusal : World → Event → Option Refusal
+refusal w e = or_else (first_refusal (checks w e)) (topic_refusal w e)
+
+-- ---- what is done
+
+-- the transaction's part at t
+abbrev pub part_at : Topic → Transaction → TopicPart
+part_at t txn = record { id = txn.id; topic = t; topics = topics_of txn.sends; sends = part_of t txn.sends }
+
+-- the transaction that these SENDs make
+abbrev pub next_txn : World → ℕ → List Send → Transaction
+next_txn w c sends = record {
+    id = record { sender = record { 0 = (connection_at w c).sender }; seq = (speaker w c).seq + 1 }; sends = sends;
+  }
+
+abbrev pub flown : World → ℕ → List Send → World
+flown w c [] = w
+flown w c (first ∷ others) =
+    with_sender w (connection_at w c).sender (record (speaker w c) {
+      seq = (speaker w c).seq + 1;
+      flight = Some (record { txn = next_txn w c (first ∷ others); given = []; mark = None });
+    })
+
+abbrev pub opened_subscription : World → ℕ → Topic → World
+opened_subscription w c t =
+    let x = topic_at w t in
+    record (with_topic w t (subscribed (length w.subscriptions) x)) {
+      subscriptions = w.subscriptions ++ record { connection = c; topic = t; from = x.frontier; taken = 0; closed = None } ∷ [];
+    }
+
+abbrev pub closed_with : World → ℕ → Option Entry → World
+closed_with w s None = w
+closed_with w s (Some e) =
+    let x = subscription_at w s in
+    with_subscription (with_topic w x.topic (unsubscribed s (topic_at w x.topic))) s
+      (record x { closed = Some (ended (topic_at w x.topic).frontier e) })
+
+-- the subscription is closed: what its entry leaves is kept, and the entry is dropped
+abbrev pub closed_subscription : World → ℕ → World
+closed_subscription w s = closed_with w s (entry_at w s)
+
+abbrev pub left_by : World → ℕ → Option ℕ → World
+left_by w c None = with_standing w c Standing.Gone
+left_by w c (Some s) = closed_subscription w s
+
+-- an open connection is leaving, one that is leaving goes on
+abbrev pub leaving : World → ℕ → World
+leaving w c = with_standing w c Standing.Leaving
+
+abbrev pub or_no_memory : Bool → Option ProposeFault → Option ProposeFault
+or_no_memory memory None = if memory then None else Some ProposeFault.NoMemory
+or_no_memory memory (Some fault) = Some fault
+
+-- why the topic gives no ticket; want of memory, where nothing else stands against it
+abbrev pub proposal_fault : World → ℕ → Topic → Bool → Option ProposeFault
+proposal_fault w c t memory =
+    or_no_memory memory (propose_fault (speaker w c).floor (part_at t (flight_at w c).txn) (topic_at w t))
+
+-- the ticket that the topic gives next
+abbrev pub next_ticket : World → ℕ → Topic → Stamp
+next_ticket w c t = record { n = next_number (speaker w c).floor (topic_at w t); topic = t }
+
+abbrev pub with_flight : World → ℕ → Flight → World
+with_flight w c f = with_sender w (connection_at w c).sender (record (speaker w c) { flight = Some f })
+
+-- the part is pending at t and its ticket is the flight's, or the flight is marked
+abbrev pub proposed_by : World → ℕ → Topic → Option ProposeFault → World
+proposed_by w c t None =
+    let f = flight_at w c in
+    with_flight (with_topic w t (proposed (speaker w c).floor (part_at t f.txn) (topic_at w t))) c
+      (record f { given = insert_ticket (next_ticket w c t) f.given })
+proposed_by w c t (Some fault) = with_flight w c (record (flight_at w c) { mark = Some fault })
+
+-- the stamp is the greatest ticket and the sender's floor; the verdict and the row of the commit list are kept
+abbrev pub decided : World → ℕ → World
+decided w c =
+    let f = flight_at w c in
+    record (with_sender w (connection_at w c).sender (record (speaker w c) { floor = greatest f.given; flight = None })) {
+      commits = w.commits ++ record { txn = f.txn; stamp = greatest f.given } ∷ [];
+      verdicts = w.verdicts ++ record { id = f.txn.id; rows = f.given; stamp = greatest f.given } ∷ [];
+    }
+
+abbrev pub leftover : TxnId → Stamp → Leftover
+leftover id ticket = record { id = id; ticket = ticket }
+
+-- the flight ends and its tickets are left over; the connection is leaving
+abbrev pub withdrawn : World → ℕ → World
+withdrawn w c =
+    let f = flight_at w c in
+    leaving (with_sender w (connection_at w c).sender (record (speaker w c) {
+      flight = None;
+      leftovers = (speaker w c).leftovers ++ map (leftover f.txn.id) f.given;
+    })) c
+
+abbrev pub cancelled_at : World → ℕ → Topic → Option Leftover → World
+cancelled_at w c t None = w
+cancelled_at w c t (Some k) =
+    with_sender (with_topic w t (cancelled k.id (topic_at w t))) (connection_at w c).sender
+      (record (speaker w c) { leftovers = drop_leftover t (speaker w c).leftovers })
+
+abbrev pub learned_at : World → Topic → TxnId → Option Verdict → World
+learned_at w t id None = w
+learned_at w t id (Some v) = with_topic w t (learned id v.stamp (topic_at w t))
+
+-- the queue takes one more item: fewer than its capacity weren't handed on
+abbrev pub takes : World → Entry → Bool
+takes w e = nat_lt (length e.accepted - (subscription_at w e.number).taken) w.capacity
+
+abbrev pub find_in : World → TxnId → Option Verdict
+find_in w id = find_verdict id w.verdicts
+
+-- the item of this number in a queue, from 0
+abbrev pub item_number : ℕ → List Item → Option Item
+item_number n [] = None
+item_number zero (i ∷ items) = Some i
+item_number (suc n) (i ∷ items) = item_number n items
+
+-- the next item is handed on; where there is none, the subscription has lagged, and its connection is leaving
+abbrev pub handed : World → ℕ → Option Item → World
+handed w s None = leaving w (subscription_at w s).connection
+handed w s (Some item) = with_subscription w s (record (subscription_at w s) { taken = (subscription_at w s).taken + 1 })
+
+-- what the event does where it isn't refused
+abbrev pub effect : World → Event → World
+effect w (Topic_added clock) = record w { topics = w.topics ++ new_topic (record { 0 = length w.topics }) w.log_limit clock ∷ [] }
+effect w Opened = record w {
+    senders = w.senders ++ new_sender ∷ [];
+    connections = w.connections ++ record { sender = length w.senders; standing = Standing.Open } ∷ [];
+  }
+effect w (Commits c sends) = flown w c sends
+effect w (Subscribes c t) = opened_subscription w c t
+effect w (Unsubscribes c s) = closed_subscription w s
+effect w (Disconnects c) = leaving w c
+effect w (Errs c) = leaving w c
+effect w (Lost c) = leaving w c
+effect w (Leaves c) = left_by w c (oldest_live c 0 w.subscriptions)
+effect w (Proposes c t memory) = proposed_by w c t (proposal_fault w c t memory)
+effect w (Decides c) = decided w c
+effect w (Withdraws c) = withdrawn w c
+effect w (Cancels c t) = cancelled_at w c t (find_leftover t (speaker w c).leftovers)
+effect w (Learns t id) = learned_at w t id (find_verdict id w.verdicts)
+effect w (Releases t) = with_topic w t (release (takes w) (topic_at w t))
+effect w (Turns t) = with_topic w t (turned (takes w) (find_in w) (topic_at w t))
+effect w (Takes s) = handed w s (item_number (subscription_at w s).taken (accepted_at w s))
+
+-- ---- what is answered
+
+abbrev pub flying_answer : World → ℕ → List Send → Outcome
+flying_answer w c [] = Done
+flying_answer w c (first ∷ others) = Flying (next_txn w c (first ∷ others))
+
+-- where the subscription's span would end now
+abbrev pub end_now : World → ℕ → Stamp
+end_now w s = elim (entry_at w s) [ None ↦ zero_stamp | Some e ↦ (ended (topic_at w (subscription_at w s).topic).frontier e).to ]
+
+abbrev pub leave_answer : World → ℕ → Option ℕ → Outcome
+leave_answer w c None = Gone c
+leave_answer w c (Some s) = Unsubscribed s (end_now w s)
+
+abbrev pub propose_answer : World → ℕ → Topic → Option ProposeFault → Outcome
+propose_answer w c t None = Ticket (flight_at w c).txn.id (next_ticket w c t)
+propose_answer w c t (Some fault) = Failed (flight_at w c).txn.id fault
+
+abbrev pub cancel_answer : Topic → Option Leftover → Outcome
+cancel_answer t None = Done
+cancel_answer t (Some k) = Cancelled k.id t
+
+abbrev pub take_answer : World → ℕ → Option Item → Outcome
+take_answer w s None = Error (subscription_at w s).connection
+take_answer w s (Some item) = Handed s item
+
+-- what the event answers where it isn't refused
+abbrev pub answer : World → Event → Outcome
+answer w (Topic_added clock) = Done
+answer w Opened = Done
+answer w (Commits c sends) = flying_answer w c sends
+answer w (Subscribes c t) = Subscribed (length w.subscriptions) c t (topic_at w t).frontier
+answer w (Unsubscribes c s) = Unsubscribed s (end_now w s)
+answer w (Disconnects c) = Leaving c
+answer w (Errs c) = Error c
+answer w (Lost c) = Leaving c
+answer w (Leaves c) = leave_answer w c (oldest_live c 0 w.subscriptions)
+answer w (Proposes c t memory) = propose_answer w c t (proposal_fault w c t memory)
+answer w (Decides c) = Decided (flight_at w c).txn.id (greatest (flight_at w c).given)
+answer w (Withdraws c) = Withdrawn (flight_at w c).txn.id c
+answer w (Cancels c t) = cancel_answer t (find_leftover t (speaker w c).leftovers)
+answer w (Learns t id) = Learnt id t
+answer w (Releases t) = Released t
+answer w (Turns t) = Turned t
+answer w (Takes s) = take_answer w s (item_number (subscription_at w s).taken (accepted_at w s))
+
+-- ---- a step
+
+-- the core after an event
+abbrev pub happens : World → Event → World
+happens w e = elim (refusal w e) [ None ↦ effect w e | Some why ↦ w ]
+
+-- what comes of an event
+abbrev pub outcome : World → Event → Outcome
+outcome w e = elim (refusal w e) [ None ↦ answer w e | Some why ↦ Refused why ]

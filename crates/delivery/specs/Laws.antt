@@ -1,0 +1,161 @@
+-- What is claimed of every run: over all capacities, log limits, opening clocks and lists of events.
+use Rattle.std.specs.Prelude.{◌≡◌, ◌≢◌, ℕ, ◌<◌, ◌+◌, ◌-◌, ◌++◌, nat_lt, max, Bool, true, false, Option, Some, None, ◌⊎◌, List, [], ◌∷◌, map, filter, length}
+use Rattle.std.specs.List.{list_any}
+use Rattle.mcast_txn.specs.declared.id.Topic.{Topic}
+use Rattle.mcast_txn.specs.declared.id.TxnId.{TxnId}
+use Rattle.mcast_txn.specs.declared.stamp.Stamp.{Stamp}
+use Rattle.mcast_txn.specs.Stamp.{greatest}
+use Rattle.mcast_txn.specs.Transaction.{topics_of}
+use Rattle.mcast_txn.specs.Agreed.{Row, In, names, same_id, agreed, EachOnce, SenderOrder}
+use Rattle.mcast_group.specs.declared.fault.LearnFault.{LearnFault}
+use Rattle.mcast_group.specs.Span.{Item}
+use Rattle.mcast_group.specs.Topics.{TopicState, Pending, Entry, Verdict, learn_fault, delivered, item_of, due_part}
+use Rattle.delivery.specs.declared.refusal.Refusal.{Refusal}
+use Rattle.delivery.specs.Due.{log_row, due}
+use Rattle.delivery.specs.World.{World, start, topic_at, speaker, subscription_at, accepted_at, span_at, log_at, frontier_at}
+use Rattle.delivery.specs.Events.{Event, Outcome, happens, outcome, refusal, flight_at, find_in, oldest_live}
+use Rattle.delivery.specs.Events.Event.{Topic_added, Opened, Commits, Subscribes, Unsubscribes, Disconnects, Errs, Lost, Leaves, Proposes, Decides, Withdraws, Cancels, Learns, Releases, Turns, Takes}
+use Rattle.delivery.specs.Events.Outcome.{Refused, Ticket, Decided}
+use Rattle.delivery.specs.Runs.{run, outcomes, commits_of, tickets_of, handed_of}
+use Rattle.delivery.specs.Settled.{IsSettled, SilentAfterClose}
+
+-- a run: how many items a queue holds, how many rows a topic holds, the topics' opening clocks, and the events
+pub record Run : Type 0 where
+  pub capacity : ℕ
+  pub log_limit : ℕ
+  pub clocks : List ℕ
+  pub events : List Event
+
+-- what came of its events, the newest first
+abbrev pub came : Run → List Outcome
+came r = outcomes r.events (start r.capacity r.log_limit r.clocks) []
+
+-- the core after it
+abbrev pub after : Run → World
+after r = run r.events (start r.capacity r.log_limit r.clocks)
+
+-- the commit list is what the core kept of it
+abbrev pub CommitsAreKept : Type 0
+CommitsAreKept = (r : Run) → (after r).commits ≡ commits_of (came r)
+
+-- what a subscription's queue has accepted, taken or not, is what is due to it: whole parts, each once, in the agreed order
+abbrev pub AcceptedIsDue : Type 0
+AcceptedIsDue =
+    (r : Run) (s : ℕ) → s < length (after r).subscriptions
+    → accepted_at (after r) s
+      ≡ due (commits_of (came r)) (span_at (after r) s) (frontier_at (after r) (subscription_at (after r) s).topic)
+
+-- no id and no stamp stands twice in the agreed sequence
+abbrev pub AgreedOnce : Type 0
+AgreedOnce = (r : Run) → EachOnce (agreed (commits_of (came r)))
+
+-- each sender's transactions come in its order in the agreed sequence
+abbrev pub AgreedInSenderOrder : Type 0
+AgreedInSenderOrder = (r : Run) → SenderOrder (agreed (commits_of (came r)))
+
+-- an item's transaction and its stamp
+pub record Place : Type 0 where
+  pub id : TxnId
+  pub stamp : Stamp
+
+abbrev pub place_of : Item → Place
+place_of i = record { id = i.id; stamp = i.stamp }
+
+-- the transactions of one queue that stand in the other too, in the one's order
+abbrev pub shared : List Item → List Item → List Place
+shared items others = filter (λ p. list_any (λ i. same_id i.id p.id) others) (map place_of items)
+
+-- two subscriptions have the transactions that they share in one order
+abbrev pub SharedInOneOrder : Type 0
+SharedInOneOrder =
+    (r : Run) (s q : ℕ) → s < length (after r).subscriptions → q < length (after r).subscriptions
+    → shared (accepted_at (after r) s) (accepted_at (after r) q) ≡ shared (accepted_at (after r) q) (accepted_at (after r) s)
+
+-- a committed transaction that names a settled topic stands in its log
+abbrev pub SettledLeavesNoneOut : Type 0
+SettledLeavesNoneOut =
+    (r : Run) (t : Topic) (row : Row) → IsSettled t (came r) → In row (commits_of (came r))
+    → names t (topics_of row.txn.sends) ≡ true → In (log_row row) (log_at (after r) t)
+
+-- what was handed on is a prefix of what was accepted
+abbrev pub HandedIsPrefix : Type 0
+HandedIsPrefix =
+    (r : Run) (s : ℕ) → s < length (after r).subscriptions
+    → (rest : List Item) × (accepted_at (after r) s ≡ handed_of s (came r) ++ rest)
+
+-- nothing is handed on of a subscription that was unsubscribed, or whose connection closed
+abbrev pub ClosedIsSilent : Type 0
+ClosedIsSilent = (r : Run) → SilentAfterClose (came r)
+
+-- a transaction's stamp is the greatest of its tickets
+abbrev pub StampIsGreatest : Type 0
+StampIsGreatest =
+    (r : Run) (id : TxnId) (stamp : Stamp) → In (Decided id stamp) (came r) → stamp ≡ greatest (tickets_of id (came r))
+
+-- ---- of each step
+
+-- a refused event changes nothing
+abbrev pub RefusalsChangeNothing : Type 0
+RefusalsChangeNothing = (w : World) (e : Event) (why : Refusal) → outcome w e ≡ Refused why → happens w e ≡ w
+
+abbrev pub live_topic : World → Option ℕ → Option Topic
+live_topic w None = None
+live_topic w (Some s) = Some (subscription_at w s).topic
+
+-- the topic that an event is about, if there is one
+abbrev pub topic_of : World → Event → Option Topic
+topic_of w (Subscribes c t) = Some t
+topic_of w (Unsubscribes c s) = Some (subscription_at w s).topic
+topic_of w (Leaves c) = live_topic w (oldest_live c 0 w.subscriptions)
+topic_of w (Proposes c t memory) = Some t
+topic_of w (Cancels c t) = Some t
+topic_of w (Learns t id) = Some t
+topic_of w (Releases t) = Some t
+topic_of w (Turns t) = Some t
+topic_of w e = None
+
+-- an event changes no other topic than its own
+abbrev pub OthersUntouched : Type 0
+OthersUntouched =
+    (w : World) (e : Event) (u : Topic) → u.0 < length w.topics → topic_of w e ≢ Some u → topic_at (happens w e) u ≡ topic_at w u
+
+-- a ticket comes from a named topic alone, one above its clock and its sender's floor
+abbrev pub TicketIsOwn : Type 0
+TicketIsOwn =
+    (w : World) (e : Event) (id : TxnId) (ticket : Stamp) → outcome w e ≡ Ticket id ticket
+    → (c : ℕ) × (t : Topic) × (memory : Bool) × (e ≡ Proposes c t memory) × (id ≡ (flight_at w c).txn.id)
+        × (names t (topics_of (flight_at w c).txn.sends) ≡ true)
+        × (ticket ≡ record { n = max (topic_at w t).clock (speaker w c).floor.n + 1; topic = t })
+
+-- a verdict isn't the part's, clashes, or comes to cancel a part: what no run meets
+abbrev pub is_odd : Refusal → Bool
+is_odd Refusal.Foreign = true
+is_odd Refusal.Clash = true
+is_odd Refusal.Decided = true
+is_odd why = false
+
+-- foreign, clash and decided never come
+abbrev pub OddNeverComes : Type 0
+OddNeverComes = (r : Run) (why : Refusal) → In (Refused why) (came r) → is_odd why ≡ false
+
+-- nor do they within a turn: what is found for a transaction is learnt wherever it is pending
+abbrev pub FoundIsLearnt : Type 0
+FoundIsLearnt =
+    (r : Run) (t : Topic) (id : TxnId) (v : Verdict) → find_in (after r) id ≡ Some v
+    → (learn_fault id v (topic_at (after r) t) ≡ None) ⊎ (learn_fault id v (topic_at (after r) t) ≡ Some LearnFault.NotPending)
+
+-- an open subscription as a release of p leaves it: where fewer items than its capacity weren't handed on it has one more, and else it has ended before it
+pub record IsGiven (w : World) (frontier : Stamp) (p : Pending) (before after : Entry) : Type 0 where
+  pub number : after.number ≡ before.number
+  pub room : nat_lt (length before.accepted - (subscription_at w before.number).taken) w.capacity ≡ true
+      → (after.to ≡ None) × (after.accepted ≡ before.accepted ++ item_of p ∷ [])
+  pub full : nat_lt (length before.accepted - (subscription_at w before.number).taken) w.capacity ≡ false
+      → (after.to ≡ Some frontier) × (after.accepted ≡ before.accepted)
+
+-- a release lags an open subscription of its topic exactly where its queue is full
+abbrev pub LagsWhereFull : Type 0
+LagsWhereFull =
+    (w : World) (t : Topic) (p : Pending) (before : Entry) → refusal w (Releases t) ≡ None → due_part (topic_at w t) ≡ Some p
+    → In before (topic_at w t).subscriptions → before.to ≡ None
+    → (later : Entry) × In later (topic_at (happens w (Releases t)) t).subscriptions
+        × IsGiven w (topic_at w t).frontier p before later

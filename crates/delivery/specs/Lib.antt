@@ -1,0 +1,6 @@
+pub mod Due
+pub mod World
+pub mod Events
+pub mod Runs
+pub mod Settled
+pub mod Laws

@@ -1,0 +1,74 @@
+//! Laws: functions that do nothing, whose contracts are theorems about every run of the core.
+
+ghost use Rattle.delivery.specs.Laws.{AcceptedIsDue, AgreedInSenderOrder, AgreedOnce, ClosedIsSilent, CommitsAreKept, FoundIsLearnt, HandedIsPrefix, LagsWhereFull, OddNeverComes, OthersUntouched, RefusalsChangeNothing, SettledLeavesNoneOut, SharedInOneOrder, StampIsGreatest, TicketIsOwn};
+
+/// The core's commit list is that of the decisions in the run.
+pub fn commits()
+    ensures { CommitsAreKept }
+{}
+
+/// What a subscription's queue has accepted is the agreed sequence of committed transactions, restricted
+/// to its topic and span, up to the topic's frontier: whole parts, taken or not.
+pub fn accepted()
+    ensures { AcceptedIsDue }
+{}
+
+/// No transaction and no stamp stands twice in the agreed sequence.
+pub fn each_once()
+    ensures { AgreedOnce }
+{}
+
+/// Each sender's transactions come in its order in the agreed sequence.
+pub fn fifo_order()
+    ensures { AgreedInSenderOrder }
+{}
+
+/// Two subscriptions have the transactions that they share in one order.
+pub fn total_order()
+    ensures { SharedInOneOrder }
+{}
+
+/// A transaction's stamp is the greatest of the tickets that it was given.
+pub fn stamps()
+    ensures { StampIsGreatest }
+{}
+
+/// A settled topic leaves no committed transaction out: each that names it stands in its log.
+pub fn validity()
+    ensures { SettledLeavesNoneOut }
+{}
+
+/// A refused event changes nothing.
+pub fn refusals_change_nothing()
+    ensures { RefusalsChangeNothing }
+{}
+
+/// An event at one topic changes no other, and only the topics that a transaction names give it a ticket,
+/// each computed from its own clock and the sender's floor.
+pub fn genuine()
+    ensures others { OthersUntouched }
+    ensures tickets { TicketIsOwn }
+{}
+
+/// No verdict is refused as another's or as a clash, and no decided part is cancelled.
+pub fn never()
+    ensures refused { OddNeverComes }
+    ensures in_turns { FoundIsLearnt }
+{}
+
+/// An open subscription lags exactly at a release at its topic where as many items as its capacity
+/// weren't handed on.
+pub fn lags_only_where_full()
+    ensures { LagsWhereFull }
+{}
+
+/// What was handed on of a subscription is a prefix of what its queue has accepted.
+pub fn handed_prefix()
+    ensures { HandedIsPrefix }
+{}
+
+/// Nothing is handed on of a subscription after it was unsubscribed, or after its connection was closed by
+/// itself, by an ERROR or by loss.
+pub fn silent_after_close()
+    ensures { ClosedIsSilent }
+{}

@@ -1,0 +1,62 @@
+//! What the core refuses.
+
+use thiserror::Error;
+
+/// Why an event has no effect. The checks stand in the order of each event's own list.
+#[derive(Clone, Copy, Debug, PartialEq, Eq, Error)]
+pub enum Refusal {
+    /// 43: no part of this transaction is pending at the topic.
+    #[error("43 NotPending: the transaction isn't pending at this topic")]
+    NotPending,
+    /// 44: the verdict isn't that of the part which is pending. It never comes in a run.
+    #[error("44 Foreign: give the verdict of the transaction that is pending here")]
+    Foreign,
+    /// 45: another stamp was learnt, or another part has this one. It never comes in a run.
+    #[error("45 Clash: a transaction has one stamp, and a stamp one transaction")]
+    Clash,
+    /// 46: the part has learnt its stamp. It never comes in a run.
+    #[error("46 Decided: a transaction that was decided can't be cancelled")]
+    Decided,
+    /// 48: there is no such subscription.
+    #[error("48 NoSub: name a subscription of this connection that is open")]
+    NoSub,
+    /// 51: the topic gave a ticket before.
+    #[error("51 Twice: propose a transaction once at each of its topics")]
+    Twice,
+    /// 52: a named topic gave no ticket yet.
+    #[error("52 Incomplete: propose the transaction at each of its topics first")]
+    Incomplete,
+    /// 53: the sender has no sequence numbers left.
+    #[error("53 SeqFull: the sender has no numbers left for its transactions")]
+    SeqFull,
+    /// 79: the connection is open.
+    #[error("79 NotLeaving: the connection is open")]
+    NotLeaving,
+    /// 80: there is no such connection.
+    #[error("80 NoConn: there is no connection of this number")]
+    NoConn,
+    /// 81: the connection is leaving, or a transaction of its own is undecided.
+    #[error("81 Busy: wait until the connection's transaction has ended")]
+    Busy,
+    /// 83: the connection has no undecided transaction.
+    #[error("83 NoFlight: the connection has no undecided transaction")]
+    NoFlight,
+    /// 84: there is no such topic, or the transaction doesn't name it.
+    #[error("84 NotNamed: name a topic that exists and that the transaction names")]
+    NotNamed,
+    /// 85: the transaction has no verdict.
+    #[error("85 NotDecided: the transaction has no verdict")]
+    NotDecided,
+    /// 86: nothing is due.
+    #[error("86 NothingDue: nothing is due here")]
+    NothingDue,
+    /// 87: the connection is gone, or the subscription has ended.
+    #[error("87 Gone: the connection or the subscription has ended")]
+    Gone,
+    /// 88: a topic refused the transaction.
+    #[error("88 Marked: a topic refused the transaction; withdraw it")]
+    Marked,
+    /// 89: no topic refused the transaction.
+    #[error("89 NotMarked: only a transaction that a topic refused can be withdrawn")]
+    NotMarked,
+}

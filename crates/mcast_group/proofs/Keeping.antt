@@ -1,0 +1,283 @@
+-- Each step keeps a topic sound.
+use Rattle.std.proofs.Common.{◌≡◌, ◌≢◌, ℕ, zero, suc, ◌+◌, ◌<◌, ◌≤◌, ◌==◌, max, Bool, true, false, cond, not, ◌&&◌, ◌||◌, ◌⊎◌, inl, inr, List, [], ◌∷◌, ◌++◌, map, length, Option, Some, None, refl, sym, ap, subst, ◌∙◌, arith, ltb}
+use Rattle.std.specs.List.{filter, list_any}
+use Rattle.std.proofs.lemmas.Bool.{true≢false, false≢true, not-true, and_parts, and_from, or_cases}
+use Rattle.std.proofs.lemmas.Bool.Decides.{nat_tests}
+use Rattle.mcast_txn.specs.Stamp.{stamp_lt, zero_stamp, greatest}
+use Rattle.mcast_txn.specs.Transaction.{TopicPart}
+use Rattle.mcast_txn.specs.Agreed.{same_id, In, Rises}
+use Rattle.mcast_txn.specs.declared.id.Topic.{Topic}
+use Rattle.mcast_txn.specs.declared.id.TxnId.{TxnId}
+use Rattle.mcast_txn.specs.declared.stamp.Stamp.{Stamp}
+use Rattle.mcast_txn.proofs.Orders.{lt_irrefl, lt_trans, lt_asym, lt_le, le_lt, le_trans, lt_by_number, strictly, id_equal, id_same, id_turned, id_itself}
+use Rattle.mcast_txn.proofs.Members.{In-append_left, In-push, In-push_cases, In-map, In-map_cases, In-filter_cases, any_found, any_from, push_one}
+use Rattle.mcast_txn.proofs.Sorting.{Rises-push}
+use Rattle.mcast_txn.proofs.Greatest.{greatest_past}
+use Rattle.mcast_group.specs.Span.{LogRow, Item, in_span, last_stamp}
+use Rattle.mcast_group.specs.Sound.{IsSound, IsQueueOf, row_stamp}
+use Rattle.mcast_group.specs.Topics.{TopicState, Pending, Entry, Verdict, IsVerdict, key, new_topic, next_number, proposed, is_pending, insert_pending, has_row, is_foreign, learnt_other, clashes, learn_fault, learn_fault_of, find_pending, learned, told, cancelled, without, released, row_of, item_of, delivered, subscribed, unsubscribed, drained, due_part, same_stamp}
+use Rattle.mcast_group.proofs.Parts.{insert_length, insert_one, insert_two, not_pending, told_how, each_told, each_two_told, with_stamp, map_length, Least, Due, others, found_part, same_stamp_is, same_stamp_itself, not_true, some_same, none_some}
+use Rattle.mcast_group.proofs.Queues.{Queue-delivered, Queue-new, Queue-drained, Next}
+
+pub Sound-new : (t : Topic) (log_limit clock : ℕ) → IsSound (new_topic t log_limit clock)
+Sound-new t log_limit clock = record {
+  rises = tt; above_base = λ r k. absurd k; frontier = refl; past = λ r k. absurd k; base_past = lt_irrefl zero_stamp;
+  own = λ p k. absurd k; one_part = λ p q k. absurd k; differ = λ p q k. absurd k; above = λ p k. absurd k;
+  clock_keys = λ p k. absurd k; clock_frontier = omega arith; queues = λ e k. absurd k; limit = omega arith;
+}
+
+-- ---- propose
+
+pub Sound-proposed : (floor : Stamp) (part : TopicPart) (x : TopicState) → IsSound x → part.topic ≡ x.topic → is_pending part.id x.pending ≡ false → length x.pending + length x.held < x.log_limit → IsSound (proposed floor part x)
+Sound-proposed floor part x h own new room =
+    let n = next_number floor x in
+    let p : Pending = record { part = part; ticket = n; learnt = None } in
+    let far : x.frontier.n ≤ x.clock = h.clock_frontier in
+    let more = insert_length p x.pending in
+    record {
+      rises = h.rises;
+      above_base = h.above_base;
+      frontier = h.frontier;
+      past = h.past;
+      base_past = h.base_past;
+      own = insert_one (λ (q : Pending). q.part.topic ≡ x.topic) x.pending p h.own own;
+      one_part = insert_two (λ (a b : Pending). same_id a.part.id b.part.id ≡ true → a ≡ b) x.pending p h.one_part
+          (λ q k e. absurd (not_pending part.id x.pending new q k e))
+          (λ q k e. absurd (not_pending part.id x.pending new q k (id_turned part.id q.part.id e)))
+          (λ e. refl);
+      differ = insert_two (λ (a b : Pending). key a ≡ key b → a ≡ b) x.pending p h.differ
+          (λ q k e. absurd (let l : (key q).n ≤ x.clock = h.clock_keys q k in let d : (key q).n ≡ n = ap (λ (s : Stamp). s.n) e in omega arith))
+          (λ q k e. absurd (let l : (key q).n ≤ x.clock = h.clock_keys q k in let d : n ≡ (key q).n = ap (λ (s : Stamp). s.n) e in omega arith))
+          (λ e. refl);
+      above = insert_one (λ (q : Pending). stamp_lt x.frontier (key q) ≡ true) x.pending p h.above
+          (lt_by_number x.frontier (key p) (omega arith));
+      clock_keys = insert_one (λ (q : Pending). (key q).n ≤ n) x.pending p
+          (λ q k. let l : (key q).n ≤ x.clock = h.clock_keys q k in omega arith) (omega arith);
+      clock_frontier = omega arith;
+      queues = h.queues;
+      limit = omega arith;
+    }
+
+-- ---- learn
+
+-- what it means that a topic learns a verdict for a transaction
+pub record Learns (id : TxnId) (v : Verdict) (x : TopicState) : Type 0 where
+  pub part : Pending
+  pub stands : In part x.pending
+  pub is : part.part.id ≡ id
+  pub verdict : v.id ≡ id
+  pub row : has_row (record { n = part.ticket; topic = part.part.topic }) v.rows ≡ true
+  pub again : learnt_other v.stamp part.learnt ≡ false
+  pub new : (q : Pending) → In q x.pending → key q ≡ v.stamp → same_id q.part.id id ≡ true
+
+false_of : (b : Bool) → not b ≡ false → b ≡ true
+false_of true e = refl
+false_of false e = absurd (true≢false e)
+
+or_left : (a b : Bool) → (a || b) ≡ false → a ≡ false
+or_left true b e = e
+or_left false b e = refl
+
+or_right : (a b : Bool) → (a || b) ≡ false → b ≡ false
+or_right true b e = absurd (true≢false e)
+or_right false b e = e
+
+new_case : (id : TxnId) (v : Verdict) (p : Pending) (ps : List Pending) → p.part.id ≡ id → list_any (λ (z : Pending). not (same_id z.part.id p.part.id) && same_stamp (key z) v.stamp) ps ≡ false → (q : Pending) → In q ps → key q ≡ v.stamp → (b : Bool) → same_id q.part.id p.part.id ≡ b → same_id q.part.id id ≡ true
+new_case id v p ps e none q k s true d = subst (λ z. same_id q.part.id z ≡ true) e d
+new_case id v p ps e none q k s false d =
+    absurd (true≢false (sym (any_from (λ (z : Pending). not (same_id z.part.id p.part.id) && same_stamp (key z) v.stamp) q ps k
+      (rw (d, s) (same_stamp_itself v.stamp))) ∙ none))
+
+learns_clash : (id : TxnId) (v : Verdict) (x : TopicState) (p : Pending) → In p x.pending → p.part.id ≡ id → is_foreign v p ≡ false → clashes v p x.pending ≡ false → Learns id v x
+learns_clash id v x p i e f c =
+    let own = and_parts (same_id v.id p.part.id) (has_row (record { n = p.ticket; topic = p.part.topic }) v.rows) (false_of _ f) in
+    record {
+      part = p;
+      stands = i;
+      is = e;
+      verdict = id_equal v.id p.part.id own.0 ∙ e;
+      row = own.1;
+      again = or_left (learnt_other v.stamp p.learnt) _ c;
+      new = λ q k s. new_case id v p x.pending e (or_right (learnt_other v.stamp p.learnt) _ c) q k s (same_id q.part.id p.part.id) refl;
+    }
+
+learns_checks : (id : TxnId) (v : Verdict) (x : TopicState) (p : Pending) → In p x.pending → p.part.id ≡ id → (a b : Bool) → is_foreign v p ≡ a → clashes v p x.pending ≡ b → learn_fault_of v x.pending (Some p) ≡ None → Learns id v x
+learns_checks id v x p i e true b f c k = absurd (not_none (subst_foreign f k))
+  where
+    not_none : {X : Type 0} {y : X} → Some y ≡ None → Prim.⊥
+    not_none e = cc
+    subst_foreign : is_foreign v p ≡ true → learn_fault_of v x.pending (Some p) ≡ None → Some Rattle.mcast_group.specs.declared.fault.LearnFault.LearnFault.Foreign ≡ None
+    subst_foreign f k = sym (rw f refl) ∙ k
+learns_checks id v x p i e false true f c k = absurd (not_none (subst_clash f c k))
+  where
+    not_none : {X : Type 0} {y : X} → Some y ≡ None → Prim.⊥
+    not_none e = cc
+    subst_clash : is_foreign v p ≡ false → clashes v p x.pending ≡ true → learn_fault_of v x.pending (Some p) ≡ None → Some Rattle.mcast_group.specs.declared.fault.LearnFault.LearnFault.Clash ≡ None
+    subst_clash f c k = sym (rw (f, c) refl) ∙ k
+learns_checks id v x p i e false false f c k = learns_clash id v x p i e f c
+
+learns_found : (id : TxnId) (v : Verdict) (x : TopicState) (o : Option Pending) → find_pending id x.pending ≡ o → learn_fault_of v x.pending o ≡ None → Learns id v x
+learns_found id v x None f e = cc
+learns_found id v x (Some p) f e =
+    let k = found_part id x.pending p f in
+    learns_checks id v x p k.stands k.is (is_foreign v p) (clashes v p x.pending) refl refl e
+
+pub learns_is : (id : TxnId) (v : Verdict) (x : TopicState) → learn_fault id v x ≡ None → Learns id v x
+learns_is id v x e = learns_found id v x (find_pending id x.pending) refl e
+
+-- the stamp learnt is at least the part's key
+key_case : (p : Pending) (v : Verdict) (o : Option Stamp) → p.learnt ≡ o → learnt_other v.stamp o ≡ false → has_row (record { n = p.ticket; topic = p.part.topic }) v.rows ≡ true → v.stamp ≡ greatest v.rows → stamp_lt v.stamp (key p) ≡ false
+key_case p v (Some s) e again row is =
+    let d : s ≡ v.stamp = same_stamp_is s v.stamp (false_of (same_stamp s v.stamp) again) in
+    rw (e, d) (lt_irrefl v.stamp)
+key_case p v None e again row is =
+    let t : Stamp = record { n = p.ticket; topic = p.part.topic } in
+    let f = any_found (same_stamp t) v.rows row in
+    let d : t ≡ f.it = same_stamp_is t f.it f.passes in
+    let k : key p ≡ t = ap (λ (o : Option Stamp). key (record p { learnt = o })) e in
+    subst (λ z. stamp_lt v.stamp z ≡ false) (sym (k ∙ d)) (subst (λ z. stamp_lt z f.it ≡ false) (sym is) (greatest_past v.rows f.it f.stands))
+
+pub key_past : (id : TxnId) (v : Verdict) (x : TopicState) (l : Learns id v x) → IsVerdict v → stamp_lt v.stamp (key l.part) ≡ false
+key_past id v x l is = key_case l.part v l.part.learnt refl l.again l.row is.0
+
+pub Sound-learned : (id : TxnId) (v : Verdict) (x : TopicState) → IsSound x → IsVerdict v → Learns id v x → IsSound (learned id v.stamp x)
+Sound-learned id v x h is l = record {
+  rises = h.rises;
+  above_base = h.above_base;
+  frontier = h.frontier;
+  past = h.past;
+  base_past = h.base_past;
+  own = each_told id v.stamp x.pending (λ q. q.part.topic ≡ x.topic) (λ p k e. h.own p k) (λ p k e. h.own p k);
+  one_part = each_two_told id v.stamp x.pending (λ p q. same_id p.part.id q.part.id ≡ true → p ≡ q)
+      (λ p q k i e f s. h.one_part p q k i s)
+      (λ p q k i e f s. absurd (apart p q e f s))
+      (λ p q k i e f s. absurd (apart q p f e (id_turned p.part.id q.part.id s)))
+      (λ p q k i e f s. ap (λ z. with_stamp z v.stamp) (h.one_part p q k i s));
+  differ = each_two_told id v.stamp x.pending (λ p q. key p ≡ key q → p ≡ q)
+      (λ p q k i e f s. h.differ p q k i s)
+      (λ p q k i e f s. absurd (true≢false (sym (l.new q i (sym s)) ∙ f)))
+      (λ p q k i e f s. absurd (true≢false (sym (l.new p k s) ∙ e)))
+      (λ p q k i e f s. ap (λ z. with_stamp z v.stamp) (h.one_part p q k i (both p q e f)));
+  above = each_told id v.stamp x.pending (λ q. stamp_lt x.frontier (key q) ≡ true) (λ p k e. h.above p k) (λ p k e. up);
+  clock_keys = each_told id v.stamp x.pending (λ q. (key q).n ≤ max x.clock v.stamp.n)
+      (λ p k e. let m : (key p).n ≤ x.clock = h.clock_keys p k in omega arith) (λ p k e. omega arith);
+  clock_frontier = let m : x.frontier.n ≤ x.clock = h.clock_frontier in omega arith;
+  queues = h.queues;
+  limit = let m = map_length (told id v.stamp) x.pending in let r : length x.pending + length x.held ≤ x.log_limit = h.limit in omega arith;
+}
+  where
+    up : stamp_lt x.frontier v.stamp ≡ true
+    up = lt_le x.frontier (key l.part) v.stamp (h.above l.part l.stands) (key_past id v x l is)
+    apart : (p q : Pending) → same_id p.part.id id ≡ true → same_id q.part.id id ≡ false → same_id p.part.id q.part.id ≡ true → Prim.⊥
+    apart p q e f s =
+        let a = id_equal p.part.id id e in let b = id_equal p.part.id q.part.id s in
+        true≢false (sym (id_same q.part.id id (sym b ∙ a)) ∙ f)
+    both : (p q : Pending) → same_id p.part.id id ≡ true → same_id q.part.id id ≡ true → same_id p.part.id q.part.id ≡ true
+    both p q e f = id_same p.part.id q.part.id (id_equal p.part.id id e ∙ sym (id_equal q.part.id id f))
+
+-- ---- cancel
+
+filter_le : {X : Type 0} (p : X → Bool) (xs : List X) → length (filter p xs) ≤ length xs
+filter_le p [] = omega arith
+filter_le p (x ∷ xs) = by (p x) (filter_le p xs)
+  where
+    by : (b : Bool) → length (filter p xs) ≤ length xs → length (cond b (x ∷ filter p xs) (filter p xs)) ≤ suc (length xs)
+    by true l = omega arith
+    by false l = omega arith
+
+pub Sound-cancelled : (id : TxnId) (x : TopicState) → IsSound x → IsSound (cancelled id x)
+Sound-cancelled id x h = record {
+  rises = h.rises;
+  above_base = h.above_base;
+  frontier = h.frontier;
+  past = h.past;
+  base_past = h.base_past;
+  own = λ p k. h.own p (others id p x.pending k).stands;
+  one_part = λ p q k i. h.one_part p q (others id p x.pending k).stands (others id q x.pending i).stands;
+  differ = λ p q k i. h.differ p q (others id p x.pending k).stands (others id q x.pending i).stands;
+  above = λ p k. h.above p (others id p x.pending k).stands;
+  clock_keys = λ p k. h.clock_keys p (others id p x.pending k).stands;
+  clock_frontier = h.clock_frontier;
+  queues = h.queues;
+  limit = let l = filter_le (λ (p : Pending). not (same_id p.part.id id)) x.pending in let r : length x.pending + length x.held ≤ x.log_limit = h.limit in omega arith;
+}
+
+-- ---- release
+
+last_push : (base : Stamp) (rows : List LogRow) (r : LogRow) → r.stamp ≡ last_stamp base (rows ++ r ∷ [])
+last_push base [] r = refl
+last_push base (q ∷ rows) r = last_push q.stamp rows r
+
+push_length : {X : Type 0} (xs : List X) (x : X) → length (xs ++ x ∷ []) ≡ suc (length xs)
+push_length [] x = refl
+push_length (y ∷ xs) x = ap suc (push_length xs x)
+
+filter_lt_case : {X : Type 0} (n : ℕ) (b : Bool) (x : X) (xs : List X) → length xs < n → length (cond b (x ∷ xs) xs) < suc n
+filter_lt_case n true x xs l = omega arith
+filter_lt_case n false x xs l = omega arith
+
+pub filter_lt : {X : Type 0} (p : X → Bool) (x : X) (xs : List X) → In x xs → p x ≡ false → length (filter p xs) < length xs
+filter_lt p x [] h e = absurd h
+filter_lt p x (y ∷ ys) (inl k) e =
+    let f : p y ≡ false = subst (λ z. p z ≡ false) (sym k) e in
+    let l = filter_le p ys in rw f (omega arith)
+filter_lt p x (y ∷ ys) (inr k) e = filter_lt_case (length ys) (p y) y (filter p ys) (filter_lt p x ys k e)
+
+pub next_of : (x : TopicState) (p : Pending) → IsSound x → In p x.pending → Next x.frontier x.held (row_of p) (item_of p)
+next_of x p h i = record { up = h.above p i; past = h.past; is = record { id = refl; stamp = refl } }
+
+pub Sound-released : (takes : Entry → Bool) (p : Pending) (x : TopicState) → IsSound x → Due p x → IsSound (released takes p x)
+Sound-released takes p x h due =
+    let i = due.least.stands in
+    let up : stamp_lt x.frontier (key p) ≡ true = h.above p i in
+    record {
+      rises = Rises-push row_stamp x.held (row_of p) h.rises (λ q k. le_lt q.stamp x.frontier (key p) (h.past q k) up);
+      above_base = push_one (λ (q : LogRow). stamp_lt x.base q.stamp ≡ true) x.held (row_of p) h.above_base
+          (le_lt x.base x.frontier (key p) h.base_past up);
+      frontier = last_push x.base x.held (row_of p);
+      past = push_one (λ (q : LogRow). stamp_lt (key p) q.stamp ≡ false) x.held (row_of p)
+          (λ q k. lt_asym q.stamp (key p) (le_lt q.stamp x.frontier (key p) (h.past q k) up)) (lt_irrefl (key p));
+      base_past = lt_asym x.base (key p) (le_lt x.base x.frontier (key p) h.base_past up);
+      own = λ q k. h.own q (others p.part.id q x.pending k).stands;
+      one_part = λ q r k j. h.one_part q r (others p.part.id q x.pending k).stands (others p.part.id r x.pending j).stands;
+      differ = λ q r k j. h.differ q r (others p.part.id q x.pending k).stands (others p.part.id r x.pending j).stands;
+      above = λ q k. let o = others p.part.id q x.pending k in
+          strictly (key p) (key q) (due.least.least q o.stands)
+          (λ e. true≢false (sym (id_same q.part.id p.part.id (ap (λ (z : Pending). z.part.id) (h.differ q p o.stands i (sym e)))) ∙ o.differs));
+      clock_keys = λ q k. h.clock_keys q (others p.part.id q x.pending k).stands;
+      clock_frontier = h.clock_keys p i;
+      queues = λ e k. let m = In-map_cases (delivered takes x.frontier (item_of p)) e x.subscriptions k in
+          subst (λ (z : Entry). IsQueueOf x.base (key p) (x.held ++ row_of p ∷ []) z.from z.to z.accepted) m.is
+          (Queue-delivered takes x.base x.frontier x.held (row_of p) (item_of p) m.from (next_of x p h i) (h.queues m.from m.stands));
+      limit =
+          let l = filter_lt (λ (q : Pending). not (same_id q.part.id p.part.id)) p x.pending i (rw (id_itself p.part.id) refl) in
+          let m = push_length x.held (row_of p) in
+          let r : length x.pending + length x.held ≤ x.log_limit = h.limit in omega arith;
+    }
+
+-- ---- subscriptions and the log
+
+pub Sound-subscribed : (number : ℕ) (x : TopicState) → IsSound x → IsSound (subscribed number x)
+Sound-subscribed number x h = record {
+  rises = h.rises; above_base = h.above_base; frontier = h.frontier; past = h.past; base_past = h.base_past; own = h.own;
+  one_part = h.one_part; differ = h.differ; above = h.above; clock_keys = h.clock_keys; clock_frontier = h.clock_frontier;
+  queues = push_one (λ (e : Entry). IsQueueOf x.base x.frontier x.held e.from e.to e.accepted) x.subscriptions _ h.queues
+      (Queue-new x.base x.frontier x.held h.past);
+  limit = h.limit;
+}
+
+pub Sound-unsubscribed : (number : ℕ) (x : TopicState) → IsSound x → IsSound (unsubscribed number x)
+Sound-unsubscribed number x h = record {
+  rises = h.rises; above_base = h.above_base; frontier = h.frontier; past = h.past; base_past = h.base_past; own = h.own;
+  one_part = h.one_part; differ = h.differ; above = h.above; clock_keys = h.clock_keys; clock_frontier = h.clock_frontier;
+  queues = λ e k. h.queues e (In-filter_cases (λ (z : Entry). not (z.number == number)) e x.subscriptions k).stands;
+  limit = h.limit;
+}
+
+pub Sound-drained : (x : TopicState) → IsSound x → IsSound (drained x)
+Sound-drained x h = record {
+  rises = tt; above_base = λ r k. absurd k; frontier = refl; past = λ r k. absurd k; base_past = lt_irrefl x.frontier; own = h.own;
+  one_part = h.one_part; differ = h.differ; above = h.above; clock_keys = h.clock_keys; clock_frontier = h.clock_frontier;
+  queues = λ e k. Queue-drained x.base x.frontier x.held e.from e.to e.accepted (h.queues e k);
+  limit = let r : length x.pending + length x.held ≤ x.log_limit = h.limit in omega arith;
+}

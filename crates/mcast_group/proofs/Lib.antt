@@ -1,0 +1,5 @@
+pub mod Parts
+pub mod Queues
+pub mod Keeping
+pub mod Turning
+pub mod Allowed

@@ -1,0 +1,29 @@
+-- What is claimed of each topic.
+use Rattle.std.specs.Prelude.{◌≡◌, ℕ, Bool, List, [], Option, Some, None}
+use Rattle.mcast_txn.specs.declared.id.Topic.{Topic}
+use Rattle.mcast_txn.specs.declared.id.TxnId.{TxnId}
+use Rattle.mcast_txn.specs.declared.stamp.Stamp.{Stamp}
+use Rattle.mcast_txn.specs.Transaction.{TopicPart}
+use Rattle.mcast_group.specs.Topics.{TopicState, Entry, Verdict, IsVerdict, new_topic, propose_fault, proposed, learn_fault, learned, cancelled, release, turned, subscribed, unsubscribed, drained}
+use Rattle.mcast_group.specs.Sound.{IsSound}
+use Rattle.mcast_group.specs.Fitting.{Fits}
+
+-- a new topic is sound, and each call keeps it so: a proposal of a part of its own, a verdict's stamp that is learnt, and the others
+pub record KeepsSound : Type 0 where
+  pub opens : (topic : Topic) (log_limit clock : ℕ) → IsSound (new_topic topic log_limit clock)
+  pub proposes : (floor : Stamp) (part : TopicPart) (x : TopicState) → IsSound x → part.topic ≡ x.topic
+      → propose_fault floor part x ≡ None → IsSound (proposed floor part x)
+  pub learns : (id : TxnId) (v : Verdict) (x : TopicState) → IsSound x → IsVerdict v → learn_fault id v x ≡ None → IsSound (learned id v.stamp x)
+  pub cancels : (id : TxnId) (x : TopicState) → IsSound x → IsSound (cancelled id x)
+  pub releases : (takes : Entry → Bool) (x : TopicState) → IsSound x → IsSound (release takes x)
+  pub turns : (takes : Entry → Bool) (find : TxnId → Option Verdict) (x : TopicState)
+      → ((id : TxnId) (v : Verdict) → find id ≡ Some v → IsVerdict v) → IsSound x → IsSound (turned takes find x)
+  pub subscribes : (number : ℕ) (x : TopicState) → IsSound x → IsSound (subscribed number x)
+  pub unsubscribes : (number : ℕ) (x : TopicState) → IsSound x → IsSound (unsubscribed number x)
+  pub drains : (x : TopicState) → IsSound x → IsSound (drained x)
+
+-- a turn of a sound topic that its verdicts fit leaves no part pending
+abbrev pub TurnLeavesNone : Type 0
+TurnLeavesNone =
+    (takes : Entry → Bool) (find : TxnId → Option Verdict) (x : TopicState)
+    → IsSound x → Fits find x → (turned takes find x).pending ≡ []

@@ -1,0 +1,6 @@
+pub mod Checks
+pub mod Span
+pub mod Topics
+pub mod Sound
+pub mod Fitting
+pub mod Laws

@@ -1,0 +1,54 @@
+-- What a topic keeps, whatever is asked of it.
+use Rattle.std.specs.Prelude.{◌≡◌, ℕ, ◌+◌, ◌≤◌, true, false, List, length, Option, Some, None}
+use Rattle.mcast_txn.specs.declared.stamp.Stamp.{Stamp}
+use Rattle.mcast_txn.specs.Stamp.{stamp_lt}
+use Rattle.mcast_txn.specs.Agreed.{same_id, In, Rises}
+use Rattle.mcast_group.specs.Span.{LogRow, Item, in_span, last_stamp}
+use Rattle.mcast_group.specs.Topics.{TopicState, Pending, Entry, key}
+
+abbrev pub row_stamp : LogRow → Stamp
+row_stamp row = row.stamp
+
+abbrev pub item_stamp : Item → Stamp
+item_stamp item = item.stamp
+
+-- the item is that of a row: it has its id and its stamp
+pub record IsItemOf (row : LogRow) (item : Item) : Type 0 where
+  pub id : item.id ≡ row.id
+  pub stamp : item.stamp ≡ row.stamp
+
+pub record HasItem (row : LogRow) (items : List Item) : Type 0 where
+  pub item : Item
+  pub stands : In item items
+  pub is : IsItemOf row item
+
+pub record HasRow (item : Item) (rows : List LogRow) : Type 0 where
+  pub row : LogRow
+  pub stands : In row rows
+  pub is : IsItemOf row item
+
+-- what a queue has accepted rises, lies in its span and at most at the frontier, and is, above the base, exactly the held rows in its span
+pub record IsQueueOf (base frontier : Stamp) (held : List LogRow) (from : Stamp) (to : Option Stamp) (accepted : List Item) : Type 0 where
+  pub from_past : stamp_lt frontier from ≡ false
+  pub to_past : (end : Stamp) → to ≡ Some end → stamp_lt frontier end ≡ false
+  pub rises : Rises item_stamp accepted
+  pub within : (i : Item) → In i accepted → in_span from to i.stamp ≡ true
+  pub past : (i : Item) → In i accepted → stamp_lt frontier i.stamp ≡ false
+  pub only_rows : (i : Item) → In i accepted → stamp_lt base i.stamp ≡ true → HasRow i held
+  pub all_rows : (r : LogRow) → In r held → in_span from to r.stamp ≡ true → HasItem r accepted
+
+-- held rows rise above base, the last of them or base is the frontier; pending keys differ and are above the frontier; the clock is at least the number of each; the log's limit
+pub record IsSound (x : TopicState) : Type 0 where
+  pub rises : Rises row_stamp x.held
+  pub above_base : (r : LogRow) → In r x.held → stamp_lt x.base r.stamp ≡ true
+  pub frontier : x.frontier ≡ last_stamp x.base x.held
+  pub past : (r : LogRow) → In r x.held → stamp_lt x.frontier r.stamp ≡ false
+  pub base_past : stamp_lt x.frontier x.base ≡ false
+  pub own : (p : Pending) → In p x.pending → p.part.topic ≡ x.topic
+  pub one_part : (p q : Pending) → In p x.pending → In q x.pending → same_id p.part.id q.part.id ≡ true → p ≡ q
+  pub differ : (p q : Pending) → In p x.pending → In q x.pending → key p ≡ key q → p ≡ q
+  pub above : (p : Pending) → In p x.pending → stamp_lt x.frontier (key p) ≡ true
+  pub clock_keys : (p : Pending) → In p x.pending → (key p).n ≤ x.clock
+  pub clock_frontier : x.frontier.n ≤ x.clock
+  pub queues : (e : Entry) → In e x.subscriptions → IsQueueOf x.base x.frontier x.held e.from e.to e.accepted
+  pub limit : length x.pending + length x.held ≤ x.log_limit

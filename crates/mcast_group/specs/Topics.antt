@@ -1,0 +1,263 @@
+-- One topic of Skeen's protocol as a pure machine: its clock, its pending parts, its log and its subscriptions.
+use Rattle.std.specs.Prelude.{◌≡◌, ℕ, zero, suc, ◌+◌, ◌==◌, nat_lt, max, Bool, true, false, not, ◌&&◌, ◌||◌, List, [], ◌∷◌, ◌++◌, map, length, filter, Option, Some, None, if◌then◌else◌, ◌⊎◌}
+use Rattle.std.specs.List.{list_any}
+use Rattle.std.specs.Option.{is_some}
+use Rattle.mcast_txn.specs.declared.id.Topic.{Topic}
+use Rattle.mcast_txn.specs.declared.id.TxnId.{TxnId}
+use Rattle.mcast_txn.specs.declared.stamp.Stamp.{Stamp}
+use Rattle.mcast_txn.specs.Stamp.{zero_stamp, stamp_lt, greatest}
+use Rattle.mcast_txn.specs.Transaction.{TopicPart}
+use Rattle.mcast_txn.specs.Agreed.{same_id, In}
+use Rattle.mcast_group.specs.declared.cause.Cause.{Cause}
+use Rattle.mcast_group.specs.declared.cause.Cause.TheVariants.{Asked, Lag}
+use Rattle.mcast_group.specs.declared.fault.ProposeFault.{ProposeFault}
+use Rattle.mcast_group.specs.declared.fault.LearnFault.{LearnFault}
+use Rattle.mcast_group.specs.declared.fault.CancelFault.{CancelFault}
+use Rattle.mcast_group.specs.Checks.{first_refusal}
+use Rattle.mcast_group.specs.Span.{LogRow, Item, last_stamp}
+
+-- a verdict as plain data: whose it is, each named topic with the number that it gave, and the greatest of these
+pub record Verdict : Type 0 where
+  pub id : TxnId
+  pub rows : List Stamp
+  pub stamp : Stamp
+
+-- its stamp is the greatest of its rows, and it has one row for a topic
+abbrev pub IsVerdict : Verdict → Type 0
+IsVerdict v = (v.stamp ≡ greatest v.rows) × ((a b : Stamp) → In a v.rows → In b v.rows → a.topic ≡ b.topic → a ≡ b)
+
+-- a part that was proposed: the number of its ticket, and its stamp once that is learnt
+pub record Pending : Type 0 where
+  pub part : TopicPart
+  pub ticket : ℕ
+  pub learnt : Option Stamp
+
+-- a subscription that wasn't asked to end: its number, the frontier when it began, where it lagged if it did, and the items that its queue has accepted
+pub record Entry : Type 0 where
+  pub number : ℕ
+  pub from : Stamp
+  pub to : Option Stamp
+  pub accepted : List Item
+
+-- what a subscription leaves as it ends
+pub record Ended : Type 0 where
+  pub to : Stamp
+  pub accepted : List Item
+  pub cause : Cause
+
+-- a topic, by its number: its pending parts rise by id; base is the stamp of the last row that was drained; held are the rows after it; frontier is the stamp of the last row ever
+pub record TopicState : Type 0 where
+  pub topic : Topic
+  pub clock : ℕ
+  pub log_limit : ℕ
+  pub pending : List Pending
+  pub base : Stamp
+  pub held : List LogRow
+  pub frontier : Stamp
+  pub subscriptions : List Entry
+
+-- a topic with this log limit and opening clock
+abbrev pub new_topic : Topic → ℕ → ℕ → TopicState
+new_topic topic log_limit clock = record {
+    topic = topic; clock = clock; log_limit = log_limit; pending = []; base = zero_stamp; held = []; frontier = zero_stamp;
+    subscriptions = [];
+  }
+
+-- the greatest number that a stamp can have
+abbrev pub last_number : ℕ
+last_number = 18446744073709551615
+
+abbrev pub same_stamp : Stamp → Stamp → Bool
+same_stamp a b = a.n == b.n && a.topic.0 == b.topic.0
+
+-- ---- pending parts
+
+-- a's sender is the smaller, or the sender is one and a's seq is the smaller
+abbrev pub id_lt : TxnId → TxnId → Bool
+id_lt a b = nat_lt a.sender.0 b.sender.0 || (a.sender.0 == b.sender.0 && nat_lt a.seq b.seq)
+
+-- where a pending part stands in the topic's order: at its stamp, or at its ticket while that isn't known
+abbrev pub key : Pending → Stamp
+key p = elim p.learnt [ None ↦ record { n = p.ticket; topic = p.part.topic } | Some stamp ↦ stamp ]
+
+-- p among parts that rise by id
+abbrev pub insert_pending : Pending → List Pending → List Pending
+insert_pending p [] = p ∷ []
+insert_pending p (q ∷ qs) = if id_lt p.part.id q.part.id then p ∷ q ∷ qs else q ∷ insert_pending p qs
+
+-- the pending part of this transaction
+abbrev pub find_pending : TxnId → List Pending → Option Pending
+find_pending id [] = None
+find_pending id (p ∷ ps) = if same_id p.part.id id then Some p else find_pending id ps
+
+abbrev pub is_pending : TxnId → List Pending → Bool
+is_pending id ps = list_any (λ p. same_id p.part.id id) ps
+
+abbrev pub without : TxnId → List Pending → List Pending
+without id ps = filter (λ p. not (same_id p.part.id id)) ps
+
+-- of p and the others the one of least key
+abbrev pub least_of : Pending → List Pending → Pending
+least_of p [] = p
+least_of p (q ∷ qs) = if stamp_lt (key q) (key p) then least_of q qs else least_of p qs
+
+abbrev pub least : List Pending → Option Pending
+least [] = None
+least (p ∷ ps) = Some (least_of p ps)
+
+-- ---- propose
+
+-- the number that is next at this floor: one above the clock and the floor
+abbrev pub next_number : Stamp → TopicState → ℕ
+next_number floor x = max x.clock floor.n + 1
+
+abbrev pub propose_checks : Stamp → TopicPart → TopicState → List (Bool × ProposeFault)
+propose_checks floor part x =
+    (is_pending part.id x.pending, ProposeFault.Twice)
+    ∷ (not (nat_lt (max x.clock floor.n) last_number), ProposeFault.ClockFull)
+    ∷ (not (nat_lt (length x.pending + length x.held) x.log_limit), ProposeFault.LogFull) ∷ []
+
+-- why the topic gives no ticket: the part is pending, no number is left, or the log is at its limit
+abbrev pub propose_fault : Stamp → TopicPart → TopicState → Option ProposeFault
+propose_fault floor part x = first_refusal (propose_checks floor part x)
+
+-- the part is pending with the next number, which becomes the clock
+abbrev pub proposed : Stamp → TopicPart → TopicState → TopicState
+proposed floor part x = record x {
+    clock = next_number floor x;
+    pending = insert_pending (record { part = part; ticket = next_number floor x; learnt = None }) x.pending;
+  }
+
+-- ---- learn
+
+-- the number that this topic gave stands among the verdict's rows
+abbrev pub has_row : Stamp → List Stamp → Bool
+has_row ticket rows = list_any (same_stamp ticket) rows
+
+-- the verdict is another transaction's, or has another number for this topic
+abbrev pub is_foreign : Verdict → Pending → Bool
+is_foreign v p = not (same_id v.id p.part.id && has_row (record { n = p.ticket; topic = p.part.topic }) v.rows)
+
+abbrev pub learnt_other : Stamp → Option Stamp → Bool
+learnt_other stamp None = false
+learnt_other stamp (Some s) = not (same_stamp s stamp)
+
+-- another stamp was learnt before, or the stamp is another pending part's key
+abbrev pub clashes : Verdict → Pending → List Pending → Bool
+clashes v p ps =
+    learnt_other v.stamp p.learnt || list_any (λ q. not (same_id q.part.id p.part.id) && same_stamp (key q) v.stamp) ps
+
+abbrev pub learn_fault_of : Verdict → List Pending → Option Pending → Option LearnFault
+learn_fault_of v ps None = Some LearnFault.NotPending
+learn_fault_of v ps (Some p) = first_refusal ((is_foreign v p, LearnFault.Foreign) ∷ (clashes v p ps, LearnFault.Clash) ∷ [])
+
+-- why the topic doesn't learn this verdict for the part of this transaction
+abbrev pub learn_fault : TxnId → Verdict → TopicState → Option LearnFault
+learn_fault id v x = learn_fault_of v x.pending (find_pending id x.pending)
+
+abbrev pub told : TxnId → Stamp → Pending → Pending
+told id stamp p = if same_id p.part.id id then record p { learnt = Some stamp } else p
+
+-- the part's key becomes the stamp, and the clock is at least the stamp's number
+abbrev pub learned : TxnId → Stamp → TopicState → TopicState
+learned id stamp x = record x { clock = max x.clock stamp.n; pending = map (told id stamp) x.pending }
+
+-- ---- cancel
+
+abbrev pub cancel_fault_of : Option Pending → Option CancelFault
+cancel_fault_of None = Some CancelFault.NotPending
+cancel_fault_of (Some p) = if is_some p.learnt then Some CancelFault.Decided else None
+
+-- why the topic doesn't take out the part of this transaction
+abbrev pub cancel_fault : TxnId → TopicState → Option CancelFault
+cancel_fault id x = cancel_fault_of (find_pending id x.pending)
+
+abbrev pub cancelled : TxnId → TopicState → TopicState
+cancelled id x = record x { pending = without id x.pending }
+
+-- ---- release
+
+abbrev pub row_of : Pending → LogRow
+row_of p = record { id = p.part.id; topics = p.part.topics; stamp = key p }
+
+abbrev pub item_of : Pending → Item
+item_of p = record { id = p.part.id; stamp = key p; sends = p.part.sends }
+
+-- an item for a subscription: its queue takes it, or the span ends with the frontier before it; one that has lagged gets nothing
+abbrev pub delivered : (Entry → Bool) → Stamp → Item → Entry → Entry
+delivered takes frontier item e = elim e.to [
+    Some end ↦ e
+  | None ↦ if takes e then record e { accepted = e.accepted ++ item ∷ [] } else record e { to = Some frontier } ]
+
+-- p leaves: it is added to the log, the frontier becomes its stamp, and each open subscription whose queue takes it gets it as one item
+abbrev pub released : (Entry → Bool) → Pending → TopicState → TopicState
+released takes p x = record x {
+    pending = without p.part.id x.pending;
+    held = x.held ++ row_of p ∷ [];
+    frontier = key p;
+    subscriptions = map (delivered takes x.frontier (item_of p)) x.subscriptions;
+  }
+
+abbrev pub if_learnt : Option Pending → Option Pending
+if_learnt None = None
+if_learnt (Some p) = if is_some p.learnt then Some p else None
+
+-- the part that is due: that of least key, if it has learnt its stamp
+abbrev pub due_part : TopicState → Option Pending
+due_part x = if_learnt (least x.pending)
+
+abbrev pub released_if : (Entry → Bool) → TopicState → Option Pending → TopicState
+released_if takes x None = x
+released_if takes x (Some p) = released takes p x
+
+-- the release of what is due, if anything is
+abbrev pub release : (Entry → Bool) → TopicState → TopicState
+release takes x = released_if takes x (due_part x)
+
+-- ---- turn
+
+-- learn what was found for this transaction, where that isn't refused
+abbrev pub tried : TxnId → Option Verdict → TopicState → TopicState
+tried id None x = x
+tried id (Some v) x = elim (learn_fault id v x) [ None ↦ learned id v.stamp x | Some fault ↦ x ]
+
+-- learn for each of these parts what is found for it
+abbrev pub tried_all : (TxnId → Option Verdict) → List Pending → TopicState → TopicState
+tried_all find [] x = x
+tried_all find (p ∷ ps) x = tried_all find ps (tried p.part.id (find p.part.id) x)
+
+abbrev pub released_times : (Entry → Bool) → ℕ → TopicState → TopicState
+released_times takes zero x = x
+released_times takes (suc k) x = released_times takes k (release takes x)
+
+-- learn once for each pending part, by rising id, then release until nothing is due
+abbrev pub turned : (Entry → Bool) → (TxnId → Option Verdict) → TopicState → TopicState
+turned takes find x =
+    let y = tried_all find x.pending x in released_times takes (length y.pending) y
+
+-- ---- subscriptions
+
+abbrev pub find_entry : ℕ → List Entry → Option Entry
+find_entry number [] = None
+find_entry number (e ∷ es) = if e.number == number then Some e else find_entry number es
+
+-- a subscription begins after the frontier
+abbrev pub subscribed : ℕ → TopicState → TopicState
+subscribed number x = record x {
+    subscriptions = x.subscriptions ++ record { number = number; from = x.frontier; to = None; accepted = [] } ∷ [];
+  }
+
+-- what a subscription leaves: it ends with the frontier, or where it lagged
+abbrev pub ended : Stamp → Entry → Ended
+ended frontier e = elim e.to [
+    None ↦ record { to = frontier; accepted = e.accepted; cause = Asked }
+  | Some end ↦ record { to = end; accepted = e.accepted; cause = Lag } ]
+
+abbrev pub unsubscribed : ℕ → TopicState → TopicState
+unsubscribed number x = record x { subscriptions = filter (λ e. not (e.number == number)) x.subscriptions }
+
+-- ---- the log
+
+-- the held rows are handed out
+abbrev pub drained : TopicState → TopicState
+drained x = record x { base = x.frontier; held = [] }

@@ -1,0 +1,9 @@
+//! One topic of an atomic multicast: its clock, its pending parts, its log and its subscriptions.
+#![tactic(auto)]
+
+mod cause;
+mod fault;
+pub mod law;
+
+pub use cause::Cause;
+pub use fault::{CancelFault, LearnFault, ProposeFault};
