@@ -3,7 +3,6 @@
 ghost use Rattle.std.specs.Prelude.{◌≡◌, IfOk};
 ghost use Rattle.std.specs.Arc.{arc_value};
 ghost use Rattle.mcast_txn.specs.Flight.{id_of};
-ghost use Rattle.mcast_txn.specs.Part.{data_of};
 
 use crate::flight::Flight;
 use crate::id::{Topic, TxnId};
@@ -22,7 +21,9 @@ pub struct Part {
     /// All topics of the transaction.
     pub topics: Arc<TopicSet>,
     pub sends: PartSends,
+    /// The transaction's own flight.
     pub flight: Arc<Flight>,
+    pub ghost own: { id_of (arc_value flight) ≡ id },
 }
 
 /// A part that its topic has let go, and the stamp of its transaction.
@@ -33,6 +34,8 @@ pub struct Released {
 }
 
 impl Part {
+    ghost use Rattle.mcast_txn.specs.Part.{data_of};
+
     // The flight's part at a topic.
     pub(crate) fn at(
         alloc: Global,

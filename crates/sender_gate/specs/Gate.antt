@@ -14,9 +14,9 @@ use Rattle.sender_gate.specs.declared.fault.GateFault.{GateFault}
 use Rattle.sender_gate.specs.declared.fault.GateFault.TheVariants.{SeqFull, BelowFloor, NoMemory}
 use Rattle.sender_gate.specs.Faults.{gate_fault}
 
--- the last number of a sender's transactions
-abbrev pub last_seq : ℕ
-last_seq = 18446744073709551615
+-- the greatest number that a transaction of a sender can have
+abbrev pub max_seq : ℕ
+max_seq = 18446744073709551615
 
 -- a sender, the number of its last transaction, and the stamp of the last that was decided
 pub record SenderState : Type 0 where
@@ -41,7 +41,7 @@ flight_of gate sends = record { id = next_id gate; floor = gate.floor; numbers =
 
 -- why a flight doesn't begin: there is no next number, or no memory
 abbrev pub begin_fault : SenderState → GateFault
-begin_fault gate = if gate.seq == last_seq then SeqFull else NoMemory
+begin_fault gate = if gate.seq == max_seq then SeqFull else NoMemory
 
 -- the tickets that were put into a flight
 abbrev pub tally_of : FlightState → Tally

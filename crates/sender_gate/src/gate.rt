@@ -2,7 +2,7 @@
 
 ghost use Rattle.std.specs.Prelude.{◌≡◌, IfOk, IfErr, IsErr};
 ghost use Rattle.mcast_txn.specs.Stamp.{zero_stamp};
-ghost use Rattle.sender_gate.specs.Gate.{begin_fault, flight_of, last_seq};
+ghost use Rattle.sender_gate.specs.Gate.{begin_fault, flight_of, max_seq};
 
 use crate::fault::GateFault;
 use crate::flying::Flying;
@@ -68,7 +68,7 @@ impl Gate {
     /// handed back.
     pub fn begin(self, alloc: Global, txn: Txn) -> Result<Flying, (Gate, Txn, GateFault)>
         ensures ok { IfOk result (λ flying. flying ≡ flight_of self txn) }
-        ensures full { self.seq ≡ last_seq → IsErr result }
+        ensures full { self.seq ≡ max_seq → IsErr result }
         ensures err { IfErr result (λ refused. refused ≡ (self, txn, begin_fault self)) }
     {
         if self.seq == u64::MAX {
