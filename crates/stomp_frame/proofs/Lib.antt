@@ -17,3 +17,4 @@ pub mod Bare
 pub mod Names
 pub mod Digits
 pub mod Messages
+pub mod Places

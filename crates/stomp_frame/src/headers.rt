@@ -1,9 +1,10 @@
 //! Headers.
 
-ghost use Rattle.std.specs.Prelude.{◌≡◌, ◌∷◌, [], ◌++◌, ◌↔◌, IsTrue, List, ℕ, length, ◌<◌, slice_get, Some, OnOk, OnErr};
-ghost use Rattle.std.specs.List.{AllByRecursion};
+ghost use Rattle.std.specs.Prelude.{◌≡◌, ◌∷◌, [], ◌++◌, ◌↔◌, IsTrue, List, ℕ, length, ◌<◌, slice_get, Some, IfSome, OnOk, OnErr};
+ghost use Rattle.std.specs.List.{AllByRecursion, position};
 ghost use Rattle.std.specs.Option.{option_map};
-ghost use Rattle.stomp_frame.specs.Headers.{IsPair, first_of};
+ghost use Rattle.std.specs.Str.{bytes_eq};
+ghost use Rattle.stomp_frame.specs.Headers.{IsPair, IsText, first_of, without_first};
 
 use std::alloc::Global;
 use std::marker::Model;
@@ -75,11 +76,33 @@ impl Headers {
     /// The value of the first header of this name (STOMP 1.2, "Repeated Header Entries").
     pub fn first(&self, name: &[u8]) -> Option<&[u8]>
         ensures value { option_map (λ v. v.now) result ≡ first_of name.now self.now }
+        ensures text { IfSome result (λ v. IsText v.now) }
         ensures pairs { AllByRecursion IsPair self.now }
     {
         self.pairs
             .iter()
             .find(|pair| pair.0.as_slice() == name)
             .map(|pair| pair.1.as_slice())
+    }
+
+    // The place of the first header of this name, from 0.
+    fn place(&self, name: &[u8]) -> Option<usize>
+        ensures { result ≡ position (λ h. bytes_eq h.0 name.now) self.now }
+    {
+        self.pairs
+            .iter()
+            .position(|pair| pair.0.as_slice() == name)
+    }
+
+    /// Takes out the first header of this name, and gives its value, or `None` where there is none
+    /// (STOMP 1.2, "Repeated Header Entries"). It takes no memory.
+    pub fn take(&mut self, name: &[u8]) -> Option<Octets>
+        ensures value { result ≡ first_of name.now self.old }
+        ensures rest { self.new ≡ without_first name.now self.old }
+        ensures text { IfSome result (λ v. IsText v) }
+    {
+        let place = self.place(name)?;
+        let (_name, value) = self.pairs.remove(place);
+        Some(value)
     }
 }
