@@ -34,12 +34,14 @@ greatest_in (y ∷ []) =
     absurd_lt l = let k = zero_least y in cc
 greatest_in (y ∷ z ∷ zs) =
     elim (greatest_in (z ∷ zs)) [
-      inl k ↦ inl (by_later (λ v. In v (y ∷ z ∷ zs)) y (greatest (z ∷ zs)) (λ l. inr k) (λ l. inl refl))
-    | inr e ↦ cc ]
+      | inl k ↦ inl (by_later (λ v. In v (y ∷ z ∷ zs)) y (greatest (z ∷ zs)) (λ l. inr k) (λ l. inl refl))
+      | inr e ↦ cc
+    ]
 
 -- what is one of them and at least each is the greatest
 pub is_greatest : (xs : List Stamp) (x : Stamp) → In x xs → ((y : Stamp) → In y xs → stamp_lt x y ≡ false) → x ≡ greatest xs
 is_greatest xs x h least =
     elim (greatest_in xs) [
-      inl k ↦ same_stamps x (greatest xs) (least (greatest xs) k) (greatest_past xs x h)
-    | inr e ↦ absurd (subst (λ z. In x z) e h) ]
+      | inl k ↦ same_stamps x (greatest xs) (least (greatest xs) k) (greatest_past xs x h)
+      | inr e ↦ absurd (subst (λ z. In x z) e h)
+    ]

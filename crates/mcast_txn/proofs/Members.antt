@@ -75,8 +75,9 @@ pub record Found {X : Type 0} (p : X → Bool) (xs : List X) : Type 0 where
 pub any_found : {X : Type 0} (p : X → Bool) (xs : List X) → list_any p xs ≡ true → Found p xs
 any_found p [] h = absurd (false≢true h)
 any_found p (x ∷ xs) h = elim (or_cases (p x) (list_any p xs) h) [
-    inl e ↦ record { it = x; stands = inl refl; passes = e }
-  | inr e ↦ let f = any_found p xs e in record { it = f.it; stands = inr f.stands; passes = f.passes } ]
+  | inl e ↦ record { it = x; stands = inl refl; passes = e }
+  | inr e ↦ let f = any_found p xs e in record { it = f.it; stands = inr f.stands; passes = f.passes }
+]
 
 pub any_from : {X : Type 0} (p : X → Bool) (x : X) (xs : List X) → In x xs → p x ≡ true → list_any p xs ≡ true
 any_from p x [] h k = absurd h

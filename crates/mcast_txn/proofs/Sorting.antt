@@ -46,13 +46,20 @@ In-sorted_cases stamp q [] h = absurd h
 In-sorted_cases stamp q (r ∷ rs) h = elim (In-insert_cases stamp q r (sorted_by stamp rs) h) [ inl e ↦ inl e | inr k ↦ inr (In-sorted_cases stamp q rs k) ]
 
 rises_case : {X : Type 0} (stamp : X → Stamp) (r x : X) (xs : List X) (b : Bool) → stamp_lt (stamp r) (stamp x) ≡ b → (stamp r ≡ stamp x → Prim.⊥) → Rises stamp (x ∷ xs) → Rises stamp (insert_by stamp r xs) → Rises stamp (cond b (r ∷ x ∷ xs) (x ∷ insert_by stamp r xs))
-rises_case stamp r x xs true e ne up ih =
-    (λ y h. elim h [ inl k ↦ subst (λ z. stamp_lt (stamp r) (stamp z) ≡ true) k e
-                   | inr k ↦ lt_trans (stamp r) (stamp x) (stamp y) e (up.0 y k) ], up)
-rises_case stamp r x xs false e ne up ih =
-    (λ y h. elim (In-insert_cases stamp y r xs h) [
-        inl k ↦ subst (λ z. stamp_lt (stamp x) (stamp z) ≡ true) k (strictly (stamp x) (stamp r) e (λ d. ne (sym d)))
-      | inr k ↦ up.0 y k ], ih)
+rises_case stamp r x xs true e ne up ih = (
+  λ y h. elim h [
+    | inl k ↦ subst (λ z. stamp_lt (stamp r) (stamp z) ≡ true) k e
+    | inr k ↦ lt_trans (stamp r) (stamp x) (stamp y) e (up.0 y k)
+  ],
+  up,
+)
+rises_case stamp r x xs false e ne up ih = (
+  λ y h. elim (In-insert_cases stamp y r xs h) [
+    | inl k ↦ subst (λ z. stamp_lt (stamp x) (stamp z) ≡ true) k (strictly (stamp x) (stamp r) e (λ d. ne (sym d)))
+    | inr k ↦ up.0 y k
+  ],
+  ih,
+)
 
 pub Rises-insert : {X : Type 0} (stamp : X → Stamp) (r : X) (xs : List X) → ((q : X) → In q xs → stamp r ≡ stamp q → Prim.⊥) → Rises stamp xs → Rises stamp (insert_by stamp r xs)
 Rises-insert stamp r [] ne up = ((λ y h. absurd h), tt)
@@ -74,21 +81,24 @@ Rises-filter stamp p (x ∷ xs) h = rises_filter_case stamp p x xs (p x) h (Rise
 
 pub Rises-push : {X : Type 0} (stamp : X → Stamp) (xs : List X) (r : X) → Rises stamp xs → ((q : X) → In q xs → stamp_lt (stamp q) (stamp r) ≡ true) → Rises stamp (xs ++ r ∷ [])
 Rises-push stamp [] r up h = ((λ y k. absurd k), tt)
-Rises-push stamp (x ∷ xs) r up h =
-    ((λ y k. elim (In-push_cases y r xs k) [
-        inl i ↦ up.0 y i
-      | inr e ↦ subst (λ z. stamp_lt (stamp x) (stamp z) ≡ true) e (h x (inl refl)) ]),
-     Rises-push stamp xs r up.1 (λ q k. h q (inr k)))
+Rises-push stamp (x ∷ xs) r up h = (
+  (λ y k. elim (In-push_cases y r xs k) [
+    | inl i ↦ up.0 y i
+    | inr e ↦ subst (λ z. stamp_lt (stamp x) (stamp z) ≡ true) e (h x (inl refl))
+  ]),
+  Rises-push stamp xs r up.1 (λ q k. h q (inr k)),
+)
 
 -- a map that keeps the stamps keeps the rise
 pub Rises-map : {X Y : Type 0} (stamp : X → Stamp) (other : Y → Stamp) (f : X → Y) (xs : List X) → ((x : X) → other (f x) ≡ stamp x) → Rises stamp xs → Rises other (map f xs)
 Rises-map stamp other f [] e h = tt
-Rises-map stamp other f (x ∷ xs) e h =
-    ((λ y k. let m = In-map_cases f y xs k in
-        subst (λ z. stamp_lt (other (f x)) (other z) ≡ true) m.is
-          (subst (λ (s : Stamp). stamp_lt s (other (f m.from)) ≡ true) (sym (e x))
-            (subst (λ (s : Stamp). stamp_lt (stamp x) s ≡ true) (sym (e m.from)) (h.0 m.from m.stands)))),
-     Rises-map stamp other f xs e h.1)
+Rises-map stamp other f (x ∷ xs) e h = (
+  (λ y k. let m = In-map_cases f y xs k in
+      subst (λ z. stamp_lt (other (f x)) (other z) ≡ true) m.is
+      (subst (λ (s : Stamp). stamp_lt s (other (f m.from)) ≡ true) (sym (e x))
+      (subst (λ (s : Stamp). stamp_lt (stamp x) s ≡ true) (sym (e m.from)) (h.0 m.from m.stands)))),
+  Rises-map stamp other f xs e h.1,
+)
 
 -- two rising lists with the same members are equal
 pub same_rising : {X : Type 0} (stamp : X → Stamp) (xs ys : List X) → Rises stamp xs → Rises stamp ys → ((q : X) → In q xs → In q ys) → ((q : X) → In q ys → In q xs) → xs ≡ ys
@@ -98,8 +108,8 @@ same_rising stamp (x ∷ xs) [] up vp to from = absurd (to x (inl refl))
 same_rising stamp (x ∷ xs) (y ∷ ys) up vp to from =
     let e : x ≡ y = heads stamp x y xs ys up vp (to x (inl refl)) (from y (inl refl)) in
     let rest = same_rising stamp xs ys up.1 vp.1
-        (λ q h. rest_of stamp x y ys q e (up.0 q h) (to q (inr h)))
-        (λ q h. rest_of stamp y x xs q (sym e) (vp.0 q h) (from q (inr h))) in
+    (λ q h. rest_of stamp x y ys q e (up.0 q h) (to q (inr h)))
+    (λ q h. rest_of stamp y x xs q (sym e) (vp.0 q h) (from q (inr h))) in
     rw (e, rest) refl
   where
     heads : {X : Type 0} (stamp : X → Stamp) (x y : X) (xs ys : List X) → Rises stamp (x ∷ xs) → Rises stamp (y ∷ ys) → In x (y ∷ ys) → In y (x ∷ xs) → x ≡ y
@@ -107,6 +117,7 @@ same_rising stamp (x ∷ xs) (y ∷ ys) up vp to from =
     heads stamp x y xs ys up vp (inr h) (inl e) = e
     heads stamp x y xs ys up vp (inr h) (inr k) =
         absurd (true≢false (sym (lt_trans (stamp x) (stamp y) (stamp x) (up.0 y k) (vp.0 x h)) ∙ lt_irrefl (stamp x)))
+
     rest_of : {X : Type 0} (stamp : X → Stamp) (x y : X) (ys : List X) (q : X) → x ≡ y → stamp_lt (stamp x) (stamp q) ≡ true → In q (y ∷ ys) → In q ys
     rest_of stamp x y ys q e l (inl k) =
         absurd (true≢false (sym l ∙ (ap (λ z. stamp_lt (stamp x) (stamp z)) (sym (e ∙ k)) ∙ lt_irrefl (stamp x))))
@@ -114,11 +125,13 @@ same_rising stamp (x ∷ xs) (y ∷ ys) up vp to from =
 
 pub Apart-push : {X : Type 0} (stamp : X → Stamp) (xs : List X) (r : X) → Apart stamp xs → ((q : X) → In q xs → stamp q ≡ stamp r → Prim.⊥) → Apart stamp (xs ++ r ∷ [])
 Apart-push stamp [] r up h = ((λ y k. absurd k), tt)
-Apart-push stamp (x ∷ xs) r up h =
-    ((λ y k e. elim (In-push_cases y r xs k) [
-        inl i ↦ up.0 y i e
-      | inr d ↦ h x (inl refl) (e ∙ ap stamp (sym d)) ]),
-     Apart-push stamp xs r up.1 (λ q k. h q (inr k)))
+Apart-push stamp (x ∷ xs) r up h = (
+  (λ y k e. elim (In-push_cases y r xs k) [
+    | inl i ↦ up.0 y i e
+    | inr d ↦ h x (inl refl) (e ∙ ap stamp (sym d))
+  ]),
+  Apart-push stamp xs r up.1 (λ q k. h q (inr k)),
+)
 
 -- in a rising list a stamp has one member
 pub one_member : {X : Type 0} (stamp : X → Stamp) (xs : List X) (x y : X) → Rises stamp xs → In x xs → In y xs → stamp x ≡ stamp y → x ≡ y
