@@ -38,29 +38,46 @@ at_new P i log_limit (clock ∷ clocks) zero t e h = subst (λ z. P (new_topic z
   where
     topic : ℕ → Topic
     topic n = record { 0 = n }
+
     named : (t : Topic) (i : ℕ) → t.0 ≡ i → t ≡ topic i
     named t i e = ap topic e
+
     plain : (i : ℕ) → i + 0 ≡ i
     plain i = omega arith
 at_new P i log_limit (clock ∷ clocks) (suc j) t e h = at_new P (i + 1) log_limit clocks j t (omega arith) h
 
 Tied-start : (t : Topic) (log_limit clock : ℕ) → Tied [] [] t (new_topic t log_limit clock)
 Tied-start t log_limit clock = record {
-  topic = refl; given = λ a k. absurd k; ticketed = λ p k. absurd k; decided = λ p k. absurd k; logged = λ l k. absurd k;
-  placed = λ r k. absurd k; items = λ e k. absurd k; undrained = refl; sound = Sound-new t log_limit clock;
+  topic = refl;
+  given = λ a k. absurd k;
+  ticketed = λ p k. absurd k;
+  decided = λ p k. absurd k;
+  logged = λ l k. absurd k;
+  placed = λ r k. absurd k;
+  items = λ e k. absurd k;
+  undrained = refl;
+  sound = Sound-new t log_limit clock;
 }
 
 pub start_reached : (capacity log_limit : ℕ) (clocks : List ℕ) → Reached [] (start capacity log_limit clocks)
 start_reached capacity log_limit clocks = record {
   inv = record {
     consistent = record {
-      one_txn = λ a b k. absurd k; one_id = λ a b k. absurd k; apart = tt; from_ticket = λ r k. absurd k;
-      greatest = λ r a k. absurd k; ordered = λ r q k. absurd k;
+      one_txn = λ a b k. absurd k;
+      one_id = λ a b k. absurd k;
+      apart = tt;
+      from_ticket = λ r k. absurd k;
+      greatest = λ r a k. absurd k;
+      ordered = λ r q k. absurd k;
     };
     tied = λ t. at_new (Tied [] [] t) 0 log_limit clocks t.0 t (omega arith) (Tied-start t);
     serves = λ s. record {
-      used = λ a k. absurd k; floored = λ r k. absurd k; flying = λ f e. none_some f e; left = λ k i. absurd i;
-      left_older = λ k f i. absurd i; left_apart = tt;
+      used = λ a k. absurd k;
+      floored = λ r k. absurd k;
+      flying = λ f e. none_some f e;
+      left = λ k i. absurd i;
+      left_older = λ k f i. absurd i;
+      left_apart = tt;
     };
     voted = λ v k. absurd k;
     counted = λ r k. absurd k;
@@ -102,20 +119,21 @@ queue_is_due : (ts : List Row) (w : World) (t : Topic) (from : Stamp) (to : Opti
 queue_is_due ts w t from to accepted inv h items =
     let x = topic_in w.topics t in
     same_rising item_stamp accepted (due w.commits (span t from to) x.frontier) h.rises
-      (Rises-map stamp_of item_stamp (item_at t) (filter (is_due (span t from to) x.frontier) (agreed w.commits)) (λ r. refl)
-        (Rises-filter stamp_of (is_due (span t from to) x.frontier) (agreed w.commits) (Rises-sorted stamp_of w.commits inv.consistent.apart)))
-      to_due from_due
+    (Rises-map stamp_of item_stamp (item_at t) (filter (is_due (span t from to) x.frontier) (agreed w.commits)) (λ r. refl)
+    (Rises-filter stamp_of (is_due (span t from to) x.frontier) (agreed w.commits) (Rises-sorted stamp_of w.commits inv.consistent.apart)))
+    to_due from_due
   where
     to_due : (i : Item) → In i accepted → In i (due w.commits (span t from to) (topic_in w.topics t).frontier)
     to_due i k =
         let x = topic_in w.topics t in let g = items i k in
         let e : g.row.stamp ≡ i.stamp = ap (λ (z : Item). z.stamp) g.is in
         subst (λ z. In z (due w.commits (span t from to) x.frontier)) g.is
-          (In-map (item_at t) g.row (filter (is_due (span t from to) x.frontier) (agreed w.commits))
-            (In-filter (is_due (span t from to) x.frontier) g.row (agreed w.commits) (In-sorted stamp_of g.row w.commits g.stands)
-              (and_from (names t (topics_of g.row.txn.sends) && in_span from to g.row.stamp) (not (stamp_lt x.frontier g.row.stamp))
-                (and_from (names t (topics_of g.row.txn.sends)) (in_span from to g.row.stamp) g.named (subst (λ z. in_span from to z ≡ true) (sym e) (h.within i k)))
-                (ap not (subst (λ z. stamp_lt x.frontier z ≡ false) (sym e) (h.past i k))))))
+        (In-map (item_at t) g.row (filter (is_due (span t from to) x.frontier) (agreed w.commits))
+        (In-filter (is_due (span t from to) x.frontier) g.row (agreed w.commits) (In-sorted stamp_of g.row w.commits g.stands)
+        (and_from (names t (topics_of g.row.txn.sends) && in_span from to g.row.stamp) (not (stamp_lt x.frontier g.row.stamp))
+        (and_from (names t (topics_of g.row.txn.sends)) (in_span from to g.row.stamp) g.named (subst (λ z. in_span from to z ≡ true) (sym e) (h.within i k)))
+        (ap not (subst (λ z. stamp_lt x.frontier z ≡ false) (sym e) (h.past i k))))))
+
     from_due : (i : Item) → In i (due w.commits (span t from to) (topic_in w.topics t).frontier) → In i accepted
     from_due i k =
         let x = topic_in w.topics t in
@@ -171,8 +189,8 @@ accepted_is_due r s l =
     let h = reached r in let w = after r in let t = (subscription_at w s).topic in
     let q = queued (tickets (came r)) w s h.inv l in
     queue_is_due (tickets (came r)) w t (subscription_at w s).from (end_at w s) (accepted_at w s) h.inv q.queue q.items
-      ∙ (ap (due w.commits (span_at w s)) (frontier_is (tickets (came r)) w t h.inv)
-        ∙ ap (λ z. due z (span_at w s) (frontier_at w t)) (sym h.commits))
+    ∙ (ap (due w.commits (span_at w s)) (frontier_is (tickets (came r)) w t h.inv)
+    ∙ ap (λ z. due z (span_at w s) (frontier_at w t)) (sym h.commits))
 
 pub commits_are_kept : Laws.CommitsAreKept
 commits_are_kept r = sym (reached r).commits
@@ -181,9 +199,10 @@ commits_are_kept r = sym (reached r).commits
 
 each_once_of : (ts cs rs : List Row) → Consistent ts cs → ((q : Row) → In q rs → In q cs) → Rises stamp_of rs → EachOnce rs
 each_once_of ts cs [] all sub up = tt
-each_once_of ts cs (x ∷ xs) all sub up =
-    ((λ y k. ((λ e. differ x y (up.0 y k) (ap stamp_of (one_commit ts cs all x y (sub x (inl refl)) (sub y (inr k)) e))), differ x y (up.0 y k))),
-     each_once_of ts cs xs all (λ q k. sub q (inr k)) up.1)
+each_once_of ts cs (x ∷ xs) all sub up = (
+  (λ y k. ((λ e. differ x y (up.0 y k) (ap stamp_of (one_commit ts cs all x y (sub x (inl refl)) (sub y (inr k)) e))), differ x y (up.0 y k))),
+  each_once_of ts cs xs all (λ q k. sub q (inr k)) up.1,
+)
   where
     differ : (x y : Row) → stamp_lt x.stamp y.stamp ≡ true → x.stamp ≡ y.stamp → Prim.⊥
     differ x y l e = true≢false (sym l ∙ (ap (λ z. stamp_lt z y.stamp) e ∙ lt_irrefl y.stamp))
@@ -195,22 +214,26 @@ pub agreed_once : Laws.AgreedOnce
 agreed_once r =
     let h = reached r in
     subst (λ z. EachOnce (agreed z)) (sym h.commits)
-      (each_once_of (tickets (came r)) (after r).commits (agreed (after r).commits) h.inv.consistent (agreed_in (after r).commits)
-        (Rises-sorted stamp_of (after r).commits h.inv.consistent.apart))
+    (each_once_of (tickets (came r)) (after r).commits (agreed (after r).commits) h.inv.consistent (agreed_in (after r).commits)
+    (Rises-sorted stamp_of (after r).commits h.inv.consistent.apart))
 
 sender_order_of : (ts cs rs : List Row) → Consistent ts cs → ((q : Row) → In q rs → In q cs) → Rises stamp_of rs → SenderOrder rs
 sender_order_of ts cs [] all sub up = tt
-sender_order_of ts cs (x ∷ xs) all sub up =
-    ((λ y k e. lt-ltb x.txn.id.seq y.txn.id.seq (elim (cases_order x.txn.id.seq y.txn.id.seq) [
-        inl d ↦ absurd (same x y (up.0 y k) (one_commit ts cs all x y (sub x (inl refl)) (sub y (inr k)) (ids x.txn.id y.txn.id e d)))
-      | inr (inl l) ↦ l
-      | inr (inr l) ↦ absurd (true≢false (sym (all.ordered y x (sub y (inr k)) (sub x (inl refl)) (ap (λ (z : Sender). z.0) (sym e)) l) ∙ lt_asym x.stamp y.stamp (up.0 y k))) ])),
-     sender_order_of ts cs xs all (λ q k. sub q (inr k)) up.1)
+sender_order_of ts cs (x ∷ xs) all sub up = (
+  (λ y k e. lt-ltb x.txn.id.seq y.txn.id.seq (elim (cases_order x.txn.id.seq y.txn.id.seq) [
+    | inl d ↦ absurd (same x y (up.0 y k) (one_commit ts cs all x y (sub x (inl refl)) (sub y (inr k)) (ids x.txn.id y.txn.id e d)))
+    | inr (inl l) ↦ l
+    | inr (inr l) ↦ absurd (true≢false (sym (all.ordered y x (sub y (inr k)) (sub x (inl refl)) (ap (λ (z : Sender). z.0) (sym e)) l) ∙ lt_asym x.stamp y.stamp (up.0 y k)))
+  ])),
+  sender_order_of ts cs xs all (λ q k. sub q (inr k)) up.1,
+)
   where
     same : (x y : Row) → stamp_lt x.stamp y.stamp ≡ true → x ≡ y → Prim.⊥
     same x y l e = true≢false (sym l ∙ (ap (λ (z : Row). stamp_lt z.stamp y.stamp) e ∙ lt_irrefl y.stamp))
+
     id : Sender → ℕ → TxnId
     id s n = record { sender = s; seq = n }
+
     ids : (a b : TxnId) → a.sender ≡ b.sender → a.seq ≡ b.seq → a ≡ b
     ids a b e d = ap (λ (z : Sender). id z a.seq) e ∙ ap (id b.sender) d
 
@@ -218,8 +241,8 @@ pub agreed_in_sender_order : Laws.AgreedInSenderOrder
 agreed_in_sender_order r =
     let h = reached r in
     subst (λ z. SenderOrder (agreed z)) (sym h.commits)
-      (sender_order_of (tickets (came r)) (after r).commits (agreed (after r).commits) h.inv.consistent (agreed_in (after r).commits)
-        (Rises-sorted stamp_of (after r).commits h.inv.consistent.apart))
+    (sender_order_of (tickets (came r)) (after r).commits (agreed (after r).commits) h.inv.consistent (agreed_in (after r).commits)
+    (Rises-sorted stamp_of (after r).commits h.inv.consistent.apart))
 
 -- ---- two subscriptions
 
@@ -245,8 +268,8 @@ shared_to cs ts t u xs ys all hx hy p k =
     let stamp : f.it.stamp ≡ p.stamp = ap (λ (z : Item). z.stamp) (sym b.is) ∙ (ap stamp_of same ∙ (ap (λ (z : Item). z.stamp) a.is ∙ ap (λ (z : Place). z.stamp) n.is)) in
     let e : place_of f.it ≡ p = ap (λ z. place z f.it.stamp) (id_equal f.it.id p.id f.passes) ∙ ap (place p.id) stamp in
     In-filter (is_in xs) p (map place_of ys)
-      (subst (λ z. In z (map place_of ys)) e (In-map place_of f.it ys f.stands))
-      (any_from (λ (i : Item). same_id i.id p.id) n.from xs n.stands (id_same n.from.id p.id (ap (λ (z : Place). z.id) n.is)))
+    (subst (λ z. In z (map place_of ys)) e (In-map place_of f.it ys f.stands))
+    (any_from (λ (i : Item). same_id i.id p.id) n.from xs n.stands (id_same n.from.id p.id (ap (λ (z : Place). z.id) n.is)))
 
 shared_rises : (xs ys : List Item) → Rises item_stamp xs → Rises place_stamp (shared xs ys)
 shared_rises xs ys h = Rises-filter place_stamp (is_in ys) (map place_of xs) (Rises-map item_stamp place_stamp place_of xs (λ i. refl) h)
@@ -257,5 +280,5 @@ shared_in_one_order r s q l m =
     let a = queued (tickets (came r)) w s h.inv l in let b = queued (tickets (came r)) w q h.inv m in
     let xs = accepted_at w s in let ys = accepted_at w q in
     same_rising place_stamp (shared xs ys) (shared ys xs) (shared_rises xs ys a.queue.rises) (shared_rises ys xs b.queue.rises)
-      (shared_to w.commits (tickets (came r)) (subscription_at w s).topic (subscription_at w q).topic xs ys h.inv.consistent a.items b.items)
-      (shared_to w.commits (tickets (came r)) (subscription_at w q).topic (subscription_at w s).topic ys xs h.inv.consistent b.items a.items)
+    (shared_to w.commits (tickets (came r)) (subscription_at w s).topic (subscription_at w q).topic xs ys h.inv.consistent a.items b.items)
+    (shared_to w.commits (tickets (came r)) (subscription_at w q).topic (subscription_at w s).topic ys xs h.inv.consistent b.items a.items)

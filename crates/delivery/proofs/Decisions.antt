@@ -228,7 +228,7 @@ Tied-decided ts w s f inv dec u =
       logged = λ l k. let g = h.logged l k in record { row = g.row; stands = In-append_left g.row w.commits (r ∷ []) g.stands; is = g.is; named = g.named };
       placed = push_one (λ (q : Row). names u (topics_of q.txn.sends) ≡ true → In (log_row q) (topic_in w.topics u).held ⊎ Waits q.txn.id (topic_in w.topics u).pending) w.commits r h.placed
           (λ e. let a = dec.complete u e in
-              inr (subst (λ z. Waits f.txn.id (topic_in w.topics z).pending) a.topic_is (dec.flies.waits a.it a.stands a.txn_is)));
+          inr (subst (λ z. Waits f.txn.id (topic_in w.topics z).pending) a.topic_is (dec.flies.waits a.it a.stands a.txn_is)));
       items = λ e k i l. Itemed-more w.commits r u i (h.items e k i l);
       undrained = h.undrained;
       sound = h.sound;
@@ -255,7 +255,7 @@ Serves-decided ts w s f inv is dec d =
       flying = λ y i. none_some y i;
       left = λ k i. left_more w.commits w.topics s (sender_in w.senders s).seq k r
           (λ n. let l : k.id.seq < f.txn.id.seq = h.left_older k f i is.flight in
-            let m : f.txn.id.seq ≡ k.id.seq = ap (λ (z : TxnId). z.seq) (id_equal f.txn.id k.id n) in omega arith)
+          let m : f.txn.id.seq ≡ k.id.seq = ap (λ (z : TxnId). z.seq) (id_equal f.txn.id k.id n) in omega arith)
           (h.left k i);
       left_older = λ k y i n. none_some y n;
       left_apart = h.left_apart;
@@ -294,7 +294,12 @@ one_each (g ∷ rest) h a b (inr i) (inr j) e = one_each rest h.1 a b i j e
 
 Voted-commits : (ts cs : List Row) (v : Verdict) (r : Row) → Voted ts cs v → Voted ts (cs ++ r ∷ []) v
 Voted-commits ts cs v r h = record {
-  row = h.row; stands = In-append_left h.row cs (r ∷ []) h.stands; id_is = h.id_is; stamp_is = h.stamp_is; is = h.is; all = h.all;
+  row = h.row;
+  stands = In-append_left h.row cs (r ∷ []) h.stands;
+  id_is = h.id_is;
+  stamp_is = h.stamp_is;
+  is = h.is;
+  all = h.all;
 }
 
 HasVote-more : (vs : List Verdict) (v : Verdict) (r : Row) → HasVote vs r → HasVote (vs ++ v ∷ []) r
@@ -340,16 +345,18 @@ In-append_cases x (y ∷ xs) ys (inr h) = elim (In-append_cases x xs ys h) [ inl
 
 LeftApart-append : (ks ls : List Leftover) → LeftApart ks → LeftApart ls → ((k l : Leftover) → In k ks → In l ls → k.id ≡ l.id → k.ticket.topic.0 ≢ l.ticket.topic.0) → LeftApart (ks ++ ls)
 LeftApart-append [] ls h k ne = k
-LeftApart-append (x ∷ ks) ls h k ne =
-    ((λ l i. elim (In-append_cases l ks ls i) [ inl j ↦ h.0 l j | inr j ↦ ne x l (inl refl) j ]),
-     LeftApart-append ks ls h.1 k (λ y l i. ne y l (inr i)))
+LeftApart-append (x ∷ ks) ls h k ne = (
+  (λ l i. elim (In-append_cases l ks ls i) [ inl j ↦ h.0 l j | inr j ↦ ne x l (inl refl) j ]),
+  LeftApart-append ks ls h.1 k (λ y l i. ne y l (inr i)),
+)
 
 LeftApart-given : (id : TxnId) (given : List Stamp) → OneEach given → LeftApart (map (leftover id) given)
 LeftApart-given id [] h = tt
-LeftApart-given id (g ∷ rest) h =
-    ((λ l i e. let m = In-map_cases (leftover id) l rest i in
-        λ d. h.0 m.from m.stands (d ∙ ap (λ (z : Leftover). z.ticket.topic.0) (sym m.is))),
-     LeftApart-given id rest h.1)
+LeftApart-given id (g ∷ rest) h = (
+  (λ l i e. let m = In-map_cases (leftover id) l rest i in
+      λ d. h.0 m.from m.stands (d ∙ ap (λ (z : Leftover). z.ticket.topic.0) (sym m.is))),
+  LeftApart-given id rest h.1,
+)
 
 pub withdrawn_step : (ts : List Row) (w : World) (s : ℕ) (f : Flight) → Holds ts w → (sender_in w.senders s).flight ≡ Some f → let x = sender_in w.senders s in Inv ts w.commits w.verdicts w.topics (set w.senders s (record x { flight = None; leftovers = x.leftovers ++ map (leftover f.txn.id) f.given })) w.subscriptions
 withdrawn_step ts w s f inv e =
@@ -359,20 +366,21 @@ withdrawn_step ts w s f inv e =
       floored = h.floored;
       flying = λ y i. none_some y i;
       left = λ k i. elim (In-append_cases k x.leftovers (map (leftover f.txn.id) f.given) i) [
-          inl j ↦ h.left k j
+        | inl j ↦ h.left k j
         | inr j ↦ (let m = In-map_cases (leftover f.txn.id) k f.given j in
             subst (λ z. IsLeft w.commits w.topics s x.seq z) m.is (record {
               sender = g.sender;
               seq_le = g.seq_le;
               uncommitted = flies_uncommitted ts w.commits w.topics s x.seq x.floor f g;
               waits = g.waits (row f.txn m.from) (g.given_in m.from m.stands) refl;
-            })) ];
+            }))
+      ];
       left_older = λ k y i n. none_some y n;
       left_apart = LeftApart-append x.leftovers (map (leftover f.txn.id) f.given) h.left_apart (LeftApart-given f.txn.id f.given g.given_apart)
           (λ k l i j d. let m = In-map_cases (leftover f.txn.id) l f.given j in
-            let a : k.id.seq < f.txn.id.seq = h.left_older k f i e in
-            let b : k.id.seq ≡ f.txn.id.seq = ap (λ (z : TxnId). z.seq) d ∙ ap (λ (z : Leftover). z.id.seq) (sym m.is) in
-            absurd (omega arith));
+          let a : k.id.seq < f.txn.id.seq = h.left_older k f i e in
+          let b : k.id.seq ≡ f.txn.id.seq = ap (λ (z : TxnId). z.seq) d ∙ ap (λ (z : Leftover). z.id.seq) (sym m.is) in
+          absurd (omega arith));
     })
 
 -- ---- a cancelling
@@ -431,8 +439,9 @@ Tied-cancelled ts cs t x id un h = record {
   decided = λ q k. h.decided q (others id q x.pending k).stands;
   logged = h.logged;
   placed = λ r k e. elim (h.placed r k e) [
-      inl i ↦ inl i
-    | inr v ↦ elim (Waits-without id r.txn.id x.pending v) [ inl s ↦ absurd (un r k s) | inr z ↦ inr z ] ];
+    | inl i ↦ inl i
+    | inr v ↦ elim (Waits-without id r.txn.id x.pending v) [ inl s ↦ absurd (un r k s) | inr z ↦ inr z ]
+  ];
   items = h.items;
   undrained = h.undrained;
   sound = Sound-cancelled id x h.sound;
@@ -442,9 +451,11 @@ Tied-cancelled ts cs t x id un h = record {
 waits_on : (w : World) (t : Topic) (id other : TxnId) (u : Topic) → (other ≡ id → u ≡ t → Prim.⊥) → Waits other (topic_in w.topics u).pending → Waits other (topic_in (set w.topics t.0 (cancelled id (topic_in w.topics t))) u).pending
 waits_on w t id other u ne v =
     at_set (λ (z : TopicState). Waits other z.pending) w.topics t.0 u.0 (cancelled id (topic_in w.topics t)) (new_topic u 0 0)
-      (λ e. elim (Waits-without id other (topic_in w.topics t).pending (subst (λ z. Waits other (topic_in w.topics z).pending) (same_topic u t e) v)) [
-          inl s ↦ absurd (ne (id_equal other id s) (same_topic u t e)) | inr k ↦ k ])
-      v
+    (λ e. elim (Waits-without id other (topic_in w.topics t).pending (subst (λ z. Waits other (topic_in w.topics z).pending) (same_topic u t e) v)) [
+      | inl s ↦ absurd (ne (id_equal other id s) (same_topic u t e))
+      | inr k ↦ k
+    ])
+    v
 
 -- the senders, each of whose parts waits on
 Serves-cancelled : (ts : List Row) (w : World) (t : Topic) (id : TxnId) (d : ℕ) (x : SenderState) → ((f : Flight) → x.flight ≡ Some f → f.txn.id ≡ id → Prim.⊥) → ((k : Leftover) → In k x.leftovers → k.id ≡ id → k.ticket.topic ≡ t → Prim.⊥) → Serves ts w.commits w.topics d x → Serves ts w.commits (set w.topics t.0 (cancelled id (topic_in w.topics t))) d x
@@ -452,13 +463,23 @@ Serves-cancelled ts w t id d x no_flight no_left h = record {
   used = h.used;
   floored = h.floored;
   flying = λ f e. let g = h.flying f e in record {
-    sender = g.sender; seq_le = g.seq_le; newest = g.newest; same = g.same; higher = g.higher; given_in = g.given_in; given_all = g.given_all;
+    sender = g.sender;
+    seq_le = g.seq_le;
+    newest = g.newest;
+    same = g.same;
+    higher = g.higher;
+    given_in = g.given_in;
+    given_all = g.given_all;
     given_apart = g.given_apart;
     waits = λ a k i. waits_on w t id f.txn.id a.stamp.topic (λ s u. no_flight f e s) (g.waits a k i);
-    some = g.some; some_named = g.some_named;
+    some = g.some;
+    some_named = g.some_named;
   };
   left = λ k i. let g = h.left k i in record {
-    sender = g.sender; seq_le = g.seq_le; uncommitted = g.uncommitted; waits = waits_on w t id k.id k.ticket.topic (no_left k i) g.waits;
+    sender = g.sender;
+    seq_le = g.seq_le;
+    uncommitted = g.uncommitted;
+    waits = waits_on w t id k.id k.ticket.topic (no_left k i) g.waits;
   };
   left_older = h.left_older;
   left_apart = h.left_apart;
@@ -487,15 +508,15 @@ cancel_step ts w s t k inv e =
       tied = λ u. at_topic (λ v z. Tied ts w.commits v z) w.topics t u y (Tied-cancelled ts w.commits t (topic_in w.topics t) k.id h.uncommitted (inv.tied t)) (inv.tied u);
       serves = λ d. at_set_within (λ (z : SenderState). Serves ts w.commits (set w.topics t.0 y) d z) w.senders s d (record x { leftovers = drop_leftover t x.leftovers }) new_sender (has_leftover w.senders s k found.stands)
           (λ i. subst (λ v. Serves ts w.commits (set w.topics t.0 y) v (record x { leftovers = drop_leftover t x.leftovers })) (sym i)
-            (Serves-cancelled ts w t k.id s (record x { leftovers = drop_leftover t x.leftovers })
-              (λ f j same. let a : k.id.seq < f.txn.id.seq = (inv.serves s).left_older k f found.stands j in
-                let b : f.txn.id.seq ≡ k.id.seq = ap (λ (z : TxnId). z.seq) same in omega arith)
-              (λ l j same here. dropped_apart t k l x.leftovers (inv.serves s).left_apart e j same here)
-              (Serves-dropped ts w.commits w.topics s x t (inv.serves s))))
+          (Serves-cancelled ts w t k.id s (record x { leftovers = drop_leftover t x.leftovers })
+          (λ f j same. let a : k.id.seq < f.txn.id.seq = (inv.serves s).left_older k f found.stands j in
+          let b : f.txn.id.seq ≡ k.id.seq = ap (λ (z : TxnId). z.seq) same in omega arith)
+          (λ l j same here. dropped_apart t k l x.leftovers (inv.serves s).left_apart e j same here)
+          (Serves-dropped ts w.commits w.topics s x t (inv.serves s))))
           (λ ne. Serves-cancelled ts w t k.id d (sender_in w.senders d)
-              (λ f j same. ne (sym ((inv.serves d).flying f j).sender ∙ (ap (λ (z : TxnId). z.sender.0) same ∙ h.sender)))
-              (λ l j same here. ne (sym ((inv.serves d).left l j).sender ∙ (ap (λ (z : TxnId). z.sender.0) same ∙ h.sender)))
-              (inv.serves d));
+          (λ f j same. ne (sym ((inv.serves d).flying f j).sender ∙ (ap (λ (z : TxnId). z.sender.0) same ∙ h.sender)))
+          (λ l j same here. ne (sym ((inv.serves d).left l j).sender ∙ (ap (λ (z : TxnId). z.sender.0) same ∙ h.sender)))
+          (inv.serves d));
       voted = inv.voted;
       counted = inv.counted;
       subscribes = Subscribes-topic w.commits w.topics w.subscriptions t y (Entries-same (topic_in w.topics t) y refl) (λ from end accepted q. q) inv.subscribes;

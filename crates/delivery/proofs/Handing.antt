@@ -37,7 +37,7 @@ find_more : (n : ℕ) (step : Entry → Entry) → ((e : Entry) → (step e).num
 find_more n step number grows [] = More-same []
 find_more n step number grows (e ∷ es) =
     subst (λ (k : ℕ). More (entry_items (cond (e.number == n) (Some e) (find_entry n es))) (entry_items (cond (k == n) (Some (step e)) (find_entry n (map step es))))) (sym (number e))
-      (find_more_case (e.number == n) e (step e) (find_entry n es) (find_entry n (map step es)) (grows e) (find_more n step number grows es))
+    (find_more_case (e.number == n) e (step e) (find_entry n es) (find_entry n (map step es)) (grows e) (find_more n step number grows es))
 
 abbrev items_by : Option Ended → Option Entry → List Item
 items_by closed entry = elim closed [ None ↦ entry_items entry | Some end ↦ end.accepted ]
@@ -50,13 +50,13 @@ More-by (Some end) a b h = More-same end.accepted
 More-topic : (w : World) (t : Topic) (y : TopicState) (s : ℕ) (x : Subscription) → More (entry_items (find_entry s (topic_in w.topics t).subscriptions)) (entry_items (find_entry s y.subscriptions)) → More (items_by x.closed (find_entry s (topic_in w.topics x.topic).subscriptions)) (items_by x.closed (find_entry s (topic_in (set w.topics t.0 y) x.topic).subscriptions))
 More-topic w t y s x h =
     More-by x.closed (find_entry s (topic_in w.topics x.topic).subscriptions) (find_entry s (topic_in (set w.topics t.0 y) x.topic).subscriptions)
-      (at_topic_from (λ u z. More (entry_items (find_entry s (topic_in w.topics u).subscriptions)) (entry_items (find_entry s z.subscriptions))) w.topics t x.topic y
-        (λ o. h) (More-same (entry_items (find_entry s (topic_in w.topics x.topic).subscriptions))))
+    (at_topic_from (λ u z. More (entry_items (find_entry s (topic_in w.topics u).subscriptions)) (entry_items (find_entry s z.subscriptions))) w.topics t x.topic y
+    (λ o. h) (More-same (entry_items (find_entry s (topic_in w.topics x.topic).subscriptions))))
 
 entries_more : (x y : TopicState) → Entries x y → (n : ℕ) → More (entry_items (find_entry n x.subscriptions)) (entry_items (find_entry n y.subscriptions))
 entries_more x y en n =
     subst (λ z. More (entry_items (find_entry n x.subscriptions)) (entry_items (find_entry n z))) (sym en.are)
-      (find_more n en.step en.number en.grows x.subscriptions)
+    (find_more n en.step en.number en.grows x.subscriptions)
 
 -- ---- the run beside the queues
 
@@ -146,13 +146,13 @@ closed_grows past w s h (Some entry) e =
           (λ k. ap (λ n. (subscription_at w n).taken) (sym k)) refl;
       more = λ r l. at_set_within (λ (z : Subscription). More (accepted_at w r) (items_by z.closed (find_entry r (topic_in v.topics z.topic).subscriptions))) w.subscriptions s r _ no_subscription own.there
           (λ k. subst (λ n. More (accepted_at w n) (ended x.frontier entry).accepted) (sym k)
-            (More-equal (accepted_at w s) (ended x.frontier entry).accepted
-              (ended_same x.frontier entry.number entry.from entry.to entry.accepted
-                ∙ sym (open_items (subscription_at w s).closed (entry_at w s) own.closed ∙ ap entry_items e))))
+          (More-equal (accepted_at w s) (ended x.frontier entry).accepted
+          (ended_same x.frontier entry.number entry.from entry.to entry.accepted
+          ∙ sym (open_items (subscription_at w s).closed (entry_at w s) own.closed ∙ ap entry_items e))))
           (λ ne. More-by (subscription_at w r).closed (find_entry r (topic_in w.topics (subscription_at w r).topic).subscriptions) (find_entry r (topic_in v.topics (subscription_at w r).topic).subscriptions)
-            (at_topic_from (λ u z. More (entry_items (find_entry r (topic_in w.topics u).subscriptions)) (entry_items (find_entry r z.subscriptions))) w.topics t (subscription_at w r).topic y
-              (λ k. More-equal _ _ (ap entry_items (find_kept s r x.subscriptions ne)))
-              (More-same _)));
+          (at_topic_from (λ u z. More (entry_items (find_entry r (topic_in w.topics u).subscriptions)) (entry_items (find_entry r z.subscriptions))) w.topics t (subscription_at w r).topic y
+          (λ k. More-equal _ _ (ap entry_items (find_kept s r x.subscriptions ne)))
+          (More-same _)));
     }
 
 -- ---- a subscription begins
@@ -174,10 +174,10 @@ begun_handing past w c t h =
             count = ap (λ (z : List Item). length z) (sym (h.fresh s (omega arith)));
           })
           (λ ne. let k : s < length w.subscriptions = (let m = push_length w.subscriptions (new_subscription w c t) in omega arith) in
-            IsTaken-more (handed_of s past) (accepted_at w s) _ (subscription_at w s).taken (subscription_at w s).taken
-              (More-topic w t (topic_with w t) s (subscription_at w s)
-                (More-equal _ _ (ap entry_items (find_pushed s (topic_in w.topics t).subscriptions (new_entry w t) (λ e. ne (sym e))))))
-              refl (h.held s k));
+          IsTaken-more (handed_of s past) (accepted_at w s) _ (subscription_at w s).taken (subscription_at w s).taken
+          (More-topic w t (topic_with w t) s (subscription_at w s)
+          (More-equal _ _ (ap entry_items (find_pushed s (topic_in w.topics t).subscriptions (new_entry w t) (λ e. ne (sym e))))))
+          refl (h.held s k));
       fresh = λ s l. h.fresh s (let m = push_length w.subscriptions (new_subscription w c t) in omega arith);
     }
 
@@ -213,10 +213,10 @@ handed_handing past w s l h (Some i) e =
     let v = handed w s (Some i) in record {
       held = λ r m. at_set_within (λ (z : Subscription). IsTaken (handed_of r (Handed s i ∷ past)) (items_by z.closed (find_entry r (topic_in w.topics z.topic).subscriptions)) z.taken) w.subscriptions s r _ no_subscription l
           (λ k. subst (λ n. IsTaken (handed_of n (Handed s i ∷ past)) (items_by (subscription_at w s).closed (find_entry n (topic_in w.topics (subscription_at w s).topic).subscriptions)) ((subscription_at w s).taken + 1)) (sym k)
-            (subst (λ z. IsTaken z (accepted_at w s) ((subscription_at w s).taken + 1)) (sym (handed_same s i past))
-              (taken_next (handed_of s past) (accepted_at w s) (subscription_at w s).taken i (h.held s l) e)))
+          (subst (λ z. IsTaken z (accepted_at w s) ((subscription_at w s).taken + 1)) (sym (handed_same s i past))
+          (taken_next (handed_of s past) (accepted_at w s) (subscription_at w s).taken i (h.held s l) e)))
           (λ ne. subst (λ z. IsTaken z (accepted_at w r) (subscription_at w r).taken) (sym (handed_other r s i past (λ k. ne (sym k))))
-            (h.held r (let n = set_length w.subscriptions s (taken_more w s) in omega arith)));
+          (h.held r (let n = set_length w.subscriptions s (taken_more w s) in omega arith)));
       fresh = λ r m. let n = set_length w.subscriptions s (taken_more w s) in
           handed_other r s i past (λ k. omega arith) ∙ h.fresh r (omega arith);
     }
@@ -249,7 +249,7 @@ left_handing : (past : List Outcome) (w : World) (c : ℕ) (o : Option ℕ) → 
 left_handing past w c None r h = record { held = h.held; fresh = h.fresh }
 left_handing past w c (Some s) r h =
     told past (closed_subscription w s) (leave_answer w c (Some s)) (λ n. refl)
-      (grown past w (closed_subscription w s) (closed_grows past w s r (entry_at w s) refl) h)
+    (grown past w (closed_subscription w s) (closed_grows past w s r (entry_at w s) refl) h)
 
 happens_handing : (past : List Outcome) (w : World) (e : Event) → Reached past w → Handing past w → refusal w e ≡ None → Handing (answer w e ∷ past) (effect w e)
 happens_handing past w (Topic_added clock) r h e = told past (effect w (Topic_added clock)) Done (λ n. refl)
@@ -258,14 +258,14 @@ happens_handing past w (Topic_added clock) r h e = told past (effect w (Topic_ad
       taken = λ s. refl;
       more = λ s l. More-by (subscription_at w s).closed (entry_at w s) (entry_at (effect w (Topic_added clock)) s)
           (at_added (λ u z. More (entry_items (find_entry s (topic_in w.topics u).subscriptions)) (entry_items (find_entry s z.subscriptions))) w.topics w.log_limit clock (subscription_at w s).topic
-            (λ k. k) (More-same (entry_items (entry_at w s))));
+          (λ k. k) (More-same (entry_items (entry_at w s))));
     }) h)
 happens_handing past w Opened r h e = record { held = h.held; fresh = h.fresh }
 happens_handing past w (Commits c sends) r h e = flown_handing past w c sends h
 happens_handing past w (Subscribes c t) r h e = told past (effect w (Subscribes c t)) (answer w (Subscribes c t)) (λ n. refl) (begun_handing past w c t h)
 happens_handing past w (Unsubscribes c s) r h e =
     told past (closed_subscription w s) (answer w (Unsubscribes c s)) (λ n. refl)
-      (grown past w (closed_subscription w s) (closed_grows past w s r (entry_at w s) refl) h)
+    (grown past w (closed_subscription w s) (closed_grows past w s r (entry_at w s) refl) h)
 happens_handing past w (Disconnects c) r h e = record { held = h.held; fresh = h.fresh }
 happens_handing past w (Errs c) r h e = record { held = h.held; fresh = h.fresh }
 happens_handing past w (Lost c) r h e = record { held = h.held; fresh = h.fresh }
@@ -277,10 +277,10 @@ happens_handing past w (Cancels c t) r h e = cancelled_handing past w c t (find_
 happens_handing past w (Learns t id) r h e = learned_handing past w t id (find_verdict id w.verdicts) h
 happens_handing past w (Releases t) r h e = told past (effect w (Releases t)) (Released t) (λ n. refl)
     (grown past w (effect w (Releases t)) (Grows-topic w t _ (entries_more (topic_in w.topics t) _
-      (Keeps-release (tickets past) w.commits t (takes w) (topic_at w t) r.inv.consistent (r.inv.tied t)).entries)) h)
+    (Keeps-release (tickets past) w.commits t (takes w) (topic_at w t) r.inv.consistent (r.inv.tied t)).entries)) h)
 happens_handing past w (Turns t) r h e = told past (effect w (Turns t)) (Turned t) (λ n. refl)
     (grown past w (effect w (Turns t)) (Grows-topic w t _ (entries_more (topic_in w.topics t) _
-      (Keeps-turned (tickets past) w.commits t (takes w) (find_in w) (topic_at w t) r.inv.consistent (finds (tickets past) w r.inv) (r.inv.tied t)).entries)) h)
+    (Keeps-turned (tickets past) w.commits t (takes w) (find_in w) (topic_at w t) r.inv.consistent (finds (tickets past) w r.inv) (r.inv.tied t)).entries)) h)
 happens_handing past w (Takes s) r h e =
     handed_handing past w s (ltb-true s (length w.subscriptions) (false_not (ltb s (length w.subscriptions)) (checked w (Takes s) e).0)) h _ refl
 
@@ -295,5 +295,5 @@ run_handing (e ∷ es) past w r h = run_handing es (outcome w e ∷ past) (happe
 pub handed_is_prefix : Laws.HandedIsPrefix
 handed_is_prefix r s l =
     let h = run_handing r.events [] (start r.capacity r.log_limit r.clocks) (start_reached r.capacity r.log_limit r.clocks)
-        (record { held = λ n k. absurd (omega arith); fresh = λ n k. refl }) in
+    (record { held = λ n k. absurd (omega arith); fresh = λ n k. refl }) in
     ((h.held s l).rest, (h.held s l).is)

@@ -24,7 +24,7 @@ use Rattle.delivery.specs.Events
 use Rattle.delivery.specs.Events.{Event, Outcome, happens, outcome, refusal, effect, answer, there, reads, flight_at, flight_or, find_leftover, find_verdict, find_in, oldest_live, has_ticket, is_complete, part_at, next_txn, next_ticket, flown, flying_answer, proposal_fault, proposed_by, propose_answer, decided, withdrawn, cancelled_at, cancelling, cancel_answer, learned_at, learning, takes, handed, take_answer, left_by, leave_answer, closed_subscription, closed_with, or_else, or_no_memory, learn_refusal, is_topic, checks, topic_refusal}
 use Rattle.delivery.specs.Events.Event.{Topic_added, Opened, Commits, Subscribes, Unsubscribes, Disconnects, Errs, Lost, Leaves, Proposes, Decides, Withdraws, Cancels, Learns, Releases, Turns, Takes}
 use Rattle.delivery.specs.Events.Outcome.{Refused, Done, Flying, Ticket, Failed, Decided}
-use Rattle.delivery.specs.Runs.{ outcomes, made, commits_of}
+use Rattle.delivery.specs.Runs.{outcomes, made, commits_of}
 use Rattle.delivery.proofs.Invariant.{row, Consistent, Tied, topic_in, Flies, Serves, sender_in, Voted, Subscribes as Subscribed, Inv, Holds, Committed}
 use Rattle.delivery.proofs.Keeping.{topic_step, Keeps, Keeps-learned, Keeps-release, Keeps-turned, Finds}
 use Rattle.delivery.proofs.Proposals.{New, enter_step, heard}
@@ -164,6 +164,7 @@ flown_reached past w c (first ∷ others) h =
   where
     made_txn : (txn : Transaction) (f : Flight) → txn ≡ f.txn → made f.txn.id (Flying txn ∷ past) ≡ f.txn
     made_txn txn f e = subst (λ (z : Transaction). made z.id (Flying txn ∷ past) ≡ z) e (made_new past txn)
+
     newer : (d : ℕ) (f : Flight) → (sender_in w.senders d).flight ≡ Some f → (next_txn w c (first ∷ others)).id ≡ f.txn.id → Prim.⊥
     newer d f e k =
         let g = (h.inv.serves d).flying f e in
@@ -172,10 +173,11 @@ flown_reached past w c (first ∷ others) h =
         let n : (connection_at w c).sender ≡ d = ap (λ (z : TxnId). z.sender.0) k ∙ g.sender in
         let o : f.txn.id.seq ≤ (sender_in w.senders (connection_at w c).sender).seq = subst (λ v. f.txn.id.seq ≤ (sender_in w.senders v).seq) (sym n) l in
         omega arith
+
     old : (d : ℕ) (f : Flight) → (sender_in w.senders d).flight ≡ Some f → made f.txn.id (Flying (next_txn w c (first ∷ others)) ∷ past) ≡ f.txn
     old d f e =
         made_other past (next_txn w c (first ∷ others)) f.txn.id
-          (not_true (same_id (next_txn w c (first ∷ others)).id f.txn.id) refl (λ k. newer d f e (id_equal (next_txn w c (first ∷ others)).id f.txn.id k)))
+        (not_true (same_id (next_txn w c (first ∷ others)).id f.txn.id) refl (λ k. newer d f e (id_equal (next_txn w c (first ∷ others)).id f.txn.id k)))
         ∙ h.flights d f e
 
 -- where no ticket is given and nothing is decided or made, the past says no more of these
@@ -217,7 +219,12 @@ asks_of w c t memory e =
 
 pub new_ticket : (w : World) (c : ℕ) (t : Topic) (a : Asks w c t) → Room w c t → New w (connection_at w c).sender t (flight_at w c)
 new_ticket w c t a r = record {
-  flight = a.flying.is ∙ ap Some (sym a.flying.at); room = a.room; named = a.named; unheard = a.unheard; apart = r.apart; limit = r.limit;
+  flight = a.flying.is ∙ ap Some (sym a.flying.at);
+  room = a.room;
+  named = a.named;
+  unheard = a.unheard;
+  apart = r.apart;
+  limit = r.limit;
 }
 
 proposed_case : (past : List Outcome) (w : World) (c : ℕ) (t : Topic) (memory : Bool) → Reached past w → Asks w c t → (o : Option ProposeFault) → proposal_fault w c t memory ≡ o → Reached (propose_answer w c t o ∷ past) (proposed_by w c t o)
@@ -276,7 +283,7 @@ learned_case past w t id h None f e = none_some _ (sym e)
 learned_case past w t id h (Some v) f e =
     let g = finds (tickets past) w h.inv id v f in
     topic_step (tickets past) w t (learned id v.stamp (topic_at w t)) h.inv
-      (Keeps-learned (tickets past) w.commits t (topic_at w t) id v (h.inv.tied t) g.0 (no_learn_fault _ e) g.1)
+    (Keeps-learned (tickets past) w.commits t (topic_at w t) id v (h.inv.tied t) g.0 (no_learn_fault _ e) g.1)
 
 learned_same : (w : World) (t : Topic) (id : TxnId) (o : Option Verdict) → ((learned_at w t id o).senders ≡ w.senders) × ((learned_at w t id o).commits ≡ w.commits)
 learned_same w t id None = (refl, refl)
@@ -355,4 +362,4 @@ happens_reached past w (Takes s) h e = handed_reached past w s _ h
 pub step_reached : (past : List Outcome) (w : World) (e : Event) → Reached past w → Reached (outcome w e ∷ past) (happens w e)
 step_reached past w e h =
     by_refusal (λ v o. Reached (o ∷ past) v) w e (λ why. record { inv = h.inv; flights = h.flights; commits = h.commits })
-      (λ n. happens_reached past w e h n)
+    (λ n. happens_reached past w e h n)

@@ -177,16 +177,19 @@ Tied-released ts cs t x takes p all h due =
       logged = push_one (λ (l : LogRow). Logged cs t l) x.held (row_of p) h.logged
           (record { row = r.row; stands = r.stands; is = r.log_is; named = subst (λ z. names z (topics_of r.row.txn.sends) ≡ true) here r.named });
       placed = λ q k e. elim (h.placed q k e) [
-          inl l ↦ inl (In-append_left (log_row q) x.held (row_of p ∷ []) l)
+        | inl l ↦ inl (In-append_left (log_row q) x.held (row_of p ∷ []) l)
         | inr w ↦ elim (Waits-without p.part.id q.txn.id x.pending w) [
-              inl s ↦ inl (subst (λ z. In z (x.held ++ row_of p ∷ []))
-                  (sym (ap log_row (one_commit ts cs all q r.row k r.stands (id_equal q.txn.id p.part.id s ∙ sym r.id_is)) ∙ r.log_is))
-                  (In-push (row_of p) x.held))
-            | inr v ↦ inr v ] ];
+          | inl s ↦ inl (subst (λ z. In z (x.held ++ row_of p ∷ []))
+              (sym (ap log_row (one_commit ts cs all q r.row k r.stands (id_equal q.txn.id p.part.id s ∙ sym r.id_is)) ∙ r.log_is))
+              (In-push (row_of p) x.held))
+          | inr v ↦ inr v
+        ]
+      ];
       items = λ e k j l. let m = In-map_cases (delivered takes x.frontier (item_of p)) e x.subscriptions k in
           elim (In-delivered_cases takes x.frontier (item_of p) m.from j (subst (λ (z : Entry). In j z.accepted) (sym m.is) l)) [
-              inl o ↦ h.items m.from m.stands j o
-            | inr d ↦ record { row = r.row; stands = r.stands; is = ap (λ z. item_at z r.row) (sym here) ∙ (r.item_is ∙ d); named = subst (λ z. names z (topics_of r.row.txn.sends) ≡ true) here r.named } ];
+            | inl o ↦ h.items m.from m.stands j o
+            | inr d ↦ record { row = r.row; stands = r.stands; is = ap (λ z. item_at z r.row) (sym here) ∙ (r.item_is ∙ d); named = subst (λ z. names z (topics_of r.row.txn.sends) ≡ true) here r.named }
+          ];
       undrained = h.undrained;
       sound = Sound-released takes p x h.sound due;
     }
@@ -194,9 +197,10 @@ Tied-released ts cs t x takes p all h due =
 released_waits : (ts cs : List Row) (t : Topic) (x : TopicState) (p : Pending) → Consistent ts cs → Tied ts cs t x → Due p x → (id : TxnId) → Uncommitted cs id → Waits id x.pending → Waits id (without p.part.id x.pending)
 released_waits ts cs t x p all h due id u w =
     elim (Waits-without p.part.id id x.pending w) [
-      inl s ↦ (let c = h.decided p due.least.stands due.stamp due.learnt in
-        absurd (u c.row c.stands (id_same c.row.txn.id id (c.id_is ∙ sym (id_equal id p.part.id s)))))
-    | inr k ↦ k ]
+      | inl s ↦ (let c = h.decided p due.least.stands due.stamp due.learnt in
+          absurd (u c.row c.stands (id_same c.row.txn.id id (c.id_is ∙ sym (id_equal id p.part.id s)))))
+      | inr k ↦ k
+    ]
 
 pub Keeps-released : (ts cs : List Row) (t : Topic) (x : TopicState) (takes : Entry → Bool) (p : Pending) → Consistent ts cs → Tied ts cs t x → Due p x → Keeps ts cs t x (released takes p x)
 Keeps-released ts cs t x takes p all h due = record {
@@ -223,10 +227,10 @@ Finds cs find = (id : TxnId) (v : Verdict) → find id ≡ Some v → IsVerdict 
 pub Keeps-turned : (ts cs : List Row) (t : Topic) (takes : Entry → Bool) (find : TxnId → Option Verdict) (x : TopicState) → Consistent ts cs → Finds cs find → Tied ts cs t x → Keeps ts cs t x (turned takes find x)
 Keeps-turned ts cs t takes find x all finds h =
     turn_keeps (Keeps ts cs t x) takes find
-      (λ y id v f e k. let g = finds id v f in
-        Keeps-then ts cs t x y (learned id v.stamp y) k (Keeps-learned ts cs t y id v k.tied g.0 e g.1))
-      (λ y p e k. Keeps-then ts cs t x y (released takes p y) k (Keeps-released ts cs t y takes p all k.tied (due_is y p e)))
-      x (Keeps-same ts cs t x h)
+    (λ y id v f e k. let g = finds id v f in
+    Keeps-then ts cs t x y (learned id v.stamp y) k (Keeps-learned ts cs t y id v k.tied g.0 e g.1))
+    (λ y p e k. Keeps-then ts cs t x y (released takes p y) k (Keeps-released ts cs t y takes p all k.tied (due_is y p e)))
+    x (Keeps-same ts cs t x h)
 
 -- ---- in the world
 
@@ -245,7 +249,7 @@ at_topic P topics t u y h k =
 pub at_topic_from : (P : Topic → TopicState → Type 0) (topics : List TopicState) (t u : Topic) (y : TopicState) → (P t (topic_in topics t) → P t y) → P u (topic_in topics u) → P u (topic_in (set topics t.0 y) u)
 at_topic_from P topics t u y h k =
     at_set (P u) topics t.0 u.0 y (new_topic u 0 0)
-      (λ e. subst (λ z. P z y) (sym (same_topic u t e)) (h (subst (λ z. P z (topic_in topics z)) (same_topic u t e) k))) k
+    (λ e. subst (λ z. P z y) (sym (same_topic u t e)) (h (subst (λ z. P z (topic_in topics z)) (same_topic u t e) k))) k
 
 pub flies_uncommitted : (ts cs : List Row) (topics : List TopicState) (s seq : ℕ) (floor : Stamp) (f : Flight) → Flies ts cs topics s seq floor f → Uncommitted cs f.txn.id
 flies_uncommitted ts cs topics s seq floor f h r k e =
@@ -260,13 +264,23 @@ Serves-topics ts cs topics others s x keep h = record {
   used = h.used;
   floored = h.floored;
   flying = λ f e. let g = h.flying f e in record {
-    sender = g.sender; seq_le = g.seq_le; newest = g.newest; same = g.same; higher = g.higher; given_in = g.given_in; given_all = g.given_all;
+    sender = g.sender;
+    seq_le = g.seq_le;
+    newest = g.newest;
+    same = g.same;
+    higher = g.higher;
+    given_in = g.given_in;
+    given_all = g.given_all;
     given_apart = g.given_apart;
     waits = λ a k d. keep f.txn.id a.stamp.topic (flies_uncommitted ts cs topics s x.seq x.floor f g) (g.waits a k d);
-    some = g.some; some_named = g.some_named;
+    some = g.some;
+    some_named = g.some_named;
   };
   left = λ k i. let g = h.left k i in record {
-    sender = g.sender; seq_le = g.seq_le; uncommitted = g.uncommitted; waits = keep k.id k.ticket.topic g.uncommitted g.waits;
+    sender = g.sender;
+    seq_le = g.seq_le;
+    uncommitted = g.uncommitted;
+    waits = keep k.id k.ticket.topic g.uncommitted g.waits;
   };
   left_older = h.left_older;
   left_apart = h.left_apart;

@@ -105,8 +105,8 @@ stamp_is_greatest r id stamp k =
     let i : In c.it (after r).commits = subst (λ z. In c.it z) h.commits c.stands in
     let t = h.inv.consistent.from_ticket c.it i in
     subst (λ z. z ≡ greatest (tickets_of id past)) c.stamp_is
-      (is_greatest (tickets_of id past) c.it.stamp (to_tickets id c.it past t c.id_is)
-        (λ y j. let a = ticket_of id y past j in
-          subst (λ z. stamp_lt c.it.stamp z ≡ false) a.stamp_is
-            (h.inv.consistent.greatest c.it a.it i a.stands
-              (h.inv.consistent.one_id a.it c.it a.stands t (id_same a.it.txn.id c.it.txn.id (a.id_is ∙ sym c.id_is))))))
+    (is_greatest (tickets_of id past) c.it.stamp (to_tickets id c.it past t c.id_is)
+    (λ y j. let a = ticket_of id y past j in
+    subst (λ z. stamp_lt c.it.stamp z ≡ false) a.stamp_is
+    (h.inv.consistent.greatest c.it a.it i a.stands
+    (h.inv.consistent.one_id a.it c.it a.stands t (id_same a.it.txn.id c.it.txn.id (a.id_is ∙ sym c.id_is))))))

@@ -168,17 +168,21 @@ Tied-there ts cs u x a ne h = record {
 pub waits_kept : (w : World) (s : ℕ) (t : Topic) (f : Flight) (id : TxnId) (u : Topic) → Waits id (topic_in w.topics u).pending → Waits id (topic_in (set w.topics t.0 (topic_after w s t f)) u).pending
 waits_kept w s t f id u v =
     at_topic_from (λ y z. Waits id z.pending) w.topics t u (topic_after w s t f)
-      (λ h. record { part = h.part; stands = In-insert h.part _ (topic_in w.topics t).pending (inr h.stands); is = h.is }) v
+    (λ h. record { part = h.part; stands = In-insert h.part _ (topic_in w.topics t).pending (inr h.stands); is = h.is }) v
 
 pub within_senders : (senders : List SenderState) (s : ℕ) (f : Flight) → (sender_in senders s).flight ≡ Some f → s < length senders
 within_senders senders s f e = elim (cases_lt s (length senders)) [
-    inl l ↦ l
+  | inl l ↦ l
   | inr l ↦ let p : sender_in senders s ≡ new_sender = get_or_past senders s new_sender l in
-      none_some f (sym (ap (λ (x : SenderState). x.flight) p) ∙ e) ]
+      none_some f (sym (ap (λ (x : SenderState). x.flight) p) ∙ e)
+]
 
 left_kept : (ts : List Row) (w : World) (s d : ℕ) (t : Topic) (f : Flight) (seq : ℕ) (k : Leftover) → IsLeft w.commits w.topics d seq k → IsLeft w.commits (set w.topics t.0 (topic_after w s t f)) d seq k
 left_kept ts w s d t f seq k h = record {
-  sender = h.sender; seq_le = h.seq_le; uncommitted = h.uncommitted; waits = waits_kept w s t f k.id k.ticket.topic h.waits;
+  sender = h.sender;
+  seq_le = h.seq_le;
+  uncommitted = h.uncommitted;
+  waits = waits_kept w s t f k.id k.ticket.topic h.waits;
 }
 
 -- the sender whose transaction got the ticket
@@ -203,12 +207,12 @@ Serves-here ts w s t f inv new =
         waits = cons_one (λ (b : Row). b.txn ≡ f.txn → Waits f.txn.id (topic_in topics b.stamp.topic).pending) ts a
             (λ b k i. waits_kept w s t f f.txn.id b.stamp.topic (g.waits b k i))
             (λ i. at_set_within (λ (z : TopicState). Waits f.txn.id z.pending) w.topics t.0 t.0 (topic_after w s t f) (new_topic t 0 0) new.room
-                (λ j. record {
-                  part = record { part = part_at t f.txn; ticket = number w s t; learnt = None };
-                  stands = In-insert _ _ (topic_in w.topics t).pending (inl refl);
-                  is = refl;
-                })
-                (λ ne. absurd (ne refl)));
+            (λ j. record {
+              part = record { part = part_at t f.txn; ticket = number w s t; learnt = None };
+              stands = In-insert _ _ (topic_in w.topics t).pending (inl refl);
+              is = refl;
+            })
+            (λ ne. absurd (ne refl)));
         some = g.some;
         some_named = g.some_named;
       });

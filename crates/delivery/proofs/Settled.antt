@@ -91,30 +91,32 @@ pending_committed past w t h l all p i =
     let here : p.part.topic ≡ t = k.sound.own p i ∙ k.topic in
     let id : a.ticket.txn.id ≡ p.part.id = ap (λ (z : TopicPart). z.id) a.part_is in
     elim (all a.ticket.txn (l.ticket_flew a.ticket a.stands) (subst (λ z. names z (topics_of a.ticket.txn.sends) ≡ true) here a.named)) [
-        inl d ↦ subst (λ z. HasCommit w.commits z) id (committed_of past w a.ticket.txn.id d.0 h d.1)
+      | inl d ↦ subst (λ z. HasCommit w.commits z) id (committed_of past w a.ticket.txn.id d.0 h d.1)
       | inr d ↦ absurd (true≢false (sym (id_same p.part.id a.ticket.txn.id (sym id))
-            ∙ l.gone t p a.ticket.txn.id i (d.1 a.ticket.stamp (In-ticket a.ticket past a.stands) (ap (λ (z : Stamp). z.topic) a.stamp_is ∙ here)))) ]
+          ∙ l.gone t p a.ticket.txn.id i (d.1 a.ticket.stamp (In-ticket a.ticket past a.stands) (ap (λ (z : Stamp). z.topic) a.stamp_is ∙ here))))
+    ]
 
 flights_still : (past : List Outcome) (w : World) (t : Topic) → Reached past w → Settling past w.topics w.senders → AllResolved t past → (s : ℕ) (f : Flight) → (sender_in w.senders s).flight ≡ Some f → names t (topics_of f.txn.sends) ≡ false
 flights_still past w t h l all s f e = not_true (names t (topics_of f.txn.sends)) refl (λ n.
     elim (all f.txn (l.flew s f e) n) [
-        inl d ↦ (let c = committed_of past w f.txn.id d.0 h d.1 in
-            flies_uncommitted (tickets past) w.commits w.topics s _ _ f ((h.inv.serves s).flying f e) c.row c.stands (id_same c.row.txn.id f.txn.id c.id_is))
-      | inr d ↦ true≢false (sym (id_itself f.txn.id) ∙ l.not_withdrawn s f f.txn.id d.0.0 e d.0.1) ])
+      | inl d ↦ (let c = committed_of past w f.txn.id d.0 h d.1 in
+          flies_uncommitted (tickets past) w.commits w.topics s _ _ f ((h.inv.serves s).flying f e) c.row c.stands (id_same c.row.txn.id f.txn.id c.id_is))
+      | inr d ↦ true≢false (sym (id_itself f.txn.id) ∙ l.not_withdrawn s f f.txn.id d.0.0 e d.0.1)
+    ])
 
 turn_settling : (past : List Outcome) (w : World) (t : Topic) → Reached past w → Settling past w.topics w.senders → Settling (Turned t ∷ past) (set w.topics t.0 (turned (takes w) (find_in w) (topic_at w t))) w.senders
 turn_settling past w t h l =
     let y = turned (takes w) (find_in w) (topic_at w t) in
     note_turned past (set w.topics t.0 y) w.senders t
-      (λ all. record {
-        none = at_set_same (λ (z : TopicState). (p : Pending) → In p z.pending → Prim.⊥) w.topics t.0 y (new_topic t 0 0)
-            (λ p i. subst (λ z. In p z) (turn_none (takes w) (find_in w) (topic_in w.topics t) (h.inv.tied t).sound
-                (fits (tickets past) w t h.inv (pending_committed past w t h l all))) i)
-            (λ p i. i);
-        still = flights_still past w t h l all;
-      })
-      (Settling-fewer past w.topics w.senders (set w.topics t.0 y) w.senders
-        (Fewer-topic w.topics w.senders t y (Gone-turned (takes w) (find_in w) (topic_at w t))) l)
+    (λ all. record {
+      none = at_set_same (λ (z : TopicState). (p : Pending) → In p z.pending → Prim.⊥) w.topics t.0 y (new_topic t 0 0)
+          (λ p i. subst (λ z. In p z) (turn_none (takes w) (find_in w) (topic_in w.topics t) (h.inv.tied t).sound
+          (fits (tickets past) w t h.inv (pending_committed past w t h l all))) i)
+          (λ p i. i);
+      still = flights_still past w t h l all;
+    })
+    (Settling-fewer past w.topics w.senders (set w.topics t.0 y) w.senders
+    (Fewer-topic w.topics w.senders t y (Gone-turned (takes w) (find_in w) (topic_at w t))) l)
 
 -- ---- each event
 
@@ -126,7 +128,7 @@ proposed_settling past w c t memory h l a None e =
 proposed_settling past w c t memory h l a (Some fault) e =
     let s = (connection_at w c).sender in let f = flight_at w c in let k = a.flying.is ∙ ap Some (sym a.flying.at) in
     fewer_quiet past w (proposed_by w c t (Some fault)) (Failed f.txn.id fault) (quiet_failed f.txn.id fault)
-      (Fewer-sender w.topics w.senders s _ (omega arith) (one_same w.senders s _ f _ k refl refl)) l
+    (Fewer-sender w.topics w.senders s _ (omega arith) (one_same w.senders s _ f _ k refl refl)) l
 
 withdrawn_settling : (past : List Outcome) (w : World) (c : ℕ) → Reached past w → Settling past w.topics w.senders → refusal w (Withdraws c) ≡ None → Settling (answer w (Withdraws c) ∷ past) (withdrawn w c).topics (withdrawn w c).senders
 withdrawn_settling past w c h l e =
@@ -134,13 +136,13 @@ withdrawn_settling past w c h l e =
     let s = (connection_at w c).sender in let f = flight_at w c in let k = fl.is ∙ ap Some (sym fl.at) in
     let g = (h.inv.serves s).flying f k in let v = withdrawn w c in
     note_withdrawn past v.topics v.senders f.txn.id c
-      (at_set (λ (z : SenderState). f.txn.id.seq ≤ z.seq) w.senders s f.txn.id.sender.0 _ new_sender (λ n. g.seq_le)
-        (subst (λ z. f.txn.id.seq ≤ (sender_in w.senders z).seq) (sym g.sender) g.seq_le))
-      (λ d y. at_set_within (λ (z : SenderState). z.flight ≡ Some y → same_id y.txn.id f.txn.id ≡ false) w.senders s d _ new_sender (within_senders w.senders s f k)
-        (λ n i. none_some y i)
-        (λ ne i. not_true (same_id y.txn.id f.txn.id) refl (λ m.
-          ne (sym ((h.inv.serves d).flying y i).sender ∙ (ap (λ (z : TxnId). z.sender.0) (id_equal y.txn.id f.txn.id m) ∙ g.sender)))))
-      (Settling-fewer past w.topics w.senders v.topics v.senders (Fewer-sender w.topics w.senders s _ (omega arith) (one_fewer w.senders s _ refl)) l)
+    (at_set (λ (z : SenderState). f.txn.id.seq ≤ z.seq) w.senders s f.txn.id.sender.0 _ new_sender (λ n. g.seq_le)
+    (subst (λ z. f.txn.id.seq ≤ (sender_in w.senders z).seq) (sym g.sender) g.seq_le))
+    (λ d y. at_set_within (λ (z : SenderState). z.flight ≡ Some y → same_id y.txn.id f.txn.id ≡ false) w.senders s d _ new_sender (within_senders w.senders s f k)
+    (λ n i. none_some y i)
+    (λ ne i. not_true (same_id y.txn.id f.txn.id) refl (λ m.
+    ne (sym ((h.inv.serves d).flying y i).sender ∙ (ap (λ (z : TxnId). z.sender.0) (id_equal y.txn.id f.txn.id m) ∙ g.sender)))))
+    (Settling-fewer past w.topics w.senders v.topics v.senders (Fewer-sender w.topics w.senders s _ (omega arith) (one_fewer w.senders s _ refl)) l)
 
 cancelled_settling : (past : List Outcome) (w : World) (c : ℕ) (t : Topic) → Reached past w → Settling past w.topics w.senders → (o : Option Leftover) → find_leftover t (speaker w c).leftovers ≡ o → Settling (cancel_answer t o ∷ past) (cancelled_at w c t o).topics (cancelled_at w c t o).senders
 cancelled_settling past w c t h l None e = note_quiet past w.topics w.senders Done quiet_done l
@@ -149,19 +151,19 @@ cancelled_settling past w c t h l (Some k) e =
     let found = leftover_found t x.leftovers k e in let g = (h.inv.serves s).left k found.stands in
     let y = cancelled k.id (topic_in w.topics t) in
     note_cancelled past v.topics v.senders k.id t
-      (at_set (λ (z : SenderState). k.id.seq ≤ z.seq) w.senders s k.id.sender.0 _ new_sender (λ n. g.seq_le)
-        (subst (λ z. k.id.seq ≤ (sender_in w.senders z).seq) (sym g.sender) g.seq_le))
-      (λ d f. at_set (λ (z : SenderState). z.flight ≡ Some f → same_id f.txn.id k.id ≡ false) w.senders s d _ new_sender
-        (λ n i. apart s f i g.sender (λ j. (h.inv.serves s).left_older k f found.stands j))
-        (λ i. not_true (same_id f.txn.id k.id) refl (λ m.
-          let d_is : d ≡ s = sym ((h.inv.serves d).flying f i).sender ∙ (ap (λ (z : TxnId). z.sender.0) (id_equal f.txn.id k.id m) ∙ g.sender) in
-          true≢false (sym m ∙ apart s f (subst (λ z. (sender_in w.senders z).flight ≡ Some f) d_is i) g.sender (λ j. (h.inv.serves s).left_older k f found.stands j)))))
-      (at_set_same (λ (z : TopicState). (p : Pending) → In p z.pending → same_id p.part.id k.id ≡ false) w.topics t.0 y (new_topic t 0 0)
-        (λ p i. (others k.id p (topic_in w.topics t).pending i).differs) (λ p i. absurd i))
-      (Settling-fewer past w.topics w.senders v.topics v.senders
-        (Fewer-then w.topics (set w.topics t.0 y) v.topics w.senders w.senders v.senders
-          (Fewer-topic w.topics w.senders t y (Gone-without k.id (topic_in w.topics t)))
-          (Fewer-sender (set w.topics t.0 y) w.senders s _ (omega arith) (one_kept w.senders s _ refl))) l)
+    (at_set (λ (z : SenderState). k.id.seq ≤ z.seq) w.senders s k.id.sender.0 _ new_sender (λ n. g.seq_le)
+    (subst (λ z. k.id.seq ≤ (sender_in w.senders z).seq) (sym g.sender) g.seq_le))
+    (λ d f. at_set (λ (z : SenderState). z.flight ≡ Some f → same_id f.txn.id k.id ≡ false) w.senders s d _ new_sender
+    (λ n i. apart s f i g.sender (λ j. (h.inv.serves s).left_older k f found.stands j))
+    (λ i. not_true (same_id f.txn.id k.id) refl (λ m.
+    let d_is : d ≡ s = sym ((h.inv.serves d).flying f i).sender ∙ (ap (λ (z : TxnId). z.sender.0) (id_equal f.txn.id k.id m) ∙ g.sender) in
+    true≢false (sym m ∙ apart s f (subst (λ z. (sender_in w.senders z).flight ≡ Some f) d_is i) g.sender (λ j. (h.inv.serves s).left_older k f found.stands j)))))
+    (at_set_same (λ (z : TopicState). (p : Pending) → In p z.pending → same_id p.part.id k.id ≡ false) w.topics t.0 y (new_topic t 0 0)
+    (λ p i. (others k.id p (topic_in w.topics t).pending i).differs) (λ p i. absurd i))
+    (Settling-fewer past w.topics w.senders v.topics v.senders
+    (Fewer-then w.topics (set w.topics t.0 y) v.topics w.senders w.senders v.senders
+    (Fewer-topic w.topics w.senders t y (Gone-without k.id (topic_in w.topics t)))
+    (Fewer-sender (set w.topics t.0 y) w.senders s _ (omega arith) (one_kept w.senders s _ refl))) l)
   where
     apart : (s : ℕ) (f : Flight) → (sender_in w.senders s).flight ≡ Some f → k.id.sender.0 ≡ s → ((sender_in w.senders s).flight ≡ Some f → k.id.seq < f.txn.id.seq) → same_id f.txn.id k.id ≡ false
     apart s f i own older = not_true (same_id f.txn.id k.id) refl (λ m.
@@ -204,7 +206,7 @@ happens_settling past w Opened h l e = fewer_quiet past w (effect w Opened) Done
 happens_settling past w (Commits c sends) h l e = flown_settling past w c sends h l
 happens_settling past w (Subscribes c t) h l e =
     fewer_quiet past w (effect w (Subscribes c t)) (answer w (Subscribes c t)) (quiet_subscribed _ c t _)
-      (Fewer-topic w.topics w.senders t _ (Gone-same (topic_at w t).pending)) l
+    (Fewer-topic w.topics w.senders t _ (Gone-same (topic_at w t).pending)) l
 happens_settling past w (Unsubscribes c s) h l e =
     fewer_quiet past w (closed_subscription w s) (answer w (Unsubscribes c s)) (quiet_unsubscribed s _) (closed_fewer w s (entry_at w s)) l
 happens_settling past w (Disconnects c) h l e = note_quiet past w.topics w.senders (Leaving c) (quiet_leaving c) l
@@ -214,21 +216,21 @@ happens_settling past w (Leaves c) h l e = left_settling past w c (oldest_live c
 happens_settling past w (Proposes c t memory) h l e = proposed_settling past w c t memory h l (asks_of w c t memory e) (proposal_fault w c t memory) refl
 happens_settling past w (Decides c) h l e =
     fewer_quiet past w (effect w (Decides c)) (answer w (Decides c)) (quiet_decided _ _)
-      (Fewer-sender w.topics w.senders (connection_at w c).sender _ (omega arith) (one_fewer w.senders (connection_at w c).sender _ refl)) l
+    (Fewer-sender w.topics w.senders (connection_at w c).sender _ (omega arith) (one_fewer w.senders (connection_at w c).sender _ refl)) l
 happens_settling past w (Withdraws c) h l e = withdrawn_settling past w c h l e
 happens_settling past w (Cancels c t) h l e = cancelled_settling past w c t h l (find_leftover t (speaker w c).leftovers) refl
 happens_settling past w (Learns t id) h l e =
     fewer_quiet past w (effect w (Learns t id)) (Learnt id t) (quiet_learnt id t) (learned_fewer w t id (find_verdict id w.verdicts)) l
 happens_settling past w (Releases t) h l e =
     fewer_quiet past w (effect w (Releases t)) (Released t) (quiet_released t)
-      (Fewer-topic w.topics w.senders t _ (Gone-release (takes w) (topic_at w t))) l
+    (Fewer-topic w.topics w.senders t _ (Gone-release (takes w) (topic_at w t))) l
 happens_settling past w (Turns t) h l e = turn_settling past w t h l
 happens_settling past w (Takes s) h l e = handed_settling past w s _ l
 
 pub step_settling : (past : List Outcome) (w : World) (e : Event) → Reached past w → Settling past w.topics w.senders → Settling (outcome w e ∷ past) (happens w e).topics (happens w e).senders
 step_settling past w e h l =
     by_refusal (λ v o. Settling (o ∷ past) v.topics v.senders) w e (λ why. note_quiet past w.topics w.senders (Refused why) (quiet_refused why) l)
-      (λ n. happens_settling past w e h l n)
+    (λ n. happens_settling past w e h l n)
 
 -- ---- over a run
 
@@ -245,8 +247,13 @@ no_parts log_limit clocks t = at_new (λ z. (p : Pending) → In p z.pending →
 
 start_settling : (log_limit : ℕ) (clocks : List ℕ) → Settling [] (new_topics 0 log_limit clocks) []
 start_settling log_limit clocks = record {
-  gone = λ t p id i k. absurd k; flew = λ s f e. none_some f e; ticket_flew = λ a k. absurd k; withdrawn_old = λ id c k. absurd k;
-  cancelled_old = λ id t k. absurd k; not_withdrawn = λ s f id c e k. absurd k; not_cancelled = λ s f id t e k. absurd k;
+  gone = λ t p id i k. absurd k;
+  flew = λ s f e. none_some f e;
+  ticket_flew = λ a k. absurd k;
+  withdrawn_old = λ id c k. absurd k;
+  cancelled_old = λ id t k. absurd k;
+  not_withdrawn = λ s f id c e k. absurd k;
+  not_cancelled = λ s f id t e k. absurd k;
   calm = λ t e. record { none = no_parts log_limit clocks t; still = λ s f n. none_some f n };
 }
 

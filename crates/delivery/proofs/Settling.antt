@@ -77,9 +77,9 @@ Gone-release takes x = release_keeps (λ y. Gone_to x.pending y.pending) takes x
 pub Gone-turned : (takes : Entry → Bool) (find : TxnId → Option Verdict) (x : TopicState) → Gone_to x.pending (turned takes find x).pending
 Gone-turned takes find x =
     turn_keeps (λ y. Gone_to x.pending y.pending) takes find
-      (λ y id v f e g. Gone-then x.pending y.pending (learned id v.stamp y).pending g (Gone-learned id v.stamp y))
-      (λ y p e g. Gone-then x.pending y.pending (cancelled p.part.id y).pending g (Gone-without p.part.id y))
-      x (Gone-same x.pending)
+    (λ y id v f e g. Gone-then x.pending y.pending (learned id v.stamp y).pending g (Gone-learned id v.stamp y))
+    (λ y p e g. Gone-then x.pending y.pending (cancelled p.part.id y).pending g (Gone-without p.part.id y))
+    x (Gone-same x.pending)
 
 -- from one core to another: seqs rise, flights may end, parts may go
 pub record Fewer (topics : List TopicState) (senders : List SenderState) (new_topics : List TopicState) (new_senders : List SenderState) : Type 0 where
@@ -155,12 +155,14 @@ note_withdrawn past topics senders id c old apart h = record {
   flew = λ s f e. inr (h.flew s f e);
   ticket_flew = λ a k. inr (h.ticket_flew a k);
   withdrawn_old = λ i d k. elim k [
-      inl e ↦ (let n : id ≡ i = cc in subst (λ (z : TxnId). z.seq ≤ (sender_in senders z.sender.0).seq) n old)
-    | inr j ↦ h.withdrawn_old i d j ];
+    | inl e ↦ (let n : id ≡ i = cc in subst (λ (z : TxnId). z.seq ≤ (sender_in senders z.sender.0).seq) n old)
+    | inr j ↦ h.withdrawn_old i d j
+  ];
   cancelled_old = λ i t k. elim k [ inl e ↦ absurd (cc) | inr j ↦ h.cancelled_old i t j ];
   not_withdrawn = λ s f i d e k. elim k [
-      inl n ↦ (let m : id ≡ i = cc in subst (λ z. same_id f.txn.id z ≡ false) m (apart s f e))
-    | inr j ↦ h.not_withdrawn s f i d e j ];
+    | inl n ↦ (let m : id ≡ i = cc in subst (λ z. same_id f.txn.id z ≡ false) m (apart s f e))
+    | inr j ↦ h.not_withdrawn s f i d e j
+  ];
   not_cancelled = λ s f i t e k. elim k [ inl n ↦ cc | inr j ↦ h.not_cancelled s f i t e j ];
   calm = λ t e. h.calm t e.1;
 }
@@ -168,19 +170,22 @@ note_withdrawn past topics senders id c old apart h = record {
 pub note_cancelled : (past : List Outcome) (topics : List TopicState) (senders : List SenderState) (id : TxnId) (u : Topic) → id.seq ≤ (sender_in senders id.sender.0).seq → ((s : ℕ) (f : Flight) → (sender_in senders s).flight ≡ Some f → same_id f.txn.id id ≡ false) → ((p : Pending) → In p (topic_in topics u).pending → same_id p.part.id id ≡ false) → Settling past topics senders → Settling (Cancelled id u ∷ past) topics senders
 note_cancelled past topics senders id u old apart none h = record {
   gone = λ t p i j k. elim k [
-      inl e ↦ (let n : id ≡ i = cc in let m : u ≡ t = cc in
-          subst (λ z. same_id p.part.id z ≡ false) n (none p (subst (λ z. In p (topic_in topics z).pending) (sym m) j)))
-    | inr l ↦ h.gone t p i j l ];
+    | inl e ↦ (let n : id ≡ i = cc in let m : u ≡ t = cc in
+        subst (λ z. same_id p.part.id z ≡ false) n (none p (subst (λ z. In p (topic_in topics z).pending) (sym m) j)))
+    | inr l ↦ h.gone t p i j l
+  ];
   flew = λ s f e. inr (h.flew s f e);
   ticket_flew = λ a k. inr (h.ticket_flew a k);
   withdrawn_old = λ i d k. elim k [ inl e ↦ absurd (cc) | inr j ↦ h.withdrawn_old i d j ];
   cancelled_old = λ i t k. elim k [
-      inl e ↦ (let n : id ≡ i = cc in subst (λ (z : TxnId). z.seq ≤ (sender_in senders z.sender.0).seq) n old)
-    | inr j ↦ h.cancelled_old i t j ];
+    | inl e ↦ (let n : id ≡ i = cc in subst (λ (z : TxnId). z.seq ≤ (sender_in senders z.sender.0).seq) n old)
+    | inr j ↦ h.cancelled_old i t j
+  ];
   not_withdrawn = λ s f i d e k. elim k [ inl n ↦ cc | inr j ↦ h.not_withdrawn s f i d e j ];
   not_cancelled = λ s f i t e k. elim k [
-      inl n ↦ (let m : id ≡ i = cc in subst (λ z. same_id f.txn.id z ≡ false) m (apart s f e))
-    | inr j ↦ h.not_cancelled s f i t e j ];
+    | inl n ↦ (let m : id ≡ i = cc in subst (λ z. same_id f.txn.id z ≡ false) m (apart s f e))
+    | inr j ↦ h.not_cancelled s f i t e j
+  ];
   calm = λ t e. h.calm t e.1;
 }
 
@@ -194,8 +199,9 @@ note_turned past topics senders u now h = record {
   not_withdrawn = λ s f i d e k. elim k [ inl n ↦ cc | inr j ↦ h.not_withdrawn s f i d e j ];
   not_cancelled = λ s f i t e k. elim k [ inl n ↦ cc | inr j ↦ h.not_cancelled s f i t e j ];
   calm = λ t e. elim e [
-      inl r ↦ subst (λ z. Calm topics senders z) r.0 (now (subst (λ z. AllResolved z past) (sym r.0) r.1))
-    | inr k ↦ h.calm t k ];
+    | inl r ↦ subst (λ z. Calm topics senders z) r.0 (now (subst (λ z. AllResolved z past) (sym r.0) r.1))
+    | inr k ↦ h.calm t k
+  ];
 }
 
 -- ---- a transaction is made
@@ -223,15 +229,20 @@ flying_settling past w c first others inv h = record {
   where
     sender : ℕ
     sender = (connection_at w c).sender
+
     txn : Transaction
     txn = next_txn w c (first ∷ others)
+
     new_flight : Flight
     new_flight = record { txn = next_txn w c (first ∷ others); given = []; mark = None }
+
     moved : (P : SenderState → Type 0) (d : ℕ) → P (record (speaker w c) { seq = (speaker w c).seq + 1; flight = Some (record { txn = next_txn w c (first ∷ others); given = []; mark = None }) }) → P (sender_in w.senders d) → P (sender_in (flown w c (first ∷ others)).senders d)
     moved P d a b = at_set P w.senders (connection_at w c).sender d _ new_sender (λ e. a) b
+
     older : (id : TxnId) → id.seq ≤ (sender_in w.senders id.sender.0).seq → id.seq ≤ (sender_in (flown w c (first ∷ others)).senders id.sender.0).seq
     older id o = at_set (λ (z : SenderState). id.seq ≤ z.seq) w.senders (connection_at w c).sender id.sender.0 _ new_sender
         (λ e. let k : id.seq ≤ (speaker w c).seq = subst (λ v. id.seq ≤ (sender_in w.senders v).seq) e o in omega arith) o
+
     newer : (id : TxnId) → id.seq ≤ (sender_in w.senders id.sender.0).seq → same_id (next_txn w c (first ∷ others)).id id ≡ false
     newer id o = not_true (same_id (next_txn w c (first ∷ others)).id id) refl (λ s.
         let d = id_equal (next_txn w c (first ∷ others)).id id s in
@@ -244,12 +255,16 @@ flying_settling past w c first others inv h = record {
 
 pub ticket_settling : (past : List Outcome) (w : World) (s : ℕ) (t : Topic) (f : Flight) → Holds (tickets past) w → New w s t f → made f.txn.id past ≡ f.txn → Settling past w.topics w.senders → Settling (Ticket f.txn.id (heard w s t f).stamp ∷ past) (set w.topics t.0 (topic_after w s t f)) (set w.senders s (sender_after w s t f))
 ticket_settling past w s t f inv new is h = record {
-  gone = λ u q id i k. elim k [ inl e ↦ cc | inr j ↦
-      at (λ v z. (p : Pending) → In p z.pending → In (Cancelled id v) past → same_id p.part.id id ≡ false) u
+  gone = λ u q id i k. elim k [
+    | inl e ↦ cc
+    | inr j ↦
+        at (λ v z. (p : Pending) → In p z.pending → In (Cancelled id v) past → same_id p.part.id id ≡ false) u
         (λ o p l m. elim (In-insert_cases p _ (topic_in w.topics t).pending l) [
-            inl e ↦ subst (λ (z : Pending). same_id z.part.id id ≡ false) e (h.not_cancelled s f id t new.flight m)
-          | inr n ↦ h.gone t p id n m ])
-        (λ p l m. h.gone u p id l m) q i j ];
+          | inl e ↦ subst (λ (z : Pending). same_id z.part.id id ≡ false) e (h.not_cancelled s f id t new.flight m)
+          | inr n ↦ h.gone t p id n m
+        ])
+        (λ p l m. h.gone u p id l m) q i j
+  ];
   flew = λ d y. kept (λ (z : SenderState). z.flight ≡ Some y → In (Flying y.txn) (Ticket f.txn.id (heard w s t f).stamp ∷ past)) d
       (λ n k. inr (subst (λ (z : Flight). In (Flying z.txn) past) (some_same (flight_after w s t f) y k) (h.flew s f new.flight)))
       (λ k. inr (h.flew d y k));
@@ -273,8 +288,10 @@ ticket_settling past w s t f inv new is h = record {
   where
     at : (P : Topic → TopicState → Type 0) (u : Topic) → (P t (topic_in w.topics t) → P t (topic_after w s t f)) → P u (topic_in w.topics u) → P u (topic_in (set w.topics t.0 (topic_after w s t f)) u)
     at P u a b = at_topic_from P w.topics t u (topic_after w s t f) a b
+
     kept : (P : SenderState → Type 0) (d : ℕ) → (d ≡ s → P (sender_after w s t f)) → P (sender_in w.senders d) → P (sender_in (set w.senders s (sender_after w s t f)) d)
     kept P d a b = at_set P w.senders s d (sender_after w s t f) new_sender a b
+
     kept_flight : (P : Transaction → Type 0) (d : ℕ) (y : Flight) → P f.txn → ((sender_in w.senders d).flight ≡ Some y → P y.txn) → (sender_in (set w.senders s (sender_after w s t f)) d).flight ≡ Some y → P y.txn
     kept_flight P d y a b = at_set (λ (z : SenderState). z.flight ≡ Some y → P y.txn) w.senders s d (sender_after w s t f) new_sender
         (λ n k. subst (λ (z : Flight). P z.txn) (some_same (flight_after w s t f) y k) a) b

@@ -72,8 +72,9 @@ note_closed : (past : List Outcome) (cs : List Connection) (xs : List Subscripti
 note_closed past cs xs o d own a b l shut h = record {
   ended = λ s to i. elim i [ inl e ↦ absurd (a s to e) | inr k ↦ h.ended s to k ];
   shut = λ c p i k. elim i [
-      inl e ↦ subst (λ z. (z < length cs) × (is_open (stands cs z) ≡ false)) (own c (subst (λ z. Closes c z) (sym e) k)) (l, shut)
-    | inr j ↦ h.shut c p j k ];
+    | inl e ↦ subst (λ z. (z < length cs) × (is_open (stands cs z) ≡ false)) (own c (subst (λ z. Closes c z) (sym e) k)) (l, shut)
+    | inr j ↦ h.shut c p j k
+  ];
   owner = λ s c t from i. elim i [ inl e ↦ absurd (b s c t from e) | inr k ↦ h.owner s c t from k ];
 }
 
@@ -89,9 +90,10 @@ note_owner past cs xs r d u start l own h = record {
   ended = λ s to i. elim i [ inl e ↦ absurd (cc) | inr k ↦ h.ended s to k ];
   shut = λ c p i k. elim i [ inl e ↦ absurd (subst (λ z. Closes c z) (sym e) k) | inr j ↦ h.shut c p j k ];
   owner = λ s c t from i. elim i [
-      inl e ↦ (let n : r ≡ s = cc in let m : d ≡ c = cc in
+    | inl e ↦ (let n : r ≡ s = cc in let m : d ≡ c = cc in
         (subst (λ z. z < length xs) n l, subst (λ z. (sub_in xs z).connection ≡ c) n (own ∙ m)))
-    | inr k ↦ h.owner s c t from k ];
+    | inr k ↦ h.owner s c t from k
+  ];
 }
 
 -- ---- what closes
@@ -116,10 +118,10 @@ there_is w c e = ltb-true c (length w.connections) (false_not (ltb c (length w.c
 leaving_shut : (past : List Outcome) (w v : World) (o : Outcome) (c : ℕ) → c < length w.connections → v.connections ≡ (leaving w c).connections → v.subscriptions ≡ w.subscriptions → ((d : ℕ) → Closes d o → c ≡ d) → ((s : ℕ) (to : Stamp) → o ≡ Unsubscribed s to → Prim.⊥) → ((s d : ℕ) (t : Topic) (from : Stamp) → o ≡ Subscribed s d t from → Prim.⊥) → Shutting past w.connections w.subscriptions → Shutting (o ∷ past) v.connections v.subscriptions
 leaving_shut past w v o c l a b own p q h =
     subst (λ z. Shutting (o ∷ past) z v.subscriptions) (sym a) (subst (λ z. Shutting (o ∷ past) (leaving w c).connections z) (sym b)
-      (note_closed past (leaving w c).connections w.subscriptions o c own p q
-        (let m = set_length w.connections c (record { sender = (connection_at w c).sender; standing = Standing.Leaving }) in omega arith)
-        (standing_set w c Standing.Leaving l refl)
-        (Shutting-on past w.connections (leaving w c).connections w.subscriptions w.subscriptions (Shuts-standing w c Standing.Leaving refl) h)))
+    (note_closed past (leaving w c).connections w.subscriptions o c own p q
+    (let m = set_length w.connections c (record { sender = (connection_at w c).sender; standing = Standing.Leaving }) in omega arith)
+    (standing_set w c Standing.Leaving l refl)
+    (Shutting-on past w.connections (leaving w c).connections w.subscriptions w.subscriptions (Shuts-standing w c Standing.Leaving refl) h)))
 
 -- ---- a subscription is closed
 
@@ -148,7 +150,7 @@ closing_shut : (past : List Outcome) (w : World) (s : ℕ) (end : Stamp) → Rea
 closing_shut past w s end r l n h =
     let v = closed_subscription w s in
     note_ended past v.connections v.subscriptions s end (closed_now w s l (entry_at w s) (no_entry past w s r l n))
-      (Shutting-on past w.connections v.connections w.subscriptions v.subscriptions (Shuts-closed w s (entry_at w s)) h)
+    (Shutting-on past w.connections v.connections w.subscriptions v.subscriptions (Shuts-closed w s (entry_at w s)) h)
 
 none_of : (o : Option Ended) → is_some o ≡ false → o ≡ None
 none_of None e = refl
@@ -179,13 +181,13 @@ left_shut : (past : List Outcome) (w : World) (c : ℕ) → Reached past w → S
 left_shut past w c r h None e =
     let v = with_standing w c Standing.Gone in
     note past v.connections w.subscriptions (Gone c) (record { ended = λ s to d. cc; shut = λ d k. k; owner = λ s d t from k. cc })
-      (Shutting-on past w.connections v.connections w.subscriptions w.subscriptions (Shuts-standing w c Standing.Gone refl) h)
+    (Shutting-on past w.connections v.connections w.subscriptions w.subscriptions (Shuts-standing w c Standing.Gone refl) h)
 left_shut past w c r h (Some s) e =
     let k = oldest_found c 0 s w.subscriptions e in
     let p : s ≡ k.place = (let d : s ≡ 0 + k.place = k.is in omega arith) in
     let live = and_parts ((subscription_at w k.place).connection == c) (not (is_some (subscription_at w k.place).closed)) k.live in
     closing_shut past w s _ r (subst (λ z. z < length w.subscriptions) (sym p) k.there)
-      (subst (λ z. (subscription_at w z).closed ≡ None) (sym p) (none_of (subscription_at w k.place).closed (not_is (is_some (subscription_at w k.place).closed) live.1))) h
+    (subst (λ z. (subscription_at w z).closed ≡ None) (sym p) (none_of (subscription_at w k.place).closed (not_is (is_some (subscription_at w k.place).closed) live.1))) h
 
 -- ---- each event
 
@@ -213,30 +215,30 @@ begun_shut past w c t h =
     let new : Subscription = record { connection = c; topic = t; from = (topic_at w t).frontier; taken = 0; closed = None } in
     let v = effect w (Subscribes c t) in let m = push_length w.subscriptions new in
     note_owner past v.connections v.subscriptions (length w.subscriptions) c t (topic_at w t).frontier (omega arith)
-      (at_end (λ (z : Subscription). z.connection ≡ c) w.subscriptions new no_subscription refl)
-      (Shutting-on past w.connections v.connections w.subscriptions v.subscriptions (record {
-        count = omega arith;
-        stay = λ d l e. e;
-        closed = λ s e. at_push (λ (z : Subscription). is_some z.closed ≡ true) w.subscriptions s new no_subscription (λ k d. absurd (false≢true d)) e;
-        grow = omega arith;
-        owner = λ s l. at_old (λ (z : Subscription). z.connection ≡ (subscription_at w s).connection) w.subscriptions s new no_subscription l refl;
-      }) h)
+    (at_end (λ (z : Subscription). z.connection ≡ c) w.subscriptions new no_subscription refl)
+    (Shutting-on past w.connections v.connections w.subscriptions v.subscriptions (record {
+      count = omega arith;
+      stay = λ d l e. e;
+      closed = λ s e. at_push (λ (z : Subscription). is_some z.closed ≡ true) w.subscriptions s new no_subscription (λ k d. absurd (false≢true d)) e;
+      grow = omega arith;
+      owner = λ s l. at_old (λ (z : Subscription). z.connection ≡ (subscription_at w s).connection) w.subscriptions s new no_subscription l refl;
+    }) h)
 
 taken_shut : (past : List Outcome) (w : World) (s : ℕ) → (subscription_at w s).connection < length w.connections → (o : Option Item) → Shutting past w.connections w.subscriptions → Shutting (take_answer w s o ∷ past) (handed w s o).connections (handed w s o).subscriptions
 taken_shut past w s l None h =
     leaving_shut past w (leaving w (subscription_at w s).connection) (Error (subscription_at w s).connection) (subscription_at w s).connection l refl refl
-      (λ d k. k) (λ r to e. cc) (λ r d t from e. cc) h
+    (λ d k. k) (λ r to e. cc) (λ r d t from e. cc) h
 taken_shut past w s l (Some item) h =
     let v = handed w s (Some item) in
     note past v.connections v.subscriptions (Handed s item) (record { ended = λ r to e. cc; shut = λ d k. k; owner = λ r d t from e. cc })
-      (Shutting-on past w.connections v.connections w.subscriptions v.subscriptions (record {
-        count = omega arith;
-        stay = λ d l e. e;
-        closed = λ r e. at_set (λ (z : Subscription). is_some z.closed ≡ true) w.subscriptions s r _ no_subscription (λ k. subst (λ n. is_some (subscription_at w n).closed ≡ true) k e) e;
-        grow = let m : length (handed w s (Some item)).subscriptions ≡ length w.subscriptions = set_length w.subscriptions s _ in omega arith;
-        owner = λ r m. at_set (λ (z : Subscription). z.connection ≡ (subscription_at w r).connection) w.subscriptions s r _ no_subscription
-            (λ k. ap (λ n. (subscription_at w n).connection) (sym k)) refl;
-      }) h)
+    (Shutting-on past w.connections v.connections w.subscriptions v.subscriptions (record {
+      count = omega arith;
+      stay = λ d l e. e;
+      closed = λ r e. at_set (λ (z : Subscription). is_some z.closed ≡ true) w.subscriptions s r _ no_subscription (λ k. subst (λ n. is_some (subscription_at w n).closed ≡ true) k e) e;
+      grow = let m : length (handed w s (Some item)).subscriptions ≡ length w.subscriptions = set_length w.subscriptions s _ in omega arith;
+      owner = λ r m. at_set (λ (z : Subscription). z.connection ≡ (subscription_at w r).connection) w.subscriptions s r _ no_subscription
+          (λ k. ap (λ n. (subscription_at w n).connection) (sym k)) refl;
+    }) h)
 
 -- a connection that is open is there
 open_there : (connections : List Connection) (c : ℕ) → is_open (stands connections c) ≡ true → c < length connections
@@ -257,13 +259,13 @@ happens_shut past w (Topic_added clock) r h e = note past w.connections w.subscr
 happens_shut past w Opened r h e =
     let v = effect w Opened in let m = conn_length w.connections (record { sender = length w.senders; standing = Standing.Open }) in
     note past v.connections w.subscriptions Done closeless_done
-      (Shutting-on past w.connections v.connections w.subscriptions w.subscriptions (record {
-        count = omega arith;
-        stay = λ c l k. at_old (λ (z : Connection). is_open z.standing ≡ false) w.connections c _ nobody l k;
-        closed = λ s k. k;
-        grow = omega arith;
-        owner = λ s l. refl;
-      }) h)
+    (Shutting-on past w.connections v.connections w.subscriptions w.subscriptions (record {
+      count = omega arith;
+      stay = λ c l k. at_old (λ (z : Connection). is_open z.standing ≡ false) w.connections c _ nobody l k;
+      closed = λ s k. k;
+      grow = omega arith;
+      owner = λ s l. refl;
+    }) h)
   where
     conn_length : (xs : List Connection) (x : Connection) → length (xs ++ x ∷ []) ≡ suc (length xs)
     conn_length xs x = push_length xs x
@@ -289,7 +291,7 @@ happens_shut past w (Cancels c t) r h e = cancelled_shut past w c t (find_leftov
 happens_shut past w (Learns t id) r h e =
     let k = learned_same w t id (find_verdict id w.verdicts) in let v = effect w (Learns t id) in
     note past v.connections v.subscriptions (Learnt id t) (record { ended = λ s to d. cc; shut = λ d k. k; owner = λ s d t from k. cc })
-      (subst (λ z. Shutting past z v.subscriptions) (sym k.0) (subst (λ z. Shutting past w.connections z) (sym k.1) h))
+    (subst (λ z. Shutting past z v.subscriptions) (sym k.0) (subst (λ z. Shutting past w.connections z) (sym k.1) h))
 happens_shut past w (Releases t) r h e = note past w.connections w.subscriptions _ (record { ended = λ s to d. cc; shut = λ d k. k; owner = λ s d t from k. cc }) h
 happens_shut past w (Turns t) r h e = note past w.connections w.subscriptions _ (record { ended = λ s to d. cc; shut = λ d k. k; owner = λ s d t from k. cc }) h
 happens_shut past w (Takes s) r h e =
@@ -355,11 +357,11 @@ record Both (past : List Outcome) (w : World) : Type 0 where
 step_both : (past : List Outcome) (w : World) (e : Event) → Reached past w → Both past w → Both (outcome w e ∷ past) (happens w e)
 step_both past w e r h =
     by_refusal (λ v o. Both (o ∷ past) v) w e
-      (λ why. record {
-        shutting = note past w.connections w.subscriptions (Refused why) (record { ended = λ s to d. cc; shut = λ d k. k; owner = λ s d t from k. cc }) h.shutting;
-        silent = h.silent;
-      })
-      (λ n. record { shutting = happens_shut past w e r h.shutting n; silent = silent_answer past w e h.shutting n h.silent })
+    (λ why. record {
+      shutting = note past w.connections w.subscriptions (Refused why) (record { ended = λ s to d. cc; shut = λ d k. k; owner = λ s d t from k. cc }) h.shutting;
+      silent = h.silent;
+    })
+    (λ n. record { shutting = happens_shut past w e r h.shutting n; silent = silent_answer past w e h.shutting n h.silent })
 
 run_both : (es : List Event) (past : List Outcome) (w : World) → Reached past w → Both past w → Both (outcomes es w past) (run es w)
 run_both [] past w r h = h

@@ -247,7 +247,7 @@ cancelling_usual past w c t why h None f e = subst (λ z. is_odd z ≡ false) (s
 cancelling_usual past w c t why h (Some k) f e =
     let g = leftover_found t (speaker w c).leftovers k f in
     cancel_usual past w t k why h (λ p i d. unlearnt past w t (connection_at w c).sender k h g.stands p i d p.learnt refl)
-      (find_pending k.id (topic_in w.topics t).pending) refl e
+    (find_pending k.id (topic_in w.topics t).pending) refl e
 
 topic_usual : (past : List Outcome) (w : World) (e : Event) (why : Refusal) → Reached past w → topic_refusal w e ≡ Some why → is_odd why ≡ false
 topic_usual past w (Cancels c t) why h e = cancelling_usual past w c t why h (find_leftover t (speaker w c).leftovers) refl e
@@ -273,7 +273,7 @@ odd_run : (es : List Event) (past : List Outcome) (w : World) → Reached past w
 odd_run [] past w h old = old
 odd_run (e ∷ es) past w h old =
     odd_run es (outcome w e ∷ past) (happens w e) (step_reached past w e h)
-      (λ why i. elim i [ inl k ↦ outcome_usual past w e why h k | inr k ↦ old why k ])
+    (λ why i. elim i [ inl k ↦ outcome_usual past w e why h k | inr k ↦ old why k ])
 
 pub odd_never_comes : Laws.OddNeverComes
 odd_never_comes r = odd_run r.events [] (start r.capacity r.log_limit r.clocks) (start_reached r.capacity r.log_limit r.clocks) (λ why i. absurd i)
@@ -300,11 +300,12 @@ happens_when w e n = ap (λ (o : Option Refusal). pick o) n
 pub lags_where_full : Laws.LagsWhereFull
 lags_where_full w t p before n due i unended =
     let x = topic_at w t in let later = delivered (takes w) x.frontier (item_of p) before in
-    let room = Rattle.std.proofs.lemmas.Bool.ltb-true t.0 (length w.topics) (false_not (ltb t.0 (length w.topics)) (checked w (Releases t) n).0) in
-    (later,
-     subst (λ (v : World). In later (topic_at v t).subscriptions) (sym (happens_when w (Releases t) n))
-       (at_set_within (λ (z : TopicState). In later z.subscriptions) w.topics t.0 t.0 (release (takes w) x) (new_topic t 0 0) room
-         (λ k. subst (λ (o : Option Pending). In later (released_if (takes w) x o).subscriptions) (sym due)
-           (In-map (delivered (takes w) x.frontier (item_of p)) before x.subscriptions i))
-         (λ ne. absurd (ne refl))),
-     given_of w x.frontier p before.number before.from before.to before.accepted unended)
+    let room = Rattle.std.proofs.lemmas.Bool.ltb-true t.0 (length w.topics) (false_not (ltb t.0 (length w.topics)) (checked w (Releases t) n).0) in (
+      later,
+      subst (λ (v : World). In later (topic_at v t).subscriptions) (sym (happens_when w (Releases t) n))
+          (at_set_within (λ (z : TopicState). In later z.subscriptions) w.topics t.0 t.0 (release (takes w) x) (new_topic t 0 0) room
+          (λ k. subst (λ (o : Option Pending). In later (released_if (takes w) x o).subscriptions) (sym due)
+          (In-map (delivered (takes w) x.frontier (item_of p)) before x.subscriptions i))
+          (λ ne. absurd (ne refl))),
+      given_of w x.frontier p before.number before.from before.to before.accepted unended,
+    )

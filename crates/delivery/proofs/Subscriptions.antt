@@ -51,9 +51,15 @@ push_length (y ∷ xs) x = ap suc (push_length xs x)
 
 Tied-subs : (ts cs : List Row) (t : Topic) (x : TopicState) (subs : List Entry) → Tied ts cs t x → IsSound (record x { subscriptions = subs }) → ((e : Entry) → In e subs → (i : Item) → In i e.accepted → (f : Entry) × In f x.subscriptions × In i f.accepted) → Tied ts cs t (record x { subscriptions = subs })
 Tied-subs ts cs t x subs h sound old = record {
-  topic = h.topic; given = h.given; ticketed = h.ticketed; decided = h.decided; logged = h.logged; placed = h.placed;
+  topic = h.topic;
+  given = h.given;
+  ticketed = h.ticketed;
+  decided = h.decided;
+  logged = h.logged;
+  placed = h.placed;
   items = λ e k i l. let o = old e k i l in h.items o.0 o.1 i o.2;
-  undrained = h.undrained; sound = sound;
+  undrained = h.undrained;
+  sound = sound;
 }
 
 -- ---- a subscription begins
@@ -71,9 +77,10 @@ Tied-subscribed : (ts : List Row) (w : World) (t : Topic) → Holds ts w → Tie
 Tied-subscribed ts w t inv =
     let x = topic_in w.topics t in let h = inv.tied t in
     Tied-subs ts w.commits t x (x.subscriptions ++ new_entry w t ∷ []) h (Sound-subscribed (length w.subscriptions) x h.sound)
-      (λ e k i l. elim (In-push_cases e (new_entry w t) x.subscriptions k) [
-          inl o ↦ (e, o, l)
-        | inr d ↦ absurd (subst (λ (z : Entry). In i z.accepted) (sym d) l) ])
+    (λ e k i l. elim (In-push_cases e (new_entry w t) x.subscriptions k) [
+      | inl o ↦ (e, o, l)
+      | inr d ↦ absurd (subst (λ (z : Entry). In i z.accepted) (sym d) l)
+    ])
 
 Owned-more : (subs : List Subscription) (v : Subscription) (t : Topic) (n : ℕ) (from : Stamp) → Owned subs t n from → Owned (subs ++ v ∷ []) t n from
 Owned-more subs v t n from h = record {
@@ -97,7 +104,7 @@ Subscribes-begun ts w c t inv room =
     record {
       live = λ s l. at_push_two (λ (z : Subscription). z.closed ≡ None → HasEntry s z.from (topic_in topics z.topic)) subs s v no_subscription
           (λ d n. at_set_within (λ (z : TopicState). HasEntry s x.frontier z) w.topics t.0 t.0 (topic_with w t) (new_topic t 0 0) room
-            (λ i. record { entry = e; stands = In-push e x.subscriptions; number = sym d; from_is = refl }) (λ ne. absurd (ne refl)))
+          (λ i. record { entry = e; stands = In-push e x.subscriptions; number = sym d; from_is = refl }) (λ ne. absurd (ne refl)))
           (λ ne n. moved s (sub_in subs s).from (sub_in subs s).topic (h.live s (let m = push_length subs v in omega arith) n));
       owned = λ u. at_topic_from (λ y z. (f : Entry) → In f z.subscriptions → Owned (subs ++ v ∷ []) y f.number f.from) w.topics t u (topic_with w t)
           (λ o. push_one (λ (f : Entry). Owned (subs ++ v ∷ []) t f.number f.from) x.subscriptions e o (record {
@@ -109,14 +116,14 @@ Subscribes-begun ts w c t inv room =
           (λ f i. Owned-more subs v u f.number f.from (h.owned u f i));
       one = λ u. at_topic_from (λ y z. (a b : Entry) → In a z.subscriptions → In b z.subscriptions → a.number ≡ b.number → a ≡ b) w.topics t u (topic_with w t)
           (λ o. push_two (λ (a b : Entry). a.number ≡ b.number → a ≡ b) x.subscriptions e o
-            (λ a i d. absurd (let k : a.number < length subs = (h.owned t a i).there in omega arith))
-            (λ a i d. absurd (let k : a.number < length subs = (h.owned t a i).there in omega arith))
-            (λ d. refl))
+          (λ a i d. absurd (let k : a.number < length subs = (h.owned t a i).there in omega arith))
+          (λ a i d. absurd (let k : a.number < length subs = (h.owned t a i).there in omega arith))
+          (λ d. refl))
           (h.one u);
       closed = λ s end. at_push (λ (z : Subscription). z.closed ≡ Some end → IsClosed w.commits z.from end z.topic (topic_in topics z.topic)) subs s v no_subscription
           (λ d o n. none_some end n)
           (λ n. same_else (λ y z. IsClosed w.commits (sub_in subs s).from end y z) w.topics t (sub_in subs s).topic (x.subscriptions ++ e ∷ [])
-            (λ z k. IsClosed-subs w.commits (sub_in subs s).from end t z (x.subscriptions ++ e ∷ []) k) (h.closed s end n));
+          (λ z k. IsClosed-subs w.commits (sub_in subs s).from end t z (x.subscriptions ++ e ∷ []) k) (h.closed s end n));
     }
   where
     moved : (s : ℕ) (from : Stamp) (u : Topic) → HasEntry s from (topic_in w.topics u) → HasEntry s from (topic_in (set w.topics t.0 (topic_with w t)) u)
@@ -224,30 +231,30 @@ Subscribes-ended ts w s e inv i d =
       live = λ r l. at_set_within (λ (z : Subscription). z.closed ≡ None → HasEntry r z.from (topic_in topics z.topic)) subs s r v no_subscription own.there
           (λ k n. none_some _ (sym n))
           (λ ne n. at_topic_from (λ a z. HasEntry r (sub_in subs r).from z) w.topics t (sub_in subs r).topic y
-            (λ k. kept_entry s r (sub_in subs r).from x ne k)
-            (h.live r (let m = set_length subs s v in omega arith) n));
+          (λ k. kept_entry s r (sub_in subs r).from x ne k)
+          (h.live r (let m = set_length subs s v in omega arith) n));
       owned = λ u. at_set_within (λ (z : TopicState). (f : Entry) → In f z.subscriptions → Owned (set subs s v) u f.number f.from) w.topics t.0 u.0 y (new_topic u 0 0) room
           (λ k f j. let m = In-filter_cases (kept_by s) f x.subscriptions j in
-            subst (λ a. Owned (set subs s v) a f.number f.from) (sym (same_topic u t k))
-              (Owned-kept subs s v t f.number f.from (λ q. true≢false (sym (eq-eqb f.number s q) ∙ not-true (f.number == s) m.passes)) (h.owned t f m.stands)))
+          subst (λ a. Owned (set subs s v) a f.number f.from) (sym (same_topic u t k))
+          (Owned-kept subs s v t f.number f.from (λ q. true≢false (sym (eq-eqb f.number s q) ∙ not-true (f.number == s) m.passes)) (h.owned t f m.stands)))
           (λ ne f j. Owned-kept subs s v u f.number f.from
-            (λ q. ne (ap (λ (z : Topic). z.0) (sym (h.owned u f j).topic ∙ ap (λ n. (sub_in subs n).topic) q)))
-            (h.owned u f j));
+          (λ q. ne (ap (λ (z : Topic). z.0) (sym (h.owned u f j).topic ∙ ap (λ n. (sub_in subs n).topic) q)))
+          (h.owned u f j));
       one = λ u. at_topic_from (λ a z. (f g : Entry) → In f z.subscriptions → In g z.subscriptions → f.number ≡ g.number → f ≡ g) w.topics t u y
           (λ o f g k l. o f g (In-filter_cases (kept_by s) f x.subscriptions k).stands (In-filter_cases (kept_by s) g x.subscriptions l).stands)
           (h.one u);
       closed = λ r end. at_set_within (λ (z : Subscription). z.closed ≡ Some end → IsClosed w.commits z.from end z.topic (topic_in topics z.topic)) subs s r v no_subscription own.there
           (λ k n. same_else (λ a z. IsClosed w.commits x0.from end a z) w.topics t t y.subscriptions
-            (λ z o. IsClosed-subs w.commits x0.from end t z y.subscriptions o) (new_closed ts w t x0.from e end inv i (sym own.from_is) n))
+          (λ z o. IsClosed-subs w.commits x0.from end t z y.subscriptions o) (new_closed ts w t x0.from e end inv i (sym own.from_is) n))
           (λ ne n. same_else (λ a z. IsClosed w.commits (sub_in subs r).from end a z) w.topics t (sub_in subs r).topic y.subscriptions
-            (λ z k. IsClosed-subs w.commits (sub_in subs r).from end t z y.subscriptions k) (h.closed r end n));
+          (λ z k. IsClosed-subs w.commits (sub_in subs r).from end t z y.subscriptions k) (h.closed r end n));
     }
 
 Tied-unsubscribed : (ts : List Row) (w : World) (t : Topic) (s : ℕ) → Holds ts w → Tied ts w.commits t (topic_without w t s)
 Tied-unsubscribed ts w t s inv =
     let x = topic_in w.topics t in let h = inv.tied t in
     Tied-subs ts w.commits t x (filter (kept_by s) x.subscriptions) h (Sound-unsubscribed s x h.sound)
-      (λ e k i l. (e, (In-filter_cases (kept_by s) e x.subscriptions k).stands, l))
+    (λ e k i l. (e, (In-filter_cases (kept_by s) e x.subscriptions k).stands, l))
 
 pub end_step : (ts : List Row) (w : World) (s : ℕ) (e : Entry) → Holds ts w → find_entry s (topic_in w.topics (sub_in w.subscriptions s).topic).subscriptions ≡ Some e → let t = (sub_in w.subscriptions s).topic in Inv ts w.commits w.verdicts (set w.topics t.0 (topic_without w t s)) w.senders (set w.subscriptions s (subscription_after w s e))
 end_step ts w s e inv d =
@@ -270,7 +277,7 @@ taken_more w s = record (sub_in w.subscriptions s) { taken = (sub_in w.subscript
 at_taken : (P : ℕ → Topic → Stamp → Option Ended → Type 0) (subs : List Subscription) (s r n : ℕ) → let x = sub_in subs r in P r x.topic x.from x.closed → let y = sub_in (set subs s (record (sub_in subs s) { taken = n })) r in P r y.topic y.from y.closed
 at_taken P subs s r n h =
     at_set (λ (z : Subscription). P r z.topic z.from z.closed) subs s r (record (sub_in subs s) { taken = n }) no_subscription
-      (λ e. subst (λ q. let x = sub_in subs q in P r x.topic x.from x.closed) e h) h
+    (λ e. subst (λ q. let x = sub_in subs q in P r x.topic x.from x.closed) e h) h
 
 pub take_step : (ts : List Row) (w : World) (s : ℕ) → Holds ts w → Inv ts w.commits w.verdicts w.topics w.senders (set w.subscriptions s (taken_more w s))
 take_step ts w s inv =
@@ -313,7 +320,7 @@ Tied-fresh ts cs t log_limit clock h = record {
 pub at_added : (P : Topic → TopicState → Type 0) (topics : List TopicState) (log_limit clock : ℕ) (u : Topic) → (P u (new_topic u 0 0) → P u (new_topic u log_limit clock)) → P u (topic_in topics u) → P u (topic_in (topics ++ new_topic (record { 0 = length topics }) log_limit clock ∷ []) u)
 at_added P topics log_limit clock u h k =
     at_push (P u) topics u.0 (new_topic (record { 0 = length topics }) log_limit clock) (new_topic u 0 0)
-      (λ e o. subst (λ z. P u (new_topic z log_limit clock)) (same_topic u (record { 0 = length topics }) e) (h o)) k
+    (λ e o. subst (λ z. P u (new_topic z log_limit clock)) (same_topic u (record { 0 = length topics }) e) (h o)) k
 
 pub added_step : (ts : List Row) (w : World) (clock : ℕ) → Holds ts w → Inv ts w.commits w.verdicts (w.topics ++ new_topic (record { 0 = length w.topics }) w.log_limit clock ∷ []) w.senders w.subscriptions
 added_step ts w clock inv =

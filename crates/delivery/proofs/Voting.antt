@@ -43,8 +43,8 @@ own_verdict ts w t p v inv i j e =
     let here : Stamp = record { n = p.ticket; topic = p.part.topic } in
     let found = any_from (same_stamp here) a.ticket.stamp v.rows (g.all a.ticket a.stands txn) (same_stamp_from here a.ticket.stamp (sym a.stamp_is)) in
     let learnt : (s : Stamp) → p.learnt ≡ Some s → s ≡ v.stamp = λ s d.
-        (let c = k.decided p i s d in
-          sym c.stamp_is ∙ (ap (λ (z : Row). z.stamp) (one_commit ts w.commits all c.row g.row c.stands g.stands (c.id_is ∙ (sym e ∙ sym g.id_is))) ∙ g.stamp_is)) in
+    (let c = k.decided p i s d in
+    sym c.stamp_is ∙ (ap (λ (z : Row). z.stamp) (one_commit ts w.commits all c.row g.row c.stands g.stands (c.id_is ∙ (sym e ∙ sym g.id_is))) ∙ g.stamp_is)) in
     record {
       is = g.is;
       own = ap not (and_from (same_id v.id p.part.id) (has_row here v.rows) (id_same v.id p.part.id e) found);
@@ -52,13 +52,13 @@ own_verdict ts w t p v inv i j e =
       alone = or_false (learnt_other v.stamp p.learnt) (list_any (λ (q : Pending). not (same_id q.part.id p.part.id) && same_stamp (key q) v.stamp) x.pending)
           (learnt_case v p learnt p.learnt refl)
           (not_true (list_any (λ (q : Pending). not (same_id q.part.id p.part.id) && same_stamp (key q) v.stamp) x.pending) refl (λ n.
-            let f = any_found (λ (q : Pending). not (same_id q.part.id p.part.id) && same_stamp (key q) v.stamp) x.pending n in
-            let parts = and_parts (not (same_id f.it.part.id p.part.id)) (same_stamp (key f.it) v.stamp) f.passes in
-            let b = k.ticketed f.it f.stands in
-            let same : b.ticket.txn ≡ g.row.txn = all.one_txn (row b.ticket.txn (key f.it)) g.row
-                (key_ticket ts w.commits t x f.it all k f.stands) from (same_stamp_is (key f.it) v.stamp parts.1 ∙ sym g.stamp_is) in
-            let d : f.it.part.id ≡ p.part.id = ap (λ (z : TopicPart). z.id) (sym b.part_is) ∙ (ap (λ (z : Transaction). z.id) same ∙ (g.id_is ∙ e)) in
-            true≢false (sym (id_same f.it.part.id p.part.id d) ∙ not-true (same_id f.it.part.id p.part.id) parts.0)));
+          let f = any_found (λ (q : Pending). not (same_id q.part.id p.part.id) && same_stamp (key q) v.stamp) x.pending n in
+          let parts = and_parts (not (same_id f.it.part.id p.part.id)) (same_stamp (key f.it) v.stamp) f.passes in
+          let b = k.ticketed f.it f.stands in
+          let same : b.ticket.txn ≡ g.row.txn = all.one_txn (row b.ticket.txn (key f.it)) g.row
+          (key_ticket ts w.commits t x f.it all k f.stands) from (same_stamp_is (key f.it) v.stamp parts.1 ∙ sym g.stamp_is) in
+          let d : f.it.part.id ≡ p.part.id = ap (λ (z : TopicPart). z.id) (sym b.part_is) ∙ (ap (λ (z : Transaction). z.id) same ∙ (g.id_is ∙ e)) in
+          true≢false (sym (id_same f.it.part.id p.part.id d) ∙ not-true (same_id f.it.part.id p.part.id) parts.0)));
     }
 
 -- ---- learning what is found is refused only where nothing is pending
@@ -108,6 +108,6 @@ fits ts w t inv all = record {
       let a = verdict_found p.part.id w.verdicts v e in let b = verdict_found q.part.id w.verdicts u f in
       let g = inv.voted v a.0 in let h = inv.voted u b.0 in
       let txn = inv.consistent.one_txn g.row h.row (inv.consistent.from_ticket g.row g.stands) (inv.consistent.from_ticket h.row h.stands)
-          (g.stamp_is ∙ (s ∙ sym h.stamp_is)) in
+      (g.stamp_is ∙ (s ∙ sym h.stamp_is)) in
       id_same p.part.id q.part.id (sym a.1 ∙ (sym g.id_is ∙ (ap (λ (z : Transaction). z.id) txn ∙ (h.id_is ∙ b.1))));
 }

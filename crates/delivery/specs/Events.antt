@@ -84,8 +84,10 @@ is_topic w t = nat_lt t.0 (length w.topics)
 
 abbrev pub no_flight : Flight
 no_flight = record {
-    txn = record { id = record { sender = record { 0 = 0 }; seq = 0 }; sends = [] }; given = []; mark = None;
-  }
+  txn = record { id = record { sender = record { 0 = 0 }; seq = 0 }; sends = [] };
+  given = [];
+  mark = None;
+}
 
 abbrev pub flight_or : Option Flight → Flight
 flight_or None = no_flight
@@ -177,8 +179,11 @@ checks w (Lost c) = there w c ++ (not (is_open (connection_at w c).standing), Re
 checks w (Leaves c) =
     there w c
     ++ (is_open (connection_at w c).standing, Refusal.NotLeaving)
-    ∷ (not (is_some (oldest_live c 0 w.subscriptions))
-        && (is_some (speaker w c).flight || nat_lt 0 (length (speaker w c).leftovers)), Refusal.Busy) ∷ []
+    ∷ (
+      not (is_some (oldest_live c 0 w.subscriptions))
+          && (is_some (speaker w c).flight || nat_lt 0 (length (speaker w c).leftovers)),
+      Refusal.Busy,
+    ) ∷ []
 checks w (Proposes c t memory) =
     there w c
     ++ (not (is_some (speaker w c).flight), Refusal.NoFlight)
@@ -223,8 +228,9 @@ part_at t txn = record { id = txn.id; topic = t; topics = topics_of txn.sends; s
 -- the transaction that these SENDs make
 abbrev pub next_txn : World → ℕ → List Send → Transaction
 next_txn w c sends = record {
-    id = record { sender = record { 0 = (connection_at w c).sender }; seq = (speaker w c).seq + 1 }; sends = sends;
-  }
+  id = record { sender = record { 0 = (connection_at w c).sender }; seq = (speaker w c).seq + 1 };
+  sends = sends;
+}
 
 abbrev pub flown : World → ℕ → List Send → World
 flown w c [] = w
@@ -246,7 +252,7 @@ closed_with w s None = w
 closed_with w s (Some e) =
     let x = subscription_at w s in
     with_subscription (with_topic w x.topic (unsubscribed s (topic_at w x.topic))) s
-      (record x { closed = Some (ended (topic_at w x.topic).frontier e) })
+    (record x { closed = Some (ended (topic_at w x.topic).frontier e) })
 
 -- the subscription is closed: what its entry leaves is kept, and the entry is dropped
 abbrev pub closed_subscription : World → ℕ → World
@@ -281,7 +287,7 @@ abbrev pub proposed_by : World → ℕ → Topic → Option ProposeFault → Wor
 proposed_by w c t None =
     let f = flight_at w c in
     with_flight (with_topic w t (proposed (speaker w c).floor (part_at t f.txn) (topic_at w t))) c
-      (record f { given = insert_ticket (next_ticket w c t) f.given })
+    (record f { given = insert_ticket (next_ticket w c t) f.given })
 proposed_by w c t (Some fault) = with_flight w c (record (flight_at w c) { mark = Some fault })
 
 -- the stamp is the greatest ticket and the sender's floor; the verdict and the row of the commit list are kept
@@ -309,7 +315,7 @@ abbrev pub cancelled_at : World → ℕ → Topic → Option Leftover → World
 cancelled_at w c t None = w
 cancelled_at w c t (Some k) =
     with_sender (with_topic w t (cancelled k.id (topic_at w t))) (connection_at w c).sender
-      (record (speaker w c) { leftovers = drop_leftover t (speaker w c).leftovers })
+    (record (speaker w c) { leftovers = drop_leftover t (speaker w c).leftovers })
 
 abbrev pub learned_at : World → Topic → TxnId → Option Verdict → World
 learned_at w t id None = w
@@ -337,9 +343,9 @@ handed w s (Some item) = with_subscription w s (record (subscription_at w s) { t
 abbrev pub effect : World → Event → World
 effect w (Topic_added clock) = record w { topics = w.topics ++ new_topic (record { 0 = length w.topics }) w.log_limit clock ∷ [] }
 effect w Opened = record w {
-    senders = w.senders ++ new_sender ∷ [];
-    connections = w.connections ++ record { sender = length w.senders; standing = Standing.Open } ∷ [];
-  }
+  senders = w.senders ++ new_sender ∷ [];
+  connections = w.connections ++ record { sender = length w.senders; standing = Standing.Open } ∷ [];
+}
 effect w (Commits c sends) = flown w c sends
 effect w (Subscribes c t) = opened_subscription w c t
 effect w (Unsubscribes c s) = closed_subscription w s

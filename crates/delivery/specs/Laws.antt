@@ -43,7 +43,7 @@ abbrev pub AcceptedIsDue : Type 0
 AcceptedIsDue =
     (r : Run) (s : ℕ) → s < length (after r).subscriptions
     → accepted_at (after r) s
-      ≡ due (commits_of (came r)) (span_at (after r) s) (frontier_at (after r) (subscription_at (after r) s).topic)
+    ≡ due (commits_of (came r)) (span_at (after r) s) (frontier_at (after r) (subscription_at (after r) s).topic)
 
 -- no id and no stamp stands twice in the agreed sequence
 abbrev pub AgreedOnce : Type 0
@@ -124,8 +124,8 @@ abbrev pub TicketIsOwn : Type 0
 TicketIsOwn =
     (w : World) (e : Event) (id : TxnId) (ticket : Stamp) → outcome w e ≡ Ticket id ticket
     → (c : ℕ) × (t : Topic) × (memory : Bool) × (e ≡ Proposes c t memory) × (id ≡ (flight_at w c).txn.id)
-        × (names t (topics_of (flight_at w c).txn.sends) ≡ true)
-        × (ticket ≡ record { n = max (topic_at w t).clock (speaker w c).floor.n + 1; topic = t })
+    × (names t (topics_of (flight_at w c).txn.sends) ≡ true)
+    × (ticket ≡ record { n = max (topic_at w t).clock (speaker w c).floor.n + 1; topic = t })
 
 -- a verdict isn't the part's, clashes, or comes to cancel a part: what no run meets
 abbrev pub is_odd : Refusal → Bool
@@ -158,4 +158,4 @@ LagsWhereFull =
     (w : World) (t : Topic) (p : Pending) (before : Entry) → refusal w (Releases t) ≡ None → due_part (topic_at w t) ≡ Some p
     → In before (topic_at w t).subscriptions → before.to ≡ None
     → (later : Entry) × In later (topic_at (happens w (Releases t)) t).subscriptions
-        × IsGiven w (topic_at w t).frontier p before later
+    × IsGiven w (topic_at w t).frontier p before later

@@ -15,7 +15,7 @@ abbrev pub IsResolved : Topic → List Outcome → Transaction → Type 0
 IsResolved t run txn =
     ((stamp : Stamp) × In (Decided txn.id stamp) run)
     ⊎ (((c : ℕ) × In (Withdrawn txn.id c) run)
-        × ((ticket : Stamp) → In (Ticket txn.id ticket) run → ticket.topic ≡ t → In (Cancelled txn.id t) run))
+    × ((ticket : Stamp) → In (Ticket txn.id ticket) run → ticket.topic ≡ t → In (Cancelled txn.id t) run))
 
 -- so is each transaction that names t
 abbrev pub AllResolved : Topic → List Outcome → Type 0

@@ -76,9 +76,15 @@ new_topics i log_limit (clock ∷ clocks) = new_topic (record { 0 = i }) log_lim
 -- topics with these opening clocks, and nobody there
 abbrev pub start : ℕ → ℕ → List ℕ → World
 start capacity log_limit clocks = record {
-    capacity = capacity; log_limit = log_limit; topics = new_topics 0 log_limit clocks;
-    senders = []; connections = []; subscriptions = []; commits = []; verdicts = [];
-  }
+  capacity = capacity;
+  log_limit = log_limit;
+  topics = new_topics 0 log_limit clocks;
+  senders = [];
+  connections = [];
+  subscriptions = [];
+  commits = [];
+  verdicts = [];
+}
 
 -- ---- reading
 
@@ -148,8 +154,8 @@ with_sender w s x = record w { senders = set w.senders s x }
 
 abbrev pub with_standing : World → ℕ → Standing → World
 with_standing w c standing = record w {
-    connections = set w.connections c (record { sender = (connection_at w c).sender; standing = standing });
-  }
+  connections = set w.connections c (record { sender = (connection_at w c).sender; standing = standing });
+}
 
 abbrev pub with_subscription : World → ℕ → Subscription → World
 with_subscription w s x = record w { subscriptions = set w.subscriptions s x }

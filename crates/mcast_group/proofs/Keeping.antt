@@ -21,9 +21,19 @@ use Rattle.mcast_group.proofs.Queues.{Queue-delivered, Queue-new, Queue-drained,
 
 pub Sound-new : (t : Topic) (log_limit clock : ℕ) → IsSound (new_topic t log_limit clock)
 Sound-new t log_limit clock = record {
-  rises = tt; above_base = λ r k. absurd k; frontier = refl; past = λ r k. absurd k; base_past = lt_irrefl zero_stamp;
-  own = λ p k. absurd k; one_part = λ p q k. absurd k; differ = λ p q k. absurd k; above = λ p k. absurd k;
-  clock_keys = λ p k. absurd k; clock_frontier = omega arith; queues = λ e k. absurd k; limit = omega arith;
+  rises = tt;
+  above_base = λ r k. absurd k;
+  frontier = refl;
+  past = λ r k. absurd k;
+  base_past = lt_irrefl zero_stamp;
+  own = λ p k. absurd k;
+  one_part = λ p q k. absurd k;
+  differ = λ p q k. absurd k;
+  above = λ p k. absurd k;
+  clock_keys = λ p k. absurd k;
+  clock_frontier = omega arith;
+  queues = λ e k. absurd k;
+  limit = omega arith;
 }
 
 -- ---- propose
@@ -86,7 +96,7 @@ new_case : (id : TxnId) (v : Verdict) (p : Pending) (ps : List Pending) → p.pa
 new_case id v p ps e none q k s true d = subst (λ z. same_id q.part.id z ≡ true) e d
 new_case id v p ps e none q k s false d =
     absurd (true≢false (sym (any_from (λ (z : Pending). not (same_id z.part.id p.part.id) && same_stamp (key z) v.stamp) q ps k
-      (rw (d, s) (same_stamp_itself v.stamp))) ∙ none))
+    (rw (d, s) (same_stamp_itself v.stamp))) ∙ none))
 
 learns_clash : (id : TxnId) (v : Verdict) (x : TopicState) (p : Pending) → In p x.pending → p.part.id ≡ id → is_foreign v p ≡ false → clashes v p x.pending ≡ false → Learns id v x
 learns_clash id v x p i e f c =
@@ -106,12 +116,14 @@ learns_checks id v x p i e true b f c k = absurd (not_none (subst_foreign f k))
   where
     not_none : {X : Type 0} {y : X} → Some y ≡ None → Prim.⊥
     not_none e = cc
+
     subst_foreign : is_foreign v p ≡ true → learn_fault_of v x.pending (Some p) ≡ None → Some Rattle.mcast_group.specs.declared.fault.LearnFault.LearnFault.Foreign ≡ None
     subst_foreign f k = sym (rw f refl) ∙ k
 learns_checks id v x p i e false true f c k = absurd (not_none (subst_clash f c k))
   where
     not_none : {X : Type 0} {y : X} → Some y ≡ None → Prim.⊥
     not_none e = cc
+
     subst_clash : is_foreign v p ≡ false → clashes v p x.pending ≡ true → learn_fault_of v x.pending (Some p) ≡ None → Some Rattle.mcast_group.specs.declared.fault.LearnFault.LearnFault.Clash ≡ None
     subst_clash f c k = sym (rw (f, c) refl) ∙ k
 learns_checks id v x p i e false false f c k = learns_clash id v x p i e f c
@@ -168,10 +180,12 @@ Sound-learned id v x h is l = record {
   where
     up : stamp_lt x.frontier v.stamp ≡ true
     up = lt_le x.frontier (key l.part) v.stamp (h.above l.part l.stands) (key_past id v x l is)
+
     apart : (p q : Pending) → same_id p.part.id id ≡ true → same_id q.part.id id ≡ false → same_id p.part.id q.part.id ≡ true → Prim.⊥
     apart p q e f s =
         let a = id_equal p.part.id id e in let b = id_equal p.part.id q.part.id s in
         true≢false (sym (id_same q.part.id id (sym b ∙ a)) ∙ f)
+
     both : (p q : Pending) → same_id p.part.id id ≡ true → same_id q.part.id id ≡ true → same_id p.part.id q.part.id ≡ true
     both p q e f = id_same p.part.id q.part.id (id_equal p.part.id id e ∙ sym (id_equal q.part.id id f))
 
@@ -259,8 +273,17 @@ Sound-released takes p x h due =
 
 pub Sound-subscribed : (number : ℕ) (x : TopicState) → IsSound x → IsSound (subscribed number x)
 Sound-subscribed number x h = record {
-  rises = h.rises; above_base = h.above_base; frontier = h.frontier; past = h.past; base_past = h.base_past; own = h.own;
-  one_part = h.one_part; differ = h.differ; above = h.above; clock_keys = h.clock_keys; clock_frontier = h.clock_frontier;
+  rises = h.rises;
+  above_base = h.above_base;
+  frontier = h.frontier;
+  past = h.past;
+  base_past = h.base_past;
+  own = h.own;
+  one_part = h.one_part;
+  differ = h.differ;
+  above = h.above;
+  clock_keys = h.clock_keys;
+  clock_frontier = h.clock_frontier;
   queues = push_one (λ (e : Entry). IsQueueOf x.base x.frontier x.held e.from e.to e.accepted) x.subscriptions _ h.queues
       (Queue-new x.base x.frontier x.held h.past);
   limit = h.limit;
@@ -268,16 +291,34 @@ Sound-subscribed number x h = record {
 
 pub Sound-unsubscribed : (number : ℕ) (x : TopicState) → IsSound x → IsSound (unsubscribed number x)
 Sound-unsubscribed number x h = record {
-  rises = h.rises; above_base = h.above_base; frontier = h.frontier; past = h.past; base_past = h.base_past; own = h.own;
-  one_part = h.one_part; differ = h.differ; above = h.above; clock_keys = h.clock_keys; clock_frontier = h.clock_frontier;
+  rises = h.rises;
+  above_base = h.above_base;
+  frontier = h.frontier;
+  past = h.past;
+  base_past = h.base_past;
+  own = h.own;
+  one_part = h.one_part;
+  differ = h.differ;
+  above = h.above;
+  clock_keys = h.clock_keys;
+  clock_frontier = h.clock_frontier;
   queues = λ e k. h.queues e (In-filter_cases (λ (z : Entry). not (z.number == number)) e x.subscriptions k).stands;
   limit = h.limit;
 }
 
 pub Sound-drained : (x : TopicState) → IsSound x → IsSound (drained x)
 Sound-drained x h = record {
-  rises = tt; above_base = λ r k. absurd k; frontier = refl; past = λ r k. absurd k; base_past = lt_irrefl x.frontier; own = h.own;
-  one_part = h.one_part; differ = h.differ; above = h.above; clock_keys = h.clock_keys; clock_frontier = h.clock_frontier;
+  rises = tt;
+  above_base = λ r k. absurd k;
+  frontier = refl;
+  past = λ r k. absurd k;
+  base_past = lt_irrefl x.frontier;
+  own = h.own;
+  one_part = h.one_part;
+  differ = h.differ;
+  above = h.above;
+  clock_keys = h.clock_keys;
+  clock_frontier = h.clock_frontier;
   queues = λ e k. Queue-drained x.base x.frontier x.held e.from e.to e.accepted (h.queues e k);
   limit = let r : length x.pending + length x.held ≤ x.log_limit = h.limit in omega arith;
 }

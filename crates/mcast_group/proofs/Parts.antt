@@ -144,9 +144,9 @@ each_told id stamp ps P same new q h =
 pub each_two_told : (id : TxnId) (stamp : Stamp) (ps : List Pending) (P : Pending → Pending → Type 0) → ((p q : Pending) → In p ps → In q ps → same_id p.part.id id ≡ false → same_id q.part.id id ≡ false → P p q) → ((p q : Pending) → In p ps → In q ps → same_id p.part.id id ≡ true → same_id q.part.id id ≡ false → P (with_stamp p stamp) q) → ((p q : Pending) → In p ps → In q ps → same_id p.part.id id ≡ false → same_id q.part.id id ≡ true → P p (with_stamp q stamp)) → ((p q : Pending) → In p ps → In q ps → same_id p.part.id id ≡ true → same_id q.part.id id ≡ true → P (with_stamp p stamp) (with_stamp q stamp)) → (p q : Pending) → In p (map (told id stamp) ps) → In q (map (told id stamp) ps) → P p q
 each_two_told id stamp ps P none left right both p q i j =
     each_told id stamp ps (λ z. P z q)
-      (λ x k e. each_told id stamp ps (λ z. P x z) (λ y l f. none x y k l e f) (λ y l f. right x y k l e f) q j)
-      (λ x k e. each_told id stamp ps (λ z. P (with_stamp x stamp) z) (λ y l f. left x y k l e f) (λ y l f. both x y k l e f) q j)
-      p i
+    (λ x k e. each_told id stamp ps (λ z. P x z) (λ y l f. none x y k l e f) (λ y l f. right x y k l e f) q j)
+    (λ x k e. each_told id stamp ps (λ z. P (with_stamp x stamp) z) (λ y l f. left x y k l e f) (λ y l f. both x y k l e f) q j)
+    p i
 
 pub map_length : {X Y : Type 0} (f : X → Y) (xs : List X) → length (map f xs) ≡ length xs
 map_length f [] = refl

@@ -40,8 +40,9 @@ Queue-closed base frontier held from end accepted r i new h =
       past = λ j k. lt_asym j.stamp r.stamp (le_lt j.stamp frontier r.stamp (h.past j k) new.up);
       only_rows = λ j k b. HasRow-more j held r (h.only_rows j k b);
       all_rows = λ q k s. elim (In-push_cases q r held k) [
-          inl o ↦ h.all_rows q o s
-        | inr e ↦ absurd (true≢false (sym (ap (λ (z : LogRow). in_span from (Some end) z.stamp) e ∙ s) ∙ rw (l, m) refl)) ];
+        | inl o ↦ h.all_rows q o s
+        | inr e ↦ absurd (true≢false (sym (ap (λ (z : LogRow). in_span from (Some end) z.stamp) e ∙ s) ∙ rw (l, m) refl))
+      ];
     }
 
 -- an open queue that takes the item
@@ -54,17 +55,21 @@ queue_takes base frontier held from accepted r i new h =
       rises = Rises-push item_stamp accepted i h.rises
           (λ j k. subst (λ z. stamp_lt j.stamp z ≡ true) (sym new.is.stamp) (le_lt j.stamp frontier r.stamp (h.past j k) new.up));
       within = λ j k. elim (In-push_cases j i accepted k) [
-          inl o ↦ h.within j o
-        | inr e ↦ subst (λ (z : Item). in_span from None z.stamp ≡ true) e (rw (new.is.stamp, l) refl) ];
+        | inl o ↦ h.within j o
+        | inr e ↦ subst (λ (z : Item). in_span from None z.stamp ≡ true) e (rw (new.is.stamp, l) refl)
+      ];
       past = λ j k. elim (In-push_cases j i accepted k) [
-          inl o ↦ lt_asym j.stamp r.stamp (le_lt j.stamp frontier r.stamp (h.past j o) new.up)
-        | inr e ↦ subst (λ (z : Item). stamp_lt r.stamp z.stamp ≡ false) e (rw new.is.stamp (lt_irrefl r.stamp)) ];
+        | inl o ↦ lt_asym j.stamp r.stamp (le_lt j.stamp frontier r.stamp (h.past j o) new.up)
+        | inr e ↦ subst (λ (z : Item). stamp_lt r.stamp z.stamp ≡ false) e (rw new.is.stamp (lt_irrefl r.stamp))
+      ];
       only_rows = λ j k b. elim (In-push_cases j i accepted k) [
-          inl o ↦ HasRow-more j held r (h.only_rows j o b)
-        | inr e ↦ record { row = r; stands = In-push r held; is = subst (λ z. IsItemOf r z) e new.is } ];
+        | inl o ↦ HasRow-more j held r (h.only_rows j o b)
+        | inr e ↦ record { row = r; stands = In-push r held; is = subst (λ z. IsItemOf r z) e new.is }
+      ];
       all_rows = λ q k s. elim (In-push_cases q r held k) [
-          inl o ↦ HasItem-more q accepted i (h.all_rows q o s)
-        | inr e ↦ record { item = i; stands = In-push i accepted; is = subst (λ z. IsItemOf z i) e new.is } ];
+        | inl o ↦ HasItem-more q accepted i (h.all_rows q o s)
+        | inr e ↦ record { item = i; stands = In-push i accepted; is = subst (λ z. IsItemOf z i) e new.is }
+      ];
     }
 
 -- an open queue that ends at the frontier

@@ -31,7 +31,7 @@ tried_all_keeps : (P : TopicState → Type 0) (find : TxnId → Option Verdict) 
 tried_all_keeps P find learn [] x h = h
 tried_all_keeps P find learn (p ∷ ps) x h =
     tried_all_keeps P find learn ps (tried p.part.id (find p.part.id) x)
-      (tried_verdict P find p.part.id x h (λ v f e. learn x p.part.id v f e h) (find p.part.id) refl)
+    (tried_verdict P find p.part.id x h (λ v f e. learn x p.part.id v f e h) (find p.part.id) refl)
 
 release_due : (P : TopicState → Type 0) (takes : Entry → Bool) (x : TopicState) → P x → ((p : Pending) → due_part x ≡ Some p → P (released takes p x)) → (o : Option Pending) → due_part x ≡ o → P (released_if takes x o)
 release_due P takes x h k None e = h
@@ -57,8 +57,8 @@ Sound-release takes x h = release_keeps IsSound takes x h (λ p e. Sound-release
 pub Sound-turned : (takes : Entry → Bool) (find : TxnId → Option Verdict) (x : TopicState) → ((id : TxnId) (v : Verdict) → find id ≡ Some v → IsVerdict v) → IsSound x → IsSound (turned takes find x)
 Sound-turned takes find x is h =
     turn_keeps IsSound takes find
-      (λ y id v f e s. Sound-learned id v y s (is id v f) (learns_is id v y e))
-      (λ y p e s. Sound-released takes p y s (due_is y p e)) x h
+    (λ y id v f e s. Sound-learned id v y s (is id v f) (learns_is id v y e))
+    (λ y p e s. Sound-released takes p y s (due_is y p e)) x h
 
 -- ---- where verdicts fit, each part learns
 
@@ -75,6 +75,7 @@ stamp_here v p is own t =
     false_of : (b : Bool) → not b ≡ false → b ≡ true
     false_of true e = refl
     false_of false e = absurd (true≢false e)
+
     there : (rows : List Stamp) (a : Stamp) → In a rows → In (greatest rows) rows
     there rows a i = elim (greatest_in rows) [ inl k ↦ k | inr e ↦ absurd (subst (λ z. In a z) e i) ]
 
@@ -99,16 +100,18 @@ other_key find x p q v h fit i j f is own again k None e None d =
 no_clash : (find : TxnId → Option Verdict) (x : TopicState) (p : Pending) (v : Verdict) → IsSound x → Fits find x → In p x.pending → find p.part.id ≡ Some v → IsVerdict v → is_foreign v p ≡ false → ((s : Stamp) → p.learnt ≡ Some s → s ≡ v.stamp) → clashes v p x.pending ≡ false
 no_clash find x p v h fit i f is own again =
     or_false (learnt_other v.stamp p.learnt) _ (by p.learnt refl)
-      (not_true (list_any test x.pending) refl (λ e.
-        let g = any_found test x.pending e in
-        let a = and_parts (not (same_id g.it.part.id p.part.id)) (same_stamp (key g.it) v.stamp) g.passes in
-        true≢false (sym (other_key find x p g.it v h fit i g.stands f is own again (same_stamp_is (key g.it) v.stamp a.1) g.it.learnt refl p.learnt refl)
-          ∙ not-true (same_id g.it.part.id p.part.id) a.0)))
+    (not_true (list_any test x.pending) refl (λ e.
+    let g = any_found test x.pending e in
+    let a = and_parts (not (same_id g.it.part.id p.part.id)) (same_stamp (key g.it) v.stamp) g.passes in
+    true≢false (sym (other_key find x p g.it v h fit i g.stands f is own again (same_stamp_is (key g.it) v.stamp a.1) g.it.learnt refl p.learnt refl)
+    ∙ not-true (same_id g.it.part.id p.part.id) a.0)))
   where
     test : Pending → Bool
     test q = not (same_id q.part.id p.part.id) && same_stamp (key q) v.stamp
+
     or_false : (a b : Bool) → a ≡ false → b ≡ false → (a || b) ≡ false
     or_false a b e f = rw (e, f) refl
+
     by : (o : Option Stamp) → p.learnt ≡ o → learnt_other v.stamp o ≡ false
     by None e = refl
     by (Some s) e = rw (same_stamp_from s v.stamp (again s e)) refl
@@ -143,9 +146,10 @@ told_verdict find id v p q f t h = record {
   is = h.is;
   own = same_own;
   learnt = λ s e. elim t.how [
-      inl a ↦ h.learnt s (ap (λ (z : Pending). z.learnt) (sym a.0) ∙ e)
+    | inl a ↦ h.learnt s (ap (λ (z : Pending). z.learnt) (sym a.0) ∙ e)
     | inr b ↦ some_same s v.stamp (sym e ∙ b.1) ∙ ap (λ (z : Verdict). z.stamp)
-        (some_same v h.verdict (sym f ∙ (ap find (sym (id_equal p.part.id id b.0)) ∙ h.found))) ];
+        (some_same v h.verdict (sym f ∙ (ap find (sym (id_equal p.part.id id b.0)) ∙ h.found)))
+  ];
 }
   where
     same_own : is_foreign h.verdict q ≡ false
@@ -185,15 +189,18 @@ midway_told find p ps x v f is e h = record {
   others = λ q i. let m = In-map_cases (told p.part.id v.stamp) q x.pending i in
       let t : Told p.part.id v.stamp m.from q = subst (λ z. Told p.part.id v.stamp m.from z) m.is (told_how p.part.id v.stamp m.from) in
       elim t.how [
-          inl a ↦ elim (h.others m.from m.stands) [
-              inl k ↦ inl (subst (λ (z : Pending). is_some z.learnt ≡ true) (sym a.0) k)
-            | inr w ↦ inr (subst (λ (z : Pending). Waits z.part.id ps) (sym a.0) (rest m.from w a.1)) ]
-        | inr b ↦ inl (ap is_some b.1) ];
+        | inl a ↦ elim (h.others m.from m.stands) [
+          | inl k ↦ inl (subst (λ (z : Pending). is_some z.learnt ≡ true) (sym a.0) k)
+          | inr w ↦ inr (subst (λ (z : Pending). Waits z.part.id ps) (sym a.0) (rest m.from w a.1))
+        ]
+        | inr b ↦ inl (ap is_some b.1)
+      ];
 }
   where
     rest_of : (q : Pending) (w : Pending) → In w (p ∷ ps) → w.part.id ≡ q.part.id → same_id q.part.id p.part.id ≡ false → Waits q.part.id ps
     rest_of q w (inl d) e n = absurd (true≢false (sym (id_same q.part.id p.part.id (sym e ∙ ap (λ (z : Pending). z.part.id) (sym d))) ∙ n))
     rest_of q w (inr d) e n = record { part = w; stands = d; is = e }
+
     rest : (q : Pending) → Waits q.part.id (p ∷ ps) → same_id q.part.id p.part.id ≡ false → Waits q.part.id ps
     rest q w n = rest_of q w.part w.stands w.is n
 
@@ -202,10 +209,10 @@ all_learn find [] x h p i = elim (h.others p i) [ inl e ↦ e | inr w ↦ absurd
 all_learn find (p ∷ ps) x h q i =
     let g = fit_learns find x p.part.id h.sound h.fits (h.waits p (inl refl)) in
     all_learn find ps (tried p.part.id (find p.part.id) x)
-      (subst (λ (o : Option Verdict). Midway find ps (tried p.part.id o x)) (sym g.found)
-        (subst (λ (o : Option LearnFault). Midway find ps (elim o [ None ↦ learned p.part.id g.verdict.stamp x | Some fault ↦ x ])) (sym g.learns)
-          (midway_told find p ps x g.verdict g.found g.is g.learns h)))
-      q i
+    (subst (λ (o : Option Verdict). Midway find ps (tried p.part.id o x)) (sym g.found)
+    (subst (λ (o : Option LearnFault). Midway find ps (elim o [ None ↦ learned p.part.id g.verdict.stamp x | Some fault ↦ x ])) (sym g.learns)
+    (midway_told find p ps x g.verdict g.found g.is g.learns h)))
+    q i
 
 -- ---- then each release takes one out
 
@@ -241,6 +248,7 @@ times_none takes (suc k) x h l =
     still_of [] None e f = refl
     still_of [] (Some p) e f = cc
     still_of (p ∷ ps) o e f = absurd (omega arith)
+
     still : length x.pending ≡ 0 → length (release takes x).pending ≤ k
     still e = subst (λ (o : Option Pending). length (released_if takes x (if_learnt o)).pending ≤ k)
         (sym (still_of x.pending (least x.pending) e refl)) (omega arith)
@@ -249,10 +257,10 @@ pub turn_none : (takes : Entry → Bool) (find : TxnId → Option Verdict) (x : 
 turn_none takes find x h fit =
     let y = tried_all find x.pending x in
     times_none takes (length y.pending) y
-      (all_learn find x.pending x (record {
-        sound = h;
-        fits = fit;
-        waits = λ p i. record { part = p; stands = i; is = refl };
-        others = λ p i. inr (record { part = p; stands = i; is = refl });
-      }))
-      (omega arith)
+    (all_learn find x.pending x (record {
+      sound = h;
+      fits = fit;
+      waits = λ p i. record { part = p; stands = i; is = refl };
+      others = λ p i. inr (record { part = p; stands = i; is = refl });
+    }))
+    (omega arith)

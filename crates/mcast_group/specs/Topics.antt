@@ -59,9 +59,15 @@ pub record TopicState : Type 0 where
 -- a topic with this log limit and opening clock
 abbrev pub new_topic : Topic → ℕ → ℕ → TopicState
 new_topic topic log_limit clock = record {
-    topic = topic; clock = clock; log_limit = log_limit; pending = []; base = zero_stamp; held = []; frontier = zero_stamp;
-    subscriptions = [];
-  }
+  topic = topic;
+  clock = clock;
+  log_limit = log_limit;
+  pending = [];
+  base = zero_stamp;
+  held = [];
+  frontier = zero_stamp;
+  subscriptions = [];
+}
 
 -- the greatest number that a stamp can have
 abbrev pub last_number : ℕ
@@ -124,9 +130,9 @@ propose_fault floor part x = first_refusal (propose_checks floor part x)
 -- the part is pending with the next number, which becomes the clock
 abbrev pub proposed : Stamp → TopicPart → TopicState → TopicState
 proposed floor part x = record x {
-    clock = next_number floor x;
-    pending = insert_pending (record { part = part; ticket = next_number floor x; learnt = None }) x.pending;
-  }
+  clock = next_number floor x;
+  pending = insert_pending (record { part = part; ticket = next_number floor x; learnt = None }) x.pending;
+}
 
 -- ---- learn
 
@@ -186,17 +192,18 @@ item_of p = record { id = p.part.id; stamp = key p; sends = p.part.sends }
 -- an item for a subscription: its queue takes it, or the span ends with the frontier before it; one that has lagged gets nothing
 abbrev pub delivered : (Entry → Bool) → Stamp → Item → Entry → Entry
 delivered takes frontier item e = elim e.to [
-    Some end ↦ e
-  | None ↦ if takes e then record e { accepted = e.accepted ++ item ∷ [] } else record e { to = Some frontier } ]
+  | Some end ↦ e
+  | None ↦ if takes e then record e { accepted = e.accepted ++ item ∷ [] } else record e { to = Some frontier }
+]
 
 -- p leaves: it is added to the log, the frontier becomes its stamp, and each open subscription whose queue takes it gets it as one item
 abbrev pub released : (Entry → Bool) → Pending → TopicState → TopicState
 released takes p x = record x {
-    pending = without p.part.id x.pending;
-    held = x.held ++ row_of p ∷ [];
-    frontier = key p;
-    subscriptions = map (delivered takes x.frontier (item_of p)) x.subscriptions;
-  }
+  pending = without p.part.id x.pending;
+  held = x.held ++ row_of p ∷ [];
+  frontier = key p;
+  subscriptions = map (delivered takes x.frontier (item_of p)) x.subscriptions;
+}
 
 abbrev pub if_learnt : Option Pending → Option Pending
 if_learnt None = None
@@ -244,14 +251,15 @@ find_entry number (e ∷ es) = if e.number == number then Some e else find_entry
 -- a subscription begins after the frontier
 abbrev pub subscribed : ℕ → TopicState → TopicState
 subscribed number x = record x {
-    subscriptions = x.subscriptions ++ record { number = number; from = x.frontier; to = None; accepted = [] } ∷ [];
-  }
+  subscriptions = x.subscriptions ++ record { number = number; from = x.frontier; to = None; accepted = [] } ∷ [];
+}
 
 -- what a subscription leaves: it ends with the frontier, or where it lagged
 abbrev pub ended : Stamp → Entry → Ended
 ended frontier e = elim e.to [
-    None ↦ record { to = frontier; accepted = e.accepted; cause = Asked }
-  | Some end ↦ record { to = end; accepted = e.accepted; cause = Lag } ]
+  | None ↦ record { to = frontier; accepted = e.accepted; cause = Asked }
+  | Some end ↦ record { to = end; accepted = e.accepted; cause = Lag }
+]
 
 abbrev pub unsubscribed : ℕ → TopicState → TopicState
 unsubscribed number x = record x { subscriptions = filter (λ e. not (e.number == number)) x.subscriptions }
