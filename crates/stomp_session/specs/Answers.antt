@@ -1,10 +1,10 @@
 -- What a session answers to a frame.
-use Rattle.std.specs.Prelude.{◌≡◌, ◌⊎◌, ℕ, List, [], ◌∷◌, codes, Some, None}
+use Rattle.std.specs.Prelude.{◌≡◌, ◌⊎◌, ℕ, Bool, true, false, List, [], ◌∷◌, codes, Some, None, IfSome}
 use Rattle.std.specs.Option.{option_map_or}
 use Rattle.stomp_frame.specs.declared.command.Command.{Command}
 use Rattle.stomp_frame.specs.declared.command.Command.TheVariants as commands
 use Rattle.stomp_frame.specs.declared.frame.RawFrame.{RawFrame}
-use Rattle.stomp_frame.specs.Headers.{first_of}
+use Rattle.stomp_frame.specs.Headers.{IsText, first_of}
 use Rattle.stomp_frame.specs.Receipts.{receipt_of}
 use Rattle.mcast_txn.specs.declared.send.Send.{Send}
 use Rattle.stomp_session.specs.declared.action.Action.{Action}
@@ -38,6 +38,27 @@ pub record Accepts (s : Held) (f : RawFrame) (step : Step) : Type 0 where
   pub action : step.action ≡ action_by f.command s f
   pub receipt : step.receipt ≡ receipt_of f
 
--- The frame is refused by its first refusal; or there is none, and no memory.
+-- an action's id is text
+abbrev pub IsTextIn : Action → Type 0
+IsTextIn (actions.Subscribe id topic) = IsText id
+IsTextIn (actions.Unsubscribe id) = IsText id
+IsTextIn _ = Unit {0}
+
+-- What is handed out is text, so that a server's frame can be written with it: the receipt, and the action's id.
+pub record AreTexts (step : Step) : Type 0 where
+  pub receipt : IfSome step.receipt IsText
+  pub action : IsTextIn step.action
+
+-- whether memory is taken for a frame of this command
+abbrev pub takes_memory : Command → Bool
+takes_memory commands.Connect = true
+takes_memory commands.Stomp = true
+takes_memory commands.Subscribe = true
+takes_memory commands.Begin = true
+takes_memory commands.Send = true
+takes_memory commands.Commit = true
+takes_memory _ = false
+
+-- The frame is refused by its first refusal; or there is none, and no memory where its command takes some.
 abbrev pub Refuses : Held → RawFrame → SessionFault → Type 0
-Refuses s f fault = (refusal s f ≡ Some fault) ⊎ ((refusal s f ≡ None) × (fault ≡ NoMemory))
+Refuses s f fault = (refusal s f ≡ Some fault) ⊎ ((refusal s f ≡ None) × (fault ≡ NoMemory) × (takes_memory f.command ≡ true))

@@ -17,7 +17,7 @@ use Rattle.stomp_session.specs.declared.fault.SessionFault.TheVariants as faults
 use Rattle.stomp_session.specs.Frames.{topic_of, id_of, transaction_of, send_of}
 use Rattle.stomp_session.specs.Open.{Held, closed}
 use Rattle.stomp_session.specs.Refusals.{is_closed, open_checks, first_fault}
-use Rattle.stomp_session.specs.Answers.{action_by}
+use Rattle.stomp_session.specs.Answers.{action_by, takes_memory}
 
 -- without the one of this id
 abbrev pub without : {X : Type 0} → List ℕ → List (List ℕ × X) → List (List ℕ × X)
@@ -29,12 +29,15 @@ abbrev pub with_send : List ℕ → Send → List (List ℕ × List Send) → Li
 with_send x send [] = []
 with_send x send (o ∷ them) = if bytes_eq x o.0 then (o.0, o.1 ++ send ∷ []) ∷ them else o ∷ with_send x send them
 
+-- in this phase
 abbrev pub with_phase : Phase → Held → Held
 with_phase phase s = record { names = s.names; phase = phase; subscriptions = s.subscriptions; transactions = s.transactions }
 
+-- with these subscriptions open
 abbrev pub with_subscriptions : List (List ℕ × Topic) → Held → Held
 with_subscriptions them s = record { names = s.names; phase = s.phase; subscriptions = them; transactions = s.transactions }
 
+-- with these transactions open
 abbrev pub with_transactions : List (List ℕ × List Send) → Held → Held
 with_transactions them s = record { names = s.names; phase = s.phase; subscriptions = s.subscriptions; transactions = them }
 
@@ -55,10 +58,10 @@ effect _ s f = s
 abbrev pub refusal_by : Command → Held → RawFrame → Option SessionFault
 refusal_by command s f = first_fault ((is_closed s.phase, faults.Closed) ∷ open_checks command s f)
 
--- the refusal that a fault tells; none where there was no memory
-abbrev pub told : SessionFault → Option SessionFault
-told faults.NoMemory = None
-told fault = Some fault
+-- the refusal that a fault tells; none where there was no memory for a command that takes some
+abbrev pub told : Command → SessionFault → Option SessionFault
+told command faults.NoMemory = if takes_memory command then None else Some faults.NoMemory
+told command fault = Some fault
 
 -- the frame is accepted, and this is what it changes
 pub record Does (command : Command) (s : Held) (f : RawFrame) (step : Step) (new : Held) : Type 0 where
@@ -69,4 +72,4 @@ pub record Does (command : Command) (s : Held) (f : RawFrame) (step : Step) (new
 
 -- the frame is refused
 abbrev pub Denies : Command → Held → RawFrame → SessionFault → Type 0
-Denies command s f fault = refusal_by command s f ≡ told fault
+Denies command s f fault = refusal_by command s f ≡ told command fault

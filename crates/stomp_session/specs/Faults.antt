@@ -3,6 +3,7 @@ use Rattle.std.specs.Prelude.{ℕ, List, codes}
 use Rattle.stomp_session.specs.declared.fault.SessionFault.{SessionFault}
 use Rattle.stomp_session.specs.declared.fault.SessionFault.TheVariants.{NotConnected, AlreadyConnected, NoVersion, SubIdInUse, NoSuchSub, TxnInUse, NoSuchTxn, UnknownDestination, AckMode, TooManySubs, TooManyTxns, TooManySends, NoMemory, Closed}
 
+-- its number (own)
 abbrev pub number_of : SessionFault → ℕ
 number_of NotConnected = 60
 number_of AlreadyConnected = 61

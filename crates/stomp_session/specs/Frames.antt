@@ -26,28 +26,33 @@ id_of f = field (codes "id") f
 abbrev pub transaction_of : RawFrame → List ℕ
 transaction_of f = field (codes "transaction") f
 
+-- whether it's a SUBSCRIBE
 abbrev pub is_subscribe : Command → Bool
 is_subscribe commands.Subscribe = true
 is_subscribe _ = false
 
+-- whether it's an UNSUBSCRIBE
 abbrev pub is_unsubscribe : Command → Bool
 is_unsubscribe commands.Unsubscribe = true
 is_unsubscribe _ = false
 
+-- whether it's a SEND
 abbrev pub is_send : Command → Bool
 is_send commands.Send = true
 is_send _ = false
 
+-- whether it's a BEGIN
 abbrev pub is_begin : Command → Bool
 is_begin commands.Begin = true
 is_begin _ = false
 
--- a COMMIT or an ABORT
+-- whether it's a COMMIT or an ABORT
 abbrev pub is_end : Command → Bool
 is_end commands.Commit = true
 is_end commands.Abort = true
 is_end _ = false
 
+-- whether it's a DISCONNECT
 abbrev pub is_disconnect : Command → Bool
 is_disconnect commands.Disconnect = true
 is_disconnect _ = false

@@ -28,9 +28,11 @@ begun names (f ∷ after) =
     then (transaction_of f, map (send_of names) (filter (is_send_in (transaction_of f)) after)) ∷ begun names after
     else begun names after
 
+-- whether a CONNECT or a STOMP is among them
 abbrev pub is_connected : List RawFrame → Bool
 is_connected frames = list_any (λ f. is_connect f.command) frames
 
+-- whether a DISCONNECT is among them
 abbrev pub is_ended : List RawFrame → Bool
 is_ended frames = list_any (λ f. is_disconnect f.command) frames
 
@@ -38,10 +40,11 @@ is_ended frames = list_any (λ f. is_disconnect f.command) frames
 abbrev pub phase_of : List RawFrame → Phase
 phase_of frames = if is_ended frames then Closed else (if is_connected frames then Connected else New)
 
--- what is open; nothing after a DISCONNECT
+-- the subscriptions that are open; none after a DISCONNECT
 abbrev pub open_subscriptions : List (List ℕ) → List RawFrame → List (List ℕ × Topic)
 open_subscriptions names frames = if is_ended frames then [] else subscribed names frames
 
+-- the transactions that are open; none after a DISCONNECT
 abbrev pub open_transactions : List (List ℕ) → List RawFrame → List (List ℕ × List Send)
 open_transactions names frames = if is_ended frames then [] else begun names frames
 

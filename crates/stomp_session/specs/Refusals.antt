@@ -8,6 +8,7 @@ use Rattle.stomp_frame.specs.declared.command.Command.TheVariants as commands
 use Rattle.stomp_frame.specs.declared.frame.RawFrame.{RawFrame}
 use Rattle.stomp_frame.specs.Headers.{first_of}
 use Rattle.mcast_txn.specs.declared.send.Send.{Send}
+use Rattle.mcast_txn.specs.Draft.{max_sends}
 use Rattle.stomp_session.specs.declared.phase.Phase.{Phase}
 use Rattle.stomp_session.specs.declared.phase.Phase.TheVariants as phases
 use Rattle.stomp_session.specs.declared.fault.SessionFault.{SessionFault}
@@ -17,14 +18,16 @@ use Rattle.stomp_session.specs.Frames.{field, id_of, transaction_of}
 use Rattle.stomp_session.specs.Open.{Held}
 use Rattle.stomp_session.specs.Versions.{has_version}
 
--- so many subscriptions, and transactions, may be open in a connection, and so many SENDs stand in a transaction
+-- so many subscriptions, and so many transactions, may be open in a connection
 abbrev pub open_limit : ℕ
 open_limit = 64
 
+-- whether the session is closed
 abbrev pub is_closed : Phase → Bool
 is_closed phases.Closed = true
 is_closed _ = false
 
+-- whether no CONNECT came yet
 abbrev pub is_new : Phase → Bool
 is_new phases.New = true
 is_new _ = false
@@ -38,22 +41,29 @@ abbrev pub sends_in : List ℕ → List (List ℕ × List Send) → List Send
 sends_in x [] = []
 sends_in x (o ∷ others) = if bytes_eq x o.0 then o.1 else sends_in x others
 
+-- whether no more subscriptions, or no more transactions, may be open
 abbrev pub is_full : {X : Type 0} → List X → Bool
 is_full them = not (nat_lt (length them) open_limit)
+
+-- whether a transaction takes no more SENDs
+abbrev pub is_full_of_sends : List Send → Bool
+is_full_of_sends sends = not (nat_lt (length sends) max_sends)
 
 -- an ack of another mode than auto, which is the one where none is named (STOMP 1.2, "SUBSCRIBE ack Header")
 abbrev pub has_other_ack : RawFrame → Bool
 has_other_ack f = option_map_or (λ ack. not (bytes_eq ack (codes "auto"))) (first_of (codes "ack") f.headers) false
 
+-- a destination that is no topic's name
 abbrev pub has_unknown_destination : Held → RawFrame → Bool
 has_unknown_destination s f = not (is_known (field (codes "destination") f) s.names)
 
--- a SEND in a transaction that isn't open; one in a transaction that is full
+-- a SEND in a transaction that isn't open
 abbrev pub is_in_no_transaction : Held → RawFrame → Bool
 is_in_no_transaction s f = option_map_or (λ x. not (is_open x s.transactions)) (first_of (codes "transaction") f.headers) false
 
+-- a SEND in a transaction that is full
 abbrev pub is_in_full_transaction : Held → RawFrame → Bool
-is_in_full_transaction s f = option_map_or (λ x. is_full (sends_in x s.transactions)) (first_of (codes "transaction") f.headers) false
+is_in_full_transaction s f = option_map_or (λ x. is_full_of_sends (sends_in x s.transactions)) (first_of (codes "transaction") f.headers) false
 
 -- a refusal, and whether it stands
 abbrev pub Check : Type 0
@@ -69,15 +79,17 @@ checks_by commands.Commit s f = (not (is_open (transaction_of f) s.transactions)
 checks_by commands.Abort s f = (not (is_open (transaction_of f) s.transactions), NoSuchTxn) ∷ []
 checks_by _ s f = []
 
--- a CONNECT wants a session that isn't connected yet, and this version; any other frame one that is
+-- a CONNECT wants a session that isn't connected yet, and this version
 abbrev pub connect_checks : Held → RawFrame → List Check
 connect_checks s f = (not (is_new s.phase), AlreadyConnected) ∷ (not (has_version (codes "1.2") (field (codes "accept-version") f)), NoVersion) ∷ []
 
+-- any other frame wants a session that is connected
 abbrev pub open_checks : Command → Held → RawFrame → List Check
 open_checks commands.Connect s f = connect_checks s f
 open_checks commands.Stomp s f = connect_checks s f
 open_checks command s f = (is_new s.phase, NotConnected) ∷ checks_by command s f
 
+-- and each wants one that isn't closed
 abbrev pub checks : Held → RawFrame → List Check
 checks s f = (is_closed s.phase, Closed) ∷ open_checks f.command s f
 

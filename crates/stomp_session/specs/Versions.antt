@@ -3,11 +3,12 @@ use Rattle.std.specs.Prelude.{ℕ, Bool, ◌==◌, List, [], ◌∷◌, reverse,
 use Rattle.std.specs.List.{list_any, slice_split}
 use Rattle.std.specs.Str.{bytes_eq}
 
--- without the spaces at its front, and at both ends: spaces round a version are ignored (own)
+-- without the spaces at its front
 abbrev pub without_front_spaces : List ℕ → List ℕ
 without_front_spaces [] = []
 without_front_spaces (b ∷ text) = if b == 32 then without_front_spaces text else b ∷ text
 
+-- without the spaces at both ends: spaces round a version are ignored (own)
 abbrev pub trimmed : List ℕ → List ℕ
 trimmed text = reverse (without_front_spaces (reverse (without_front_spaces text)))
 

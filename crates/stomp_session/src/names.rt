@@ -54,7 +54,8 @@ impl Names {
         self.names.is_empty()
     }
 
-    /// Puts a name behind the others, where it isn't there yet. After `NoMemory` the names are what they were.
+    /// Puts a name behind the others, where it isn't there yet; a name which is there keeps its number. There must be fewer than
+    /// 2^32 names before. After `NoMemory` the names are what they were.
     pub fn add(&mut self, name: &[u8]) -> Result<(), NoMemory>
         requires { length self.old < 2 ^ 32 }
         ensures ok { OnOk result (self.new ≡ with_name name.now self.old) }
@@ -74,7 +75,7 @@ impl Names {
         Some(Topic(place as u32))
     }
 
-    /// The name of a topic, or `None` where there are no so many names.
+    /// The name of a topic, or `None` where there are fewer names.
     pub fn name(&self, topic: Topic) -> Option<&[u8]>
         ensures { option_map (λ name. name.now) result ≡ slice_get self.now topic.0 }
     {

@@ -1,16 +1,16 @@
 //! A connection's session.
 
-ghost use Rattle.std.specs.Prelude.{◌≡◌, ◌∷◌, [], ◌++◌, codes, List, Some, None, IfOk, IfErr, OnOk, OnErr};
+ghost use Rattle.std.specs.Prelude.{◌≡◌, ◌∷◌, [], ◌++◌, codes, List, Some, None, IfSome, IfOk, IfErr, OnOk, OnErr};
 ghost use Rattle.stomp_frame.specs.declared.command.Command.TheVariants as commands;
 ghost use Rattle.stomp_frame.specs.declared.frame.RawFrame.{RawFrame as Frame};
 ghost use Rattle.stomp_frame.specs.ClientFrames.{raw_of};
-ghost use Rattle.stomp_frame.specs.Headers.{first_of};
+ghost use Rattle.stomp_frame.specs.Headers.{IsText, first_of};
 ghost use Rattle.stomp_session.specs.declared.phase.Phase.TheVariants as phases;
 ghost use Rattle.stomp_session.specs.declared.fault.SessionFault.TheVariants as faults;
 ghost use Rattle.stomp_session.specs.Open.{closed, held_after, StandsFor};
 ghost use Rattle.stomp_session.specs.Refusals.{is_closed, is_new, first_fault, has_other_ack};
-ghost use Rattle.stomp_session.specs.Answers.{Accepts, Refuses};
-ghost use Rattle.stomp_session.specs.Effects.{Does, Denies, refusal_by};
+ghost use Rattle.stomp_session.specs.Answers.{Accepts, AreTexts, Refuses};
+ghost use Rattle.stomp_session.specs.Effects.{Does, Denies, effect, refusal_by};
 ghost use Rattle.stomp_session.specs.Frames.{topic_of};
 
 use crate::action::{Action, Step};
@@ -59,8 +59,10 @@ fn has_other_ack(frame: &RawFrame) -> bool
     }
 }
 
+// A copy of the receipt that a SEND asks for, whose headers go on whole.
 fn receipt(alloc: Global, headers: &Headers) -> Result<Option<Octets>, NoMemory>
-    ensures { IfOk result (λ receipt. receipt ≡ first_of (codes "receipt") headers.now) }
+    ensures value { IfOk result (λ receipt. receipt ≡ first_of (codes "receipt") headers.now) }
+    ensures text { IfOk result (λ receipt. IfSome receipt IsText) }
 {
     match headers.first(b"receipt") {
         Some(receipt) => Ok(Some(Octets::from_slice(alloc, receipt)?)),
@@ -116,7 +118,8 @@ impl Session {
 
     fn connected(&self) -> Result<(), SessionFault>
         ensures ok { OnOk result (self.now.phase ≡ phases.Connected) }
-        ensures err { IfErr result (λ fault. Some fault ≡ first_fault ((is_closed self.now.phase, faults.Closed) ∷ (is_new self.now.phase, faults.NotConnected) ∷ [])) }
+        ensures err { IfErr result (λ fault. Some fault ≡ first_fault
+            ((is_closed self.now.phase, faults.Closed) ∷ (is_new self.now.phase, faults.NotConnected) ∷ [])) }
     {
         match self.phase {
             Phase::New => Err(SessionFault::NotConnected),
@@ -125,18 +128,20 @@ impl Session {
         }
     }
 
-    fn connect(&mut self, frame: &ConnectFrame) -> Result<Step, SessionFault>
-        ensures accepted { IfOk result (λ step. Does commands.Connect self.old frame.now.raw step self.new) }
-        ensures refused { IfErr result (Denies commands.Connect self.old frame.now.raw) }
+    fn connect(&mut self, frame: ConnectFrame) -> Result<Step, (ConnectFrame, SessionFault)>
+        ensures accepted { IfOk result (λ step. Does commands.Connect self.old frame.raw step self.new) }
+        ensures texts { IfOk result AreTexts }
+        ensures refused { IfErr result (λ e. Denies commands.Connect self.old frame.raw e.1) }
+        ensures back { IfErr result (λ e. e.0 ≡ frame) }
         ensures names { self.new.names ≡ self.old.names }
     {
         match self.phase {
             Phase::New => {}
-            Phase::Connected => return Err(SessionFault::AlreadyConnected),
-            Phase::Closed => return Err(SessionFault::Closed),
+            Phase::Connected => return Err((frame, SessionFault::AlreadyConnected)),
+            Phase::Closed => return Err((frame, SessionFault::Closed)),
         }
         if !has_version(b"1.2", frame.accept_version()) {
-            return Err(SessionFault::NoVersion);
+            return Err((frame, SessionFault::NoVersion));
         }
         self.phase = Phase::Connected;
         Ok(Step {
@@ -145,8 +150,11 @@ impl Session {
         })
     }
 
-    fn subscribe(&mut self, frame: &SubscribeFrame) -> Result<Step, SessionFault>
-        ensures accepted { IfOk result (λ step. Does commands.Subscribe self.old frame.now.raw step self.new) }
+    // Opens the subscription of a SUBSCRIBE, where it's accepted: the topic that it goes to.
+    fn open(&mut self, frame: &SubscribeFrame) -> Result<Topic, SessionFault>
+        ensures accepted { OnOk result (refusal_by commands.Subscribe self.old frame.now.raw ≡ None) }
+        ensures topic { IfOk result (λ topic. topic ≡ topic_of self.old.names frame.now.raw) }
+        ensures held { OnOk result (self.new ≡ effect commands.Subscribe self.old frame.now.raw) }
         ensures refused { IfErr result (Denies commands.Subscribe self.old frame.now.raw) }
         ensures names { self.new.names ≡ self.old.names }
     {
@@ -164,98 +172,135 @@ impl Session {
         if self.subscriptions.is_full() {
             return Err(SessionFault::TooManySubs);
         }
-        let receipt = receipt(self.alloc, &frame.raw.headers)?;
-        let subscribed = Octets::from_slice(self.alloc, id)?;
         self.subscriptions.open(id, topic)?;
-        Ok(Step {
-            action: Action::Subscribe(subscribed, topic),
-            receipt,
-        })
+        Ok(topic)
     }
 
-    fn unsubscribe(&mut self, frame: &UnsubscribeFrame) -> Result<Step, SessionFault>
-        ensures accepted { IfOk result (λ step. Does commands.Unsubscribe self.old frame.now.raw step self.new) }
-        ensures refused { IfErr result (Denies commands.Unsubscribe self.old frame.now.raw) }
+    fn subscribe(&mut self, frame: SubscribeFrame) -> Result<Step, (SubscribeFrame, SessionFault)>
+        ensures accepted { IfOk result (λ step. Does commands.Subscribe self.old frame.raw step self.new) }
+        ensures texts { IfOk result AreTexts }
+        ensures refused { IfErr result (λ e. Denies commands.Subscribe self.old frame.raw e.1) }
+        ensures back { IfErr result (λ e. e.0 ≡ frame) }
         ensures names { self.new.names ≡ self.old.names }
     {
-        self.connected()?;
-        let id = frame.id();
-        if !self.subscriptions.close(id) {
-            return Err(SessionFault::NoSuchSub);
-        }
-        let receipt = receipt(self.alloc, &frame.raw.headers)?;
-        Ok(Step {
-            action: Action::Unsubscribe(Octets::from_slice(self.alloc, id)?),
-            receipt,
-        })
-    }
-
-    fn disconnect(&mut self, frame: &DisconnectFrame) -> Result<Step, SessionFault>
-        ensures accepted { IfOk result (λ step. Does commands.Disconnect self.old frame.now.raw step self.new) }
-        ensures refused { IfErr result (Denies commands.Disconnect self.old frame.now.raw) }
-        ensures names { self.new.names ≡ self.old.names }
-    {
-        self.connected()?;
-        let step = Step {
-            action: Action::Disconnect,
-            receipt: receipt(self.alloc, &frame.raw.headers)?,
+        let topic = match self.open(&frame) {
+            Ok(topic) => topic,
+            Err(fault) => return Err((frame, fault)),
         };
-        self.end();
-        Ok(step)
+        let mut raw = frame.raw;
+        let id = raw.headers.take(b"id").unwrap();
+        Ok(Step {
+            action: Action::Subscribe(id, topic),
+            receipt: raw.headers.take(b"receipt"),
+        })
     }
 
-    fn begin(&mut self, frame: &BeginFrame) -> Result<Step, SessionFault>
-        ensures accepted { IfOk result (λ step. Does commands.Begin self.old frame.now.raw step self.new) }
-        ensures refused { IfErr result (Denies commands.Begin self.old frame.now.raw) }
+    fn unsubscribe(&mut self, frame: UnsubscribeFrame) -> Result<Step, (UnsubscribeFrame, SessionFault)>
+        ensures accepted { IfOk result (λ step. Does commands.Unsubscribe self.old frame.raw step self.new) }
+        ensures texts { IfOk result AreTexts }
+        ensures refused { IfErr result (λ e. Denies commands.Unsubscribe self.old frame.raw e.1) }
+        ensures back { IfErr result (λ e. e.0 ≡ frame) }
         ensures names { self.new.names ≡ self.old.names }
     {
-        self.connected()?;
+        if let Err(fault) = self.connected() {
+            return Err((frame, fault));
+        }
+        if !self.subscriptions.close(frame.id()) {
+            return Err((frame, SessionFault::NoSuchSub));
+        }
+        let mut raw = frame.raw;
+        let id = raw.headers.take(b"id").unwrap();
+        Ok(Step {
+            action: Action::Unsubscribe(id),
+            receipt: raw.headers.take(b"receipt"),
+        })
+    }
+
+    fn disconnect(&mut self, frame: DisconnectFrame) -> Result<Step, (DisconnectFrame, SessionFault)>
+        ensures accepted { IfOk result (λ step. Does commands.Disconnect self.old frame.raw step self.new) }
+        ensures texts { IfOk result AreTexts }
+        ensures refused { IfErr result (λ e. Denies commands.Disconnect self.old frame.raw e.1) }
+        ensures back { IfErr result (λ e. e.0 ≡ frame) }
+        ensures names { self.new.names ≡ self.old.names }
+    {
+        if let Err(fault) = self.connected() {
+            return Err((frame, fault));
+        }
+        self.end();
+        let mut raw = frame.raw;
+        Ok(Step {
+            action: Action::Disconnect,
+            receipt: raw.headers.take(b"receipt"),
+        })
+    }
+
+    fn begin(&mut self, frame: BeginFrame) -> Result<Step, (BeginFrame, SessionFault)>
+        ensures accepted { IfOk result (λ step. Does commands.Begin self.old frame.raw step self.new) }
+        ensures texts { IfOk result AreTexts }
+        ensures refused { IfErr result (λ e. Denies commands.Begin self.old frame.raw e.1) }
+        ensures back { IfErr result (λ e. e.0 ≡ frame) }
+        ensures names { self.new.names ≡ self.old.names }
+    {
+        if let Err(fault) = self.connected() {
+            return Err((frame, fault));
+        }
         let name = frame.transaction();
         if self.transactions.is_open(name) {
-            return Err(SessionFault::TxnInUse);
+            return Err((frame, SessionFault::TxnInUse));
         }
         if self.transactions.is_full() {
-            return Err(SessionFault::TooManyTxns);
+            return Err((frame, SessionFault::TooManyTxns));
         }
-        let receipt = receipt(self.alloc, &frame.raw.headers)?;
-        self.transactions.begin(name)?;
+        if self.transactions.begin(name).is_err() {
+            return Err((frame, SessionFault::NoMemory));
+        }
+        let mut raw = frame.raw;
         Ok(Step {
             action: Action::Nothing,
-            receipt,
+            receipt: raw.headers.take(b"receipt"),
         })
     }
 
-    fn commit(&mut self, frame: &CommitFrame) -> Result<Step, SessionFault>
-        ensures accepted { IfOk result (λ step. Does commands.Commit self.old frame.now.raw step self.new) }
-        ensures refused { IfErr result (Denies commands.Commit self.old frame.now.raw) }
+    fn commit(&mut self, frame: CommitFrame) -> Result<Step, (CommitFrame, SessionFault)>
+        ensures accepted { IfOk result (λ step. Does commands.Commit self.old frame.raw step self.new) }
+        ensures texts { IfOk result AreTexts }
+        ensures refused { IfErr result (λ e. Denies commands.Commit self.old frame.raw e.1) }
+        ensures back { IfErr result (λ e. e.0 ≡ frame) }
         ensures names { self.new.names ≡ self.old.names }
     {
-        self.connected()?;
+        if let Err(fault) = self.connected() {
+            return Err((frame, fault));
+        }
         let Some(draft) = self.transactions.take(frame.transaction()) else {
-            return Err(SessionFault::NoSuchTxn);
+            return Err((frame, SessionFault::NoSuchTxn));
         };
-        let receipt = receipt(self.alloc, &frame.raw.headers)?;
         let action = match draft.seal() {
             Ok(Some(txn)) => Action::Commit(txn),
             Ok(None) => Action::Nothing,
-            Err((_, NoMemory)) => return Err(SessionFault::NoMemory),
+            Err((_, NoMemory)) => return Err((frame, SessionFault::NoMemory)),
         };
+        let mut raw = frame.raw;
+        let receipt = raw.headers.take(b"receipt");
         Ok(Step { action, receipt })
     }
 
-    fn abort(&mut self, frame: &AbortFrame) -> Result<Step, SessionFault>
-        ensures accepted { IfOk result (λ step. Does commands.Abort self.old frame.now.raw step self.new) }
-        ensures refused { IfErr result (Denies commands.Abort self.old frame.now.raw) }
+    fn abort(&mut self, frame: AbortFrame) -> Result<Step, (AbortFrame, SessionFault)>
+        ensures accepted { IfOk result (λ step. Does commands.Abort self.old frame.raw step self.new) }
+        ensures texts { IfOk result AreTexts }
+        ensures refused { IfErr result (λ e. Denies commands.Abort self.old frame.raw e.1) }
+        ensures back { IfErr result (λ e. e.0 ≡ frame) }
         ensures names { self.new.names ≡ self.old.names }
     {
-        self.connected()?;
-        if self.transactions.take(frame.transaction()).is_none() {
-            return Err(SessionFault::NoSuchTxn);
+        if let Err(fault) = self.connected() {
+            return Err((frame, fault));
         }
-        let receipt = receipt(self.alloc, &frame.raw.headers)?;
+        if self.transactions.take(frame.transaction()).is_none() {
+            return Err((frame, SessionFault::NoSuchTxn));
+        }
+        let mut raw = frame.raw;
         Ok(Step {
             action: Action::Nothing,
-            receipt,
+            receipt: raw.headers.take(b"receipt"),
         })
     }
 
@@ -264,6 +309,7 @@ impl Session {
         ensures accepted { OnOk result (refusal_by commands.Send self.now frame.now.raw ≡ None) }
         ensures topic { IfOk result (λ sent. sent.0 ≡ topic_of self.now.names frame.now.raw) }
         ensures receipt { IfOk result (λ sent. sent.1 ≡ first_of (codes "receipt") frame.now.raw.headers) }
+        ensures text { IfOk result (λ sent. IfSome sent.1 IsText) }
         ensures refused { IfErr result (Denies commands.Send self.now frame.now.raw) }
     {
         self.connected()?;
@@ -279,6 +325,7 @@ impl Session {
 
     fn send(&mut self, frame: SendFrame) -> Result<Step, (SendFrame, SessionFault)>
         ensures accepted { IfOk result (λ step. Does commands.Send self.old frame.raw step self.new) }
+        ensures texts { IfOk result AreTexts }
         ensures refused { IfErr result (λ e. Denies commands.Send self.old frame.raw e.1) }
         ensures back { IfErr result (λ e. e.0 ≡ frame) }
         ensures names { self.new.names ≡ self.old.names }
@@ -321,11 +368,14 @@ impl Session {
     /// Takes a frame: what the connection has to do for it, or the first of its refusals, with the frame handed back.
     ///
     /// 73 where the session is closed. A CONNECT is refused by 61 and 62, any other frame before it by 60. SUBSCRIBE: 68, 67, 63, 69.
-    /// UNSUBSCRIBE: 64. BEGIN: 65, 70. SEND: 67, 66, 71. COMMIT and ABORT: 66. Want of memory, 72, comes last. Each refusal but 73 closes
-    /// the session, as DISCONNECT does: its open subscriptions end, and its open transactions are aborted.
+    /// UNSUBSCRIBE: 64. BEGIN: 65, 70. SEND: 67, 66, 71. COMMIT and ABORT: 66. Want of memory, 72, comes last, and only at CONNECT (and
+    /// STOMP), SUBSCRIBE, BEGIN, SEND and COMMIT. Each refusal but 73 closes the session, as DISCONNECT does: its open subscriptions
+    /// end, and its open transactions are aborted.
     pub fn step(&mut self, frame: ClientFrame) -> Result<Step, (ClientFrame, SessionFault)>
         ensures accepted { IfOk result (λ step. (frames : List Frame) → StandsFor self.old frames
-            → Accepts (held_after self.old.names frames) (raw_of frame) step × StandsFor self.new (frames ++ raw_of frame ∷ [])) }
+            → Accepts (held_after self.old.names frames) (raw_of frame) step
+                × StandsFor self.new (frames ++ raw_of frame ∷ [])) }
+        ensures texts { IfOk result AreTexts }
         ensures refused { IfErr result (λ e. (frames : List Frame) → StandsFor self.old frames
             → Refuses (held_after self.old.names frames) (raw_of frame) e.1) }
         ensures back { IfErr result (λ e. e.0 ≡ frame) }
@@ -335,15 +385,11 @@ impl Session {
         ensures names { self.new.names ≡ self.old.names }
     {
         macro_rules! steps {
-            (lent { $($case:ident => $method:ident;)* } moved { $($owned:ident => $owner:ident;)* }) => {
+            ($($case:ident => $method:ident;)*) => {
                 match frame {
-                    $(ClientFrame::$case(frame) => match self.$method(&frame) {
+                    $(ClientFrame::$case(frame) => match self.$method(frame) {
                         Ok(step) => Ok(step),
-                        Err(fault) => self.refused(ClientFrame::$case(frame), fault),
-                    },)*
-                    $(ClientFrame::$owned(frame) => match self.$owner(frame) {
-                        Ok(step) => Ok(step),
-                        Err((frame, fault)) => self.refused(ClientFrame::$owned(frame), fault),
+                        Err((frame, fault)) => self.refused(ClientFrame::$case(frame), fault),
                     },)*
                 }
             };
@@ -352,18 +398,14 @@ impl Session {
             return Err((frame, SessionFault::Closed));
         }
         steps! {
-            lent {
-                Connect => connect;
-                Subscribe => subscribe;
-                Unsubscribe => unsubscribe;
-                Begin => begin;
-                Commit => commit;
-                Abort => abort;
-                Disconnect => disconnect;
-            }
-            moved {
-                Send => send;
-            }
+            Connect => connect;
+            Subscribe => subscribe;
+            Unsubscribe => unsubscribe;
+            Begin => begin;
+            Send => send;
+            Commit => commit;
+            Abort => abort;
+            Disconnect => disconnect;
         }
     }
 }

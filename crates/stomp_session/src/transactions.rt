@@ -3,7 +3,7 @@
 ghost use Rattle.std.specs.Prelude.{◌≡◌, true, false, not, [], ◌∷◌, ◌++◌, Some, codes, is_some, IsSomeAnd, IfSome, IfErr, OnOk};
 ghost use Rattle.std.specs.Option.{option_map_or};
 ghost use Rattle.stomp_frame.specs.Headers.{first_of};
-ghost use Rattle.stomp_session.specs.Refusals.{is_open, is_full, sends_in, first_fault};
+ghost use Rattle.stomp_session.specs.Refusals.{is_open, is_full, is_full_of_sends, sends_in, first_fault};
 ghost use Rattle.stomp_session.specs.Effects.{without, with_send};
 ghost use Rattle.stomp_session.specs.declared.fault.SessionFault.TheVariants.{NoSuchTxn, TooManySends};
 
@@ -70,9 +70,11 @@ impl Transactions {
 
     /// Whether the one of this name takes one more SEND: 66 where it isn't open, 71 where it has 64.
     pub(crate) fn takes_send(&self, name: &[u8]) -> Result<(), SessionFault>
-        ensures ok { OnOk result ((is_open name.now self.now ≡ true) × (is_full (sends_in name.now self.now) ≡ false)) }
+        ensures ok { OnOk result ((is_open name.now self.now ≡ true)
+            × (is_full_of_sends (sends_in name.now self.now) ≡ false)) }
         ensures err { IfErr result (λ fault. Some fault ≡ first_fault
-            ((not (is_open name.now self.now), NoSuchTxn) ∷ (is_full (sends_in name.now self.now), TooManySends) ∷ [])) }
+            ((not (is_open name.now self.now), NoSuchTxn)
+                ∷ (is_full_of_sends (sends_in name.now self.now), TooManySends) ∷ [])) }
     {
         let Some(draft) = self.drafts.get(name) else {
             return Err(SessionFault::NoSuchTxn);
@@ -85,9 +87,11 @@ impl Transactions {
 
     /// Puts a SEND behind the others of the transaction that it names, or hands it back for want of memory.
     pub(crate) fn send(&mut self, frame: SendFrame, topic: Topic) -> Result<(), SendFrame>
-        requires { IsSomeAnd (first_of (codes "transaction") frame.raw.headers) (λ name. is_open name self.old ≡ true) }
+        requires { IsSomeAnd (first_of (codes "transaction") frame.raw.headers)
+            (λ name. is_open name self.old ≡ true) }
         ensures ok { OnOk result (self.new ≡ option_map_or
-            (λ name. with_send name (record { topic = topic; headers = frame.raw.headers; body = frame.raw.body }) self.old)
+            (λ name. with_send name
+                (record { topic = topic; headers = frame.raw.headers; body = frame.raw.body }) self.old)
             (first_of (codes "transaction") frame.raw.headers) self.old) }
         ensures back { IfErr result (λ refused. refused ≡ frame) }
     {

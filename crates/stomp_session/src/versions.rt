@@ -24,8 +24,8 @@ fn trimmed(text: &[u8]) -> &[u8]
     text
 }
 
-/// Whether the version is among those of an accept-version header, which commas part; spaces round one are
-/// ignored (STOMP 1.2, "Protocol Negotiation").
+/// Whether the version is among those of an accept-version header, which commas part (STOMP 1.2,
+/// "Protocol Negotiation"); that spaces round one are ignored is (own).
 pub(crate) fn has_version(version: &[u8], text: &[u8]) -> bool
     ensures { result ≡ has_version version.now text.now }
 {
