@@ -2,6 +2,8 @@
 #![tactic(auto)]
 
 pub mod law;
+mod plain;
 mod refusal;
 
+pub use plain::{agreed, CommitRow};
 pub use refusal::Refusal;
