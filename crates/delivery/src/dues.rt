@@ -42,7 +42,14 @@ fn part(alloc: Global, topic: Topic, mut sends: Vec<Send>) -> Result<Vec<PartSen
             };
             let headers = send.headers;
             let body = send.body;
-            part.insert(0, PartSend { index, headers, body })?;
+            part.insert(
+                0,
+                PartSend {
+                    index,
+                    headers,
+                    body,
+                },
+            )?;
         }
     }
     Ok(part)
@@ -52,7 +59,11 @@ fn item(alloc: Global, topic: Topic, row: CommitRow) -> Result<QueueItem, NoMemo
     ensures { IfOk result (λ item. item ≡ item_at topic row) }
 {
     let sends = part(alloc, topic, row.sends)?;
-    Ok(QueueItem { id: row.id, stamp: row.stamp, sends })
+    Ok(QueueItem {
+        id: row.id,
+        stamp: row.stamp,
+        sends,
+    })
 }
 
 fn has_send(topic: Topic, sends: &[Send]) -> bool

@@ -7,5 +7,8 @@ mod plain;
 mod refusal;
 
 pub use dues::{QueueItem, due};
-pub use plain::{agreed, CommitRow};
+pub use plain::{CommitRow, agreed};
 pub use refusal::Refusal;
+
+#[cfg(test)]
+mod tests;
