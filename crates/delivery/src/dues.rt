@@ -1,0 +1,123 @@
+//! What is due to a subscription by a plain, slow program, to be tried on small inputs.
+
+ghost use Rattle.std.specs.Prelude.{◌≡◌, ◌==◌, IfOk};
+ghost use Rattle.std.specs.List.{list_any};
+ghost use Rattle.mcast_txn.specs.Transaction.{topics_of, part_of};
+ghost use Rattle.mcast_txn.specs.Agreed.{names};
+ghost use Rattle.mcast_group.specs.Span.{in_span, up_to};
+ghost use Rattle.delivery.specs.Due.{due, is_due, item_at};
+
+use crate::plain::{CommitRow, agreed};
+use mcast_txn::{NoMemory, PartSend, Send, Stamp, Topic, TxnId};
+use std::alloc::Global;
+use std::marker::Model;
+
+/// An item of a subscription's queue: a transaction, its stamp, and its part at the topic.
+#[derive(Drop)]
+pub struct QueueItem {
+    pub id: TxnId,
+    pub stamp: Stamp,
+    pub sends: Vec<PartSend>,
+}
+
+impl Model for QueueItem {
+    ghost use Rattle.mcast_group.specs.Span.{Item};
+
+    ghost Value = { Item };
+
+    ghost view = { λ i. record { id = i.id; stamp = i.stamp; sends = i.sends.items } };
+}
+
+/// The SENDs to the topic, each with its index in the whole transaction, which has fewer than 2^32: else
+/// want of memory is answered.
+#[tactic(auto, using(crate::proofs::Parts::part_taken, crate::proofs::Parts::part_passed))]
+fn part(alloc: Global, topic: Topic, mut sends: Vec<Send>) -> Result<Vec<PartSend>, NoMemory>
+    ensures { IfOk result (λ part. part.items ≡ part_of topic sends.items) }
+{
+    let mut part = Vec::new(alloc);
+    while let Some(send) = sends.pop() {
+        if send.topic.0 == topic.0 {
+            let Ok(index) = u32::try_from(sends.len()) else {
+                return Err(NoMemory);
+            };
+            let headers = send.headers;
+            let body = send.body;
+            part.insert(
+                0,
+                PartSend {
+                    index,
+                    headers,
+                    body,
+                },
+            )?;
+        }
+    }
+    Ok(part)
+}
+
+fn item(alloc: Global, topic: Topic, row: CommitRow) -> Result<QueueItem, NoMemory>
+    ensures { IfOk result (λ item. item ≡ item_at topic row) }
+{
+    let sends = part(alloc, topic, row.sends)?;
+    Ok(QueueItem {
+        id: row.id,
+        stamp: row.stamp,
+        sends,
+    })
+}
+
+fn has_send(topic: Topic, sends: &[Send]) -> bool
+    ensures { result ≡ list_any (λ send. send.topic.0 == topic.0) sends.now }
+{
+    sends.iter().any(|send| send.topic.0 == topic.0)
+}
+
+fn names(topic: Topic, sends: &[Send]) -> bool
+    ensures { result ≡ names topic (topics_of sends.now) }
+{
+    has_send(topic, sends)
+}
+
+fn is_up_to(to: Option<Stamp>, stamp: Stamp) -> bool
+    ensures { result ≡ up_to to stamp }
+{
+    match to {
+        None => true,
+        Some(end) => !end.is_before(stamp),
+    }
+}
+
+fn is_within(from: Stamp, to: Option<Stamp>, stamp: Stamp) -> bool
+    ensures { result ≡ in_span from to stamp }
+{
+    from.is_before(stamp) && is_up_to(to, stamp)
+}
+
+fn is_due(topic: Topic, from: Stamp, to: Option<Stamp>, frontier: Stamp, row: &CommitRow) -> bool
+    ensures { result ≡ is_due (record { topic = topic; from = from; to = to }) frontier row.now }
+{
+    names(topic, &row.sends) && is_within(from, to, row.stamp) && !frontier.is_before(row.stamp)
+}
+
+/// What is due to a span up to a frontier, of these committed transactions: each as one item, in the agreed order.
+#[tactic(auto, using(crate::proofs::Parts::filter_taken, crate::proofs::Parts::filter_passed))]
+pub fn due(
+    alloc: Global,
+    rows: Vec<CommitRow>,
+    topic: Topic,
+    from: Stamp,
+    to: Option<Stamp>,
+    frontier: Stamp,
+) -> Result<Vec<QueueItem>, NoMemory>
+    ensures { IfOk result (λ items.
+        items.items ≡ due rows.items (record { topic = topic; from = from; to = to }) frontier) }
+{
+    let mut sorted = agreed(alloc, rows)?;
+    let mut items = Vec::new(alloc);
+    while let Some(row) = sorted.pop() {
+        if is_due(topic, from, to, frontier, &row) {
+            items.insert(0, item(alloc, topic, row)?)?;
+        }
+    }
+    Ok(items)
+}
