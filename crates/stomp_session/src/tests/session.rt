@@ -4,7 +4,7 @@ use super::client::{Client, has};
 use crate::{Action, SessionFault, Step};
 use mcast_txn::Topic;
 use std::test::Fail;
-use stomp_frame::Command;
+use stomp_frame::{Command, Octets, ServerFrame, render, write_frame};
 
 #[test]
 fn a_connect_comes_first_and_once(rt: HostRuntime) -> Result<(), Fail> {
@@ -126,5 +126,20 @@ fn an_end_from_outside_closes(rt: HostRuntime) -> Result<(), Fail> {
     client.end();
     assert_eq!(rt; client.subscribe(b"a", b"A")?, 73);
     assert_eq!(rt; SessionFault::NoMemory.number(), 72);
+    Ok(())
+}
+
+#[test]
+fn a_receipt_is_written(rt: HostRuntime) -> Result<(), Fail> {
+    let alloc = rt.alloc();
+    let mut client = Client::connected(alloc)?;
+    let id = client.receipt(
+        Command::Subscribe,
+        &[(b"id", b"s"), (b"destination", b"A"), (b"receipt", b"r")],
+    )?;
+    let frame = render(alloc, &ServerFrame::Receipt { id })?;
+    let mut out = Octets::new(alloc);
+    write_frame(&frame, &mut out)?;
+    assert!(rt; out.as_slice() == b"RECEIPT\nreceipt-id:r\n\n\0".as_slice());
     Ok(())
 }
