@@ -198,7 +198,10 @@ impl Session {
         })
     }
 
-    fn unsubscribe(&mut self, frame: UnsubscribeFrame) -> Result<Step, (UnsubscribeFrame, SessionFault)>
+    fn unsubscribe(
+        &mut self,
+        frame: UnsubscribeFrame,
+    ) -> Result<Step, (UnsubscribeFrame, SessionFault)>
         ensures accepted { IfOk result
             (λ step. Does commands.Unsubscribe self.old frame.raw step self.new) }
         ensures texts { IfOk result AreTexts }
@@ -220,7 +223,10 @@ impl Session {
         })
     }
 
-    fn disconnect(&mut self, frame: DisconnectFrame) -> Result<Step, (DisconnectFrame, SessionFault)>
+    fn disconnect(
+        &mut self,
+        frame: DisconnectFrame,
+    ) -> Result<Step, (DisconnectFrame, SessionFault)>
         ensures accepted { IfOk result
             (λ step. Does commands.Disconnect self.old frame.raw step self.new) }
         ensures texts { IfOk result AreTexts }
@@ -383,7 +389,7 @@ impl Session {
     pub fn step(&mut self, frame: ClientFrame) -> Result<Step, (ClientFrame, SessionFault)>
         ensures accepted { IfOk result (λ step. (frames : List Frame) → StandsFor self.old frames
             → Accepts (held_after self.old.names frames) (raw_of frame) step
-                × StandsFor self.new (frames ++ raw_of frame ∷ [])) }
+            × StandsFor self.new (frames ++ raw_of frame ∷ [])) }
         ensures texts { IfOk result AreTexts }
         ensures refused { IfErr result (λ e. (frames : List Frame) → StandsFor self.old frames
             → Refuses (held_after self.old.names frames) (raw_of frame) e.1) }
