@@ -27,7 +27,7 @@ abbrev pub optional : List ℕ → Option (List ℕ) → List Header
 optional name value = option_map_or (λ v. (name, v) ∷ []) value []
 
 -- The headers of a MESSAGE, of a SEND with these headers and a body of so many octets (STOMP 1.2, "MESSAGE"):
--- its own, and those of the SEND but for those that are kept back.
+-- its own, and those of the SEND but for those that are kept back. That destination is left out where the SEND has none is (own).
 abbrev pub message_headers : List ℕ → List ℕ → List Header → ℕ → List Header
 message_headers subscription id sent size = (codes "subscription", subscription) ∷ (codes "message-id", id) ∷ (optional (codes "destination") (first_of (codes "destination") sent) ++ (codes "content-length", decimal size) ∷ first_entries kept_back sent)
 
@@ -48,6 +48,7 @@ error_frame message receipt version = record { command = commands.Error; headers
 abbrev pub connected_headers : List Header
 connected_headers = (codes "version", codes "1.2") ∷ (codes "heart-beat", codes "0,0") ∷ []
 
+-- a CONNECTED, which has no body
 abbrev pub connected_frame : RawFrame
 connected_frame = record { command = commands.Connected; headers = connected_headers; body = [] }
 

@@ -89,9 +89,7 @@ impl Headers {
     fn place(&self, name: &[u8]) -> Option<usize>
         ensures { result ≡ position (λ h. bytes_eq h.0 name.now) self.now }
     {
-        self.pairs
-            .iter()
-            .position(|pair| pair.0.as_slice() == name)
+        self.pairs.iter().position(|pair| pair.0.as_slice() == name)
     }
 
     /// Takes out the first header of this name, and gives its value, or `None` where there is none

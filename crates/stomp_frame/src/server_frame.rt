@@ -58,8 +58,8 @@ fn empty(alloc: Global) -> Result<Octets, NoMemory>
 /// The raw frame of a server's frame (STOMP 1.2, "Server Frames"), which can be written. A MESSAGE has
 /// subscription, message-id (the numbers of the stamp, of its topic and of the index, with dots
 /// between them), the SEND's first destination where it has one, content-length, and then the first
-/// entry of each other header of the SEND, without transaction, receipt and ack. An ERROR has message, receipt-id and version where there are such,
-/// and content-length 0.
+/// entry of each other header of the SEND, without transaction, receipt and ack. An ERROR has message,
+/// receipt-id and version where there are such, and content-length 0.
 pub fn render(alloc: Global, frame: &ServerFrame) -> Result<RawFrame, NoMemory>
     requires { IsRenderable frame.now }
     ensures value { IfOk result (λ f. f ≡ rendered frame.now) }

@@ -107,7 +107,8 @@ impl Session {
         }
     }
 
-    /// Closes it for a cause from outside: its open subscriptions end, and its open transactions are aborted. It takes no memory.
+    /// Closes it for a cause from outside: its open subscriptions end, and its open transactions are
+    /// aborted. It takes no memory.
     pub fn end(&mut self)
         ensures { self.new ≡ closed self.old }
     {
@@ -129,7 +130,8 @@ impl Session {
     }
 
     fn connect(&mut self, frame: ConnectFrame) -> Result<Step, (ConnectFrame, SessionFault)>
-        ensures accepted { IfOk result (λ step. Does commands.Connect self.old frame.raw step self.new) }
+        ensures accepted { IfOk result
+            (λ step. Does commands.Connect self.old frame.raw step self.new) }
         ensures texts { IfOk result AreTexts }
         ensures refused { IfErr result (λ e. Denies commands.Connect self.old frame.raw e.1) }
         ensures back { IfErr result (λ e. e.0 ≡ frame) }
@@ -177,7 +179,8 @@ impl Session {
     }
 
     fn subscribe(&mut self, frame: SubscribeFrame) -> Result<Step, (SubscribeFrame, SessionFault)>
-        ensures accepted { IfOk result (λ step. Does commands.Subscribe self.old frame.raw step self.new) }
+        ensures accepted { IfOk result
+            (λ step. Does commands.Subscribe self.old frame.raw step self.new) }
         ensures texts { IfOk result AreTexts }
         ensures refused { IfErr result (λ e. Denies commands.Subscribe self.old frame.raw e.1) }
         ensures back { IfErr result (λ e. e.0 ≡ frame) }
@@ -195,8 +198,12 @@ impl Session {
         })
     }
 
-    fn unsubscribe(&mut self, frame: UnsubscribeFrame) -> Result<Step, (UnsubscribeFrame, SessionFault)>
-        ensures accepted { IfOk result (λ step. Does commands.Unsubscribe self.old frame.raw step self.new) }
+    fn unsubscribe(
+        &mut self,
+        frame: UnsubscribeFrame,
+    ) -> Result<Step, (UnsubscribeFrame, SessionFault)>
+        ensures accepted { IfOk result
+            (λ step. Does commands.Unsubscribe self.old frame.raw step self.new) }
         ensures texts { IfOk result AreTexts }
         ensures refused { IfErr result (λ e. Denies commands.Unsubscribe self.old frame.raw e.1) }
         ensures back { IfErr result (λ e. e.0 ≡ frame) }
@@ -216,8 +223,12 @@ impl Session {
         })
     }
 
-    fn disconnect(&mut self, frame: DisconnectFrame) -> Result<Step, (DisconnectFrame, SessionFault)>
-        ensures accepted { IfOk result (λ step. Does commands.Disconnect self.old frame.raw step self.new) }
+    fn disconnect(
+        &mut self,
+        frame: DisconnectFrame,
+    ) -> Result<Step, (DisconnectFrame, SessionFault)>
+        ensures accepted { IfOk result
+            (λ step. Does commands.Disconnect self.old frame.raw step self.new) }
         ensures texts { IfOk result AreTexts }
         ensures refused { IfErr result (λ e. Denies commands.Disconnect self.old frame.raw e.1) }
         ensures back { IfErr result (λ e. e.0 ≡ frame) }
@@ -235,7 +246,8 @@ impl Session {
     }
 
     fn begin(&mut self, frame: BeginFrame) -> Result<Step, (BeginFrame, SessionFault)>
-        ensures accepted { IfOk result (λ step. Does commands.Begin self.old frame.raw step self.new) }
+        ensures accepted { IfOk result
+            (λ step. Does commands.Begin self.old frame.raw step self.new) }
         ensures texts { IfOk result AreTexts }
         ensures refused { IfErr result (λ e. Denies commands.Begin self.old frame.raw e.1) }
         ensures back { IfErr result (λ e. e.0 ≡ frame) }
@@ -262,7 +274,8 @@ impl Session {
     }
 
     fn commit(&mut self, frame: CommitFrame) -> Result<Step, (CommitFrame, SessionFault)>
-        ensures accepted { IfOk result (λ step. Does commands.Commit self.old frame.raw step self.new) }
+        ensures accepted { IfOk result
+            (λ step. Does commands.Commit self.old frame.raw step self.new) }
         ensures texts { IfOk result AreTexts }
         ensures refused { IfErr result (λ e. Denies commands.Commit self.old frame.raw e.1) }
         ensures back { IfErr result (λ e. e.0 ≡ frame) }
@@ -285,7 +298,8 @@ impl Session {
     }
 
     fn abort(&mut self, frame: AbortFrame) -> Result<Step, (AbortFrame, SessionFault)>
-        ensures accepted { IfOk result (λ step. Does commands.Abort self.old frame.raw step self.new) }
+        ensures accepted { IfOk result
+            (λ step. Does commands.Abort self.old frame.raw step self.new) }
         ensures texts { IfOk result AreTexts }
         ensures refused { IfErr result (λ e. Denies commands.Abort self.old frame.raw e.1) }
         ensures back { IfErr result (λ e. e.0 ≡ frame) }
@@ -324,7 +338,8 @@ impl Session {
     }
 
     fn send(&mut self, frame: SendFrame) -> Result<Step, (SendFrame, SessionFault)>
-        ensures accepted { IfOk result (λ step. Does commands.Send self.old frame.raw step self.new) }
+        ensures accepted { IfOk result
+            (λ step. Does commands.Send self.old frame.raw step self.new) }
         ensures texts { IfOk result AreTexts }
         ensures refused { IfErr result (λ e. Denies commands.Send self.old frame.raw e.1) }
         ensures back { IfErr result (λ e. e.0 ≡ frame) }
@@ -374,7 +389,7 @@ impl Session {
     pub fn step(&mut self, frame: ClientFrame) -> Result<Step, (ClientFrame, SessionFault)>
         ensures accepted { IfOk result (λ step. (frames : List Frame) → StandsFor self.old frames
             → Accepts (held_after self.old.names frames) (raw_of frame) step
-                × StandsFor self.new (frames ++ raw_of frame ∷ [])) }
+            × StandsFor self.new (frames ++ raw_of frame ∷ [])) }
         ensures texts { IfOk result AreTexts }
         ensures refused { IfErr result (λ e. (frames : List Frame) → StandsFor self.old frames
             → Refuses (held_after self.old.names frames) (raw_of frame) e.1) }

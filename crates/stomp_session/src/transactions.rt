@@ -74,7 +74,7 @@ impl Transactions {
             × (is_full_of_sends (sends_in name.now self.now) ≡ false)) }
         ensures err { IfErr result (λ fault. Some fault ≡ first_fault
             ((not (is_open name.now self.now), NoSuchTxn)
-                ∷ (is_full_of_sends (sends_in name.now self.now), TooManySends) ∷ [])) }
+            ∷ (is_full_of_sends (sends_in name.now self.now), TooManySends) ∷ [])) }
     {
         let Some(draft) = self.drafts.get(name) else {
             return Err(SessionFault::NoSuchTxn);
@@ -91,7 +91,7 @@ impl Transactions {
             (λ name. is_open name self.old ≡ true) }
         ensures ok { OnOk result (self.new ≡ option_map_or
             (λ name. with_send name
-                (record { topic = topic; headers = frame.raw.headers; body = frame.raw.body }) self.old)
+            (record { topic = topic; headers = frame.raw.headers; body = frame.raw.body }) self.old)
             (first_of (codes "transaction") frame.raw.headers) self.old) }
         ensures back { IfErr result (λ refused. refused ≡ frame) }
     {

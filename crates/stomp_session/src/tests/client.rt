@@ -127,6 +127,21 @@ impl Client {
         }
     }
 
+    /// The receipt of an accepted frame that asks for one.
+    pub(super) fn receipt(&mut self, command: Command, pairs: Pairs) -> Result<Octets, Fail>
+        ensures { IfOk result (λ receipt. IsText receipt) }
+    {
+        let frame = frame(self.alloc, command, pairs)?;
+        let Ok(step) = self.session.step(frame) else {
+            return Err(Fail::new("the frame is refused"));
+        };
+        let Step { action: _, receipt } = step;
+        match receipt {
+            Some(receipt) => Ok(receipt),
+            None => Err(Fail::new("no receipt")),
+        }
+    }
+
     pub(super) fn tell(&mut self, command: Command, pairs: Pairs) -> Result<u32, NoMemory> {
         Ok(number(&self.answer(command, pairs)?))
     }

@@ -3,7 +3,7 @@
 use super::client::{Client, has, last_number};
 use crate::{Action, Step};
 use std::test::Fail;
-use stomp_frame::Command;
+use stomp_frame::{Command, Octets, ServerFrame, render, write_frame};
 
 /// Scripts, each with the number that its last frame is answered: 0 where it's accepted.
 const ROWS: [(&[u8], u32); 22] = [
@@ -139,5 +139,20 @@ fn a_stomp_has_none(rt: HostRuntime) -> Result<(), Fail> {
     )?;
     assert!(rt; matches!(&action, Action::Connected));
     assert!(rt; receipt.is_none());
+    Ok(())
+}
+
+#[test]
+fn a_receipt_is_written(rt: HostRuntime) -> Result<(), Fail> {
+    let alloc = rt.alloc();
+    let mut client = Client::connected(alloc)?;
+    let id = client.receipt(
+        Command::Subscribe,
+        &[(b"id", b"s"), (b"destination", b"A"), (b"receipt", b"r")],
+    )?;
+    let frame = render(alloc, &ServerFrame::Receipt { id })?;
+    let mut out = Octets::new(alloc);
+    write_frame(&frame, &mut out)?;
+    assert!(rt; out.as_slice() == b"RECEIPT\nreceipt-id:r\n\n\0".as_slice());
     Ok(())
 }

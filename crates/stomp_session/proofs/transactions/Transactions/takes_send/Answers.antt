@@ -3,14 +3,14 @@ use Rattle.std.proofs.lemmas.Bool.Decides.{nat_tests}
 use Rattle.std.specs.Map.{lookup}
 use Rattle.std.specs.Option.{option_copied}
 use Rattle.mcast_txn.specs.declared.send.Send.{Send}
-use Rattle.stomp_session.specs.Refusals.{is_open, is_full, sends_in}
+use Rattle.stomp_session.specs.Refusals.{is_open, is_full_of_sends, sends_in}
 use Rattle.stomp_session.proofs.Entries.{Key, is_key, is_open-lookup, sends_in-lookup}
 use Rattle.stomp_session.proofs.transactions.Transactions.takes_send.Goals as goal
 
-below_is_not_full : (sends : List Send) → length sends < 64 → is_full sends ≡ false
+below_is_not_full : (sends : List Send) → length sends < 64 → is_full_of_sends sends ≡ false
 below_is_not_full sends few = grind (arith, nat_tests)
 
-many_is_full : (sends : List Send) → 64 ≤ length sends → is_full sends ≡ true
+many_is_full : (sends : List Send) → 64 ≤ length sends → is_full_of_sends sends ≡ true
 many_is_full sends many = grind (arith, nat_tests)
 
 pub returns-in_default-clause-err : goal.returns-in_default-clause-err
