@@ -16,7 +16,7 @@ use Rattle.delivery.specs.World.{World, start, topic_at, speaker, subscription_a
 use Rattle.delivery.specs.Events.{Event, Outcome, happens, outcome, refusal, flight_at, find_in, oldest_live}
 use Rattle.delivery.specs.Events.Event.{Topic_added, Opened, Commits, Subscribes, Unsubscribes, Disconnects, Errs, Lost, Leaves, Proposes, Decides, Withdraws, Cancels, Learns, Releases, Turns, Takes}
 use Rattle.delivery.specs.Events.Outcome.{Refused, Ticket, Decided}
-use Rattle.delivery.specs.Runs.{run, outcomes, commits_of, tickets_of, handed_of}
+use Rattle.delivery.specs.Runs.{run, outcomes, commits_of, tickets_of, handed_of, Numbered}
 use Rattle.delivery.specs.Settled.{IsSettled, SilentAfterClose}
 
 -- a run: how many items a queue holds, how many rows a topic holds, the topics' opening clocks, and the events
@@ -44,6 +44,10 @@ AcceptedIsDue =
     (r : Run) (s : ℕ) → s < length (after r).subscriptions
     → accepted_at (after r) s
     ≡ due (commits_of (came r)) (span_at (after r) s) (frontier_at (after r) (subscription_at (after r) s).topic)
+
+-- a transaction's seq counts those that its sender has made
+abbrev pub SeqsCount : Type 0
+SeqsCount = (r : Run) → Numbered (came r)
 
 -- no id and no stamp stands twice in the agreed sequence
 abbrev pub AgreedOnce : Type 0
