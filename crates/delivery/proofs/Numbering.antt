@@ -1,7 +1,6 @@
 -- The seq of each transaction counts its sender's.
-use Rattle.std.proofs.Common.{◌≡◌, ◌≢◌, ℕ, zero, suc, ◌+◌, ◌<◌, ◌≤◌, ◌==◌, Bool, true, false, cond, not, List, [], ◌∷◌, ◌++◌, length, get_or, set, Option, Some, None, refl, sym, ap, subst, ◌∙◌, arith, ltb}
+use Rattle.std.proofs.Common.{◌≡◌, ℕ, ◌+◌, ◌<◌, ◌≤◌, ◌==◌, Bool, true, false, cond, List, [], ◌∷◌, ◌++◌, length, get_or, set, Option, Some, None, refl, sym, ap, subst, ◌∙◌, arith, ltb}
 use Rattle.std.proofs.lemmas.Bool.{eqb-true, eq-eqb, ltb-true}
-use Rattle.mcast_txn.specs.Agreed.{Transaction}
 use Rattle.mcast_txn.specs.declared.id.Topic.{Topic}
 use Rattle.mcast_txn.specs.declared.id.TxnId.{TxnId}
 use Rattle.mcast_txn.specs.declared.send.Send.{Send}
@@ -11,10 +10,9 @@ use Rattle.mcast_group.specs.Span.{Item}
 use Rattle.mcast_group.specs.Topics.{Entry, Verdict}
 use Rattle.mcast_group.proofs.Parts.{not_true}
 use Rattle.delivery.specs.World.{World, Leftover, SenderState, Connection, Standing, new_sender, nobody, connection_at, speaker, subscription_at, entry_at, with_standing, start}
-use Rattle.delivery.specs.Events
 use Rattle.delivery.specs.Events.{Event, Outcome, happens, outcome, refusal, effect, answer, find_leftover, find_verdict, oldest_live, next_txn, flown, flying_answer, proposal_fault, proposed_by, propose_answer, cancelled_at, cancel_answer, learned_at, handed, take_answer, left_by, leave_answer, closed_subscription, closed_with}
 use Rattle.delivery.specs.Events.Event.{Topic_added, Opened, Commits, Subscribes, Unsubscribes, Disconnects, Errs, Lost, Leaves, Proposes, Decides, Withdraws, Cancels, Learns, Releases, Turns, Takes}
-use Rattle.delivery.specs.Events.Outcome.{Refused, Done, Flying}
+use Rattle.delivery.specs.Events.Outcome.{Refused, Done}
 use Rattle.delivery.specs.Runs.{run, outcomes, made_by, Numbered}
 use Rattle.delivery.specs.Laws
 use Rattle.delivery.specs.Laws.{Run, came, after}
@@ -139,7 +137,7 @@ happens_numbering past w (Proposes c t memory) h e = proposed_numbering past w c
 happens_numbering past w (Decides c) h e = told past _ w.connections (answer w (Decides c)) (λ s. refl) (λ k. k) (sender_kept past w.senders w.connections (connection_at w c).sender _ refl h)
 happens_numbering past w (Withdraws c) h e =
     told past _ _ (answer w (Withdraws c)) (λ s. refl) (λ k. k)
-      (standing_kept past w c Standing.Leaving _ (sender_kept past w.senders w.connections (connection_at w c).sender _ refl h))
+    (standing_kept past w c Standing.Leaving _ (sender_kept past w.senders w.connections (connection_at w c).sender _ refl h))
 happens_numbering past w (Cancels c t) h e = cancelled_numbering past w c t (find_leftover t (speaker w c).leftovers) h
 happens_numbering past w (Learns t id) h e = told past _ _ (answer w (Learns t id)) (λ n. refl) (λ k. k) (same_numbering past w (effect w (Learns t id)) (learned_same w t id (find_verdict id w.verdicts)) h)
 happens_numbering past w (Releases t) h e = told past w.senders w.connections _ (λ s. refl) (λ k. k) h
@@ -150,11 +148,14 @@ run_numbering : (es : List Event) (past : List Outcome) (w : World) → Numberin
 run_numbering [] past w h = h
 run_numbering (e ∷ es) past w h =
     run_numbering es (outcome w e ∷ past) (happens w e)
-      (by_refusal (λ v o. Numbering (o ∷ past) v.senders v.connections) w e (λ why. told past w.senders w.connections (Refused why) (λ s. refl) (λ k. k) h)
-        (λ n. happens_numbering past w e h n))
+    (by_refusal (λ v o. Numbering (o ∷ past) v.senders v.connections) w e (λ why. told past w.senders w.connections (Refused why) (λ s. refl) (λ k. k) h)
+    (λ n. happens_numbering past w e h n))
 
 pub seqs_count : Laws.SeqsCount
 seqs_count r =
     (run_numbering r.events [] (start r.capacity r.log_limit r.clocks) (record {
-      seqs = λ s l. absurd (omega arith); fresh = λ s l. refl; owners = λ c l. absurd (omega arith); numbered = tt;
+      seqs = λ s l. absurd (omega arith);
+      fresh = λ s l. refl;
+      owners = λ c l. absurd (omega arith);
+      numbered = tt;
     })).numbered
