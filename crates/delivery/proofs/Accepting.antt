@@ -1,32 +1,30 @@
 -- What follows of queues, the agreed sequence and stamps.
-use Rattle.std.proofs.Common.{◌≡◌, ◌≢◌, ℕ, zero, suc, ◌+◌, ◌<◌, ◌≤◌, ◌==◌, max, Bool, true, false, cond, not, ◌&&◌, ◌||◌, ◌⊎◌, inl, inr, List, [], ◌∷◌, ◌++◌, map, length, get_or, set, Option, Some, None, refl, sym, ap, subst, ◌∙◌, arith, ltb}
+use Rattle.std.proofs.Common.{◌≡◌, ℕ, zero, suc, ◌+◌, ◌<◌, Bool, true, false, not, ◌&&◌, ◌⊎◌, inl, inr, List, [], ◌∷◌, map, length, get_or, Option, Some, None, refl, sym, ap, subst, ◌∙◌, arith}
 use Rattle.std.specs.List.{filter, list_any}
-use Rattle.std.proofs.lemmas.Bool.{true≢false, false≢true, not-true, and_parts, and_from, eqb-true, eq-eqb, lt-ltb, cases_order}
-use Rattle.mcast_txn.specs.Stamp.{stamp_lt, zero_stamp, greatest}
-use Rattle.mcast_txn.specs.Transaction.{TopicPart, topics_of, part_of}
-use Rattle.mcast_txn.specs.Agreed.{Transaction, Row, same_id, In, names, stamp_of, agreed, Rises, EachOnce, SenderOrder}
+use Rattle.std.proofs.lemmas.Bool.{true≢false, not-true, and_parts, and_from, lt-ltb, cases_order}
+use Rattle.mcast_txn.specs.Stamp.{stamp_lt}
+use Rattle.mcast_txn.specs.Transaction.{TopicPart, topics_of}
+use Rattle.mcast_txn.specs.Agreed.{Row, same_id, In, names, stamp_of, agreed, Rises, EachOnce, SenderOrder}
 use Rattle.mcast_txn.specs.declared.id.Sender.{Sender}
 use Rattle.mcast_txn.specs.declared.id.Topic.{Topic}
 use Rattle.mcast_txn.specs.declared.id.TxnId.{TxnId}
 use Rattle.mcast_txn.specs.declared.stamp.Stamp.{Stamp}
-use Rattle.mcast_txn.proofs.Orders.{lt_irrefl, lt_trans, lt_asym, lt_le, le_lt, zero_least, id_equal, id_same, id_itself, id_turned}
+use Rattle.mcast_txn.proofs.Orders.{lt_irrefl, lt_asym, lt_le, id_equal, id_same}
 use Rattle.mcast_txn.proofs.Members.{In-map, In-map_cases, In-filter, In-filter_cases, any_found, any_from}
 use Rattle.mcast_txn.proofs.Sorting.{In-sorted, In-sorted_cases, Rises-sorted, Rises-filter, Rises-map, same_rising}
-use Rattle.mcast_txn.proofs.Greatest.{is_greatest}
-use Rattle.mcast_group.specs.Span.{LogRow, Item, Span, in_span, last_stamp}
-use Rattle.mcast_group.specs.Sound.{IsSound, IsQueueOf, item_stamp}
-use Rattle.mcast_group.specs.Topics.{TopicState, Pending, Entry, Ended, new_topic, find_entry, key}
-use Rattle.mcast_group.proofs.Parts.{Waits, some_same, none_some, not_true}
+use Rattle.mcast_group.specs.Span.{Item, Span, in_span, last_stamp}
+use Rattle.mcast_group.specs.Sound.{IsQueueOf, item_stamp}
+use Rattle.mcast_group.specs.Topics.{TopicState, Entry, Ended, new_topic, find_entry, key}
+use Rattle.mcast_group.proofs.Parts.{Waits, none_some}
 use Rattle.mcast_group.proofs.Keeping.{Sound-new}
 use Rattle.delivery.specs.Due.{log_row, item_at, is_due, due}
-use Rattle.delivery.specs.World.{World, Subscription, start, new_topics, topic_at, subscription_at, entry_at, entry_items, entry_to, accepted_at, end_at, span_at, log_at, frontier_at}
+use Rattle.delivery.specs.World.{World, start, new_topics, subscription_at, entry_at, entry_items, entry_to, accepted_at, end_at, span_at, frontier_at}
 use Rattle.delivery.specs.Events.{Event, Outcome, happens, outcome}
-use Rattle.delivery.specs.Events.Outcome.{Refused, Done, Flying, Subscribed, Unsubscribed, Leaving, Error, Gone, Ticket, Failed, Decided, Withdrawn, Cancelled, Learnt, Released, Turned, Handed}
-use Rattle.delivery.specs.Runs.{run, outcomes, made, commits_of, tickets_of}
+use Rattle.delivery.specs.Runs.{run, outcomes}
 use Rattle.delivery.specs.Laws
 use Rattle.delivery.specs.Laws.{Run, came, after, Place, place_of, shared}
 use Rattle.delivery.proofs.Invariant.{row, Consistent, Tied, Itemed, Logged, topic_in, sub_in, HasEntry, Inv, Holds}
-use Rattle.delivery.proofs.Keeping.{one_row, one_commit, key_ticket}
+use Rattle.delivery.proofs.Keeping.{one_commit, key_ticket}
 use Rattle.delivery.proofs.Subscriptions.{found_entry, finds_entry}
 use Rattle.delivery.proofs.Happening.{Reached, tickets, step_reached}
 

@@ -1,28 +1,27 @@
 -- A transaction is made, is decided, is withdrawn, and its tickets are cancelled.
-use Rattle.std.proofs.Common.{◌≡◌, ◌≢◌, ℕ, zero, suc, ◌+◌, ◌<◌, ◌≤◌, ◌==◌, max, Bool, true, false, cond, not, ◌&&◌, ◌||◌, ◌⊎◌, inl, inr, List, [], ◌∷◌, ◌++◌, map, length, get_or, set, Option, Some, None, refl, sym, ap, subst, ◌∙◌, arith, ltb}
-use Rattle.std.specs.List.{filter, list_any, list_all}
-use Rattle.std.proofs.lemmas.Bool.{true≢false, false≢true, not-true, and_parts, and_from, eqb-true, eq-eqb, cases_lt}
-use Rattle.mcast_txn.specs.Stamp.{stamp_lt, zero_stamp, greatest}
-use Rattle.mcast_txn.specs.Transaction.{TopicPart, topics_of, part_of, insert_topic}
+use Rattle.std.proofs.Common.{◌≡◌, ◌≢◌, ℕ, zero, suc, ◌+◌, ◌<◌, ◌≤◌, ◌==◌, Bool, true, false, cond, ◌⊎◌, inl, inr, List, [], ◌∷◌, ◌++◌, map, length, set, Some, None, refl, sym, ap, subst, ◌∙◌, arith, ltb}
+use Rattle.std.proofs.lemmas.Bool.{true≢false, eqb-true, eq-eqb}
+use Rattle.mcast_txn.specs.Stamp.{stamp_lt, greatest}
+use Rattle.mcast_txn.specs.Transaction.{topics_of, insert_topic}
 use Rattle.mcast_txn.specs.Agreed.{Transaction, Row, same_id, In, names, stamp_of}
 use Rattle.mcast_txn.specs.declared.id.Topic.{Topic}
 use Rattle.mcast_txn.specs.declared.id.TxnId.{TxnId}
 use Rattle.mcast_txn.specs.declared.send.Send.{Send}
 use Rattle.mcast_txn.specs.declared.stamp.Stamp.{Stamp}
-use Rattle.mcast_txn.proofs.Orders.{lt_irrefl, lt_trans, lt_asym, lt_le, le_lt, lt_by_number, id_equal, id_same, id_itself, id_turned}
-use Rattle.mcast_txn.proofs.Members.{In-append_left, In-push, In-push_cases, In-map_cases, any_from, any_found, all_at, at_set, at_set_within, push_one, push_two}
+use Rattle.mcast_txn.proofs.Orders.{lt_irrefl, lt_asym, le_lt, id_equal, id_same}
+use Rattle.mcast_txn.proofs.Members.{In-append_left, In-push, In-map_cases, any_found, all_at, at_set, at_set_within, push_one, push_two}
 use Rattle.mcast_txn.proofs.Sorting.{Apart-push}
 use Rattle.mcast_txn.proofs.Greatest.{greatest_in, greatest_past}
-use Rattle.mcast_group.specs.Span.{LogRow, Item}
-use Rattle.mcast_group.specs.Topics.{TopicState, Pending, Entry, Ended, Verdict, IsVerdict, new_topic, cancelled, without}
-use Rattle.mcast_group.proofs.Parts.{Waits, Waits-without, others, some_same, none_some, not_true}
+use Rattle.mcast_group.specs.Span.{Item}
+use Rattle.mcast_group.specs.Topics.{TopicState, Verdict, new_topic, cancelled}
+use Rattle.mcast_group.proofs.Parts.{Waits, Waits-without, others, some_same, none_some}
 use Rattle.mcast_group.proofs.Keeping.{Sound-cancelled}
-use Rattle.delivery.specs.Due.{log_row, item_at}
+use Rattle.delivery.specs.Due.{log_row}
 use Rattle.delivery.specs.World.{World, Flight, Leftover, SenderState, Subscription, new_sender}
-use Rattle.delivery.specs.Events.{part_at, has_ticket, is_complete, leftover, find_leftover, drop_leftover}
-use Rattle.delivery.proofs.Invariant.{row, Consistent, Uncommitted, Ticketed, Committed, Logged, Itemed, Tied, topic_in, OneEach, LeftApart, Flies, IsLeft, Serves, sender_in, Voted, HasVote, sub_in, IsClosed, Subscribes, Inv, Holds}
-use Rattle.delivery.proofs.Keeping.{flies_uncommitted, Entries-same, same_topic, at_topic, at_topic_from, Subscribes-topic}
-use Rattle.delivery.proofs.Proposals.{one_flight, within_senders}
+use Rattle.delivery.specs.Events.{has_ticket, is_complete, leftover, find_leftover, drop_leftover}
+use Rattle.delivery.proofs.Invariant.{row, Consistent, Uncommitted, Committed, Itemed, Tied, topic_in, OneEach, LeftApart, Flies, IsLeft, Serves, sender_in, Voted, HasVote, sub_in, Subscribes, Inv, Holds}
+use Rattle.delivery.proofs.Keeping.{flies_uncommitted, Entries-same, same_topic, at_topic, Subscribes-topic}
+use Rattle.delivery.proofs.Proposals.{within_senders}
 
 -- ---- a change of one sender
 

@@ -1,8 +1,7 @@
 -- What was handed on is a prefix of what was accepted.
-use Rattle.std.proofs.Common.{◌≡◌, ◌≢◌, ℕ, zero, suc, ◌+◌, ◌<◌, ◌≤◌, ◌==◌, Bool, true, false, cond, not, ◌&&◌, ◌||◌, ◌⊎◌, inl, inr, List, [], ◌∷◌, ◌++◌, map, length, get_or, set, Option, Some, None, refl, sym, ap, subst, ◌∙◌, arith, ltb}
+use Rattle.std.proofs.Common.{◌≡◌, ◌≢◌, ℕ, ◌+◌, ◌<◌, ◌≤◌, ◌==◌, Bool, true, false, cond, not, List, [], ◌∷◌, ◌++◌, map, length, set, Option, Some, None, refl, sym, ap, subst, ◌∙◌, arith, ltb}
 use Rattle.std.specs.List.{filter}
-use Rattle.std.proofs.lemmas.Bool.{true≢false, false≢true, eqb-true, eq-eqb, cases_lt, ltb-true}
-use Rattle.mcast_txn.specs.Agreed.{Row, In}
+use Rattle.std.proofs.lemmas.Bool.{eqb-true, eq-eqb, ltb-true}
 use Rattle.mcast_txn.specs.declared.id.Topic.{Topic}
 use Rattle.mcast_txn.specs.declared.id.TxnId.{TxnId}
 use Rattle.mcast_txn.specs.declared.send.Send.{Send}
@@ -10,20 +9,19 @@ use Rattle.mcast_txn.specs.declared.stamp.Stamp.{Stamp}
 use Rattle.mcast_txn.proofs.Members.{at_set, at_set_within}
 use Rattle.mcast_group.specs.declared.fault.ProposeFault.{ProposeFault}
 use Rattle.mcast_group.specs.Span.{Item}
-use Rattle.mcast_group.specs.Topics.{TopicState, Entry, Ended, Verdict, new_topic, find_entry, ended, proposed, cancelled, learned, release, turned, unsubscribed}
+use Rattle.mcast_group.specs.Topics.{TopicState, Entry, Ended, Verdict, find_entry, ended, proposed, cancelled, learned, unsubscribed}
 use Rattle.mcast_group.proofs.Parts.{some_same, none_some, not_true}
-use Rattle.mcast_group.proofs.Queues.{More, More-same, More-then}
-use Rattle.delivery.specs.World.{World, Leftover, SenderState, Subscription, no_subscription, topic_at, connection_at, speaker, subscription_at, entry_at, entry_items, accepted_at, start, with_topic}
-use Rattle.delivery.specs.Events
+use Rattle.mcast_group.proofs.Queues.{More, More-same}
+use Rattle.delivery.specs.World.{World, Leftover, Subscription, no_subscription, topic_at, speaker, subscription_at, entry_at, entry_items, accepted_at, start, with_topic}
 use Rattle.delivery.specs.Events.{Event, Outcome, happens, outcome, refusal, effect, answer, find_leftover, find_verdict, find_in, oldest_live, flown, flying_answer, proposal_fault, proposed_by, propose_answer, cancelled_at, cancel_answer, learned_at, takes, handed, item_number, part_at, flight_at, take_answer, left_by, leave_answer, closed_subscription, closed_with}
 use Rattle.delivery.specs.Events.Event.{Topic_added, Opened, Commits, Subscribes, Unsubscribes, Disconnects, Errs, Lost, Leaves, Proposes, Decides, Withdraws, Cancels, Learns, Releases, Turns, Takes}
-use Rattle.delivery.specs.Events.Outcome.{Refused, Done, Flying, Subscribed, Unsubscribed, Leaving, Error, Gone, Ticket, Failed, Decided, Withdrawn, Cancelled, Learnt, Released, Turned, Handed}
+use Rattle.delivery.specs.Events.Outcome.{Refused, Done, Learnt, Released, Turned, Handed}
 use Rattle.delivery.specs.Runs.{run, outcomes, handed_of}
 use Rattle.delivery.specs.Laws
 use Rattle.delivery.specs.Laws.{Run, came, after}
-use Rattle.delivery.proofs.Invariant.{topic_in, sub_in, Owned, Inv, Holds}
+use Rattle.delivery.proofs.Invariant.{topic_in, Owned}
 use Rattle.delivery.proofs.Keeping.{Entries, Entries-same, Keeps-release, Keeps-turned, at_topic_from}
-use Rattle.delivery.proofs.Subscriptions.{at_push_two, at_old, at_end, at_added, set_length, push_length, found_entry, new_subscription, new_entry, topic_with, taken_more}
+use Rattle.delivery.proofs.Subscriptions.{at_push_two, at_added, set_length, push_length, found_entry, new_subscription, new_entry, topic_with, taken_more}
 use Rattle.delivery.proofs.Happening.{Reached, tickets, by_refusal, finds, step_reached, checked, false_not}
 use Rattle.delivery.proofs.Accepting.{start_reached}
 

@@ -1,34 +1,30 @@
 -- Every event keeps the invariant, and the commit list of the past is the core's.
-use Rattle.std.proofs.Common.{◌≡◌, ◌≢◌, ℕ, zero, suc, ◌+◌, ◌<◌, ◌≤◌, ◌==◌, max, Bool, true, false, cond, not, ◌&&◌, ◌||◌, ◌⊎◌, inl, inr, List, [], ◌∷◌, ◌++◌, map, length, get_or, set, slice_get, Option, Some, None, refl, sym, ap, subst, ◌∙◌, arith, ltb}
-use Rattle.std.specs.List.{filter, list_any, list_all}
+use Rattle.std.proofs.Common.{◌≡◌, ℕ, ◌+◌, ◌<◌, ◌≤◌, Bool, true, false, cond, not, inl, inr, List, [], ◌∷◌, ◌++◌, length, set, Option, Some, None, refl, sym, ap, subst, ◌∙◌, arith}
 use Rattle.std.specs.Option.{is_some}
-use Rattle.std.proofs.lemmas.Bool.{true≢false, false≢true, not-true, and_parts, and_from, eqb-true, eq-eqb, ltb-true}
-use Rattle.mcast_txn.specs.Stamp.{stamp_lt, zero_stamp, greatest}
-use Rattle.mcast_txn.specs.Transaction.{TopicPart, topics_of, part_of}
-use Rattle.mcast_txn.specs.Agreed.{Transaction, Row, same_id, In, names, stamp_of}
+use Rattle.std.proofs.lemmas.Bool.{true≢false, and_parts, ltb-true}
+use Rattle.mcast_txn.specs.Stamp.{greatest}
+use Rattle.mcast_txn.specs.Transaction.{topics_of}
+use Rattle.mcast_txn.specs.Agreed.{Transaction, Row, same_id, In, names}
 use Rattle.mcast_txn.specs.declared.id.Topic.{Topic}
 use Rattle.mcast_txn.specs.declared.id.TxnId.{TxnId}
 use Rattle.mcast_txn.specs.declared.send.Send.{Send}
-use Rattle.mcast_txn.specs.declared.stamp.Stamp.{Stamp}
-use Rattle.mcast_txn.proofs.Orders.{id_equal, id_same, id_itself, id_turned}
-use Rattle.mcast_txn.proofs.Members.{at_set, at_set_within}
+use Rattle.mcast_txn.proofs.Orders.{id_equal, id_itself}
+use Rattle.mcast_txn.proofs.Members.{at_set}
 use Rattle.mcast_group.specs.declared.fault.ProposeFault.{ProposeFault}
 use Rattle.mcast_group.specs.declared.fault.LearnFault.{LearnFault}
 use Rattle.mcast_group.specs.Checks.{first_refusal}
-use Rattle.mcast_group.specs.Span.{LogRow, Item}
-use Rattle.mcast_group.specs.Topics.{TopicState, Pending, Entry, Ended, Verdict, IsVerdict, new_topic, propose_checks, propose_fault, is_pending, learn_fault, learned, released, release, turned, last_number}
+use Rattle.mcast_group.specs.Span.{Item}
+use Rattle.mcast_group.specs.Topics.{Entry, Verdict, propose_checks, propose_fault, is_pending, learned, release, turned}
 use Rattle.mcast_group.proofs.Parts.{some_same, none_some, not_true}
 use Rattle.delivery.specs.declared.refusal.Refusal.{Refusal}
-use Rattle.delivery.specs.World.{World, Flight, Leftover, SenderState, Connection, Subscription, Standing, topic_at, sender_at, new_sender, connection_at, speaker, subscription_at, entry_at, accepted_at, start, new_topics}
-use Rattle.delivery.specs.Events
-use Rattle.delivery.specs.Events.{Event, Outcome, happens, outcome, refusal, effect, answer, there, reads, flight_at, flight_or, find_leftover, find_verdict, find_in, oldest_live, has_ticket, is_complete, part_at, next_txn, next_ticket, flown, flying_answer, proposal_fault, proposed_by, propose_answer, decided, withdrawn, cancelled_at, cancelling, cancel_answer, learned_at, learning, takes, handed, take_answer, left_by, leave_answer, closed_subscription, closed_with, or_else, or_no_memory, learn_refusal, is_topic, checks, topic_refusal}
+use Rattle.delivery.specs.World.{World, Flight, Leftover, SenderState, topic_at, new_sender, connection_at, speaker, entry_at}
+use Rattle.delivery.specs.Events.{Event, Outcome, happens, outcome, refusal, effect, answer, flight_at, flight_or, find_leftover, find_verdict, find_in, oldest_live, has_ticket, part_at, next_txn, next_ticket, flown, flying_answer, proposal_fault, proposed_by, propose_answer, decided, withdrawn, cancelled_at, cancel_answer, learned_at, learning, takes, handed, take_answer, left_by, leave_answer, closed_subscription, closed_with, or_else, or_no_memory, learn_refusal, is_topic, checks, topic_refusal}
 use Rattle.delivery.specs.Events.Event.{Topic_added, Opened, Commits, Subscribes, Unsubscribes, Disconnects, Errs, Lost, Leaves, Proposes, Decides, Withdraws, Cancels, Learns, Releases, Turns, Takes}
-use Rattle.delivery.specs.Events.Outcome.{Refused, Done, Flying, Ticket, Failed, Decided}
-use Rattle.delivery.specs.Runs.{outcomes, made, commits_of}
-use Rattle.delivery.proofs.Invariant.{row, Consistent, Tied, topic_in, Flies, Serves, sender_in, Voted, Subscribes as Subscribed, Inv, Holds, Committed}
-use Rattle.delivery.proofs.Keeping.{topic_step, Keeps, Keeps-learned, Keeps-release, Keeps-turned, Finds}
-use Rattle.delivery.proofs.Proposals.{New, enter_step, heard}
-use Rattle.delivery.proofs.Decisions
+use Rattle.delivery.specs.Events.Outcome.{Refused, Flying, Ticket}
+use Rattle.delivery.specs.Runs.{made, commits_of}
+use Rattle.delivery.proofs.Invariant.{row, sender_in, Inv, Holds}
+use Rattle.delivery.proofs.Keeping.{topic_step, Keeps-learned, Keeps-release, Keeps-turned, Finds}
+use Rattle.delivery.proofs.Proposals.{New, enter_step}
 use Rattle.delivery.proofs.Decisions.{flown_step, marked_step, decide_step, withdrawn_step, cancel_step}
 use Rattle.delivery.proofs.Subscriptions.{subscribe_step, end_step, take_step, added_step, opened_step, at_push}
 

@@ -1,5 +1,5 @@
 -- What every world that a run leads to keeps.
-use Rattle.std.proofs.Common.{◌≡◌, ◌≢◌, ℕ, zero, suc, ◌+◌, ◌<◌, ◌≤◌, Bool, true, false, cond, not, ◌&&◌, ◌||◌, ◌⊎◌, inl, inr, List, [], ◌∷◌, ◌++◌, map, length, get_or, set, Option, Some, None, refl, sym, ap, subst, ◌∙◌, arith}
+use Rattle.std.proofs.Common.{◌≡◌, ◌≢◌, ℕ, ◌<◌, ◌≤◌, true, false, ◌⊎◌, List, [], ◌∷◌, length, get_or, Some, None}
 use Rattle.mcast_txn.specs.Stamp.{stamp_lt, zero_stamp}
 use Rattle.mcast_txn.specs.Transaction.{TopicPart, topics_of}
 use Rattle.mcast_txn.specs.Agreed.{Transaction, Row, same_id, In, names, stamp_of}
@@ -9,7 +9,7 @@ use Rattle.mcast_txn.specs.declared.stamp.Stamp.{Stamp}
 use Rattle.mcast_txn.proofs.Sorting.{Apart}
 use Rattle.mcast_group.specs.Span.{LogRow, Item}
 use Rattle.mcast_group.specs.Sound.{IsSound, IsQueueOf}
-use Rattle.mcast_group.specs.Topics.{TopicState, Pending, Entry, Ended, Verdict, IsVerdict, new_topic, key}
+use Rattle.mcast_group.specs.Topics.{TopicState, Pending, Entry, Ended, Verdict, IsVerdict, new_topic}
 use Rattle.mcast_group.proofs.Parts.{Waits}
 use Rattle.delivery.specs.Due.{log_row, item_at}
 use Rattle.delivery.specs.World.{World, Flight, Leftover, SenderState, Subscription, new_sender, no_subscription}

@@ -1,26 +1,23 @@
 -- What a step at one topic keeps.
-use Rattle.std.proofs.Common.{◌≡◌, ◌≢◌, ℕ, zero, suc, ◌+◌, ◌<◌, ◌≤◌, ◌==◌, max, Bool, true, false, cond, not, ◌&&◌, ◌||◌, ◌⊎◌, inl, inr, List, [], ◌∷◌, ◌++◌, map, length, get_or, set, Option, Some, None, refl, sym, ap, subst, ◌∙◌, arith}
-use Rattle.std.specs.List.{filter, list_any}
-use Rattle.std.proofs.lemmas.Bool.{true≢false, false≢true, not-true, and_parts, and_from}
-use Rattle.mcast_txn.specs.Stamp.{stamp_lt, zero_stamp}
-use Rattle.mcast_txn.specs.Transaction.{TopicPart, topics_of, part_of}
-use Rattle.mcast_txn.specs.Agreed.{Transaction, Row, same_id, In, names, stamp_of}
+use Rattle.std.proofs.Common.{◌≡◌, ℕ, ◌<◌, ◌≤◌, Bool, true, inl, inr, List, [], ◌∷◌, ◌++◌, map, set, Option, Some, None, refl, sym, ap, subst, ◌∙◌, arith}
+use Rattle.mcast_txn.specs.Transaction.{TopicPart, topics_of}
+use Rattle.mcast_txn.specs.Agreed.{Transaction, Row, In, names}
 use Rattle.mcast_txn.specs.declared.id.Topic.{Topic}
 use Rattle.mcast_txn.specs.declared.id.TxnId.{TxnId}
 use Rattle.mcast_txn.specs.declared.stamp.Stamp.{Stamp}
-use Rattle.mcast_txn.proofs.Orders.{lt_irrefl, lt_trans, lt_asym, lt_le, le_lt, le_trans, same_stamps, id_equal, id_same, id_itself, id_turned}
-use Rattle.mcast_txn.proofs.Members.{In-append_left, In-push, In-push_cases, In-map, In-map_cases, In-filter_cases, any_from, at_set, push_one}
+use Rattle.mcast_txn.proofs.Orders.{same_stamps, id_equal, id_same}
+use Rattle.mcast_txn.proofs.Members.{In-append_left, In-push, In-map, In-map_cases, at_set, push_one}
 use Rattle.mcast_group.specs.Span.{LogRow, Item}
-use Rattle.mcast_group.specs.Sound.{IsSound, IsQueueOf}
-use Rattle.mcast_group.specs.Topics.{TopicState, Pending, Entry, Ended, Verdict, IsVerdict, new_topic, key, told, learned, learn_fault, cancelled, without, delivered, released, released_if, release, due_part, row_of, item_of, turned, tried_all}
-use Rattle.mcast_group.proofs.Parts.{Waits, Waits-told, Waits-without, told_how, each_told, with_stamp, Least, Due, due_is, others, some_same, none_some, not_true}
+use Rattle.mcast_group.specs.Sound.{IsQueueOf}
+use Rattle.mcast_group.specs.Topics.{TopicState, Pending, Entry, Verdict, IsVerdict, new_topic, key, learned, learn_fault, without, delivered, released, release, row_of, item_of, turned}
+use Rattle.mcast_group.proofs.Parts.{Waits, Waits-told, Waits-without, each_told, Due, due_is, others, some_same}
 use Rattle.mcast_group.proofs.Queues.{Queue-closed, delivered_number, delivered_from, In-delivered_cases, More, More-same, More-then, More-delivered}
-use Rattle.mcast_group.proofs.Keeping.{Learns, learns_is, Sound-learned, Sound-cancelled, Sound-released, next_of}
+use Rattle.mcast_group.proofs.Keeping.{Learns, learns_is, Sound-learned, Sound-released, next_of}
 use Rattle.mcast_group.proofs.Turning.{release_keeps, turn_keeps}
 use Rattle.delivery.specs.Due.{log_row, item_at}
-use Rattle.delivery.specs.World.{World, Flight, Leftover, SenderState, Subscription}
+use Rattle.delivery.specs.World.{World, Flight, SenderState, Subscription}
 use Rattle.delivery.specs.Events.{part_at}
-use Rattle.delivery.proofs.Invariant.{row, Consistent, Uncommitted, Ticketed, Committed, Logged, Itemed, Tied, topic_in, Flies, IsLeft, Serves, sender_in, sub_in, HasEntry, Owned, IsClosed, Subscribes, Inv, Holds}
+use Rattle.delivery.proofs.Invariant.{row, Consistent, Uncommitted, Ticketed, Committed, Logged, Tied, topic_in, Flies, Serves, sender_in, sub_in, HasEntry, Owned, IsClosed, Subscribes, Inv, Holds}
 
 -- ---- the commit list and the tickets
 

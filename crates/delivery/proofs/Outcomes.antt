@@ -1,21 +1,20 @@
 -- What stands in the list of outcomes.
-use Rattle.std.proofs.Common.{◌≡◌, ◌≢◌, ℕ, ◌==◌, Bool, true, false, cond, not, ◌&&◌, ◌||◌, ◌⊎◌, inl, inr, List, [], ◌∷◌, ◌++◌, map, Option, Some, None, refl, sym, ap, subst, ◌∙◌}
-use Rattle.std.proofs.lemmas.Bool.{true≢false, false≢true}
+use Rattle.std.proofs.Common.{◌≡◌, Bool, true, false, cond, inl, inr, List, [], ◌∷◌, ◌++◌, refl, sym, ap, subst, ◌∙◌}
+use Rattle.std.proofs.lemmas.Bool.{true≢false}
 use Rattle.mcast_txn.specs.Stamp.{stamp_lt, greatest}
 use Rattle.mcast_txn.specs.Agreed.{Transaction, Row, same_id, In}
-use Rattle.mcast_txn.specs.declared.id.Topic.{Topic}
 use Rattle.mcast_txn.specs.declared.id.TxnId.{TxnId}
 use Rattle.mcast_txn.specs.declared.stamp.Stamp.{Stamp}
-use Rattle.mcast_txn.proofs.Orders.{id_equal, id_same, id_itself}
-use Rattle.mcast_txn.proofs.Members.{In-append_left, In-push, In-push_cases}
+use Rattle.mcast_txn.proofs.Orders.{id_equal, id_same}
+use Rattle.mcast_txn.proofs.Members.{In-append_left, In-push}
 use Rattle.mcast_txn.proofs.Greatest.{is_greatest}
 use Rattle.delivery.specs.Events.{Outcome}
-use Rattle.delivery.specs.Events.Outcome.{Refused, Done, Flying, Subscribed, Unsubscribed, Leaving, Error, Gone, Ticket, Failed, Decided, Withdrawn, Cancelled, Learnt, Released, Turned, Handed}
+use Rattle.delivery.specs.Events.Outcome.{Flying, Ticket, Decided}
 use Rattle.delivery.specs.Runs.{made, commits_of, tickets_of}
 use Rattle.delivery.specs.Laws
 use Rattle.delivery.specs.Laws.{Run, came, after}
 use Rattle.delivery.proofs.Invariant.{row}
-use Rattle.delivery.proofs.Happening.{tickets, Reached}
+use Rattle.delivery.proofs.Happening.{tickets}
 use Rattle.delivery.proofs.Accepting.{reached}
 
 made_case : (id : TxnId) (txn other : Transaction) (b : Bool) → same_id txn.id id ≡ b → other.id ≡ id → (cond b txn other).id ≡ id

@@ -1,23 +1,21 @@
 -- A ticket is given.
-use Rattle.std.proofs.Common.{◌≡◌, ◌≢◌, ℕ, zero, suc, ◌+◌, ◌<◌, ◌≤◌, ◌==◌, max, Bool, true, false, cond, not, ◌&&◌, ◌||◌, ◌⊎◌, inl, inr, List, [], ◌∷◌, ◌++◌, map, length, get_or, set, Option, Some, None, refl, sym, ap, subst, ◌∙◌, arith, ltb}
-use Rattle.std.specs.List.{filter, list_any}
-use Rattle.std.proofs.lemmas.Bool.{true≢false, false≢true, not-true, and_parts, and_from, eqb-true, eq-eqb, cases_lt}
+use Rattle.std.proofs.Common.{◌≡◌, ◌≢◌, ℕ, ◌+◌, ◌<◌, ◌≤◌, ◌==◌, Bool, true, false, cond, ◌⊎◌, inl, inr, List, [], ◌∷◌, length, set, Some, None, refl, sym, ap, subst, ◌∙◌, arith, ltb}
+use Rattle.std.proofs.lemmas.Bool.{true≢false, eq-eqb, cases_lt}
 use Rattle.std.proofs.lemmas.List.{get_or_past}
-use Rattle.mcast_txn.specs.Stamp.{stamp_lt, zero_stamp}
-use Rattle.mcast_txn.specs.Transaction.{TopicPart, topics_of, part_of}
-use Rattle.mcast_txn.specs.Agreed.{Transaction, Row, same_id, In, names, stamp_of}
+use Rattle.mcast_txn.specs.Stamp.{stamp_lt}
+use Rattle.mcast_txn.specs.Transaction.{TopicPart, topics_of}
+use Rattle.mcast_txn.specs.Agreed.{Transaction, Row, same_id, In, names}
 use Rattle.mcast_txn.specs.declared.id.Topic.{Topic}
 use Rattle.mcast_txn.specs.declared.id.TxnId.{TxnId}
 use Rattle.mcast_txn.specs.declared.stamp.Stamp.{Stamp}
-use Rattle.mcast_txn.proofs.Orders.{lt_irrefl, lt_trans, lt_asym, lt_le, le_lt, lt_by_number, id_equal, id_same, id_itself, id_turned}
-use Rattle.mcast_txn.proofs.Members.{In-append_left, In-push, In-push_cases, any_from, at_set, at_set_within, push_one}
-use Rattle.mcast_group.specs.Topics.{TopicState, Pending, Entry, Verdict, new_topic, key, insert_pending, is_pending, next_number, proposed}
-use Rattle.mcast_group.proofs.Parts.{Waits, In-insert, insert_one, some_same, none_some, not_true}
+use Rattle.mcast_txn.proofs.Orders.{lt_by_number, id_equal, id_same, id_turned}
+use Rattle.mcast_txn.proofs.Members.{any_from, at_set_within}
+use Rattle.mcast_group.specs.Topics.{TopicState, Pending, Verdict, new_topic, is_pending, next_number, proposed}
+use Rattle.mcast_group.proofs.Parts.{Waits, In-insert, insert_one, some_same, none_some}
 use Rattle.mcast_group.proofs.Keeping.{Sound-proposed}
-use Rattle.delivery.specs.Due.{log_row, item_at}
-use Rattle.delivery.specs.World.{World, Flight, Leftover, SenderState, Subscription, new_sender}
+use Rattle.delivery.specs.World.{World, Flight, Leftover, SenderState, new_sender}
 use Rattle.delivery.specs.Events.{part_at, has_ticket, insert_ticket}
-use Rattle.delivery.proofs.Invariant.{row, Consistent, Uncommitted, Ticketed, Committed, Tied, topic_in, OneEach, Flies, IsLeft, Serves, sender_in, Voted, Subscribes, Inv, Holds}
+use Rattle.delivery.proofs.Invariant.{row, Consistent, Uncommitted, Ticketed, Committed, Tied, topic_in, OneEach, Flies, IsLeft, Serves, sender_in, Voted, Inv, Holds}
 use Rattle.delivery.proofs.Keeping.{flies_uncommitted, Entries-same, same_topic, at_topic_from, Subscribes-topic}
 
 -- ---- lists with one more at the head

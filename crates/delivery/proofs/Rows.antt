@@ -1,22 +1,20 @@
 -- Worked rows, computed from the definitions: each equation holds by computation alone.
-use Rattle.std.specs.Prelude.{◌≡◌, ℕ, ◌+◌, Bool, true, false, List, [], ◌∷◌, map, reverse, Option, Some, None}
+use Rattle.std.specs.Prelude.{◌≡◌, ℕ, true, List, [], ◌∷◌, map, reverse, Some}
 use Rattle.std.proofs.Common.{refl}
 use Rattle.mcast_txn.specs.declared.id.Topic.{Topic}
 use Rattle.mcast_txn.specs.declared.id.TxnId.{TxnId}
 use Rattle.mcast_txn.specs.declared.send.Send.{Send}
 use Rattle.mcast_txn.specs.declared.send.PartSend.{PartSend}
 use Rattle.mcast_txn.specs.declared.stamp.Stamp.{Stamp}
-use Rattle.mcast_txn.specs.Transaction.{topics_of, part_of}
-use Rattle.mcast_txn.specs.Agreed.{Transaction, Row, agreed}
+use Rattle.mcast_txn.specs.Agreed.{agreed}
 use Rattle.mcast_group.specs.declared.fault.ProposeFault.{ProposeFault}
-use Rattle.mcast_group.specs.Span.{LogRow, Item, Span}
 use Rattle.delivery.specs.declared.refusal.Refusal.{Refusal}
 use Rattle.delivery.specs.Due.{due}
-use Rattle.delivery.specs.World.{World, start, log_at, accepted_at, span_at, frontier_at}
+use Rattle.delivery.specs.World.{log_at, accepted_at, span_at, frontier_at}
 use Rattle.delivery.specs.Events.{Event, Outcome}
-use Rattle.delivery.specs.Events.Event.{Topic_added, Opened, Commits, Subscribes, Unsubscribes, Disconnects, Errs, Lost, Leaves, Proposes, Decides, Withdraws, Cancels, Learns, Releases, Turns, Takes}
-use Rattle.delivery.specs.Events.Outcome.{Refused, Done, Flying, Subscribed, Unsubscribed, Leaving, Error, Gone, Ticket, Failed, Decided, Withdrawn, Cancelled, Learnt, Released, Turned, Handed}
-use Rattle.delivery.specs.Runs.{run, outcomes, commits_of, handed_of}
+use Rattle.delivery.specs.Events.Event.{Opened, Commits, Subscribes, Unsubscribes, Lost, Leaves, Proposes, Decides, Withdraws, Cancels, Learns, Releases, Turns, Takes}
+use Rattle.delivery.specs.Events.Outcome.{Refused, Done, Flying, Subscribed, Unsubscribed, Leaving, Gone, Ticket, Failed, Decided, Withdrawn, Cancelled, Learnt, Turned, Handed}
+use Rattle.delivery.specs.Runs.{commits_of, handed_of}
 use Rattle.delivery.specs.Laws.{Run, came, after}
 
 abbrev topic : ℕ → Topic

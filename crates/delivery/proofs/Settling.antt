@@ -1,41 +1,26 @@
 -- A settled topic's log leaves no row out.
-use Rattle.std.proofs.Common.{◌≡◌, ◌≢◌, ℕ, zero, suc, ◌+◌, ◌<◌, ◌≤◌, ◌==◌, max, Bool, true, false, cond, not, ◌&&◌, ◌||◌, ◌⊎◌, inl, inr, List, [], ◌∷◌, ◌++◌, map, length, get_or, set, slice_get, Option, Some, None, refl, sym, ap, subst, ◌∙◌, arith, ltb}
-use Rattle.std.specs.List.{filter, list_any}
-use Rattle.std.specs.Option.{is_some}
-use Rattle.std.proofs.lemmas.Bool.{true≢false, false≢true, not-true, and_parts, and_from, eqb-true, eq-eqb}
+use Rattle.std.proofs.Common.{◌≡◌, ℕ, ◌+◌, ◌≤◌, Bool, false, inl, inr, List, [], ◌∷◌, set, Option, Some, None, refl, sym, ap, subst, ◌∙◌, arith}
+use Rattle.std.proofs.lemmas.Bool.{true≢false}
 use Rattle.mcast_txn.specs.Transaction.{TopicPart, topics_of}
 use Rattle.mcast_txn.specs.Agreed.{Transaction, Row, same_id, In, names}
 use Rattle.mcast_txn.specs.declared.id.Topic.{Topic}
 use Rattle.mcast_txn.specs.declared.id.TxnId.{TxnId}
 use Rattle.mcast_txn.specs.declared.send.Send.{Send}
 use Rattle.mcast_txn.specs.declared.stamp.Stamp.{Stamp}
-use Rattle.mcast_txn.proofs.Orders.{id_equal, id_same, id_itself, id_turned}
-use Rattle.mcast_txn.proofs.Members.{In-map_cases, at_set, at_set_within}
-use Rattle.mcast_group.specs.declared.fault.ProposeFault.{ProposeFault}
-use Rattle.mcast_group.specs.Span.{LogRow, Item}
-use Rattle.mcast_group.specs.Topics.{TopicState, Pending, Entry, Verdict, new_topic, told, learned, learn_fault, cancelled, released, release, turned, proposed, due_part}
-use Rattle.mcast_group.proofs.Parts.{Waits, In-insert_cases, told_how, others, not_true, some_same, none_some}
-use Rattle.mcast_group.proofs.Turning.{release_keeps, turn_keeps, turn_none}
-use Rattle.delivery.specs.declared.refusal.Refusal.{Refusal}
-use Rattle.delivery.specs.Due.{log_row}
-use Rattle.delivery.specs.World.{World, Flight, Leftover, SenderState, Subscription, new_sender, topic_at, connection_at, speaker, subscription_at, entry_at, accepted_at, start, new_topics}
-use Rattle.delivery.specs.Events
-use Rattle.delivery.specs.Events.{Event, Outcome, happens, outcome, refusal, effect, answer, flight_at, find_leftover, find_verdict, find_in, oldest_live, has_ticket, part_at, next_txn, next_ticket, flown, flying_answer, proposal_fault, proposed_by, propose_answer, decided, withdrawn, cancelled_at, cancel_answer, learned_at, takes, handed, take_answer, left_by, leave_answer, closed_subscription, closed_with}
-use Rattle.delivery.specs.Events.Event.{Topic_added, Opened, Commits, Subscribes, Unsubscribes, Disconnects, Errs, Lost, Leaves, Proposes, Decides, Withdraws, Cancels, Learns, Releases, Turns, Takes}
-use Rattle.delivery.specs.Events.Outcome.{Refused, Done, Flying, Subscribed, Unsubscribed, Leaving, Error, Gone, Ticket, Failed, Decided, Withdrawn, Cancelled, Learnt, Released, Turned, Handed}
-use Rattle.delivery.specs.Runs.{run, outcomes, made, commits_of}
-use Rattle.delivery.specs.Settled.{IsResolved, AllResolved, IsSettled}
-use Rattle.delivery.specs.Laws
-use Rattle.delivery.specs.Laws.{Run, came, after}
-use Rattle.delivery.proofs.Invariant.{row, Tied, topic_in, sender_in, Inv, Holds, Flies}
-use Rattle.delivery.proofs.Keeping.{flies_uncommitted, at_topic_from, same_topic}
-use Rattle.delivery.proofs.Proposals.{New, heard, cons_one, topic_after, sender_after, within_senders, flight_after}
-use Rattle.delivery.proofs.Decisions.{leftover_found}
-use Rattle.delivery.proofs.Subscriptions.{at_push, at_added}
-use Rattle.delivery.proofs.Happening.{Reached, tickets, FewerFlights, by_refusal, checked, in_flight, InFlight, asks_of, Asks, new_ticket, Room, no_fault, step_reached, same_flights, one_fewer, one_same, one_kept}
-use Rattle.delivery.proofs.Accepting.{at_new, reached, start_reached}
-use Rattle.delivery.proofs.Outcomes.{In-ticket, commit_of}
-use Rattle.delivery.proofs.Voting.{fits, HasCommit}
+use Rattle.mcast_txn.proofs.Orders.{id_equal}
+use Rattle.mcast_txn.proofs.Members.{In-map_cases, at_set}
+use Rattle.mcast_group.specs.Topics.{TopicState, Pending, Entry, Verdict, told, learned, cancelled, release, turned}
+use Rattle.mcast_group.proofs.Parts.{Waits, In-insert_cases, told_how, others, not_true, some_same}
+use Rattle.mcast_group.proofs.Turning.{release_keeps, turn_keeps}
+use Rattle.delivery.specs.World.{World, Flight, SenderState, new_sender, connection_at, speaker}
+use Rattle.delivery.specs.Events.{Outcome, next_txn, flown, takes}
+use Rattle.delivery.specs.Events.Outcome.{Flying, Ticket, Withdrawn, Cancelled, Turned}
+use Rattle.delivery.specs.Runs.{made}
+use Rattle.delivery.specs.Settled.{AllResolved, IsSettled}
+use Rattle.delivery.proofs.Invariant.{row, topic_in, sender_in, Holds}
+use Rattle.delivery.proofs.Keeping.{at_topic_from}
+use Rattle.delivery.proofs.Proposals.{New, heard, cons_one, topic_after, sender_after, flight_after}
+use Rattle.delivery.proofs.Happening.{tickets, FewerFlights, same_flights}
 
 -- nothing is pending at t, and no undecided transaction names it
 pub record Calm (topics : List TopicState) (senders : List SenderState) (t : Topic) : Type 0 where

@@ -1,8 +1,8 @@
 -- Nothing is handed on of a closed subscription.
-use Rattle.std.proofs.Common.{◌≡◌, ◌≢◌, ℕ, zero, suc, ◌+◌, ◌<◌, ◌≤◌, ◌==◌, Bool, true, false, cond, not, ◌&&◌, ◌||◌, ◌⊎◌, inl, inr, List, [], ◌∷◌, ◌++◌, map, length, get_or, set, Option, Some, None, refl, sym, ap, subst, ◌∙◌, arith, ltb}
+use Rattle.std.proofs.Common.{◌≡◌, ℕ, zero, suc, ◌+◌, ◌<◌, ◌≤◌, ◌==◌, Bool, true, false, cond, not, ◌||◌, inl, inr, List, [], ◌∷◌, ◌++◌, length, get_or, Option, Some, None, refl, sym, ap, subst, ◌∙◌, arith, ltb}
 use Rattle.std.specs.Option.{is_some}
-use Rattle.std.proofs.lemmas.Bool.{true≢false, false≢true, eqb-true, eq-eqb, ltb-true, and_parts}
-use Rattle.mcast_txn.specs.Agreed.{Transaction, In}
+use Rattle.std.proofs.lemmas.Bool.{true≢false, false≢true, ltb-true, and_parts}
+use Rattle.mcast_txn.specs.Agreed.{In}
 use Rattle.mcast_txn.specs.declared.id.Topic.{Topic}
 use Rattle.mcast_txn.specs.declared.id.TxnId.{TxnId}
 use Rattle.mcast_txn.specs.declared.send.Send.{Send}
@@ -10,20 +10,18 @@ use Rattle.mcast_txn.specs.declared.stamp.Stamp.{Stamp}
 use Rattle.mcast_txn.proofs.Members.{at_set, at_set_within}
 use Rattle.mcast_group.specs.declared.fault.ProposeFault.{ProposeFault}
 use Rattle.mcast_group.specs.Span.{Item}
-use Rattle.mcast_group.specs.Topics.{TopicState, Entry, Ended, Verdict}
-use Rattle.mcast_group.proofs.Parts.{some_same, none_some, not_true}
-use Rattle.delivery.specs.declared.refusal.Refusal.{Refusal}
-use Rattle.delivery.specs.World.{World, Leftover, Connection, Subscription, Standing, is_open, is_gone, nobody, no_subscription, topic_at, connection_at, speaker, subscription_at, entry_at, accepted_at, end_at, with_standing, start}
-use Rattle.delivery.specs.Events
-use Rattle.delivery.specs.Events.{Event, Outcome, happens, outcome, refusal, effect, answer, is_live, find_leftover, find_verdict, oldest_live, flown, flying_answer, proposal_fault, proposed_by, propose_answer, cancelled_at, cancel_answer, learned_at, leaving, handed, item_number, take_answer, left_by, leave_answer, closed_subscription, closed_with}
+use Rattle.mcast_group.specs.Topics.{Entry, Ended, Verdict}
+use Rattle.mcast_group.proofs.Parts.{some_same, none_some}
+use Rattle.delivery.specs.World.{World, Leftover, Connection, Subscription, Standing, is_open, nobody, no_subscription, topic_at, connection_at, speaker, subscription_at, entry_at, with_standing, start}
+use Rattle.delivery.specs.Events.{Event, Outcome, happens, outcome, refusal, effect, answer, is_live, find_leftover, find_verdict, oldest_live, flown, flying_answer, proposal_fault, proposed_by, propose_answer, cancelled_at, cancel_answer, learned_at, leaving, handed, take_answer, left_by, leave_answer, closed_subscription, closed_with}
 use Rattle.delivery.specs.Events.Event.{Topic_added, Opened, Commits, Subscribes, Unsubscribes, Disconnects, Errs, Lost, Leaves, Proposes, Decides, Withdraws, Cancels, Learns, Releases, Turns, Takes}
-use Rattle.delivery.specs.Events.Outcome.{Refused, Done, Flying, Subscribed, Unsubscribed, Leaving, Error, Gone, Ticket, Failed, Decided, Withdrawn, Cancelled, Learnt, Released, Turned, Handed}
+use Rattle.delivery.specs.Events.Outcome.{Refused, Done, Subscribed, Unsubscribed, Leaving, Error, Gone, Learnt, Handed}
 use Rattle.delivery.specs.Runs.{run, outcomes}
 use Rattle.delivery.specs.Settled.{Closes, IsSilent, SilentAfterClose}
 use Rattle.delivery.specs.Laws
 use Rattle.delivery.specs.Laws.{Run, came, after}
-use Rattle.delivery.proofs.Invariant.{topic_in, sub_in, HasEntry}
-use Rattle.delivery.proofs.Subscriptions.{at_push, at_push_two, at_old, at_end, push_length, set_length, finds_entry}
+use Rattle.delivery.proofs.Invariant.{topic_in, sub_in}
+use Rattle.delivery.proofs.Subscriptions.{at_push, at_old, at_end, push_length, set_length, finds_entry}
 use Rattle.delivery.proofs.Happening.{Reached, by_refusal, checked, step_reached, false_not}
 use Rattle.delivery.proofs.Accepting.{start_reached}
 

@@ -1,9 +1,9 @@
 -- What holds of each step.
-use Rattle.std.proofs.Common.{◌≡◌, ◌≢◌, ℕ, zero, suc, ◌+◌, ◌-◌, ◌<◌, ◌≤◌, ◌==◌, max, Bool, true, false, cond, not, ◌&&◌, ◌||◌, ◌⊎◌, inl, inr, List, [], ◌∷◌, ◌++◌, map, length, get_or, set, slice_get, Option, Some, None, refl, sym, ap, subst, ◌∙◌, arith, ltb}
+use Rattle.std.proofs.Common.{◌≡◌, ◌≢◌, ℕ, ◌+◌, ◌<◌, max, Bool, true, false, cond, ◌⊎◌, inl, inr, List, [], ◌∷◌, ◌++◌, length, set, Option, Some, None, refl, sym, ap, subst, ◌∙◌, ltb}
 use Rattle.std.specs.Option.{is_some}
 use Rattle.std.proofs.lemmas.Bool.{true≢false, false≢true}
 use Rattle.mcast_txn.specs.Transaction.{topics_of}
-use Rattle.mcast_txn.specs.Agreed.{Row, In, names}
+use Rattle.mcast_txn.specs.Agreed.{In, names}
 use Rattle.mcast_txn.specs.declared.id.Topic.{Topic}
 use Rattle.mcast_txn.specs.declared.id.TxnId.{TxnId}
 use Rattle.mcast_txn.specs.declared.send.Send.{Send}
@@ -14,15 +14,14 @@ use Rattle.mcast_group.specs.declared.fault.LearnFault.{LearnFault}
 use Rattle.mcast_group.specs.declared.fault.CancelFault.{CancelFault}
 use Rattle.mcast_group.specs.Checks.{first_refusal}
 use Rattle.mcast_group.specs.Span.{Item}
-use Rattle.mcast_group.specs.Topics.{TopicState, Pending, Entry, Ended, Verdict, new_topic, find_pending, cancel_fault, cancel_fault_of, learn_fault, delivered, released, released_if, release, item_of, due_part}
-use Rattle.mcast_group.proofs.Parts.{Waits, found_part, some_same, none_some}
+use Rattle.mcast_group.specs.Topics.{TopicState, Pending, Entry, Verdict, new_topic, find_pending, cancel_fault_of, learn_fault, delivered, released_if, release, item_of}
+use Rattle.mcast_group.proofs.Parts.{found_part, some_same, none_some}
 use Rattle.delivery.specs.declared.refusal.Refusal.{Refusal}
-use Rattle.delivery.specs.World.{World, Flight, Leftover, SenderState, Subscription, topic_at, speaker, connection_at, subscription_at, entry_at, accepted_at, start}
-use Rattle.delivery.specs.Events
-use Rattle.delivery.specs.Events.{Event, Outcome, happens, outcome, refusal, checks, topic_refusal, or_else, effect, answer, flight_at, find_leftover, find_verdict, find_in, oldest_live, flown, flying_answer, proposal_fault, proposed_by, propose_answer, cancelled_at, cancelling, cancel_refusal, cancel_answer, learned_at, learning, learn_refusal, takes, handed, take_answer, left_by, leave_answer, closed_subscription, closed_with}
+use Rattle.delivery.specs.World.{World, Leftover, topic_at, speaker, connection_at, subscription_at, entry_at, start}
+use Rattle.delivery.specs.Events.{Event, Outcome, happens, outcome, refusal, checks, topic_refusal, or_else, effect, answer, flight_at, find_leftover, find_verdict, oldest_live, flown, flying_answer, proposal_fault, proposed_by, propose_answer, cancelled_at, cancelling, cancel_refusal, cancel_answer, learned_at, learning, learn_refusal, takes, handed, take_answer, left_by, leave_answer, closed_with}
 use Rattle.delivery.specs.Events.Event.{Topic_added, Opened, Commits, Subscribes, Unsubscribes, Disconnects, Errs, Lost, Leaves, Proposes, Decides, Withdraws, Cancels, Learns, Releases, Turns, Takes}
-use Rattle.delivery.specs.Events.Outcome.{Refused, Done, Flying, Subscribed, Unsubscribed, Leaving, Error, Gone, Ticket, Failed, Decided, Withdrawn, Cancelled, Learnt, Released, Turned, Handed}
-use Rattle.delivery.specs.Runs.{run, outcomes}
+use Rattle.delivery.specs.Events.Outcome.{Refused, Ticket}
+use Rattle.delivery.specs.Runs.{outcomes}
 use Rattle.delivery.specs.Laws
 use Rattle.delivery.specs.Laws.{Run, came, after, topic_of, live_topic, is_odd, IsGiven}
 use Rattle.delivery.proofs.Invariant.{topic_in, Inv, Holds, Committed}

@@ -1,22 +1,17 @@
 -- Subscriptions begin, end and are handed items; topics are added.
-use Rattle.std.proofs.Common.{◌≡◌, ◌≢◌, ℕ, zero, suc, ◌+◌, ◌<◌, ◌≤◌, ◌==◌, max, Bool, true, false, cond, not, ◌&&◌, ◌||◌, ◌⊎◌, inl, inr, List, [], ◌∷◌, ◌++◌, map, length, get_or, set, Option, Some, None, refl, sym, ap, subst, ◌∙◌, arith, ltb}
-use Rattle.std.specs.List.{filter, list_any}
-use Rattle.std.proofs.lemmas.Bool.{true≢false, false≢true, not-true, and_parts, and_from, eqb-true, eq-eqb, cases_lt}
-use Rattle.std.proofs.lemmas.List.{get_or_past}
-use Rattle.mcast_txn.specs.Stamp.{stamp_lt, zero_stamp}
-use Rattle.mcast_txn.specs.Transaction.{topics_of}
-use Rattle.mcast_txn.specs.Agreed.{Row, In, names}
+use Rattle.std.proofs.Common.{◌≡◌, ◌≢◌, ℕ, zero, suc, ◌+◌, ◌<◌, ◌≤◌, ◌==◌, Bool, true, false, cond, not, inl, inr, List, [], ◌∷◌, ◌++◌, length, get_or, set, Option, Some, None, refl, sym, ap, subst, ◌∙◌, arith}
+use Rattle.std.specs.List.{filter}
+use Rattle.std.proofs.lemmas.Bool.{true≢false, not-true, eqb-true, eq-eqb}
+use Rattle.mcast_txn.specs.Agreed.{Row, In}
 use Rattle.mcast_txn.specs.declared.id.Topic.{Topic}
-use Rattle.mcast_txn.specs.declared.id.TxnId.{TxnId}
 use Rattle.mcast_txn.specs.declared.stamp.Stamp.{Stamp}
 use Rattle.mcast_txn.proofs.Members.{In-append_left, In-push, In-push_cases, In-filter, In-filter_cases, at_set, at_set_within, push_one, push_two}
-use Rattle.mcast_group.specs.Span.{LogRow, Item}
+use Rattle.mcast_group.specs.Span.{Item}
 use Rattle.mcast_group.specs.Sound.{IsSound, IsQueueOf}
-use Rattle.mcast_group.specs.Topics.{TopicState, Pending, Entry, Ended, Verdict, new_topic, find_entry, subscribed, ended, unsubscribed}
+use Rattle.mcast_group.specs.Topics.{TopicState, Entry, Ended, new_topic, find_entry, subscribed, ended, unsubscribed}
 use Rattle.mcast_group.proofs.Parts.{Waits, some_same, none_some, not_true}
 use Rattle.mcast_group.proofs.Queues.{Queue-ended}
 use Rattle.mcast_group.proofs.Keeping.{Sound-new, Sound-subscribed, Sound-unsubscribed}
-use Rattle.delivery.specs.Due.{log_row}
 use Rattle.delivery.specs.World.{World, Subscription, SenderState, new_sender, no_subscription}
 use Rattle.delivery.proofs.Invariant.{Tied, topic_in, Serves, sender_in, HasEntry, Owned, IsClosed, sub_in, Subscribes, Inv, Holds}
 use Rattle.delivery.proofs.Keeping.{Serves-topics, same_topic, at_topic, at_topic_from}

@@ -1,21 +1,21 @@
 -- The verdict of a pending part is its own, and clashes with none.
-use Rattle.std.proofs.Common.{◌≡◌, ◌≢◌, ℕ, ◌==◌, Bool, true, false, cond, not, ◌&&◌, ◌||◌, ◌⊎◌, inl, inr, List, [], ◌∷◌, map, Option, Some, None, refl, sym, ap, subst, ◌∙◌}
+use Rattle.std.proofs.Common.{◌≡◌, Bool, true, false, not, ◌&&◌, ◌||◌, ◌⊎◌, inl, inr, List, [], ◌∷◌, Option, Some, None, refl, sym, ap, ◌∙◌}
 use Rattle.std.specs.List.{list_any}
-use Rattle.std.proofs.lemmas.Bool.{true≢false, false≢true, not-true, and_parts, and_from}
-use Rattle.mcast_txn.specs.Transaction.{TopicPart, topics_of}
+use Rattle.std.proofs.lemmas.Bool.{true≢false, not-true, and_parts, and_from}
+use Rattle.mcast_txn.specs.Transaction.{TopicPart}
 use Rattle.mcast_txn.specs.Agreed.{Transaction, Row, same_id, In}
 use Rattle.mcast_txn.specs.declared.id.Topic.{Topic}
 use Rattle.mcast_txn.specs.declared.id.TxnId.{TxnId}
 use Rattle.mcast_txn.specs.declared.stamp.Stamp.{Stamp}
-use Rattle.mcast_txn.proofs.Orders.{id_equal, id_same, id_itself}
+use Rattle.mcast_txn.proofs.Orders.{id_same}
 use Rattle.mcast_txn.proofs.Members.{any_found, any_from}
 use Rattle.mcast_group.specs.declared.fault.LearnFault.{LearnFault}
-use Rattle.mcast_group.specs.Fitting.{Fits, HasVerdict}
+use Rattle.mcast_group.specs.Fitting.{Fits}
 use Rattle.mcast_group.specs.Topics.{TopicState, Pending, Verdict, IsVerdict, key, find_pending, has_row, is_foreign, learnt_other, clashes, learn_fault, learn_fault_of, same_stamp}
-use Rattle.mcast_group.proofs.Parts.{Waits, found_part, same_stamp_is, same_stamp_from, not_true, some_same, none_some}
+use Rattle.mcast_group.proofs.Parts.{found_part, same_stamp_is, same_stamp_from, not_true}
 use Rattle.delivery.specs.World.{World}
 use Rattle.delivery.specs.Events.{find_in, find_verdict}
-use Rattle.delivery.proofs.Invariant.{row, Consistent, Tied, Ticketed, Committed, Voted, HasVote, topic_in, Inv, Holds}
+use Rattle.delivery.proofs.Invariant.{row, topic_in, Holds}
 use Rattle.delivery.proofs.Keeping.{one_commit, key_ticket}
 use Rattle.delivery.proofs.Happening.{verdict_found}
 

@@ -1,5 +1,5 @@
 -- The core's events so far as they touch topics and transactions: what each refuses, what it does, and what it answers.
-use Rattle.std.specs.Prelude.{◌≡◌, ℕ, zero, suc, ◌-◌, ◌+◌, ◌==◌, nat_lt, Bool, true, false, not, ◌&&◌, ◌||◌, List, [], ◌∷◌, ◌++◌, map, length, get_or, set, Option, Some, None, if◌then◌else◌}
+use Rattle.std.specs.Prelude.{ℕ, zero, suc, ◌-◌, ◌+◌, ◌==◌, nat_lt, Bool, not, ◌&&◌, ◌||◌, List, [], ◌∷◌, ◌++◌, map, length, Option, Some, None, if◌then◌else◌}
 use Rattle.std.specs.List.{list_any, list_all}
 use Rattle.std.specs.Option.{is_some}
 use Rattle.mcast_txn.specs.declared.id.Topic.{Topic}
@@ -8,15 +8,15 @@ use Rattle.mcast_txn.specs.declared.send.Send.{Send}
 use Rattle.mcast_txn.specs.declared.stamp.Stamp.{Stamp}
 use Rattle.mcast_txn.specs.Stamp.{zero_stamp, greatest}
 use Rattle.mcast_txn.specs.Transaction.{TopicPart, topics_of, part_of}
-use Rattle.mcast_txn.specs.Agreed.{Transaction, Row, same_id, names}
+use Rattle.mcast_txn.specs.Agreed.{Transaction, same_id, names}
 use Rattle.mcast_group.specs.declared.fault.ProposeFault.{ProposeFault}
 use Rattle.mcast_group.specs.declared.fault.LearnFault.{LearnFault}
 use Rattle.mcast_group.specs.declared.fault.CancelFault.{CancelFault}
 use Rattle.mcast_group.specs.Checks.{first_refusal}
 use Rattle.mcast_group.specs.Span.{Item}
-use Rattle.mcast_group.specs.Topics.{TopicState, Entry, Ended, Verdict, Pending, new_topic, last_number, next_number, propose_fault, proposed, learn_fault, learned, cancel_fault, cancelled, due_part, release, released_times, tried_all, turned, key, subscribed, ended, unsubscribed}
+use Rattle.mcast_group.specs.Topics.{Entry, Verdict, new_topic, last_number, next_number, propose_fault, proposed, learn_fault, learned, cancel_fault, cancelled, due_part, release, turned, subscribed, ended, unsubscribed}
 use Rattle.delivery.specs.declared.refusal.Refusal.{Refusal}
-use Rattle.delivery.specs.World.{World, Flight, Leftover, SenderState, Connection, Subscription, Standing, is_open, is_gone, topic_at, sender_at, new_sender, connection_at, speaker, subscription_at, entry_at, accepted_at, end_at, with_topic, with_sender, with_standing, with_subscription}
+use Rattle.delivery.specs.World.{World, Flight, Leftover, Subscription, Standing, is_open, is_gone, topic_at, new_sender, connection_at, speaker, subscription_at, entry_at, accepted_at, end_at, with_topic, with_sender, with_standing, with_subscription}
 
 pub data Event : Type 0 where
   -- a topic is added, with this opening clock

@@ -9,14 +9,14 @@ use Rattle.mcast_txn.specs.Transaction.{topics_of}
 use Rattle.mcast_txn.specs.Agreed.{Row, In, names, same_id, agreed, EachOnce, SenderOrder}
 use Rattle.mcast_group.specs.declared.fault.LearnFault.{LearnFault}
 use Rattle.mcast_group.specs.Span.{Item}
-use Rattle.mcast_group.specs.Topics.{TopicState, Pending, Entry, Verdict, learn_fault, delivered, item_of, due_part}
+use Rattle.mcast_group.specs.Topics.{Pending, Entry, Verdict, learn_fault, item_of, due_part}
 use Rattle.delivery.specs.declared.refusal.Refusal.{Refusal}
 use Rattle.delivery.specs.Due.{log_row, due}
 use Rattle.delivery.specs.World.{World, start, topic_at, speaker, subscription_at, accepted_at, span_at, log_at, frontier_at}
 use Rattle.delivery.specs.Events.{Event, Outcome, happens, outcome, refusal, flight_at, find_in, oldest_live}
-use Rattle.delivery.specs.Events.Event.{Topic_added, Opened, Commits, Subscribes, Unsubscribes, Disconnects, Errs, Lost, Leaves, Proposes, Decides, Withdraws, Cancels, Learns, Releases, Turns, Takes}
+use Rattle.delivery.specs.Events.Event.{Subscribes, Unsubscribes, Leaves, Proposes, Cancels, Learns, Releases, Turns}
 use Rattle.delivery.specs.Events.Outcome.{Refused, Ticket, Decided}
-use Rattle.delivery.specs.Runs.{run, outcomes, commits_of, tickets_of, handed_of}
+use Rattle.delivery.specs.Runs.{run, outcomes, commits_of, tickets_of, handed_of, Numbered}
 use Rattle.delivery.specs.Settled.{IsSettled, SilentAfterClose}
 
 -- a run: how many items a queue holds, how many rows a topic holds, the topics' opening clocks, and the events
@@ -44,6 +44,10 @@ AcceptedIsDue =
     (r : Run) (s : ℕ) → s < length (after r).subscriptions
     → accepted_at (after r) s
     ≡ due (commits_of (came r)) (span_at (after r) s) (frontier_at (after r) (subscription_at (after r) s).topic)
+
+-- a transaction's seq counts those that its sender has made
+abbrev pub SeqsCount : Type 0
+SeqsCount = (r : Run) → Numbered (came r)
 
 -- no id and no stamp stands twice in the agreed sequence
 abbrev pub AgreedOnce : Type 0

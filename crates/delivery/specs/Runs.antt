@@ -1,8 +1,6 @@
 -- A run: a list of events, what came of each, and what a reader takes from that list. It has the newest first.
-use Rattle.std.specs.Prelude.{◌≡◌, ℕ, ◌==◌, Bool, true, false, List, [], ◌∷◌, ◌++◌, Option, Some, None, if◌then◌else◌}
-use Rattle.mcast_txn.specs.declared.id.Topic.{Topic}
+use Rattle.std.specs.Prelude.{◌≡◌, ℕ, ◌+◌, ◌==◌, List, [], ◌∷◌, ◌++◌, if◌then◌else◌}
 use Rattle.mcast_txn.specs.declared.id.TxnId.{TxnId}
-use Rattle.mcast_txn.specs.declared.send.Send.{Send}
 use Rattle.mcast_txn.specs.declared.stamp.Stamp.{Stamp}
 use Rattle.mcast_txn.specs.Agreed.{Transaction, Row, same_id}
 use Rattle.mcast_group.specs.Span.{Item}
@@ -43,3 +41,15 @@ abbrev pub handed_of : ℕ → List Outcome → List Item
 handed_of s [] = []
 handed_of s (Handed r item ∷ before) = if r == s then handed_of s before ++ item ∷ [] else handed_of s before
 handed_of s (o ∷ before) = handed_of s before
+
+-- how many transactions this sender has made
+abbrev pub made_by : ℕ → List Outcome → ℕ
+made_by s [] = 0
+made_by s (Flying txn ∷ before) = if txn.id.sender.0 == s then made_by s before + 1 else made_by s before
+made_by s (o ∷ before) = made_by s before
+
+-- the seq of each transaction counts its sender's, from 1
+abbrev pub Numbered : List Outcome → Type 0
+Numbered [] = Unit {0}
+Numbered (Flying txn ∷ before) = (txn.id.seq ≡ made_by txn.id.sender.0 before + 1) × Numbered before
+Numbered (o ∷ before) = Numbered before

@@ -1,11 +1,10 @@
 -- When a topic is settled in a run, and when a subscription is silent.
-use Rattle.std.specs.Prelude.{◌≡◌, ◌≢◌, ℕ, ◌==◌, Bool, true, false, List, [], ◌∷◌, ◌⊎◌}
+use Rattle.std.specs.Prelude.{◌≡◌, ◌≢◌, ℕ, Bool, true, false, List, [], ◌∷◌, ◌⊎◌}
 use Rattle.mcast_txn.specs.declared.id.Topic.{Topic}
 use Rattle.mcast_txn.specs.declared.id.TxnId.{TxnId}
 use Rattle.mcast_txn.specs.declared.stamp.Stamp.{Stamp}
 use Rattle.mcast_txn.specs.Transaction.{topics_of}
 use Rattle.mcast_txn.specs.Agreed.{Transaction, In, names}
-use Rattle.mcast_group.specs.Span.{Item}
 use Rattle.delivery.specs.Events.{Outcome}
 use Rattle.delivery.specs.Events.Outcome.{Flying, Ticket, Decided, Withdrawn, Cancelled, Turned, Subscribed, Unsubscribed, Leaving, Error, Handed}
 use Rattle.delivery.specs.Runs.{made}

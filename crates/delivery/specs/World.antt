@@ -1,12 +1,10 @@
 -- What the core holds of topics, senders, connections and subscriptions.
-use Rattle.std.specs.Prelude.{◌≡◌, ℕ, ◌-◌, ◌+◌, ◌==◌, nat_lt, Bool, true, false, not, ◌&&◌, ◌||◌, List, [], ◌∷◌, ◌++◌, map, length, get_or, set, filter, Option, Some, None, if◌then◌else◌}
-use Rattle.std.specs.List.{list_any}
-use Rattle.std.specs.Option.{is_some}
+use Rattle.std.specs.Prelude.{ℕ, ◌+◌, Bool, true, false, List, [], ◌∷◌, get_or, set, Option, Some, None}
 use Rattle.mcast_txn.specs.declared.id.Topic.{Topic}
 use Rattle.mcast_txn.specs.declared.id.TxnId.{TxnId}
 use Rattle.mcast_txn.specs.declared.stamp.Stamp.{Stamp}
 use Rattle.mcast_txn.specs.Stamp.{zero_stamp}
-use Rattle.mcast_txn.specs.Agreed.{Transaction, Row, same_id}
+use Rattle.mcast_txn.specs.Agreed.{Transaction, Row}
 use Rattle.mcast_group.specs.declared.fault.ProposeFault.{ProposeFault}
 use Rattle.mcast_group.specs.Span.{LogRow, Item, Span, last_stamp}
 use Rattle.mcast_group.specs.Topics.{TopicState, Entry, Ended, Verdict, new_topic, find_entry}

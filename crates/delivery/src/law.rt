@@ -1,6 +1,6 @@
 //! Laws: functions that do nothing, whose contracts are theorems about every run of the core.
 
-ghost use Rattle.delivery.specs.Laws.{AcceptedIsDue, AgreedInSenderOrder, AgreedOnce, ClosedIsSilent, CommitsAreKept, FoundIsLearnt, HandedIsPrefix, LagsWhereFull, OddNeverComes, OthersUntouched, RefusalsChangeNothing, SettledLeavesNoneOut, SharedInOneOrder, StampIsGreatest, TicketIsOwn};
+ghost use Rattle.delivery.specs.Laws.{AcceptedIsDue, AgreedInSenderOrder, AgreedOnce, ClosedIsSilent, CommitsAreKept, FoundIsLearnt, HandedIsPrefix, LagsWhereFull, OddNeverComes, OthersUntouched, RefusalsChangeNothing, SeqsCount, SettledLeavesNoneOut, SharedInOneOrder, StampIsGreatest, TicketIsOwn};
 
 /// The core's commit list is that of the decisions in the run.
 pub fn commits()
@@ -71,4 +71,9 @@ pub fn handed_prefix()
 /// itself, by an ERROR or by loss.
 pub fn silent_after_close()
     ensures { ClosedIsSilent }
+{}
+
+/// The seq of each transaction counts those that its sender has made, from 1.
+pub fn numbers()
+    ensures { SeqsCount }
 {}

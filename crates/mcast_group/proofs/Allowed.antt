@@ -1,11 +1,8 @@
 -- What isn't refused is allowed.
-use Rattle.std.proofs.Common.{◌≡◌, ℕ, ◌+◌, ◌<◌, max, Bool, true, false, cond, not, length, List, [], ◌∷◌, Option, Some, None, refl, sym, ltb}
+use Rattle.std.proofs.Common.{◌≡◌, ◌+◌, Bool, true, false, cond, not, length, List, [], ◌∷◌, Option, Some, None, refl, sym}
 use Rattle.std.proofs.lemmas.Bool.{true≢false, ltb-true}
-use Rattle.mcast_txn.specs.declared.stamp.Stamp.{Stamp}
-use Rattle.mcast_txn.specs.Transaction.{TopicPart}
-use Rattle.mcast_group.specs.declared.fault.ProposeFault.{ProposeFault}
 use Rattle.mcast_group.specs.Checks.{first_refusal}
-use Rattle.mcast_group.specs.Topics.{TopicState, is_pending, propose_checks, propose_fault}
+use Rattle.mcast_group.specs.Topics.{propose_checks}
 use Rattle.mcast_group.specs.Laws.{KeepsSound}
 use Rattle.mcast_group.proofs.Parts.{none_some}
 use Rattle.mcast_group.proofs.Keeping.{Sound-new, Sound-proposed, learns_is, Sound-learned, Sound-cancelled, Sound-subscribed, Sound-unsubscribed, Sound-drained}

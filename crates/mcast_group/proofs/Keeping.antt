@@ -1,22 +1,21 @@
 -- Each step keeps a topic sound.
-use Rattle.std.proofs.Common.{◌≡◌, ◌≢◌, ℕ, zero, suc, ◌+◌, ◌<◌, ◌≤◌, ◌==◌, max, Bool, true, false, cond, not, ◌&&◌, ◌||◌, ◌⊎◌, inl, inr, List, [], ◌∷◌, ◌++◌, map, length, Option, Some, None, refl, sym, ap, subst, ◌∙◌, arith, ltb}
+use Rattle.std.proofs.Common.{◌≡◌, ℕ, suc, ◌+◌, ◌<◌, ◌≤◌, ◌==◌, max, Bool, true, false, cond, not, ◌&&◌, ◌||◌, inl, inr, List, [], ◌∷◌, ◌++◌, length, Option, Some, None, refl, sym, ap, subst, ◌∙◌, arith}
 use Rattle.std.specs.List.{filter, list_any}
-use Rattle.std.proofs.lemmas.Bool.{true≢false, false≢true, not-true, and_parts, and_from, or_cases}
-use Rattle.std.proofs.lemmas.Bool.Decides.{nat_tests}
+use Rattle.std.proofs.lemmas.Bool.{true≢false, and_parts}
 use Rattle.mcast_txn.specs.Stamp.{stamp_lt, zero_stamp, greatest}
 use Rattle.mcast_txn.specs.Transaction.{TopicPart}
-use Rattle.mcast_txn.specs.Agreed.{same_id, In, Rises}
+use Rattle.mcast_txn.specs.Agreed.{same_id, In}
 use Rattle.mcast_txn.specs.declared.id.Topic.{Topic}
 use Rattle.mcast_txn.specs.declared.id.TxnId.{TxnId}
 use Rattle.mcast_txn.specs.declared.stamp.Stamp.{Stamp}
-use Rattle.mcast_txn.proofs.Orders.{lt_irrefl, lt_trans, lt_asym, lt_le, le_lt, le_trans, lt_by_number, strictly, id_equal, id_same, id_turned, id_itself}
-use Rattle.mcast_txn.proofs.Members.{In-append_left, In-push, In-push_cases, In-map, In-map_cases, In-filter_cases, any_found, any_from, push_one}
+use Rattle.mcast_txn.proofs.Orders.{lt_irrefl, lt_asym, lt_le, le_lt, lt_by_number, strictly, id_equal, id_same, id_turned, id_itself}
+use Rattle.mcast_txn.proofs.Members.{In-map_cases, In-filter_cases, any_found, any_from, push_one}
 use Rattle.mcast_txn.proofs.Sorting.{Rises-push}
 use Rattle.mcast_txn.proofs.Greatest.{greatest_past}
-use Rattle.mcast_group.specs.Span.{LogRow, Item, in_span, last_stamp}
+use Rattle.mcast_group.specs.Span.{LogRow, last_stamp}
 use Rattle.mcast_group.specs.Sound.{IsSound, IsQueueOf, row_stamp}
-use Rattle.mcast_group.specs.Topics.{TopicState, Pending, Entry, Verdict, IsVerdict, key, new_topic, next_number, proposed, is_pending, insert_pending, has_row, is_foreign, learnt_other, clashes, learn_fault, learn_fault_of, find_pending, learned, told, cancelled, without, released, row_of, item_of, delivered, subscribed, unsubscribed, drained, due_part, same_stamp}
-use Rattle.mcast_group.proofs.Parts.{insert_length, insert_one, insert_two, not_pending, told_how, each_told, each_two_told, with_stamp, map_length, Least, Due, others, found_part, same_stamp_is, same_stamp_itself, not_true, some_same, none_some}
+use Rattle.mcast_group.specs.Topics.{TopicState, Pending, Entry, Verdict, IsVerdict, key, new_topic, next_number, proposed, is_pending, has_row, is_foreign, learnt_other, clashes, learn_fault, learn_fault_of, find_pending, learned, told, cancelled, released, row_of, item_of, delivered, subscribed, unsubscribed, drained, same_stamp}
+use Rattle.mcast_group.proofs.Parts.{insert_length, insert_one, insert_two, not_pending, each_told, each_two_told, with_stamp, map_length, Due, others, found_part, same_stamp_is, same_stamp_itself}
 use Rattle.mcast_group.proofs.Queues.{Queue-delivered, Queue-new, Queue-drained, Next}
 
 pub Sound-new : (t : Topic) (log_limit clock : ℕ) → IsSound (new_topic t log_limit clock)

@@ -1,15 +1,15 @@
 -- What a queue accepted, beside the held rows.
-use Rattle.std.proofs.Common.{◌≡◌, ◌≢◌, ℕ, Bool, true, false, cond, not, ◌&&◌, ◌⊎◌, inl, inr, List, [], ◌∷◌, ◌++◌, map, Option, Some, None, refl, sym, ap, subst, ◌∙◌}
-use Rattle.std.proofs.lemmas.Bool.{true≢false, false≢true, not-true, and_parts, and_from}
-use Rattle.mcast_txn.specs.Stamp.{stamp_lt, zero_stamp}
-use Rattle.mcast_txn.specs.Agreed.{same_id, In, Rises}
+use Rattle.std.proofs.Common.{◌≡◌, ℕ, Bool, true, false, cond, not, ◌⊎◌, inl, inr, List, [], ◌∷◌, ◌++◌, Option, Some, None, refl, sym, ap, subst, ◌∙◌}
+use Rattle.std.proofs.lemmas.Bool.{true≢false, and_parts, and_from}
+use Rattle.mcast_txn.specs.Stamp.{stamp_lt}
+use Rattle.mcast_txn.specs.Agreed.{In}
 use Rattle.mcast_txn.specs.declared.stamp.Stamp.{Stamp}
-use Rattle.mcast_txn.proofs.Orders.{lt_irrefl, lt_trans, lt_asym, lt_le, le_lt, le_trans, zero_least}
+use Rattle.mcast_txn.proofs.Orders.{lt_irrefl, lt_asym, le_lt}
 use Rattle.mcast_txn.proofs.Members.{In-append_left, In-push, In-push_cases}
 use Rattle.mcast_txn.proofs.Sorting.{Rises-push}
-use Rattle.mcast_group.specs.Span.{LogRow, Item, in_span, up_to}
+use Rattle.mcast_group.specs.Span.{LogRow, Item, in_span}
 use Rattle.mcast_group.specs.Sound.{IsQueueOf, IsItemOf, HasItem, HasRow, item_stamp}
-use Rattle.mcast_group.specs.Topics.{Entry, Ended, delivered, ended}
+use Rattle.mcast_group.specs.Topics.{Entry, delivered, ended}
 use Rattle.mcast_group.proofs.Parts.{some_same, none_some}
 
 abbrev entry : ℕ → Stamp → Option Stamp → List Item → Entry

@@ -1,21 +1,21 @@
 -- A turn keeps a topic sound, and leaves no part pending where the verdicts fit.
-use Rattle.std.proofs.Common.{◌≡◌, ◌≢◌, ℕ, zero, suc, ◌+◌, ◌<◌, ◌≤◌, ◌==◌, max, Bool, true, false, cond, not, ◌&&◌, ◌||◌, ◌⊎◌, inl, inr, List, [], ◌∷◌, ◌++◌, map, length, Option, Some, None, refl, sym, ap, subst, ◌∙◌, arith}
-use Rattle.std.specs.List.{filter, list_any}
+use Rattle.std.proofs.Common.{◌≡◌, ℕ, zero, suc, ◌<◌, ◌≤◌, Bool, true, false, not, ◌&&◌, ◌||◌, ◌⊎◌, inl, inr, List, [], ◌∷◌, length, Option, Some, None, refl, sym, ap, subst, ◌∙◌, arith}
+use Rattle.std.specs.List.{list_any}
 use Rattle.std.specs.Option.{is_some}
-use Rattle.std.proofs.lemmas.Bool.{true≢false, false≢true, not-true, and_parts, and_from}
-use Rattle.mcast_txn.specs.Stamp.{stamp_lt, greatest}
+use Rattle.std.proofs.lemmas.Bool.{true≢false, not-true, and_parts}
+use Rattle.mcast_txn.specs.Stamp.{greatest}
 use Rattle.mcast_txn.specs.Agreed.{same_id, In}
 use Rattle.mcast_txn.specs.declared.id.TxnId.{TxnId}
 use Rattle.mcast_txn.specs.declared.stamp.Stamp.{Stamp}
-use Rattle.mcast_txn.proofs.Orders.{id_equal, id_same, id_turned, id_itself}
-use Rattle.mcast_txn.proofs.Members.{In-map, In-map_cases, In-filter_cases, any_found, any_from}
-use Rattle.mcast_txn.proofs.Greatest.{greatest_in, greatest_past}
+use Rattle.mcast_txn.proofs.Orders.{id_equal, id_same, id_itself}
+use Rattle.mcast_txn.proofs.Members.{In-map_cases, any_found}
+use Rattle.mcast_txn.proofs.Greatest.{greatest_in}
 use Rattle.mcast_group.specs.declared.fault.LearnFault.{LearnFault}
 use Rattle.mcast_group.specs.Sound.{IsSound}
 use Rattle.mcast_group.specs.Fitting.{Fits, HasVerdict}
-use Rattle.mcast_group.specs.Topics.{TopicState, Pending, Entry, Verdict, IsVerdict, key, find_pending, has_row, is_foreign, learnt_other, clashes, learn_fault, learn_fault_of, learned, told, without, least, if_learnt, due_part, released, released_if, release, tried, tried_all, released_times, turned, same_stamp}
-use Rattle.mcast_group.proofs.Parts.{Waits, Waits-told, Finds, finds_part, found_part, told_how, Told, Least, least_is, Due, due_is, others, same_stamp_is, same_stamp_from, not_true, some_same, none_some, with_stamp}
-use Rattle.mcast_group.proofs.Keeping.{Learns, learns_is, Sound-learned, Sound-released, filter_lt}
+use Rattle.mcast_group.specs.Topics.{TopicState, Pending, Entry, Verdict, IsVerdict, key, find_pending, has_row, is_foreign, learnt_other, clashes, learn_fault, learned, told, least, if_learnt, due_part, released, released_if, release, tried, tried_all, released_times, turned, same_stamp}
+use Rattle.mcast_group.proofs.Parts.{Waits, Waits-told, finds_part, found_part, told_how, Told, least_is, due_is, others, same_stamp_is, same_stamp_from, not_true, some_same}
+use Rattle.mcast_group.proofs.Keeping.{learns_is, Sound-learned, Sound-released, filter_lt}
 
 -- ---- what each step of a turn keeps, the turn keeps
 

@@ -1,5 +1,5 @@
 -- What a topic keeps, whatever is asked of it.
-use Rattle.std.specs.Prelude.{◌≡◌, ℕ, ◌+◌, ◌≤◌, true, false, List, length, Option, Some, None}
+use Rattle.std.specs.Prelude.{◌≡◌, ◌+◌, ◌≤◌, true, false, List, length, Option, Some}
 use Rattle.mcast_txn.specs.declared.stamp.Stamp.{Stamp}
 use Rattle.mcast_txn.specs.Stamp.{stamp_lt}
 use Rattle.mcast_txn.specs.Agreed.{same_id, In, Rises}
