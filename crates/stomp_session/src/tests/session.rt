@@ -145,7 +145,7 @@ fn a_stomp_has_none(rt: HostRuntime) -> Result<(), Fail> {
 #[test]
 fn a_receipt_is_written(rt: HostRuntime) -> Result<(), Fail> {
     let alloc = rt.alloc();
-    let mut client = Client::connected(alloc)?;
+    let mut client = Client::begun(alloc)?;
     let id = client.receipt(
         Command::Subscribe,
         &[(b"id", b"s"), (b"destination", b"A"), (b"receipt", b"r")],
