@@ -4,11 +4,12 @@ use Rattle.std.specs.List.{list_any}
 use Rattle.mcast_txn.specs.declared.id.Topic.{Topic}
 use Rattle.mcast_txn.specs.declared.id.TxnId.{TxnId}
 use Rattle.mcast_txn.specs.declared.stamp.Stamp.{Stamp}
-use Rattle.mcast_txn.specs.Stamp.{greatest}
+use Rattle.mcast_txn.specs.Stamp.{zero_stamp, stamp_lt, greatest}
 use Rattle.mcast_txn.specs.Transaction.{topics_of}
 use Rattle.mcast_txn.specs.Agreed.{Row, In, names, same_id, agreed, EachOnce, SenderOrder}
 use Rattle.mcast_group.specs.declared.fault.LearnFault.{LearnFault}
 use Rattle.mcast_group.specs.Span.{Item}
+use Rattle.mcast_group.specs.Sound.{IsSound}
 use Rattle.mcast_group.specs.Topics.{Pending, Entry, Verdict, learn_fault, item_of, due_part}
 use Rattle.delivery.specs.declared.refusal.Refusal.{Refusal}
 use Rattle.delivery.specs.Due.{log_row, due}
@@ -75,11 +76,19 @@ SharedInOneOrder =
     (r : Run) (s q : ℕ) → s < length (after r).subscriptions → q < length (after r).subscriptions
     → shared (accepted_at (after r) s) (accepted_at (after r) q) ≡ shared (accepted_at (after r) q) (accepted_at (after r) s)
 
--- a committed transaction that names a settled topic stands in its log
+-- a committed transaction that names a settled topic stands in its log, at most at its frontier
 abbrev pub SettledLeavesNoneOut : Type 0
 SettledLeavesNoneOut =
     (r : Run) (t : Topic) (row : Row) → IsSettled t (came r) → In row (commits_of (came r))
-    → names t (topics_of row.txn.sends) ≡ true → In (log_row row) (log_at (after r) t)
+    → names t (topics_of row.txn.sends) ≡ true
+    → In (log_row row) (log_at (after r) t) × (stamp_lt (frontier_at (after r) t) row.stamp ≡ false)
+
+-- a topic's log is whole: nothing was drained of it, its rows rise, and its frontier is the stamp of the last
+abbrev pub TopicsAreSound : Type 0
+TopicsAreSound =
+    (r : Run) (t : Topic)
+    → IsSound (topic_at (after r) t) × ((topic_at (after r) t).base ≡ zero_stamp)
+    × ((topic_at (after r) t).frontier ≡ frontier_at (after r) t)
 
 -- what was handed on is a prefix of what was accepted
 abbrev pub HandedIsPrefix : Type 0

@@ -115,7 +115,7 @@ subscription_at w s = get_or w.subscriptions s no_subscription
 abbrev pub entry_at : World → ℕ → Option Entry
 entry_at w s = find_entry s (topic_at w (subscription_at w s).topic).subscriptions
 
--- the rows of a topic's log
+-- the rows that a topic holds: its whole log while nothing is drained, as in every run
 abbrev pub log_at : World → Topic → List LogRow
 log_at w t = (topic_at w t).held
 
