@@ -7,7 +7,8 @@ use Rattle.mcast_txn.specs.declared.id.Topic.{Topic}
 use Rattle.mcast_group.specs.Span.{last_stamp}
 use Rattle.mcast_group.specs.Sound.{IsSound}
 use Rattle.delivery.specs.Due.{log_row}
-use Rattle.delivery.specs.World.{topic_at, log_at, frontier_at}
+use Rattle.delivery.specs.World.{topic_at}
+use Rattle.delivery.specs.Reading.{log_at, frontier_at}
 use Rattle.delivery.specs.Runs.{commits_of}
 use Rattle.delivery.specs.Settled.{IsSettled}
 use Rattle.delivery.specs.Laws

@@ -2,7 +2,7 @@
 use Rattle.std.specs.Prelude.{◌≡◌, true, [], ◌∷◌, map}
 use Rattle.std.proofs.Common.{refl, inl, inr}
 use Rattle.delivery.specs.declared.refusal.Refusal.{Refusal}
-use Rattle.delivery.specs.World.{log_at, accepted_at}
+use Rattle.delivery.specs.Reading.{log_at, accepted_at}
 use Rattle.delivery.specs.Events.Event.{Opened, Commits, Subscribes, Disconnects, Leaves, Proposes, Decides, Turns, Takes}
 use Rattle.delivery.specs.Events.Outcome.{Refused, Done, Subscribed, Unsubscribed, Leaving, Error, Gone, Ticket, Decided, Turned}
 use Rattle.delivery.specs.Settled.{IsSettled, AllResolved}

@@ -10,7 +10,7 @@ use Rattle.mcast_txn.specs.Agreed.{agreed}
 use Rattle.mcast_group.specs.declared.fault.ProposeFault.{ProposeFault}
 use Rattle.delivery.specs.declared.refusal.Refusal.{Refusal}
 use Rattle.delivery.specs.Due.{due}
-use Rattle.delivery.specs.World.{log_at, accepted_at, span_at, frontier_at}
+use Rattle.delivery.specs.Reading.{log_at, accepted_at, span_at, frontier_at}
 use Rattle.delivery.specs.Events.{Event, Outcome}
 use Rattle.delivery.specs.Events.Event.{Opened, Commits, Subscribes, Unsubscribes, Lost, Leaves, Proposes, Decides, Withdraws, Cancels, Learns, Releases, Turns, Takes}
 use Rattle.delivery.specs.Events.Outcome.{Refused, Done, Flying, Subscribed, Unsubscribed, Leaving, Gone, Ticket, Failed, Decided, Withdrawn, Cancelled, Learnt, Turned, Handed}

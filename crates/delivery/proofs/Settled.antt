@@ -16,7 +16,8 @@ use Rattle.mcast_group.proofs.Parts.{Waits, others, not_true, none_some}
 use Rattle.mcast_group.proofs.Turning.{turn_none}
 use Rattle.delivery.specs.declared.refusal.Refusal.{Refusal}
 use Rattle.delivery.specs.Due.{log_row}
-use Rattle.delivery.specs.World.{World, Flight, Leftover, SenderState, new_sender, topic_at, connection_at, speaker, subscription_at, entry_at, log_at, start, new_topics}
+use Rattle.delivery.specs.World.{World, Flight, Leftover, SenderState, new_sender, topic_at, connection_at, speaker, subscription_at, entry_at, start, new_topics}
+use Rattle.delivery.specs.Reading.{log_at}
 use Rattle.delivery.specs.Events.{Event, Outcome, happens, outcome, refusal, effect, answer, flight_at, find_leftover, find_verdict, find_in, oldest_live, flown, flying_answer, proposal_fault, proposed_by, propose_answer, withdrawn, cancelled_at, cancel_answer, learned_at, takes, handed, take_answer, left_by, leave_answer, closed_subscription, closed_with}
 use Rattle.delivery.specs.Events.Event.{Topic_added, Opened, Commits, Subscribes, Unsubscribes, Disconnects, Errs, Lost, Leaves, Proposes, Decides, Withdraws, Cancels, Learns, Releases, Turns, Takes}
 use Rattle.delivery.specs.Events.Outcome.{Refused, Done, Subscribed, Unsubscribed, Leaving, Error, Gone, Failed, Decided, Learnt, Released, Turned, Handed}

@@ -13,7 +13,8 @@ use Rattle.mcast_group.specs.Sound.{IsSound}
 use Rattle.mcast_group.specs.Topics.{Pending, Entry, Verdict, learn_fault, item_of, due_part}
 use Rattle.delivery.specs.declared.refusal.Refusal.{Refusal}
 use Rattle.delivery.specs.Due.{log_row, due}
-use Rattle.delivery.specs.World.{World, start, topic_at, speaker, subscription_at, accepted_at, span_at, log_at, frontier_at}
+use Rattle.delivery.specs.World.{World, start, topic_at, speaker, subscription_at}
+use Rattle.delivery.specs.Reading.{accepted_at, span_at, log_at, frontier_at}
 use Rattle.delivery.specs.Events.{Event, Outcome, happens, outcome, refusal, flight_at, find_in, oldest_live}
 use Rattle.delivery.specs.Events.Event.{Subscribes, Unsubscribes, Leaves, Proposes, Cancels, Learns, Releases, Turns}
 use Rattle.delivery.specs.Events.Outcome.{Refused, Ticket, Decided}
@@ -63,6 +64,7 @@ pub record Place : Type 0 where
   pub id : TxnId
   pub stamp : Stamp
 
+-- whose item it is, and at which stamp
 abbrev pub place_of : Item → Place
 place_of i = record { id = i.id; stamp = i.stamp }
 
@@ -111,6 +113,7 @@ StampIsGreatest =
 abbrev pub RefusalsChangeNothing : Type 0
 RefusalsChangeNothing = (w : World) (e : Event) (why : Refusal) → outcome w e ≡ Refused why → happens w e ≡ w
 
+-- the topic of this subscription, if there is one
 abbrev pub live_topic : World → Option ℕ → Option Topic
 live_topic w None = None
 live_topic w (Some s) = Some (subscription_at w s).topic
