@@ -1,16 +1,13 @@
 -- Each topic of a run is sound and undrained, and a settled topic's frontier is at least each stamp that names it.
-use Rattle.std.proofs.Common.{◌≡◌, true, false, ◌∙◌, ap, subst}
+use Rattle.std.proofs.Common.{◌≡◌, false, ◌∙◌, ap, subst}
 use Rattle.mcast_txn.specs.Stamp.{stamp_lt}
-use Rattle.mcast_txn.specs.Transaction.{topics_of}
-use Rattle.mcast_txn.specs.Agreed.{Row, In, names}
+use Rattle.mcast_txn.specs.Agreed.{Row, In}
 use Rattle.mcast_txn.specs.declared.id.Topic.{Topic}
 use Rattle.mcast_group.specs.Span.{last_stamp}
 use Rattle.mcast_group.specs.Sound.{IsSound}
 use Rattle.delivery.specs.Due.{log_row}
 use Rattle.delivery.specs.World.{topic_at}
 use Rattle.delivery.specs.Reading.{log_at, frontier_at}
-use Rattle.delivery.specs.Runs.{commits_of}
-use Rattle.delivery.specs.Settled.{IsSettled}
 use Rattle.delivery.specs.Laws
 use Rattle.delivery.specs.Laws.{Run, came, after}
 use Rattle.delivery.proofs.Accepting.{reached}
