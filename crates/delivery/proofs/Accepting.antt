@@ -18,7 +18,8 @@ use Rattle.mcast_group.specs.Topics.{TopicState, Entry, Ended, new_topic, find_e
 use Rattle.mcast_group.proofs.Parts.{Waits, none_some}
 use Rattle.mcast_group.proofs.Keeping.{Sound-new}
 use Rattle.delivery.specs.Due.{log_row, item_at, is_due, due}
-use Rattle.delivery.specs.World.{World, start, new_topics, subscription_at, entry_at, entry_items, entry_to, accepted_at, end_at, span_at, frontier_at}
+use Rattle.delivery.specs.World.{World, start, new_topics, subscription_at, entry_at}
+use Rattle.delivery.specs.Reading.{entry_items, entry_to, accepted_at, end_at, span_at, frontier_at}
 use Rattle.delivery.specs.Events.{Event, Outcome, happens, outcome}
 use Rattle.delivery.specs.Runs.{run, outcomes}
 use Rattle.delivery.specs.Laws

@@ -10,41 +10,41 @@ use Rattle.mcast_txn.specs.Agreed.{agreed}
 use Rattle.mcast_group.specs.declared.fault.ProposeFault.{ProposeFault}
 use Rattle.delivery.specs.declared.refusal.Refusal.{Refusal}
 use Rattle.delivery.specs.Due.{due}
-use Rattle.delivery.specs.World.{log_at, accepted_at, span_at, frontier_at}
+use Rattle.delivery.specs.Reading.{log_at, accepted_at, span_at, frontier_at}
 use Rattle.delivery.specs.Events.{Event, Outcome}
 use Rattle.delivery.specs.Events.Event.{Opened, Commits, Subscribes, Unsubscribes, Lost, Leaves, Proposes, Decides, Withdraws, Cancels, Learns, Releases, Turns, Takes}
 use Rattle.delivery.specs.Events.Outcome.{Refused, Done, Flying, Subscribed, Unsubscribed, Leaving, Gone, Ticket, Failed, Decided, Withdrawn, Cancelled, Learnt, Turned, Handed}
 use Rattle.delivery.specs.Runs.{commits_of, handed_of}
 use Rattle.delivery.specs.Laws.{Run, came, after}
 
-abbrev topic : ℕ → Topic
+abbrev pub topic : ℕ → Topic
 topic n = record { 0 = n }
 
-abbrev stamp : ℕ → ℕ → Stamp
+abbrev pub stamp : ℕ → ℕ → Stamp
 stamp n t = record { n = n; topic = topic t }
 
-abbrev id : ℕ → ℕ → TxnId
+abbrev pub id : ℕ → ℕ → TxnId
 id sender seq = record { sender = record { 0 = sender }; seq = seq }
 
 -- a SEND to topic t of one octet
-abbrev send : ℕ → ℕ → Send
+abbrev pub send : ℕ → ℕ → Send
 send t octet = record { topic = topic t; headers = []; body = octet ∷ [] }
 
 -- the same in a part, with its index in the whole transaction
-abbrev part : ℕ → ℕ → PartSend
+abbrev pub part : ℕ → ℕ → PartSend
 part index octet = record { index = index; headers = []; body = octet ∷ [] }
 
-abbrev flying : TxnId → List Send → Outcome
+abbrev pub flying : TxnId → List Send → Outcome
 flying i sends = Flying (record { id = i; sends = sends })
 
-abbrev handed : ℕ → TxnId → Stamp → List PartSend → Outcome
+abbrev pub handed : ℕ → TxnId → Stamp → List PartSend → Outcome
 handed s i at sends = Handed s (record { id = i; stamp = at; sends = sends })
 
-abbrev with_clocks : List ℕ → List Event → Run
+abbrev pub with_clocks : List ℕ → List Event → Run
 with_clocks clocks events = record { capacity = 64; log_limit = 65536; clocks = clocks; events = events }
 
 -- what came of the events, the oldest first
-abbrev told : Run → List Outcome
+abbrev pub told : Run → List Outcome
 told r = reverse (came r)
 
 abbrev log_of : Run → ℕ → List Stamp
@@ -77,10 +77,10 @@ crossing_due = refl
 
 -- ---- two senders at two topics: four tickets
 
-abbrev to_both : List Send
+abbrev pub to_both : List Send
 to_both = send 0 1 ∷ send 1 1 ∷ []
 
-abbrev four_tickets : List Event → Run
+abbrev pub four_tickets : List Event → Run
 four_tickets then = with_clocks (0 ∷ 0 ∷ []) (
     Opened ∷ Opened ∷ Commits 0 to_both ∷ Commits 1 to_both
     ∷ Proposes 0 (topic 0) true ∷ Proposes 1 (topic 1) true ∷ Proposes 1 (topic 0) true ∷ Proposes 0 (topic 1) true ∷ then)
@@ -155,10 +155,10 @@ ends_log = refl
 
 -- ---- a queue of two items, and three rows
 
-abbrev sends_one : ℕ → List Event → List Event
+abbrev pub sends_one : ℕ → List Event → List Event
 sends_one octet then = Commits 0 (send 0 octet ∷ []) ∷ Proposes 0 (topic 0) true ∷ Decides 0 ∷ Turns (topic 0) ∷ then
 
-abbrev lags : Run
+abbrev pub lags : Run
 lags = record {
   capacity = 2;
   log_limit = 65536;

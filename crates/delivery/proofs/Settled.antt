@@ -17,12 +17,12 @@ use Rattle.mcast_group.proofs.Turning.{turn_none}
 use Rattle.delivery.specs.declared.refusal.Refusal.{Refusal}
 use Rattle.delivery.specs.Due.{log_row}
 use Rattle.delivery.specs.World.{World, Flight, Leftover, SenderState, new_sender, topic_at, connection_at, speaker, subscription_at, entry_at, start, new_topics}
+use Rattle.delivery.specs.Reading.{log_at}
 use Rattle.delivery.specs.Events.{Event, Outcome, happens, outcome, refusal, effect, answer, flight_at, find_leftover, find_verdict, find_in, oldest_live, flown, flying_answer, proposal_fault, proposed_by, propose_answer, withdrawn, cancelled_at, cancel_answer, learned_at, takes, handed, take_answer, left_by, leave_answer, closed_subscription, closed_with}
 use Rattle.delivery.specs.Events.Event.{Topic_added, Opened, Commits, Subscribes, Unsubscribes, Disconnects, Errs, Lost, Leaves, Proposes, Decides, Withdraws, Cancels, Learns, Releases, Turns, Takes}
 use Rattle.delivery.specs.Events.Outcome.{Refused, Done, Subscribed, Unsubscribed, Leaving, Error, Gone, Failed, Decided, Learnt, Released, Turned, Handed}
-use Rattle.delivery.specs.Runs.{run, outcomes}
-use Rattle.delivery.specs.Settled.{AllResolved}
-use Rattle.delivery.specs.Laws
+use Rattle.delivery.specs.Runs.{run, outcomes, commits_of}
+use Rattle.delivery.specs.Settled.{IsSettled, AllResolved}
 use Rattle.delivery.specs.Laws.{Run, came, after}
 use Rattle.delivery.proofs.Invariant.{row, topic_in, sender_in}
 use Rattle.delivery.proofs.Keeping.{flies_uncommitted}
@@ -260,8 +260,9 @@ logged_of : (w : World) (t : Topic) (r : Row) → Calm w.topics w.senders t → 
 logged_of w t r k (inl i) = i
 logged_of w t r k (inr v) = absurd (k.none v.part v.stands)
 
-pub settled_leaves_none_out : Laws.SettledLeavesNoneOut
-settled_leaves_none_out r t row settled i n =
+pub settled_in_log : (r : Run) (t : Topic) (row : Row) → IsSettled t (came r) → In row (commits_of (came r)) → names t (topics_of row.txn.sends) ≡ true
+    → In (log_row row) (log_at (after r) t)
+settled_in_log r t row settled i n =
     let w = after r in
     let b = run_both r.events [] (start r.capacity r.log_limit r.clocks) (start_reached r.capacity r.log_limit r.clocks) (start_settling r.log_limit r.clocks) in
     logged_of w t row (b.settling.calm t settled) ((b.reached.inv.tied t).placed row (subst (λ z. In row z) b.reached.commits i) n)

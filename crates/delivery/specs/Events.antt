@@ -16,8 +16,10 @@ use Rattle.mcast_group.specs.Checks.{first_refusal}
 use Rattle.mcast_group.specs.Span.{Item}
 use Rattle.mcast_group.specs.Topics.{Entry, Verdict, new_topic, last_number, next_number, propose_fault, proposed, learn_fault, learned, cancel_fault, cancelled, due_part, release, turned, subscribed, ended, unsubscribed}
 use Rattle.delivery.specs.declared.refusal.Refusal.{Refusal}
-use Rattle.delivery.specs.World.{World, Flight, Leftover, Subscription, Standing, is_open, is_gone, topic_at, new_sender, connection_at, speaker, subscription_at, entry_at, accepted_at, end_at, with_topic, with_sender, with_standing, with_subscription}
+use Rattle.delivery.specs.World.{World, Flight, Leftover, Subscription, Standing, is_open, is_gone, topic_at, new_sender, connection_at, speaker, subscription_at, entry_at, with_topic, with_sender, with_standing, with_subscription}
+use Rattle.delivery.specs.Reading.{accepted_at, end_at}
 
+-- what may be asked of the core; a run is a list of these
 pub data Event : Type 0 where
   -- a topic is added, with this opening clock
   Topic_added : (clock : ℕ) → Event
@@ -79,6 +81,7 @@ abbrev pub reads : World → ℕ → List (Bool × Refusal)
 reads w c =
     there w c ++ (not (is_open (connection_at w c).standing) || is_some (speaker w c).flight, Refusal.Busy) ∷ []
 
+-- there is a topic of this number
 abbrev pub is_topic : World → Topic → Bool
 is_topic w t = nat_lt t.0 (length w.topics)
 
@@ -93,9 +96,11 @@ abbrev pub flight_or : Option Flight → Flight
 flight_or None = no_flight
 flight_or (Some f) = f
 
+-- the undecided transaction of the connection's sender
 abbrev pub flight_at : World → ℕ → Flight
 flight_at w c = flight_or (speaker w c).flight
 
+-- the topic gave one of these tickets
 abbrev pub has_ticket : Topic → List Stamp → Bool
 has_ticket t tickets = list_any (λ a. a.topic.0 == t.0) tickets
 
@@ -118,6 +123,7 @@ abbrev pub drop_leftover : Topic → List Leftover → List Leftover
 drop_leftover t [] = []
 drop_leftover t (k ∷ ks) = if k.ticket.topic.0 == t.0 then ks else k ∷ drop_leftover t ks
 
+-- the verdict of this transaction, if it was decided
 abbrev pub find_verdict : TxnId → List Verdict → Option Verdict
 find_verdict id [] = None
 find_verdict id (v ∷ vs) = if same_id v.id id then Some v else find_verdict id vs
@@ -232,6 +238,7 @@ next_txn w c sends = record {
   sends = sends;
 }
 
+-- the transaction is in flight under the next seq; of no SENDs there is none
 abbrev pub flown : World → ℕ → List Send → World
 flown w c [] = w
 flown w c (first ∷ others) =
@@ -266,6 +273,7 @@ left_by w c (Some s) = closed_subscription w s
 abbrev pub leaving : World → ℕ → World
 leaving w c = with_standing w c Standing.Leaving
 
+-- the fault, or else want of memory
 abbrev pub or_no_memory : Bool → Option ProposeFault → Option ProposeFault
 or_no_memory memory None = if memory then None else Some ProposeFault.NoMemory
 or_no_memory memory (Some fault) = Some fault

@@ -4,15 +4,17 @@ use Rattle.std.specs.List.{list_any}
 use Rattle.mcast_txn.specs.declared.id.Topic.{Topic}
 use Rattle.mcast_txn.specs.declared.id.TxnId.{TxnId}
 use Rattle.mcast_txn.specs.declared.stamp.Stamp.{Stamp}
-use Rattle.mcast_txn.specs.Stamp.{greatest}
+use Rattle.mcast_txn.specs.Stamp.{zero_stamp, stamp_lt, greatest}
 use Rattle.mcast_txn.specs.Transaction.{topics_of}
 use Rattle.mcast_txn.specs.Agreed.{Row, In, names, same_id, agreed, EachOnce, SenderOrder}
 use Rattle.mcast_group.specs.declared.fault.LearnFault.{LearnFault}
 use Rattle.mcast_group.specs.Span.{Item}
+use Rattle.mcast_group.specs.Sound.{IsSound}
 use Rattle.mcast_group.specs.Topics.{Pending, Entry, Verdict, learn_fault, item_of, due_part}
 use Rattle.delivery.specs.declared.refusal.Refusal.{Refusal}
 use Rattle.delivery.specs.Due.{log_row, due}
-use Rattle.delivery.specs.World.{World, start, topic_at, speaker, subscription_at, accepted_at, span_at, log_at, frontier_at}
+use Rattle.delivery.specs.World.{World, start, topic_at, speaker, subscription_at}
+use Rattle.delivery.specs.Reading.{accepted_at, span_at, log_at, frontier_at}
 use Rattle.delivery.specs.Events.{Event, Outcome, happens, outcome, refusal, flight_at, find_in, oldest_live}
 use Rattle.delivery.specs.Events.Event.{Subscribes, Unsubscribes, Leaves, Proposes, Cancels, Learns, Releases, Turns}
 use Rattle.delivery.specs.Events.Outcome.{Refused, Ticket, Decided}
@@ -62,6 +64,7 @@ pub record Place : Type 0 where
   pub id : TxnId
   pub stamp : Stamp
 
+-- whose item it is, and at which stamp
 abbrev pub place_of : Item → Place
 place_of i = record { id = i.id; stamp = i.stamp }
 
@@ -75,11 +78,19 @@ SharedInOneOrder =
     (r : Run) (s q : ℕ) → s < length (after r).subscriptions → q < length (after r).subscriptions
     → shared (accepted_at (after r) s) (accepted_at (after r) q) ≡ shared (accepted_at (after r) q) (accepted_at (after r) s)
 
--- a committed transaction that names a settled topic stands in its log
+-- a committed transaction that names a settled topic stands in its log, at most at its frontier
 abbrev pub SettledLeavesNoneOut : Type 0
 SettledLeavesNoneOut =
     (r : Run) (t : Topic) (row : Row) → IsSettled t (came r) → In row (commits_of (came r))
-    → names t (topics_of row.txn.sends) ≡ true → In (log_row row) (log_at (after r) t)
+    → names t (topics_of row.txn.sends) ≡ true
+    → In (log_row row) (log_at (after r) t) × (stamp_lt (frontier_at (after r) t) row.stamp ≡ false)
+
+-- a topic's log is whole: nothing was drained of it, its rows rise, and its frontier is the stamp of the last
+abbrev pub TopicsAreSound : Type 0
+TopicsAreSound =
+    (r : Run) (t : Topic)
+    → IsSound (topic_at (after r) t) × ((topic_at (after r) t).base ≡ zero_stamp)
+    × ((topic_at (after r) t).frontier ≡ frontier_at (after r) t)
 
 -- what was handed on is a prefix of what was accepted
 abbrev pub HandedIsPrefix : Type 0
@@ -102,6 +113,7 @@ StampIsGreatest =
 abbrev pub RefusalsChangeNothing : Type 0
 RefusalsChangeNothing = (w : World) (e : Event) (why : Refusal) → outcome w e ≡ Refused why → happens w e ≡ w
 
+-- the topic of this subscription, if there is one
 abbrev pub live_topic : World → Option ℕ → Option Topic
 live_topic w None = None
 live_topic w (Some s) = Some (subscription_at w s).topic

@@ -1,5 +1,6 @@
 pub mod Due
 pub mod World
+pub mod Reading
 pub mod Events
 pub mod Runs
 pub mod Settled

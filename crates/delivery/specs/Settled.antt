@@ -34,7 +34,7 @@ IsSettled t (Cancelled id u ∷ before) = (u ≢ t) × IsSettled t before
 IsSettled t (Turned u ∷ before) = ((u ≡ t) × AllResolved t before) ⊎ IsSettled t before
 IsSettled t (o ∷ before) = IsSettled t before
 
--- s is a subscription of a connection that is closed by this: it is leaving, by itself or by an ERROR
+-- this closes connection c: it is leaving, by itself or lost, by an ERROR, or by a withdrawal
 abbrev pub Closes : ℕ → Outcome → Type 0
 Closes c (Leaving d) = d ≡ c
 Closes c (Error d) = d ≡ c

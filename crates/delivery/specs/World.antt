@@ -1,12 +1,11 @@
 -- What the core holds of topics, senders, connections and subscriptions.
-use Rattle.std.specs.Prelude.{ℕ, ◌+◌, Bool, true, false, List, [], ◌∷◌, get_or, set, Option, Some, None}
+use Rattle.std.specs.Prelude.{ℕ, ◌+◌, Bool, true, false, List, [], ◌∷◌, get_or, set, Option, None}
 use Rattle.mcast_txn.specs.declared.id.Topic.{Topic}
 use Rattle.mcast_txn.specs.declared.id.TxnId.{TxnId}
 use Rattle.mcast_txn.specs.declared.stamp.Stamp.{Stamp}
 use Rattle.mcast_txn.specs.Stamp.{zero_stamp}
 use Rattle.mcast_txn.specs.Agreed.{Transaction, Row}
 use Rattle.mcast_group.specs.declared.fault.ProposeFault.{ProposeFault}
-use Rattle.mcast_group.specs.Span.{LogRow, Item, Span, last_stamp}
 use Rattle.mcast_group.specs.Topics.{TopicState, Entry, Ended, Verdict, new_topic, find_entry}
 
 -- a sender's undecided transaction: the tickets that it was given, by rising topic, and why a topic refused it, if one did (then it is marked)
@@ -27,16 +26,19 @@ pub record SenderState : Type 0 where
   pub flight : Option Flight
   pub leftovers : List Leftover
 
+-- a connection is open, then leaving while its transaction and subscriptions end, then gone
 pub data Standing : Type 0 where
   Open : Standing
   Leaving : Standing
   Gone : Standing
 
+-- it is open: its frames are read
 abbrev pub is_open : Standing → Bool
 is_open Open = true
 is_open Leaving = false
 is_open Gone = false
 
+-- it is gone: nothing is asked of it
 abbrev pub is_gone : Standing → Bool
 is_gone Open = false
 is_gone Leaving = false
@@ -86,18 +88,23 @@ start capacity log_limit clocks = record {
 
 -- ---- reading
 
+-- the topic of this number; beyond the last, an empty one
 abbrev pub topic_at : World → Topic → TopicState
 topic_at w t = get_or w.topics t.0 (new_topic t 0 0)
 
+-- a sender that has made no transaction
 abbrev pub new_sender : SenderState
 new_sender = record { seq = 0; floor = zero_stamp; flight = None; leftovers = [] }
 
+-- the sender of this number; beyond the last, a new one
 abbrev pub sender_at : World → ℕ → SenderState
 sender_at w s = get_or w.senders s new_sender
 
+-- what stands for a connection that there never was: it is gone
 abbrev pub nobody : Connection
 nobody = record { sender = 0; standing = Gone }
 
+-- the connection of this number; beyond the last, nobody
 abbrev pub connection_at : World → ℕ → Connection
 connection_at w c = get_or w.connections c nobody
 
@@ -105,9 +112,11 @@ connection_at w c = get_or w.connections c nobody
 abbrev pub speaker : World → ℕ → SenderState
 speaker w c = sender_at w (connection_at w c).sender
 
+-- what stands for a subscription that there never was
 abbrev pub no_subscription : Subscription
 no_subscription = record { connection = 0; topic = record { 0 = 0 }; from = zero_stamp; taken = 0; closed = None }
 
+-- the subscription of this number; beyond the last, none
 abbrev pub subscription_at : World → ℕ → Subscription
 subscription_at w s = get_or w.subscriptions s no_subscription
 
@@ -115,45 +124,22 @@ subscription_at w s = get_or w.subscriptions s no_subscription
 abbrev pub entry_at : World → ℕ → Option Entry
 entry_at w s = find_entry s (topic_at w (subscription_at w s).topic).subscriptions
 
--- the rows of a topic's log
-abbrev pub log_at : World → Topic → List LogRow
-log_at w t = (topic_at w t).held
-
--- the stamp of the last row of a topic's log, or zero
-abbrev pub frontier_at : World → Topic → Stamp
-frontier_at w t = last_stamp zero_stamp (log_at w t)
-
-abbrev pub entry_items : Option Entry → List Item
-entry_items None = []
-entry_items (Some e) = e.accepted
-
-abbrev pub entry_to : Option Entry → Option Stamp
-entry_to None = None
-entry_to (Some e) = e.to
-
--- what the subscription's queue has accepted, taken or not
-abbrev pub accepted_at : World → ℕ → List Item
-accepted_at w s = elim (subscription_at w s).closed [ None ↦ entry_items (entry_at w s) | Some end ↦ end.accepted ]
-
--- where the subscription's span ends, if it does
-abbrev pub end_at : World → ℕ → Option Stamp
-end_at w s = elim (subscription_at w s).closed [ None ↦ entry_to (entry_at w s) | Some end ↦ Some end.to ]
-
-abbrev pub span_at : World → ℕ → Span
-span_at w s = record { topic = (subscription_at w s).topic; from = (subscription_at w s).from; to = end_at w s }
-
 -- ---- writing
 
+-- the core with this topic in its place
 abbrev pub with_topic : World → Topic → TopicState → World
 with_topic w t x = record w { topics = set w.topics t.0 x }
 
+-- the core with this sender in its place
 abbrev pub with_sender : World → ℕ → SenderState → World
 with_sender w s x = record w { senders = set w.senders s x }
 
+-- the core with this standing of a connection
 abbrev pub with_standing : World → ℕ → Standing → World
 with_standing w c standing = record w {
   connections = set w.connections c (record { sender = (connection_at w c).sender; standing = standing });
 }
 
+-- the core with this subscription in its place
 abbrev pub with_subscription : World → ℕ → Subscription → World
 with_subscription w s x = record w { subscriptions = set w.subscriptions s x }

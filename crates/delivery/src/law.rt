@@ -1,6 +1,6 @@
 //! Laws: functions that do nothing, whose contracts are theorems about every run of the core.
 
-ghost use Rattle.delivery.specs.Laws.{AcceptedIsDue, AgreedInSenderOrder, AgreedOnce, ClosedIsSilent, CommitsAreKept, FoundIsLearnt, HandedIsPrefix, LagsWhereFull, OddNeverComes, OthersUntouched, RefusalsChangeNothing, SeqsCount, SettledLeavesNoneOut, SharedInOneOrder, StampIsGreatest, TicketIsOwn};
+ghost use Rattle.delivery.specs.Laws.{AcceptedIsDue, AgreedInSenderOrder, AgreedOnce, ClosedIsSilent, CommitsAreKept, FoundIsLearnt, HandedIsPrefix, LagsWhereFull, OddNeverComes, OthersUntouched, RefusalsChangeNothing, SeqsCount, SettledLeavesNoneOut, SharedInOneOrder, StampIsGreatest, TicketIsOwn, TopicsAreSound};
 
 /// The core's commit list is that of the decisions in the run.
 pub fn commits()
@@ -33,9 +33,15 @@ pub fn stamps()
     ensures { StampIsGreatest }
 {}
 
-/// A settled topic leaves no committed transaction out: each that names it stands in its log.
+/// A settled topic leaves no committed transaction out: each that names it stands in its log, at most at
+/// its frontier.
 pub fn validity()
     ensures { SettledLeavesNoneOut }
+{}
+
+/// Each topic is sound: its log rises, its frontier is the stamp of the last row, and nothing was drained.
+pub fn topics_are_sound()
+    ensures { TopicsAreSound }
 {}
 
 /// A refused event changes nothing.

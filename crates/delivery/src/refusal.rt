@@ -35,13 +35,14 @@ pub enum Refusal {
     /// 80: there is no such connection.
     #[error("80 NoConn: there is no connection of this number")]
     NoConn,
-    /// 81: the connection is leaving, or a transaction of its own is undecided.
+    /// 81: no frame is read while the connection is leaving or has an undecided transaction; one that is leaving
+    /// can't be lost; and it isn't gone before its transaction was decided or withdrawn and all was cancelled.
     #[error("81 Busy: wait until the connection's transaction has ended")]
     Busy,
     /// 83: the connection has no undecided transaction.
     #[error("83 NoFlight: the connection has no undecided transaction")]
     NoFlight,
-    /// 84: there is no such topic, or the transaction doesn't name it.
+    /// 84: there is no such topic, or the transaction doesn't name it, or the connection has no ticket of it to cancel.
     #[error("84 NotNamed: name a topic that exists and that the transaction names")]
     NotNamed,
     /// 85: the transaction has no verdict.

@@ -6,9 +6,11 @@ use Rattle.mcast_txn.specs.Agreed.{same_id, In, Rises}
 use Rattle.mcast_group.specs.Span.{LogRow, Item, in_span, last_stamp}
 use Rattle.mcast_group.specs.Topics.{TopicState, Pending, Entry, key}
 
+-- a log row's stamp
 abbrev pub row_stamp : LogRow → Stamp
 row_stamp row = row.stamp
 
+-- an item's stamp
 abbrev pub item_stamp : Item → Stamp
 item_stamp item = item.stamp
 
@@ -17,11 +19,13 @@ pub record IsItemOf (row : LogRow) (item : Item) : Type 0 where
   pub id : item.id ≡ row.id
   pub stamp : item.stamp ≡ row.stamp
 
+-- an item of this row stands among these
 pub record HasItem (row : LogRow) (items : List Item) : Type 0 where
   pub item : Item
   pub stands : In item items
   pub is : IsItemOf row item
 
+-- the item's row stands among these
 pub record HasRow (item : Item) (rows : List LogRow) : Type 0 where
   pub row : LogRow
   pub stands : In row rows

@@ -73,6 +73,7 @@ new_topic topic log_limit clock = record {
 abbrev pub last_number : ℕ
 last_number = 18446744073709551615
 
+-- they have one number and one topic
 abbrev pub same_stamp : Stamp → Stamp → Bool
 same_stamp a b = a.n == b.n && a.topic.0 == b.topic.0
 
@@ -96,9 +97,11 @@ abbrev pub find_pending : TxnId → List Pending → Option Pending
 find_pending id [] = None
 find_pending id (p ∷ ps) = if same_id p.part.id id then Some p else find_pending id ps
 
+-- this transaction's part stands among the pending ones
 abbrev pub is_pending : TxnId → List Pending → Bool
 is_pending id ps = list_any (λ p. same_id p.part.id id) ps
 
+-- the pending parts but this transaction's
 abbrev pub without : TxnId → List Pending → List Pending
 without id ps = filter (λ p. not (same_id p.part.id id)) ps
 
@@ -107,6 +110,7 @@ abbrev pub least_of : Pending → List Pending → Pending
 least_of p [] = p
 least_of p (q ∷ qs) = if stamp_lt (key q) (key p) then least_of q qs else least_of p qs
 
+-- the pending part of least key, if there is one
 abbrev pub least : List Pending → Option Pending
 least [] = None
 least (p ∷ ps) = Some (least_of p ps)
@@ -117,6 +121,7 @@ least (p ∷ ps) = Some (least_of p ps)
 abbrev pub next_number : Stamp → TopicState → ℕ
 next_number floor x = max x.clock floor.n + 1
 
+-- what stands against a proposal, in this order
 abbrev pub propose_checks : Stamp → TopicPart → TopicState → List (Bool × ProposeFault)
 propose_checks floor part x =
     (is_pending part.id x.pending, ProposeFault.Twice)
@@ -144,6 +149,7 @@ has_row ticket rows = list_any (same_stamp ticket) rows
 abbrev pub is_foreign : Verdict → Pending → Bool
 is_foreign v p = not (same_id v.id p.part.id && has_row (record { n = p.ticket; topic = p.part.topic }) v.rows)
 
+-- a stamp was learnt, and it is another than this
 abbrev pub learnt_other : Stamp → Option Stamp → Bool
 learnt_other stamp None = false
 learnt_other stamp (Some s) = not (same_stamp s stamp)
@@ -153,6 +159,7 @@ abbrev pub clashes : Verdict → Pending → List Pending → Bool
 clashes v p ps =
     learnt_other v.stamp p.learnt || list_any (λ q. not (same_id q.part.id p.part.id) && same_stamp (key q) v.stamp) ps
 
+-- what stands against a verdict for the part that was found pending, if one was
 abbrev pub learn_fault_of : Verdict → List Pending → Option Pending → Option LearnFault
 learn_fault_of v ps None = Some LearnFault.NotPending
 learn_fault_of v ps (Some p) = first_refusal ((is_foreign v p, LearnFault.Foreign) ∷ (clashes v p ps, LearnFault.Clash) ∷ [])
@@ -161,6 +168,7 @@ learn_fault_of v ps (Some p) = first_refusal ((is_foreign v p, LearnFault.Foreig
 abbrev pub learn_fault : TxnId → Verdict → TopicState → Option LearnFault
 learn_fault id v x = learn_fault_of v x.pending (find_pending id x.pending)
 
+-- this transaction's part has learnt the stamp; another is as it was
 abbrev pub told : TxnId → Stamp → Pending → Pending
 told id stamp p = if same_id p.part.id id then record p { learnt = Some stamp } else p
 
@@ -170,6 +178,7 @@ learned id stamp x = record x { clock = max x.clock stamp.n; pending = map (told
 
 -- ---- cancel
 
+-- what stands against taking out the part that was found pending, if one was
 abbrev pub cancel_fault_of : Option Pending → Option CancelFault
 cancel_fault_of None = Some CancelFault.NotPending
 cancel_fault_of (Some p) = if is_some p.learnt then Some CancelFault.Decided else None
@@ -178,14 +187,17 @@ cancel_fault_of (Some p) = if is_some p.learnt then Some CancelFault.Decided els
 abbrev pub cancel_fault : TxnId → TopicState → Option CancelFault
 cancel_fault id x = cancel_fault_of (find_pending id x.pending)
 
+-- the transaction's part is pending no longer
 abbrev pub cancelled : TxnId → TopicState → TopicState
 cancelled id x = record x { pending = without id x.pending }
 
 -- ---- release
 
+-- a pending part as a row of the log, at its key
 abbrev pub row_of : Pending → LogRow
 row_of p = record { id = p.part.id; topics = p.part.topics; stamp = key p }
 
+-- a pending part as an item of a queue, at its key
 abbrev pub item_of : Pending → Item
 item_of p = record { id = p.part.id; stamp = key p; sends = p.part.sends }
 
@@ -205,6 +217,7 @@ released takes p x = record x {
   subscriptions = map (delivered takes x.frontier (item_of p)) x.subscriptions;
 }
 
+-- the part, if it has learnt its stamp
 abbrev pub if_learnt : Option Pending → Option Pending
 if_learnt None = None
 if_learnt (Some p) = if is_some p.learnt then Some p else None
@@ -213,6 +226,7 @@ if_learnt (Some p) = if is_some p.learnt then Some p else None
 abbrev pub due_part : TopicState → Option Pending
 due_part x = if_learnt (least x.pending)
 
+-- the release of this part, if there is one
 abbrev pub released_if : (Entry → Bool) → TopicState → Option Pending → TopicState
 released_if takes x None = x
 released_if takes x (Some p) = released takes p x
@@ -233,6 +247,7 @@ abbrev pub tried_all : (TxnId → Option Verdict) → List Pending → TopicStat
 tried_all find [] x = x
 tried_all find (p ∷ ps) x = tried_all find ps (tried p.part.id (find p.part.id) x)
 
+-- so many releases
 abbrev pub released_times : (Entry → Bool) → ℕ → TopicState → TopicState
 released_times takes zero x = x
 released_times takes (suc k) x = released_times takes k (release takes x)
@@ -244,6 +259,7 @@ turned takes find x =
 
 -- ---- subscriptions
 
+-- the first subscription of this number
 abbrev pub find_entry : ℕ → List Entry → Option Entry
 find_entry number [] = None
 find_entry number (e ∷ es) = if e.number == number then Some e else find_entry number es
@@ -261,6 +277,7 @@ ended frontier e = elim e.to [
   | Some end ↦ record { to = end; accepted = e.accepted; cause = Lag }
 ]
 
+-- the subscriptions of this number are dropped
 abbrev pub unsubscribed : ℕ → TopicState → TopicState
 unsubscribed number x = record x { subscriptions = filter (λ e. not (e.number == number)) x.subscriptions }
 
