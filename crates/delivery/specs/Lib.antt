@@ -4,3 +4,4 @@ pub mod Events
 pub mod Runs
 pub mod Settled
 pub mod Laws
+pub mod Told
