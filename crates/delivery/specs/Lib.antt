@@ -5,3 +5,4 @@ pub mod Events
 pub mod Runs
 pub mod Settled
 pub mod Laws
+pub mod Told

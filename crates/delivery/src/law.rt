@@ -1,6 +1,7 @@
 //! Laws: functions that do nothing, whose contracts are theorems about every run of the core.
 
 ghost use Rattle.delivery.specs.Laws.{AcceptedIsDue, AgreedInSenderOrder, AgreedOnce, ClosedIsSilent, CommitsAreKept, FoundIsLearnt, HandedIsPrefix, LagsWhereFull, OddNeverComes, OthersUntouched, RefusalsChangeNothing, SeqsCount, SettledLeavesNoneOut, SharedInOneOrder, StampIsGreatest, TicketIsOwn, TopicsAreSound};
+ghost use Rattle.delivery.specs.Told.{FlyingIsOwn, SenderIsOwn};
 
 /// The core's commit list is that of the decisions in the run.
 pub fn commits()
@@ -82,4 +83,10 @@ pub fn silent_after_close()
 /// The seq of each transaction counts those that its sender has made, from 1.
 pub fn numbers()
     ensures { SeqsCount }
+{}
+
+/// A transaction that is made has all SENDs of its frame, in their order, and its sender is its connection's own.
+pub fn flights()
+    ensures own { FlyingIsOwn }
+    ensures sender { SenderIsOwn }
 {}

@@ -1,0 +1,5 @@
+use Rattle.delivery.proofs.Flights.{flying_is_own, sender_is_own}
+use Rattle.delivery.proofs.law.flights.Goals as goal
+
+pub returns : goal.returns
+returns c = record { own = flying_is_own; sender = sender_is_own }
