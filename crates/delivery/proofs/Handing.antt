@@ -38,7 +38,7 @@ find_more n step number grows (e ∷ es) =
     subst (λ (k : ℕ). More (entry_items (cond (e.number == n) (Some e) (find_entry n es))) (entry_items (cond (k == n) (Some (step e)) (find_entry n (map step es))))) (sym (number e))
     (find_more_case (e.number == n) e (step e) (find_entry n es) (find_entry n (map step es)) (grows e) (find_more n step number grows es))
 
-abbrev items_by : Option Ended → Option Entry → List Item
+abbrev pub items_by : Option Ended → Option Entry → List Item
 items_by closed entry = elim closed [ None ↦ entry_items entry | Some end ↦ end.accepted ]
 
 More-by : (closed : Option Ended) (a b : Option Entry) → More (entry_items a) (entry_items b) → More (items_by closed a) (items_by closed b)
@@ -117,18 +117,18 @@ kept_case true s n e es ne d ih =
     ih ∙ ap (λ (c : Bool). cond c (Some e) (find_entry n es)) (sym k)
 kept_case false s n e es ne d ih = ap (λ z. cond (e.number == n) (Some e) z) ih
 
-find_kept : (s n : ℕ) (es : List Entry) → n ≢ s → find_entry n (filter (λ z. not (z.number == s)) es) ≡ find_entry n es
+pub find_kept : (s n : ℕ) (es : List Entry) → n ≢ s → find_entry n (filter (λ z. not (z.number == s)) es) ≡ find_entry n es
 find_kept s n [] ne = refl
 find_kept s n (e ∷ es) ne = kept_case (e.number == s) s n e es ne refl (find_kept s n es ne)
 
 More-equal : (xs ys : List Item) → ys ≡ xs → More xs ys
 More-equal xs ys e = subst (λ z. More xs z) (sym e) (More-same xs)
 
-ended_same : (frontier : Stamp) (n : ℕ) (from : Stamp) (to : Option Stamp) (accepted : List Item) → (ended frontier (record { number = n; from = from; to = to; accepted = accepted })).accepted ≡ accepted
+pub ended_same : (frontier : Stamp) (n : ℕ) (from : Stamp) (to : Option Stamp) (accepted : List Item) → (ended frontier (record { number = n; from = from; to = to; accepted = accepted })).accepted ≡ accepted
 ended_same frontier n from None accepted = refl
 ended_same frontier n from (Some end) accepted = refl
 
-open_items : (closed : Option Ended) (entry : Option Entry) → closed ≡ None → items_by closed entry ≡ entry_items entry
+pub open_items : (closed : Option Ended) (entry : Option Entry) → closed ≡ None → items_by closed entry ≡ entry_items entry
 open_items None entry e = refl
 open_items (Some end) entry e = none_some end (sym e)
 
@@ -159,7 +159,7 @@ closed_grows past w s h (Some entry) e =
 push_case : (b : Bool) (n : ℕ) (e new : Entry) (o p : Option Entry) → p ≡ o → cond b (Some e) p ≡ cond b (Some e) o
 push_case b n e new o p f = ap (λ z. cond b (Some e) z) f
 
-find_pushed : (n : ℕ) (es : List Entry) (new : Entry) → new.number ≢ n → find_entry n (es ++ new ∷ []) ≡ find_entry n es
+pub find_pushed : (n : ℕ) (es : List Entry) (new : Entry) → new.number ≢ n → find_entry n (es ++ new ∷ []) ≡ find_entry n es
 find_pushed n [] new ne = ap (λ (c : Bool). cond c (Some new) None) (not_true (new.number == n) refl (λ e. ne (eqb-true new.number n e)))
 find_pushed n (e ∷ es) new ne = push_case (e.number == n) n e new (find_entry n es) (find_entry n (es ++ new ∷ [])) (find_pushed n es new ne)
 
@@ -187,7 +187,7 @@ next_of [] [] i e = none_some i e
 next_of [] (r ∷ rest) i e = (rest, ap (λ z. z ∷ rest) (some_same r i e))
 next_of (x ∷ xs) rest i e = next_of xs rest i e
 
-length_push : (xs : List Item) (i : Item) → length xs + 1 ≡ length (xs ++ i ∷ [])
+pub length_push : (xs : List Item) (i : Item) → length xs + 1 ≡ length (xs ++ i ∷ [])
 length_push [] i = refl
 length_push (x ∷ xs) i = let m = length_push xs i in omega arith
 

@@ -150,20 +150,20 @@ closing_shut past w s end r l n h =
     note_ended past v.connections v.subscriptions s end (closed_now w s l (entry_at w s) (no_entry past w s r l n))
     (Shutting-on past w.connections v.connections w.subscriptions v.subscriptions (Shuts-closed w s (entry_at w s)) h)
 
-none_of : (o : Option Ended) → is_some o ≡ false → o ≡ None
+pub none_of : (o : Option Ended) → is_some o ≡ false → o ≡ None
 none_of None e = refl
 none_of (Some end) e = absurd (true≢false e)
 
-not_is : (b : Bool) → not b ≡ true → b ≡ false
+pub not_is : (b : Bool) → not b ≡ true → b ≡ false
 not_is true e = absurd (false≢true e)
 not_is false e = refl
 
 -- the oldest subscription that isn't closed
-record Oldest (c i n : ℕ) (xs : List Subscription) : Type 0 where
-  place : ℕ
-  is : n ≡ i + place
-  there : place < length xs
-  live : is_live c (sub_in xs place) ≡ true
+pub record Oldest (c i n : ℕ) (xs : List Subscription) : Type 0 where
+  pub place : ℕ
+  pub is : n ≡ i + place
+  pub there : place < length xs
+  pub live : is_live c (sub_in xs place) ≡ true
 
 oldest_case : (c i n : ℕ) (x : Subscription) (xs : List Subscription) (b : Bool) → is_live c x ≡ b → (oldest_live c (i + 1) xs ≡ Some n → Oldest c (i + 1) n xs) → cond b (Some i) (oldest_live c (i + 1) xs) ≡ Some n → Oldest c i n (x ∷ xs)
 oldest_case c i n x xs true d ih e = let k : i ≡ n = some_same i n e in record { place = 0; is = omega arith; there = omega arith; live = d }
@@ -171,7 +171,7 @@ oldest_case c i n x xs false d ih e =
     let h = ih e in let p : ℕ = h.place in let a : n ≡ i + 1 + p = h.is in let l : p < length xs = h.there in
     record { place = suc h.place; is = omega arith; there = omega arith; live = h.live }
 
-oldest_found : (c i n : ℕ) (xs : List Subscription) → oldest_live c i xs ≡ Some n → Oldest c i n xs
+pub oldest_found : (c i n : ℕ) (xs : List Subscription) → oldest_live c i xs ≡ Some n → Oldest c i n xs
 oldest_found c i n [] e = none_some n e
 oldest_found c i n (x ∷ xs) e = oldest_case c i n x xs (is_live c x) refl (oldest_found c (i + 1) n xs) e
 

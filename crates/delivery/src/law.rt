@@ -1,7 +1,7 @@
 //! Laws: functions that do nothing, whose contracts are theorems about every run of the core.
 
 ghost use Rattle.delivery.specs.Laws.{AcceptedIsDue, AgreedInSenderOrder, AgreedOnce, ClosedIsSilent, CommitsAreKept, FoundIsLearnt, HandedIsPrefix, LagsWhereFull, OddNeverComes, OthersUntouched, RefusalsChangeNothing, SeqsCount, SettledLeavesNoneOut, SharedInOneOrder, StampIsGreatest, TicketIsOwn, TopicsAreSound};
-ghost use Rattle.delivery.specs.Told.{FlyingIsOwn, SenderIsOwn};
+ghost use Rattle.delivery.specs.Told.{EndsStay, FlyingIsOwn, QueuesAreBounded, SenderIsOwn, SpansBeginAsTold, SpansBeginAtFrontier, SpansEndAsTold};
 
 /// The core's commit list is that of the decisions in the run.
 pub fn commits()
@@ -64,9 +64,10 @@ pub fn never()
 {}
 
 /// An open subscription lags exactly at a release at its topic where as many items as its capacity
-/// weren't handed on.
+/// weren't handed on, and no queue ever holds more.
 pub fn lags_only_where_full()
-    ensures { LagsWhereFull }
+    ensures releases { LagsWhereFull }
+    ensures bound { QueuesAreBounded }
 {}
 
 /// What was handed on of a subscription is a prefix of what its queue has accepted.
@@ -89,4 +90,13 @@ pub fn numbers()
 pub fn flights()
     ensures own { FlyingIsOwn }
     ensures sender { SenderIsOwn }
+{}
+
+/// A subscription's span has the topic and the beginning that SUBSCRIBE was answered, which is its topic's frontier
+/// then, and the end that UNSUBSCRIBE was answered; an end that is there stays.
+pub fn spans()
+    ensures begins { SpansBeginAsTold }
+    ensures ends { SpansEndAsTold }
+    ensures frontier { SpansBeginAtFrontier }
+    ensures stays { EndsStay }
 {}

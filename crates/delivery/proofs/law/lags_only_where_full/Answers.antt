@@ -1,5 +1,6 @@
 use Rattle.delivery.proofs.Steps.{lags_where_full}
+use Rattle.delivery.proofs.Telling.{queues_are_bounded}
 use Rattle.delivery.proofs.law.lags_only_where_full.Goals as goal
 
 pub returns : goal.returns
-returns c = lags_where_full
+returns c = record { releases = lags_where_full; bound = queues_are_bounded }

@@ -1,0 +1,247 @@
+-- What each event makes of subscriptions: where they begin and end, and how much their queues hold.
+use Rattle.std.proofs.Common.{◌≡◌, ◌≢◌, ℕ, ◌+◌, ◌<◌, ◌≤◌, ◌==◌, Bool, true, false, cond, not, ◌&&◌, ◌⊎◌, inl, inr, List, [], ◌∷◌, ◌++◌, map, length, set, get_or, Option, Some, None, refl, sym, ap, subst, ◌∙◌, arith, ltb}
+use Rattle.std.specs.Option.{is_some}
+use Rattle.std.proofs.lemmas.Bool.{ltb-true, true≢false, and_parts}
+use Rattle.mcast_txn.specs.declared.id.Topic.{Topic}
+use Rattle.mcast_txn.specs.declared.id.TxnId.{TxnId}
+use Rattle.mcast_txn.specs.declared.send.Send.{Send}
+use Rattle.mcast_txn.specs.declared.stamp.Stamp.{Stamp}
+use Rattle.mcast_txn.specs.Agreed.{In}
+use Rattle.mcast_txn.proofs.Members.{at_set, at_set_within}
+use Rattle.mcast_group.specs.declared.fault.ProposeFault.{ProposeFault}
+use Rattle.mcast_group.specs.Span.{Item}
+use Rattle.mcast_group.specs.Topics.{TopicState, Entry, Ended, Verdict, find_entry, ended, proposed, cancelled, learned, unsubscribed}
+use Rattle.mcast_group.proofs.Parts.{some_same, none_some}
+use Rattle.delivery.specs.World.{World, Leftover, Subscription, no_subscription, topic_at, speaker, subscription_at, entry_at, entry_items, entry_to, accepted_at, end_at, with_topic}
+use Rattle.delivery.specs.Events.{Event, Outcome, happens, outcome, refusal, effect, is_live, find_leftover, find_verdict, find_in, oldest_live, flown, proposal_fault, proposed_by, cancelled_at, learned_at, takes, handed, part_at, flight_at, left_by, closed_subscription, closed_with, end_now}
+use Rattle.delivery.specs.Events.Event.{Topic_added, Opened, Commits, Subscribes, Unsubscribes, Disconnects, Errs, Lost, Leaves, Proposes, Decides, Withdraws, Cancels, Learns, Releases, Turns, Takes}
+use Rattle.delivery.proofs.Invariant.{topic_in, Owned}
+use Rattle.delivery.proofs.Keeping.{at_topic_from}
+use Rattle.delivery.proofs.Subscriptions.{at_push_two, at_added, set_length, push_length, found_entry, finds_entry, new_subscription, new_entry, topic_with, taken_more}
+use Rattle.delivery.proofs.Happening.{Reached, by_refusal, checked, false_not}
+use Rattle.delivery.proofs.Handing.{items_by, find_kept, find_pushed, ended_same, open_items}
+use Rattle.delivery.proofs.Moving.{Moves, Moves-same, Goes, Goes-same, release_goes, turned_goes, entry_moves}
+
+abbrev end_by : Option Ended → Option Entry → Option Stamp
+end_by closed entry = elim closed [ None ↦ entry_to entry | Some end ↦ Some end.to ]
+
+abbrev pub end_in : List TopicState → ℕ → Subscription → Option Stamp
+end_in topics s x = end_by x.closed (find_entry s (topic_in topics x.topic).subscriptions)
+
+abbrev pub items_in : List TopicState → ℕ → Subscription → List Item
+items_in topics s x = items_by x.closed (find_entry s (topic_in topics x.topic).subscriptions)
+
+-- what an event leaves of a subscription: its topic, its beginning, its end if it has one, and the bound of its queue
+pub record Tell (capacity : ℕ) (x y : Subscription) (to end : Option Stamp) (xs ys : List Item) : Type 0 where
+  pub topic : y.topic ≡ x.topic
+  pub from : y.from ≡ x.from
+  pub stays : (s : Stamp) → to ≡ Some s → end ≡ Some s
+  pub bound : length xs ≤ x.taken + capacity → length ys ≤ y.taken + capacity
+
+Tell-moves : (capacity : ℕ) (x : Subscription) (to end : Option Stamp) (xs ys : List Item) → Moves x.taken capacity to xs end ys → Tell capacity x x to end xs ys
+Tell-moves capacity x to end xs ys h = record { topic = refl; from = refl; stays = h.stays; bound = h.bound }
+
+Tell-same : (capacity : ℕ) (x : Subscription) (to : Option Stamp) (xs : List Item) → Tell capacity x x to to xs xs
+Tell-same capacity x to xs = record { topic = refl; from = refl; stays = λ s e. e; bound = λ l. l }
+
+-- of all of them; a new one has no end and no items
+pub record Tells (capacity : ℕ) (topics : List TopicState) (subs : List Subscription) (later : ℕ) (others : List TopicState) (all : List Subscription) : Type 0 where
+  pub same : later ≡ capacity
+  pub more : length subs ≤ length all
+  pub each : (s : ℕ) → s < length subs → let x = get_or subs s no_subscription in let y = get_or all s no_subscription in Tell capacity x y (end_in topics s x) (end_in others s y) (items_in topics s x) (items_in others s y)
+  pub fresh : (s : ℕ) → length subs ≤ s → s < length all → let y = get_or all s no_subscription in (end_in others s y ≡ None) × (items_in others s y ≡ [])
+
+abbrev pub TellsOf : World → World → Type 0
+TellsOf w v = Tells w.capacity w.topics w.subscriptions v.capacity v.topics v.subscriptions
+
+pub Tells-same : (w : World) → TellsOf w w
+Tells-same w = record {
+  same = refl;
+  more = omega arith;
+  each = λ s l. Tell-same w.capacity (subscription_at w s) (end_at w s) (accepted_at w s);
+  fresh = λ s l m. absurd (omega arith);
+}
+
+-- ---- a step of one topic
+
+Moves-by : (taken capacity : ℕ) (closed : Option Ended) (a b : Option Entry) → Moves taken capacity (entry_to a) (entry_items a) (entry_to b) (entry_items b) → Moves taken capacity (end_by closed a) (items_by closed a) (end_by closed b) (items_by closed b)
+Moves-by taken capacity None a b h = h
+Moves-by taken capacity (Some end) a b h = Moves-same taken capacity (Some end.to) end.accepted
+
+Moves-equal : (taken capacity : ℕ) (a b : Option Entry) → b ≡ a → Moves taken capacity (entry_to a) (entry_items a) (entry_to b) (entry_items b)
+Moves-equal taken capacity a b e =
+    subst (λ z. Moves taken capacity (entry_to a) (entry_items a) (entry_to z) (entry_items z)) (sym e) (Moves-same taken capacity (entry_to a) (entry_items a))
+
+abbrev FoundMoves : World → ℕ → Option Entry → Option Entry → Type 0
+FoundMoves w s a b = Moves (subscription_at w s).taken w.capacity (entry_to a) (entry_items a) (entry_to b) (entry_items b)
+
+moves_set : (w : World) (t : Topic) (y : TopicState) (s : ℕ) → FoundMoves w s (find_entry s (topic_in w.topics t).subscriptions) (find_entry s y.subscriptions) → let x = subscription_at w s in Moves x.taken w.capacity (end_at w s) (accepted_at w s) (end_in (set w.topics t.0 y) s x) (items_in (set w.topics t.0 y) s x)
+moves_set w t y s h =
+    let x = subscription_at w s in
+    Moves-by x.taken w.capacity x.closed (entry_at w s) (find_entry s (topic_in (set w.topics t.0 y) x.topic).subscriptions)
+    (at_topic_from (λ u z. FoundMoves w s (find_entry s (topic_in w.topics u).subscriptions) (find_entry s z.subscriptions)) w.topics t x.topic y
+    (λ o. h) (Moves-same x.taken w.capacity (entry_to (entry_at w s)) (entry_items (entry_at w s))))
+
+pub moves_topic : (w : World) (t : Topic) (y : TopicState) → Goes w (topic_in w.topics t) y → (s : ℕ) → let x = subscription_at w s in Moves x.taken w.capacity (end_at w s) (accepted_at w s) (end_in (set w.topics t.0 y) s x) (items_in (set w.topics t.0 y) s x)
+moves_topic w t y g s = moves_set w t y s (entry_moves w (topic_in w.topics t) y g s)
+
+Tells-topic : (w : World) (t : Topic) (y : TopicState) → Goes w (topic_in w.topics t) y → TellsOf w (with_topic w t y)
+Tells-topic w t y g = record {
+  same = refl;
+  more = omega arith;
+  each = λ s l. Tell-moves w.capacity (subscription_at w s) (end_at w s) (end_in (set w.topics t.0 y) s (subscription_at w s)) (accepted_at w s) (items_in (set w.topics t.0 y) s (subscription_at w s)) (moves_topic w t y g s);
+  fresh = λ s l m. absurd (omega arith);
+}
+
+Tells-added : (w : World) (clock : ℕ) → TellsOf w (effect w (Topic_added clock))
+Tells-added w clock =
+    let v = effect w (Topic_added clock) in record {
+      same = refl;
+      more = omega arith;
+      each = λ s l. let x = subscription_at w s in
+          Tell-moves w.capacity x (end_at w s) (end_in v.topics s x) (accepted_at w s) (items_in v.topics s x)
+          (Moves-by x.taken w.capacity x.closed (entry_at w s) (find_entry s (topic_in v.topics x.topic).subscriptions)
+          (at_added (λ u z. FoundMoves w s (find_entry s (topic_in w.topics u).subscriptions) (find_entry s z.subscriptions)) w.topics w.log_limit clock x.topic
+          (λ k. k) (Moves-same x.taken w.capacity (entry_to (entry_at w s)) (entry_items (entry_at w s)))));
+      fresh = λ s l m. absurd (omega arith);
+    }
+
+-- ---- a subscription begins
+
+abbrev Empty : Option Entry → Type 0
+Empty o = (entry_to o ≡ None) × (entry_items o ≡ [])
+
+empty_case : (b : Bool) (e : Entry) (o p : Option Entry) → (Empty o → Empty p) → Empty (cond b (Some e) o) → Empty (cond b (Some e) p)
+empty_case true e o p ih h = h
+empty_case false e o p ih h = ih h
+
+empty_new : (b : Bool) (new : Entry) → Empty (Some new) → Empty (cond b (Some new) None)
+empty_new true new k = k
+empty_new false new k = (refl, refl)
+
+empty_pushed : (n : ℕ) (es : List Entry) (new : Entry) → Empty (Some new) → Empty (find_entry n es) → Empty (find_entry n (es ++ new ∷ []))
+empty_pushed n [] new k h = empty_new (new.number == n) new k
+empty_pushed n (e ∷ es) new k h = empty_case (e.number == n) e (find_entry n es) (find_entry n (es ++ new ∷ [])) (empty_pushed n es new k) h
+
+none_case : (past : List Outcome) (w : World) (s : ℕ) (t : Topic) → Reached past w → length w.subscriptions ≤ s → (o : Option Entry) → find_entry s (topic_in w.topics t).subscriptions ≡ o → Empty o
+none_case past w s t r l None e = (refl, refl)
+none_case past w s t r l (Some entry) e =
+    let f = found_entry s (topic_in w.topics t).subscriptions entry e in
+    let own = subst (λ n. Owned w.subscriptions t n entry.from) f.is (r.inv.subscribes.owned t entry f.stands) in
+    let k : s < length w.subscriptions = own.there in absurd (omega arith)
+
+pub none_there : (past : List Outcome) (w : World) (s : ℕ) (t : Topic) → Reached past w → length w.subscriptions ≤ s → Empty (find_entry s (topic_in w.topics t).subscriptions)
+none_there past w s t r l = none_case past w s t r l (find_entry s (topic_in w.topics t).subscriptions) refl
+
+Tells-begun : (past : List Outcome) (w : World) (c : ℕ) (t : Topic) → Reached past w → TellsOf w (effect w (Subscribes c t))
+Tells-begun past w c t r =
+    let v = effect w (Subscribes c t) in let m = push_length w.subscriptions (new_subscription w c t) in record {
+      same = refl;
+      more = omega arith;
+      each = λ s l. at_push_two (λ (z : Subscription). Tell w.capacity (subscription_at w s) z (end_at w s) (end_in v.topics s z) (accepted_at w s) (items_in v.topics s z)) w.subscriptions s (new_subscription w c t) no_subscription
+          (λ k. absurd (omega arith))
+          (λ ne. let x = subscription_at w s in
+          Tell-moves w.capacity x (end_at w s) (end_in v.topics s x) (accepted_at w s) (items_in v.topics s x)
+          (moves_set w t (topic_with w t) s
+          (Moves-equal x.taken w.capacity _ _ (find_pushed s (topic_in w.topics t).subscriptions (new_entry w t) (λ e. ne (sym e))))));
+      fresh = λ s l k. at_push_two (λ (z : Subscription). (end_in v.topics s z ≡ None) × (items_in v.topics s z ≡ [])) w.subscriptions s (new_subscription w c t) no_subscription
+          (λ e. at_topic_from (λ u z. Empty (find_entry s z.subscriptions)) w.topics t t (topic_with w t)
+          (λ h. empty_pushed s (topic_in w.topics t).subscriptions (new_entry w t) (refl, refl) h) (none_there past w s t r l))
+          (λ ne. absurd (omega arith));
+    }
+
+-- ---- a subscription is closed
+
+ended_to : (frontier : Stamp) (n : ℕ) (from : Stamp) (to : Option Stamp) (accepted : List Item) (s : Stamp) → to ≡ Some s → Some (ended frontier (record { number = n; from = from; to = to; accepted = accepted })).to ≡ Some s
+ended_to frontier n from None accepted s e = none_some s e
+ended_to frontier n from (Some end) accepted s e = e
+
+open_end : (closed : Option Ended) (entry : Option Entry) → closed ≡ None → end_by closed entry ≡ entry_to entry
+open_end None entry e = refl
+open_end (Some end) entry e = none_some end (sym e)
+
+Tells-closed : (past : List Outcome) (w : World) (s : ℕ) → Reached past w → (o : Option Entry) → entry_at w s ≡ o → TellsOf w (closed_with w s o)
+Tells-closed past w s r None e = Tells-same w
+Tells-closed past w s r (Some entry) e =
+    let t = (subscription_at w s).topic in let x = topic_in w.topics t in let y = unsubscribed s x in
+    let v = closed_with w s (Some entry) in let left = ended x.frontier entry in
+    let new : Subscription = record (subscription_at w s) { closed = Some left } in
+    let f = found_entry s x.subscriptions entry e in
+    let own = subst (λ n. Owned w.subscriptions t n entry.from) f.is (r.inv.subscribes.owned t entry f.stands) in
+    let m = set_length w.subscriptions s new in
+    let to : end_at w s ≡ entry.to = open_end (subscription_at w s).closed (entry_at w s) own.closed ∙ ap entry_to e in
+    let items : accepted_at w s ≡ entry.accepted = open_items (subscription_at w s).closed (entry_at w s) own.closed ∙ ap entry_items e in
+    let kept : left.accepted ≡ entry.accepted = ended_same x.frontier entry.number entry.from entry.to entry.accepted in
+    record {
+      same = refl;
+      more = omega arith;
+      each = λ q l. at_set_within (λ (z : Subscription). Tell w.capacity (subscription_at w q) z (end_at w q) (end_in v.topics q z) (accepted_at w q) (items_in v.topics q z)) w.subscriptions s q new no_subscription own.there
+          (λ k. subst (λ n. Tell w.capacity (subscription_at w n) new (end_at w n) (Some left.to) (accepted_at w n) left.accepted) (sym k)
+          (record {
+            topic = refl;
+            from = refl;
+            stays = λ end d. ended_to x.frontier entry.number entry.from entry.to entry.accepted end (sym to ∙ d);
+            bound = λ b. subst (λ (z : List Item). length z ≤ (subscription_at w s).taken + w.capacity) (items ∙ sym kept) b;
+          }))
+          (λ ne. Tell-moves w.capacity (subscription_at w q) (end_at w q) (end_in v.topics q (subscription_at w q)) (accepted_at w q) (items_in v.topics q (subscription_at w q))
+          (moves_set w t y q (Moves-equal (subscription_at w q).taken w.capacity _ _ (find_kept s q x.subscriptions ne))));
+      fresh = λ q l k. absurd (omega arith);
+    }
+
+-- ---- each event
+
+Tells-flown : (w : World) (c : ℕ) (sends : List Send) → TellsOf w (flown w c sends)
+Tells-flown w c [] = Tells-same w
+Tells-flown w c (first ∷ others) = Tells-same w
+
+Tells-proposed : (w : World) (c : ℕ) (t : Topic) (o : Option ProposeFault) → TellsOf w (proposed_by w c t o)
+Tells-proposed w c t None =
+    let y = proposed (speaker w c).floor (part_at t (flight_at w c).txn) (topic_at w t) in Tells-topic w t y (Goes-same w (topic_at w t) y refl)
+Tells-proposed w c t (Some fault) = Tells-same w
+
+Tells-cancelled : (w : World) (c : ℕ) (t : Topic) (o : Option Leftover) → TellsOf w (cancelled_at w c t o)
+Tells-cancelled w c t None = Tells-same w
+Tells-cancelled w c t (Some k) = Tells-topic w t (cancelled k.id (topic_at w t)) (Goes-same w (topic_at w t) (cancelled k.id (topic_at w t)) refl)
+
+Tells-learned : (w : World) (t : Topic) (id : TxnId) (o : Option Verdict) → TellsOf w (learned_at w t id o)
+Tells-learned w t id None = Tells-same w
+Tells-learned w t id (Some v) = Tells-topic w t (learned id v.stamp (topic_at w t)) (Goes-same w (topic_at w t) (learned id v.stamp (topic_at w t)) refl)
+
+Tells-left : (past : List Outcome) (w : World) (c : ℕ) (o : Option ℕ) → Reached past w → TellsOf w (left_by w c o)
+Tells-left past w c None r = Tells-same w
+Tells-left past w c (Some s) r = Tells-closed past w s r (entry_at w s) refl
+
+Tells-handed : (w : World) (s : ℕ) (o : Option Item) → TellsOf w (handed w s o)
+Tells-handed w s None = Tells-same w
+Tells-handed w s (Some item) =
+    let m = set_length w.subscriptions s (taken_more w s) in record {
+      same = refl;
+      more = omega arith;
+      each = λ q l. at_set (λ (z : Subscription). Tell w.capacity (subscription_at w q) z (end_at w q) (end_in w.topics q z) (accepted_at w q) (items_in w.topics q z)) w.subscriptions s q (taken_more w s) no_subscription
+          (λ k. subst (λ n. Tell w.capacity (subscription_at w n) (taken_more w s) (end_at w n) (end_in w.topics n (taken_more w s)) (accepted_at w n) (items_in w.topics n (taken_more w s))) (sym k)
+          (record { topic = refl; from = refl; stays = λ end d. d; bound = λ b. omega arith }))
+          (Tell-same w.capacity (subscription_at w q) (end_at w q) (accepted_at w q));
+      fresh = λ q l k. absurd (omega arith);
+    }
+
+effect_tells : (past : List Outcome) (w : World) (e : Event) → Reached past w → TellsOf w (effect w e)
+effect_tells past w (Topic_added clock) r = Tells-added w clock
+effect_tells past w Opened r = Tells-same w
+effect_tells past w (Commits c sends) r = Tells-flown w c sends
+effect_tells past w (Subscribes c t) r = Tells-begun past w c t r
+effect_tells past w (Unsubscribes c s) r = Tells-closed past w s r (entry_at w s) refl
+effect_tells past w (Disconnects c) r = Tells-same w
+effect_tells past w (Errs c) r = Tells-same w
+effect_tells past w (Lost c) r = Tells-same w
+effect_tells past w (Leaves c) r = Tells-left past w c (oldest_live c 0 w.subscriptions) r
+effect_tells past w (Proposes c t memory) r = Tells-proposed w c t (proposal_fault w c t memory)
+effect_tells past w (Decides c) r = Tells-same w
+effect_tells past w (Withdraws c) r = Tells-same w
+effect_tells past w (Cancels c t) r = Tells-cancelled w c t (find_leftover t (speaker w c).leftovers)
+effect_tells past w (Learns t id) r = Tells-learned w t id (find_verdict id w.verdicts)
+effect_tells past w (Releases t) r = Tells-topic w t _ (release_goes w (topic_at w t))
+effect_tells past w (Turns t) r = Tells-topic w t _ (turned_goes w (topic_at w t))
+effect_tells past w (Takes s) r = Tells-handed w s _
+
+pub step_tells : (past : List Outcome) (w : World) (e : Event) → Reached past w → TellsOf w (happens w e)
+step_tells past w e r = by_refusal (λ v o. TellsOf w v) w e (λ why. Tells-same w) (λ n. effect_tells past w e r)
