@@ -8,7 +8,8 @@ use Rattle.mcast_group.specs.declared.fault.LearnFault.{LearnFault}
 use Rattle.mcast_group.specs.Span.{Item}
 use Rattle.mcast_group.specs.Topics.{TopicState, Pending, Entry, Ended, Verdict, find_entry, delivered, released, due_part, released_if, release, learn_fault, learned, tried, tried_all, released_times, turned, item_of}
 use Rattle.mcast_group.proofs.Parts.{some_same, none_some}
-use Rattle.delivery.specs.World.{World, subscription_at, entry_items, entry_to}
+use Rattle.delivery.specs.World.{World, subscription_at}
+use Rattle.delivery.specs.Reading.{entry_items, entry_to}
 use Rattle.delivery.specs.Events.{takes, find_in}
 use Rattle.delivery.proofs.Handing.{length_push}
 

@@ -12,7 +12,8 @@ use Rattle.mcast_group.specs.declared.fault.ProposeFault.{ProposeFault}
 use Rattle.mcast_group.specs.Span.{Item}
 use Rattle.mcast_group.specs.Topics.{TopicState, Entry, Ended, Verdict, find_entry, ended, proposed, cancelled, learned, unsubscribed}
 use Rattle.mcast_group.proofs.Parts.{some_same, none_some}
-use Rattle.delivery.specs.World.{World, Leftover, Subscription, no_subscription, topic_at, speaker, subscription_at, entry_at, entry_items, entry_to, accepted_at, end_at, with_topic}
+use Rattle.delivery.specs.World.{World, Leftover, Subscription, no_subscription, topic_at, speaker, subscription_at, entry_at, with_topic}
+use Rattle.delivery.specs.Reading.{entry_items, entry_to, accepted_at, end_at}
 use Rattle.delivery.specs.Events.{Event, Outcome, happens, outcome, refusal, effect, is_live, find_leftover, find_verdict, find_in, oldest_live, flown, proposal_fault, proposed_by, cancelled_at, learned_at, takes, handed, part_at, flight_at, left_by, closed_subscription, closed_with, end_now}
 use Rattle.delivery.specs.Events.Event.{Topic_added, Opened, Commits, Subscribes, Unsubscribes, Disconnects, Errs, Lost, Leaves, Proposes, Decides, Withdraws, Cancels, Learns, Releases, Turns, Takes}
 use Rattle.delivery.proofs.Invariant.{topic_in, Owned}

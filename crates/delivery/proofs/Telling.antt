@@ -13,7 +13,8 @@ use Rattle.mcast_group.specs.Span.{Item}
 use Rattle.mcast_group.specs.Topics.{Entry, ended}
 use Rattle.mcast_group.proofs.Parts.{some_same, none_some}
 use Rattle.delivery.specs.declared.refusal.Refusal.{Refusal}
-use Rattle.delivery.specs.World.{World, Leftover, Subscription, no_subscription, topic_at, speaker, subscription_at, entry_at, accepted_at, end_at, start}
+use Rattle.delivery.specs.World.{World, Leftover, Subscription, no_subscription, topic_at, speaker, subscription_at, entry_at, start}
+use Rattle.delivery.specs.Reading.{accepted_at, end_at}
 use Rattle.delivery.specs.Events.{Event, Outcome, happens, outcome, refusal, effect, answer, is_live, find_leftover, oldest_live, flying_answer, proposal_fault, propose_answer, cancel_answer, take_answer, left_by, leave_answer, closed_subscription, closed_with, end_now}
 use Rattle.delivery.specs.Events.Event.{Topic_added, Opened, Commits, Subscribes, Unsubscribes, Disconnects, Errs, Lost, Leaves, Proposes, Decides, Withdraws, Cancels, Learns, Releases, Turns, Takes}
 use Rattle.delivery.specs.Events.Outcome.{Refused, Subscribed, Unsubscribed}

@@ -4,7 +4,8 @@ use Rattle.mcast_txn.specs.declared.id.Topic.{Topic}
 use Rattle.mcast_txn.specs.declared.send.Send.{Send}
 use Rattle.mcast_txn.specs.declared.stamp.Stamp.{Stamp}
 use Rattle.mcast_txn.specs.Agreed.{Transaction, In}
-use Rattle.delivery.specs.World.{World, connection_at, accepted_at, end_at, span_at, frontier_at}
+use Rattle.delivery.specs.World.{World, connection_at}
+use Rattle.delivery.specs.Reading.{accepted_at, end_at, span_at, frontier_at}
 use Rattle.delivery.specs.Events.{Event, happens, outcome}
 use Rattle.delivery.specs.Events.Event.{Commits}
 use Rattle.delivery.specs.Events.Outcome.{Flying, Subscribed, Unsubscribed}
