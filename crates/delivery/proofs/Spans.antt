@@ -22,7 +22,7 @@ use Rattle.delivery.proofs.Happening.{Reached, by_refusal, checked, false_not}
 use Rattle.delivery.proofs.Handing.{items_by, find_kept, find_pushed, ended_same, open_items}
 use Rattle.delivery.proofs.Moving.{Moves, Moves-same, Goes, Goes-same, release_goes, turned_goes, entry_moves}
 
-abbrev end_by : Option Ended → Option Entry → Option Stamp
+abbrev pub end_by : Option Ended → Option Entry → Option Stamp
 end_by closed entry = elim closed [ None ↦ entry_to entry | Some end ↦ Some end.to ]
 
 abbrev pub end_in : List TopicState → ℕ → Subscription → Option Stamp
