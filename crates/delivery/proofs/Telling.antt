@@ -1,5 +1,5 @@
 -- What a run's outcomes tell of its spans, and the bound of its queues.
-use Rattle.std.proofs.Common.{◌≡◌, ◌≢◌, ℕ, zero, suc, ◌+◌, ◌<◌, ◌≤◌, ◌==◌, Bool, true, false, not, ◌⊎◌, inl, inr, List, [], ◌∷◌, ◌++◌, length, get_or, Option, Some, None, refl, sym, ap, subst, ◌∙◌, arith, ltb}
+use Rattle.std.proofs.Common.{◌≡◌, ℕ, zero, suc, ◌+◌, ◌<◌, ◌≤◌, ◌==◌, true, false, not, ◌⊎◌, inl, inr, List, [], ◌∷◌, length, get_or, Option, Some, None, refl, sym, ap, subst, ◌∙◌, arith, ltb}
 use Rattle.std.specs.Option.{is_some}
 use Rattle.std.proofs.lemmas.Bool.{ltb-true, and_parts, cases_order}
 use Rattle.mcast_txn.specs.Stamp.{zero_stamp}
@@ -11,13 +11,12 @@ use Rattle.mcast_txn.proofs.Members.{at_set_within}
 use Rattle.mcast_group.specs.declared.fault.ProposeFault.{ProposeFault}
 use Rattle.mcast_group.specs.Span.{Item}
 use Rattle.mcast_group.specs.Topics.{Entry, ended}
-use Rattle.mcast_group.proofs.Parts.{some_same, none_some}
-use Rattle.delivery.specs.declared.refusal.Refusal.{Refusal}
+use Rattle.mcast_group.proofs.Parts.{none_some}
 use Rattle.delivery.specs.World.{World, Leftover, Subscription, no_subscription, topic_at, speaker, subscription_at, entry_at, accepted_at, end_at, start}
 use Rattle.delivery.specs.Events.{Event, Outcome, happens, outcome, refusal, effect, answer, is_live, find_leftover, oldest_live, flying_answer, proposal_fault, propose_answer, cancel_answer, take_answer, left_by, leave_answer, closed_subscription, closed_with, end_now}
 use Rattle.delivery.specs.Events.Event.{Topic_added, Opened, Commits, Subscribes, Unsubscribes, Disconnects, Errs, Lost, Leaves, Proposes, Decides, Withdraws, Cancels, Learns, Releases, Turns, Takes}
-use Rattle.delivery.specs.Events.Outcome.{Refused, Subscribed, Unsubscribed}
-use Rattle.delivery.specs.Runs.{run, outcomes, handed_of}
+use Rattle.delivery.specs.Events.Outcome.{Subscribed, Unsubscribed}
+use Rattle.delivery.specs.Runs.{run, outcomes}
 use Rattle.delivery.specs.Laws.{Run, came, after}
 use Rattle.delivery.specs.Told
 use Rattle.delivery.proofs.Invariant.{topic_in}
@@ -25,7 +24,7 @@ use Rattle.delivery.proofs.Subscriptions.{at_push_two, push_length, finds_entry,
 use Rattle.delivery.proofs.Happening.{Reached, tickets, by_refusal, step_reached, checked, false_not}
 use Rattle.delivery.proofs.Accepting.{reached, start_reached, frontier_is}
 use Rattle.delivery.proofs.Handing.{Handing, run_handing}
-use Rattle.delivery.proofs.Silence.{Oldest, oldest_found, none_of, not_is}
+use Rattle.delivery.proofs.Silence.{oldest_found, none_of, not_is}
 use Rattle.delivery.proofs.Spans.{end_in, none_there, step_tells}
 
 -- ---- an answer that begins a subscription
@@ -201,10 +200,10 @@ step_known capacity past w e r h =
       begun = λ s c t from i. elim i [
         | inl d ↦ begins_now w e s c t from d
         | inr j ↦ (let b = h.begun s c t from j in let l : s < length w.subscriptions = b.there in let m = k.more in record {
-            there = omega arith;
-            topic = (k.each s l).topic ∙ b.topic;
-            start = (k.each s l).from ∙ b.start;
-          })
+          there = omega arith;
+          topic = (k.each s l).topic ∙ b.topic;
+          start = (k.each s l).from ∙ b.start;
+        })
       ];
       ended = λ s to i. elim i [
         | inl d ↦ ends_now past w e s to r d
