@@ -1,13 +1,12 @@
 -- How a topic's step moves the end and the queue of its subscriptions.
-use Rattle.std.proofs.Common.{◌≡◌, ℕ, zero, suc, ◌+◌, ◌-◌, ◌<◌, ◌≤◌, ◌==◌, Bool, true, false, cond, List, [], ◌∷◌, ◌++◌, map, length, set, Option, Some, None, refl, sym, ap, subst, ◌∙◌, arith, ltb}
+use Rattle.std.proofs.Common.{◌≡◌, ℕ, zero, suc, ◌+◌, ◌-◌, ◌<◌, ◌≤◌, ◌==◌, Bool, true, false, cond, List, [], ◌∷◌, ◌++◌, map, length, Option, Some, None, refl, sym, ap, subst, ◌∙◌, arith}
 use Rattle.std.proofs.lemmas.Bool.{eqb-true, ltb-true, true≢false, lt-ltb}
-use Rattle.mcast_txn.specs.declared.id.Topic.{Topic}
 use Rattle.mcast_txn.specs.declared.id.TxnId.{TxnId}
 use Rattle.mcast_txn.specs.declared.stamp.Stamp.{Stamp}
 use Rattle.mcast_group.specs.declared.fault.LearnFault.{LearnFault}
 use Rattle.mcast_group.specs.Span.{Item}
-use Rattle.mcast_group.specs.Topics.{TopicState, Pending, Entry, Ended, Verdict, find_entry, delivered, released, due_part, released_if, release, learn_fault, learned, tried, tried_all, released_times, turned, item_of}
-use Rattle.mcast_group.proofs.Parts.{some_same, none_some}
+use Rattle.mcast_group.specs.Topics.{TopicState, Pending, Entry, Verdict, find_entry, delivered, due_part, released_if, release, learn_fault, learned, tried, tried_all, released_times, turned, item_of}
+use Rattle.mcast_group.proofs.Parts.{none_some}
 use Rattle.delivery.specs.World.{World, subscription_at}
 use Rattle.delivery.specs.Reading.{entry_items, entry_to}
 use Rattle.delivery.specs.Events.{takes, find_in}

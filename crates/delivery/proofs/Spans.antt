@@ -1,29 +1,26 @@
 -- What each event makes of subscriptions: where they begin and end, and how much their queues hold.
-use Rattle.std.proofs.Common.{◌≡◌, ◌≢◌, ℕ, ◌+◌, ◌<◌, ◌≤◌, ◌==◌, Bool, true, false, cond, not, ◌&&◌, ◌⊎◌, inl, inr, List, [], ◌∷◌, ◌++◌, map, length, set, get_or, Option, Some, None, refl, sym, ap, subst, ◌∙◌, arith, ltb}
-use Rattle.std.specs.Option.{is_some}
-use Rattle.std.proofs.lemmas.Bool.{ltb-true, true≢false, and_parts}
+use Rattle.std.proofs.Common.{◌≡◌, ℕ, ◌+◌, ◌<◌, ◌≤◌, ◌==◌, Bool, true, false, cond, List, [], ◌∷◌, ◌++◌, length, set, get_or, Option, Some, None, refl, sym, ap, subst, ◌∙◌, arith}
 use Rattle.mcast_txn.specs.declared.id.Topic.{Topic}
 use Rattle.mcast_txn.specs.declared.id.TxnId.{TxnId}
 use Rattle.mcast_txn.specs.declared.send.Send.{Send}
 use Rattle.mcast_txn.specs.declared.stamp.Stamp.{Stamp}
-use Rattle.mcast_txn.specs.Agreed.{In}
 use Rattle.mcast_txn.proofs.Members.{at_set, at_set_within}
 use Rattle.mcast_group.specs.declared.fault.ProposeFault.{ProposeFault}
 use Rattle.mcast_group.specs.Span.{Item}
 use Rattle.mcast_group.specs.Topics.{TopicState, Entry, Ended, Verdict, find_entry, ended, proposed, cancelled, learned, unsubscribed}
-use Rattle.mcast_group.proofs.Parts.{some_same, none_some}
+use Rattle.mcast_group.proofs.Parts.{none_some}
 use Rattle.delivery.specs.World.{World, Leftover, Subscription, no_subscription, topic_at, speaker, subscription_at, entry_at, with_topic}
 use Rattle.delivery.specs.Reading.{entry_items, entry_to, accepted_at, end_at}
-use Rattle.delivery.specs.Events.{Event, Outcome, happens, outcome, refusal, effect, is_live, find_leftover, find_verdict, find_in, oldest_live, flown, proposal_fault, proposed_by, cancelled_at, learned_at, takes, handed, part_at, flight_at, left_by, closed_subscription, closed_with, end_now}
+use Rattle.delivery.specs.Events.{Event, Outcome, happens, effect, find_leftover, find_verdict, oldest_live, flown, proposal_fault, proposed_by, cancelled_at, learned_at, handed, part_at, flight_at, left_by, closed_with}
 use Rattle.delivery.specs.Events.Event.{Topic_added, Opened, Commits, Subscribes, Unsubscribes, Disconnects, Errs, Lost, Leaves, Proposes, Decides, Withdraws, Cancels, Learns, Releases, Turns, Takes}
 use Rattle.delivery.proofs.Invariant.{topic_in, Owned}
 use Rattle.delivery.proofs.Keeping.{at_topic_from}
-use Rattle.delivery.proofs.Subscriptions.{at_push_two, at_added, set_length, push_length, found_entry, finds_entry, new_subscription, new_entry, topic_with, taken_more}
-use Rattle.delivery.proofs.Happening.{Reached, by_refusal, checked, false_not}
+use Rattle.delivery.proofs.Subscriptions.{at_push_two, at_added, set_length, push_length, found_entry, new_subscription, new_entry, topic_with, taken_more}
+use Rattle.delivery.proofs.Happening.{Reached, by_refusal}
 use Rattle.delivery.proofs.Handing.{items_by, find_kept, find_pushed, ended_same, open_items}
 use Rattle.delivery.proofs.Moving.{Moves, Moves-same, Goes, Goes-same, release_goes, turned_goes, entry_moves}
 
-abbrev end_by : Option Ended → Option Entry → Option Stamp
+abbrev pub end_by : Option Ended → Option Entry → Option Stamp
 end_by closed entry = elim closed [ None ↦ entry_to entry | Some end ↦ Some end.to ]
 
 abbrev pub end_in : List TopicState → ℕ → Subscription → Option Stamp

@@ -1,5 +1,5 @@
 -- What a run's outcomes tell of its spans, and the bound of its queues.
-use Rattle.std.proofs.Common.{◌≡◌, ◌≢◌, ℕ, zero, suc, ◌+◌, ◌<◌, ◌≤◌, ◌==◌, Bool, true, false, not, ◌⊎◌, inl, inr, List, [], ◌∷◌, ◌++◌, length, get_or, Option, Some, None, refl, sym, ap, subst, ◌∙◌, arith, ltb}
+use Rattle.std.proofs.Common.{◌≡◌, ℕ, zero, suc, ◌+◌, ◌<◌, ◌≤◌, ◌==◌, true, false, not, ◌⊎◌, inl, inr, List, [], ◌∷◌, length, get_or, Option, Some, None, refl, sym, ap, subst, ◌∙◌, arith, ltb}
 use Rattle.std.specs.Option.{is_some}
 use Rattle.std.proofs.lemmas.Bool.{ltb-true, and_parts, cases_order}
 use Rattle.mcast_txn.specs.Stamp.{zero_stamp}
@@ -11,14 +11,13 @@ use Rattle.mcast_txn.proofs.Members.{at_set_within}
 use Rattle.mcast_group.specs.declared.fault.ProposeFault.{ProposeFault}
 use Rattle.mcast_group.specs.Span.{Item}
 use Rattle.mcast_group.specs.Topics.{Entry, ended}
-use Rattle.mcast_group.proofs.Parts.{some_same, none_some}
-use Rattle.delivery.specs.declared.refusal.Refusal.{Refusal}
+use Rattle.mcast_group.proofs.Parts.{none_some}
 use Rattle.delivery.specs.World.{World, Leftover, Subscription, no_subscription, topic_at, speaker, subscription_at, entry_at, start}
 use Rattle.delivery.specs.Reading.{accepted_at, end_at}
 use Rattle.delivery.specs.Events.{Event, Outcome, happens, outcome, refusal, effect, answer, is_live, find_leftover, oldest_live, flying_answer, proposal_fault, propose_answer, cancel_answer, take_answer, left_by, leave_answer, closed_subscription, closed_with, end_now}
 use Rattle.delivery.specs.Events.Event.{Topic_added, Opened, Commits, Subscribes, Unsubscribes, Disconnects, Errs, Lost, Leaves, Proposes, Decides, Withdraws, Cancels, Learns, Releases, Turns, Takes}
-use Rattle.delivery.specs.Events.Outcome.{Refused, Subscribed, Unsubscribed}
-use Rattle.delivery.specs.Runs.{run, outcomes, handed_of}
+use Rattle.delivery.specs.Events.Outcome.{Subscribed, Unsubscribed}
+use Rattle.delivery.specs.Runs.{run, outcomes}
 use Rattle.delivery.specs.Laws.{Run, came, after}
 use Rattle.delivery.specs.Told
 use Rattle.delivery.proofs.Invariant.{topic_in}
@@ -26,7 +25,7 @@ use Rattle.delivery.proofs.Subscriptions.{at_push_two, push_length, finds_entry,
 use Rattle.delivery.proofs.Happening.{Reached, tickets, by_refusal, step_reached, checked, false_not}
 use Rattle.delivery.proofs.Accepting.{reached, start_reached, frontier_is}
 use Rattle.delivery.proofs.Handing.{Handing, run_handing}
-use Rattle.delivery.proofs.Silence.{Oldest, oldest_found, none_of, not_is}
+use Rattle.delivery.proofs.Silence.{oldest_found, none_of, not_is}
 use Rattle.delivery.proofs.Spans.{end_in, none_there, step_tells}
 
 -- ---- an answer that begins a subscription
@@ -92,10 +91,10 @@ answer_begun w (Releases u) s c t from e = absurd (told_of _ _ e tt)
 answer_begun w (Turns u) s c t from e = absurd (told_of _ _ e tt)
 answer_begun w (Takes r) s c t from e = absurd (take_untold w r _ (told_of _ _ e tt))
 
-record Begins (w : World) (s : ℕ) (t : Topic) (from : Stamp) : Type 0 where
-  there : s < length w.subscriptions
-  topic : (subscription_at w s).topic ≡ t
-  start : (subscription_at w s).from ≡ from
+pub record Begins (w : World) (s : ℕ) (t : Topic) (from : Stamp) : Type 0 where
+  pub there : s < length w.subscriptions
+  pub topic : (subscription_at w s).topic ≡ t
+  pub start : (subscription_at w s).from ≡ from
 
 begins_new : (w : World) (c : ℕ) (t : Topic) (s : ℕ) (from : Stamp) → s ≡ length w.subscriptions → from ≡ (topic_at w t).frontier → Begins (effect w (Subscribes c t)) s t from
 begins_new w c t s from n f =
@@ -132,14 +131,14 @@ ends_as_told past w q s to r l unclosed e =
     let a : q ≡ s = cc in let b : end_now w q ≡ to = cc in
     subst (λ n. end_at (closed_subscription w q) n ≡ Some to) a (closed_ends past w q r l unclosed ∙ ap Some b)
 
-leave_ends : (past : List Outcome) (w : World) (c s : ℕ) (to : Stamp) → Reached past w → (o : Option ℕ) → oldest_live c 0 w.subscriptions ≡ o → leave_answer w c o ≡ Unsubscribed s to → end_at (left_by w c o) s ≡ Some to
+pub leave_ends : (past : List Outcome) (w : World) (c s : ℕ) (to : Stamp) → Reached past w → (o : Option ℕ) → oldest_live c 0 w.subscriptions ≡ o → leave_answer w c o ≡ Unsubscribed s to → end_at (left_by w c o) s ≡ Some to
 leave_ends past w c s to r None f e = cc
 leave_ends past w c s to r (Some q) f e =
     let o = oldest_found c 0 q w.subscriptions f in let p : ℕ = o.place in let j : q ≡ 0 + p = o.is in let i : q ≡ p = omega arith in
     ends_as_told past w q s to r (let l : p < length w.subscriptions = o.there in omega arith)
     (subst (λ n. is_some (subscription_at w n).closed ≡ false) (sym i) (live_open c (subscription_at w p) o.live)) e
 
-answer_ends : (past : List Outcome) (w : World) (e : Event) (s : ℕ) (to : Stamp) → Reached past w → refusal w e ≡ None → answer w e ≡ Unsubscribed s to → end_at (effect w e) s ≡ Some to
+pub answer_ends : (past : List Outcome) (w : World) (e : Event) (s : ℕ) (to : Stamp) → Reached past w → refusal w e ≡ None → answer w e ≡ Unsubscribed s to → end_at (effect w e) s ≡ Some to
 answer_ends past w (Topic_added clock) s to r n e = absurd (told_of _ _ e tt)
 answer_ends past w Opened s to r n e = absurd (told_of _ _ e tt)
 answer_ends past w (Commits d sends) s to r n e = absurd (flying_untold w d sends (told_of _ _ e tt))
@@ -185,11 +184,11 @@ end_there past w s end r e = elim (within s (length w.subscriptions)) [
   | inr l ↦ none_some end (sym (ap (end_in w.topics s) (beyond w.subscriptions s no_subscription l) ∙ (none_there past w s (record { 0 = 0 }) r l).0) ∙ e)
 ]
 
-record Known (capacity : ℕ) (past : List Outcome) (w : World) : Type 0 where
-  same : w.capacity ≡ capacity
-  bounded : (s : ℕ) → s < length w.subscriptions → length (accepted_at w s) ≤ (subscription_at w s).taken + w.capacity
-  begun : (s c : ℕ) (t : Topic) (from : Stamp) → In (Subscribed s c t from) past → Begins w s t from
-  ended : (s : ℕ) (to : Stamp) → In (Unsubscribed s to) past → end_at w s ≡ Some to
+pub record Known (capacity : ℕ) (past : List Outcome) (w : World) : Type 0 where
+  pub same : w.capacity ≡ capacity
+  pub bounded : (s : ℕ) → s < length w.subscriptions → length (accepted_at w s) ≤ (subscription_at w s).taken + w.capacity
+  pub begun : (s c : ℕ) (t : Topic) (from : Stamp) → In (Subscribed s c t from) past → Begins w s t from
+  pub ended : (s : ℕ) (to : Stamp) → In (Unsubscribed s to) past → end_at w s ≡ Some to
 
 step_known : (capacity : ℕ) (past : List Outcome) (w : World) (e : Event) → Reached past w → Known capacity past w → Known capacity (outcome w e ∷ past) (happens w e)
 step_known capacity past w e r h =
@@ -202,10 +201,10 @@ step_known capacity past w e r h =
       begun = λ s c t from i. elim i [
         | inl d ↦ begins_now w e s c t from d
         | inr j ↦ (let b = h.begun s c t from j in let l : s < length w.subscriptions = b.there in let m = k.more in record {
-            there = omega arith;
-            topic = (k.each s l).topic ∙ b.topic;
-            start = (k.each s l).from ∙ b.start;
-          })
+          there = omega arith;
+          topic = (k.each s l).topic ∙ b.topic;
+          start = (k.each s l).from ∙ b.start;
+        })
       ];
       ended = λ s to i. elim i [
         | inl d ↦ ends_now past w e s to r d
@@ -218,7 +217,7 @@ run_known capacity [] past w r h = h
 run_known capacity (e ∷ es) past w r h =
     run_known capacity es (outcome w e ∷ past) (happens w e) (step_reached past w e r) (step_known capacity past w e r h)
 
-known : (r : Run) → Known r.capacity (came r) (after r)
+pub known : (r : Run) → Known r.capacity (came r) (after r)
 known r =
     run_known r.capacity r.events [] (start r.capacity r.log_limit r.clocks) (start_reached r.capacity r.log_limit r.clocks) (record {
       same = refl;
@@ -243,7 +242,7 @@ pub ends_stay : Told.EndsStay
 ends_stay r e s end d =
     let h = reached r in ((step_tells (came r) (after r) e h).each s (end_there (came r) (after r) s end h d)).stays end d
 
-handing : (r : Run) → Handing (came r) (after r)
+pub handing : (r : Run) → Handing (came r) (after r)
 handing r =
     run_handing r.events [] (start r.capacity r.log_limit r.clocks) (start_reached r.capacity r.log_limit r.clocks)
     (record { held = λ n k. absurd (omega arith); fresh = λ n k. refl })

@@ -1,13 +1,13 @@
 -- What a run's outcomes and spans tell: whose a transaction is, where a span begins and ends, and how much a queue holds.
-use Rattle.std.specs.Prelude.{◌≡◌, ℕ, ◌<◌, ◌≤◌, ◌+◌, Some, List, length}
+use Rattle.std.specs.Prelude.{◌≡◌, ℕ, ◌<◌, ◌≤◌, ◌+◌, Some, None, ◌⊎◌, List, length}
 use Rattle.mcast_txn.specs.declared.id.Topic.{Topic}
 use Rattle.mcast_txn.specs.declared.send.Send.{Send}
 use Rattle.mcast_txn.specs.declared.stamp.Stamp.{Stamp}
 use Rattle.mcast_txn.specs.Agreed.{Transaction, In}
-use Rattle.delivery.specs.World.{World, connection_at}
+use Rattle.delivery.specs.World.{World, connection_at, subscription_at}
 use Rattle.delivery.specs.Reading.{accepted_at, end_at, span_at, frontier_at}
 use Rattle.delivery.specs.Events.{Event, happens, outcome}
-use Rattle.delivery.specs.Events.Event.{Commits}
+use Rattle.delivery.specs.Events.Event.{Commits, Releases, Turns}
 use Rattle.delivery.specs.Events.Outcome.{Flying, Subscribed, Unsubscribed}
 use Rattle.delivery.specs.Runs.{handed_of}
 use Rattle.delivery.specs.Laws.{Run, came, after}
@@ -49,3 +49,11 @@ abbrev pub QueuesAreBounded : Type 0
 QueuesAreBounded =
     (r : Run) (s : ℕ) → s < length (after r).subscriptions
     → length (accepted_at (after r) s) ≤ length (handed_of s (came r)) + r.capacity
+
+-- a span gets its end by UNSUBSCRIBE, or by a release or a turn of its topic that leaves its queue full
+abbrev pub EndsAreTold : Type 0
+EndsAreTold =
+    (r : Run) (e : Event) (s : ℕ) (end : Stamp) → end_at (after r) s ≡ None → end_at (happens (after r) e) s ≡ Some end
+    → (outcome (after r) e ≡ Unsubscribed s end)
+    ⊎ (((e ≡ Releases (subscription_at (after r) s).topic) ⊎ (e ≡ Turns (subscription_at (after r) s).topic))
+    × (length (accepted_at (happens (after r) e) s) ≡ length (handed_of s (came r)) + r.capacity))

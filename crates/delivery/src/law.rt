@@ -1,7 +1,7 @@
 //! Laws: functions that do nothing, whose contracts are theorems about every run of the core.
 
 ghost use Rattle.delivery.specs.Laws.{AcceptedIsDue, AgreedInSenderOrder, AgreedOnce, ClosedIsSilent, CommitsAreKept, FoundIsLearnt, HandedIsPrefix, LagsWhereFull, OddNeverComes, OthersUntouched, RefusalsChangeNothing, SeqsCount, SettledLeavesNoneOut, SharedInOneOrder, StampIsGreatest, TicketIsOwn, TopicsAreSound};
-ghost use Rattle.delivery.specs.Told.{EndsStay, FlyingIsOwn, QueuesAreBounded, SenderIsOwn, SpansBeginAsTold, SpansBeginAtFrontier, SpansEndAsTold};
+ghost use Rattle.delivery.specs.Told.{EndsAreTold, EndsStay, FlyingIsOwn, QueuesAreBounded, SenderIsOwn, SpansBeginAsTold, SpansBeginAtFrontier, SpansEndAsTold};
 
 /// The core's commit list is that of the decisions in the run.
 pub fn commits()
@@ -64,10 +64,12 @@ pub fn never()
 {}
 
 /// An open subscription lags exactly at a release at its topic where as many items as its capacity
-/// weren't handed on, and no queue ever holds more.
+/// weren't handed on, and no queue ever holds more. Apart from UNSUBSCRIBE, nothing else ends a span: a release
+/// or a turn of its topic does, and its queue is full then.
 pub fn lags_only_where_full()
     ensures releases { LagsWhereFull }
     ensures bound { QueuesAreBounded }
+    ensures ends { EndsAreTold }
 {}
 
 /// What was handed on of a subscription is a prefix of what its queue has accepted.
