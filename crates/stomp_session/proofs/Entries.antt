@@ -1,5 +1,5 @@
 -- A map of octets and its entries, as contracts see them.
-use Rattle.std.proofs.Common.{◌≡◌, ℕ, Bool, true, false, cond, List, [], ◌∷◌, ◌++◌, map, is_some, Option, Some, None, nat_eq, refl, sym, ap, ◌∙◌, Vec, arith, position, if◌then◌else◌, ◌||◌, true≢false, nat_lt, length, IfSome}
+use Rattle.std.proofs.Common.{◌≡◌, ℕ, Bool, true, false, cond, List, [], ◌∷◌, ◌++◌, is_some, Option, Some, None, refl, sym, ap, ◌∙◌, Vec, arith, position, if◌then◌else◌, ◌||◌, true≢false, nat_lt, length, IfSome}
 use Rattle.std.specs.declared.alloc.Global.{Global}
 use Rattle.std.specs.List.{list_any, position_or_len}
 use Rattle.std.specs.Map.{lookup, remove_entry, set_value}

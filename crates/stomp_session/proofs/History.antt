@@ -17,8 +17,8 @@ use Rattle.stomp_session.specs.declared.phase.Phase.TheVariants.{New, Connected,
 use Rattle.stomp_session.specs.declared.fault.SessionFault.{SessionFault}
 use Rattle.stomp_session.specs.declared.fault.SessionFault.TheVariants as faults
 use Rattle.stomp_session.specs.Frames.{topic_of, id_of, transaction_of, is_subscribe, is_unsubscribe, is_begin, is_end, is_send, is_disconnect, names_subscription, names_transaction, is_send_in, send_of}
-use Rattle.stomp_session.specs.Open.{Held, subscribed, begun, is_connected, is_ended, phase_of, held_after, closed}
-use Rattle.stomp_session.specs.Refusals.{is_closed, is_new, is_open, is_full, has_other_ack, has_unknown_destination, Check, first_fault, open_checks, checks_by, connect_checks}
+use Rattle.stomp_session.specs.Open.{Held, subscribed, begun, is_connected, is_ended, phase_of, held_after}
+use Rattle.stomp_session.specs.Refusals.{is_closed, is_new, is_open, is_full, has_other_ack, has_unknown_destination, Check, first_fault, open_checks, checks_by}
 use Rattle.stomp_session.specs.Effects.{without, with_send, effect, refusal_by}
 use Rattle.stomp_session.proofs.Opened.{opened, opened-quiet, opened-open, opened-close, opened-send, list_any-push}
 

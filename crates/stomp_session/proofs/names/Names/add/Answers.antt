@@ -1,5 +1,3 @@
-use Rattle.std.proofs.Common.{◌≡◌, ◌∙◌, ap, rules}
-use Rattle.stomp_session.specs.Stored.{octets_of}
 use Rattle.stomp_session.proofs.Entries.{octets_of-insert_key}
 use Rattle.stomp_session.proofs.names.Names.add.Goals as goal
 

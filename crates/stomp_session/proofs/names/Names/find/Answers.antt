@@ -1,4 +1,4 @@
-use Rattle.std.proofs.Common.{◌≡◌, ◌∙◌, ap, sym, is_some}
+use Rattle.std.proofs.Common.{◌∙◌, sym}
 use Rattle.stomp_session.proofs.Entries.{is_known-octets_of, place_of-octets_of, position-Some, is_key}
 use Rattle.stomp_session.proofs.names.Names.find.Goals as goal
 

@@ -1,4 +1,3 @@
-use Rattle.std.proofs.Common.{◌≡◌, ap, sym, ◌∙◌, rules}
 use Rattle.stomp_frame.specs.declared.command.Command.TheVariants as commands
 use Rattle.stomp_session.proofs.History.{subscribe-follows, unsubscribe-follows, begin-follows, commit-follows, abort-follows, send-follows}
 use Rattle.stomp_session.proofs.Taken.{accepts, accepts-connect}

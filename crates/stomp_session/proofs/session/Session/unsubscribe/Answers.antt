@@ -1,4 +1,4 @@
-use Rattle.std.proofs.Common.{rules, ◌≡◌, codes, refl, ap, ◌∙◌}
+use Rattle.std.proofs.Common.{rules, codes, refl, ap, ◌∙◌}
 use Rattle.stomp_frame.specs.Headers.{first_of}
 use Rattle.stomp_frame.proofs.Places.{first_apart}
 use Rattle.stomp_session.proofs.session.Session.unsubscribe.Goals as goal

@@ -1,7 +1,4 @@
-use Rattle.std.proofs.Common.{◌≡◌, ◌∙◌, ap, sym, is_some}
-use Rattle.stomp_session.specs.Refusals.{is_open}
-use Rattle.stomp_session.specs.Effects.{without}
-use Rattle.stomp_session.specs.Stored.{entries_of}
+use Rattle.std.proofs.Common.{sym}
 use Rattle.stomp_session.proofs.Entries.{is_open-lookup, entries_of-remove}
 use Rattle.stomp_session.proofs.subscriptions.Subscriptions.close.Goals as goal
 

@@ -1,4 +1,4 @@
-use Rattle.std.proofs.Common.{◌≡◌, ◌∙◌, sym, ap, false}
+use Rattle.std.proofs.Common.{◌≡◌, ◌∙◌, false}
 use Rattle.stomp_session.specs.Refusals.{is_open}
 use Rattle.stomp_session.specs.Stored.{entries_of}
 use Rattle.stomp_session.proofs.Entries.{entries_of-insert}

@@ -1,4 +1,4 @@
-use Rattle.std.proofs.Common.{◌≡◌, sym}
+use Rattle.std.proofs.Common.{sym}
 use Rattle.stomp_session.proofs.Entries.{is_open-lookup}
 use Rattle.stomp_session.proofs.transactions.Transactions.is_open.Goals as goal
 

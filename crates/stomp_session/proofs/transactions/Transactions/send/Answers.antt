@@ -1,4 +1,4 @@
-use Rattle.std.proofs.Common.{◌≡◌, ◌∷◌, [], ◌++◌, Option, codes, sym, ap, ◌∙◌, Some, None, true, is_some, rules, true≢false}
+use Rattle.std.proofs.Common.{◌≡◌, Option, codes, sym, ap, ◌∙◌, Some, None, true, is_some, rules, true≢false}
 use Rattle.std.specs.Borrow.{MutBor}
 use Rattle.std.specs.Map.{lookup}
 use Rattle.std.specs.Option.{option_map, option_copied_mut, IsSome}

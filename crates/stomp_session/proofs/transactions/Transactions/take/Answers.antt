@@ -1,5 +1,5 @@
-use Rattle.std.proofs.Common.{◌≡◌, sym, Some, None, IfSome, Option, List, ◌∙◌}
-use Rattle.stomp_session.proofs.Entries.{is_open-lookup, entries_of-remove, sends_in-lookup, sends_in-found}
+use Rattle.std.proofs.Common.{sym}
+use Rattle.stomp_session.proofs.Entries.{is_open-lookup, entries_of-remove, sends_in-found}
 use Rattle.stomp_session.proofs.transactions.Transactions.take.Goals as goal
 
 pub returns-clause-was_open : goal.returns-clause-was_open

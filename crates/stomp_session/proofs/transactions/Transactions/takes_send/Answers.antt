@@ -1,10 +1,10 @@
-use Rattle.std.proofs.Common.{◌≡◌, ◌<◌, ◌≤◌, ℕ, List, Option, sym, ap, ◌∙◌, Some, None, true, false, is_some, length, refl, arith, tests}
+use Rattle.std.proofs.Common.{◌≡◌, ◌<◌, ◌≤◌, List, sym, ap, ◌∙◌, Some, true, false, is_some, length, arith}
 use Rattle.std.proofs.lemmas.Bool.Decides.{nat_tests}
 use Rattle.std.specs.Map.{lookup}
 use Rattle.std.specs.Option.{option_copied}
 use Rattle.mcast_txn.specs.declared.send.Send.{Send}
 use Rattle.stomp_session.specs.Refusals.{is_open, is_full_of_sends, sends_in}
-use Rattle.stomp_session.proofs.Entries.{Key, is_key, is_open-lookup, sends_in-lookup}
+use Rattle.stomp_session.proofs.Entries.{is_key, is_open-lookup, sends_in-lookup}
 use Rattle.stomp_session.proofs.transactions.Transactions.takes_send.Goals as goal
 
 below_is_not_full : (sends : List Send) → length sends < 64 → is_full_of_sends sends ≡ false
