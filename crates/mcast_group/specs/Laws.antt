@@ -3,8 +3,9 @@ use Rattle.std.specs.Prelude.{◌≡◌, ℕ, Bool, [], Option, Some, None}
 use Rattle.mcast_txn.specs.declared.id.Topic.{Topic}
 use Rattle.mcast_txn.specs.declared.id.TxnId.{TxnId}
 use Rattle.mcast_txn.specs.declared.stamp.Stamp.{Stamp}
+use Rattle.mcast_txn.specs.Ballot.{Decision}
 use Rattle.mcast_txn.specs.Transaction.{TopicPart}
-use Rattle.mcast_group.specs.Topics.{TopicState, Entry, Verdict, IsVerdict, new_topic, propose_fault, proposed, learn_fault, learned, cancelled, release, turned, subscribed, unsubscribed, drained}
+use Rattle.mcast_group.specs.Topics.{TopicState, Entry, HasOneRowEach, decided_stamp, new_topic, propose_fault, proposed, learn_fault, learned, cancelled, due_part, release, turned, subscribed, unsubscribed, drained}
 use Rattle.mcast_group.specs.Sound.{IsSound}
 use Rattle.mcast_group.specs.Fitting.{Fits}
 
@@ -13,11 +14,11 @@ pub record KeepsSound : Type 0 where
   pub opens : (topic : Topic) (log_limit clock : ℕ) → IsSound (new_topic topic log_limit clock)
   pub proposes : (floor : Stamp) (part : TopicPart) (x : TopicState) → IsSound x → part.topic ≡ x.topic
       → propose_fault floor part x ≡ None → IsSound (proposed floor part x)
-  pub learns : (id : TxnId) (v : Verdict) (x : TopicState) → IsSound x → IsVerdict v → learn_fault id v x ≡ None → IsSound (learned id v.stamp x)
+  pub learns : (id : TxnId) (v : Decision) (x : TopicState) → IsSound x → HasOneRowEach v → learn_fault id v x ≡ None → IsSound (learned id (decided_stamp v) x)
   pub cancels : (id : TxnId) (x : TopicState) → IsSound x → IsSound (cancelled id x)
   pub releases : (takes : Entry → Bool) (x : TopicState) → IsSound x → IsSound (release takes x)
-  pub turns : (takes : Entry → Bool) (find : TxnId → Option Verdict) (x : TopicState)
-      → ((id : TxnId) (v : Verdict) → find id ≡ Some v → IsVerdict v) → IsSound x → IsSound (turned takes find x)
+  pub turns : (takes : Entry → Bool) (find : TxnId → Option Decision) (x : TopicState)
+      → ((id : TxnId) (v : Decision) → find id ≡ Some v → HasOneRowEach v) → IsSound x → IsSound (turned takes find x)
   pub subscribes : (number : ℕ) (x : TopicState) → IsSound x → IsSound (subscribed number x)
   pub unsubscribes : (number : ℕ) (x : TopicState) → IsSound x → IsSound (unsubscribed number x)
   pub drains : (x : TopicState) → IsSound x → IsSound (drained x)
@@ -25,5 +26,9 @@ pub record KeepsSound : Type 0 where
 -- a turn of a sound topic that its verdicts fit leaves no part pending
 abbrev pub TurnLeavesNone : Type 0
 TurnLeavesNone =
-    (takes : Entry → Bool) (find : TxnId → Option Verdict) (x : TopicState)
+    (takes : Entry → Bool) (find : TxnId → Option Decision) (x : TopicState)
     → IsSound x → Fits find x → (turned takes find x).pending ≡ []
+
+-- after a turn nothing is due
+abbrev pub TurnLeavesNothingDue : Type 0
+TurnLeavesNothingDue = (takes : Entry → Bool) (find : TxnId → Option Decision) (x : TopicState) → due_part (turned takes find x) ≡ None

@@ -43,3 +43,19 @@ pub enum CancelFault {
     #[error("46 Decided: a transaction that was decided can't be cancelled")]
     Decided,
 }
+
+/// Why a subscription doesn't begin.
+#[derive(Clone, Copy, Debug, PartialEq, Eq, Error)]
+pub enum SubFault {
+    /// 47: a subscription of this number is there.
+    #[error("47 SubInUse: give each subscription of a topic a number of its own")]
+    SubInUse,
+    /// 42: there was no memory for the subscription.
+    #[error("42 NoMemory: there was no memory for the subscription; try again")]
+    NoMemory,
+}
+
+/// 48: there is no subscription of this number.
+#[derive(Clone, Copy, Debug, PartialEq, Eq, Error)]
+#[error("48 NoSub: name a subscription of this topic that hasn't ended")]
+pub struct NoSub;
