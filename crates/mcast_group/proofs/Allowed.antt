@@ -30,10 +30,10 @@ keeps_sound = record {
   opens = Sound-new;
   proposes = λ floor part x h own e. let p = passes (propose_checks floor part x) e in
       Sound-proposed floor part x h own p.0 (ltb-true (length x.pending + length x.held) x.log_limit (false_not _ p.1.1.0));
-  learns = λ id v x h one e. Sound-learned id v x h (learns_is id v x e);
+  learns = λ id v x h e. Sound-learned id v x h (learns_is id v x e);
   cancels = Sound-cancelled;
   releases = Sound-release;
-  turns = λ takes find x one h. Sound-turned takes find x h;
+  turns = Sound-turned;
   subscribes = Sound-subscribed;
   unsubscribes = Sound-unsubscribed;
   drains = Sound-drained;
