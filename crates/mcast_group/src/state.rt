@@ -7,6 +7,6 @@ use mcast_txn::Stamp;
 pub enum SubState {
     /// Each row that is released goes to its queue.
     Open,
-    /// Its queue was full when a row was due: it has all rows up to this stamp, and gets no more.
+    /// Its queue was full when a row was due: it has all rows from its beginning up to this stamp, and gets no more.
     Lag(Stamp),
 }
