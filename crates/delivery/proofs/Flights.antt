@@ -7,10 +7,10 @@ use Rattle.mcast_txn.specs.declared.send.Send.{Send}
 use Rattle.mcast_txn.proofs.Members.{at_set}
 use Rattle.mcast_group.specs.declared.fault.ProposeFault.{ProposeFault}
 use Rattle.mcast_group.specs.Span.{Item}
-use Rattle.mcast_group.specs.Topics.{Entry, Verdict}
+use Rattle.mcast_group.specs.Topics.{Pending, Entry, Verdict, due_part}
 use Rattle.delivery.specs.declared.refusal.Refusal.{Refusal}
-use Rattle.delivery.specs.World.{World, Connection, Leftover, SenderState, Standing, nobody, new_sender, connection_at, subscription_at, speaker, entry_at, start}
-use Rattle.delivery.specs.Events.{Event, happens, effect, answer, find_leftover, find_verdict, oldest_live, next_txn, flown, flying_answer, proposal_fault, proposed_by, propose_answer, cancelled_at, cancel_answer, learned_at, handed, take_answer, left_by, leave_answer, closed_with}
+use Rattle.delivery.specs.World.{World, Connection, Leftover, SenderState, Standing, nobody, new_sender, topic_at, connection_at, subscription_at, speaker, entry_at, start}
+use Rattle.delivery.specs.Events.{Event, happens, effect, answer, find_leftover, find_verdict, oldest_live, next_txn, flown, flying_answer, proposal_fault, proposed_by, propose_answer, cancelled_at, cancel_answer, learned_at, release_answer, handed, take_answer, left_by, leave_answer, closed_with}
 use Rattle.delivery.specs.Events.Event.{Topic_added, Opened, Commits, Subscribes, Unsubscribes, Disconnects, Errs, Lost, Leaves, Proposes, Decides, Withdraws, Cancels, Learns, Releases, Turns, Takes}
 use Rattle.delivery.specs.Events.Outcome.{Refused, Flying}
 use Rattle.delivery.specs.Runs.{run}
@@ -42,6 +42,10 @@ no_leave : (w : World) (c : ℕ) (o : Option ℕ) (txn : Transaction) → leave_
 no_leave w c None txn e = cc
 no_leave w c (Some s) txn e = cc
 
+no_release : (t : Topic) (o : Option Pending) (txn : Transaction) → release_answer t o ≡ Flying txn → Prim.⊥
+no_release t None txn e = cc
+no_release t (Some p) txn e = cc
+
 no_take : (w : World) (s : ℕ) (o : Option Item) (txn : Transaction) → take_answer w s o ≡ Flying txn → Prim.⊥
 no_take w s None txn e = cc
 no_take w s (Some item) txn e = cc
@@ -61,7 +65,7 @@ answer_own w (Decides c) txn e = cc
 answer_own w (Withdraws c) txn e = cc
 answer_own w (Cancels c t) txn e = absurd (no_cancel t (find_leftover t (speaker w c).leftovers) txn e)
 answer_own w (Learns t i) txn e = cc
-answer_own w (Releases t) txn e = cc
+answer_own w (Releases t) txn e = absurd (no_release t (due_part (topic_at w t)) txn e)
 answer_own w (Turns t) txn e = cc
 answer_own w (Takes s) txn e = absurd (no_take w s _ txn e)
 

@@ -1,6 +1,7 @@
 -- What every world that a run leads to keeps.
 use Rattle.std.proofs.Common.{◌≡◌, ◌≢◌, ℕ, ◌<◌, ◌≤◌, true, false, ◌⊎◌, List, [], ◌∷◌, length, get_or, Some, None}
 use Rattle.mcast_txn.specs.Stamp.{stamp_lt, zero_stamp}
+use Rattle.mcast_txn.specs.Part.{part_at}
 use Rattle.mcast_txn.specs.Transaction.{TopicPart, topics_of}
 use Rattle.mcast_txn.specs.Agreed.{Transaction, Row, same_id, In, names, stamp_of}
 use Rattle.mcast_txn.specs.declared.id.Topic.{Topic}
@@ -13,7 +14,6 @@ use Rattle.mcast_group.specs.Topics.{TopicState, Pending, Entry, Ended, Verdict,
 use Rattle.mcast_group.proofs.Parts.{Waits}
 use Rattle.delivery.specs.Due.{log_row, item_at}
 use Rattle.delivery.specs.World.{World, Flight, Leftover, SenderState, Subscription, new_sender, no_subscription}
-use Rattle.delivery.specs.Events.{part_at}
 
 -- a row: a transaction with a stamp, which is its ticket or, in the commit list, its own
 abbrev pub row : Transaction → Stamp → Row
@@ -39,7 +39,7 @@ Uncommitted cs id = (r : Row) → In r cs → same_id r.txn.id id ≡ true → P
 pub record Ticketed (ts : List Row) (part : TopicPart) (n : ℕ) : Type 0 where
   pub ticket : Row
   pub stands : In ticket ts
-  pub part_is : part_at part.topic ticket.txn ≡ part
+  pub part_is : part_at ticket.txn.id ticket.txn.sends part.topic ≡ part
   pub stamp_is : ticket.stamp ≡ record { n = n; topic = part.topic }
   pub named : names part.topic (topics_of ticket.txn.sends) ≡ true
 

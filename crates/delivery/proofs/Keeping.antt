@@ -1,5 +1,6 @@
 -- What a step at one topic keeps.
 use Rattle.std.proofs.Common.{◌≡◌, ℕ, ◌<◌, ◌≤◌, Bool, true, inl, inr, List, [], ◌∷◌, ◌++◌, map, set, Option, Some, None, refl, sym, ap, subst, ◌∙◌, arith}
+use Rattle.mcast_txn.specs.Part.{part_at}
 use Rattle.mcast_txn.specs.Transaction.{TopicPart, topics_of}
 use Rattle.mcast_txn.specs.Agreed.{Transaction, Row, In, names}
 use Rattle.mcast_txn.specs.declared.id.Topic.{Topic}
@@ -16,7 +17,6 @@ use Rattle.mcast_group.proofs.Keeping.{Learns, learns_is, Sound-learned, Sound-r
 use Rattle.mcast_group.proofs.Turning.{release_keeps, turn_keeps}
 use Rattle.delivery.specs.Due.{log_row, item_at}
 use Rattle.delivery.specs.World.{World, Flight, SenderState, Subscription}
-use Rattle.delivery.specs.Events.{part_at}
 use Rattle.delivery.proofs.Invariant.{row, Consistent, Uncommitted, Ticketed, Committed, Logged, Tied, topic_in, Flies, Serves, sender_in, sub_in, HasEntry, Owned, IsClosed, Subscribes, Inv, Holds}
 
 -- ---- the commit list and the tickets
@@ -63,13 +63,13 @@ part_row ts cs p s all t e c =
     let ids : a.id ≡ c.row.txn.id = ap (λ (z : TopicPart). z.id) t.part_is ∙ sym c.id_is in
     let txn : a ≡ c.row.txn = all.one_id t.ticket c.row t.stands (all.from_ticket c.row c.stands) (id_same a.id c.row.txn.id ids) in
     let k : c.row.stamp ≡ key p = c.stamp_is ∙ sym (key_learnt p s e) in
-    let part : part_at p.part.topic c.row.txn ≡ p.part = ap (part_at p.part.topic) (sym txn) ∙ t.part_is in
+    let part : part_at c.row.txn.id c.row.txn.sends p.part.topic ≡ p.part = ap (λ (z : Transaction). part_at z.id z.sends p.part.topic) (sym txn) ∙ t.part_is in
     record {
       row = c.row;
       stands = c.stands;
       id_is = c.id_is;
       log_is = ap (log_of c.row.txn) k ∙ ap (λ (z : TopicPart). log_of_part z (key p)) part;
-      item_is = ap (item_of_part (part_at p.part.topic c.row.txn)) k ∙ ap (λ (z : TopicPart). item_of_part z (key p)) part;
+      item_is = ap (item_of_part (part_at c.row.txn.id c.row.txn.sends p.part.topic)) k ∙ ap (λ (z : TopicPart). item_of_part z (key p)) part;
       named = subst (λ (z : Transaction). names p.part.topic (topics_of z.sends) ≡ true) txn t.named;
     }
 

@@ -11,16 +11,16 @@ use Rattle.mcast_txn.proofs.Orders.{id_equal, id_same, id_itself}
 use Rattle.mcast_txn.proofs.Members.{at_set, at_set_within, at_set_same}
 use Rattle.mcast_group.specs.declared.fault.ProposeFault.{ProposeFault}
 use Rattle.mcast_group.specs.Span.{Item}
-use Rattle.mcast_group.specs.Topics.{TopicState, Pending, Entry, Verdict, new_topic, learned, cancelled, turned}
+use Rattle.mcast_group.specs.Topics.{TopicState, Pending, Entry, Verdict, new_topic, learned, cancelled, due_part, turned}
 use Rattle.mcast_group.proofs.Parts.{Waits, others, not_true, none_some}
 use Rattle.mcast_group.proofs.Turning.{turn_none}
 use Rattle.delivery.specs.declared.refusal.Refusal.{Refusal}
 use Rattle.delivery.specs.Due.{log_row}
 use Rattle.delivery.specs.World.{World, Flight, Leftover, SenderState, new_sender, topic_at, connection_at, speaker, subscription_at, entry_at, start, new_topics}
 use Rattle.delivery.specs.Reading.{log_at}
-use Rattle.delivery.specs.Events.{Event, Outcome, happens, outcome, refusal, effect, answer, flight_at, find_leftover, find_verdict, find_in, oldest_live, flown, flying_answer, proposal_fault, proposed_by, propose_answer, withdrawn, cancelled_at, cancel_answer, learned_at, takes, handed, take_answer, left_by, leave_answer, closed_subscription, closed_with}
+use Rattle.delivery.specs.Events.{Event, Outcome, happens, outcome, refusal, effect, answer, flight_at, find_leftover, find_verdict, find_in, oldest_live, flown, flying_answer, proposal_fault, proposed_by, propose_answer, withdrawn, cancelled_at, cancel_answer, learned_at, release_answer, takes, handed, take_answer, left_by, leave_answer, closed_subscription, closed_with}
 use Rattle.delivery.specs.Events.Event.{Topic_added, Opened, Commits, Subscribes, Unsubscribes, Disconnects, Errs, Lost, Leaves, Proposes, Decides, Withdraws, Cancels, Learns, Releases, Turns, Takes}
-use Rattle.delivery.specs.Events.Outcome.{Refused, Done, Subscribed, Unsubscribed, Leaving, Error, Gone, Failed, Decided, Learnt, Released, Turned, Handed}
+use Rattle.delivery.specs.Events.Outcome.{Refused, Done, Subscribed, Unsubscribed, Leaving, Error, Gone, Failed, Decided, Learnt, Turned, Handed}
 use Rattle.delivery.specs.Runs.{run, outcomes, commits_of}
 use Rattle.delivery.specs.Settled.{IsSettled, AllResolved}
 use Rattle.delivery.specs.Laws.{Run, came, after}
@@ -67,8 +67,9 @@ quiet_decided id stamp = record { flying = λ txn e. cc; tickets = λ past. refl
 quiet_learnt : (id : TxnId) (u : Topic) → Quiet (Learnt id u)
 quiet_learnt id u = record { flying = λ txn e. cc; tickets = λ past. refl; withdrawn = λ i d e. cc; cancelled = λ i t e. cc; settled = λ t past h. h }
 
-quiet_released : (u : Topic) → Quiet (Released u)
-quiet_released u = record { flying = λ txn e. cc; tickets = λ past. refl; withdrawn = λ i d e. cc; cancelled = λ i t e. cc; settled = λ t past h. h }
+quiet_released : (u : Topic) (o : Option Pending) → Quiet (release_answer u o)
+quiet_released u None = quiet_done
+quiet_released u (Some p) = record { flying = λ txn e. cc; tickets = λ past. refl; withdrawn = λ i d e. cc; cancelled = λ i t e. cc; settled = λ t past h. h }
 
 quiet_handed : (s : ℕ) (item : Item) → Quiet (Handed s item)
 quiet_handed s item = record { flying = λ txn e. cc; tickets = λ past. refl; withdrawn = λ i d e. cc; cancelled = λ i t e. cc; settled = λ t past h. h }
@@ -221,7 +222,7 @@ happens_settling past w (Cancels c t) h l e = cancelled_settling past w c t h l 
 happens_settling past w (Learns t id) h l e =
     fewer_quiet past w (effect w (Learns t id)) (Learnt id t) (quiet_learnt id t) (learned_fewer w t id (find_verdict id w.verdicts)) l
 happens_settling past w (Releases t) h l e =
-    fewer_quiet past w (effect w (Releases t)) (Released t) (quiet_released t)
+    fewer_quiet past w (effect w (Releases t)) (answer w (Releases t)) (quiet_released t (due_part (topic_at w t)))
     (Fewer-topic w.topics w.senders t _ (Gone-release (takes w) (topic_at w t))) l
 happens_settling past w (Turns t) h l e = turn_settling past w t h l
 happens_settling past w (Takes s) h l e = handed_settling past w s _ l

@@ -1,5 +1,6 @@
 -- What each event makes of subscriptions: where they begin and end, and how much their queues hold.
 use Rattle.std.proofs.Common.{◌≡◌, ℕ, ◌+◌, ◌<◌, ◌≤◌, ◌==◌, Bool, true, false, cond, List, [], ◌∷◌, ◌++◌, length, set, get_or, Option, Some, None, refl, sym, ap, subst, ◌∙◌, arith}
+use Rattle.mcast_txn.specs.Part.{part_at}
 use Rattle.mcast_txn.specs.declared.id.Topic.{Topic}
 use Rattle.mcast_txn.specs.declared.id.TxnId.{TxnId}
 use Rattle.mcast_txn.specs.declared.send.Send.{Send}
@@ -11,7 +12,7 @@ use Rattle.mcast_group.specs.Topics.{TopicState, Entry, Ended, Verdict, find_ent
 use Rattle.mcast_group.proofs.Parts.{none_some}
 use Rattle.delivery.specs.World.{World, Leftover, Subscription, no_subscription, topic_at, speaker, subscription_at, entry_at, with_topic}
 use Rattle.delivery.specs.Reading.{entry_items, entry_to, accepted_at, end_at}
-use Rattle.delivery.specs.Events.{Event, Outcome, happens, effect, find_leftover, find_verdict, oldest_live, flown, proposal_fault, proposed_by, cancelled_at, learned_at, handed, part_at, flight_at, left_by, closed_with}
+use Rattle.delivery.specs.Events.{Event, Outcome, happens, effect, find_leftover, find_verdict, oldest_live, flown, proposal_fault, proposed_by, cancelled_at, learned_at, handed, flight_at, left_by, closed_with}
 use Rattle.delivery.specs.Events.Event.{Topic_added, Opened, Commits, Subscribes, Unsubscribes, Disconnects, Errs, Lost, Leaves, Proposes, Decides, Withdraws, Cancels, Learns, Releases, Turns, Takes}
 use Rattle.delivery.proofs.Invariant.{topic_in, Owned}
 use Rattle.delivery.proofs.Keeping.{at_topic_from}
@@ -194,7 +195,7 @@ Tells-flown w c (first ∷ others) = Tells-same w
 
 Tells-proposed : (w : World) (c : ℕ) (t : Topic) (o : Option ProposeFault) → TellsOf w (proposed_by w c t o)
 Tells-proposed w c t None =
-    let y = proposed (speaker w c).floor (part_at t (flight_at w c).txn) (topic_at w t) in Tells-topic w t y (Goes-same w (topic_at w t) y refl)
+    let y = proposed (speaker w c).floor (part_at (flight_at w c).txn.id (flight_at w c).txn.sends t) (topic_at w t) in Tells-topic w t y (Goes-same w (topic_at w t) y refl)
 Tells-proposed w c t (Some fault) = Tells-same w
 
 Tells-cancelled : (w : World) (c : ℕ) (t : Topic) (o : Option Leftover) → TellsOf w (cancelled_at w c t o)
