@@ -2,9 +2,10 @@
 use Rattle.std.proofs.Common.{◌≡◌, ℕ, suc, ◌+◌, ◌<◌, ◌≤◌, ◌==◌, max, Bool, true, false, cond, not, ◌&&◌, ◌||◌, inl, inr, List, [], ◌∷◌, ◌++◌, length, Option, Some, None, refl, sym, ap, subst, ◌∙◌, arith}
 use Rattle.std.specs.List.{filter, list_any}
 use Rattle.std.proofs.lemmas.Bool.{true≢false, and_parts}
-use Rattle.mcast_txn.specs.Stamp.{stamp_lt, zero_stamp, greatest}
+use Rattle.mcast_txn.specs.Stamp.{stamp_lt, zero_stamp}
 use Rattle.mcast_txn.specs.Transaction.{TopicPart}
 use Rattle.mcast_txn.specs.Agreed.{same_id, In}
+use Rattle.mcast_txn.specs.Ballot.{Decision}
 use Rattle.mcast_txn.specs.declared.id.Topic.{Topic}
 use Rattle.mcast_txn.specs.declared.id.TxnId.{TxnId}
 use Rattle.mcast_txn.specs.declared.stamp.Stamp.{Stamp}
@@ -14,8 +15,8 @@ use Rattle.mcast_txn.proofs.Sorting.{Rises-push}
 use Rattle.mcast_txn.proofs.Greatest.{greatest_past}
 use Rattle.mcast_group.specs.Span.{LogRow, last_stamp}
 use Rattle.mcast_group.specs.Sound.{IsSound, IsQueueOf, row_stamp}
-use Rattle.mcast_group.specs.Topics.{TopicState, Pending, Entry, Verdict, IsVerdict, key, new_topic, next_number, proposed, is_pending, has_row, is_foreign, learnt_other, clashes, learn_fault, learn_fault_of, find_pending, learned, told, cancelled, released, row_of, item_of, delivered, subscribed, unsubscribed, drained, same_stamp}
-use Rattle.mcast_group.proofs.Parts.{insert_length, insert_one, insert_two, not_pending, each_told, each_two_told, with_stamp, map_length, Due, others, found_part, same_stamp_is, same_stamp_itself}
+use Rattle.mcast_group.specs.Topics.{TopicState, Pending, Entry, decided_stamp, key, new_topic, next_number, proposed, is_pending, has_row, is_foreign, learnt_other, clashes, learn_fault, learn_fault_of, find_pending, learned, told, cancelled, released, row_of, item_of, delivered, subscribed, unsubscribed, drained, same_stamp}
+use Rattle.mcast_group.proofs.Parts.{insert_length, insert_one, insert_two, RisesById-insert, RisesById-told, RisesById-without, not_pending, each_told, each_two_told, with_stamp, map_length, Due, others, found_part, same_stamp_is, same_stamp_itself}
 use Rattle.mcast_group.proofs.Queues.{Queue-delivered, Queue-new, Queue-drained, Next}
 
 pub Sound-new : (t : Topic) (log_limit clock : ℕ) → IsSound (new_topic t log_limit clock)
@@ -26,6 +27,7 @@ Sound-new t log_limit clock = record {
   past = λ r k. absurd k;
   base_past = lt_irrefl zero_stamp;
   own = λ p k. absurd k;
+  by_id = tt;
   one_part = λ p q k. absurd k;
   differ = λ p q k. absurd k;
   above = λ p k. absurd k;
@@ -50,6 +52,7 @@ Sound-proposed floor part x h own new room =
       past = h.past;
       base_past = h.base_past;
       own = insert_one (λ (q : Pending). q.part.topic ≡ x.topic) x.pending p h.own own;
+      by_id = RisesById-insert p x.pending h.by_id (λ q k e. not_pending part.id x.pending new q k e);
       one_part = insert_two (λ (a b : Pending). same_id a.part.id b.part.id ≡ true → a ≡ b) x.pending p h.one_part
           (λ q k e. absurd (not_pending part.id x.pending new q k e))
           (λ q k e. absurd (not_pending part.id x.pending new q k (id_turned part.id q.part.id e)))
@@ -70,14 +73,14 @@ Sound-proposed floor part x h own new room =
 -- ---- learn
 
 -- what it means that a topic learns a verdict for a transaction
-pub record Learns (id : TxnId) (v : Verdict) (x : TopicState) : Type 0 where
+pub record Learns (id : TxnId) (v : Decision) (x : TopicState) : Type 0 where
   pub part : Pending
   pub stands : In part x.pending
   pub is : part.part.id ≡ id
   pub verdict : v.id ≡ id
   pub row : has_row (record { n = part.ticket; topic = part.part.topic }) v.rows ≡ true
-  pub again : learnt_other v.stamp part.learnt ≡ false
-  pub new : (q : Pending) → In q x.pending → key q ≡ v.stamp → same_id q.part.id id ≡ true
+  pub again : learnt_other (decided_stamp v) part.learnt ≡ false
+  pub new : (q : Pending) → In q x.pending → key q ≡ decided_stamp v → same_id q.part.id id ≡ true
 
 false_of : (b : Bool) → not b ≡ false → b ≡ true
 false_of true e = refl
@@ -91,13 +94,13 @@ or_right : (a b : Bool) → (a || b) ≡ false → b ≡ false
 or_right true b e = absurd (true≢false e)
 or_right false b e = e
 
-new_case : (id : TxnId) (v : Verdict) (p : Pending) (ps : List Pending) → p.part.id ≡ id → list_any (λ (z : Pending). not (same_id z.part.id p.part.id) && same_stamp (key z) v.stamp) ps ≡ false → (q : Pending) → In q ps → key q ≡ v.stamp → (b : Bool) → same_id q.part.id p.part.id ≡ b → same_id q.part.id id ≡ true
+new_case : (id : TxnId) (v : Decision) (p : Pending) (ps : List Pending) → p.part.id ≡ id → list_any (λ (z : Pending). not (same_id z.part.id p.part.id) && same_stamp (key z) (decided_stamp v)) ps ≡ false → (q : Pending) → In q ps → key q ≡ decided_stamp v → (b : Bool) → same_id q.part.id p.part.id ≡ b → same_id q.part.id id ≡ true
 new_case id v p ps e none q k s true d = subst (λ z. same_id q.part.id z ≡ true) e d
 new_case id v p ps e none q k s false d =
-    absurd (true≢false (sym (any_from (λ (z : Pending). not (same_id z.part.id p.part.id) && same_stamp (key z) v.stamp) q ps k
-    (rw (d, s) (same_stamp_itself v.stamp))) ∙ none))
+    absurd (true≢false (sym (any_from (λ (z : Pending). not (same_id z.part.id p.part.id) && same_stamp (key z) (decided_stamp v)) q ps k
+    (rw (d, s) (same_stamp_itself (decided_stamp v)))) ∙ none))
 
-learns_clash : (id : TxnId) (v : Verdict) (x : TopicState) (p : Pending) → In p x.pending → p.part.id ≡ id → is_foreign v p ≡ false → clashes v p x.pending ≡ false → Learns id v x
+learns_clash : (id : TxnId) (v : Decision) (x : TopicState) (p : Pending) → In p x.pending → p.part.id ≡ id → is_foreign v p ≡ false → clashes v p x.pending ≡ false → Learns id v x
 learns_clash id v x p i e f c =
     let own = and_parts (same_id v.id p.part.id) (has_row (record { n = p.ticket; topic = p.part.topic }) v.rows) (false_of _ f) in
     record {
@@ -106,11 +109,11 @@ learns_clash id v x p i e f c =
       is = e;
       verdict = id_equal v.id p.part.id own.0 ∙ e;
       row = own.1;
-      again = or_left (learnt_other v.stamp p.learnt) _ c;
-      new = λ q k s. new_case id v p x.pending e (or_right (learnt_other v.stamp p.learnt) _ c) q k s (same_id q.part.id p.part.id) refl;
+      again = or_left (learnt_other (decided_stamp v) p.learnt) _ c;
+      new = λ q k s. new_case id v p x.pending e (or_right (learnt_other (decided_stamp v) p.learnt) _ c) q k s (same_id q.part.id p.part.id) refl;
     }
 
-learns_checks : (id : TxnId) (v : Verdict) (x : TopicState) (p : Pending) → In p x.pending → p.part.id ≡ id → (a b : Bool) → is_foreign v p ≡ a → clashes v p x.pending ≡ b → learn_fault_of v x.pending (Some p) ≡ None → Learns id v x
+learns_checks : (id : TxnId) (v : Decision) (x : TopicState) (p : Pending) → In p x.pending → p.part.id ≡ id → (a b : Bool) → is_foreign v p ≡ a → clashes v p x.pending ≡ b → learn_fault_of v x.pending (Some p) ≡ None → Learns id v x
 learns_checks id v x p i e true b f c k = absurd (not_none (subst_foreign f k))
   where
     not_none : {X : Type 0} {y : X} → Some y ≡ None → Prim.⊥
@@ -127,58 +130,59 @@ learns_checks id v x p i e false true f c k = absurd (not_none (subst_clash f c 
     subst_clash f c k = sym (rw (f, c) refl) ∙ k
 learns_checks id v x p i e false false f c k = learns_clash id v x p i e f c
 
-learns_found : (id : TxnId) (v : Verdict) (x : TopicState) (o : Option Pending) → find_pending id x.pending ≡ o → learn_fault_of v x.pending o ≡ None → Learns id v x
+learns_found : (id : TxnId) (v : Decision) (x : TopicState) (o : Option Pending) → find_pending id x.pending ≡ o → learn_fault_of v x.pending o ≡ None → Learns id v x
 learns_found id v x None f e = cc
 learns_found id v x (Some p) f e =
     let k = found_part id x.pending p f in
     learns_checks id v x p k.stands k.is (is_foreign v p) (clashes v p x.pending) refl refl e
 
-pub learns_is : (id : TxnId) (v : Verdict) (x : TopicState) → learn_fault id v x ≡ None → Learns id v x
+pub learns_is : (id : TxnId) (v : Decision) (x : TopicState) → learn_fault id v x ≡ None → Learns id v x
 learns_is id v x e = learns_found id v x (find_pending id x.pending) refl e
 
 -- the stamp learnt is at least the part's key
-key_case : (p : Pending) (v : Verdict) (o : Option Stamp) → p.learnt ≡ o → learnt_other v.stamp o ≡ false → has_row (record { n = p.ticket; topic = p.part.topic }) v.rows ≡ true → v.stamp ≡ greatest v.rows → stamp_lt v.stamp (key p) ≡ false
-key_case p v (Some s) e again row is =
-    let d : s ≡ v.stamp = same_stamp_is s v.stamp (false_of (same_stamp s v.stamp) again) in
-    rw (e, d) (lt_irrefl v.stamp)
-key_case p v None e again row is =
+key_case : (p : Pending) (v : Decision) (o : Option Stamp) → p.learnt ≡ o → learnt_other (decided_stamp v) o ≡ false → has_row (record { n = p.ticket; topic = p.part.topic }) v.rows ≡ true → stamp_lt (decided_stamp v) (key p) ≡ false
+key_case p v (Some s) e again row =
+    let d : s ≡ decided_stamp v = same_stamp_is s (decided_stamp v) (false_of (same_stamp s (decided_stamp v)) again) in
+    rw (e, d) (lt_irrefl (decided_stamp v))
+key_case p v None e again row =
     let t : Stamp = record { n = p.ticket; topic = p.part.topic } in
     let f = any_found (same_stamp t) v.rows row in
     let d : t ≡ f.it = same_stamp_is t f.it f.passes in
     let k : key p ≡ t = ap (λ (o : Option Stamp). key (record p { learnt = o })) e in
-    subst (λ z. stamp_lt v.stamp z ≡ false) (sym (k ∙ d)) (subst (λ z. stamp_lt z f.it ≡ false) (sym is) (greatest_past v.rows f.it f.stands))
+    subst (λ z. stamp_lt (decided_stamp v) z ≡ false) (sym (k ∙ d)) (greatest_past v.rows f.it f.stands)
 
-pub key_past : (id : TxnId) (v : Verdict) (x : TopicState) (l : Learns id v x) → IsVerdict v → stamp_lt v.stamp (key l.part) ≡ false
-key_past id v x l is = key_case l.part v l.part.learnt refl l.again l.row is.0
+pub key_past : (id : TxnId) (v : Decision) (x : TopicState) (l : Learns id v x) → stamp_lt (decided_stamp v) (key l.part) ≡ false
+key_past id v x l = key_case l.part v l.part.learnt refl l.again l.row
 
-pub Sound-learned : (id : TxnId) (v : Verdict) (x : TopicState) → IsSound x → IsVerdict v → Learns id v x → IsSound (learned id v.stamp x)
-Sound-learned id v x h is l = record {
+pub Sound-learned : (id : TxnId) (v : Decision) (x : TopicState) → IsSound x → Learns id v x → IsSound (learned id (decided_stamp v) x)
+Sound-learned id v x h l = record {
   rises = h.rises;
   above_base = h.above_base;
   frontier = h.frontier;
   past = h.past;
   base_past = h.base_past;
-  own = each_told id v.stamp x.pending (λ q. q.part.topic ≡ x.topic) (λ p k e. h.own p k) (λ p k e. h.own p k);
-  one_part = each_two_told id v.stamp x.pending (λ p q. same_id p.part.id q.part.id ≡ true → p ≡ q)
+  own = each_told id (decided_stamp v) x.pending (λ q. q.part.topic ≡ x.topic) (λ p k e. h.own p k) (λ p k e. h.own p k);
+  by_id = RisesById-told id (decided_stamp v) x.pending h.by_id;
+  one_part = each_two_told id (decided_stamp v) x.pending (λ p q. same_id p.part.id q.part.id ≡ true → p ≡ q)
       (λ p q k i e f s. h.one_part p q k i s)
       (λ p q k i e f s. absurd (apart p q e f s))
       (λ p q k i e f s. absurd (apart q p f e (id_turned p.part.id q.part.id s)))
-      (λ p q k i e f s. ap (λ z. with_stamp z v.stamp) (h.one_part p q k i s));
-  differ = each_two_told id v.stamp x.pending (λ p q. key p ≡ key q → p ≡ q)
+      (λ p q k i e f s. ap (λ z. with_stamp z (decided_stamp v)) (h.one_part p q k i s));
+  differ = each_two_told id (decided_stamp v) x.pending (λ p q. key p ≡ key q → p ≡ q)
       (λ p q k i e f s. h.differ p q k i s)
       (λ p q k i e f s. absurd (true≢false (sym (l.new q i (sym s)) ∙ f)))
       (λ p q k i e f s. absurd (true≢false (sym (l.new p k s) ∙ e)))
-      (λ p q k i e f s. ap (λ z. with_stamp z v.stamp) (h.one_part p q k i (both p q e f)));
-  above = each_told id v.stamp x.pending (λ q. stamp_lt x.frontier (key q) ≡ true) (λ p k e. h.above p k) (λ p k e. up);
-  clock_keys = each_told id v.stamp x.pending (λ q. (key q).n ≤ max x.clock v.stamp.n)
+      (λ p q k i e f s. ap (λ z. with_stamp z (decided_stamp v)) (h.one_part p q k i (both p q e f)));
+  above = each_told id (decided_stamp v) x.pending (λ q. stamp_lt x.frontier (key q) ≡ true) (λ p k e. h.above p k) (λ p k e. up);
+  clock_keys = each_told id (decided_stamp v) x.pending (λ q. (key q).n ≤ max x.clock (decided_stamp v).n)
       (λ p k e. let m : (key p).n ≤ x.clock = h.clock_keys p k in omega arith) (λ p k e. omega arith);
   clock_frontier = let m : x.frontier.n ≤ x.clock = h.clock_frontier in omega arith;
   queues = h.queues;
-  limit = let m = map_length (told id v.stamp) x.pending in let r : length x.pending + length x.held ≤ x.log_limit = h.limit in omega arith;
+  limit = let m = map_length (told id (decided_stamp v)) x.pending in let r : length x.pending + length x.held ≤ x.log_limit = h.limit in omega arith;
 }
   where
-    up : stamp_lt x.frontier v.stamp ≡ true
-    up = lt_le x.frontier (key l.part) v.stamp (h.above l.part l.stands) (key_past id v x l is)
+    up : stamp_lt x.frontier (decided_stamp v) ≡ true
+    up = lt_le x.frontier (key l.part) (decided_stamp v) (h.above l.part l.stands) (key_past id v x l)
 
     apart : (p q : Pending) → same_id p.part.id id ≡ true → same_id q.part.id id ≡ false → same_id p.part.id q.part.id ≡ true → Prim.⊥
     apart p q e f s =
@@ -206,6 +210,7 @@ Sound-cancelled id x h = record {
   past = h.past;
   base_past = h.base_past;
   own = λ p k. h.own p (others id p x.pending k).stands;
+  by_id = RisesById-without id x.pending h.by_id;
   one_part = λ p q k i. h.one_part p q (others id p x.pending k).stands (others id q x.pending i).stands;
   differ = λ p q k i. h.differ p q (others id p x.pending k).stands (others id q x.pending i).stands;
   above = λ p k. h.above p (others id p x.pending k).stands;
@@ -252,6 +257,7 @@ Sound-released takes p x h due =
           (λ q k. lt_asym q.stamp (key p) (le_lt q.stamp x.frontier (key p) (h.past q k) up)) (lt_irrefl (key p));
       base_past = lt_asym x.base (key p) (le_lt x.base x.frontier (key p) h.base_past up);
       own = λ q k. h.own q (others p.part.id q x.pending k).stands;
+      by_id = RisesById-without p.part.id x.pending h.by_id;
       one_part = λ q r k j. h.one_part q r (others p.part.id q x.pending k).stands (others p.part.id r x.pending j).stands;
       differ = λ q r k j. h.differ q r (others p.part.id q x.pending k).stands (others p.part.id r x.pending j).stands;
       above = λ q k. let o = others p.part.id q x.pending k in
@@ -278,6 +284,7 @@ Sound-subscribed number x h = record {
   past = h.past;
   base_past = h.base_past;
   own = h.own;
+  by_id = h.by_id;
   one_part = h.one_part;
   differ = h.differ;
   above = h.above;
@@ -296,6 +303,7 @@ Sound-unsubscribed number x h = record {
   past = h.past;
   base_past = h.base_past;
   own = h.own;
+  by_id = h.by_id;
   one_part = h.one_part;
   differ = h.differ;
   above = h.above;
@@ -313,6 +321,7 @@ Sound-drained x h = record {
   past = λ r k. absurd k;
   base_past = lt_irrefl x.frontier;
   own = h.own;
+  by_id = h.by_id;
   one_part = h.one_part;
   differ = h.differ;
   above = h.above;

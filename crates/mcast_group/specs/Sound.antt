@@ -1,10 +1,10 @@
 -- What a topic keeps, whatever is asked of it.
-use Rattle.std.specs.Prelude.{◌≡◌, ◌+◌, ◌≤◌, true, false, List, length, Option, Some}
+use Rattle.std.specs.Prelude.{◌≡◌, ◌+◌, ◌≤◌, true, false, List, [], ◌∷◌, length, Option, Some}
 use Rattle.mcast_txn.specs.declared.stamp.Stamp.{Stamp}
 use Rattle.mcast_txn.specs.Stamp.{stamp_lt}
 use Rattle.mcast_txn.specs.Agreed.{same_id, In, Rises}
 use Rattle.mcast_group.specs.Span.{LogRow, Item, in_span, last_stamp}
-use Rattle.mcast_group.specs.Topics.{TopicState, Pending, Entry, key}
+use Rattle.mcast_group.specs.Topics.{TopicState, Pending, Entry, key, id_lt}
 
 -- a log row's stamp
 abbrev pub row_stamp : LogRow → Stamp
@@ -41,7 +41,12 @@ pub record IsQueueOf (base frontier : Stamp) (held : List LogRow) (from : Stamp)
   pub only_rows : (i : Item) → In i accepted → stamp_lt base i.stamp ≡ true → HasRow i held
   pub all_rows : (r : LogRow) → In r held → in_span from to r.stamp ≡ true → HasItem r accepted
 
--- held rows rise above base, the last of them or base is the frontier; pending keys differ and are above the frontier; the clock is at least the number of each; the log's limit
+-- each id is below the later ones
+abbrev pub RisesById : List Pending → Type 0
+RisesById [] = Unit {0}
+RisesById (p ∷ ps) = ((q : Pending) → In q ps → id_lt p.part.id q.part.id ≡ true) × RisesById ps
+
+-- held rows rise above base, the last of them or base is the frontier; pending parts rise by id, and their keys differ and are above the frontier; the clock is at least the number of each; the log's limit
 pub record IsSound (x : TopicState) : Type 0 where
   pub rises : Rises row_stamp x.held
   pub above_base : (r : LogRow) → In r x.held → stamp_lt x.base r.stamp ≡ true
@@ -49,6 +54,7 @@ pub record IsSound (x : TopicState) : Type 0 where
   pub past : (r : LogRow) → In r x.held → stamp_lt x.frontier r.stamp ≡ false
   pub base_past : stamp_lt x.frontier x.base ≡ false
   pub own : (p : Pending) → In p x.pending → p.part.topic ≡ x.topic
+  pub by_id : RisesById x.pending
   pub one_part : (p q : Pending) → In p x.pending → In q x.pending → same_id p.part.id q.part.id ≡ true → p ≡ q
   pub differ : (p q : Pending) → In p x.pending → In q x.pending → key p ≡ key q → p ≡ q
   pub above : (p : Pending) → In p x.pending → stamp_lt x.frontier (key p) ≡ true

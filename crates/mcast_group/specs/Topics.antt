@@ -1,30 +1,32 @@
 -- One topic of Skeen's protocol as a pure machine: its clock, its pending parts, its log and its subscriptions.
-use Rattle.std.specs.Prelude.{◌≡◌, ℕ, zero, suc, ◌+◌, ◌==◌, nat_lt, max, Bool, false, not, ◌&&◌, ◌||◌, List, [], ◌∷◌, ◌++◌, map, length, filter, Option, Some, None, if◌then◌else◌}
+use Rattle.std.specs.Prelude.{◌≡◌, ℕ, zero, suc, ◌+◌, ◌-◌, ◌==◌, nat_lt, max, Bool, false, not, ◌&&◌, ◌||◌, List, [], ◌∷◌, ◌++◌, map, length, filter, Option, Some, None, if◌then◌else◌}
 use Rattle.std.specs.List.{list_any}
-use Rattle.std.specs.Option.{is_some}
+use Rattle.std.specs.Option.{is_some, option_map}
 use Rattle.mcast_txn.specs.declared.id.Topic.{Topic}
 use Rattle.mcast_txn.specs.declared.id.TxnId.{TxnId}
 use Rattle.mcast_txn.specs.declared.stamp.Stamp.{Stamp}
 use Rattle.mcast_txn.specs.Stamp.{zero_stamp, stamp_lt, greatest}
 use Rattle.mcast_txn.specs.Transaction.{TopicPart}
+use Rattle.mcast_txn.specs.Ballot.{Decision}
 use Rattle.mcast_txn.specs.Agreed.{same_id, In}
 use Rattle.mcast_group.specs.declared.cause.Cause.{Cause}
 use Rattle.mcast_group.specs.declared.cause.Cause.TheVariants.{Asked, Lag}
 use Rattle.mcast_group.specs.declared.fault.ProposeFault.{ProposeFault}
 use Rattle.mcast_group.specs.declared.fault.LearnFault.{LearnFault}
 use Rattle.mcast_group.specs.declared.fault.CancelFault.{CancelFault}
+use Rattle.mcast_group.specs.declared.fault.SubFault.{SubFault}
+use Rattle.mcast_group.specs.declared.fault.NoSub.{NoSub}
+use Rattle.mcast_group.specs.declared.state.SubState.{SubState}
 use Rattle.mcast_group.specs.Checks.{first_refusal}
 use Rattle.mcast_group.specs.Span.{LogRow, Item}
 
--- a verdict as plain data: whose it is, each named topic with the number that it gave, and the greatest of these
-pub record Verdict : Type 0 where
-  pub id : TxnId
-  pub rows : List Stamp
-  pub stamp : Stamp
+-- the stamp of a decision: the greatest of its rows
+abbrev pub decided_stamp : Decision → Stamp
+decided_stamp v = greatest v.rows
 
--- its stamp is the greatest of its rows, and it has one row for a topic
-abbrev pub IsVerdict : Verdict → Type 0
-IsVerdict v = (v.stamp ≡ greatest v.rows) × ((a b : Stamp) → In a v.rows → In b v.rows → a.topic ≡ b.topic → a ≡ b)
+-- it has one row for a topic
+abbrev pub HasOneRowEach : Decision → Type 0
+HasOneRowEach v = (a b : Stamp) → In a v.rows → In b v.rows → a.topic ≡ b.topic → a ≡ b
 
 -- a part that was proposed: the number of its ticket, and its stamp once that is learnt
 pub record Pending : Type 0 where
@@ -146,7 +148,7 @@ abbrev pub has_row : Stamp → List Stamp → Bool
 has_row ticket rows = list_any (same_stamp ticket) rows
 
 -- the verdict is another transaction's, or has another number for this topic
-abbrev pub is_foreign : Verdict → Pending → Bool
+abbrev pub is_foreign : Decision → Pending → Bool
 is_foreign v p = not (same_id v.id p.part.id && has_row (record { n = p.ticket; topic = p.part.topic }) v.rows)
 
 -- a stamp was learnt, and it is another than this
@@ -155,17 +157,17 @@ learnt_other stamp None = false
 learnt_other stamp (Some s) = not (same_stamp s stamp)
 
 -- another stamp was learnt before, or the stamp is another pending part's key
-abbrev pub clashes : Verdict → Pending → List Pending → Bool
+abbrev pub clashes : Decision → Pending → List Pending → Bool
 clashes v p ps =
-    learnt_other v.stamp p.learnt || list_any (λ q. not (same_id q.part.id p.part.id) && same_stamp (key q) v.stamp) ps
+    learnt_other (decided_stamp v) p.learnt || list_any (λ q. not (same_id q.part.id p.part.id) && same_stamp (key q) (decided_stamp v)) ps
 
 -- what stands against a verdict for the part that was found pending, if one was
-abbrev pub learn_fault_of : Verdict → List Pending → Option Pending → Option LearnFault
+abbrev pub learn_fault_of : Decision → List Pending → Option Pending → Option LearnFault
 learn_fault_of v ps None = Some LearnFault.NotPending
 learn_fault_of v ps (Some p) = first_refusal ((is_foreign v p, LearnFault.Foreign) ∷ (clashes v p ps, LearnFault.Clash) ∷ [])
 
 -- why the topic doesn't learn this verdict for the part of this transaction
-abbrev pub learn_fault : TxnId → Verdict → TopicState → Option LearnFault
+abbrev pub learn_fault : TxnId → Decision → TopicState → Option LearnFault
 learn_fault id v x = learn_fault_of v x.pending (find_pending id x.pending)
 
 -- this transaction's part has learnt the stamp; another is as it was
@@ -238,12 +240,12 @@ release takes x = released_if takes x (due_part x)
 -- ---- turn
 
 -- learn what was found for this transaction, where that isn't refused
-abbrev pub tried : TxnId → Option Verdict → TopicState → TopicState
+abbrev pub tried : TxnId → Option Decision → TopicState → TopicState
 tried id None x = x
-tried id (Some v) x = elim (learn_fault id v x) [ None ↦ learned id v.stamp x | Some fault ↦ x ]
+tried id (Some v) x = elim (learn_fault id v x) [ None ↦ learned id (decided_stamp v) x | Some fault ↦ x ]
 
 -- learn for each of these parts what is found for it
-abbrev pub tried_all : (TxnId → Option Verdict) → List Pending → TopicState → TopicState
+abbrev pub tried_all : (TxnId → Option Decision) → List Pending → TopicState → TopicState
 tried_all find [] x = x
 tried_all find (p ∷ ps) x = tried_all find ps (tried p.part.id (find p.part.id) x)
 
@@ -253,9 +255,13 @@ released_times takes zero x = x
 released_times takes (suc k) x = released_times takes k (release takes x)
 
 -- learn once for each pending part, by rising id, then release until nothing is due
-abbrev pub turned : (Entry → Bool) → (TxnId → Option Verdict) → TopicState → TopicState
+abbrev pub turned : (Entry → Bool) → (TxnId → Option Decision) → TopicState → TopicState
 turned takes find x =
     let y = tried_all find x.pending x in released_times takes (length y.pending) y
+
+-- how many parts a turn releases: the rows that it adds to the log
+abbrev pub turn_count : (Entry → Bool) → (TxnId → Option Decision) → TopicState → ℕ
+turn_count takes find x = length (turned takes find x).held - length x.held
 
 -- ---- subscriptions
 
@@ -263,6 +269,10 @@ turned takes find x =
 abbrev pub find_entry : ℕ → List Entry → Option Entry
 find_entry number [] = None
 find_entry number (e ∷ es) = if e.number == number then Some e else find_entry number es
+
+-- why a subscription doesn't begin: its number is in use
+abbrev pub subscribe_fault : ℕ → TopicState → Option SubFault
+subscribe_fault number x = if is_some (find_entry number x.subscriptions) then Some SubFault.SubInUse else None
 
 -- a subscription begins after the frontier
 abbrev pub subscribed : ℕ → TopicState → TopicState
@@ -277,9 +287,21 @@ ended frontier e = elim e.to [
   | Some end ↦ record { to = end; accepted = e.accepted; cause = Lag }
 ]
 
+-- why nothing ends: there is no subscription of this number
+abbrev pub unsubscribe_fault : ℕ → TopicState → Option NoSub
+unsubscribe_fault number x = if is_some (find_entry number x.subscriptions) then None else Some (record {})
+
 -- the subscriptions of this number are dropped
 abbrev pub unsubscribed : ℕ → TopicState → TopicState
 unsubscribed number x = record x { subscriptions = filter (λ e. not (e.number == number)) x.subscriptions }
+
+-- an entry is open, or lagged at its end
+abbrev pub state_of_entry : Entry → SubState
+state_of_entry e = elim e.to [ None ↦ SubState.Open | Some end ↦ SubState.Lag end ]
+
+-- whether a subscription is open or has lagged, if there is one of this number
+abbrev pub state_of : ℕ → TopicState → Option SubState
+state_of number x = option_map state_of_entry (find_entry number x.subscriptions)
 
 -- ---- the log
 

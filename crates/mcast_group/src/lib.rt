@@ -4,6 +4,8 @@
 mod cause;
 mod fault;
 pub mod law;
+mod state;
 
 pub use cause::Cause;
-pub use fault::{CancelFault, LearnFault, ProposeFault};
+pub use fault::{CancelFault, LearnFault, NoSub, ProposeFault, SubFault};
+pub use state::SubState;
