@@ -1,13 +1,14 @@
 -- A transaction in flight is its frame's, and its sender is its connection's own.
 use Rattle.std.proofs.Common.{◌≡◌, ℕ, ◌<◌, List, [], ◌∷◌, length, set, get_or, Option, Some, None, refl, sym, ap, subst, ◌∙◌, arith}
 use Rattle.mcast_txn.specs.Agreed.{Transaction}
+use Rattle.mcast_txn.specs.Ballot.{Decision}
 use Rattle.mcast_txn.specs.declared.id.Topic.{Topic}
 use Rattle.mcast_txn.specs.declared.id.TxnId.{TxnId}
 use Rattle.mcast_txn.specs.declared.send.Send.{Send}
 use Rattle.mcast_txn.proofs.Members.{at_set}
 use Rattle.mcast_group.specs.declared.fault.ProposeFault.{ProposeFault}
 use Rattle.mcast_group.specs.Span.{Item}
-use Rattle.mcast_group.specs.Topics.{Pending, Entry, Verdict, due_part}
+use Rattle.mcast_group.specs.Topics.{Pending, Entry, due_part}
 use Rattle.delivery.specs.declared.refusal.Refusal.{Refusal}
 use Rattle.delivery.specs.World.{World, Connection, Leftover, SenderState, Standing, nobody, new_sender, topic_at, connection_at, subscription_at, speaker, entry_at, start}
 use Rattle.delivery.specs.Events.{Event, happens, effect, answer, find_leftover, find_verdict, oldest_live, next_txn, flown, flying_answer, proposal_fault, proposed_by, propose_answer, cancelled_at, cancel_answer, learned_at, release_answer, handed, take_answer, left_by, leave_answer, closed_with}
@@ -110,7 +111,7 @@ cancelled_speaks : (w : World) (c : ℕ) (t : Topic) (o : Option Leftover) → S
 cancelled_speaks w c t None h = h
 cancelled_speaks w c t (Some k) h = sender_kept w.senders w.connections (connection_at w c).sender _ h
 
-learned_speaks : (w : World) (t : Topic) (id : TxnId) (o : Option Verdict) → Speaks w → Speaks (learned_at w t id o)
+learned_speaks : (w : World) (t : Topic) (id : TxnId) (o : Option Decision) → Speaks w → Speaks (learned_at w t id o)
 learned_speaks w t id None h = h
 learned_speaks w t id (Some v) h = h
 

@@ -6,6 +6,7 @@ use Rattle.mcast_txn.specs.Stamp.{greatest}
 use Rattle.mcast_txn.specs.Part.{part_at}
 use Rattle.mcast_txn.specs.Transaction.{topics_of}
 use Rattle.mcast_txn.specs.Agreed.{Transaction, Row, same_id, In, names}
+use Rattle.mcast_txn.specs.Ballot.{Decision}
 use Rattle.mcast_txn.specs.declared.id.Topic.{Topic}
 use Rattle.mcast_txn.specs.declared.id.TxnId.{TxnId}
 use Rattle.mcast_txn.specs.declared.send.Send.{Send}
@@ -15,7 +16,7 @@ use Rattle.mcast_group.specs.declared.fault.ProposeFault.{ProposeFault}
 use Rattle.mcast_group.specs.declared.fault.LearnFault.{LearnFault}
 use Rattle.mcast_group.specs.Checks.{first_refusal}
 use Rattle.mcast_group.specs.Span.{Item}
-use Rattle.mcast_group.specs.Topics.{Pending, Entry, Verdict, propose_checks, propose_fault, is_pending, learned, due_part, release, turned}
+use Rattle.mcast_group.specs.Topics.{Pending, Entry, propose_checks, propose_fault, is_pending, learned, due_part, release, turned, decided_stamp}
 use Rattle.mcast_group.proofs.Parts.{some_same, none_some, not_true}
 use Rattle.delivery.specs.declared.refusal.Refusal.{Refusal}
 use Rattle.delivery.specs.World.{World, Flight, Leftover, SenderState, topic_at, new_sender, connection_at, speaker, entry_at}
@@ -100,19 +101,19 @@ pub record Reached (past : List Outcome) (w : World) : Type 0 where
 
 -- ---- what is found
 
-find_verdict_case : (id : TxnId) (v u : Verdict) (vs : List Verdict) (b : Bool) → same_id v.id id ≡ b → (find_verdict id vs ≡ Some u → In u vs × (u.id ≡ id)) → cond b (Some v) (find_verdict id vs) ≡ Some u → In u (v ∷ vs) × (u.id ≡ id)
+find_verdict_case : (id : TxnId) (v u : Decision) (vs : List Decision) (b : Bool) → same_id v.id id ≡ b → (find_verdict id vs ≡ Some u → In u vs × (u.id ≡ id)) → cond b (Some v) (find_verdict id vs) ≡ Some u → In u (v ∷ vs) × (u.id ≡ id)
 find_verdict_case id v u vs true e ih d =
-    let same = some_same v u d in (inl same, subst (λ (z : Verdict). z.id ≡ id) same (id_equal v.id id e))
+    let same = some_same v u d in (inl same, subst (λ (z : Decision). z.id ≡ id) same (id_equal v.id id e))
 find_verdict_case id v u vs false e ih d = let h = ih d in (inr h.0, h.1)
 
-pub verdict_found : (id : TxnId) (vs : List Verdict) (u : Verdict) → find_verdict id vs ≡ Some u → In u vs × (u.id ≡ id)
+pub verdict_found : (id : TxnId) (vs : List Decision) (u : Decision) → find_verdict id vs ≡ Some u → In u vs × (u.id ≡ id)
 verdict_found id [] u e = cc
 verdict_found id (v ∷ vs) u e = find_verdict_case id v u vs (same_id v.id id) refl (verdict_found id vs u) e
 
 pub finds : (ts : List Row) (w : World) → Holds ts w → Finds w.commits (find_in w)
 finds ts w inv id v e =
     let f = verdict_found id w.verdicts v e in let k = inv.voted v f.0 in
-    (k.is, record { row = k.row; stands = k.stands; id_is = k.id_is; stamp_is = k.stamp_is })
+    record { row = k.row; stands = k.stands; id_is = k.id_is; stamp_is = k.stamp_is }
 
 -- ---- the core keeps all, and its tickets stay, where no ticket is given
 
@@ -275,14 +276,13 @@ no_learn_fault : (o : Option LearnFault) → learn_refusal o ≡ None → o ≡ 
 no_learn_fault None e = refl
 no_learn_fault (Some fault) e = none_some _ (sym e)
 
-learned_case : (past : List Outcome) (w : World) (t : Topic) (id : TxnId) → Reached past w → (o : Option Verdict) → find_verdict id w.verdicts ≡ o → learning w t id o ≡ None → Holds (tickets past) (learned_at w t id o)
+learned_case : (past : List Outcome) (w : World) (t : Topic) (id : TxnId) → Reached past w → (o : Option Decision) → find_verdict id w.verdicts ≡ o → learning w t id o ≡ None → Holds (tickets past) (learned_at w t id o)
 learned_case past w t id h None f e = none_some _ (sym e)
 learned_case past w t id h (Some v) f e =
-    let g = finds (tickets past) w h.inv id v f in
-    topic_step (tickets past) w t (learned id v.stamp (topic_at w t)) h.inv
-    (Keeps-learned (tickets past) w.commits t (topic_at w t) id v (h.inv.tied t) g.0 (no_learn_fault _ e) g.1)
+    topic_step (tickets past) w t (learned id (decided_stamp v) (topic_at w t)) h.inv
+    (Keeps-learned (tickets past) w.commits t (topic_at w t) id v (h.inv.tied t) (no_learn_fault _ e) (finds (tickets past) w h.inv id v f))
 
-learned_same : (w : World) (t : Topic) (id : TxnId) (o : Option Verdict) → ((learned_at w t id o).senders ≡ w.senders) × ((learned_at w t id o).commits ≡ w.commits)
+learned_same : (w : World) (t : Topic) (id : TxnId) (o : Option Decision) → ((learned_at w t id o).senders ≡ w.senders) × ((learned_at w t id o).commits ≡ w.commits)
 learned_same w t id None = (refl, refl)
 learned_same w t id (Some v) = (refl, refl)
 

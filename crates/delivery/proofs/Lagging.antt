@@ -2,6 +2,7 @@
 use Rattle.std.proofs.Common.{◌≡◌, ◌≢◌, ℕ, ◌+◌, ◌<◌, ◌≤◌, ◌⊎◌, inl, inr, List, [], ◌∷◌, ◌++◌, length, Option, Some, None, refl, sym, ap, subst, ◌∙◌, arith}
 use Rattle.std.proofs.lemmas.Bool.{cases_order}
 use Rattle.mcast_txn.specs.Part.{part_at}
+use Rattle.mcast_txn.specs.Ballot.{Decision}
 use Rattle.mcast_txn.specs.declared.id.Topic.{Topic}
 use Rattle.mcast_txn.specs.declared.id.TxnId.{TxnId}
 use Rattle.mcast_txn.specs.declared.send.Send.{Send}
@@ -9,7 +10,7 @@ use Rattle.mcast_txn.specs.declared.stamp.Stamp.{Stamp}
 use Rattle.mcast_txn.proofs.Members.{at_set, at_set_within}
 use Rattle.mcast_group.specs.declared.fault.ProposeFault.{ProposeFault}
 use Rattle.mcast_group.specs.Span.{Item}
-use Rattle.mcast_group.specs.Topics.{TopicState, Entry, Verdict, find_entry, ended, proposed, cancelled, learned, unsubscribed}
+use Rattle.mcast_group.specs.Topics.{TopicState, Entry, find_entry, ended, proposed, cancelled, learned, unsubscribed, decided_stamp}
 use Rattle.mcast_group.proofs.Parts.{some_same, none_some}
 use Rattle.delivery.specs.World.{World, Leftover, Subscription, no_subscription, topic_at, speaker, subscription_at, entry_at, with_topic}
 use Rattle.delivery.specs.Reading.{accepted_at, end_at}
@@ -60,9 +61,9 @@ cancelled_ends : (w : World) (c : ℕ) (t : Topic) (o : Option Leftover) (s : �
 cancelled_ends w c t None s end new = same_topics w s end new
 cancelled_ends w c t (Some k) s end new = same_ends w t (cancelled k.id (topic_at w t)) s end refl new
 
-learned_ends : (w : World) (t : Topic) (id : TxnId) (o : Option Verdict) (s : ℕ) (end : Stamp) → New w s end (learned_at w t id o) → Prim.⊥
+learned_ends : (w : World) (t : Topic) (id : TxnId) (o : Option Decision) (s : ℕ) (end : Stamp) → New w s end (learned_at w t id o) → Prim.⊥
 learned_ends w t id None s end new = same_topics w s end new
-learned_ends w t id (Some v) s end new = same_ends w t (learned id v.stamp (topic_at w t)) s end refl new
+learned_ends w t id (Some v) s end new = same_ends w t (learned id (decided_stamp v) (topic_at w t)) s end refl new
 
 handed_ends : (w : World) (q : ℕ) (o : Option Item) (s : ℕ) (end : Stamp) → New w s end (handed w q o) → Prim.⊥
 handed_ends w q None s end new = same_topics w s end new

@@ -1,13 +1,14 @@
 -- The seq of each transaction counts its sender's.
 use Rattle.std.proofs.Common.{◌≡◌, ℕ, ◌+◌, ◌<◌, ◌≤◌, ◌==◌, Bool, true, false, cond, List, [], ◌∷◌, ◌++◌, length, get_or, set, Option, Some, None, refl, sym, ap, subst, ◌∙◌, arith, ltb}
 use Rattle.std.proofs.lemmas.Bool.{eqb-true, eq-eqb, ltb-true}
+use Rattle.mcast_txn.specs.Ballot.{Decision}
 use Rattle.mcast_txn.specs.declared.id.Topic.{Topic}
 use Rattle.mcast_txn.specs.declared.id.TxnId.{TxnId}
 use Rattle.mcast_txn.specs.declared.send.Send.{Send}
 use Rattle.mcast_txn.proofs.Members.{at_set, at_set_within}
 use Rattle.mcast_group.specs.declared.fault.ProposeFault.{ProposeFault}
 use Rattle.mcast_group.specs.Span.{Item}
-use Rattle.mcast_group.specs.Topics.{Pending, Entry, Verdict, due_part}
+use Rattle.mcast_group.specs.Topics.{Pending, Entry, due_part}
 use Rattle.mcast_group.proofs.Parts.{not_true}
 use Rattle.delivery.specs.World.{World, Leftover, SenderState, Connection, Standing, new_sender, nobody, topic_at, connection_at, speaker, subscription_at, entry_at, with_standing, start}
 use Rattle.delivery.specs.Events.{Event, Outcome, happens, outcome, refusal, effect, answer, find_leftover, find_verdict, oldest_live, next_txn, flown, flying_answer, proposal_fault, proposed_by, propose_answer, cancelled_at, cancel_answer, learned_at, release_answer, handed, take_answer, left_by, leave_answer, closed_subscription, closed_with}
@@ -89,7 +90,7 @@ cancelled_numbering : (past : List Outcome) (w : World) (c : ℕ) (t : Topic) (o
 cancelled_numbering past w c t None h = told past w.senders w.connections Done (λ s. refl) (λ k. k) h
 cancelled_numbering past w c t (Some k) h = told past _ w.connections (cancel_answer t (Some k)) (λ s. refl) (λ n. n) (sender_kept past w.senders w.connections (connection_at w c).sender _ refl h)
 
-learned_same : (w : World) (t : Topic) (id : TxnId) (o : Option Verdict) → ((learned_at w t id o).senders ≡ w.senders) × ((learned_at w t id o).connections ≡ w.connections)
+learned_same : (w : World) (t : Topic) (id : TxnId) (o : Option Decision) → ((learned_at w t id o).senders ≡ w.senders) × ((learned_at w t id o).connections ≡ w.connections)
 learned_same w t id None = (refl, refl)
 learned_same w t id (Some v) = (refl, refl)
 

@@ -6,12 +6,13 @@ use Rattle.mcast_txn.specs.Stamp.{stamp_lt}
 use Rattle.mcast_txn.specs.Part.{part_at}
 use Rattle.mcast_txn.specs.Transaction.{TopicPart, topics_of}
 use Rattle.mcast_txn.specs.Agreed.{Transaction, Row, same_id, In, names}
+use Rattle.mcast_txn.specs.Ballot.{Decision}
 use Rattle.mcast_txn.specs.declared.id.Topic.{Topic}
 use Rattle.mcast_txn.specs.declared.id.TxnId.{TxnId}
 use Rattle.mcast_txn.specs.declared.stamp.Stamp.{Stamp}
 use Rattle.mcast_txn.proofs.Orders.{lt_by_number, id_equal, id_same, id_turned}
 use Rattle.mcast_txn.proofs.Members.{any_from, at_set_within}
-use Rattle.mcast_group.specs.Topics.{TopicState, Pending, Verdict, new_topic, is_pending, next_number, proposed}
+use Rattle.mcast_group.specs.Topics.{TopicState, Pending, new_topic, is_pending, next_number, proposed}
 use Rattle.mcast_group.proofs.Parts.{Waits, In-insert, insert_one, some_same, none_some}
 use Rattle.mcast_group.proofs.Keeping.{Sound-proposed}
 use Rattle.delivery.specs.World.{World, Flight, Leftover, SenderState, new_sender}
@@ -257,13 +258,13 @@ Serves-there ts w s t f inv new d ne =
     apart : (y : Flight) → (sender_in w.senders d).flight ≡ Some y → f.txn.id ≡ y.txn.id → Prim.⊥
     apart y e i = ne (sym (one_flight ts w.commits w.topics s d _ _ _ _ f y (flies ts w s t f inv new) ((inv.serves d).flying y e) i))
 
-Voted-more : (ts cs : List Row) (v : Verdict) (a : Row) → Uncommitted cs a.txn.id → Voted ts cs v → Voted (a ∷ ts) cs v
+Voted-more : (ts cs : List Row) (v : Decision) (a : Row) → Uncommitted cs a.txn.id → Voted ts cs v → Voted (a ∷ ts) cs v
 Voted-more ts cs v a un h = record {
   row = h.row;
   stands = h.stands;
   id_is = h.id_is;
   stamp_is = h.stamp_is;
-  is = h.is;
+  one_row = h.one_row;
   all = cons_one (λ (b : Row). b.txn ≡ h.row.txn → In b.stamp v.rows) ts a h.all
       (λ e. absurd (un h.row h.stands (id_same h.row.txn.id a.txn.id (ap (λ (z : Transaction). z.id) (sym e)))));
 }

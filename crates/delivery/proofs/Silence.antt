@@ -3,6 +3,7 @@ use Rattle.std.proofs.Common.{◌≡◌, ℕ, zero, suc, ◌+◌, ◌<◌, ◌�
 use Rattle.std.specs.Option.{is_some}
 use Rattle.std.proofs.lemmas.Bool.{true≢false, false≢true, ltb-true, and_parts}
 use Rattle.mcast_txn.specs.Agreed.{In}
+use Rattle.mcast_txn.specs.Ballot.{Decision}
 use Rattle.mcast_txn.specs.declared.id.Topic.{Topic}
 use Rattle.mcast_txn.specs.declared.id.TxnId.{TxnId}
 use Rattle.mcast_txn.specs.declared.send.Send.{Send}
@@ -10,7 +11,7 @@ use Rattle.mcast_txn.specs.declared.stamp.Stamp.{Stamp}
 use Rattle.mcast_txn.proofs.Members.{at_set, at_set_within}
 use Rattle.mcast_group.specs.declared.fault.ProposeFault.{ProposeFault}
 use Rattle.mcast_group.specs.Span.{Item}
-use Rattle.mcast_group.specs.Topics.{Pending, Entry, Ended, Verdict, due_part}
+use Rattle.mcast_group.specs.Topics.{Pending, Entry, Ended, due_part}
 use Rattle.mcast_group.proofs.Parts.{some_same, none_some}
 use Rattle.delivery.specs.World.{World, Leftover, Connection, Subscription, Standing, is_open, nobody, no_subscription, topic_at, connection_at, speaker, subscription_at, entry_at, with_standing, start}
 use Rattle.delivery.specs.Events.{Event, Outcome, happens, outcome, refusal, effect, answer, is_live, find_leftover, find_verdict, oldest_live, flown, flying_answer, proposal_fault, proposed_by, propose_answer, cancelled_at, cancel_answer, learned_at, leaving, release_answer, handed, take_answer, left_by, leave_answer, closed_subscription, closed_with}
@@ -208,7 +209,7 @@ cancelled_shut : (past : List Outcome) (w : World) (c : ℕ) (t : Topic) (o : Op
 cancelled_shut past w c t None h = note past w.connections w.subscriptions Done closeless_done h
 cancelled_shut past w c t (Some k) h = note past w.connections w.subscriptions _ (record { ended = λ s to e. cc; shut = λ d k. k; owner = λ s d u from e. cc }) h
 
-learned_same : (w : World) (t : Topic) (id : TxnId) (o : Option Verdict) → ((learned_at w t id o).connections ≡ w.connections) × ((learned_at w t id o).subscriptions ≡ w.subscriptions)
+learned_same : (w : World) (t : Topic) (id : TxnId) (o : Option Decision) → ((learned_at w t id o).connections ≡ w.connections) × ((learned_at w t id o).subscriptions ≡ w.subscriptions)
 learned_same w t id None = (refl, refl)
 learned_same w t id (Some v) = (refl, refl)
 

@@ -1,6 +1,7 @@
 -- What each event makes of subscriptions: where they begin and end, and how much their queues hold.
 use Rattle.std.proofs.Common.{◌≡◌, ℕ, ◌+◌, ◌<◌, ◌≤◌, ◌==◌, Bool, true, false, cond, List, [], ◌∷◌, ◌++◌, length, set, get_or, Option, Some, None, refl, sym, ap, subst, ◌∙◌, arith}
 use Rattle.mcast_txn.specs.Part.{part_at}
+use Rattle.mcast_txn.specs.Ballot.{Decision}
 use Rattle.mcast_txn.specs.declared.id.Topic.{Topic}
 use Rattle.mcast_txn.specs.declared.id.TxnId.{TxnId}
 use Rattle.mcast_txn.specs.declared.send.Send.{Send}
@@ -8,7 +9,7 @@ use Rattle.mcast_txn.specs.declared.stamp.Stamp.{Stamp}
 use Rattle.mcast_txn.proofs.Members.{at_set, at_set_within}
 use Rattle.mcast_group.specs.declared.fault.ProposeFault.{ProposeFault}
 use Rattle.mcast_group.specs.Span.{Item}
-use Rattle.mcast_group.specs.Topics.{TopicState, Entry, Ended, Verdict, find_entry, ended, proposed, cancelled, learned, unsubscribed}
+use Rattle.mcast_group.specs.Topics.{TopicState, Entry, Ended, find_entry, ended, proposed, cancelled, learned, unsubscribed, decided_stamp}
 use Rattle.mcast_group.proofs.Parts.{none_some}
 use Rattle.delivery.specs.World.{World, Leftover, Subscription, no_subscription, topic_at, speaker, subscription_at, entry_at, with_topic}
 use Rattle.delivery.specs.Reading.{entry_items, entry_to, accepted_at, end_at}
@@ -202,9 +203,9 @@ Tells-cancelled : (w : World) (c : ℕ) (t : Topic) (o : Option Leftover) → Te
 Tells-cancelled w c t None = Tells-same w
 Tells-cancelled w c t (Some k) = Tells-topic w t (cancelled k.id (topic_at w t)) (Goes-same w (topic_at w t) (cancelled k.id (topic_at w t)) refl)
 
-Tells-learned : (w : World) (t : Topic) (id : TxnId) (o : Option Verdict) → TellsOf w (learned_at w t id o)
+Tells-learned : (w : World) (t : Topic) (id : TxnId) (o : Option Decision) → TellsOf w (learned_at w t id o)
 Tells-learned w t id None = Tells-same w
-Tells-learned w t id (Some v) = Tells-topic w t (learned id v.stamp (topic_at w t)) (Goes-same w (topic_at w t) (learned id v.stamp (topic_at w t)) refl)
+Tells-learned w t id (Some v) = Tells-topic w t (learned id (decided_stamp v) (topic_at w t)) (Goes-same w (topic_at w t) (learned id (decided_stamp v) (topic_at w t)) refl)
 
 Tells-left : (past : List Outcome) (w : World) (c : ℕ) (o : Option ℕ) → Reached past w → TellsOf w (left_by w c o)
 Tells-left past w c None r = Tells-same w

@@ -4,6 +4,7 @@ use Rattle.std.specs.Option.{is_some}
 use Rattle.std.proofs.lemmas.Bool.{true≢false, false≢true}
 use Rattle.mcast_txn.specs.Transaction.{topics_of}
 use Rattle.mcast_txn.specs.Agreed.{In, names}
+use Rattle.mcast_txn.specs.Ballot.{Decision}
 use Rattle.mcast_txn.specs.declared.id.Topic.{Topic}
 use Rattle.mcast_txn.specs.declared.id.TxnId.{TxnId}
 use Rattle.mcast_txn.specs.declared.send.Send.{Send}
@@ -14,7 +15,7 @@ use Rattle.mcast_group.specs.declared.fault.LearnFault.{LearnFault}
 use Rattle.mcast_group.specs.declared.fault.CancelFault.{CancelFault}
 use Rattle.mcast_group.specs.Checks.{first_refusal}
 use Rattle.mcast_group.specs.Span.{Item}
-use Rattle.mcast_group.specs.Topics.{TopicState, Pending, Entry, Verdict, new_topic, find_pending, cancel_fault_of, learn_fault, delivered, due_part, released_if, release, item_of}
+use Rattle.mcast_group.specs.Topics.{TopicState, Pending, Entry, new_topic, find_pending, cancel_fault_of, learn_fault, delivered, due_part, released_if, release, item_of}
 use Rattle.mcast_group.proofs.Parts.{found_part, some_same, none_some}
 use Rattle.delivery.specs.declared.refusal.Refusal.{Refusal}
 use Rattle.delivery.specs.World.{World, Leftover, topic_at, speaker, connection_at, subscription_at, entry_at, start}
@@ -107,7 +108,7 @@ cancelled_untouched : (w : World) (c : ℕ) (t u : Topic) (o : Option Leftover) 
 cancelled_untouched w c t u None ne = refl
 cancelled_untouched w c t u (Some k) ne = untouched w.topics t u _ ne
 
-learned_untouched : (w : World) (t u : Topic) (id : TxnId) (o : Option Verdict) → (Some t ≡ Some u → Prim.⊥) → topic_at (learned_at w t id o) u ≡ topic_at w u
+learned_untouched : (w : World) (t u : Topic) (id : TxnId) (o : Option Decision) → (Some t ≡ Some u → Prim.⊥) → topic_at (learned_at w t id o) u ≡ topic_at w u
 learned_untouched w t u id None ne = refl
 learned_untouched w t u id (Some v) ne = untouched w.topics t u _ ne
 
@@ -232,7 +233,7 @@ usual_learn : (why : Refusal) (o : Option LearnFault) → (o ≡ None) ⊎ (o �
 usual_learn why o (inl n) e = none_some why (sym (ap learn_refusal n) ∙ e)
 usual_learn why o (inr n) e = subst (λ z. is_odd z ≡ false) (some_same Refusal.NotPending why (sym (ap learn_refusal n) ∙ e)) refl
 
-learning_usual : (past : List Outcome) (w : World) (t : Topic) (id : TxnId) (why : Refusal) → Reached past w → (o : Option Verdict) → find_verdict id w.verdicts ≡ o → learning w t id o ≡ Some why → is_odd why ≡ false
+learning_usual : (past : List Outcome) (w : World) (t : Topic) (id : TxnId) (why : Refusal) → Reached past w → (o : Option Decision) → find_verdict id w.verdicts ≡ o → learning w t id o ≡ Some why → is_odd why ≡ false
 learning_usual past w t id why h None f e = subst (λ z. is_odd z ≡ false) (some_same Refusal.NotDecided why e) refl
 learning_usual past w t id why h (Some v) f e = usual_learn why (learn_fault id v (topic_at w t)) (learn_fault_is (tickets past) w t id v h.inv f) e
 

@@ -3,11 +3,12 @@ use Rattle.std.proofs.Common.{◌≡◌, ℕ, ◌<◌, Bool, true, not, inl, inr
 use Rattle.std.specs.Option.{is_some}
 use Rattle.std.proofs.lemmas.Bool.{lt-ltb, le-ltb}
 use Rattle.std.proofs.lemmas.List.{length-set, get_or_past, get_or-set_same, set-get_or, set-set}
+use Rattle.mcast_txn.specs.Ballot.{Decision}
 use Rattle.mcast_txn.specs.declared.id.Topic.{Topic}
 use Rattle.mcast_txn.specs.declared.id.TxnId.{TxnId}
 use Rattle.mcast_group.specs.declared.fault.LearnFault.{LearnFault}
 use Rattle.mcast_group.specs.Checks.{first_refusal}
-use Rattle.mcast_group.specs.Topics.{TopicState, Pending, Verdict, new_topic, learn_fault, learned, told, tried, tried_all, due_part, released_if, release, released_times, turned}
+use Rattle.mcast_group.specs.Topics.{TopicState, Pending, new_topic, learn_fault, learned, told, tried, tried_all, due_part, released_if, release, released_times, turned, decided_stamp}
 use Rattle.mcast_group.proofs.Parts.{map_length}
 use Rattle.delivery.specs.declared.refusal.Refusal.{Refusal}
 use Rattle.delivery.specs.World.{World, topic_at, with_topic}
@@ -37,15 +38,15 @@ is_there w t x room = lt-ltb t.0 (length (set w.topics t.0 x)) (let n = length-s
 
 -- ---- a learning
 
-fault_case : (w : World) (t : Topic) (id : TxnId) (v : Verdict) (x : TopicState) (o : Option LearnFault) → let u = with_topic w t x in stepped u (with_topic u t (learned id v.stamp x)) (learn_refusal o) ≡ with_topic w t (elim o [ None ↦ learned id v.stamp x | Some fault ↦ x ])
-fault_case w t id v x None = twice w t x (learned id v.stamp x)
+fault_case : (w : World) (t : Topic) (id : TxnId) (v : Decision) (x : TopicState) (o : Option LearnFault) → let u = with_topic w t x in stepped u (with_topic u t (learned id (decided_stamp v) x)) (learn_refusal o) ≡ with_topic w t (elim o [ None ↦ learned id (decided_stamp v) x | Some fault ↦ x ])
+fault_case w t id v x None = twice w t x (learned id (decided_stamp v) x)
 fault_case w t id v x (Some fault) = refl
 
-learn_case : (w : World) (t : Topic) (id : TxnId) (x : TopicState) (o : Option Verdict) → t.0 < length w.topics → let u = with_topic w t x in stepped u (learned_at u t id o) (learning u t id o) ≡ with_topic w t (tried id o x)
+learn_case : (w : World) (t : Topic) (id : TxnId) (x : TopicState) (o : Option Decision) → t.0 < length w.topics → let u = with_topic w t x in stepped u (learned_at u t id o) (learning u t id o) ≡ with_topic w t (tried id o x)
 learn_case w t id x None room = refl
 learn_case w t id x (Some v) room =
     let u = with_topic w t x in
-    ap (λ (z : TopicState). stepped u (with_topic u t (learned id v.stamp z)) (learn_refusal (learn_fault id v z))) (is_read w t x room)
+    ap (λ (z : TopicState). stepped u (with_topic u t (learned id (decided_stamp v) z)) (learn_refusal (learn_fault id v z))) (is_read w t x room)
     ∙ fault_case w t id v x (learn_fault id v x)
 
 learn_step : (w : World) (t : Topic) (id : TxnId) (x : TopicState) → t.0 < length w.topics → happens (with_topic w t x) (Learns t id) ≡ with_topic w t (tried id (find_in w id) x)
@@ -81,15 +82,15 @@ release_steps w t (p ∷ ps) x room =
 
 -- ---- the whole turn
 
-tried_length : (id : TxnId) (o : Option Verdict) (x : TopicState) → length (tried id o x).pending ≡ length x.pending
+tried_length : (id : TxnId) (o : Option Decision) (x : TopicState) → length (tried id o x).pending ≡ length x.pending
 tried_length id None x = refl
 tried_length id (Some v) x = by (learn_fault id v x)
   where
-    by : (o : Option LearnFault) → let y : TopicState = elim o [ None ↦ learned id v.stamp x | Some fault ↦ x ] in length y.pending ≡ length x.pending
-    by None = map_length (told id v.stamp) x.pending
+    by : (o : Option LearnFault) → let y : TopicState = elim o [ None ↦ learned id (decided_stamp v) x | Some fault ↦ x ] in length y.pending ≡ length x.pending
+    by None = map_length (told id (decided_stamp v)) x.pending
     by (Some fault) = refl
 
-all_length : (find : TxnId → Option Verdict) (ps : List Pending) (x : TopicState) → length (tried_all find ps x).pending ≡ length x.pending
+all_length : (find : TxnId → Option Decision) (ps : List Pending) (x : TopicState) → length (tried_all find ps x).pending ≡ length x.pending
 all_length find [] x = refl
 all_length find (p ∷ ps) x = all_length find ps (tried p.part.id (find p.part.id) x) ∙ tried_length p.part.id (find p.part.id) x
 

@@ -10,12 +10,13 @@ use Rattle.mcast_txn.specs.Stamp.{zero_stamp, greatest}
 use Rattle.mcast_txn.specs.Part.{part_at}
 use Rattle.mcast_txn.specs.Transaction.{topics_of}
 use Rattle.mcast_txn.specs.Agreed.{Transaction, same_id, names}
+use Rattle.mcast_txn.specs.Ballot.{Decision}
 use Rattle.mcast_group.specs.declared.fault.ProposeFault.{ProposeFault}
 use Rattle.mcast_group.specs.declared.fault.LearnFault.{LearnFault}
 use Rattle.mcast_group.specs.declared.fault.CancelFault.{CancelFault}
 use Rattle.mcast_group.specs.Checks.{first_refusal}
 use Rattle.mcast_group.specs.Span.{Item}
-use Rattle.mcast_group.specs.Topics.{Entry, Pending, Verdict, new_topic, last_number, next_number, propose_fault, proposed, learn_fault, learned, cancel_fault, cancelled, due_part, release, turned, subscribed, ended, unsubscribed}
+use Rattle.mcast_group.specs.Topics.{Entry, Pending, new_topic, last_number, next_number, propose_fault, proposed, learn_fault, learned, cancel_fault, cancelled, due_part, release, turned, turn_count, subscribed, ended, unsubscribed, decided_stamp}
 use Rattle.delivery.specs.declared.refusal.Refusal.{Refusal}
 use Rattle.delivery.specs.World.{World, Flight, Leftover, Subscription, Standing, is_open, is_gone, topic_at, new_sender, connection_at, speaker, subscription_at, entry_at, with_topic, with_sender, with_standing, with_subscription}
 use Rattle.delivery.specs.Reading.{accepted_at, end_at}
@@ -68,7 +69,7 @@ pub data Outcome : Type 0 where
   Learnt : (id : TxnId) (t : Topic) → Outcome
   -- the transaction's part was released at t; so many parts were
   Released : (t : Topic) (id : TxnId) → Outcome
-  Turned : (t : Topic) → Outcome
+  Turned : (t : Topic) (count : ℕ) → Outcome
   Handed : (s : ℕ) (item : Item) → Outcome
 
 -- ---- tests
@@ -128,7 +129,7 @@ drop_leftover t [] = []
 drop_leftover t (k ∷ ks) = if k.ticket.topic.0 == t.0 then ks else k ∷ drop_leftover t ks
 
 -- the verdict of this transaction, if it was decided
-abbrev pub find_verdict : TxnId → List Verdict → Option Verdict
+abbrev pub find_verdict : TxnId → List Decision → Option Decision
 find_verdict id [] = None
 find_verdict id (v ∷ vs) = if same_id v.id id then Some v else find_verdict id vs
 
@@ -170,7 +171,7 @@ or_else None after = after
 or_else (Some why) after = Some why
 
 -- what stands against learning the verdict that was found at t
-abbrev pub learning : World → Topic → TxnId → Option Verdict → Option Refusal
+abbrev pub learning : World → Topic → TxnId → Option Decision → Option Refusal
 learning w t id None = Some Refusal.NotDecided
 learning w t id (Some v) = learn_refusal (learn_fault id v (topic_at w t))
 
@@ -317,7 +318,7 @@ decided w c =
     let f = flight_at w c in
     record (with_sender w (connection_at w c).sender (record (speaker w c) { floor = greatest f.given; flight = None })) {
       commits = w.commits ++ record { txn = f.txn; stamp = greatest f.given } ∷ [];
-      verdicts = w.verdicts ++ record { id = f.txn.id; rows = f.given; stamp = greatest f.given } ∷ [];
+      verdicts = w.verdicts ++ record { id = f.txn.id; rows = f.given } ∷ [];
     }
 
 -- a ticket of this transaction, to be cancelled
@@ -341,16 +342,16 @@ cancelled_at w c t (Some k) =
     (record (speaker w c) { leftovers = drop_leftover t (speaker w c).leftovers })
 
 -- t learns the verdict that was found
-abbrev pub learned_at : World → Topic → TxnId → Option Verdict → World
+abbrev pub learned_at : World → Topic → TxnId → Option Decision → World
 learned_at w t id None = w
-learned_at w t id (Some v) = with_topic w t (learned id v.stamp (topic_at w t))
+learned_at w t id (Some v) = with_topic w t (learned id (decided_stamp v) (topic_at w t))
 
 -- the queue takes one more item: fewer than its capacity weren't handed on
 abbrev pub takes : World → Entry → Bool
 takes w e = nat_lt (length e.accepted - (subscription_at w e.number).taken) w.capacity
 
 -- the verdict of this transaction in the core's table
-abbrev pub find_in : World → TxnId → Option Verdict
+abbrev pub find_in : World → TxnId → Option Decision
 find_in w id = find_verdict id w.verdicts
 
 -- the item of this number in a queue, from 0
@@ -440,7 +441,7 @@ answer w (Withdraws c) = Withdrawn (flight_at w c).txn.id c
 answer w (Cancels c t) = cancel_answer t (find_leftover t (speaker w c).leftovers)
 answer w (Learns t id) = Learnt id t
 answer w (Releases t) = release_answer t (due_part (topic_at w t))
-answer w (Turns t) = Turned t
+answer w (Turns t) = Turned t (turn_count (takes w) (find_in w) (topic_at w t))
 answer w (Takes s) = take_answer w s (item_number (subscription_at w s).taken (accepted_at w s))
 
 -- ---- a step

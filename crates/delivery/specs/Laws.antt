@@ -7,11 +7,12 @@ use Rattle.mcast_txn.specs.declared.stamp.Stamp.{Stamp}
 use Rattle.mcast_txn.specs.Stamp.{zero_stamp, stamp_lt, greatest}
 use Rattle.mcast_txn.specs.Transaction.{topics_of}
 use Rattle.mcast_txn.specs.Agreed.{Row, In, names, same_id, agreed, EachOnce, SenderOrder}
+use Rattle.mcast_txn.specs.Ballot.{Decision}
 use Rattle.mcast_group.specs.declared.fault.LearnFault.{LearnFault}
 use Rattle.mcast_group.specs.declared.fault.ProposeFault.{ProposeFault}
 use Rattle.mcast_group.specs.Span.{Item}
 use Rattle.mcast_group.specs.Sound.{IsSound}
-use Rattle.mcast_group.specs.Topics.{Pending, Entry, Verdict, learn_fault, item_of, due_part}
+use Rattle.mcast_group.specs.Topics.{Pending, Entry, learn_fault, item_of, due_part}
 use Rattle.delivery.specs.declared.refusal.Refusal.{Refusal}
 use Rattle.delivery.specs.Due.{log_row, due}
 use Rattle.delivery.specs.World.{World, start, topic_at, speaker, subscription_at}
@@ -165,7 +166,7 @@ OddNeverComes = (r : Run) (why : Refusal) → In (Refused why) (came r) → is_o
 -- nor do they within a turn: what is found for a transaction is learnt wherever it is pending
 abbrev pub FoundIsLearnt : Type 0
 FoundIsLearnt =
-    (r : Run) (t : Topic) (id : TxnId) (v : Verdict) → find_in (after r) id ≡ Some v
+    (r : Run) (t : Topic) (id : TxnId) (v : Decision) → find_in (after r) id ≡ Some v
     → (learn_fault id v (topic_at (after r) t) ≡ None) ⊎ (learn_fault id v (topic_at (after r) t) ≡ Some LearnFault.NotPending)
 
 -- a ticket that is to be cancelled has its part pending
