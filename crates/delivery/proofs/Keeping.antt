@@ -11,7 +11,7 @@ use Rattle.mcast_txn.proofs.Orders.{same_stamps, id_equal, id_same}
 use Rattle.mcast_txn.proofs.Members.{In-append_left, In-push, In-map, In-map_cases, at_set, push_one}
 use Rattle.mcast_group.specs.Span.{LogRow, Item}
 use Rattle.mcast_group.specs.Sound.{IsQueueOf}
-use Rattle.mcast_group.specs.Topics.{TopicState, Pending, Entry, HasOneRowEach, new_topic, key, learned, learn_fault, without, delivered, released, release, row_of, item_of, turned, decided_stamp}
+use Rattle.mcast_group.specs.Topics.{TopicState, Pending, Entry, new_topic, key, learned, learn_fault, without, delivered, released, release, row_of, item_of, turned, decided_stamp}
 use Rattle.mcast_group.proofs.Parts.{Waits, Waits-told, Waits-without, each_told, Due, due_is, others, some_same}
 use Rattle.mcast_group.proofs.Queues.{Queue-closed, delivered_number, delivered_from, In-delivered_cases, More, More-same, More-then, More-delivered}
 use Rattle.mcast_group.proofs.Keeping.{Learns, learns_is, Sound-learned, Sound-released, next_of}

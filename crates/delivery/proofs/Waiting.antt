@@ -1,5 +1,5 @@
--- What is still to be cancelled is pending, and no transaction is pending twice.
-use Rattle.std.proofs.Common.{◌≡◌, ℕ, Bool, true, false, cond, ◌⊎◌, inl, inr, List, [], ◌∷◌, Option, Some, None, refl, sym, ap, subst, ◌∙◌}
+-- What a run's topics hold where the core looks for it: parts that are to be cancelled or proposed, and subscriptions' entries.
+use Rattle.std.proofs.Common.{◌≡◌, ℕ, ◌<◌, Bool, true, false, cond, ◌⊎◌, inl, inr, List, [], ◌∷◌, length, Option, Some, None, refl, sym, ap, subst, ◌∙◌, arith}
 use Rattle.std.specs.Option.{is_some}
 use Rattle.mcast_txn.specs.Transaction.{TopicPart}
 use Rattle.mcast_txn.specs.Agreed.{same_id, In}
@@ -11,21 +11,23 @@ use Rattle.mcast_txn.proofs.Orders.{id_equal, id_same}
 use Rattle.mcast_txn.proofs.Members.{any_found}
 use Rattle.mcast_group.specs.declared.fault.ProposeFault.{ProposeFault}
 use Rattle.mcast_group.specs.declared.fault.CancelFault.{CancelFault}
+use Rattle.mcast_group.specs.declared.fault.SubFault.{SubFault}
 use Rattle.mcast_group.specs.Checks.{first_refusal}
 use Rattle.mcast_group.specs.Span.{Item}
-use Rattle.mcast_group.specs.Topics.{Pending, find_pending, is_pending, cancel_fault_of, due_part}
+use Rattle.mcast_group.specs.Topics.{TopicState, Pending, Entry, find_pending, is_pending, cancel_fault_of, due_part, find_entry}
 use Rattle.mcast_group.proofs.Parts.{Waits, finds_part}
 use Rattle.delivery.specs.declared.refusal.Refusal.{Refusal}
-use Rattle.delivery.specs.World.{World, Leftover, topic_at, connection_at, speaker, start}
+use Rattle.delivery.specs.World.{World, Leftover, Subscription, topic_at, connection_at, speaker, subscription_at, start}
 use Rattle.delivery.specs.Events.{Event, Outcome, happens, outcome, refusal, checks, or_else, or_no_memory, answer, flight_at, find_leftover, oldest_live, flying_answer, proposal_fault, propose_answer, cancelling, cancel_refusal, cancel_answer, release_answer, take_answer, leave_answer}
 use Rattle.delivery.specs.Events.Event.{Topic_added, Opened, Commits, Subscribes, Unsubscribes, Disconnects, Errs, Lost, Leaves, Proposes, Decides, Withdraws, Cancels, Learns, Releases, Turns, Takes}
 use Rattle.delivery.specs.Events.Outcome.{Refused, Failed}
 use Rattle.delivery.specs.Runs.{outcomes}
 use Rattle.delivery.specs.Laws
 use Rattle.delivery.specs.Laws.{Run, came, after}
-use Rattle.delivery.proofs.Invariant.{topic_in}
+use Rattle.delivery.proofs.Invariant.{topic_in, Owned}
 use Rattle.delivery.proofs.Proposals.{not_given}
 use Rattle.delivery.proofs.Decisions.{leftover_found}
+use Rattle.delivery.proofs.Subscriptions.{found_entry, finds_entry}
 use Rattle.delivery.proofs.Happening.{Reached, by_refusal, asks_of, Asks, step_reached}
 use Rattle.delivery.proofs.Accepting.{reached, start_reached}
 use Rattle.delivery.proofs.Steps.{no_answer, outcome_case}
@@ -152,3 +154,24 @@ run_once (e ∷ es) past w h old =
 
 pub none_is_pending_twice : Laws.NoneIsPendingTwice
 none_is_pending_twice r = run_once r.events [] (start r.capacity r.log_limit r.clocks) (start_reached r.capacity r.log_limit r.clocks) (λ id i. i)
+
+-- ---- subscriptions
+
+fresh_case : (subs : List Subscription) (t : Topic) (x : TopicState) → ((e : Entry) → In e x.subscriptions → Owned subs t e.number e.from) → (o : Option Entry) → find_entry (length subs) x.subscriptions ≡ o → is_some o ≡ false
+fresh_case subs t x own None f = refl
+fresh_case subs t x own (Some e) f =
+    let k = found_entry (length subs) x.subscriptions e f in
+    absurd (let l : e.number < length subs = (own e k.stands).there in let n : e.number ≡ length subs = k.is in omega arith)
+
+pub numbers_are_free : Laws.NumbersAreFree
+numbers_are_free r t =
+    let w = after r in let x = topic_at w t in
+    ap (λ (b : Bool). cond b (Some SubFault.SubInUse) None)
+    (fresh_case w.subscriptions t x ((reached r).inv.subscribes.owned t) (find_entry (length w.subscriptions) x.subscriptions) refl)
+
+pub entries_are_there : Laws.EntriesAreThere
+entries_are_there r s l unclosed =
+    let w = after r in let x = topic_at w (subscription_at w s).topic in
+    let h = (reached r).inv.subscribes.live s l unclosed in
+    let f = finds_entry s x.subscriptions h.entry h.stands h.number in
+    ap (λ (o : Option Entry). cond (is_some o) None (Some (record {}))) f.found

@@ -12,7 +12,7 @@ use Rattle.mcast_group.specs.declared.fault.LearnFault.{LearnFault}
 use Rattle.mcast_group.specs.declared.fault.ProposeFault.{ProposeFault}
 use Rattle.mcast_group.specs.Span.{Item}
 use Rattle.mcast_group.specs.Sound.{IsSound}
-use Rattle.mcast_group.specs.Topics.{Pending, Entry, learn_fault, item_of, due_part}
+use Rattle.mcast_group.specs.Topics.{Pending, Entry, learn_fault, item_of, due_part, subscribe_fault, unsubscribe_fault}
 use Rattle.delivery.specs.declared.refusal.Refusal.{Refusal}
 use Rattle.delivery.specs.Due.{log_row, due}
 use Rattle.delivery.specs.World.{World, start, topic_at, speaker, subscription_at}
@@ -176,6 +176,16 @@ CancelFindsItsPart = (r : Run) (c : ℕ) (t : Topic) → outcome (after r) (Canc
 -- no topic refuses a part because its transaction is pending there
 abbrev pub NoneIsPendingTwice : Type 0
 NoneIsPendingTwice = (r : Run) (id : TxnId) → In (Failed id ProposeFault.Twice) (came r) → Prim.⊥
+
+-- the number that the next subscription gets is free at each topic
+abbrev pub NumbersAreFree : Type 0
+NumbersAreFree = (r : Run) (t : Topic) → subscribe_fault (length (after r).subscriptions) (topic_at (after r) t) ≡ None
+
+-- a subscription that isn't closed has its entry at its topic
+abbrev pub EntriesAreThere : Type 0
+EntriesAreThere =
+    (r : Run) (s : ℕ) → s < length (after r).subscriptions → (subscription_at (after r) s).closed ≡ None
+    → unsubscribe_fault s (topic_at (after r) (subscription_at (after r) s).topic) ≡ None
 
 -- an open subscription as a release of p leaves it: where fewer items than its capacity weren't handed on it has one more, and else it has ended before it
 pub record IsGiven (w : World) (frontier : Stamp) (p : Pending) (before after : Entry) : Type 0 where

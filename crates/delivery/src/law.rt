@@ -1,6 +1,6 @@
 //! Laws: functions that do nothing, whose contracts are theorems about every run of the core.
 
-ghost use Rattle.delivery.specs.Laws.{AcceptedIsDue, AgreedInSenderOrder, AgreedOnce, CancelFindsItsPart, ClosedIsSilent, CommitsAreKept, FoundIsLearnt, HandedIsPrefix, LagsWhereFull, NoneIsPendingTwice, OddNeverComes, OthersUntouched, RefusalsChangeNothing, SeqsCount, SettledLeavesNoneOut, SharedInOneOrder, StampIsGreatest, TicketIsOwn, TopicsAreSound, TurnIsItsSteps};
+ghost use Rattle.delivery.specs.Laws.{AcceptedIsDue, AgreedInSenderOrder, AgreedOnce, CancelFindsItsPart, ClosedIsSilent, CommitsAreKept, EntriesAreThere, FoundIsLearnt, HandedIsPrefix, LagsWhereFull, NoneIsPendingTwice, NumbersAreFree, OddNeverComes, OthersUntouched, RefusalsChangeNothing, SeqsCount, SettledLeavesNoneOut, SharedInOneOrder, StampIsGreatest, TicketIsOwn, TopicsAreSound, TurnIsItsSteps};
 ghost use Rattle.delivery.specs.Told.{EndsAreTold, EndsStay, FlyingIsOwn, QueuesAreBounded, SenderIsOwn, SpansBeginAsTold, SpansBeginAtFrontier, SpansEndAsTold};
 
 /// The core's commit list is that of the decisions in the run.
@@ -64,6 +64,13 @@ pub fn never()
     ensures in_turns { FoundIsLearnt }
     ensures cancels { CancelFindsItsPart }
     ensures proposals { NoneIsPendingTwice }
+{}
+
+/// No topic refuses a subscription because its number is in use, and each subscription that isn't closed has its entry
+/// at its topic.
+pub fn subscriptions()
+    ensures begin { NumbersAreFree }
+    ensures end { EntriesAreThere }
 {}
 
 /// A turn is its steps: it learns once for each pending part, by rising id, and then releases until nothing is due.
