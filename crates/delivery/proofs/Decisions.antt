@@ -4,6 +4,7 @@ use Rattle.std.proofs.lemmas.Bool.{true≢false, eqb-true, eq-eqb}
 use Rattle.mcast_txn.specs.Stamp.{stamp_lt, greatest}
 use Rattle.mcast_txn.specs.Transaction.{topics_of, insert_topic}
 use Rattle.mcast_txn.specs.Agreed.{Transaction, Row, same_id, In, names, stamp_of}
+use Rattle.mcast_txn.specs.Ballot.{Decision}
 use Rattle.mcast_txn.specs.declared.id.Topic.{Topic}
 use Rattle.mcast_txn.specs.declared.id.TxnId.{TxnId}
 use Rattle.mcast_txn.specs.declared.send.Send.{Send}
@@ -13,7 +14,7 @@ use Rattle.mcast_txn.proofs.Members.{In-append_left, In-push, In-map_cases, any_
 use Rattle.mcast_txn.proofs.Sorting.{Apart-push}
 use Rattle.mcast_txn.proofs.Greatest.{greatest_in, greatest_past}
 use Rattle.mcast_group.specs.Span.{Item}
-use Rattle.mcast_group.specs.Topics.{TopicState, Verdict, new_topic, cancelled}
+use Rattle.mcast_group.specs.Topics.{TopicState, new_topic, cancelled}
 use Rattle.mcast_group.proofs.Parts.{Waits, Waits-without, others, some_same, none_some}
 use Rattle.mcast_group.proofs.Keeping.{Sound-cancelled}
 use Rattle.delivery.specs.Due.{log_row}
@@ -140,8 +141,8 @@ stamp_by f = greatest f.given
 abbrev pub row_by : Flight → Row
 row_by f = row f.txn (stamp_by f)
 
-abbrev pub verdict_by : Flight → Verdict
-verdict_by f = record { id = f.txn.id; rows = f.given; stamp = stamp_by f }
+abbrev pub verdict_by : Flight → Decision
+verdict_by f = record { id = f.txn.id; rows = f.given }
 
 abbrev pub decided_sender : World → ℕ → Flight → SenderState
 decided_sender w s f = record (sender_in w.senders s) { floor = stamp_by f; flight = None }
@@ -153,7 +154,7 @@ record TicketOf (ts : List Row) (txn : Transaction) (t : Topic) : Type 0 where
   topic_is : it.stamp.topic ≡ t
 
 -- what a decision comes to
-record Decision (ts : List Row) (w : World) (s : ℕ) (f : Flight) : Type 0 where
+record Deciding (ts : List Row) (w : World) (s : ℕ) (f : Flight) : Type 0 where
   flies : Flies ts w.commits w.topics s (sender_in w.senders s).seq (sender_in w.senders s).floor f
   ticket : In (row_by f) ts
   given : In (stamp_by f) f.given
@@ -172,7 +173,7 @@ complete_at ts w s f g all t n =
       topic_is = same_topic v.it.topic t (eqb-true v.it.topic.0 q.it.0 v.passes ∙ eqb-true q.it.0 t.0 q.passes);
     }
 
-decision : (ts : List Row) (w : World) (s : ℕ) (f : Flight) → Holds ts w → Decides w s f → Decision ts w s f
+decision : (ts : List Row) (w : World) (s : ℕ) (f : Flight) → Holds ts w → Decides w s f → Deciding ts w s f
 decision ts w s f inv d =
     let g = (inv.serves s).flying f d.flight in
     let all = complete_at ts w s f g d.complete in
@@ -189,11 +190,11 @@ decision ts w s f inv d =
     there : (xs : List Stamp) (a : Stamp) → In a xs → In (greatest xs) xs
     there xs a i = elim (greatest_in xs) [ inl k ↦ k | inr e ↦ absurd (subst (λ z. In a z) e i) ]
 
-decided_past : (ts : List Row) (w : World) (s : ℕ) (f : Flight) (q : Row) → Holds ts w → Decision ts w s f → In q w.commits → q.txn.id.sender.0 ≡ s → stamp_lt q.stamp (stamp_by f) ≡ true
+decided_past : (ts : List Row) (w : World) (s : ℕ) (f : Flight) (q : Row) → Holds ts w → Deciding ts w s f → In q w.commits → q.txn.id.sender.0 ≡ s → stamp_lt q.stamp (stamp_by f) ≡ true
 decided_past ts w s f q inv dec k e =
     le_lt q.stamp (sender_in w.senders s).floor (stamp_by f) ((inv.serves s).floored q k e) (dec.flies.higher (row_by f) dec.ticket refl)
 
-Consistent-decided : (ts : List Row) (w : World) (s : ℕ) (f : Flight) → Holds ts w → Decision ts w s f → Consistent ts (w.commits ++ row_by f ∷ [])
+Consistent-decided : (ts : List Row) (w : World) (s : ℕ) (f : Flight) → Holds ts w → Deciding ts w s f → Consistent ts (w.commits ++ row_by f ∷ [])
 Consistent-decided ts w s f inv dec =
     let all = inv.consistent in let g = dec.flies in let r = row_by f in record {
       one_txn = all.one_txn;
@@ -217,7 +218,7 @@ Committed-more cs r id stamp h = record { row = h.row; stands = In-append_left h
 Itemed-more : (cs : List Row) (r : Row) (t : Topic) (i : Item) → Itemed cs t i → Itemed (cs ++ r ∷ []) t i
 Itemed-more cs r t i h = record { row = h.row; stands = In-append_left h.row cs (r ∷ []) h.stands; is = h.is; named = h.named }
 
-Tied-decided : (ts : List Row) (w : World) (s : ℕ) (f : Flight) → Holds ts w → Decision ts w s f → (u : Topic) → Tied ts (w.commits ++ row_by f ∷ []) u (topic_in w.topics u)
+Tied-decided : (ts : List Row) (w : World) (s : ℕ) (f : Flight) → Holds ts w → Deciding ts w s f → (u : Topic) → Tied ts (w.commits ++ row_by f ∷ []) u (topic_in w.topics u)
 Tied-decided ts w s f inv dec u =
     let h = inv.tied u in let r = row_by f in record {
       topic = h.topic;
@@ -241,7 +242,7 @@ left_more cs topics s seq k r ne h = record {
   waits = h.waits;
 }
 
-Serves-decided : (ts : List Row) (w : World) (s : ℕ) (f : Flight) → Holds ts w → Decides w s f → Decision ts w s f → (d : ℕ) → Serves ts (w.commits ++ row_by f ∷ []) w.topics d (sender_in (set w.senders s (decided_sender w s f)) d)
+Serves-decided : (ts : List Row) (w : World) (s : ℕ) (f : Flight) → Holds ts w → Decides w s f → Deciding ts w s f → (d : ℕ) → Serves ts (w.commits ++ row_by f ∷ []) w.topics d (sender_in (set w.senders s (decided_sender w s f)) d)
 Serves-decided ts w s f inv is dec d =
     let r = row_by f in let cs = w.commits ++ r ∷ [] in
     at_set_within (λ (x : SenderState). Serves ts cs w.topics d x) w.senders s d (decided_sender w s f) new_sender
@@ -291,17 +292,17 @@ one_each (g ∷ rest) h a b (inl i) (inr j) e = absurd (h.0 b j (ap (λ (z : Sta
 one_each (g ∷ rest) h a b (inr i) (inl j) e = absurd (h.0 a i (ap (λ (z : Stamp). z.topic.0) j ∙ ap (λ (z : Topic). z.0) (sym e)))
 one_each (g ∷ rest) h a b (inr i) (inr j) e = one_each rest h.1 a b i j e
 
-Voted-commits : (ts cs : List Row) (v : Verdict) (r : Row) → Voted ts cs v → Voted ts (cs ++ r ∷ []) v
+Voted-commits : (ts cs : List Row) (v : Decision) (r : Row) → Voted ts cs v → Voted ts (cs ++ r ∷ []) v
 Voted-commits ts cs v r h = record {
   row = h.row;
   stands = In-append_left h.row cs (r ∷ []) h.stands;
   id_is = h.id_is;
   stamp_is = h.stamp_is;
-  is = h.is;
+  one_row = h.one_row;
   all = h.all;
 }
 
-HasVote-more : (vs : List Verdict) (v : Verdict) (r : Row) → HasVote vs r → HasVote (vs ++ v ∷ []) r
+HasVote-more : (vs : List Decision) (v : Decision) (r : Row) → HasVote vs r → HasVote (vs ++ v ∷ []) r
 HasVote-more vs v r h = record { verdict = h.verdict; stands = In-append_left h.verdict vs (v ∷ []) h.stands; id_is = h.id_is }
 
 Subscribes-commits : (cs : List Row) (topics : List TopicState) (subs : List Subscription) (r : Row) → Subscribes cs topics subs → Subscribes (cs ++ r ∷ []) topics subs
@@ -312,19 +313,19 @@ Subscribes-commits cs topics subs r h = record {
   closed = λ s end e. let k = h.closed s end e in record { queue = k.queue; items = λ i l. Itemed-more cs r (sub_in subs s).topic i (k.items i l) };
 }
 
-decision_step : (ts : List Row) (w : World) (s : ℕ) (f : Flight) → Holds ts w → Decides w s f → Decision ts w s f → Inv ts (w.commits ++ row_by f ∷ []) (w.verdicts ++ verdict_by f ∷ []) w.topics (set w.senders s (decided_sender w s f)) w.subscriptions
+decision_step : (ts : List Row) (w : World) (s : ℕ) (f : Flight) → Holds ts w → Decides w s f → Deciding ts w s f → Inv ts (w.commits ++ row_by f ∷ []) (w.verdicts ++ verdict_by f ∷ []) w.topics (set w.senders s (decided_sender w s f)) w.subscriptions
 decision_step ts w s f inv is dec =
     let r = row_by f in let v = verdict_by f in record {
       consistent = Consistent-decided ts w s f inv dec;
       tied = Tied-decided ts w s f inv dec;
       serves = Serves-decided ts w s f inv is dec;
-      voted = push_one (λ (z : Verdict). Voted ts (w.commits ++ r ∷ []) z) w.verdicts v (λ z k. Voted-commits ts w.commits z r (inv.voted z k))
+      voted = push_one (λ (z : Decision). Voted ts (w.commits ++ r ∷ []) z) w.verdicts v (λ z k. Voted-commits ts w.commits z r (inv.voted z k))
           (record {
             row = r;
             stands = In-push r w.commits;
             id_is = refl;
             stamp_is = refl;
-            is = (refl, one_each f.given dec.flies.given_apart);
+            one_row = one_each f.given dec.flies.given_apart;
             all = λ a k e. dec.flies.given_all a k e;
           });
       counted = push_one (λ (z : Row). HasVote (w.verdicts ++ v ∷ []) z) w.commits r (λ z k. HasVote-more w.verdicts v z (inv.counted z k))

@@ -1,16 +1,17 @@
 -- A transaction in flight is its frame's, and its sender is its connection's own.
 use Rattle.std.proofs.Common.{◌≡◌, ℕ, ◌<◌, List, [], ◌∷◌, length, set, get_or, Option, Some, None, refl, sym, ap, subst, ◌∙◌, arith}
 use Rattle.mcast_txn.specs.Agreed.{Transaction}
+use Rattle.mcast_txn.specs.Ballot.{Decision}
 use Rattle.mcast_txn.specs.declared.id.Topic.{Topic}
 use Rattle.mcast_txn.specs.declared.id.TxnId.{TxnId}
 use Rattle.mcast_txn.specs.declared.send.Send.{Send}
 use Rattle.mcast_txn.proofs.Members.{at_set}
 use Rattle.mcast_group.specs.declared.fault.ProposeFault.{ProposeFault}
 use Rattle.mcast_group.specs.Span.{Item}
-use Rattle.mcast_group.specs.Topics.{Entry, Verdict}
+use Rattle.mcast_group.specs.Topics.{Pending, Entry, due_part}
 use Rattle.delivery.specs.declared.refusal.Refusal.{Refusal}
-use Rattle.delivery.specs.World.{World, Connection, Leftover, SenderState, Standing, nobody, new_sender, connection_at, subscription_at, speaker, entry_at, start}
-use Rattle.delivery.specs.Events.{Event, happens, effect, answer, find_leftover, find_verdict, oldest_live, next_txn, flown, flying_answer, proposal_fault, proposed_by, propose_answer, cancelled_at, cancel_answer, learned_at, handed, take_answer, left_by, leave_answer, closed_with}
+use Rattle.delivery.specs.World.{World, Connection, Leftover, SenderState, Standing, nobody, new_sender, topic_at, connection_at, subscription_at, speaker, entry_at, start}
+use Rattle.delivery.specs.Events.{Event, happens, effect, answer, find_leftover, find_verdict, oldest_live, next_txn, flown, flying_answer, proposal_fault, proposed_by, propose_answer, cancelled_at, cancel_answer, learned_at, release_answer, handed, take_answer, left_by, leave_answer, closed_with}
 use Rattle.delivery.specs.Events.Event.{Topic_added, Opened, Commits, Subscribes, Unsubscribes, Disconnects, Errs, Lost, Leaves, Proposes, Decides, Withdraws, Cancels, Learns, Releases, Turns, Takes}
 use Rattle.delivery.specs.Events.Outcome.{Refused, Flying}
 use Rattle.delivery.specs.Runs.{run}
@@ -42,6 +43,10 @@ no_leave : (w : World) (c : ℕ) (o : Option ℕ) (txn : Transaction) → leave_
 no_leave w c None txn e = cc
 no_leave w c (Some s) txn e = cc
 
+no_release : (t : Topic) (o : Option Pending) (txn : Transaction) → release_answer t o ≡ Flying txn → Prim.⊥
+no_release t None txn e = cc
+no_release t (Some p) txn e = cc
+
 no_take : (w : World) (s : ℕ) (o : Option Item) (txn : Transaction) → take_answer w s o ≡ Flying txn → Prim.⊥
 no_take w s None txn e = cc
 no_take w s (Some item) txn e = cc
@@ -61,7 +66,7 @@ answer_own w (Decides c) txn e = cc
 answer_own w (Withdraws c) txn e = cc
 answer_own w (Cancels c t) txn e = absurd (no_cancel t (find_leftover t (speaker w c).leftovers) txn e)
 answer_own w (Learns t i) txn e = cc
-answer_own w (Releases t) txn e = cc
+answer_own w (Releases t) txn e = absurd (no_release t (due_part (topic_at w t)) txn e)
 answer_own w (Turns t) txn e = cc
 answer_own w (Takes s) txn e = absurd (no_take w s _ txn e)
 
@@ -106,7 +111,7 @@ cancelled_speaks : (w : World) (c : ℕ) (t : Topic) (o : Option Leftover) → S
 cancelled_speaks w c t None h = h
 cancelled_speaks w c t (Some k) h = sender_kept w.senders w.connections (connection_at w c).sender _ h
 
-learned_speaks : (w : World) (t : Topic) (id : TxnId) (o : Option Verdict) → Speaks w → Speaks (learned_at w t id o)
+learned_speaks : (w : World) (t : Topic) (id : TxnId) (o : Option Decision) → Speaks w → Speaks (learned_at w t id o)
 learned_speaks w t id None h = h
 learned_speaks w t id (Some v) h = h
 

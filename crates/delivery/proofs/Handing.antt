@@ -2,6 +2,8 @@
 use Rattle.std.proofs.Common.{◌≡◌, ◌≢◌, ℕ, ◌+◌, ◌<◌, ◌≤◌, ◌==◌, Bool, true, false, cond, not, List, [], ◌∷◌, ◌++◌, map, length, set, Option, Some, None, refl, sym, ap, subst, ◌∙◌, arith, ltb}
 use Rattle.std.specs.List.{filter}
 use Rattle.std.proofs.lemmas.Bool.{eqb-true, eq-eqb, ltb-true}
+use Rattle.mcast_txn.specs.Part.{part_at}
+use Rattle.mcast_txn.specs.Ballot.{Decision}
 use Rattle.mcast_txn.specs.declared.id.Topic.{Topic}
 use Rattle.mcast_txn.specs.declared.id.TxnId.{TxnId}
 use Rattle.mcast_txn.specs.declared.send.Send.{Send}
@@ -9,14 +11,14 @@ use Rattle.mcast_txn.specs.declared.stamp.Stamp.{Stamp}
 use Rattle.mcast_txn.proofs.Members.{at_set, at_set_within}
 use Rattle.mcast_group.specs.declared.fault.ProposeFault.{ProposeFault}
 use Rattle.mcast_group.specs.Span.{Item}
-use Rattle.mcast_group.specs.Topics.{TopicState, Entry, Ended, Verdict, find_entry, ended, proposed, cancelled, learned, unsubscribed}
+use Rattle.mcast_group.specs.Topics.{TopicState, Pending, Entry, Ended, find_entry, ended, proposed, cancelled, learned, due_part, unsubscribed, decided_stamp}
 use Rattle.mcast_group.proofs.Parts.{some_same, none_some, not_true}
 use Rattle.mcast_group.proofs.Queues.{More, More-same}
 use Rattle.delivery.specs.World.{World, Leftover, Subscription, no_subscription, topic_at, speaker, subscription_at, entry_at, start, with_topic}
 use Rattle.delivery.specs.Reading.{entry_items, accepted_at}
-use Rattle.delivery.specs.Events.{Event, Outcome, happens, outcome, refusal, effect, answer, find_leftover, find_verdict, find_in, oldest_live, flown, flying_answer, proposal_fault, proposed_by, propose_answer, cancelled_at, cancel_answer, learned_at, takes, handed, item_number, part_at, flight_at, take_answer, left_by, leave_answer, closed_subscription, closed_with}
+use Rattle.delivery.specs.Events.{Event, Outcome, happens, outcome, refusal, effect, answer, find_leftover, find_verdict, find_in, oldest_live, flown, flying_answer, proposal_fault, proposed_by, propose_answer, cancelled_at, cancel_answer, learned_at, release_answer, takes, handed, item_number, flight_at, take_answer, left_by, leave_answer, closed_subscription, closed_with}
 use Rattle.delivery.specs.Events.Event.{Topic_added, Opened, Commits, Subscribes, Unsubscribes, Disconnects, Errs, Lost, Leaves, Proposes, Decides, Withdraws, Cancels, Learns, Releases, Turns, Takes}
-use Rattle.delivery.specs.Events.Outcome.{Refused, Done, Learnt, Released, Turned, Handed}
+use Rattle.delivery.specs.Events.Outcome.{Refused, Done, Learnt, Handed}
 use Rattle.delivery.specs.Runs.{run, outcomes, handed_of}
 use Rattle.delivery.specs.Laws
 use Rattle.delivery.specs.Laws.{Run, came, after}
@@ -231,7 +233,7 @@ pending_same w t y e = Grows-topic w t y (entries_more (topic_in w.topics t) y (
 
 proposed_handing : (past : List Outcome) (w : World) (c : ℕ) (t : Topic) (o : Option ProposeFault) → Handing past w → Handing (propose_answer w c t o ∷ past) (proposed_by w c t o)
 proposed_handing past w c t None h =
-    let k = grown past w (with_topic w t (proposed (speaker w c).floor (part_at t (flight_at w c).txn) (topic_at w t))) (pending_same w t _ refl) h in record { held = k.held; fresh = k.fresh }
+    let k = grown past w (with_topic w t (proposed (speaker w c).floor (part_at (flight_at w c).txn.id (flight_at w c).txn.sends t) (topic_at w t))) (pending_same w t _ refl) h in record { held = k.held; fresh = k.fresh }
 proposed_handing past w c t (Some fault) h = record { held = h.held; fresh = h.fresh }
 
 cancelled_handing : (past : List Outcome) (w : World) (c : ℕ) (t : Topic) (o : Option Leftover) → Handing past w → Handing (cancel_answer t o ∷ past) (cancelled_at w c t o)
@@ -239,10 +241,14 @@ cancelled_handing past w c t None h = record { held = h.held; fresh = h.fresh }
 cancelled_handing past w c t (Some k) h =
     let g = grown past w (with_topic w t (cancelled k.id (topic_at w t))) (pending_same w t _ refl) h in record { held = g.held; fresh = g.fresh }
 
-learned_handing : (past : List Outcome) (w : World) (t : Topic) (id : TxnId) (o : Option Verdict) → Handing past w → Handing (Learnt id t ∷ past) (learned_at w t id o)
+learned_handing : (past : List Outcome) (w : World) (t : Topic) (id : TxnId) (o : Option Decision) → Handing past w → Handing (Learnt id t ∷ past) (learned_at w t id o)
 learned_handing past w t id None h = record { held = h.held; fresh = h.fresh }
 learned_handing past w t id (Some v) h =
-    let g = grown past w (with_topic w t (learned id v.stamp (topic_at w t))) (pending_same w t _ refl) h in record { held = g.held; fresh = g.fresh }
+    let g = grown past w (with_topic w t (learned id (decided_stamp v) (topic_at w t))) (pending_same w t _ refl) h in record { held = g.held; fresh = g.fresh }
+
+released_handed : (n : ℕ) (t : Topic) (o : Option Pending) (past : List Outcome) → handed_of n (release_answer t o ∷ past) ≡ handed_of n past
+released_handed n t None past = refl
+released_handed n t (Some p) past = refl
 
 left_handing : (past : List Outcome) (w : World) (c : ℕ) (o : Option ℕ) → Reached past w → Handing past w → Handing (leave_answer w c o ∷ past) (left_by w c o)
 left_handing past w c None r h = record { held = h.held; fresh = h.fresh }
@@ -274,10 +280,10 @@ happens_handing past w (Decides c) r h e = record { held = h.held; fresh = h.fre
 happens_handing past w (Withdraws c) r h e = record { held = h.held; fresh = h.fresh }
 happens_handing past w (Cancels c t) r h e = cancelled_handing past w c t (find_leftover t (speaker w c).leftovers) h
 happens_handing past w (Learns t id) r h e = learned_handing past w t id (find_verdict id w.verdicts) h
-happens_handing past w (Releases t) r h e = told past (effect w (Releases t)) (Released t) (λ n. refl)
+happens_handing past w (Releases t) r h e = told past (effect w (Releases t)) (answer w (Releases t)) (λ n. released_handed n t (due_part (topic_at w t)) past)
     (grown past w (effect w (Releases t)) (Grows-topic w t _ (entries_more (topic_in w.topics t) _
     (Keeps-release (tickets past) w.commits t (takes w) (topic_at w t) r.inv.consistent (r.inv.tied t)).entries)) h)
-happens_handing past w (Turns t) r h e = told past (effect w (Turns t)) (Turned t) (λ n. refl)
+happens_handing past w (Turns t) r h e = told past (effect w (Turns t)) (answer w (Turns t)) (λ n. refl)
     (grown past w (effect w (Turns t)) (Grows-topic w t _ (entries_more (topic_in w.topics t) _
     (Keeps-turned (tickets past) w.commits t (takes w) (find_in w) (topic_at w t) r.inv.consistent (finds (tickets past) w r.inv) (r.inv.tied t)).entries)) h)
 happens_handing past w (Takes s) r h e =

@@ -3,8 +3,10 @@ use Rattle.std.proofs.Common.{◌≡◌, ℕ, ◌+◌, ◌<◌, ◌≤◌, Bool,
 use Rattle.std.specs.Option.{is_some}
 use Rattle.std.proofs.lemmas.Bool.{true≢false, and_parts, ltb-true}
 use Rattle.mcast_txn.specs.Stamp.{greatest}
+use Rattle.mcast_txn.specs.Part.{part_at}
 use Rattle.mcast_txn.specs.Transaction.{topics_of}
 use Rattle.mcast_txn.specs.Agreed.{Transaction, Row, same_id, In, names}
+use Rattle.mcast_txn.specs.Ballot.{Decision}
 use Rattle.mcast_txn.specs.declared.id.Topic.{Topic}
 use Rattle.mcast_txn.specs.declared.id.TxnId.{TxnId}
 use Rattle.mcast_txn.specs.declared.send.Send.{Send}
@@ -14,11 +16,11 @@ use Rattle.mcast_group.specs.declared.fault.ProposeFault.{ProposeFault}
 use Rattle.mcast_group.specs.declared.fault.LearnFault.{LearnFault}
 use Rattle.mcast_group.specs.Checks.{first_refusal}
 use Rattle.mcast_group.specs.Span.{Item}
-use Rattle.mcast_group.specs.Topics.{Entry, Verdict, propose_checks, propose_fault, is_pending, learned, release, turned}
+use Rattle.mcast_group.specs.Topics.{Pending, Entry, propose_checks, propose_fault, is_pending, learned, due_part, release, turned, decided_stamp}
 use Rattle.mcast_group.proofs.Parts.{some_same, none_some, not_true}
 use Rattle.delivery.specs.declared.refusal.Refusal.{Refusal}
 use Rattle.delivery.specs.World.{World, Flight, Leftover, SenderState, topic_at, new_sender, connection_at, speaker, entry_at}
-use Rattle.delivery.specs.Events.{Event, Outcome, happens, outcome, refusal, effect, answer, flight_at, flight_or, find_leftover, find_verdict, find_in, oldest_live, has_ticket, part_at, next_txn, next_ticket, flown, flying_answer, proposal_fault, proposed_by, propose_answer, decided, withdrawn, cancelled_at, cancel_answer, learned_at, learning, takes, handed, take_answer, left_by, leave_answer, closed_subscription, closed_with, or_else, or_no_memory, learn_refusal, is_topic, checks, topic_refusal}
+use Rattle.delivery.specs.Events.{Event, Outcome, happens, outcome, refusal, effect, answer, flight_at, flight_or, find_leftover, find_verdict, find_in, oldest_live, has_ticket, next_txn, next_ticket, flown, flying_answer, proposal_fault, proposed_by, propose_answer, decided, withdrawn, cancelled_at, cancel_answer, learned_at, learning, release_answer, takes, handed, take_answer, left_by, leave_answer, closed_subscription, closed_with, or_else, or_no_memory, learn_refusal, is_topic, checks, topic_refusal}
 use Rattle.delivery.specs.Events.Event.{Topic_added, Opened, Commits, Subscribes, Unsubscribes, Disconnects, Errs, Lost, Leaves, Proposes, Decides, Withdraws, Cancels, Learns, Releases, Turns, Takes}
 use Rattle.delivery.specs.Events.Outcome.{Refused, Flying, Ticket}
 use Rattle.delivery.specs.Runs.{made, commits_of}
@@ -99,19 +101,19 @@ pub record Reached (past : List Outcome) (w : World) : Type 0 where
 
 -- ---- what is found
 
-find_verdict_case : (id : TxnId) (v u : Verdict) (vs : List Verdict) (b : Bool) → same_id v.id id ≡ b → (find_verdict id vs ≡ Some u → In u vs × (u.id ≡ id)) → cond b (Some v) (find_verdict id vs) ≡ Some u → In u (v ∷ vs) × (u.id ≡ id)
+find_verdict_case : (id : TxnId) (v u : Decision) (vs : List Decision) (b : Bool) → same_id v.id id ≡ b → (find_verdict id vs ≡ Some u → In u vs × (u.id ≡ id)) → cond b (Some v) (find_verdict id vs) ≡ Some u → In u (v ∷ vs) × (u.id ≡ id)
 find_verdict_case id v u vs true e ih d =
-    let same = some_same v u d in (inl same, subst (λ (z : Verdict). z.id ≡ id) same (id_equal v.id id e))
+    let same = some_same v u d in (inl same, subst (λ (z : Decision). z.id ≡ id) same (id_equal v.id id e))
 find_verdict_case id v u vs false e ih d = let h = ih d in (inr h.0, h.1)
 
-pub verdict_found : (id : TxnId) (vs : List Verdict) (u : Verdict) → find_verdict id vs ≡ Some u → In u vs × (u.id ≡ id)
+pub verdict_found : (id : TxnId) (vs : List Decision) (u : Decision) → find_verdict id vs ≡ Some u → In u vs × (u.id ≡ id)
 verdict_found id [] u e = cc
 verdict_found id (v ∷ vs) u e = find_verdict_case id v u vs (same_id v.id id) refl (verdict_found id vs u) e
 
 pub finds : (ts : List Row) (w : World) → Holds ts w → Finds w.commits (find_in w)
 finds ts w inv id v e =
     let f = verdict_found id w.verdicts v e in let k = inv.voted v f.0 in
-    (k.is, record { row = k.row; stands = k.stands; id_is = k.id_is; stamp_is = k.stamp_is })
+    record { row = k.row; stands = k.stands; id_is = k.id_is; stamp_is = k.stamp_is }
 
 -- ---- the core keeps all, and its tickets stay, where no ticket is given
 
@@ -191,12 +193,12 @@ pub record Room (w : World) (c : ℕ) (t : Topic) : Type 0 where
   pub apart : is_pending (flight_at w c).txn.id (topic_at w t).pending ≡ false
   pub limit : let x = topic_at w t in length x.pending + length x.held < x.log_limit
 
-room_of : (w : World) (c : ℕ) (t : Topic) → propose_fault (speaker w c).floor (part_at t (flight_at w c).txn) (topic_at w t) ≡ None → Room w c t
+room_of : (w : World) (c : ℕ) (t : Topic) → propose_fault (speaker w c).floor (part_at (flight_at w c).txn.id (flight_at w c).txn.sends t) (topic_at w t) ≡ None → Room w c t
 room_of w c t e =
-    let p = passes (propose_checks (speaker w c).floor (part_at t (flight_at w c).txn) (topic_at w t)) e in
+    let p = passes (propose_checks (speaker w c).floor (part_at (flight_at w c).txn.id (flight_at w c).txn.sends t) (topic_at w t)) e in
     record { apart = p.0; limit = ltb-true (length (topic_at w t).pending + length (topic_at w t).held) (topic_at w t).log_limit (false_not _ p.1.1.0) }
 
-pub no_fault : (w : World) (c : ℕ) (t : Topic) (memory : Bool) (o : Option ProposeFault) → propose_fault (speaker w c).floor (part_at t (flight_at w c).txn) (topic_at w t) ≡ o → or_no_memory memory o ≡ None → Room w c t
+pub no_fault : (w : World) (c : ℕ) (t : Topic) (memory : Bool) (o : Option ProposeFault) → propose_fault (speaker w c).floor (part_at (flight_at w c).txn.id (flight_at w c).txn.sends t) (topic_at w t) ≡ o → or_no_memory memory o ≡ None → Room w c t
 no_fault w c t memory None e k = room_of w c t e
 no_fault w c t memory (Some fault) e k = none_some fault (sym k)
 
@@ -226,7 +228,7 @@ new_ticket w c t a r = record {
 proposed_case : (past : List Outcome) (w : World) (c : ℕ) (t : Topic) (memory : Bool) → Reached past w → Asks w c t → (o : Option ProposeFault) → proposal_fault w c t memory ≡ o → Reached (propose_answer w c t o ∷ past) (proposed_by w c t o)
 proposed_case past w c t memory h a None e =
     let s = (connection_at w c).sender in let f = flight_at w c in
-    let new = new_ticket w c t a (no_fault w c t memory (propose_fault (speaker w c).floor (part_at t f.txn) (topic_at w t)) refl e) in record {
+    let new = new_ticket w c t a (no_fault w c t memory (propose_fault (speaker w c).floor (part_at f.txn.id f.txn.sends t) (topic_at w t)) refl e) in record {
       inv = subst (λ (z : Transaction). Holds (row z (next_ticket w c t) ∷ tickets past) (proposed_by w c t None)) (sym (h.flights s f new.flight)) (enter_step (tickets past) w s t f h.inv new);
       flights = flights_fewer past w.senders _ (one_same w.senders s _ f _ new.flight refl refl) h.flights;
       commits = h.commits;
@@ -274,14 +276,13 @@ no_learn_fault : (o : Option LearnFault) → learn_refusal o ≡ None → o ≡ 
 no_learn_fault None e = refl
 no_learn_fault (Some fault) e = none_some _ (sym e)
 
-learned_case : (past : List Outcome) (w : World) (t : Topic) (id : TxnId) → Reached past w → (o : Option Verdict) → find_verdict id w.verdicts ≡ o → learning w t id o ≡ None → Holds (tickets past) (learned_at w t id o)
+learned_case : (past : List Outcome) (w : World) (t : Topic) (id : TxnId) → Reached past w → (o : Option Decision) → find_verdict id w.verdicts ≡ o → learning w t id o ≡ None → Holds (tickets past) (learned_at w t id o)
 learned_case past w t id h None f e = none_some _ (sym e)
 learned_case past w t id h (Some v) f e =
-    let g = finds (tickets past) w h.inv id v f in
-    topic_step (tickets past) w t (learned id v.stamp (topic_at w t)) h.inv
-    (Keeps-learned (tickets past) w.commits t (topic_at w t) id v (h.inv.tied t) g.0 (no_learn_fault _ e) g.1)
+    topic_step (tickets past) w t (learned id (decided_stamp v) (topic_at w t)) h.inv
+    (Keeps-learned (tickets past) w.commits t (topic_at w t) id v (h.inv.tied t) (no_learn_fault _ e) (finds (tickets past) w h.inv id v f))
 
-learned_same : (w : World) (t : Topic) (id : TxnId) (o : Option Verdict) → ((learned_at w t id o).senders ≡ w.senders) × ((learned_at w t id o).commits ≡ w.commits)
+learned_same : (w : World) (t : Topic) (id : TxnId) (o : Option Decision) → ((learned_at w t id o).senders ≡ w.senders) × ((learned_at w t id o).commits ≡ w.commits)
 learned_same w t id None = (refl, refl)
 learned_same w t id (Some v) = (refl, refl)
 
@@ -312,6 +313,10 @@ left_reached : (past : List Outcome) (w : World) (c : ℕ) (o : Option ℕ) → 
 left_reached past w c None h = record { inv = h.inv; flights = h.flights; commits = h.commits }
 left_reached past w c (Some s) h = unspoken past (closed_subscription w s) _ refl (λ id. refl) refl (closed_reached past w s h)
 
+released_unspoken : (past : List Outcome) (w : World) (t : Topic) (o : Option Pending) → Reached past w → Reached (release_answer t o ∷ past) w
+released_unspoken past w t None h = record { inv = h.inv; flights = h.flights; commits = h.commits }
+released_unspoken past w t (Some p) h = record { inv = h.inv; flights = h.flights; commits = h.commits }
+
 handed_reached : (past : List Outcome) (w : World) (s : ℕ) (o : Option Item) → Reached past w → Reached (take_answer w s o ∷ past) (handed w s o)
 handed_reached past w s None h = record { inv = h.inv; flights = h.flights; commits = h.commits }
 handed_reached past w s (Some item) h = record { inv = take_step (tickets past) w s h.inv; flights = h.flights; commits = h.commits }
@@ -341,12 +346,12 @@ happens_reached past w (Decides c) h e = decided_reached past w c h e
 happens_reached past w (Withdraws c) h e = withdrawn_reached past w c h e
 happens_reached past w (Cancels c t) h e = cancelled_case past w c t h (find_leftover t (speaker w c).leftovers) refl
 happens_reached past w (Learns t id) h e = unspoken past (effect w (Learns t id)) _ refl (λ id. refl) refl (learned_reached past w t id h e)
-happens_reached past w (Releases t) h e = record {
+happens_reached past w (Releases t) h e = released_unspoken past (effect w (Releases t)) t (due_part (topic_at w t)) (record {
   inv = topic_step (tickets past) w t (release (takes w) (topic_at w t)) h.inv
       (Keeps-release (tickets past) w.commits t (takes w) (topic_at w t) h.inv.consistent (h.inv.tied t));
   flights = h.flights;
   commits = h.commits;
-}
+})
 happens_reached past w (Turns t) h e = record {
   inv = topic_step (tickets past) w t (turned (takes w) (find_in w) (topic_at w t)) h.inv
       (Keeps-turned (tickets past) w.commits t (takes w) (find_in w) (topic_at w t) h.inv.consistent (finds (tickets past) w h.inv) (h.inv.tied t));

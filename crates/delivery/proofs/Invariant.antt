@@ -1,19 +1,20 @@
 -- What every world that a run leads to keeps.
 use Rattle.std.proofs.Common.{◌≡◌, ◌≢◌, ℕ, ◌<◌, ◌≤◌, true, false, ◌⊎◌, List, [], ◌∷◌, length, get_or, Some, None}
 use Rattle.mcast_txn.specs.Stamp.{stamp_lt, zero_stamp}
+use Rattle.mcast_txn.specs.Part.{part_at}
 use Rattle.mcast_txn.specs.Transaction.{TopicPart, topics_of}
 use Rattle.mcast_txn.specs.Agreed.{Transaction, Row, same_id, In, names, stamp_of}
+use Rattle.mcast_txn.specs.Ballot.{Decision}
 use Rattle.mcast_txn.specs.declared.id.Topic.{Topic}
 use Rattle.mcast_txn.specs.declared.id.TxnId.{TxnId}
 use Rattle.mcast_txn.specs.declared.stamp.Stamp.{Stamp}
 use Rattle.mcast_txn.proofs.Sorting.{Apart}
 use Rattle.mcast_group.specs.Span.{LogRow, Item}
 use Rattle.mcast_group.specs.Sound.{IsSound, IsQueueOf}
-use Rattle.mcast_group.specs.Topics.{TopicState, Pending, Entry, Ended, Verdict, IsVerdict, new_topic}
+use Rattle.mcast_group.specs.Topics.{TopicState, Pending, Entry, Ended, HasOneRowEach, new_topic, decided_stamp}
 use Rattle.mcast_group.proofs.Parts.{Waits}
 use Rattle.delivery.specs.Due.{log_row, item_at}
 use Rattle.delivery.specs.World.{World, Flight, Leftover, SenderState, Subscription, new_sender, no_subscription}
-use Rattle.delivery.specs.Events.{part_at}
 
 -- a row: a transaction with a stamp, which is its ticket or, in the commit list, its own
 abbrev pub row : Transaction → Stamp → Row
@@ -39,7 +40,7 @@ Uncommitted cs id = (r : Row) → In r cs → same_id r.txn.id id ≡ true → P
 pub record Ticketed (ts : List Row) (part : TopicPart) (n : ℕ) : Type 0 where
   pub ticket : Row
   pub stands : In ticket ts
-  pub part_is : part_at part.topic ticket.txn ≡ part
+  pub part_is : part_at ticket.txn.id ticket.txn.sends part.topic ≡ part
   pub stamp_is : ticket.stamp ≡ record { n = n; topic = part.topic }
   pub named : names part.topic (topics_of ticket.txn.sends) ≡ true
 
@@ -122,16 +123,16 @@ sender_in senders s = get_or senders s new_sender
 
 -- ---- verdicts
 
-pub record Voted (ts cs : List Row) (v : Verdict) : Type 0 where
+pub record Voted (ts cs : List Row) (v : Decision) : Type 0 where
   pub row : Row
   pub stands : In row cs
   pub id_is : row.txn.id ≡ v.id
-  pub stamp_is : row.stamp ≡ v.stamp
-  pub is : IsVerdict v
+  pub stamp_is : row.stamp ≡ decided_stamp v
+  pub one_row : HasOneRowEach v
   pub all : (a : Row) → In a ts → a.txn ≡ row.txn → In a.stamp v.rows
 
-pub record HasVote (vs : List Verdict) (r : Row) : Type 0 where
-  pub verdict : Verdict
+pub record HasVote (vs : List Decision) (r : Row) : Type 0 where
+  pub verdict : Decision
   pub stands : In verdict vs
   pub id_is : verdict.id ≡ r.txn.id
 
@@ -167,11 +168,11 @@ pub record Subscribes (cs : List Row) (topics : List TopicState) (subs : List Su
 
 -- ---- all together
 
-pub record Inv (ts cs : List Row) (vs : List Verdict) (topics : List TopicState) (senders : List SenderState) (subs : List Subscription) : Type 0 where
+pub record Inv (ts cs : List Row) (vs : List Decision) (topics : List TopicState) (senders : List SenderState) (subs : List Subscription) : Type 0 where
   pub consistent : Consistent ts cs
   pub tied : (t : Topic) → Tied ts cs t (topic_in topics t)
   pub serves : (s : ℕ) → Serves ts cs topics s (sender_in senders s)
-  pub voted : (v : Verdict) → In v vs → Voted ts cs v
+  pub voted : (v : Decision) → In v vs → Voted ts cs v
   pub counted : (r : Row) → In r cs → HasVote vs r
   pub subscribes : Subscribes cs topics subs
 

@@ -1,7 +1,9 @@
 -- What a step at one topic keeps.
 use Rattle.std.proofs.Common.{◌≡◌, ℕ, ◌<◌, ◌≤◌, Bool, true, inl, inr, List, [], ◌∷◌, ◌++◌, map, set, Option, Some, None, refl, sym, ap, subst, ◌∙◌, arith}
+use Rattle.mcast_txn.specs.Part.{part_at}
 use Rattle.mcast_txn.specs.Transaction.{TopicPart, topics_of}
 use Rattle.mcast_txn.specs.Agreed.{Transaction, Row, In, names}
+use Rattle.mcast_txn.specs.Ballot.{Decision}
 use Rattle.mcast_txn.specs.declared.id.Topic.{Topic}
 use Rattle.mcast_txn.specs.declared.id.TxnId.{TxnId}
 use Rattle.mcast_txn.specs.declared.stamp.Stamp.{Stamp}
@@ -9,14 +11,13 @@ use Rattle.mcast_txn.proofs.Orders.{same_stamps, id_equal, id_same}
 use Rattle.mcast_txn.proofs.Members.{In-append_left, In-push, In-map, In-map_cases, at_set, push_one}
 use Rattle.mcast_group.specs.Span.{LogRow, Item}
 use Rattle.mcast_group.specs.Sound.{IsQueueOf}
-use Rattle.mcast_group.specs.Topics.{TopicState, Pending, Entry, Verdict, IsVerdict, new_topic, key, learned, learn_fault, without, delivered, released, release, row_of, item_of, turned}
+use Rattle.mcast_group.specs.Topics.{TopicState, Pending, Entry, new_topic, key, learned, learn_fault, without, delivered, released, release, row_of, item_of, turned, decided_stamp}
 use Rattle.mcast_group.proofs.Parts.{Waits, Waits-told, Waits-without, each_told, Due, due_is, others, some_same}
 use Rattle.mcast_group.proofs.Queues.{Queue-closed, delivered_number, delivered_from, In-delivered_cases, More, More-same, More-then, More-delivered}
 use Rattle.mcast_group.proofs.Keeping.{Learns, learns_is, Sound-learned, Sound-released, next_of}
 use Rattle.mcast_group.proofs.Turning.{release_keeps, turn_keeps}
 use Rattle.delivery.specs.Due.{log_row, item_at}
 use Rattle.delivery.specs.World.{World, Flight, SenderState, Subscription}
-use Rattle.delivery.specs.Events.{part_at}
 use Rattle.delivery.proofs.Invariant.{row, Consistent, Uncommitted, Ticketed, Committed, Logged, Tied, topic_in, Flies, Serves, sender_in, sub_in, HasEntry, Owned, IsClosed, Subscribes, Inv, Holds}
 
 -- ---- the commit list and the tickets
@@ -63,13 +64,13 @@ part_row ts cs p s all t e c =
     let ids : a.id ≡ c.row.txn.id = ap (λ (z : TopicPart). z.id) t.part_is ∙ sym c.id_is in
     let txn : a ≡ c.row.txn = all.one_id t.ticket c.row t.stands (all.from_ticket c.row c.stands) (id_same a.id c.row.txn.id ids) in
     let k : c.row.stamp ≡ key p = c.stamp_is ∙ sym (key_learnt p s e) in
-    let part : part_at p.part.topic c.row.txn ≡ p.part = ap (part_at p.part.topic) (sym txn) ∙ t.part_is in
+    let part : part_at c.row.txn.id c.row.txn.sends p.part.topic ≡ p.part = ap (λ (z : Transaction). part_at z.id z.sends p.part.topic) (sym txn) ∙ t.part_is in
     record {
       row = c.row;
       stands = c.stands;
       id_is = c.id_is;
       log_is = ap (log_of c.row.txn) k ∙ ap (λ (z : TopicPart). log_of_part z (key p)) part;
-      item_is = ap (item_of_part (part_at p.part.topic c.row.txn)) k ∙ ap (λ (z : TopicPart). item_of_part z (key p)) part;
+      item_is = ap (item_of_part (part_at c.row.txn.id c.row.txn.sends p.part.topic)) k ∙ ap (λ (z : TopicPart). item_of_part z (key p)) part;
       named = subst (λ (z : Transaction). names p.part.topic (topics_of z.sends) ≡ true) txn t.named;
     }
 
@@ -134,30 +135,30 @@ Keeps-then ts cs t x y z a b = record {
   queues = λ from end accepted q. b.queues from end accepted (a.queues from end accepted q);
 }
 
-pub Tied-learned : (ts cs : List Row) (t : Topic) (x : TopicState) (id : TxnId) (v : Verdict) → Tied ts cs t x → IsVerdict v → Learns id v x → Committed cs v.id v.stamp → Tied ts cs t (learned id v.stamp x)
-Tied-learned ts cs t x id v h is l c = record {
+pub Tied-learned : (ts cs : List Row) (t : Topic) (x : TopicState) (id : TxnId) (v : Decision) → Tied ts cs t x → Learns id v x → Committed cs v.id (decided_stamp v) → Tied ts cs t (learned id (decided_stamp v) x)
+Tied-learned ts cs t x id v h l c = record {
   topic = h.topic;
   given = λ a k e. let m : a.stamp.n ≤ x.clock = h.given a k e in omega arith;
-  ticketed = each_told id v.stamp x.pending (λ q. Ticketed ts q.part q.ticket) (λ p k e. h.ticketed p k) (λ p k e. h.ticketed p k);
-  decided = each_told id v.stamp x.pending (λ q. (s : Stamp) → q.learnt ≡ Some s → Committed cs q.part.id s) (λ p k e. h.decided p k)
+  ticketed = each_told id (decided_stamp v) x.pending (λ q. Ticketed ts q.part q.ticket) (λ p k e. h.ticketed p k) (λ p k e. h.ticketed p k);
+  decided = each_told id (decided_stamp v) x.pending (λ q. (s : Stamp) → q.learnt ≡ Some s → Committed cs q.part.id s) (λ p k e. h.decided p k)
       (λ p k e s d. record {
         row = c.row;
         stands = c.stands;
         id_is = c.id_is ∙ (l.verdict ∙ sym (id_equal p.part.id id e));
-        stamp_is = c.stamp_is ∙ some_same v.stamp s d;
+        stamp_is = c.stamp_is ∙ some_same (decided_stamp v) s d;
       });
   logged = h.logged;
-  placed = λ q k e. elim (h.placed q k e) [ inl i ↦ inl i | inr w ↦ inr (Waits-told id v.stamp q.txn.id x.pending w) ];
+  placed = λ q k e. elim (h.placed q k e) [ inl i ↦ inl i | inr w ↦ inr (Waits-told id (decided_stamp v) q.txn.id x.pending w) ];
   items = h.items;
   undrained = h.undrained;
-  sound = Sound-learned id v x h.sound is l;
+  sound = Sound-learned id v x h.sound l;
 }
 
-pub Keeps-learned : (ts cs : List Row) (t : Topic) (x : TopicState) (id : TxnId) (v : Verdict) → Tied ts cs t x → IsVerdict v → learn_fault id v x ≡ None → Committed cs v.id v.stamp → Keeps ts cs t x (learned id v.stamp x)
-Keeps-learned ts cs t x id v h is e c = record {
-  tied = Tied-learned ts cs t x id v h is (learns_is id v x e) c;
-  waits = λ other u w. Waits-told id v.stamp other x.pending w;
-  entries = Entries-same x (learned id v.stamp x) refl;
+pub Keeps-learned : (ts cs : List Row) (t : Topic) (x : TopicState) (id : TxnId) (v : Decision) → Tied ts cs t x → learn_fault id v x ≡ None → Committed cs v.id (decided_stamp v) → Keeps ts cs t x (learned id (decided_stamp v) x)
+Keeps-learned ts cs t x id v h e c = record {
+  tied = Tied-learned ts cs t x id v h (learns_is id v x e) c;
+  waits = λ other u w. Waits-told id (decided_stamp v) other x.pending w;
+  entries = Entries-same x (learned id (decided_stamp v) x) refl;
   queues = λ from end accepted q. q;
 }
 
@@ -218,14 +219,13 @@ Keeps-release ts cs t takes x all h =
     release_keeps (Keeps ts cs t x) takes x (Keeps-same ts cs t x h) (λ p e. Keeps-released ts cs t x takes p all h (due_is x p e))
 
 -- what is found is a verdict of the commit list
-abbrev pub Finds : List Row → (TxnId → Option Verdict) → Type 0
-Finds cs find = (id : TxnId) (v : Verdict) → find id ≡ Some v → IsVerdict v × Committed cs v.id v.stamp
+abbrev pub Finds : List Row → (TxnId → Option Decision) → Type 0
+Finds cs find = (id : TxnId) (v : Decision) → find id ≡ Some v → Committed cs v.id (decided_stamp v)
 
-pub Keeps-turned : (ts cs : List Row) (t : Topic) (takes : Entry → Bool) (find : TxnId → Option Verdict) (x : TopicState) → Consistent ts cs → Finds cs find → Tied ts cs t x → Keeps ts cs t x (turned takes find x)
+pub Keeps-turned : (ts cs : List Row) (t : Topic) (takes : Entry → Bool) (find : TxnId → Option Decision) (x : TopicState) → Consistent ts cs → Finds cs find → Tied ts cs t x → Keeps ts cs t x (turned takes find x)
 Keeps-turned ts cs t takes find x all finds h =
     turn_keeps (Keeps ts cs t x) takes find
-    (λ y id v f e k. let g = finds id v f in
-    Keeps-then ts cs t x y (learned id v.stamp y) k (Keeps-learned ts cs t y id v k.tied g.0 e g.1))
+    (λ y id v f e k. Keeps-then ts cs t x y (learned id (decided_stamp v) y) k (Keeps-learned ts cs t y id v k.tied e (finds id v f)))
     (λ y p e k. Keeps-then ts cs t x y (released takes p y) k (Keeps-released ts cs t y takes p all k.tied (due_is y p e)))
     x (Keeps-same ts cs t x h)
 

@@ -1,6 +1,8 @@
 -- Where a span gets its end.
 use Rattle.std.proofs.Common.{◌≡◌, ◌≢◌, ℕ, ◌+◌, ◌<◌, ◌≤◌, ◌⊎◌, inl, inr, List, [], ◌∷◌, ◌++◌, length, Option, Some, None, refl, sym, ap, subst, ◌∙◌, arith}
 use Rattle.std.proofs.lemmas.Bool.{cases_order}
+use Rattle.mcast_txn.specs.Part.{part_at}
+use Rattle.mcast_txn.specs.Ballot.{Decision}
 use Rattle.mcast_txn.specs.declared.id.Topic.{Topic}
 use Rattle.mcast_txn.specs.declared.id.TxnId.{TxnId}
 use Rattle.mcast_txn.specs.declared.send.Send.{Send}
@@ -8,11 +10,11 @@ use Rattle.mcast_txn.specs.declared.stamp.Stamp.{Stamp}
 use Rattle.mcast_txn.proofs.Members.{at_set, at_set_within}
 use Rattle.mcast_group.specs.declared.fault.ProposeFault.{ProposeFault}
 use Rattle.mcast_group.specs.Span.{Item}
-use Rattle.mcast_group.specs.Topics.{TopicState, Entry, Verdict, find_entry, ended, proposed, cancelled, learned, unsubscribed}
+use Rattle.mcast_group.specs.Topics.{TopicState, Entry, find_entry, ended, proposed, cancelled, learned, unsubscribed, decided_stamp}
 use Rattle.mcast_group.proofs.Parts.{some_same, none_some}
 use Rattle.delivery.specs.World.{World, Leftover, Subscription, no_subscription, topic_at, speaker, subscription_at, entry_at, with_topic}
 use Rattle.delivery.specs.Reading.{accepted_at, end_at}
-use Rattle.delivery.specs.Events.{Event, Outcome, happens, outcome, refusal, effect, answer, find_leftover, find_verdict, oldest_live, flown, proposal_fault, proposed_by, cancelled_at, learned_at, handed, part_at, flight_at, left_by, leave_answer, closed_subscription, closed_with, end_now}
+use Rattle.delivery.specs.Events.{Event, Outcome, happens, outcome, refusal, effect, answer, find_leftover, find_verdict, oldest_live, flown, proposal_fault, proposed_by, cancelled_at, learned_at, handed, flight_at, left_by, leave_answer, closed_subscription, closed_with, end_now}
 use Rattle.delivery.specs.Events.Event.{Topic_added, Opened, Commits, Subscribes, Unsubscribes, Disconnects, Errs, Lost, Leaves, Proposes, Decides, Withdraws, Cancels, Learns, Releases, Turns, Takes}
 use Rattle.delivery.specs.Events.Outcome.{Unsubscribed}
 use Rattle.delivery.specs.Runs.{handed_of}
@@ -52,16 +54,16 @@ flown_ends w c [] s end new = same_topics w s end new
 flown_ends w c (first ∷ others) s end new = same_topics w s end new
 
 proposed_ends : (w : World) (c : ℕ) (t : Topic) (o : Option ProposeFault) (s : ℕ) (end : Stamp) → New w s end (proposed_by w c t o) → Prim.⊥
-proposed_ends w c t None s end new = same_ends w t (proposed (speaker w c).floor (part_at t (flight_at w c).txn) (topic_at w t)) s end refl new
+proposed_ends w c t None s end new = same_ends w t (proposed (speaker w c).floor (part_at (flight_at w c).txn.id (flight_at w c).txn.sends t) (topic_at w t)) s end refl new
 proposed_ends w c t (Some fault) s end new = same_topics w s end new
 
 cancelled_ends : (w : World) (c : ℕ) (t : Topic) (o : Option Leftover) (s : ℕ) (end : Stamp) → New w s end (cancelled_at w c t o) → Prim.⊥
 cancelled_ends w c t None s end new = same_topics w s end new
 cancelled_ends w c t (Some k) s end new = same_ends w t (cancelled k.id (topic_at w t)) s end refl new
 
-learned_ends : (w : World) (t : Topic) (id : TxnId) (o : Option Verdict) (s : ℕ) (end : Stamp) → New w s end (learned_at w t id o) → Prim.⊥
+learned_ends : (w : World) (t : Topic) (id : TxnId) (o : Option Decision) (s : ℕ) (end : Stamp) → New w s end (learned_at w t id o) → Prim.⊥
 learned_ends w t id None s end new = same_topics w s end new
-learned_ends w t id (Some v) s end new = same_ends w t (learned id v.stamp (topic_at w t)) s end refl new
+learned_ends w t id (Some v) s end new = same_ends w t (learned id (decided_stamp v) (topic_at w t)) s end refl new
 
 handed_ends : (w : World) (q : ℕ) (o : Option Item) (s : ℕ) (end : Stamp) → New w s end (handed w q o) → Prim.⊥
 handed_ends w q None s end new = same_topics w s end new

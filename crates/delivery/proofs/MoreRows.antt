@@ -12,9 +12,9 @@ use Rattle.delivery.proofs.Rows.{topic, stamp, id, send, part, flying, handed, w
 -- a queue of two items and three rows: the third take is answered by ERROR
 lags_told : told lags
     ≡ Done ∷ Done ∷ Subscribed 0 1 (topic 0) (stamp 0 0)
-    ∷ flying (id 0 1) (send 0 1 ∷ []) ∷ Ticket (id 0 1) (stamp 1 0) ∷ Decided (id 0 1) (stamp 1 0) ∷ Turned (topic 0)
-    ∷ flying (id 0 2) (send 0 2 ∷ []) ∷ Ticket (id 0 2) (stamp 2 0) ∷ Decided (id 0 2) (stamp 2 0) ∷ Turned (topic 0)
-    ∷ flying (id 0 3) (send 0 3 ∷ []) ∷ Ticket (id 0 3) (stamp 3 0) ∷ Decided (id 0 3) (stamp 3 0) ∷ Turned (topic 0)
+    ∷ flying (id 0 1) (send 0 1 ∷ []) ∷ Ticket (id 0 1) (stamp 1 0) ∷ Decided (id 0 1) (stamp 1 0) ∷ Turned (topic 0) 1
+    ∷ flying (id 0 2) (send 0 2 ∷ []) ∷ Ticket (id 0 2) (stamp 2 0) ∷ Decided (id 0 2) (stamp 2 0) ∷ Turned (topic 0) 1
+    ∷ flying (id 0 3) (send 0 3 ∷ []) ∷ Ticket (id 0 3) (stamp 3 0) ∷ Decided (id 0 3) (stamp 3 0) ∷ Turned (topic 0) 1
     ∷ handed 0 (id 0 1) (stamp 1 0) (part 0 1 ∷ []) ∷ handed 0 (id 0 2) (stamp 2 0) (part 0 2 ∷ []) ∷ Error 1 ∷ Refused Refusal.Gone ∷ []
 lags_told = refl
 
@@ -25,7 +25,7 @@ leaves = with_clocks (0 ∷ []) (
 
 leaves_told : told leaves
     ≡ Done ∷ Subscribed 0 0 (topic 0) (stamp 0 0)
-    ∷ flying (id 0 1) (send 0 1 ∷ []) ∷ Ticket (id 0 1) (stamp 1 0) ∷ Decided (id 0 1) (stamp 1 0) ∷ Turned (topic 0)
+    ∷ flying (id 0 1) (send 0 1 ∷ []) ∷ Ticket (id 0 1) (stamp 1 0) ∷ Decided (id 0 1) (stamp 1 0) ∷ Turned (topic 0) 1
     ∷ Leaving 0 ∷ Refused Refusal.Gone ∷ Unsubscribed 0 (stamp 1 0) ∷ Gone 0 ∷ Refused Refusal.Gone ∷ []
 leaves_told = refl
 

@@ -1,11 +1,12 @@
 -- How a topic's step moves the end and the queue of its subscriptions.
 use Rattle.std.proofs.Common.{◌≡◌, ℕ, zero, suc, ◌+◌, ◌-◌, ◌<◌, ◌≤◌, ◌==◌, Bool, true, false, cond, List, [], ◌∷◌, ◌++◌, map, length, Option, Some, None, refl, sym, ap, subst, ◌∙◌, arith}
 use Rattle.std.proofs.lemmas.Bool.{eqb-true, ltb-true, true≢false, lt-ltb}
+use Rattle.mcast_txn.specs.Ballot.{Decision}
 use Rattle.mcast_txn.specs.declared.id.TxnId.{TxnId}
 use Rattle.mcast_txn.specs.declared.stamp.Stamp.{Stamp}
 use Rattle.mcast_group.specs.declared.fault.LearnFault.{LearnFault}
 use Rattle.mcast_group.specs.Span.{Item}
-use Rattle.mcast_group.specs.Topics.{TopicState, Pending, Entry, Verdict, find_entry, delivered, due_part, released_if, release, learn_fault, learned, tried, tried_all, released_times, turned, item_of}
+use Rattle.mcast_group.specs.Topics.{TopicState, Pending, Entry, find_entry, delivered, due_part, released_if, release, learn_fault, learned, tried, tried_all, released_times, turned, item_of, decided_stamp}
 use Rattle.mcast_group.proofs.Parts.{none_some}
 use Rattle.delivery.specs.World.{World, subscription_at}
 use Rattle.delivery.specs.Reading.{entry_items, entry_to}
@@ -137,15 +138,15 @@ times_go w zero x = Goes-same w x x refl
 times_go w (suc k) x =
     Goes-then w x (release (takes w) x) (released_times (takes w) k (release (takes w) x)) (release_goes w x) (times_go w k (release (takes w) x))
 
-tried_case : (id : TxnId) (v : Verdict) (x : TopicState) (o : Option LearnFault) → let y : TopicState = elim o [ None ↦ learned id v.stamp x | Some fault ↦ x ] in y.subscriptions ≡ x.subscriptions
+tried_case : (id : TxnId) (v : Decision) (x : TopicState) (o : Option LearnFault) → let y : TopicState = elim o [ None ↦ learned id (decided_stamp v) x | Some fault ↦ x ] in y.subscriptions ≡ x.subscriptions
 tried_case id v x None = refl
 tried_case id v x (Some fault) = refl
 
-tried_subscriptions : (id : TxnId) (o : Option Verdict) (x : TopicState) → (tried id o x).subscriptions ≡ x.subscriptions
+tried_subscriptions : (id : TxnId) (o : Option Decision) (x : TopicState) → (tried id o x).subscriptions ≡ x.subscriptions
 tried_subscriptions id None x = refl
 tried_subscriptions id (Some v) x = tried_case id v x (learn_fault id v x)
 
-all_tried : (find : TxnId → Option Verdict) (ps : List Pending) (x : TopicState) → (tried_all find ps x).subscriptions ≡ x.subscriptions
+all_tried : (find : TxnId → Option Decision) (ps : List Pending) (x : TopicState) → (tried_all find ps x).subscriptions ≡ x.subscriptions
 all_tried find [] x = refl
 all_tried find (p ∷ ps) x = all_tried find ps (tried p.part.id (find p.part.id) x) ∙ tried_subscriptions p.part.id (find p.part.id) x
 

@@ -1,16 +1,17 @@
 -- The seq of each transaction counts its sender's.
 use Rattle.std.proofs.Common.{◌≡◌, ℕ, ◌+◌, ◌<◌, ◌≤◌, ◌==◌, Bool, true, false, cond, List, [], ◌∷◌, ◌++◌, length, get_or, set, Option, Some, None, refl, sym, ap, subst, ◌∙◌, arith, ltb}
 use Rattle.std.proofs.lemmas.Bool.{eqb-true, eq-eqb, ltb-true}
+use Rattle.mcast_txn.specs.Ballot.{Decision}
 use Rattle.mcast_txn.specs.declared.id.Topic.{Topic}
 use Rattle.mcast_txn.specs.declared.id.TxnId.{TxnId}
 use Rattle.mcast_txn.specs.declared.send.Send.{Send}
 use Rattle.mcast_txn.proofs.Members.{at_set, at_set_within}
 use Rattle.mcast_group.specs.declared.fault.ProposeFault.{ProposeFault}
 use Rattle.mcast_group.specs.Span.{Item}
-use Rattle.mcast_group.specs.Topics.{Entry, Verdict}
+use Rattle.mcast_group.specs.Topics.{Pending, Entry, due_part}
 use Rattle.mcast_group.proofs.Parts.{not_true}
-use Rattle.delivery.specs.World.{World, Leftover, SenderState, Connection, Standing, new_sender, nobody, connection_at, speaker, subscription_at, entry_at, with_standing, start}
-use Rattle.delivery.specs.Events.{Event, Outcome, happens, outcome, refusal, effect, answer, find_leftover, find_verdict, oldest_live, next_txn, flown, flying_answer, proposal_fault, proposed_by, propose_answer, cancelled_at, cancel_answer, learned_at, handed, take_answer, left_by, leave_answer, closed_subscription, closed_with}
+use Rattle.delivery.specs.World.{World, Leftover, SenderState, Connection, Standing, new_sender, nobody, topic_at, connection_at, speaker, subscription_at, entry_at, with_standing, start}
+use Rattle.delivery.specs.Events.{Event, Outcome, happens, outcome, refusal, effect, answer, find_leftover, find_verdict, oldest_live, next_txn, flown, flying_answer, proposal_fault, proposed_by, propose_answer, cancelled_at, cancel_answer, learned_at, release_answer, handed, take_answer, left_by, leave_answer, closed_subscription, closed_with}
 use Rattle.delivery.specs.Events.Event.{Topic_added, Opened, Commits, Subscribes, Unsubscribes, Disconnects, Errs, Lost, Leaves, Proposes, Decides, Withdraws, Cancels, Learns, Releases, Turns, Takes}
 use Rattle.delivery.specs.Events.Outcome.{Refused, Done}
 use Rattle.delivery.specs.Runs.{run, outcomes, made_by, Numbered}
@@ -89,7 +90,7 @@ cancelled_numbering : (past : List Outcome) (w : World) (c : ℕ) (t : Topic) (o
 cancelled_numbering past w c t None h = told past w.senders w.connections Done (λ s. refl) (λ k. k) h
 cancelled_numbering past w c t (Some k) h = told past _ w.connections (cancel_answer t (Some k)) (λ s. refl) (λ n. n) (sender_kept past w.senders w.connections (connection_at w c).sender _ refl h)
 
-learned_same : (w : World) (t : Topic) (id : TxnId) (o : Option Verdict) → ((learned_at w t id o).senders ≡ w.senders) × ((learned_at w t id o).connections ≡ w.connections)
+learned_same : (w : World) (t : Topic) (id : TxnId) (o : Option Decision) → ((learned_at w t id o).senders ≡ w.senders) × ((learned_at w t id o).connections ≡ w.connections)
 learned_same w t id None = (refl, refl)
 learned_same w t id (Some v) = (refl, refl)
 
@@ -104,6 +105,10 @@ left_numbering : (past : List Outcome) (w : World) (c : ℕ) (o : Option ℕ) �
 left_numbering past w c None h = told past w.senders _ (leave_answer w c None) (λ s. refl) (λ k. k) (standing_kept past w c Standing.Gone w.senders h)
 left_numbering past w c (Some s) h =
     told past _ _ (leave_answer w c (Some s)) (λ n. refl) (λ k. k) (same_numbering past w (closed_subscription w s) (closed_same w s (entry_at w s)) h)
+
+released_numbering : (past : List Outcome) (w : World) (t : Topic) (o : Option Pending) → Numbering past w.senders w.connections → Numbering (release_answer t o ∷ past) w.senders w.connections
+released_numbering past w t None h = told past w.senders w.connections Done (λ s. refl) (λ k. k) h
+released_numbering past w t (Some p) h = told past w.senders w.connections (release_answer t (Some p)) (λ s. refl) (λ k. k) h
 
 handed_numbering : (past : List Outcome) (w : World) (s : ℕ) (o : Option Item) → Numbering past w.senders w.connections → Numbering (take_answer w s o ∷ past) (handed w s o).senders (handed w s o).connections
 handed_numbering past w s None h = told past w.senders _ (take_answer w s None) (λ n. refl) (λ k. k) (standing_kept past w (subscription_at w s).connection Standing.Leaving w.senders h)
@@ -140,7 +145,7 @@ happens_numbering past w (Withdraws c) h e =
     (standing_kept past w c Standing.Leaving _ (sender_kept past w.senders w.connections (connection_at w c).sender _ refl h))
 happens_numbering past w (Cancels c t) h e = cancelled_numbering past w c t (find_leftover t (speaker w c).leftovers) h
 happens_numbering past w (Learns t id) h e = told past _ _ (answer w (Learns t id)) (λ n. refl) (λ k. k) (same_numbering past w (effect w (Learns t id)) (learned_same w t id (find_verdict id w.verdicts)) h)
-happens_numbering past w (Releases t) h e = told past w.senders w.connections _ (λ s. refl) (λ k. k) h
+happens_numbering past w (Releases t) h e = released_numbering past w t (due_part (topic_at w t)) h
 happens_numbering past w (Turns t) h e = told past w.senders w.connections _ (λ s. refl) (λ k. k) h
 happens_numbering past w (Takes s) h e = handed_numbering past w s _ h
 

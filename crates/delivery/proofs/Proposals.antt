@@ -3,18 +3,20 @@ use Rattle.std.proofs.Common.{◌≡◌, ◌≢◌, ℕ, ◌+◌, ◌<◌, ◌�
 use Rattle.std.proofs.lemmas.Bool.{true≢false, eq-eqb, cases_lt}
 use Rattle.std.proofs.lemmas.List.{get_or_past}
 use Rattle.mcast_txn.specs.Stamp.{stamp_lt}
+use Rattle.mcast_txn.specs.Part.{part_at}
 use Rattle.mcast_txn.specs.Transaction.{TopicPart, topics_of}
 use Rattle.mcast_txn.specs.Agreed.{Transaction, Row, same_id, In, names}
+use Rattle.mcast_txn.specs.Ballot.{Decision}
 use Rattle.mcast_txn.specs.declared.id.Topic.{Topic}
 use Rattle.mcast_txn.specs.declared.id.TxnId.{TxnId}
 use Rattle.mcast_txn.specs.declared.stamp.Stamp.{Stamp}
 use Rattle.mcast_txn.proofs.Orders.{lt_by_number, id_equal, id_same, id_turned}
 use Rattle.mcast_txn.proofs.Members.{any_from, at_set_within}
-use Rattle.mcast_group.specs.Topics.{TopicState, Pending, Verdict, new_topic, is_pending, next_number, proposed}
+use Rattle.mcast_group.specs.Topics.{TopicState, Pending, new_topic, is_pending, next_number, proposed}
 use Rattle.mcast_group.proofs.Parts.{Waits, In-insert, insert_one, some_same, none_some}
 use Rattle.mcast_group.proofs.Keeping.{Sound-proposed}
 use Rattle.delivery.specs.World.{World, Flight, Leftover, SenderState, new_sender}
-use Rattle.delivery.specs.Events.{part_at, has_ticket, insert_ticket}
+use Rattle.delivery.specs.Events.{has_ticket, insert_ticket}
 use Rattle.delivery.proofs.Invariant.{row, Consistent, Uncommitted, Ticketed, Committed, Tied, topic_in, OneEach, Flies, IsLeft, Serves, sender_in, Voted, Inv, Holds}
 use Rattle.delivery.proofs.Keeping.{flies_uncommitted, Entries-same, same_topic, at_topic_from, Subscribes-topic}
 
@@ -88,7 +90,7 @@ abbrev pub heard : World → ℕ → Topic → Flight → Row
 heard w s t f = row f.txn (ticket w s t)
 
 abbrev pub topic_after : World → ℕ → Topic → Flight → TopicState
-topic_after w s t f = proposed (sender_in w.senders s).floor (part_at t f.txn) (topic_in w.topics t)
+topic_after w s t f = proposed (sender_in w.senders s).floor (part_at f.txn.id f.txn.sends t) (topic_in w.topics t)
 
 abbrev pub flight_after : World → ℕ → Topic → Flight → Flight
 flight_after w s t f = record f { given = insert_ticket (ticket w s t) f.given }
@@ -132,7 +134,7 @@ Ticketed-more ts a part n h = record { ticket = h.ticket; stands = inr h.stands;
 Tied-here : (ts : List Row) (w : World) (s : ℕ) (t : Topic) (f : Flight) → Holds ts w → New w s t f → Tied (heard w s t f ∷ ts) w.commits t (topic_after w s t f)
 Tied-here ts w s t f inv new =
     let x = topic_in w.topics t in let h = inv.tied t in let a = heard w s t f in
-    let p : Pending = record { part = part_at t f.txn; ticket = number w s t; learnt = None } in
+    let p : Pending = record { part = part_at f.txn.id f.txn.sends t; ticket = number w s t; learnt = None } in
     record {
       topic = h.topic;
       given = cons_one (λ (b : Row). b.stamp.topic ≡ t → b.stamp.n ≤ number w s t) ts a
@@ -146,7 +148,7 @@ Tied-here ts w s t f inv new =
       placed = λ r k e. elim (h.placed r k e) [ inl i ↦ inl i | inr v ↦ inr (record { part = v.part; stands = In-insert v.part p x.pending (inr v.stands); is = v.is }) ];
       items = h.items;
       undrained = h.undrained;
-      sound = Sound-proposed (sender_in w.senders s).floor (part_at t f.txn) x h.sound (sym h.topic) new.apart new.limit;
+      sound = Sound-proposed (sender_in w.senders s).floor (part_at f.txn.id f.txn.sends t) x h.sound (sym h.topic) new.apart new.limit;
     }
 
 -- another topic
@@ -206,7 +208,7 @@ Serves-here ts w s t f inv new =
             (λ b k i. waits_kept w s t f f.txn.id b.stamp.topic (g.waits b k i))
             (λ i. at_set_within (λ (z : TopicState). Waits f.txn.id z.pending) w.topics t.0 t.0 (topic_after w s t f) (new_topic t 0 0) new.room
             (λ j. record {
-              part = record { part = part_at t f.txn; ticket = number w s t; learnt = None };
+              part = record { part = part_at f.txn.id f.txn.sends t; ticket = number w s t; learnt = None };
               stands = In-insert _ _ (topic_in w.topics t).pending (inl refl);
               is = refl;
             })
@@ -256,13 +258,13 @@ Serves-there ts w s t f inv new d ne =
     apart : (y : Flight) → (sender_in w.senders d).flight ≡ Some y → f.txn.id ≡ y.txn.id → Prim.⊥
     apart y e i = ne (sym (one_flight ts w.commits w.topics s d _ _ _ _ f y (flies ts w s t f inv new) ((inv.serves d).flying y e) i))
 
-Voted-more : (ts cs : List Row) (v : Verdict) (a : Row) → Uncommitted cs a.txn.id → Voted ts cs v → Voted (a ∷ ts) cs v
+Voted-more : (ts cs : List Row) (v : Decision) (a : Row) → Uncommitted cs a.txn.id → Voted ts cs v → Voted (a ∷ ts) cs v
 Voted-more ts cs v a un h = record {
   row = h.row;
   stands = h.stands;
   id_is = h.id_is;
   stamp_is = h.stamp_is;
-  is = h.is;
+  one_row = h.one_row;
   all = cons_one (λ (b : Row). b.txn ≡ h.row.txn → In b.stamp v.rows) ts a h.all
       (λ e. absurd (un h.row h.stands (id_same h.row.txn.id a.txn.id (ap (λ (z : Transaction). z.id) (sym e)))));
 }

@@ -63,8 +63,8 @@ crossing_told : told crossing
     ≡ Done ∷ Subscribed 0 0 (topic 1) (stamp 0 0)
     ∷ flying (id 0 1) (send 0 1 ∷ send 1 1 ∷ []) ∷ Ticket (id 0 1) (stamp 10 0) ∷ Ticket (id 0 1) (stamp 1 1) ∷ Decided (id 0 1) (stamp 10 0)
     ∷ flying (id 0 2) (send 1 2 ∷ send 2 2 ∷ []) ∷ Ticket (id 0 2) (stamp 11 1) ∷ Ticket (id 0 2) (stamp 11 2) ∷ Decided (id 0 2) (stamp 11 2)
-    ∷ Turned (topic 1) ∷ handed 0 (id 0 1) (stamp 10 0) (part 1 1 ∷ []) ∷ handed 0 (id 0 2) (stamp 11 2) (part 0 2 ∷ [])
-    ∷ Refused Refusal.NothingDue ∷ Turned (topic 0) ∷ Turned (topic 2) ∷ []
+    ∷ Turned (topic 1) 2 ∷ handed 0 (id 0 1) (stamp 10 0) (part 1 1 ∷ []) ∷ handed 0 (id 0 2) (stamp 11 2) (part 0 2 ∷ [])
+    ∷ Refused Refusal.NothingDue ∷ Turned (topic 0) 1 ∷ Turned (topic 2) 1 ∷ []
 crossing_told = refl
 
 crossing_logs : log_of crossing 0 ∷ log_of crossing 1 ∷ log_of crossing 2 ∷ []
@@ -91,7 +91,7 @@ both_decided = four_tickets (Decides 0 ∷ Decides 1 ∷ Turns (topic 0) ∷ Tur
 four_tickets_told : told both_decided
     ≡ Done ∷ Done ∷ flying (id 0 1) to_both ∷ flying (id 1 1) to_both
     ∷ Ticket (id 0 1) (stamp 1 0) ∷ Ticket (id 1 1) (stamp 1 1) ∷ Ticket (id 1 1) (stamp 2 0) ∷ Ticket (id 0 1) (stamp 2 1)
-    ∷ Decided (id 0 1) (stamp 2 1) ∷ Decided (id 1 1) (stamp 2 0) ∷ Turned (topic 0) ∷ Turned (topic 1) ∷ []
+    ∷ Decided (id 0 1) (stamp 2 1) ∷ Decided (id 1 1) (stamp 2 0) ∷ Turned (topic 0) 2 ∷ Turned (topic 1) 2 ∷ []
 four_tickets_told = refl
 
 four_tickets_logs : log_of both_decided 0 ∷ log_of both_decided 1 ∷ []
@@ -109,7 +109,7 @@ one_decided = four_tickets (
 one_decided_told : told one_decided
     ≡ Done ∷ Done ∷ flying (id 0 1) to_both ∷ flying (id 1 1) to_both
     ∷ Ticket (id 0 1) (stamp 1 0) ∷ Ticket (id 1 1) (stamp 1 1) ∷ Ticket (id 1 1) (stamp 2 0) ∷ Ticket (id 0 1) (stamp 2 1)
-    ∷ Decided (id 1 1) (stamp 2 0) ∷ Turned (topic 0) ∷ Learnt (id 1 1) (topic 0) ∷ Refused Refusal.NothingDue ∷ Refused Refusal.NotDecided ∷ []
+    ∷ Decided (id 1 1) (stamp 2 0) ∷ Turned (topic 0) 0 ∷ Learnt (id 1 1) (topic 0) ∷ Refused Refusal.NothingDue ∷ Refused Refusal.NotDecided ∷ []
 one_decided_told = refl
 
 one_decided_log : log_of one_decided 0 ≡ []
@@ -126,7 +126,7 @@ three_sends = with_clocks (0 ∷ 0 ∷ []) (
 three_sends_told : told three_sends
     ≡ Done ∷ Subscribed 0 0 (topic 0) (stamp 0 0) ∷ Subscribed 1 0 (topic 1) (stamp 0 0) ∷ flying (id 0 1) (send 0 1 ∷ send 1 2 ∷ send 0 3 ∷ [])
     ∷ Ticket (id 0 1) (stamp 1 0) ∷ Refused Refusal.Twice ∷ Refused Refusal.Incomplete ∷ Ticket (id 0 1) (stamp 1 1) ∷ Decided (id 0 1) (stamp 1 1)
-    ∷ Turned (topic 0) ∷ Turned (topic 1)
+    ∷ Turned (topic 0) 1 ∷ Turned (topic 1) 1
     ∷ handed 0 (id 0 1) (stamp 1 1) (part 0 1 ∷ part 2 3 ∷ []) ∷ handed 1 (id 0 1) (stamp 1 1) (part 1 2 ∷ []) ∷ []
 three_sends_told = refl
 
@@ -139,9 +139,9 @@ ends = with_clocks (0 ∷ []) (
 
 ends_told : told ends
     ≡ Done ∷ Done ∷ flying (id 0 1) (send 0 1 ∷ []) ∷ Ticket (id 0 1) (stamp 1 0) ∷ Decided (id 0 1) (stamp 1 0)
-    ∷ Subscribed 0 1 (topic 0) (stamp 0 0) ∷ Turned (topic 0) ∷ handed 0 (id 0 1) (stamp 1 0) (part 0 1 ∷ [])
+    ∷ Subscribed 0 1 (topic 0) (stamp 0 0) ∷ Turned (topic 0) 1 ∷ handed 0 (id 0 1) (stamp 1 0) (part 0 1 ∷ [])
     ∷ flying (id 0 2) (send 0 2 ∷ []) ∷ Ticket (id 0 2) (stamp 2 0) ∷ Decided (id 0 2) (stamp 2 0)
-    ∷ Unsubscribed 0 (stamp 1 0) ∷ Turned (topic 0) ∷ Refused Refusal.Gone ∷ []
+    ∷ Unsubscribed 0 (stamp 1 0) ∷ Turned (topic 0) 1 ∷ Refused Refusal.Gone ∷ []
 ends_told = refl
 
 ends_span : span_at (after ends) 0 ≡ record { topic = topic 0; from = stamp 0 0; to = Some (stamp 1 0) }
@@ -185,11 +185,11 @@ full = with_clocks (18446744073709551614 ∷ 0 ∷ []) (
 
 full_told : told full
     ≡ Done ∷ Done ∷ Done ∷ flying (id 0 1) (send 0 1 ∷ []) ∷ Ticket (id 0 1) (stamp 18446744073709551615 0)
-    ∷ Decided (id 0 1) (stamp 18446744073709551615 0) ∷ Turned (topic 0)
+    ∷ Decided (id 0 1) (stamp 18446744073709551615 0) ∷ Turned (topic 0) 1
     ∷ flying (id 1 1) to_both ∷ Ticket (id 1 1) (stamp 1 1) ∷ flying (id 2 1) (send 1 2 ∷ []) ∷ Ticket (id 2 1) (stamp 2 1)
-    ∷ Decided (id 2 1) (stamp 2 1) ∷ Turned (topic 1)
-    ∷ Failed (id 1 1) ProposeFault.ClockFull ∷ Refused Refusal.Marked ∷ Withdrawn (id 1 1) 1 ∷ Turned (topic 1)
-    ∷ Cancelled (id 1 1) (topic 1) ∷ Refused Refusal.NotNamed ∷ Turned (topic 1) ∷ []
+    ∷ Decided (id 2 1) (stamp 2 1) ∷ Turned (topic 1) 0
+    ∷ Failed (id 1 1) ProposeFault.ClockFull ∷ Refused Refusal.Marked ∷ Withdrawn (id 1 1) 1 ∷ Turned (topic 1) 0
+    ∷ Cancelled (id 1 1) (topic 1) ∷ Refused Refusal.NotNamed ∷ Turned (topic 1) 1 ∷ []
 full_told = refl
 
 full_logs : log_of full 0 ∷ log_of full 1 ∷ [] ≡ (stamp 18446744073709551615 0 ∷ []) ∷ (stamp 2 1 ∷ []) ∷ []
@@ -204,5 +204,5 @@ lost = with_clocks (0 ∷ 0 ∷ []) (
 
 lost_told : told lost
     ≡ Done ∷ flying (id 0 1) to_both ∷ Ticket (id 0 1) (stamp 1 0) ∷ Leaving 0 ∷ Refused Refusal.Busy ∷ Refused Refusal.Busy
-    ∷ Ticket (id 0 1) (stamp 1 1) ∷ Decided (id 0 1) (stamp 1 1) ∷ Turned (topic 0) ∷ Turned (topic 1) ∷ Gone 0 ∷ Refused Refusal.Gone ∷ []
+    ∷ Ticket (id 0 1) (stamp 1 1) ∷ Decided (id 0 1) (stamp 1 1) ∷ Turned (topic 0) 1 ∷ Turned (topic 1) 1 ∷ Gone 0 ∷ Refused Refusal.Gone ∷ []
 lost_told = refl

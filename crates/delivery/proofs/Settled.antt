@@ -3,6 +3,7 @@ use Rattle.std.proofs.Common.{◌≡◌, ℕ, ◌<◌, ◌≤◌, Bool, true, fa
 use Rattle.std.proofs.lemmas.Bool.{true≢false}
 use Rattle.mcast_txn.specs.Transaction.{TopicPart, topics_of}
 use Rattle.mcast_txn.specs.Agreed.{Row, same_id, In, names}
+use Rattle.mcast_txn.specs.Ballot.{Decision}
 use Rattle.mcast_txn.specs.declared.id.Topic.{Topic}
 use Rattle.mcast_txn.specs.declared.id.TxnId.{TxnId}
 use Rattle.mcast_txn.specs.declared.send.Send.{Send}
@@ -11,16 +12,16 @@ use Rattle.mcast_txn.proofs.Orders.{id_equal, id_same, id_itself}
 use Rattle.mcast_txn.proofs.Members.{at_set, at_set_within, at_set_same}
 use Rattle.mcast_group.specs.declared.fault.ProposeFault.{ProposeFault}
 use Rattle.mcast_group.specs.Span.{Item}
-use Rattle.mcast_group.specs.Topics.{TopicState, Pending, Entry, Verdict, new_topic, learned, cancelled, turned}
+use Rattle.mcast_group.specs.Topics.{TopicState, Pending, Entry, decided_stamp, new_topic, learned, cancelled, due_part, turned, turn_count}
 use Rattle.mcast_group.proofs.Parts.{Waits, others, not_true, none_some}
 use Rattle.mcast_group.proofs.Turning.{turn_none}
 use Rattle.delivery.specs.declared.refusal.Refusal.{Refusal}
 use Rattle.delivery.specs.Due.{log_row}
 use Rattle.delivery.specs.World.{World, Flight, Leftover, SenderState, new_sender, topic_at, connection_at, speaker, subscription_at, entry_at, start, new_topics}
 use Rattle.delivery.specs.Reading.{log_at}
-use Rattle.delivery.specs.Events.{Event, Outcome, happens, outcome, refusal, effect, answer, flight_at, find_leftover, find_verdict, find_in, oldest_live, flown, flying_answer, proposal_fault, proposed_by, propose_answer, withdrawn, cancelled_at, cancel_answer, learned_at, takes, handed, take_answer, left_by, leave_answer, closed_subscription, closed_with}
+use Rattle.delivery.specs.Events.{Event, Outcome, happens, outcome, refusal, effect, answer, flight_at, find_leftover, find_verdict, find_in, oldest_live, flown, flying_answer, proposal_fault, proposed_by, propose_answer, withdrawn, cancelled_at, cancel_answer, learned_at, release_answer, takes, handed, take_answer, left_by, leave_answer, closed_subscription, closed_with}
 use Rattle.delivery.specs.Events.Event.{Topic_added, Opened, Commits, Subscribes, Unsubscribes, Disconnects, Errs, Lost, Leaves, Proposes, Decides, Withdraws, Cancels, Learns, Releases, Turns, Takes}
-use Rattle.delivery.specs.Events.Outcome.{Refused, Done, Subscribed, Unsubscribed, Leaving, Error, Gone, Failed, Decided, Learnt, Released, Turned, Handed}
+use Rattle.delivery.specs.Events.Outcome.{Refused, Done, Subscribed, Unsubscribed, Leaving, Error, Gone, Failed, Decided, Learnt, Handed}
 use Rattle.delivery.specs.Runs.{run, outcomes, commits_of}
 use Rattle.delivery.specs.Settled.{IsSettled, AllResolved}
 use Rattle.delivery.specs.Laws.{Run, came, after}
@@ -67,8 +68,9 @@ quiet_decided id stamp = record { flying = λ txn e. cc; tickets = λ past. refl
 quiet_learnt : (id : TxnId) (u : Topic) → Quiet (Learnt id u)
 quiet_learnt id u = record { flying = λ txn e. cc; tickets = λ past. refl; withdrawn = λ i d e. cc; cancelled = λ i t e. cc; settled = λ t past h. h }
 
-quiet_released : (u : Topic) → Quiet (Released u)
-quiet_released u = record { flying = λ txn e. cc; tickets = λ past. refl; withdrawn = λ i d e. cc; cancelled = λ i t e. cc; settled = λ t past h. h }
+quiet_released : (u : Topic) (o : Option Pending) → Quiet (release_answer u o)
+quiet_released u None = quiet_done
+quiet_released u (Some p) = record { flying = λ txn e. cc; tickets = λ past. refl; withdrawn = λ i d e. cc; cancelled = λ i t e. cc; settled = λ t past h. h }
 
 quiet_handed : (s : ℕ) (item : Item) → Quiet (Handed s item)
 quiet_handed s item = record { flying = λ txn e. cc; tickets = λ past. refl; withdrawn = λ i d e. cc; cancelled = λ i t e. cc; settled = λ t past h. h }
@@ -103,10 +105,10 @@ flights_still past w t h l all s f e = not_true (names t (topics_of f.txn.sends)
       | inr d ↦ true≢false (sym (id_itself f.txn.id) ∙ l.not_withdrawn s f f.txn.id d.0.0 e d.0.1)
     ])
 
-turn_settling : (past : List Outcome) (w : World) (t : Topic) → Reached past w → Settling past w.topics w.senders → Settling (Turned t ∷ past) (set w.topics t.0 (turned (takes w) (find_in w) (topic_at w t))) w.senders
+turn_settling : (past : List Outcome) (w : World) (t : Topic) → Reached past w → Settling past w.topics w.senders → Settling (answer w (Turns t) ∷ past) (set w.topics t.0 (turned (takes w) (find_in w) (topic_at w t))) w.senders
 turn_settling past w t h l =
     let y = turned (takes w) (find_in w) (topic_at w t) in
-    note_turned past (set w.topics t.0 y) w.senders t
+    note_turned past (set w.topics t.0 y) w.senders t (turn_count (takes w) (find_in w) (topic_at w t))
     (λ all. record {
       none = at_set_same (λ (z : TopicState). (p : Pending) → In p z.pending → Prim.⊥) w.topics t.0 y (new_topic t 0 0)
           (λ p i. subst (λ z. In p z) (turn_none (takes w) (find_in w) (topic_in w.topics t) (h.inv.tied t).sound
@@ -169,9 +171,9 @@ cancelled_settling past w c t h l (Some k) e =
         let a : k.id.seq < f.txn.id.seq = older i in
         let b : f.txn.id.seq ≡ k.id.seq = ap (λ (z : TxnId). z.seq) (id_equal f.txn.id k.id m) in omega arith)
 
-learned_fewer : (w : World) (t : Topic) (id : TxnId) (o : Option Verdict) → Fewer w.topics w.senders (learned_at w t id o).topics (learned_at w t id o).senders
+learned_fewer : (w : World) (t : Topic) (id : TxnId) (o : Option Decision) → Fewer w.topics w.senders (learned_at w t id o).topics (learned_at w t id o).senders
 learned_fewer w t id None = Fewer-same w.topics w.senders
-learned_fewer w t id (Some v) = Fewer-topic w.topics w.senders t (learned id v.stamp (topic_at w t)) (Gone-learned id v.stamp (topic_at w t))
+learned_fewer w t id (Some v) = Fewer-topic w.topics w.senders t (learned id (decided_stamp v) (topic_at w t)) (Gone-learned id (decided_stamp v) (topic_at w t))
 
 closed_fewer : (w : World) (s : ℕ) (o : Option Entry) → Fewer w.topics w.senders (closed_with w s o).topics (closed_with w s o).senders
 closed_fewer w s None = Fewer-same w.topics w.senders
@@ -221,7 +223,7 @@ happens_settling past w (Cancels c t) h l e = cancelled_settling past w c t h l 
 happens_settling past w (Learns t id) h l e =
     fewer_quiet past w (effect w (Learns t id)) (Learnt id t) (quiet_learnt id t) (learned_fewer w t id (find_verdict id w.verdicts)) l
 happens_settling past w (Releases t) h l e =
-    fewer_quiet past w (effect w (Releases t)) (Released t) (quiet_released t)
+    fewer_quiet past w (effect w (Releases t)) (answer w (Releases t)) (quiet_released t (due_part (topic_at w t)))
     (Fewer-topic w.topics w.senders t _ (Gone-release (takes w) (topic_at w t))) l
 happens_settling past w (Turns t) h l e = turn_settling past w t h l
 happens_settling past w (Takes s) h l e = handed_settling past w s _ l

@@ -3,13 +3,14 @@ use Rattle.std.proofs.Common.{◌≡◌, ℕ, ◌+◌, ◌≤◌, Bool, false, i
 use Rattle.std.proofs.lemmas.Bool.{true≢false}
 use Rattle.mcast_txn.specs.Transaction.{TopicPart, topics_of}
 use Rattle.mcast_txn.specs.Agreed.{Transaction, Row, same_id, In, names}
+use Rattle.mcast_txn.specs.Ballot.{Decision}
 use Rattle.mcast_txn.specs.declared.id.Topic.{Topic}
 use Rattle.mcast_txn.specs.declared.id.TxnId.{TxnId}
 use Rattle.mcast_txn.specs.declared.send.Send.{Send}
 use Rattle.mcast_txn.specs.declared.stamp.Stamp.{Stamp}
 use Rattle.mcast_txn.proofs.Orders.{id_equal}
 use Rattle.mcast_txn.proofs.Members.{In-map_cases, at_set}
-use Rattle.mcast_group.specs.Topics.{TopicState, Pending, Entry, Verdict, told, learned, cancelled, release, turned}
+use Rattle.mcast_group.specs.Topics.{TopicState, Pending, Entry, told, learned, cancelled, release, turned, decided_stamp}
 use Rattle.mcast_group.proofs.Parts.{Waits, In-insert_cases, told_how, others, not_true, some_same}
 use Rattle.mcast_group.proofs.Turning.{release_keeps, turn_keeps}
 use Rattle.delivery.specs.World.{World, Flight, SenderState, new_sender, connection_at, speaker}
@@ -59,10 +60,10 @@ Gone-without id x q i = record { part = q; stands = (others id q x.pending i).st
 pub Gone-release : (takes : Entry → Bool) (x : TopicState) → Gone_to x.pending (release takes x).pending
 Gone-release takes x = release_keeps (λ y. Gone_to x.pending y.pending) takes x (Gone-same x.pending) (λ p e. Gone-without p.part.id x)
 
-pub Gone-turned : (takes : Entry → Bool) (find : TxnId → Option Verdict) (x : TopicState) → Gone_to x.pending (turned takes find x).pending
+pub Gone-turned : (takes : Entry → Bool) (find : TxnId → Option Decision) (x : TopicState) → Gone_to x.pending (turned takes find x).pending
 Gone-turned takes find x =
     turn_keeps (λ y. Gone_to x.pending y.pending) takes find
-    (λ y id v f e g. Gone-then x.pending y.pending (learned id v.stamp y).pending g (Gone-learned id v.stamp y))
+    (λ y id v f e g. Gone-then x.pending y.pending (learned id (decided_stamp v) y).pending g (Gone-learned id (decided_stamp v) y))
     (λ y p e g. Gone-then x.pending y.pending (cancelled p.part.id y).pending g (Gone-without p.part.id y))
     x (Gone-same x.pending)
 
@@ -174,8 +175,8 @@ note_cancelled past topics senders id u old apart none h = record {
   calm = λ t e. h.calm t e.1;
 }
 
-pub note_turned : (past : List Outcome) (topics : List TopicState) (senders : List SenderState) (u : Topic) → (AllResolved u past → Calm topics senders u) → Settling past topics senders → Settling (Turned u ∷ past) topics senders
-note_turned past topics senders u now h = record {
+pub note_turned : (past : List Outcome) (topics : List TopicState) (senders : List SenderState) (u : Topic) (count : ℕ) → (AllResolved u past → Calm topics senders u) → Settling past topics senders → Settling (Turned u count ∷ past) topics senders
+note_turned past topics senders u count now h = record {
   gone = λ t p i j k. elim k [ inl e ↦ cc | inr l ↦ h.gone t p i j l ];
   flew = λ s f e. inr (h.flew s f e);
   ticket_flew = λ a k. inr (h.ticket_flew a k);

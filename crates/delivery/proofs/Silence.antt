@@ -3,6 +3,7 @@ use Rattle.std.proofs.Common.{◌≡◌, ℕ, zero, suc, ◌+◌, ◌<◌, ◌�
 use Rattle.std.specs.Option.{is_some}
 use Rattle.std.proofs.lemmas.Bool.{true≢false, false≢true, ltb-true, and_parts}
 use Rattle.mcast_txn.specs.Agreed.{In}
+use Rattle.mcast_txn.specs.Ballot.{Decision}
 use Rattle.mcast_txn.specs.declared.id.Topic.{Topic}
 use Rattle.mcast_txn.specs.declared.id.TxnId.{TxnId}
 use Rattle.mcast_txn.specs.declared.send.Send.{Send}
@@ -10,10 +11,10 @@ use Rattle.mcast_txn.specs.declared.stamp.Stamp.{Stamp}
 use Rattle.mcast_txn.proofs.Members.{at_set, at_set_within}
 use Rattle.mcast_group.specs.declared.fault.ProposeFault.{ProposeFault}
 use Rattle.mcast_group.specs.Span.{Item}
-use Rattle.mcast_group.specs.Topics.{Entry, Ended, Verdict}
+use Rattle.mcast_group.specs.Topics.{Pending, Entry, Ended, due_part}
 use Rattle.mcast_group.proofs.Parts.{some_same, none_some}
 use Rattle.delivery.specs.World.{World, Leftover, Connection, Subscription, Standing, is_open, nobody, no_subscription, topic_at, connection_at, speaker, subscription_at, entry_at, with_standing, start}
-use Rattle.delivery.specs.Events.{Event, Outcome, happens, outcome, refusal, effect, answer, is_live, find_leftover, find_verdict, oldest_live, flown, flying_answer, proposal_fault, proposed_by, propose_answer, cancelled_at, cancel_answer, learned_at, leaving, handed, take_answer, left_by, leave_answer, closed_subscription, closed_with}
+use Rattle.delivery.specs.Events.{Event, Outcome, happens, outcome, refusal, effect, answer, is_live, find_leftover, find_verdict, oldest_live, flown, flying_answer, proposal_fault, proposed_by, propose_answer, cancelled_at, cancel_answer, learned_at, leaving, release_answer, handed, take_answer, left_by, leave_answer, closed_subscription, closed_with}
 use Rattle.delivery.specs.Events.Event.{Topic_added, Opened, Commits, Subscribes, Unsubscribes, Disconnects, Errs, Lost, Leaves, Proposes, Decides, Withdraws, Cancels, Learns, Releases, Turns, Takes}
 use Rattle.delivery.specs.Events.Outcome.{Refused, Done, Subscribed, Unsubscribed, Leaving, Error, Gone, Learnt, Handed}
 use Rattle.delivery.specs.Runs.{run, outcomes}
@@ -192,6 +193,10 @@ left_shut past w c r h (Some s) e =
 closeless_done : Closeless Done
 closeless_done = record { ended = λ s to e. cc; shut = λ c k. k; owner = λ s c t from e. cc }
 
+closeless_released : (t : Topic) (o : Option Pending) → Closeless (release_answer t o)
+closeless_released t None = closeless_done
+closeless_released t (Some p) = record { ended = λ s to e. cc; shut = λ c k. k; owner = λ s c u from e. cc }
+
 flown_shut : (past : List Outcome) (w : World) (c : ℕ) (sends : List Send) → Shutting past w.connections w.subscriptions → Shutting (flying_answer w c sends ∷ past) (flown w c sends).connections (flown w c sends).subscriptions
 flown_shut past w c [] h = note past w.connections w.subscriptions Done closeless_done h
 flown_shut past w c (first ∷ others) h = note past w.connections w.subscriptions _ (record { ended = λ s to e. cc; shut = λ d k. k; owner = λ s d t from e. cc }) h
@@ -204,7 +209,7 @@ cancelled_shut : (past : List Outcome) (w : World) (c : ℕ) (t : Topic) (o : Op
 cancelled_shut past w c t None h = note past w.connections w.subscriptions Done closeless_done h
 cancelled_shut past w c t (Some k) h = note past w.connections w.subscriptions _ (record { ended = λ s to e. cc; shut = λ d k. k; owner = λ s d u from e. cc }) h
 
-learned_same : (w : World) (t : Topic) (id : TxnId) (o : Option Verdict) → ((learned_at w t id o).connections ≡ w.connections) × ((learned_at w t id o).subscriptions ≡ w.subscriptions)
+learned_same : (w : World) (t : Topic) (id : TxnId) (o : Option Decision) → ((learned_at w t id o).connections ≡ w.connections) × ((learned_at w t id o).subscriptions ≡ w.subscriptions)
 learned_same w t id None = (refl, refl)
 learned_same w t id (Some v) = (refl, refl)
 
@@ -290,7 +295,7 @@ happens_shut past w (Learns t id) r h e =
     let k = learned_same w t id (find_verdict id w.verdicts) in let v = effect w (Learns t id) in
     note past v.connections v.subscriptions (Learnt id t) (record { ended = λ s to d. cc; shut = λ d k. k; owner = λ s d t from k. cc })
     (subst (λ z. Shutting past z v.subscriptions) (sym k.0) (subst (λ z. Shutting past w.connections z) (sym k.1) h))
-happens_shut past w (Releases t) r h e = note past w.connections w.subscriptions _ (record { ended = λ s to d. cc; shut = λ d k. k; owner = λ s d t from k. cc }) h
+happens_shut past w (Releases t) r h e = note past w.connections w.subscriptions _ (closeless_released t (due_part (topic_at w t))) h
 happens_shut past w (Turns t) r h e = note past w.connections w.subscriptions _ (record { ended = λ s to d. cc; shut = λ d k. k; owner = λ s d t from k. cc }) h
 happens_shut past w (Takes s) r h e =
     let p = (checked w (Takes s) e).1.0 in
@@ -325,6 +330,10 @@ silent_leave : (w : World) (c : ℕ) (o : Option ℕ) (past : List Outcome) → 
 silent_leave w c None past h = h
 silent_leave w c (Some s) past h = h
 
+silent_release : (t : Topic) (o : Option Pending) (past : List Outcome) → SilentAfterClose past → SilentAfterClose (release_answer t o ∷ past)
+silent_release t None past h = h
+silent_release t (Some p) past h = h
+
 silent_take : (w : World) (s : ℕ) (o : Option Item) (past : List Outcome) → (IsSilent s past → Prim.⊥) → SilentAfterClose past → SilentAfterClose (take_answer w s o ∷ past)
 silent_take w s None past n h = h
 silent_take w s (Some item) past n h = (n, h)
@@ -344,7 +353,7 @@ silent_answer past w (Decides c) s e h = h
 silent_answer past w (Withdraws c) s e h = h
 silent_answer past w (Cancels c t) s e h = silent_cancel t (find_leftover t (speaker w c).leftovers) past h
 silent_answer past w (Learns t id) s e h = h
-silent_answer past w (Releases t) s e h = h
+silent_answer past w (Releases t) s e h = silent_release t (due_part (topic_at w t)) past h
 silent_answer past w (Turns t) s e h = h
 silent_answer past w (Takes n) s e h = silent_take w n _ past (not_silent past w n s e) h
 

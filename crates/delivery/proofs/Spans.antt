@@ -1,5 +1,7 @@
 -- What each event makes of subscriptions: where they begin and end, and how much their queues hold.
 use Rattle.std.proofs.Common.{◌≡◌, ℕ, ◌+◌, ◌<◌, ◌≤◌, ◌==◌, Bool, true, false, cond, List, [], ◌∷◌, ◌++◌, length, set, get_or, Option, Some, None, refl, sym, ap, subst, ◌∙◌, arith}
+use Rattle.mcast_txn.specs.Part.{part_at}
+use Rattle.mcast_txn.specs.Ballot.{Decision}
 use Rattle.mcast_txn.specs.declared.id.Topic.{Topic}
 use Rattle.mcast_txn.specs.declared.id.TxnId.{TxnId}
 use Rattle.mcast_txn.specs.declared.send.Send.{Send}
@@ -7,11 +9,11 @@ use Rattle.mcast_txn.specs.declared.stamp.Stamp.{Stamp}
 use Rattle.mcast_txn.proofs.Members.{at_set, at_set_within}
 use Rattle.mcast_group.specs.declared.fault.ProposeFault.{ProposeFault}
 use Rattle.mcast_group.specs.Span.{Item}
-use Rattle.mcast_group.specs.Topics.{TopicState, Entry, Ended, Verdict, find_entry, ended, proposed, cancelled, learned, unsubscribed}
+use Rattle.mcast_group.specs.Topics.{TopicState, Entry, Ended, find_entry, ended, proposed, cancelled, learned, unsubscribed, decided_stamp}
 use Rattle.mcast_group.proofs.Parts.{none_some}
 use Rattle.delivery.specs.World.{World, Leftover, Subscription, no_subscription, topic_at, speaker, subscription_at, entry_at, with_topic}
 use Rattle.delivery.specs.Reading.{entry_items, entry_to, accepted_at, end_at}
-use Rattle.delivery.specs.Events.{Event, Outcome, happens, effect, find_leftover, find_verdict, oldest_live, flown, proposal_fault, proposed_by, cancelled_at, learned_at, handed, part_at, flight_at, left_by, closed_with}
+use Rattle.delivery.specs.Events.{Event, Outcome, happens, effect, find_leftover, find_verdict, oldest_live, flown, proposal_fault, proposed_by, cancelled_at, learned_at, handed, flight_at, left_by, closed_with}
 use Rattle.delivery.specs.Events.Event.{Topic_added, Opened, Commits, Subscribes, Unsubscribes, Disconnects, Errs, Lost, Leaves, Proposes, Decides, Withdraws, Cancels, Learns, Releases, Turns, Takes}
 use Rattle.delivery.proofs.Invariant.{topic_in, Owned}
 use Rattle.delivery.proofs.Keeping.{at_topic_from}
@@ -194,16 +196,16 @@ Tells-flown w c (first ∷ others) = Tells-same w
 
 Tells-proposed : (w : World) (c : ℕ) (t : Topic) (o : Option ProposeFault) → TellsOf w (proposed_by w c t o)
 Tells-proposed w c t None =
-    let y = proposed (speaker w c).floor (part_at t (flight_at w c).txn) (topic_at w t) in Tells-topic w t y (Goes-same w (topic_at w t) y refl)
+    let y = proposed (speaker w c).floor (part_at (flight_at w c).txn.id (flight_at w c).txn.sends t) (topic_at w t) in Tells-topic w t y (Goes-same w (topic_at w t) y refl)
 Tells-proposed w c t (Some fault) = Tells-same w
 
 Tells-cancelled : (w : World) (c : ℕ) (t : Topic) (o : Option Leftover) → TellsOf w (cancelled_at w c t o)
 Tells-cancelled w c t None = Tells-same w
 Tells-cancelled w c t (Some k) = Tells-topic w t (cancelled k.id (topic_at w t)) (Goes-same w (topic_at w t) (cancelled k.id (topic_at w t)) refl)
 
-Tells-learned : (w : World) (t : Topic) (id : TxnId) (o : Option Verdict) → TellsOf w (learned_at w t id o)
+Tells-learned : (w : World) (t : Topic) (id : TxnId) (o : Option Decision) → TellsOf w (learned_at w t id o)
 Tells-learned w t id None = Tells-same w
-Tells-learned w t id (Some v) = Tells-topic w t (learned id v.stamp (topic_at w t)) (Goes-same w (topic_at w t) (learned id v.stamp (topic_at w t)) refl)
+Tells-learned w t id (Some v) = Tells-topic w t (learned id (decided_stamp v) (topic_at w t)) (Goes-same w (topic_at w t) (learned id (decided_stamp v) (topic_at w t)) refl)
 
 Tells-left : (past : List Outcome) (w : World) (c : ℕ) (o : Option ℕ) → Reached past w → TellsOf w (left_by w c o)
 Tells-left past w c None r = Tells-same w

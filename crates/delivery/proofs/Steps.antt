@@ -4,6 +4,7 @@ use Rattle.std.specs.Option.{is_some}
 use Rattle.std.proofs.lemmas.Bool.{true≢false, false≢true}
 use Rattle.mcast_txn.specs.Transaction.{topics_of}
 use Rattle.mcast_txn.specs.Agreed.{In, names}
+use Rattle.mcast_txn.specs.Ballot.{Decision}
 use Rattle.mcast_txn.specs.declared.id.Topic.{Topic}
 use Rattle.mcast_txn.specs.declared.id.TxnId.{TxnId}
 use Rattle.mcast_txn.specs.declared.send.Send.{Send}
@@ -14,11 +15,11 @@ use Rattle.mcast_group.specs.declared.fault.LearnFault.{LearnFault}
 use Rattle.mcast_group.specs.declared.fault.CancelFault.{CancelFault}
 use Rattle.mcast_group.specs.Checks.{first_refusal}
 use Rattle.mcast_group.specs.Span.{Item}
-use Rattle.mcast_group.specs.Topics.{TopicState, Pending, Entry, Verdict, new_topic, find_pending, cancel_fault_of, learn_fault, delivered, released_if, release, item_of}
+use Rattle.mcast_group.specs.Topics.{TopicState, Pending, Entry, new_topic, find_pending, cancel_fault_of, learn_fault, delivered, due_part, released_if, release, item_of}
 use Rattle.mcast_group.proofs.Parts.{found_part, some_same, none_some}
 use Rattle.delivery.specs.declared.refusal.Refusal.{Refusal}
 use Rattle.delivery.specs.World.{World, Leftover, topic_at, speaker, connection_at, subscription_at, entry_at, start}
-use Rattle.delivery.specs.Events.{Event, Outcome, happens, outcome, refusal, checks, topic_refusal, or_else, effect, answer, flight_at, find_leftover, find_verdict, oldest_live, flown, flying_answer, proposal_fault, proposed_by, propose_answer, cancelled_at, cancelling, cancel_refusal, cancel_answer, learned_at, learning, learn_refusal, takes, handed, take_answer, left_by, leave_answer, closed_with}
+use Rattle.delivery.specs.Events.{Event, Outcome, happens, outcome, refusal, checks, topic_refusal, or_else, effect, answer, flight_at, find_leftover, find_verdict, oldest_live, flown, flying_answer, proposal_fault, proposed_by, propose_answer, cancelled_at, cancelling, cancel_refusal, cancel_answer, learned_at, learning, learn_refusal, release_answer, takes, handed, take_answer, left_by, leave_answer, closed_with}
 use Rattle.delivery.specs.Events.Event.{Topic_added, Opened, Commits, Subscribes, Unsubscribes, Disconnects, Errs, Lost, Leaves, Proposes, Decides, Withdraws, Cancels, Learns, Releases, Turns, Takes}
 use Rattle.delivery.specs.Events.Outcome.{Refused, Ticket}
 use Rattle.delivery.specs.Runs.{outcomes}
@@ -50,11 +51,15 @@ no_leave : (w : World) (c : ℕ) (o : Option ℕ) (why : Refusal) → leave_answ
 no_leave w c None why e = cc
 no_leave w c (Some s) why e = cc
 
+no_release : (t : Topic) (o : Option Pending) (why : Refusal) → release_answer t o ≡ Refused why → Prim.⊥
+no_release t None why e = cc
+no_release t (Some p) why e = cc
+
 no_take : (w : World) (s : ℕ) (o : Option Item) (why : Refusal) → take_answer w s o ≡ Refused why → Prim.⊥
 no_take w s None why e = cc
 no_take w s (Some item) why e = cc
 
-no_answer : (w : World) (e : Event) (why : Refusal) → answer w e ≡ Refused why → Prim.⊥
+pub no_answer : (w : World) (e : Event) (why : Refusal) → answer w e ≡ Refused why → Prim.⊥
 no_answer w (Topic_added clock) why e = cc
 no_answer w Opened why e = cc
 no_answer w (Commits c sends) why e = no_flying w c sends why e
@@ -69,7 +74,7 @@ no_answer w (Decides c) why e = cc
 no_answer w (Withdraws c) why e = cc
 no_answer w (Cancels c t) why e = no_cancel t (find_leftover t (speaker w c).leftovers) why e
 no_answer w (Learns t id) why e = cc
-no_answer w (Releases t) why e = cc
+no_answer w (Releases t) why e = no_release t (due_part (topic_at w t)) why e
 no_answer w (Turns t) why e = cc
 no_answer w (Takes s) why e = no_take w s _ why e
 
@@ -103,7 +108,7 @@ cancelled_untouched : (w : World) (c : ℕ) (t u : Topic) (o : Option Leftover) 
 cancelled_untouched w c t u None ne = refl
 cancelled_untouched w c t u (Some k) ne = untouched w.topics t u _ ne
 
-learned_untouched : (w : World) (t u : Topic) (id : TxnId) (o : Option Verdict) → (Some t ≡ Some u → Prim.⊥) → topic_at (learned_at w t id o) u ≡ topic_at w u
+learned_untouched : (w : World) (t u : Topic) (id : TxnId) (o : Option Decision) → (Some t ≡ Some u → Prim.⊥) → topic_at (learned_at w t id o) u ≡ topic_at w u
 learned_untouched w t u id None ne = refl
 learned_untouched w t u id (Some v) ne = untouched w.topics t u _ ne
 
@@ -157,6 +162,10 @@ no_ticket_leave : (w : World) (c : ℕ) (o : Option ℕ) (id : TxnId) (ticket : 
 no_ticket_leave w c None id ticket e = cc
 no_ticket_leave w c (Some s) id ticket e = cc
 
+no_ticket_release : (t : Topic) (o : Option Pending) (id : TxnId) (ticket : Stamp) → release_answer t o ≡ Ticket id ticket → Prim.⊥
+no_ticket_release t None id ticket e = cc
+no_ticket_release t (Some p) id ticket e = cc
+
 no_ticket_take : (w : World) (s : ℕ) (o : Option Item) (id : TxnId) (ticket : Stamp) → take_answer w s o ≡ Ticket id ticket → Prim.⊥
 no_ticket_take w s None id ticket e = cc
 no_ticket_take w s (Some item) id ticket e = cc
@@ -176,7 +185,7 @@ answer_ticket w (Decides c) id ticket n e = cc
 answer_ticket w (Withdraws c) id ticket n e = cc
 answer_ticket w (Cancels c t) id ticket n e = absurd (no_ticket_cancel t (find_leftover t (speaker w c).leftovers) id ticket e)
 answer_ticket w (Learns t i) id ticket n e = cc
-answer_ticket w (Releases t) id ticket n e = cc
+answer_ticket w (Releases t) id ticket n e = absurd (no_ticket_release t (due_part (topic_at w t)) id ticket e)
 answer_ticket w (Turns t) id ticket n e = cc
 answer_ticket w (Takes s) id ticket n e = absurd (no_ticket_take w s _ id ticket e)
 
@@ -204,7 +213,7 @@ usual_first (c ∷ cs) why h e = usual_case c.0 c.1 why (first_refusal cs) h.0 (
 usual_checks : (w : World) (e : Event) → AllUsual (checks w e)
 usual_checks w (Topic_added clock) = tt
 usual_checks w Opened = tt
-usual_checks w (Commits c sends) = (refl, (refl, (refl, (refl, tt))))
+usual_checks w (Commits c sends) = (refl, (refl, (refl, (refl, (refl, tt)))))
 usual_checks w (Subscribes c t) = (refl, (refl, (refl, (refl, tt))))
 usual_checks w (Unsubscribes c s) = (refl, (refl, (refl, (refl, tt))))
 usual_checks w (Disconnects c) = (refl, (refl, (refl, tt)))
@@ -224,7 +233,7 @@ usual_learn : (why : Refusal) (o : Option LearnFault) → (o ≡ None) ⊎ (o �
 usual_learn why o (inl n) e = none_some why (sym (ap learn_refusal n) ∙ e)
 usual_learn why o (inr n) e = subst (λ z. is_odd z ≡ false) (some_same Refusal.NotPending why (sym (ap learn_refusal n) ∙ e)) refl
 
-learning_usual : (past : List Outcome) (w : World) (t : Topic) (id : TxnId) (why : Refusal) → Reached past w → (o : Option Verdict) → find_verdict id w.verdicts ≡ o → learning w t id o ≡ Some why → is_odd why ≡ false
+learning_usual : (past : List Outcome) (w : World) (t : Topic) (id : TxnId) (why : Refusal) → Reached past w → (o : Option Decision) → find_verdict id w.verdicts ≡ o → learning w t id o ≡ Some why → is_odd why ≡ false
 learning_usual past w t id why h None f e = subst (λ z. is_odd z ≡ false) (some_same Refusal.NotDecided why e) refl
 learning_usual past w t id why h (Some v) f e = usual_learn why (learn_fault id v (topic_at w t)) (learn_fault_is (tickets past) w t id v h.inv f) e
 
@@ -261,7 +270,7 @@ refusal_usual : (past : List Outcome) (w : World) (e : Event) (why : Refusal) �
 refusal_usual past w e why h =
     else_usual (first_refusal (checks w e)) (topic_refusal w e) why (usual_first (checks w e) why (usual_checks w e)) (topic_usual past w e why h)
 
-outcome_case : (w : World) (e : Event) (why : Refusal) (o : Option Refusal) → (answer w e ≡ Refused why → Prim.⊥) → elim o [ None ↦ answer w e | Some other ↦ Refused other ] ≡ Refused why → o ≡ Some why
+pub outcome_case : (w : World) (e : Event) (why : Refusal) (o : Option Refusal) → (answer w e ≡ Refused why → Prim.⊥) → elim o [ None ↦ answer w e | Some other ↦ Refused other ] ≡ Refused why → o ≡ Some why
 outcome_case w e why None never k = absurd (never k)
 outcome_case w e why (Some other) never k = let d : other ≡ why = cc in ap Some d
 

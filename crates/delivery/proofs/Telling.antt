@@ -10,11 +10,11 @@ use Rattle.mcast_txn.specs.Agreed.{In}
 use Rattle.mcast_txn.proofs.Members.{at_set_within}
 use Rattle.mcast_group.specs.declared.fault.ProposeFault.{ProposeFault}
 use Rattle.mcast_group.specs.Span.{Item}
-use Rattle.mcast_group.specs.Topics.{Entry, ended}
+use Rattle.mcast_group.specs.Topics.{Pending, Entry, due_part, ended}
 use Rattle.mcast_group.proofs.Parts.{none_some}
 use Rattle.delivery.specs.World.{World, Leftover, Subscription, no_subscription, topic_at, speaker, subscription_at, entry_at, start}
 use Rattle.delivery.specs.Reading.{accepted_at, end_at}
-use Rattle.delivery.specs.Events.{Event, Outcome, happens, outcome, refusal, effect, answer, is_live, find_leftover, oldest_live, flying_answer, proposal_fault, propose_answer, cancel_answer, take_answer, left_by, leave_answer, closed_subscription, closed_with, end_now}
+use Rattle.delivery.specs.Events.{Event, Outcome, happens, outcome, refusal, effect, answer, is_live, find_leftover, oldest_live, flying_answer, proposal_fault, propose_answer, cancel_answer, release_answer, take_answer, left_by, leave_answer, closed_subscription, closed_with, end_now}
 use Rattle.delivery.specs.Events.Event.{Topic_added, Opened, Commits, Subscribes, Unsubscribes, Disconnects, Errs, Lost, Leaves, Proposes, Decides, Withdraws, Cancels, Learns, Releases, Turns, Takes}
 use Rattle.delivery.specs.Events.Outcome.{Subscribed, Unsubscribed}
 use Rattle.delivery.specs.Runs.{run, outcomes}
@@ -53,6 +53,10 @@ cancel_untold : (t : Topic) (o : Option Leftover) → IsTold (cancel_answer t o)
 cancel_untold t None i = i
 cancel_untold t (Some k) i = i
 
+release_untold : (t : Topic) (o : Option Pending) → IsTold (release_answer t o) → Prim.⊥
+release_untold t None i = i
+release_untold t (Some p) i = i
+
 take_untold : (w : World) (s : ℕ) (o : Option Item) → IsTold (take_answer w s o) → Prim.⊥
 take_untold w s None i = i
 take_untold w s (Some item) i = i
@@ -87,7 +91,7 @@ answer_begun w (Decides d) s c t from e = absurd (told_of _ _ e tt)
 answer_begun w (Withdraws d) s c t from e = absurd (told_of _ _ e tt)
 answer_begun w (Cancels d u) s c t from e = absurd (cancel_untold u (find_leftover u (speaker w d).leftovers) (told_of _ _ e tt))
 answer_begun w (Learns u id) s c t from e = absurd (told_of _ _ e tt)
-answer_begun w (Releases u) s c t from e = absurd (told_of _ _ e tt)
+answer_begun w (Releases u) s c t from e = absurd (release_untold u (due_part (topic_at w u)) (told_of _ _ e tt))
 answer_begun w (Turns u) s c t from e = absurd (told_of _ _ e tt)
 answer_begun w (Takes r) s c t from e = absurd (take_untold w r _ (told_of _ _ e tt))
 
@@ -155,7 +159,7 @@ answer_ends past w (Decides d) s to r n e = absurd (told_of _ _ e tt)
 answer_ends past w (Withdraws d) s to r n e = absurd (told_of _ _ e tt)
 answer_ends past w (Cancels d u) s to r n e = absurd (cancel_untold u (find_leftover u (speaker w d).leftovers) (told_of _ _ e tt))
 answer_ends past w (Learns u id) s to r n e = absurd (told_of _ _ e tt)
-answer_ends past w (Releases u) s to r n e = absurd (told_of _ _ e tt)
+answer_ends past w (Releases u) s to r n e = absurd (release_untold u (due_part (topic_at w u)) (told_of _ _ e tt))
 answer_ends past w (Turns u) s to r n e = absurd (told_of _ _ e tt)
 answer_ends past w (Takes q) s to r n e = absurd (take_untold w q _ (told_of _ _ e tt))
 

@@ -7,14 +7,16 @@ use Rattle.mcast_txn.specs.declared.id.TxnId.{TxnId}
 use Rattle.mcast_txn.specs.declared.send.Send.{Send}
 use Rattle.mcast_txn.specs.declared.stamp.Stamp.{Stamp}
 use Rattle.mcast_txn.specs.Stamp.{zero_stamp, greatest}
-use Rattle.mcast_txn.specs.Transaction.{TopicPart, topics_of, part_of}
+use Rattle.mcast_txn.specs.Part.{part_at}
+use Rattle.mcast_txn.specs.Transaction.{topics_of}
 use Rattle.mcast_txn.specs.Agreed.{Transaction, same_id, names}
+use Rattle.mcast_txn.specs.Ballot.{Decision}
 use Rattle.mcast_group.specs.declared.fault.ProposeFault.{ProposeFault}
 use Rattle.mcast_group.specs.declared.fault.LearnFault.{LearnFault}
 use Rattle.mcast_group.specs.declared.fault.CancelFault.{CancelFault}
 use Rattle.mcast_group.specs.Checks.{first_refusal}
 use Rattle.mcast_group.specs.Span.{Item}
-use Rattle.mcast_group.specs.Topics.{Entry, Verdict, new_topic, last_number, next_number, propose_fault, proposed, learn_fault, learned, cancel_fault, cancelled, due_part, release, turned, subscribed, ended, unsubscribed}
+use Rattle.mcast_group.specs.Topics.{Entry, Pending, new_topic, last_number, next_number, propose_fault, proposed, learn_fault, learned, cancel_fault, cancelled, due_part, release, turned, turn_count, subscribed, ended, unsubscribed, decided_stamp}
 use Rattle.delivery.specs.declared.refusal.Refusal.{Refusal}
 use Rattle.delivery.specs.World.{World, Flight, Leftover, Subscription, Standing, is_open, is_gone, topic_at, new_sender, connection_at, speaker, subscription_at, entry_at, with_topic, with_sender, with_standing, with_subscription}
 use Rattle.delivery.specs.Reading.{accepted_at, end_at}
@@ -65,8 +67,9 @@ pub data Outcome : Type 0 where
   Withdrawn : (id : TxnId) (c : ℕ) → Outcome
   Cancelled : (id : TxnId) (t : Topic) → Outcome
   Learnt : (id : TxnId) (t : Topic) → Outcome
-  Released : (t : Topic) → Outcome
-  Turned : (t : Topic) → Outcome
+  -- the transaction's part was released at t; so many parts were
+  Released : (t : Topic) (id : TxnId) → Outcome
+  Turned : (t : Topic) (count : ℕ) → Outcome
   Handed : (s : ℕ) (item : Item) → Outcome
 
 -- ---- tests
@@ -85,6 +88,7 @@ reads w c =
 abbrev pub is_topic : World → Topic → Bool
 is_topic w t = nat_lt t.0 (length w.topics)
 
+-- what stands for a flight that there isn't
 abbrev pub no_flight : Flight
 no_flight = record {
   txn = record { id = record { sender = record { 0 = 0 }; seq = 0 }; sends = [] };
@@ -92,6 +96,7 @@ no_flight = record {
   mark = None;
 }
 
+-- the flight, if there is one
 abbrev pub flight_or : Option Flight → Flight
 flight_or None = no_flight
 flight_or (Some f) = f
@@ -124,7 +129,7 @@ drop_leftover t [] = []
 drop_leftover t (k ∷ ks) = if k.ticket.topic.0 == t.0 then ks else k ∷ drop_leftover t ks
 
 -- the verdict of this transaction, if it was decided
-abbrev pub find_verdict : TxnId → List Verdict → Option Verdict
+abbrev pub find_verdict : TxnId → List Decision → Option Decision
 find_verdict id [] = None
 find_verdict id (v ∷ vs) = if same_id v.id id then Some v else find_verdict id vs
 
@@ -139,19 +144,23 @@ oldest_live c i (x ∷ xs) = if is_live c x then Some i else oldest_live c (i + 
 
 -- ---- the topics' own refusals
 
+-- why a verdict isn't learnt, as the core tells it
 abbrev pub of_learn : LearnFault → Refusal
 of_learn LearnFault.NotPending = Refusal.NotPending
 of_learn LearnFault.Foreign = Refusal.Foreign
 of_learn LearnFault.Clash = Refusal.Clash
 
+-- the same where there is a fault
 abbrev pub learn_refusal : Option LearnFault → Option Refusal
 learn_refusal None = None
 learn_refusal (Some fault) = Some (of_learn fault)
 
+-- why a part isn't taken out, as the core tells it
 abbrev pub of_cancel : CancelFault → Refusal
 of_cancel CancelFault.NotPending = Refusal.NotPending
 of_cancel CancelFault.Decided = Refusal.Decided
 
+-- the same where there is a fault
 abbrev pub cancel_refusal : Option CancelFault → Option Refusal
 cancel_refusal None = None
 cancel_refusal (Some fault) = Some (of_cancel fault)
@@ -161,10 +170,12 @@ abbrev pub or_else : Option Refusal → Option Refusal → Option Refusal
 or_else None after = after
 or_else (Some why) after = Some why
 
-abbrev pub learning : World → Topic → TxnId → Option Verdict → Option Refusal
+-- what stands against learning the verdict that was found at t
+abbrev pub learning : World → Topic → TxnId → Option Decision → Option Refusal
 learning w t id None = Some Refusal.NotDecided
 learning w t id (Some v) = learn_refusal (learn_fault id v (topic_at w t))
 
+-- what stands against cancelling the ticket that was found for t
 abbrev pub cancelling : World → Topic → Option Leftover → Option Refusal
 cancelling w t None = Some Refusal.NotNamed
 cancelling w t (Some k) = cancel_refusal (cancel_fault k.id (topic_at w t))
@@ -175,7 +186,10 @@ cancelling w t (Some k) = cancel_refusal (cancel_fault k.id (topic_at w t))
 abbrev pub checks : World → Event → List (Bool × Refusal)
 checks w (Topic_added clock) = []
 checks w Opened = []
-checks w (Commits c sends) = reads w c ++ (not (nat_lt (speaker w c).seq last_number), Refusal.SeqFull) ∷ []
+checks w (Commits c sends) =
+    reads w c
+    ++ (not (list_all (λ send. is_topic w send.topic) sends), Refusal.NotNamed)
+    ∷ (nat_lt 0 (length sends) && not (nat_lt (speaker w c).seq last_number), Refusal.SeqFull) ∷ []
 checks w (Subscribes c t) = reads w c ++ (not (is_topic w t), Refusal.NotNamed) ∷ []
 checks w (Unsubscribes c s) =
     reads w c ++ (not (nat_lt s (length w.subscriptions) && is_live c (subscription_at w s)), Refusal.NoSub) ∷ []
@@ -227,10 +241,6 @@ refusal w e = or_else (first_refusal (checks w e)) (topic_refusal w e)
 
 -- ---- what is done
 
--- the transaction's part at t
-abbrev pub part_at : Topic → Transaction → TopicPart
-part_at t txn = record { id = txn.id; topic = t; topics = topics_of txn.sends; sends = part_of t txn.sends }
-
 -- the transaction that these SENDs make
 abbrev pub next_txn : World → ℕ → List Send → Transaction
 next_txn w c sends = record {
@@ -247,6 +257,7 @@ flown w c (first ∷ others) =
       flight = Some (record { txn = next_txn w c (first ∷ others); given = []; mark = None });
     })
 
+-- a subscription of c to t, after those that there are; its topic gives it the items that it releases from now on
 abbrev pub opened_subscription : World → ℕ → Topic → World
 opened_subscription w c t =
     let x = topic_at w t in
@@ -254,6 +265,7 @@ opened_subscription w c t =
       subscriptions = w.subscriptions ++ record { connection = c; topic = t; from = x.frontier; taken = 0; closed = None } ∷ [];
     }
 
+-- the same for the entry that was found, if one was
 abbrev pub closed_with : World → ℕ → Option Entry → World
 closed_with w s None = w
 closed_with w s (Some e) =
@@ -265,6 +277,7 @@ closed_with w s (Some e) =
 abbrev pub closed_subscription : World → ℕ → World
 closed_subscription w s = closed_with w s (entry_at w s)
 
+-- the next step of leaving: this subscription is closed; where there is none, the connection is gone
 abbrev pub left_by : World → ℕ → Option ℕ → World
 left_by w c None = with_standing w c Standing.Gone
 left_by w c (Some s) = closed_subscription w s
@@ -281,12 +294,13 @@ or_no_memory memory (Some fault) = Some fault
 -- why the topic gives no ticket; want of memory, where nothing else stands against it
 abbrev pub proposal_fault : World → ℕ → Topic → Bool → Option ProposeFault
 proposal_fault w c t memory =
-    or_no_memory memory (propose_fault (speaker w c).floor (part_at t (flight_at w c).txn) (topic_at w t))
+    or_no_memory memory (propose_fault (speaker w c).floor (part_at (flight_at w c).txn.id (flight_at w c).txn.sends t) (topic_at w t))
 
 -- the ticket that the topic gives next
 abbrev pub next_ticket : World → ℕ → Topic → Stamp
 next_ticket w c t = record { n = next_number (speaker w c).floor (topic_at w t); topic = t }
 
+-- the core with this undecided transaction of the connection's sender
 abbrev pub with_flight : World → ℕ → Flight → World
 with_flight w c f = with_sender w (connection_at w c).sender (record (speaker w c) { flight = Some f })
 
@@ -294,7 +308,7 @@ with_flight w c f = with_sender w (connection_at w c).sender (record (speaker w 
 abbrev pub proposed_by : World → ℕ → Topic → Option ProposeFault → World
 proposed_by w c t None =
     let f = flight_at w c in
-    with_flight (with_topic w t (proposed (speaker w c).floor (part_at t f.txn) (topic_at w t))) c
+    with_flight (with_topic w t (proposed (speaker w c).floor (part_at f.txn.id f.txn.sends t) (topic_at w t))) c
     (record f { given = insert_ticket (next_ticket w c t) f.given })
 proposed_by w c t (Some fault) = with_flight w c (record (flight_at w c) { mark = Some fault })
 
@@ -304,9 +318,10 @@ decided w c =
     let f = flight_at w c in
     record (with_sender w (connection_at w c).sender (record (speaker w c) { floor = greatest f.given; flight = None })) {
       commits = w.commits ++ record { txn = f.txn; stamp = greatest f.given } ∷ [];
-      verdicts = w.verdicts ++ record { id = f.txn.id; rows = f.given; stamp = greatest f.given } ∷ [];
+      verdicts = w.verdicts ++ record { id = f.txn.id; rows = f.given } ∷ [];
     }
 
+-- a ticket of this transaction, to be cancelled
 abbrev pub leftover : TxnId → Stamp → Leftover
 leftover id ticket = record { id = id; ticket = ticket }
 
@@ -319,21 +334,24 @@ withdrawn w c =
       leftovers = (speaker w c).leftovers ++ map (leftover f.txn.id) f.given;
     })) c
 
+-- the part is taken out of t, and its ticket needs no cancelling any more
 abbrev pub cancelled_at : World → ℕ → Topic → Option Leftover → World
 cancelled_at w c t None = w
 cancelled_at w c t (Some k) =
     with_sender (with_topic w t (cancelled k.id (topic_at w t))) (connection_at w c).sender
     (record (speaker w c) { leftovers = drop_leftover t (speaker w c).leftovers })
 
-abbrev pub learned_at : World → Topic → TxnId → Option Verdict → World
+-- t learns the verdict that was found
+abbrev pub learned_at : World → Topic → TxnId → Option Decision → World
 learned_at w t id None = w
-learned_at w t id (Some v) = with_topic w t (learned id v.stamp (topic_at w t))
+learned_at w t id (Some v) = with_topic w t (learned id (decided_stamp v) (topic_at w t))
 
 -- the queue takes one more item: fewer than its capacity weren't handed on
 abbrev pub takes : World → Entry → Bool
 takes w e = nat_lt (length e.accepted - (subscription_at w e.number).taken) w.capacity
 
-abbrev pub find_in : World → TxnId → Option Verdict
+-- the verdict of this transaction in the core's table
+abbrev pub find_in : World → TxnId → Option Decision
 find_in w id = find_verdict id w.verdicts
 
 -- the item of this number in a queue, from 0
@@ -372,6 +390,7 @@ effect w (Takes s) = handed w s (item_number (subscription_at w s).taken (accept
 
 -- ---- what is answered
 
+-- the transaction that these SENDs make; of none there is none
 abbrev pub flying_answer : World → ℕ → List Send → Outcome
 flying_answer w c [] = Done
 flying_answer w c (first ∷ others) = Flying (next_txn w c (first ∷ others))
@@ -380,18 +399,27 @@ flying_answer w c (first ∷ others) = Flying (next_txn w c (first ∷ others))
 abbrev pub end_now : World → ℕ → Stamp
 end_now w s = elim (entry_at w s) [ None ↦ zero_stamp | Some e ↦ (ended (topic_at w (subscription_at w s).topic).frontier e).to ]
 
+-- the subscription that is closed, and where; where there is none, the connection is gone
 abbrev pub leave_answer : World → ℕ → Option ℕ → Outcome
 leave_answer w c None = Gone c
 leave_answer w c (Some s) = Unsubscribed s (end_now w s)
 
+-- the ticket, or why there is none
 abbrev pub propose_answer : World → ℕ → Topic → Option ProposeFault → Outcome
 propose_answer w c t None = Ticket (flight_at w c).txn.id (next_ticket w c t)
 propose_answer w c t (Some fault) = Failed (flight_at w c).txn.id fault
 
+-- whose part was taken out
 abbrev pub cancel_answer : Topic → Option Leftover → Outcome
 cancel_answer t None = Done
 cancel_answer t (Some k) = Cancelled k.id t
 
+-- which part is released; where none is due, the event is refused before
+abbrev pub release_answer : Topic → Option Pending → Outcome
+release_answer t None = Done
+release_answer t (Some p) = Released t p.part.id
+
+-- the item that is handed on; where there is none, an ERROR tells that the subscription has lagged
 abbrev pub take_answer : World → ℕ → Option Item → Outcome
 take_answer w s None = Error (subscription_at w s).connection
 take_answer w s (Some item) = Handed s item
@@ -412,8 +440,8 @@ answer w (Decides c) = Decided (flight_at w c).txn.id (greatest (flight_at w c).
 answer w (Withdraws c) = Withdrawn (flight_at w c).txn.id c
 answer w (Cancels c t) = cancel_answer t (find_leftover t (speaker w c).leftovers)
 answer w (Learns t id) = Learnt id t
-answer w (Releases t) = Released t
-answer w (Turns t) = Turned t
+answer w (Releases t) = release_answer t (due_part (topic_at w t))
+answer w (Turns t) = Turned t (turn_count (takes w) (find_in w) (topic_at w t))
 answer w (Takes s) = take_answer w s (item_number (subscription_at w s).taken (accepted_at w s))
 
 -- ---- a step

@@ -7,17 +7,19 @@ use Rattle.mcast_txn.specs.declared.stamp.Stamp.{Stamp}
 use Rattle.mcast_txn.specs.Stamp.{zero_stamp, stamp_lt, greatest}
 use Rattle.mcast_txn.specs.Transaction.{topics_of}
 use Rattle.mcast_txn.specs.Agreed.{Row, In, names, same_id, agreed, EachOnce, SenderOrder}
+use Rattle.mcast_txn.specs.Ballot.{Decision}
 use Rattle.mcast_group.specs.declared.fault.LearnFault.{LearnFault}
+use Rattle.mcast_group.specs.declared.fault.ProposeFault.{ProposeFault}
 use Rattle.mcast_group.specs.Span.{Item}
 use Rattle.mcast_group.specs.Sound.{IsSound}
-use Rattle.mcast_group.specs.Topics.{Pending, Entry, Verdict, learn_fault, item_of, due_part}
+use Rattle.mcast_group.specs.Topics.{Pending, Entry, learn_fault, item_of, due_part, subscribe_fault, unsubscribe_fault}
 use Rattle.delivery.specs.declared.refusal.Refusal.{Refusal}
 use Rattle.delivery.specs.Due.{log_row, due}
 use Rattle.delivery.specs.World.{World, start, topic_at, speaker, subscription_at}
 use Rattle.delivery.specs.Reading.{accepted_at, span_at, log_at, frontier_at}
 use Rattle.delivery.specs.Events.{Event, Outcome, happens, outcome, refusal, flight_at, find_in, oldest_live}
 use Rattle.delivery.specs.Events.Event.{Subscribes, Unsubscribes, Leaves, Proposes, Cancels, Learns, Releases, Turns}
-use Rattle.delivery.specs.Events.Outcome.{Refused, Ticket, Decided}
+use Rattle.delivery.specs.Events.Outcome.{Refused, Ticket, Failed, Decided}
 use Rattle.delivery.specs.Runs.{run, outcomes, commits_of, tickets_of, handed_of, Numbered}
 use Rattle.delivery.specs.Settled.{IsSettled, SilentAfterClose}
 
@@ -113,6 +115,13 @@ StampIsGreatest =
 abbrev pub RefusalsChangeNothing : Type 0
 RefusalsChangeNothing = (w : World) (e : Event) (why : Refusal) → outcome w e ≡ Refused why → happens w e ≡ w
 
+-- a turn is its learns, one for each pending part by rising id, and then releases until nothing is due: those that come after find nothing, and are refused
+abbrev pub TurnIsItsSteps : Type 0
+TurnIsItsSteps =
+    (w : World) (t : Topic)
+    → happens w (Turns t)
+    ≡ run (map (λ p. Learns t p.part.id) (topic_at w t).pending ++ map (λ p. Releases t) (topic_at w t).pending) w
+
 -- the topic of this subscription, if there is one
 abbrev pub live_topic : World → Option ℕ → Option Topic
 live_topic w None = None
@@ -157,8 +166,26 @@ OddNeverComes = (r : Run) (why : Refusal) → In (Refused why) (came r) → is_o
 -- nor do they within a turn: what is found for a transaction is learnt wherever it is pending
 abbrev pub FoundIsLearnt : Type 0
 FoundIsLearnt =
-    (r : Run) (t : Topic) (id : TxnId) (v : Verdict) → find_in (after r) id ≡ Some v
+    (r : Run) (t : Topic) (id : TxnId) (v : Decision) → find_in (after r) id ≡ Some v
     → (learn_fault id v (topic_at (after r) t) ≡ None) ⊎ (learn_fault id v (topic_at (after r) t) ≡ Some LearnFault.NotPending)
+
+-- a ticket that is to be cancelled has its part pending
+abbrev pub CancelFindsItsPart : Type 0
+CancelFindsItsPart = (r : Run) (c : ℕ) (t : Topic) → outcome (after r) (Cancels c t) ≢ Refused Refusal.NotPending
+
+-- no topic refuses a part because its transaction is pending there
+abbrev pub NoneIsPendingTwice : Type 0
+NoneIsPendingTwice = (r : Run) (id : TxnId) → In (Failed id ProposeFault.Twice) (came r) → Prim.⊥
+
+-- the number that the next subscription gets is free at each topic
+abbrev pub NumbersAreFree : Type 0
+NumbersAreFree = (r : Run) (t : Topic) → subscribe_fault (length (after r).subscriptions) (topic_at (after r) t) ≡ None
+
+-- a subscription that isn't closed has its entry at its topic
+abbrev pub EntriesAreThere : Type 0
+EntriesAreThere =
+    (r : Run) (s : ℕ) → s < length (after r).subscriptions → (subscription_at (after r) s).closed ≡ None
+    → unsubscribe_fault s (topic_at (after r) (subscription_at (after r) s).topic) ≡ None
 
 -- an open subscription as a release of p leaves it: where fewer items than its capacity weren't handed on it has one more, and else it has ended before it
 pub record IsGiven (w : World) (frontier : Stamp) (p : Pending) (before after : Entry) : Type 0 where

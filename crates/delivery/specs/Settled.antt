@@ -31,7 +31,7 @@ IsSettled t (Flying txn ∷ before) = (names t (topics_of txn.sends) ≡ false) 
 IsSettled t (Decided id stamp ∷ before) = (is_at t id before ≡ false) × IsSettled t before
 IsSettled t (Withdrawn id c ∷ before) = (is_at t id before ≡ false) × IsSettled t before
 IsSettled t (Cancelled id u ∷ before) = (u ≢ t) × IsSettled t before
-IsSettled t (Turned u ∷ before) = ((u ≡ t) × AllResolved t before) ⊎ IsSettled t before
+IsSettled t (Turned u count ∷ before) = ((u ≡ t) × AllResolved t before) ⊎ IsSettled t before
 IsSettled t (o ∷ before) = IsSettled t before
 
 -- this closes connection c: it is leaving, by itself or lost, by an ERROR, or by a withdrawal

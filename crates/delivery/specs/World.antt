@@ -5,8 +5,9 @@ use Rattle.mcast_txn.specs.declared.id.TxnId.{TxnId}
 use Rattle.mcast_txn.specs.declared.stamp.Stamp.{Stamp}
 use Rattle.mcast_txn.specs.Stamp.{zero_stamp}
 use Rattle.mcast_txn.specs.Agreed.{Transaction, Row}
+use Rattle.mcast_txn.specs.Ballot.{Decision}
 use Rattle.mcast_group.specs.declared.fault.ProposeFault.{ProposeFault}
-use Rattle.mcast_group.specs.Topics.{TopicState, Entry, Ended, Verdict, new_topic, find_entry}
+use Rattle.mcast_group.specs.Topics.{TopicState, Entry, Ended, new_topic, find_entry}
 
 -- a sender's undecided transaction: the tickets that it was given, by rising topic, and why a topic refused it, if one did (then it is marked)
 pub record Flight : Type 0 where
@@ -66,7 +67,7 @@ pub record World : Type 0 where
   pub connections : List Connection
   pub subscriptions : List Subscription
   pub commits : List Row
-  pub verdicts : List Verdict
+  pub verdicts : List Decision
 
 -- topics with these opening clocks, numbered from i
 abbrev pub new_topics : ℕ → ℕ → List ℕ → List TopicState

@@ -1,6 +1,6 @@
 //! Laws: functions that do nothing, whose contracts are theorems about every run of the core.
 
-ghost use Rattle.delivery.specs.Laws.{AcceptedIsDue, AgreedInSenderOrder, AgreedOnce, ClosedIsSilent, CommitsAreKept, FoundIsLearnt, HandedIsPrefix, LagsWhereFull, OddNeverComes, OthersUntouched, RefusalsChangeNothing, SeqsCount, SettledLeavesNoneOut, SharedInOneOrder, StampIsGreatest, TicketIsOwn, TopicsAreSound};
+ghost use Rattle.delivery.specs.Laws.{AcceptedIsDue, AgreedInSenderOrder, AgreedOnce, CancelFindsItsPart, ClosedIsSilent, CommitsAreKept, EntriesAreThere, FoundIsLearnt, HandedIsPrefix, LagsWhereFull, NoneIsPendingTwice, NumbersAreFree, OddNeverComes, OthersUntouched, RefusalsChangeNothing, SeqsCount, SettledLeavesNoneOut, SharedInOneOrder, StampIsGreatest, TicketIsOwn, TopicsAreSound, TurnIsItsSteps};
 ghost use Rattle.delivery.specs.Told.{EndsAreTold, EndsStay, FlyingIsOwn, QueuesAreBounded, SenderIsOwn, SpansBeginAsTold, SpansBeginAtFrontier, SpansEndAsTold};
 
 /// The core's commit list is that of the decisions in the run.
@@ -57,10 +57,25 @@ pub fn genuine()
     ensures tickets { TicketIsOwn }
 {}
 
-/// No verdict is refused as another's or as a clash, and no decided part is cancelled.
+/// No verdict is refused as another's or as a clash, no decided part is cancelled, a ticket that is to be cancelled has its
+/// part pending, and no topic refuses a part because its transaction is pending there.
 pub fn never()
     ensures refused { OddNeverComes }
     ensures in_turns { FoundIsLearnt }
+    ensures cancels { CancelFindsItsPart }
+    ensures proposals { NoneIsPendingTwice }
+{}
+
+/// No topic refuses a subscription because its number is in use, and each subscription that isn't closed has its entry
+/// at its topic.
+pub fn subscriptions()
+    ensures begin { NumbersAreFree }
+    ensures end { EntriesAreThere }
+{}
+
+/// A turn is its steps: it learns once for each pending part, by rising id, and then releases until nothing is due.
+pub fn turns()
+    ensures { TurnIsItsSteps }
 {}
 
 /// An open subscription lags exactly at a release at its topic where as many items as its capacity

@@ -1,5 +1,11 @@
 use Rattle.delivery.proofs.Steps.{odd_never_comes, found_is_learnt}
+use Rattle.delivery.proofs.Waiting.{cancel_finds_its_part, none_is_pending_twice}
 use Rattle.delivery.proofs.law.never.Goals as goal
 
 pub returns : goal.returns
-returns c = record { refused = odd_never_comes; in_turns = found_is_learnt }
+returns c = record {
+  refused = odd_never_comes;
+  in_turns = found_is_learnt;
+  cancels = cancel_finds_its_part;
+  proposals = none_is_pending_twice;
+}

@@ -1,0 +1,121 @@
+-- A turn is its learns and its releases, one by one.
+use Rattle.std.proofs.Common.{◌≡◌, ℕ, ◌<◌, Bool, true, not, inl, inr, List, [], ◌∷◌, ◌++◌, map, length, set, Option, Some, None, refl, sym, ap, ◌∙◌, arith}
+use Rattle.std.specs.Option.{is_some}
+use Rattle.std.proofs.lemmas.Bool.{lt-ltb, le-ltb}
+use Rattle.std.proofs.lemmas.List.{length-set, get_or_past, get_or-set_same, set-get_or, set-set}
+use Rattle.mcast_txn.specs.Ballot.{Decision}
+use Rattle.mcast_txn.specs.declared.id.Topic.{Topic}
+use Rattle.mcast_txn.specs.declared.id.TxnId.{TxnId}
+use Rattle.mcast_group.specs.declared.fault.LearnFault.{LearnFault}
+use Rattle.mcast_group.specs.Checks.{first_refusal}
+use Rattle.mcast_group.specs.Topics.{TopicState, Pending, new_topic, learn_fault, learned, told, tried, tried_all, due_part, released_if, release, released_times, turned, decided_stamp}
+use Rattle.mcast_group.proofs.Parts.{map_length}
+use Rattle.delivery.specs.declared.refusal.Refusal.{Refusal}
+use Rattle.delivery.specs.World.{World, topic_at, with_topic}
+use Rattle.delivery.specs.Events.{Event, happens, effect, or_else, is_topic, learn_refusal, learning, learned_at, find_in, takes}
+use Rattle.delivery.specs.Events.Event.{Learns, Releases, Turns}
+use Rattle.delivery.specs.Runs.{run}
+use Rattle.delivery.specs.Laws
+use Rattle.delivery.proofs.Telling.{within}
+
+-- the world after a step: the new one, or the old one where it is refused
+abbrev stepped : World → World → Option Refusal → World
+stepped old new o = elim o [ None ↦ new | Some why ↦ old ]
+
+-- ---- a topic that is written
+
+twice : (w : World) (t : Topic) (x y : TopicState) → with_topic (with_topic w t x) t y ≡ with_topic w t y
+twice w t x y = ap (λ (z : List TopicState). record w { topics = z }) (set-set w.topics t.0 x y)
+
+unwritten : (w : World) (t : Topic) → with_topic w t (topic_at w t) ≡ w
+unwritten w t = ap (λ (z : List TopicState). record w { topics = z }) (set-get_or w.topics t.0 (new_topic t 0 0))
+
+is_read : (w : World) (t : Topic) (x : TopicState) → t.0 < length w.topics → topic_at (with_topic w t x) t ≡ x
+is_read w t x room = get_or-set_same w.topics t.0 x (new_topic t 0 0) room
+
+is_there : (w : World) (t : Topic) (x : TopicState) → t.0 < length w.topics → is_topic (with_topic w t x) t ≡ true
+is_there w t x room = lt-ltb t.0 (length (set w.topics t.0 x)) (let n = length-set w.topics t.0 x in omega arith)
+
+-- ---- a learning
+
+fault_case : (w : World) (t : Topic) (id : TxnId) (v : Decision) (x : TopicState) (o : Option LearnFault) → let u = with_topic w t x in stepped u (with_topic u t (learned id (decided_stamp v) x)) (learn_refusal o) ≡ with_topic w t (elim o [ None ↦ learned id (decided_stamp v) x | Some fault ↦ x ])
+fault_case w t id v x None = twice w t x (learned id (decided_stamp v) x)
+fault_case w t id v x (Some fault) = refl
+
+learn_case : (w : World) (t : Topic) (id : TxnId) (x : TopicState) (o : Option Decision) → t.0 < length w.topics → let u = with_topic w t x in stepped u (learned_at u t id o) (learning u t id o) ≡ with_topic w t (tried id o x)
+learn_case w t id x None room = refl
+learn_case w t id x (Some v) room =
+    let u = with_topic w t x in
+    ap (λ (z : TopicState). stepped u (with_topic u t (learned id (decided_stamp v) z)) (learn_refusal (learn_fault id v z))) (is_read w t x room)
+    ∙ fault_case w t id v x (learn_fault id v x)
+
+learn_step : (w : World) (t : Topic) (id : TxnId) (x : TopicState) → t.0 < length w.topics → happens (with_topic w t x) (Learns t id) ≡ with_topic w t (tried id (find_in w id) x)
+learn_step w t id x room =
+    let u = with_topic w t x in
+    ap (λ (b : Bool). stepped u (effect u (Learns t id)) (or_else (first_refusal ((not b, Refusal.NotNamed) ∷ [])) (learning u t id (find_in w id)))) (is_there w t x room)
+    ∙ learn_case w t id x (find_in w id) room
+
+learn_steps : (w : World) (t : Topic) (ps : List Pending) (x : TopicState) → t.0 < length w.topics → run (map (λ p. Learns t p.part.id) ps) (with_topic w t x) ≡ with_topic w t (tried_all (find_in w) ps x)
+learn_steps w t [] x room = refl
+learn_steps w t (p ∷ ps) x room =
+    ap (run (map (λ q. Learns t q.part.id) ps)) (learn_step w t p.part.id x room)
+    ∙ learn_steps w t ps (tried p.part.id (find_in w p.part.id) x) room
+
+-- ---- a release
+
+due_case : (w : World) (t : Topic) (x : TopicState) (o : Option Pending) → let u = with_topic w t x in let y = released_if (takes w) x o in stepped u (with_topic u t y) (or_else (first_refusal ((not (is_some o), Refusal.NothingDue) ∷ [])) None) ≡ with_topic w t y
+due_case w t x None = refl
+due_case w t x (Some p) = twice w t x (released_if (takes w) x (Some p))
+
+release_step : (w : World) (t : Topic) (x : TopicState) → t.0 < length w.topics → happens (with_topic w t x) (Releases t) ≡ with_topic w t (release (takes w) x)
+release_step w t x room =
+    let u = with_topic w t x in
+    ap (λ (b : Bool). stepped u (effect u (Releases t)) (or_else (first_refusal ((not b, Refusal.NotNamed) ∷ (not (is_some (due_part (topic_at u t))), Refusal.NothingDue) ∷ [])) None)) (is_there w t x room)
+    ∙ (ap (λ (z : TopicState). stepped u (with_topic u t (release (takes w) z)) (or_else (first_refusal ((not (is_some (due_part z)), Refusal.NothingDue) ∷ [])) None)) (is_read w t x room)
+    ∙ due_case w t x (due_part x))
+
+release_steps : (w : World) (t : Topic) (ps : List Pending) (x : TopicState) → t.0 < length w.topics → run (map (λ p. Releases t) ps) (with_topic w t x) ≡ with_topic w t (released_times (takes w) (length ps) x)
+release_steps w t [] x room = refl
+release_steps w t (p ∷ ps) x room =
+    ap (run (map (λ q. Releases t) ps)) (release_step w t x room)
+    ∙ release_steps w t ps (release (takes w) x) room
+
+-- ---- the whole turn
+
+tried_length : (id : TxnId) (o : Option Decision) (x : TopicState) → length (tried id o x).pending ≡ length x.pending
+tried_length id None x = refl
+tried_length id (Some v) x = by (learn_fault id v x)
+  where
+    by : (o : Option LearnFault) → let y : TopicState = elim o [ None ↦ learned id (decided_stamp v) x | Some fault ↦ x ] in length y.pending ≡ length x.pending
+    by None = map_length (told id (decided_stamp v)) x.pending
+    by (Some fault) = refl
+
+all_length : (find : TxnId → Option Decision) (ps : List Pending) (x : TopicState) → length (tried_all find ps x).pending ≡ length x.pending
+all_length find [] x = refl
+all_length find (p ∷ ps) x = all_length find ps (tried p.part.id (find p.part.id) x) ∙ tried_length p.part.id (find p.part.id) x
+
+run_append : (es fs : List Event) (w : World) → run (es ++ fs) w ≡ run fs (run es w)
+run_append [] fs w = refl
+run_append (e ∷ es) fs w = run_append es fs (happens w e)
+
+abbrev steps_of : Topic → List Pending → List Event
+steps_of t ps = map (λ p. Learns t p.part.id) ps ++ map (λ p. Releases t) ps
+
+turn_within : (w : World) (t : Topic) → t.0 < length w.topics → with_topic w t (turned (takes w) (find_in w) (topic_at w t)) ≡ run (steps_of t (topic_at w t).pending) w
+turn_within w t room =
+    let x = topic_at w t in let y = tried_all (find_in w) x.pending x in
+    let learns = map (λ (p : Pending). Learns t p.part.id) x.pending in let releases = map (λ (p : Pending). Releases t) x.pending in
+    ap (λ (k : ℕ). with_topic w t (released_times (takes w) k y)) (all_length (find_in w) x.pending x)
+    ∙ (sym (release_steps w t x.pending y room)
+    ∙ (ap (run releases) (sym (learn_steps w t x.pending x room))
+    ∙ (ap (λ (v : World). run releases (run learns v)) (unwritten w t) ∙ sym (run_append learns releases w))))
+
+turn_when : (w : World) (t : Topic) (b : Bool) → is_topic w t ≡ b → happens w (Turns t) ≡ stepped w (effect w (Turns t)) (or_else (first_refusal ((not b, Refusal.NotNamed) ∷ [])) None)
+turn_when w t b e = ap (λ (z : Bool). stepped w (effect w (Turns t)) (or_else (first_refusal ((not z, Refusal.NotNamed) ∷ [])) None)) e
+
+pub turn_is_its_steps : Laws.TurnIsItsSteps
+turn_is_its_steps w t = elim (within t.0 (length w.topics)) [
+  | inl l ↦ turn_when w t true (lt-ltb t.0 (length w.topics) l) ∙ turn_within w t l
+  | inr l ↦ turn_when w t _ (le-ltb t.0 (length w.topics) l)
+      ∙ ap (λ (x : TopicState). run (steps_of t x.pending) w) (sym (get_or_past w.topics t.0 (new_topic t 0 0) l))
+]

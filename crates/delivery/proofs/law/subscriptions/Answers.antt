@@ -1,0 +1,5 @@
+use Rattle.delivery.proofs.Waiting.{numbers_are_free, entries_are_there}
+use Rattle.delivery.proofs.law.subscriptions.Goals as goal
+
+pub returns : goal.returns
+returns c = record { begin = numbers_are_free; end = entries_are_there }
