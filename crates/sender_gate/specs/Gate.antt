@@ -19,7 +19,7 @@ abbrev pub max_seq : ℕ
 max_seq = 18446744073709551615
 
 -- a sender, the number of its last transaction, and the stamp of the last that was decided
-pub record SenderState : Type 0 where
+pub record GateState : Type 0 where
   pub sender : Sender
   pub seq : ℕ
   pub floor : Stamp
@@ -32,15 +32,15 @@ pub record FlightState : Type 0 where
   pub parts : Slots TopicPart
 
 -- the id of the sender's next transaction
-abbrev pub next_id : SenderState → TxnId
+abbrev pub next_id : GateState → TxnId
 next_id gate = record { sender = gate.sender; seq = gate.seq + 1 }
 
 -- the flight of the sender's next transaction, of these SENDs
-abbrev pub flight_of : SenderState → List Send → FlightState
+abbrev pub flight_of : GateState → List Send → FlightState
 flight_of gate sends = record { id = next_id gate; floor = gate.floor; numbers = free_slots (topics_of sends); parts = parts_of (next_id gate) sends }
 
 -- why a flight doesn't begin: there is no next number, or no memory
-abbrev pub begin_fault : SenderState → GateFault
+abbrev pub begin_fault : GateState → GateFault
 begin_fault gate = if gate.seq == max_seq then SeqFull else NoMemory
 
 -- the tickets that were put into a flight
@@ -56,6 +56,6 @@ over_floor floor ticket (Err fault) = Err (gate_fault fault)
 abbrev pub flight_answer : FlightState → Ticket → Result Unit GateFault
 flight_answer flight ticket = over_floor flight.floor ticket (put_answer (tally_of flight) ticket)
 
--- the sender once its flight has ended with this floor
-abbrev pub sender_after : FlightState → Stamp → SenderState
-sender_after flight floor = record { sender = flight.id.sender; seq = flight.id.seq; floor = floor }
+-- the gate once its flight has ended with this floor
+abbrev pub gate_after : FlightState → Stamp → GateState
+gate_after flight floor = record { sender = flight.id.sender; seq = flight.id.seq; floor = floor }

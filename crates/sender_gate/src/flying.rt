@@ -10,7 +10,7 @@ ghost use Rattle.mcast_txn.specs.Slots.{held_at, with_slot};
 ghost use Rattle.mcast_txn.specs.Stamp.{greatest, stamp_lt};
 ghost use Rattle.sender_gate.specs.declared.fault.GateFault.TheVariants.{Incomplete};
 ghost use Rattle.sender_gate.specs.Flights.{IsFlying};
-ghost use Rattle.sender_gate.specs.Gate.{flight_answer, sender_after, tally_of};
+ghost use Rattle.sender_gate.specs.Gate.{flight_answer, gate_after, tally_of};
 
 use crate::fault::GateFault;
 use crate::gate::Gate;
@@ -104,7 +104,7 @@ impl Flying {
         ensures id { IfOk result (λ decided. decided.1.value.id ≡ self.id) }
         ensures rows { IfOk result (λ decided. numbers_of decided.1.value.rows ≡ self.numbers) }
         ensures gate { IfOk result
-            (λ decided. decided.0 ≡ sender_after self (greatest decided.1.value.rows)) }
+            (λ decided. decided.0 ≡ gate_after self (greatest decided.1.value.rows)) }
         ensures above { IfOk result (λ decided. IsTrue (stamp_lt self.floor decided.0.floor)) }
         ensures back { IfErr result (λ refused. refused ≡ (self, Incomplete)) }
     {
@@ -123,7 +123,7 @@ impl Flying {
     /// Ends without a verdict, with no memory: the floor stays, the number stays used, and the tickets that were put
     /// are handed back, by rising topic.
     pub fn withdraw(self) -> (Gate, Tickets)
-        ensures gate { result.0 ≡ sender_after self self.floor }
+        ensures gate { result.0 ≡ gate_after self self.floor }
         ensures tickets { result.1 ≡ tickets_of (tally_of self) }
     {
         let Flying {

@@ -20,9 +20,9 @@ pub struct Gate {
 }
 
 impl Model for Gate {
-    ghost use Rattle.sender_gate.specs.Gate.{SenderState};
+    ghost use Rattle.sender_gate.specs.Gate.{GateState};
 
-    ghost Value = { SenderState };
+    ghost Value = { GateState };
 
     ghost view = { λ g. record { sender = g.sender; seq = g.seq; floor = g.floor } };
 }
