@@ -3,3 +3,4 @@ pub mod Queues
 pub mod Keeping
 pub mod Turning
 pub mod Allowed
+pub mod Rows

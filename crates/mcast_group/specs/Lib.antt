@@ -4,3 +4,4 @@ pub mod Topics
 pub mod Sound
 pub mod Fitting
 pub mod Laws
+pub mod Faults
