@@ -1,13 +1,24 @@
--- More worked rows: what comes of a lag, of DISCONNECT with an item left, of a decision after another's; what two queues share; a settled topic.
-use Rattle.std.specs.Prelude.{◌≡◌, true, [], ◌∷◌, map}
+-- More worked rows: what comes of a lag, of DISCONNECT with an item left, of a decision after another's, of an ERROR and of single releases;
+-- what two queues share; a settled topic; a topic that is added; what a commit is refused for; a span, a flight and a turn beside their laws.
+use Rattle.std.specs.Prelude.{◌≡◌, ℕ, true, List, [], ◌∷◌, length, map, reverse, None, Some}
 use Rattle.std.proofs.Common.{refl, inl, inr}
+use Rattle.mcast_txn.specs.declared.send.Send.{Send}
+use Rattle.mcast_txn.specs.declared.stamp.Stamp.{Stamp}
+use Rattle.mcast_txn.specs.Part.{part_at}
+use Rattle.mcast_txn.specs.Agreed.{In}
+use Rattle.mcast_group.specs.declared.fault.SubFault.{SubFault}
+use Rattle.mcast_group.specs.Span.{LogRow}
+use Rattle.mcast_group.specs.Topics.{TopicState, Pending, Entry, subscribe_fault, unsubscribe_fault}
 use Rattle.delivery.specs.declared.refusal.Refusal.{Refusal}
-use Rattle.delivery.specs.Reading.{log_at, accepted_at}
-use Rattle.delivery.specs.Events.Event.{Opened, Commits, Subscribes, Disconnects, Leaves, Proposes, Decides, Turns, Takes}
-use Rattle.delivery.specs.Events.Outcome.{Refused, Done, Subscribed, Unsubscribed, Leaving, Error, Gone, Ticket, Decided, Turned}
-use Rattle.delivery.specs.Settled.{IsSettled, AllResolved}
+use Rattle.delivery.specs.World.{World, topic_at, connection_at, subscription_at}
+use Rattle.delivery.specs.Reading.{log_at, accepted_at, end_at, span_at, frontier_at}
+use Rattle.delivery.specs.Events.{Event, happens, outcome}
+use Rattle.delivery.specs.Events.Event.{Topic_added, Opened, Commits, Subscribes, Disconnects, Errs, Lost, Leaves, Proposes, Decides, Learns, Releases, Turns, Takes}
+use Rattle.delivery.specs.Events.Outcome.{Refused, Done, Subscribed, Unsubscribed, Leaving, Error, Gone, Ticket, Decided, Learnt, Released, Turned}
+use Rattle.delivery.specs.Runs.{run, outcomes, handed_of}
+use Rattle.delivery.specs.Settled.{IsSettled, IsSilent, AllResolved}
 use Rattle.delivery.specs.Laws.{Run, came, after, shared}
-use Rattle.delivery.proofs.Rows.{topic, stamp, id, send, part, flying, handed, with_clocks, told, to_both, lags, sends_one, four_tickets}
+use Rattle.delivery.proofs.Rows.{topic, stamp, id, send, part, flying, handed, with_clocks, told, log_of, to_both, ends, lags, sends_one, four_tickets}
 
 -- a queue of two items and three rows: the third take is answered by ERROR
 lags_told : told lags
@@ -33,7 +44,13 @@ leaves_told = refl
 abbrev then_decided : Run
 then_decided = four_tickets (Decides 1 ∷ Turns (topic 0) ∷ Decides 0 ∷ Turns (topic 0) ∷ [])
 
-then_logs : map (λ row. row.stamp) (log_at (after then_decided) (topic 0)) ≡ stamp 2 0 ∷ stamp 2 1 ∷ []
+then_told : told then_decided
+    ≡ Done ∷ Done ∷ flying (id 0 1) to_both ∷ flying (id 1 1) to_both
+    ∷ Ticket (id 0 1) (stamp 1 0) ∷ Ticket (id 1 1) (stamp 1 1) ∷ Ticket (id 1 1) (stamp 2 0) ∷ Ticket (id 0 1) (stamp 2 1)
+    ∷ Decided (id 1 1) (stamp 2 0) ∷ Turned (topic 0) 0 ∷ Decided (id 0 1) (stamp 2 1) ∷ Turned (topic 0) 2 ∷ []
+then_told = refl
+
+then_logs : log_of then_decided 0 ≡ stamp 2 0 ∷ stamp 2 1 ∷ []
 then_logs = refl
 
 -- two queues that share two transactions
@@ -59,3 +76,197 @@ settles_all txn (inr (inr (inr (inr x5)))) n = elim x5 [ ]
 
 settles_settled : IsSettled (topic 0) (came settles)
 settles_settled = inl (refl, settles_all)
+
+-- ---- a topic is added in the midst of a run, and a transaction names it: before that it is refused, and nothing stays of it
+abbrev added : Run
+added = with_clocks (0 ∷ []) (
+    Opened ∷ Commits 0 (send 0 1 ∷ send 1 2 ∷ []) ∷ Subscribes 0 (topic 1) ∷ Topic_added 4 ∷ Subscribes 0 (topic 1)
+    ∷ Commits 0 (send 0 1 ∷ send 1 2 ∷ []) ∷ Proposes 0 (topic 0) true ∷ Proposes 0 (topic 1) true ∷ Decides 0
+    ∷ Turns (topic 1) ∷ Takes 0 ∷ Turns (topic 0) ∷ [])
+
+added_told : told added
+    ≡ Done ∷ Refused Refusal.NotNamed ∷ Refused Refusal.NotNamed ∷ Done ∷ Subscribed 0 0 (topic 1) (stamp 0 0)
+    ∷ flying (id 0 1) (send 0 1 ∷ send 1 2 ∷ []) ∷ Ticket (id 0 1) (stamp 1 0) ∷ Ticket (id 0 1) (stamp 5 1) ∷ Decided (id 0 1) (stamp 5 1)
+    ∷ Turned (topic 1) 1 ∷ handed 0 (id 0 1) (stamp 5 1) (part 1 2 ∷ []) ∷ Turned (topic 0) 1 ∷ []
+added_told = refl
+
+added_logs : log_of added 0 ∷ log_of added 1 ∷ [] ≡ (stamp 5 1 ∷ []) ∷ (stamp 5 1 ∷ []) ∷ []
+added_logs = refl
+
+-- ---- what a commit is refused for: a topic that isn't there, and then a sender without numbers; of no SENDs neither
+
+-- a connection whose sender has made so many transactions, and one topic
+abbrev pub has_made : ℕ → World
+has_made seq = record (after (with_clocks (0 ∷ []) (Opened ∷ []))) {
+  senders = record { seq = seq; floor = stamp 0 0; flight = None; leftovers = [] } ∷ [];
+}
+
+last_is_made : outcome (has_made 18446744073709551614) (Commits 0 (send 0 1 ∷ [])) ≡ flying (id 0 18446744073709551615) (send 0 1 ∷ [])
+last_is_made = refl
+
+none_is_left : outcome (has_made 18446744073709551615) (Commits 0 (send 0 1 ∷ [])) ≡ Refused Refusal.SeqFull
+none_is_left = refl
+
+topic_is_first : outcome (has_made 18446744073709551615) (Commits 0 (send 0 1 ∷ send 1 2 ∷ [])) ≡ Refused Refusal.NotNamed
+topic_is_first = refl
+
+nothing_is_made : outcome (has_made 18446744073709551615) (Commits 0 []) ≡ Done
+nothing_is_made = refl
+
+-- ---- an ERROR answers a frame with a fault: the item that wasn't taken isn't handed on, and no frame is read
+abbrev errs : Run
+errs = with_clocks (0 ∷ []) (
+    Opened ∷ Subscribes 0 (topic 0) ∷ sends_one 1 (Errs 0 ∷ Takes 0 ∷ Commits 0 (send 0 2 ∷ []) ∷ Errs 0 ∷ Lost 0 ∷ Leaves 0 ∷ Takes 0 ∷ []))
+
+errs_told : told errs
+    ≡ Done ∷ Subscribed 0 0 (topic 0) (stamp 0 0)
+    ∷ flying (id 0 1) (send 0 1 ∷ []) ∷ Ticket (id 0 1) (stamp 1 0) ∷ Decided (id 0 1) (stamp 1 0) ∷ Turned (topic 0) 1
+    ∷ Error 0 ∷ Refused Refusal.Gone ∷ Refused Refusal.Busy ∷ Refused Refusal.Busy ∷ Refused Refusal.Busy
+    ∷ Unsubscribed 0 (stamp 1 0) ∷ Refused Refusal.Gone ∷ []
+errs_told = refl
+
+errs_handed : (handed_of 0 (came errs) ≡ []) × (map (λ i. i.stamp) (accepted_at (after errs) 0) ≡ stamp 1 0 ∷ [])
+errs_handed = (refl, refl)
+
+errs_silent : IsSilent 0 (came errs)
+errs_silent = inr (0, topic 0, stamp 0 0, Error 0, inr (inr (inr (inr (inr (inr (inr (inr (inr (inr (inr (inl refl))))))))))), inr (inr (inr (inr (inr (inr (inl refl)))))), refl)
+
+-- ---- one release by itself: nothing is due before the stamp is learnt, nor after it
+abbrev releases : Run
+releases = with_clocks (0 ∷ []) (
+    Opened ∷ Subscribes 0 (topic 0) ∷ Commits 0 (send 0 1 ∷ []) ∷ Proposes 0 (topic 0) true ∷ Decides 0
+    ∷ Releases (topic 0) ∷ Learns (topic 0) (id 0 1) ∷ Releases (topic 0) ∷ Releases (topic 0) ∷ Learns (topic 0) (id 0 1) ∷ [])
+
+releases_told : told releases
+    ≡ Done ∷ Subscribed 0 0 (topic 0) (stamp 0 0)
+    ∷ flying (id 0 1) (send 0 1 ∷ []) ∷ Ticket (id 0 1) (stamp 1 0) ∷ Decided (id 0 1) (stamp 1 0)
+    ∷ Refused Refusal.NothingDue ∷ Learnt (id 0 1) (topic 0) ∷ Released (topic 0) (id 0 1) ∷ Refused Refusal.NothingDue ∷ Refused Refusal.NotPending ∷ []
+releases_told = refl
+
+releases_log : log_at (after releases) (topic 0) ≡ record { id = id 0 1; topics = topic 0 ∷ []; stamp = stamp 1 0 } ∷ []
+releases_log = refl
+
+releases_queue : accepted_at (after releases) 0 ≡ record { id = id 0 1; stamp = stamp 1 0; sends = part 0 1 ∷ [] } ∷ []
+releases_queue = refl
+
+-- ---- beside the laws: premises that hold, and what follows, computed
+
+-- a flight: the second of two connections commits
+abbrev two_open : Run
+two_open = with_clocks (0 ∷ 0 ∷ []) (Opened ∷ Opened ∷ [])
+
+flight_made : outcome (after two_open) (Commits 1 to_both) ≡ flying (id 1 1) to_both
+flight_made = refl
+
+flight_own : (c : ℕ) × (sends : List Send) × (Commits 1 to_both ≡ Commits c sends) × (to_both ≡ sends)
+    × ((id 1 1).sender.0 ≡ (connection_at (after two_open) c).sender)
+flight_own = (1, to_both, refl, refl, refl)
+
+-- a span: its beginning and its end as they were answered
+ends_begun : In (Subscribed 0 1 (topic 0) (stamp 0 0)) (came ends)
+ends_begun = inr (inr (inr (inr (inr (inr (inr (inr (inl refl))))))))
+
+ends_closed : In (Unsubscribed 0 (stamp 1 0)) (came ends)
+ends_closed = inr (inr (inl refl))
+
+ends_there : (length (after ends).subscriptions ≡ 1) × ((span_at (after ends) 0).topic ≡ topic 0)
+    × ((span_at (after ends) 0).from ≡ stamp 0 0) × (end_at (after ends) 0 ≡ Some (stamp 1 0))
+ends_there = (refl, refl, refl, refl)
+
+-- one that begins behind a row: at the frontier
+begins_late : (outcome (after settles) (Subscribes 0 (topic 0)) ≡ Subscribed 0 0 (topic 0) (stamp 1 0))
+    × (frontier_at (after settles) (topic 0) ≡ stamp 1 0)
+begins_late = (refl, refl)
+
+-- a queue of two items is full, and a third row is decided: the turn ends the span, and so does the release; the end stays
+abbrev full_queue : List Event → Run
+full_queue then = record {
+  capacity = 2;
+  log_limit = 65536;
+  clocks = 0 ∷ [];
+  events = Opened ∷ Opened ∷ Subscribes 1 (topic 0)
+      ∷ sends_one 1 (sends_one 2 (Commits 0 (send 0 3 ∷ []) ∷ Proposes 0 (topic 0) true ∷ Decides 0 ∷ then));
+}
+
+full_ends : (end_at (after (full_queue [])) 0 ≡ None) × (end_at (happens (after (full_queue [])) (Turns (topic 0))) 0 ≡ Some (stamp 2 0))
+full_ends = (refl, refl)
+
+full_holds : (length (accepted_at (happens (after (full_queue [])) (Turns (topic 0))) 0) ≡ 2) × (handed_of 0 (came (full_queue [])) ≡ [])
+full_holds = (refl, refl)
+
+abbrev pub by_release : List Event → List Entry
+by_release then = (topic_at (happens (after (full_queue then)) (Releases (topic 0))) (topic 0)).subscriptions
+
+full_released : (map (λ e. e.to) (by_release (Learns (topic 0) (id 0 3) ∷ [])) ≡ Some (stamp 2 0) ∷ [])
+    × (map (λ e. length e.accepted) (by_release (Learns (topic 0) (id 0 3) ∷ [])) ≡ 2 ∷ [])
+full_released = (refl, refl)
+
+-- where one item was taken, there is room: the release gives it the item
+room_released : (map (λ e. e.to) (by_release (Takes 0 ∷ Learns (topic 0) (id 0 3) ∷ [])) ≡ None ∷ [])
+    × (map (λ e. length e.accepted) (by_release (Takes 0 ∷ Learns (topic 0) (id 0 3) ∷ [])) ≡ 3 ∷ [])
+room_released = (refl, refl)
+
+end_stays : end_at (happens (after (full_queue (Turns (topic 0) ∷ []))) (Disconnects 1)) 0 ≡ Some (stamp 2 0)
+end_stays = refl
+
+-- the numbers of subscriptions: the next is free, that of one which has lagged isn't, and its entry is there
+lags_numbers : (subscribe_fault 1 (topic_at (after lags) (topic 0)) ≡ None)
+    × (subscribe_fault 0 (topic_at (after lags) (topic 0)) ≡ Some SubFault.SubInUse)
+lags_numbers = (refl, refl)
+
+lags_entry : ((subscription_at (after lags) 0).closed ≡ None) × (unsubscribe_fault 0 (topic_at (after lags) (topic 0)) ≡ None)
+lags_entry = (refl, refl)
+
+-- a turn with two pending parts is two learns and two releases
+abbrev waiting : List Event → World
+waiting decisions = after (four_tickets decisions)
+
+abbrev turn_steps : List Event
+turn_steps = Learns (topic 0) (id 0 1) ∷ Learns (topic 0) (id 1 1) ∷ Releases (topic 0) ∷ Releases (topic 0) ∷ []
+
+two_wait : map (λ p. p.part.id) (topic_at (waiting []) (topic 0)).pending ≡ id 0 1 ∷ id 1 1 ∷ []
+two_wait = refl
+
+steps_told : reverse (outcomes turn_steps (waiting (Decides 0 ∷ Decides 1 ∷ [])) [])
+    ≡ Learnt (id 0 1) (topic 0) ∷ Learnt (id 1 1) (topic 0) ∷ Released (topic 0) (id 1 1) ∷ Released (topic 0) (id 0 1) ∷ []
+steps_told = refl
+
+-- topic 0 with these pending parts, rows and frontier
+abbrev pub turned_topic : List Pending → List LogRow → Stamp → TopicState
+turned_topic pending rows frontier = record {
+  topic = topic 0;
+  clock = 2;
+  log_limit = 65536;
+  pending = pending;
+  base = stamp 0 0;
+  held = rows;
+  frontier = frontier;
+  subscriptions = [];
+}
+
+abbrev both_rows : List LogRow
+both_rows =
+    record { id = id 1 1; topics = topic 0 ∷ topic 1 ∷ []; stamp = stamp 2 0 }
+    ∷ record { id = id 0 1; topics = topic 0 ∷ topic 1 ∷ []; stamp = stamp 2 1 } ∷ []
+
+turn_of_both : topic_at (happens (waiting (Decides 0 ∷ Decides 1 ∷ [])) (Turns (topic 0))) (topic 0) ≡ turned_topic [] both_rows (stamp 2 1)
+turn_of_both = refl
+
+steps_of_both : topic_at (run turn_steps (waiting (Decides 0 ∷ Decides 1 ∷ []))) (topic 0) ≡ turned_topic [] both_rows (stamp 2 1)
+steps_of_both = refl
+
+-- so too where one of them is undecided: a learn and both releases are refused
+refused_told : reverse (outcomes turn_steps (waiting (Decides 1 ∷ [])) [])
+    ≡ Refused Refusal.NotDecided ∷ Learnt (id 1 1) (topic 0) ∷ Refused Refusal.NothingDue ∷ Refused Refusal.NothingDue ∷ []
+refused_told = refl
+
+abbrev half_decided : List Pending
+half_decided =
+    record { part = part_at (id 0 1) to_both (topic 0); ticket = 1; learnt = None }
+    ∷ record { part = part_at (id 1 1) to_both (topic 0); ticket = 2; learnt = Some (stamp 2 0) } ∷ []
+
+turn_of_one : topic_at (happens (waiting (Decides 1 ∷ [])) (Turns (topic 0))) (topic 0) ≡ turned_topic half_decided [] (stamp 0 0)
+turn_of_one = refl
+
+steps_of_one : topic_at (run turn_steps (waiting (Decides 1 ∷ []))) (topic 0) ≡ turned_topic half_decided [] (stamp 0 0)
+steps_of_one = refl

@@ -47,7 +47,8 @@ with_clocks clocks events = record { capacity = 64; log_limit = 65536; clocks = 
 abbrev pub told : Run → List Outcome
 told r = reverse (came r)
 
-abbrev log_of : Run → ℕ → List Stamp
+-- the stamps of a topic's log after the run
+abbrev pub log_of : Run → ℕ → List Stamp
 log_of r t = map (λ row. row.stamp) (log_at (after r) (topic t))
 
 -- ---- transactions that cross: topics A at 9, B and C at 0
@@ -132,7 +133,7 @@ three_sends_told = refl
 
 -- ---- a span that ends: the second transaction comes after it
 
-abbrev ends : Run
+abbrev pub ends : Run
 ends = with_clocks (0 ∷ []) (
     Opened ∷ Opened ∷ Commits 0 (send 0 1 ∷ []) ∷ Proposes 0 (topic 0) true ∷ Decides 0 ∷ Subscribes 1 (topic 0) ∷ Turns (topic 0) ∷ Takes 0
     ∷ Commits 0 (send 0 2 ∷ []) ∷ Proposes 0 (topic 0) true ∷ Decides 0 ∷ Unsubscribes 1 0 ∷ Turns (topic 0) ∷ Takes 0 ∷ [])
