@@ -1,4 +1,5 @@
 pub mod Due
+pub mod Faults
 pub mod World
 pub mod Reading
 pub mod Events

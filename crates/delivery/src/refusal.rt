@@ -1,23 +1,26 @@
 //! What the core refuses.
 
+ghost use Rattle.std.specs.Prelude.{◌≡◌};
+ghost use Rattle.delivery.specs.Faults.{refusal_number};
+
 use thiserror::Error;
 
 /// Why an event has no effect. The checks stand in the order of each event's own list.
 #[derive(Clone, Copy, Debug, PartialEq, Eq, Error)]
 pub enum Refusal {
-    /// 43: no part of this transaction is pending at the topic.
-    #[error("43 NotPending: the transaction isn't pending at this topic")]
+    /// 43: no part of this transaction is pending at the topic. No cancelling in a run meets it.
+    #[error("43 NotPending: name a transaction that is pending at this topic")]
     NotPending,
     /// 44: the verdict isn't that of the part which is pending. It never comes in a run.
     #[error("44 Foreign: give the verdict of the transaction that is pending here")]
     Foreign,
     /// 45: another stamp was learnt, or another part has this one. It never comes in a run.
-    #[error("45 Clash: a transaction has one stamp, and a stamp one transaction")]
+    #[error("45 Clash: give the stamp that was learnt first; no two transactions have one stamp")]
     Clash,
     /// 46: the part has learnt its stamp. It never comes in a run.
-    #[error("46 Decided: a transaction that was decided can't be cancelled")]
+    #[error("46 Decided: cancel before the stamp is learnt; now release the transaction")]
     Decided,
-    /// 48: there is no such subscription.
+    /// 48: there is no such subscription, or it isn't this connection's, or it was closed.
     #[error("48 NoSub: name a subscription of this connection that is open")]
     NoSub,
     /// 51: the topic gave a ticket before.
@@ -60,4 +63,32 @@ pub enum Refusal {
     /// 89: no topic refused the transaction.
     #[error("89 NotMarked: only a transaction that a topic refused can be withdrawn")]
     NotMarked,
+}
+
+impl Refusal {
+    /// Its number, which its text begins with.
+    pub fn number(self) -> u32
+        ensures { result ≡ refusal_number self }
+    {
+        match self {
+            Refusal::NotPending => 43,
+            Refusal::Foreign => 44,
+            Refusal::Clash => 45,
+            Refusal::Decided => 46,
+            Refusal::NoSub => 48,
+            Refusal::Twice => 51,
+            Refusal::Incomplete => 52,
+            Refusal::SeqFull => 53,
+            Refusal::NotLeaving => 79,
+            Refusal::NoConn => 80,
+            Refusal::Busy => 81,
+            Refusal::NoFlight => 83,
+            Refusal::NotNamed => 84,
+            Refusal::NotDecided => 85,
+            Refusal::NothingDue => 86,
+            Refusal::Gone => 87,
+            Refusal::Marked => 88,
+            Refusal::NotMarked => 89,
+        }
+    }
 }
