@@ -237,12 +237,13 @@ impl Session {
         if let Err(fault) = self.connected() {
             return Err((frame, fault));
         }
-        self.end();
         let mut raw = frame.raw;
-        Ok(Step {
+        let step = Step {
             action: Action::Disconnect,
             receipt: raw.headers.take(b"receipt"),
-        })
+        };
+        self.end();
+        Ok(step)
     }
 
     fn begin(&mut self, frame: BeginFrame) -> Result<Step, (BeginFrame, SessionFault)>

@@ -1,6 +1,11 @@
-//! Worked examples of the session's table, the calls with ample memory, and their answers without it.
+//! Worked examples of the session's table, made histories, the calls with ample memory, and their answers without it.
 
+mod answers;
 mod client;
+mod histories;
+mod made;
+mod memory;
 mod names;
+mod plain;
 mod session;
 mod transactions;

@@ -41,22 +41,24 @@ fn pair(alloc: Global, name: &[u8], value: &[u8]) -> Result<(Octets, Octets), No
     Ok((name, text(alloc, value)?))
 }
 
-/// A frame with these headers; its body is `m` where it is a SEND.
-pub(super) fn frame(
+/// Puts a header at the end.
+pub(super) fn push(
+    alloc: Global,
+    headers: &mut Headers,
+    name: &[u8],
+    value: &[u8],
+) -> Result<(), NoMemory> {
+    let (name, value) = pair(alloc, name, value)?;
+    headers.push(name, value)
+}
+
+/// The client's frame of these headers and this body, which the case table accepts.
+pub(super) fn classified(
     alloc: Global,
     command: Command,
-    pairs: Pairs,
+    headers: Headers,
+    body: &[u8],
 ) -> Result<ClientFrame, NoMemory> {
-    let mut headers = Headers::new(alloc);
-    for (name, value) in pairs {
-        let (name, value) = pair(alloc, name, value)?;
-        headers.push(name, value)?;
-    }
-    let body = if command == Command::Send {
-        b"m".as_slice()
-    } else {
-        b"".as_slice()
-    };
     let raw = RawFrame {
         command,
         headers,
@@ -66,6 +68,30 @@ pub(super) fn frame(
         Ok(frame) => Ok(frame),
         Err(_) => Err(NoMemory),
     }
+}
+
+/// A frame with these headers and this body.
+pub(super) fn frame_with(
+    alloc: Global,
+    command: Command,
+    pairs: Pairs,
+    body: &[u8],
+) -> Result<ClientFrame, NoMemory> {
+    let mut headers = Headers::new(alloc);
+    for (name, value) in pairs {
+        push(alloc, &mut headers, name, value)?;
+    }
+    classified(alloc, command, headers, body)
+}
+
+/// A frame with these headers; its body is `m` where it is a SEND.
+fn frame(alloc: Global, command: Command, pairs: Pairs) -> Result<ClientFrame, NoMemory> {
+    let body = if command == Command::Send {
+        b"m".as_slice()
+    } else {
+        b"".as_slice()
+    };
+    frame_with(alloc, command, pairs, body)
 }
 
 /// The number of the fault, or 0 where the frame was accepted.
@@ -106,17 +132,32 @@ impl Client {
         })
     }
 
+    /// A client whose frames of this script were accepted; an error where one wasn't.
+    pub(super) fn after(alloc: Global, script: &[u8]) -> Result<Client, NoMemory> {
+        let mut client = Client::new(alloc)?;
+        for frame in script.chunks(4) {
+            if let [letter, x, y, ..] = frame {
+                if client.letters(*letter, *x, *y)? != 0 {
+                    return Err(NoMemory);
+                }
+            }
+        }
+        Ok(client)
+    }
+
     /// A client whose CONNECT was accepted, and then a BEGIN of `x`.
     pub(super) fn begun(alloc: Global) -> Result<Client, NoMemory> {
-        let mut client = Client::new(alloc)?;
-        client.connect(b"1.2")?;
-        client.letters(b'b', b'x', b' ')?;
-        Ok(client)
+        Client::after(alloc, b"c..,bx.")
+    }
+
+    /// What the session answers to a frame.
+    pub(super) fn take(&mut self, frame: ClientFrame) -> Answer {
+        self.session.step(frame)
     }
 
     pub(super) fn answer(&mut self, command: Command, pairs: Pairs) -> Result<Answer, NoMemory> {
         let frame = frame(self.alloc, command, pairs)?;
-        Ok(self.session.step(frame))
+        Ok(self.take(frame))
     }
 
     /// What an accepted frame is answered.

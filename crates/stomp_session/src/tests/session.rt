@@ -1,7 +1,7 @@
 //! The session's table: one row for each refusal but want of memory.
 
 use super::client::{Client, has, last_number};
-use crate::{Action, SessionFault, Step};
+use crate::{Action, Step};
 use std::test::Fail;
 use stomp_frame::{Command, Octets, ServerFrame, render, write_frame};
 
@@ -155,28 +155,4 @@ fn a_receipt_is_written(rt: HostRuntime) -> Result<(), Fail> {
     write_frame(&frame, &mut out)?;
     assert!(rt; out.as_slice() == b"RECEIPT\nreceipt-id:r\n\n\0".as_slice());
     Ok(())
-}
-
-/// With one allocation refused (`rt try --test --fail-alloc N`) a frame is told 72 and handed back, and the session is closed; with
-/// ample memory it is accepted.
-#[test]
-fn want_of_memory_closes(rt: HostRuntime) {
-    let alloc = rt.alloc();
-    for _ in 0..4u8 {
-        let Ok(mut client) = Client::begun(alloc) else {
-            continue;
-        };
-        let Ok(answer) = client.answer(Command::Subscribe, &[(b"id", b"a"), (b"destination", b"A")])
-        else {
-            continue;
-        };
-        match answer {
-            Ok(step) => assert!(rt; step.receipt.is_none()),
-            Err((frame, fault)) => {
-                assert_eq!(rt; fault, SessionFault::NoMemory);
-                assert!(rt; frame.field(b"destination").is_some());
-                assert_eq!(rt; client.letters(b'u', b'a', b' ').unwrap_or(73), 73);
-            }
-        }
-    }
 }

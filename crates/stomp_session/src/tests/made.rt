@@ -1,0 +1,174 @@
+//! Frames of few names, drawn from the number of their history.
+
+ghost use Rattle.std.specs.Prelude.{◌<◌};
+
+use super::client::{classified, push};
+use std::alloc::Global;
+use stomp_frame::{ClientFrame, Command, Headers, NoMemory};
+
+/// Values of accept-version, and whether 1.2 is among them.
+const VERSIONS: [(&[u8], bool); 4] = [
+    (b"1.2", true),
+    (b"1.0,1.1,1.2", true),
+    (b"1.1, 1.2 ", true),
+    (b"1.0,1.1", false),
+];
+
+/// A frame of a history, as plain data: those headers are there that have a value.
+#[derive(Clone, Copy)]
+pub(super) struct Made {
+    /// Its place in its history, from 0, which is the body of a SEND.
+    pub place: u8,
+    pub command: Command,
+    /// The accept-version, and whether 1.2 is among its versions.
+    pub versions: Option<(&'static [u8], bool)>,
+    pub id: Option<u8>,
+    pub destination: Option<u8>,
+    pub ack: Option<&'static [u8]>,
+    pub transaction: Option<u8>,
+    pub receipt: Option<u8>,
+}
+
+impl Made {
+    /// How many headers a SEND has.
+    pub(super) fn send_headers(&self) -> usize {
+        [self.destination, self.transaction, self.receipt]
+            .iter()
+            .filter(|header| header.is_some())
+            .count()
+    }
+
+    fn headers(&self, alloc: Global) -> Result<Headers, NoMemory> {
+        let mut headers = Headers::new(alloc);
+        if let Some((versions, _)) = self.versions {
+            push(alloc, &mut headers, b"accept-version", versions)?;
+            push(alloc, &mut headers, b"host", b"h")?;
+        }
+        if let Some(ack) = self.ack {
+            push(alloc, &mut headers, b"ack", ack)?;
+        }
+        for (name, letter) in [
+            (b"id".as_slice(), self.id),
+            (b"destination", self.destination),
+            (b"transaction", self.transaction),
+            (b"receipt", self.receipt),
+        ] {
+            if let Some(letter) = letter {
+                push(alloc, &mut headers, name, &[letter])?;
+            }
+        }
+        Ok(headers)
+    }
+
+    /// The client's frame.
+    pub(super) fn frame(&self, alloc: Global) -> Result<ClientFrame, NoMemory> {
+        let headers = self.headers(alloc)?;
+        if self.command == Command::Send {
+            return classified(alloc, self.command, headers, &[self.place]);
+        }
+        classified(alloc, self.command, headers, b"")
+    }
+}
+
+/// The draws of a history: a linear congruential generator, that begins with the history's number.
+#[derive(Drop)]
+pub(super) struct Draws {
+    state: u32,
+}
+
+impl Draws {
+    pub(super) fn of(history: u32) -> Draws {
+        Draws {
+            state: history.wrapping_mul(2_654_435_761),
+        }
+    }
+
+    /// A number below `n`.
+    pub(super) fn below(&mut self, n: u32) -> u32
+        requires { 0 < n }
+        ensures { result < n }
+    {
+        self.state = self
+            .state
+            .wrapping_mul(1_664_525)
+            .wrapping_add(1_013_904_223);
+        (self.state >> 16) % n
+    }
+
+    /// One of these letters.
+    fn letter(&mut self, letters: &[u8; 4]) -> u8 {
+        letters[self.below(4) as usize]
+    }
+
+    fn command(&mut self) -> Command {
+        match self.below(64) {
+            0 => Command::Connect,
+            1 => Command::Stomp,
+            2..=9 => Command::Subscribe,
+            10..=17 => Command::Unsubscribe,
+            18..=25 => Command::Begin,
+            26..=53 => Command::Send,
+            54..=60 => Command::Commit,
+            61..=62 => Command::Abort,
+            _ => Command::Disconnect,
+        }
+    }
+
+    fn ack(&mut self) -> Option<&'static [u8]> {
+        match self.below(4) {
+            0 => Some(b"client"),
+            1 => Some(b"auto"),
+            _ => None,
+        }
+    }
+
+    /// A frame of this command, with the headers that it requires, and some that it may have.
+    fn frame_of(&mut self, place: u8, command: Command) -> Made {
+        let mut made = Made {
+            place,
+            command,
+            versions: None,
+            id: None,
+            destination: None,
+            ack: None,
+            transaction: None,
+            receipt: None,
+        };
+        match command {
+            Command::Connect | Command::Stomp => {
+                made.versions = Some(VERSIONS[self.below(4) as usize]);
+            }
+            Command::Subscribe => {
+                made.id = Some(self.letter(b"abab"));
+                made.destination = Some(self.letter(b"ABAq"));
+                made.ack = self.ack();
+            }
+            Command::Unsubscribe => made.id = Some(self.letter(b"abab")),
+            Command::Send => made.destination = Some(self.letter(b"ABBq")),
+            Command::Begin | Command::Commit | Command::Abort => {
+                made.transaction = Some(self.letter(b"xyxy"));
+            }
+            _ => {}
+        }
+        made
+    }
+
+    /// A frame at this place of a history. Most histories begin with a CONNECT or a STOMP.
+    pub(super) fn frame(&mut self, place: u8) -> Made {
+        let command = if place != 0 || self.below(8) == 0 {
+            self.command()
+        } else if self.below(2) == 0 {
+            Command::Connect
+        } else {
+            Command::Stomp
+        };
+        let mut made = self.frame_of(place, command);
+        if command == Command::Send && self.below(4) != 0 {
+            made.transaction = Some(self.letter(b"xyxy"));
+        }
+        if self.below(4) == 0 {
+            made.receipt = Some(self.letter(b"rstu"));
+        }
+        made
+    }
+}

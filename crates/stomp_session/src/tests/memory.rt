@@ -1,0 +1,208 @@
+//! Refused growths: they are made by `rt try --test --fail-alloc N`, and each test here holds whichever allocation fails.
+
+use super::client::{Client, Pairs, frame_with};
+use crate::{Names, SessionFault};
+use mcast_txn::Topic;
+use std::alloc::Global;
+use std::process::Abort;
+use std::test::Fail;
+use stomp_frame::{ClientFrame, Command, Headers, NoMemory};
+
+/// A frame, and the script of the frames before it.
+#[derive(Clone, Copy)]
+struct Row {
+    script: &'static [u8],
+    command: Command,
+    pairs: Pairs<'static>,
+    body: &'static [u8],
+}
+
+/// Whether the headers are these, in their order.
+fn are_headers(headers: &Headers, pairs: Pairs) -> bool {
+    if headers.len() != pairs.len() {
+        return false;
+    }
+    for place in 0..pairs.len() {
+        if headers.pair(place) != pairs[place] {
+            return false;
+        }
+    }
+    true
+}
+
+/// Whether the frame is the row's, as it was given.
+fn is_given(frame: ClientFrame, row: &Row) -> bool {
+    for (name, value) in row.pairs {
+        if frame.field(name) != Some(*value) {
+            return false;
+        }
+    }
+    let raw = frame.into_raw();
+    raw.command == row.command
+        && are_headers(&raw.headers, row.pairs)
+        && raw.body.as_slice() == row.body
+}
+
+/// Puts the row's frame to a new session: whether it is accepted. An error tells that there was no memory for the frames before it. A refused
+/// frame is told 72 and handed back as it was given, and the session is closed.
+fn is_accepted(rt: &impl Abort, alloc: Global, row: &Row) -> Result<bool, NoMemory> {
+    let mut client = Client::after(alloc, row.script)?;
+    let frame = frame_with(alloc, row.command, row.pairs, row.body)?;
+    let Err((frame, fault)) = client.take(frame) else {
+        return Ok(true);
+    };
+    assert_eq!(rt; fault, SessionFault::NoMemory);
+    assert!(rt; is_given(frame, row));
+    assert_eq!(rt;
+        client.letters(b'd', b' ', b' ')?,
+        SessionFault::Closed.number()
+    );
+    Ok(false)
+}
+
+/// Of two new sessions, where at most one allocation fails, one accepts the row's frame.
+fn accepts_with_memory(rt: &impl Abort, alloc: Global, row: &Row) {
+    let first = is_accepted(rt, alloc, row);
+    let second = is_accepted(rt, alloc, row);
+    assert!(rt; matches!(&first, Ok(true)) || matches!(&second, Ok(true)));
+}
+
+/// The row's frame is accepted, also where an allocation fails, unless that was one for the frames before it.
+fn takes_no_memory(rt: &impl Abort, alloc: Global, row: &Row) {
+    let answer = is_accepted(rt, alloc, row);
+    assert!(rt; !matches!(&answer, Ok(false)));
+    accepts_with_memory(rt, alloc, row);
+}
+
+#[test]
+fn a_subscribe_without_memory(rt: HostRuntime) {
+    let row = Row {
+        script: b"c..",
+        command: Command::Subscribe,
+        pairs: &[(b"id", b"a"), (b"destination", b"A"), (b"receipt", b"r")],
+        body: b"",
+    };
+    accepts_with_memory(&rt, rt.alloc(), &row);
+}
+
+#[test]
+fn a_begin_without_memory(rt: HostRuntime) {
+    let row = Row {
+        script: b"c..",
+        command: Command::Begin,
+        pairs: &[(b"transaction", b"x"), (b"receipt", b"r")],
+        body: b"",
+    };
+    accepts_with_memory(&rt, rt.alloc(), &row);
+}
+
+#[test]
+fn a_lone_send_without_memory(rt: HostRuntime) {
+    let row = Row {
+        script: b"c..",
+        command: Command::Send,
+        pairs: &[(b"destination", b"A"), (b"receipt", b"r")],
+        body: b"hi",
+    };
+    accepts_with_memory(&rt, rt.alloc(), &row);
+}
+
+#[test]
+fn a_send_in_a_transaction_without_memory(rt: HostRuntime) {
+    let row = Row {
+        script: b"c..,bx.",
+        command: Command::Send,
+        pairs: &[
+            (b"destination", b"A"),
+            (b"transaction", b"x"),
+            (b"receipt", b"r"),
+        ],
+        body: b"hi",
+    };
+    accepts_with_memory(&rt, rt.alloc(), &row);
+}
+
+#[test]
+fn a_commit_without_memory(rt: HostRuntime) {
+    let row = Row {
+        script: b"c..,bx.,mAx,mBx",
+        command: Command::Commit,
+        pairs: &[(b"transaction", b"x"), (b"receipt", b"r")],
+        body: b"",
+    };
+    accepts_with_memory(&rt, rt.alloc(), &row);
+}
+
+#[test]
+fn a_connect_takes_none(rt: HostRuntime) {
+    let row = Row {
+        script: b"",
+        command: Command::Connect,
+        pairs: &[(b"accept-version", b"1.0,1.2"), (b"host", b"h")],
+        body: b"",
+    };
+    takes_no_memory(&rt, rt.alloc(), &row);
+}
+
+#[test]
+fn an_unsubscribe_takes_none(rt: HostRuntime) {
+    let row = Row {
+        script: b"c..,saA,sbB",
+        command: Command::Unsubscribe,
+        pairs: &[(b"id", b"a"), (b"receipt", b"r")],
+        body: b"",
+    };
+    takes_no_memory(&rt, rt.alloc(), &row);
+}
+
+#[test]
+fn an_abort_takes_none(rt: HostRuntime) {
+    let row = Row {
+        script: b"c..,bx.,mAx",
+        command: Command::Abort,
+        pairs: &[(b"transaction", b"x"), (b"receipt", b"r")],
+        body: b"",
+    };
+    takes_no_memory(&rt, rt.alloc(), &row);
+}
+
+#[test]
+fn a_disconnect_takes_none(rt: HostRuntime) {
+    let row = Row {
+        script: b"c..,saA,bx.,mAx",
+        command: Command::Disconnect,
+        pairs: &[(b"receipt", b"r")],
+        body: b"",
+    };
+    takes_no_memory(&rt, rt.alloc(), &row);
+}
+
+/// Whether the names are these, in their order.
+fn are_names(names: &Names, want: &[&[u8]]) -> bool {
+    let mut place = 0u32;
+    for name in want {
+        let topic = Topic(place);
+        if names.name(topic) != Some(*name) || names.find(name) != Some(topic) {
+            return false;
+        }
+        place = place.wrapping_add(1);
+    }
+    names.len() == want.len()
+}
+
+/// Where a name isn't added, the names are what they were; it is added when there is memory again.
+#[test]
+fn names_without_memory(rt: HostRuntime) -> Result<(), Fail> {
+    let all: [&[u8]; 5] = [b"A", b"B", b"C", b"D", b"E"];
+    let mut names = Names::new(rt.alloc());
+    for place in 0..all.len() {
+        let name = all[place];
+        if names.len() < 5 && names.add(name).is_err() {
+            assert!(rt; are_names(&names, &all[..place]));
+            assert!(rt; names.find(name).is_none());
+            names.add(name)?;
+        }
+    }
+    assert!(rt; are_names(&names, &all));
+    Ok(())
+}
