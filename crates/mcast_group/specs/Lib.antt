@@ -3,4 +3,5 @@ pub mod Span
 pub mod Topics
 pub mod Sound
 pub mod Fitting
+pub mod Group
 pub mod Laws
