@@ -14,6 +14,14 @@ use Rattle.mcast_group.proofs.Keeping.{filter_lt}
 use Rattle.mcast_group.proofs.Groups.{release_is, release_none}
 use Rattle.mcast_group.proofs.Turning.{turn_keeps}
 
+-- a part like any other, for places that no list has
+abbrev pub some_part : Pending
+some_part = record {
+  part = record { id = record { sender = record { 0 = 0 }; seq = 0 }; topic = record { 0 = 0 }; topics = []; sends = [] };
+  ticket = 0;
+  learnt = None;
+}
+
 -- ---- the learning
 
 -- the transactions of these parts
@@ -112,6 +120,10 @@ pub release_end : (takes : Entry → Bool) (k : ℕ) (x z : TopicState) → due_
 release_end takes zero x z e h = h
 release_end takes (suc k) x z e h =
     release_end takes k x z e (ap (released_times takes k) (sym (release_none takes x e)) ∙ h)
+
+-- where nothing was due, all releases are done
+pub release_done : (takes : Entry → Bool) (k : ℕ) (x y z : TopicState) → due_part x ≡ None → y ≡ release takes x → released_times takes k x ≡ z → y ≡ z
+release_done takes k x y z e r h = r ∙ (release_none takes x e ∙ release_end takes k x z e h)
 
 -- a turn takes no row from the log
 pub turn_grows : (takes : Entry → Bool) (find : TxnId → Option Decision) (x : TopicState) → length x.held ≤ length (turned takes find x).held
