@@ -5,7 +5,7 @@ ghost use Rattle.std.specs.Arc.{arc_value};
 ghost use Rattle.std.specs.Option.{option_map};
 ghost use Rattle.mcast_txn.specs.Part.{data_of};
 ghost use Rattle.mcast_group.specs.Group.{answer, propose_refusal};
-ghost use Rattle.mcast_group.specs.Topics.{Entry, Pending, cancel_fault, cancelled, decided_stamp, due_part, insert_pending, key, learn_fault, learned, new_topic, next_number, propose_fault, proposed, release, tried, turn_count, turned};
+ghost use Rattle.mcast_group.specs.Topics.{Entry, Pending, cancel_fault, cancelled, decided_stamp, due_part, insert_pending, key, learn_fault, learned, new_topic, next_number, propose_fault, proposed, release, released_times, tried, tried_all, turn_count, turned};
 
 use crate::fault::{CancelFault, LearnFault, ProposeFault};
 use crate::pending::{PendingPart, least_place, place_for, place_of, place_to_learn};
@@ -198,11 +198,18 @@ impl Group {
         ensures count { (takes : Entry → Bool) → result ≡ turn_count takes (V.found verdicts.now) self.old }
     {
         let held = self.held_len();
+        self.try_all(verdicts);
+        self.release_all();
+        (self.held_len() - held) as u64
+    }
+
+    // Learns once for each pending part, by rising id, the verdict that is found, if it isn't refused.
+    fn try_all<V: Verdicts>(&mut self, verdicts: &V)
+        ensures { self.new ≡ tried_all (V.found verdicts.now) self.old.pending self.old }
+    {
         for place in 0..self.pending_len() {
             self.try_to_learn(place, verdicts);
         }
-        while self.release().is_some() {}
-        (self.held_len() - held) as u64
     }
 
     // Learns for the part at a place the verdict that is found, if it isn't refused.
@@ -214,10 +221,16 @@ impl Group {
         let part = self.pending[place].part();
         let id = part.id;
         if let Some(found) = verdicts.find(part) {
-            match self.learn(id, found.verdict) {
-                Ok(()) | Err(_) => {}
-            }
+            let _ = self.learn(id, found.verdict);
         }
+    }
+
+    // Releases until nothing is due.
+    fn release_all(&mut self)
+        ensures { (takes : Entry → Bool)
+            → self.new ≡ released_times takes (length self.old.pending) self.old }
+    {
+        while self.release().is_some() {}
     }
 }
 

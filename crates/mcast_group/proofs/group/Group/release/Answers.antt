@@ -30,7 +30,7 @@ moved c takes =
     let row = c.row.view_is ∙ c.into_row-row.ensures in
     released_state s.topic s.clock s.log_limit s.pending.items s.rows.items s.frontier takes p _ _ _
     (c.remove.ensures.items ∙ sym (without_at s.pending.items c.in_ok-place.place p c.self.invariant.sound.by_id within (sym c.remove.ensures.value)))
-    (c.push_reserved.ensures.items ∙ ap (λ (r : LogRow). s.rows.items ++ r ∷ []) row)
+    (c.push_reserved.ensures.items ∙ ap (λ (r : LogRow). s.rows.items ++ r ∷ []) c.into_row-row.ensures)
     (ap (λ (r : LogRow). r.stamp) row)
 
 pub invariant_of-self : goal.invariant_of-self
