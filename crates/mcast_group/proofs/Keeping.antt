@@ -1,7 +1,7 @@
 -- Each step keeps a topic sound.
 use Rattle.std.proofs.Common.{◌≡◌, ℕ, suc, ◌+◌, ◌<◌, ◌≤◌, ◌==◌, max, Bool, true, false, cond, not, ◌&&◌, ◌||◌, inl, inr, List, [], ◌∷◌, ◌++◌, length, Option, Some, None, refl, sym, ap, subst, ◌∙◌, arith}
 use Rattle.std.specs.List.{filter, list_any}
-use Rattle.std.proofs.lemmas.Bool.{true≢false, and_parts}
+use Rattle.std.proofs.lemmas.Bool.{true≢false, not-false, and_parts}
 use Rattle.mcast_txn.specs.Stamp.{stamp_lt, zero_stamp}
 use Rattle.mcast_txn.specs.Transaction.{TopicPart}
 use Rattle.mcast_txn.specs.Agreed.{same_id, In}
@@ -82,10 +82,6 @@ pub record Learns (id : TxnId) (v : Decision) (x : TopicState) : Type 0 where
   pub again : learnt_other (decided_stamp v) part.learnt ≡ false
   pub new : (q : Pending) → In q x.pending → key q ≡ decided_stamp v → same_id q.part.id id ≡ true
 
-false_of : (b : Bool) → not b ≡ false → b ≡ true
-false_of true e = refl
-false_of false e = absurd (true≢false e)
-
 or_left : (a b : Bool) → (a || b) ≡ false → a ≡ false
 or_left true b e = e
 or_left false b e = refl
@@ -102,7 +98,7 @@ new_case id v p ps e none q k s false d =
 
 learns_clash : (id : TxnId) (v : Decision) (x : TopicState) (p : Pending) → In p x.pending → p.part.id ≡ id → is_foreign v p ≡ false → clashes v p x.pending ≡ false → Learns id v x
 learns_clash id v x p i e f c =
-    let own = and_parts (same_id v.id p.part.id) (has_row (record { n = p.ticket; topic = p.part.topic }) v.rows) (false_of _ f) in
+    let own = and_parts (same_id v.id p.part.id) (has_row (record { n = p.ticket; topic = p.part.topic }) v.rows) (not-false _ f) in
     record {
       part = p;
       stands = i;
@@ -142,7 +138,7 @@ learns_is id v x e = learns_found id v x (find_pending id x.pending) refl e
 -- the stamp learnt is at least the part's key
 key_case : (p : Pending) (v : Decision) (o : Option Stamp) → p.learnt ≡ o → learnt_other (decided_stamp v) o ≡ false → has_row (record { n = p.ticket; topic = p.part.topic }) v.rows ≡ true → stamp_lt (decided_stamp v) (key p) ≡ false
 key_case p v (Some s) e again row =
-    let d : s ≡ decided_stamp v = same_stamp_is s (decided_stamp v) (false_of (same_stamp s (decided_stamp v)) again) in
+    let d : s ≡ decided_stamp v = same_stamp_is s (decided_stamp v) (not-false (same_stamp s (decided_stamp v)) again) in
     rw (e, d) (lt_irrefl (decided_stamp v))
 key_case p v None e again row =
     let t : Stamp = record { n = p.ticket; topic = p.part.topic } in

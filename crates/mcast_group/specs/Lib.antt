@@ -5,3 +5,4 @@ pub mod Sound
 pub mod Fitting
 pub mod Group
 pub mod Laws
+pub mod Faults

@@ -46,7 +46,7 @@ abbrev pub RisesById : List Pending → Type 0
 RisesById [] = Unit {0}
 RisesById (p ∷ ps) = ((q : Pending) → In q ps → id_lt p.part.id q.part.id ≡ true) × RisesById ps
 
--- held rows rise above base, the last of them or base is the frontier; pending parts rise by id, and their keys differ and are above the frontier; the clock is at least the number of each; the log's limit
+-- held rows rise above base, the last of them or base is the frontier; pending parts are this topic's and rise by id, and their keys differ and are above the frontier; the clock is at least the number of each; a queue is that of the held rows in its span; pending parts and held rows are within the log's limit
 pub record IsSound (x : TopicState) : Type 0 where
   pub rises : Rises row_stamp x.held
   pub above_base : (r : LogRow) → In r x.held → stamp_lt x.base r.stamp ≡ true

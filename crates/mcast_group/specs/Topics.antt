@@ -24,7 +24,7 @@ use Rattle.mcast_group.specs.Span.{LogRow, Item}
 abbrev pub decided_stamp : Decision → Stamp
 decided_stamp v = greatest v.rows
 
--- it has one row for a topic
+-- a decision has one row for a topic
 abbrev pub HasOneRowEach : Decision → Type 0
 HasOneRowEach v = (a b : Stamp) → In a v.rows → In b v.rows → a.topic ≡ b.topic → a ≡ b
 
@@ -295,7 +295,7 @@ unsubscribe_fault number x = if is_some (find_entry number x.subscriptions) then
 abbrev pub unsubscribed : ℕ → TopicState → TopicState
 unsubscribed number x = record x { subscriptions = filter (λ e. not (e.number == number)) x.subscriptions }
 
--- an entry is open, or lagged at its end
+-- an entry is open, or has lagged at its end
 abbrev pub state_of_entry : Entry → SubState
 state_of_entry e = elim e.to [ None ↦ SubState.Open | Some end ↦ SubState.Lag end ]
 

@@ -7,7 +7,8 @@ pub fn stays_sound()
     ensures { KeepsSound }
 {}
 
-/// A turn of a sound topic that its verdicts fit leaves no part pending, and a turn of any topic leaves nothing due.
+/// A turn of a sound topic that its verdicts fit leaves no part pending, and a turn of any topic
+/// leaves nothing due.
 pub fn turns()
     ensures none { TurnLeavesNone }
     ensures nothing_due { TurnLeavesNothingDue }
