@@ -1,6 +1,9 @@
 pub mod Parts
+pub mod Places
 pub mod Queues
 pub mod Keeping
 pub mod Turning
 pub mod Allowed
+pub mod Groups
+pub mod Turns
 pub mod Rows

@@ -1,0 +1,12 @@
+use Rattle.std.proofs.Common.{◌≡◌, drop}
+use Rattle.mcast_group.specs.Topics.{tried_all}
+use Rattle.mcast_group.proofs.Turns.{ids, tried_ids}
+use Rattle.mcast_group.proofs.group.Group.try_all.Given as goal
+
+-- the transactions keep their places, and the rest of them is still to learn
+abbrev pub invariant-loop-place : goal.invariant-loop-place
+invariant-loop-place g l = record {
+  same : ids l.self.pending ≡ ids l.fn.self.pending;
+  rest : tried_ids (g.V.Verdicts.found l.verdicts) (drop l.place (ids l.self.pending)) l.self
+      ≡ tried_all (g.V.Verdicts.found l.verdicts) l.fn.self.pending l.fn.self;
+}

@@ -1,0 +1,25 @@
+use Rattle.std.proofs.Common.{◌≡◌, ◌-◌, ℕ, Bool, true, length, ap, ◌∙◌, arith}
+use Rattle.mcast_group.specs.Topics.{TopicState, Entry, released_times, turned}
+use Rattle.mcast_group.proofs.Turns.{turn_grows}
+use Rattle.mcast_group.proofs.group.Group.turn.Goals as goal
+
+pub overflow_sub-result : goal.overflow_sub-result
+overflow_sub-result g c =
+    let takes : Entry → Bool = λ e. true in
+    let find = g.V.Verdicts.found c.args.verdicts.now in
+    let done : c.release_all.new.self ≡ turned takes find c.args.self.now = c.release_all.ensures takes ∙ ap (λ (z : TopicState). released_times takes (length z.pending) z) c.try_all.ensures in
+    let held = ap (λ (z : TopicState). length z.held) done in
+    let more = turn_grows takes find c.args.self.now in
+    omega arith
+
+pub returns-clause-turned : goal.returns-clause-turned
+returns-clause-turned g c = λ takes.
+    c.release_all.ensures takes ∙ ap (λ (z : TopicState). released_times takes (length z.pending) z) c.try_all.ensures
+
+pub returns-clause-count : goal.returns-clause-count
+returns-clause-count g c = λ takes.
+    let find = g.V.Verdicts.found c.args.verdicts.now in
+    let done : c.release_all.new.self ≡ turned takes find c.args.self.now = c.release_all.ensures takes ∙ ap (λ (z : TopicState). released_times takes (length z.pending) z) c.try_all.ensures in
+    let after = c.held_len.ensures ∙ ap (λ (z : TopicState). length z.held) done in
+    ap (λ (n : ℕ). n - c.held_len-held.result) after
+    ∙ ap (λ (n : ℕ). length (turned takes find c.args.self.now).held - n) c.held_len-held.ensures

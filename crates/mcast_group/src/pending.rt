@@ -1,0 +1,236 @@
+//! Parts that are pending at a topic.
+
+ghost use Rattle.std.specs.Prelude.{◌≡◌, ◌<◌, ◌≤◌, ◌&&◌, not, [], length, position, slice_index_or, MatchOption, Some, None, IfOk, IfErr, OnOk};
+ghost use Rattle.std.specs.Arc.{arc_value};
+ghost use Rattle.std.specs.List.{insert, list_any};
+ghost use Rattle.std.specs.Option.{is_some};
+ghost use Rattle.mcast_txn.specs.Part.{data_of};
+ghost use Rattle.mcast_txn.specs.Ids.{same_id};
+ghost use Rattle.mcast_group.specs.Topics.{Pending, clashes, find_pending, has_row, id_lt, insert_pending, is_foreign, key, learn_fault_of, learnt_other, least, row_of, same_stamp};
+
+use crate::fault::LearnFault;
+use crate::row::Row;
+use mcast_txn::{NoMemory, Part, Stamp, TopicSet, TxnId, Verdict};
+use std::alloc::Global;
+use std::marker::Model;
+use std::sync::Arc;
+
+/// A part that is pending: the number of its ticket, and its stamp once that is learnt.
+#[derive(Drop)]
+pub(crate) struct PendingPart {
+    part: Arc<Part>,
+    /// The part's topics, shared once more, so that a release takes no memory.
+    topics: Arc<TopicSet>,
+    ticket: u64,
+    learnt: Option<Stamp>,
+}
+
+impl Model for PendingPart {
+    ghost use Rattle.std.specs.Prelude.{◌≡◌};
+    ghost use Rattle.std.specs.Arc.{arc_value};
+    ghost use Rattle.mcast_txn.specs.Part.{data_of};
+    ghost use Rattle.mcast_group.specs.Topics.{Pending};
+
+    ghost Value = { Pending };
+
+    ghost view = { λ p. record { part = data_of (arc_value p.part); ticket = p.ticket; learnt = p.learnt } };
+
+    ghost invariant = { λ p. arc_value p.topics ≡ (data_of (arc_value p.part)).topics };
+}
+
+impl PendingPart {
+    // A part that hasn't learnt its stamp.
+    pub(crate) fn new(part: Arc<Part>, ticket: u64) -> Result<PendingPart, NoMemory>
+        ensures { IfOk result
+            (λ pending. pending ≡ record { part = data_of (arc_value part); ticket = ticket; learnt = None }) }
+    {
+        let topics = part.topics.clone()?;
+        Ok(PendingPart {
+            part,
+            topics,
+            ticket,
+            learnt: None,
+        })
+    }
+
+    // The transaction.
+    pub(crate) fn id(&self) -> TxnId
+        ensures { result ≡ self.now.part.id }
+    {
+        self.part.id
+    }
+
+    // The part.
+    pub(crate) fn part(&self) -> &Part
+        ensures { data_of result.now ≡ self.now.part }
+    {
+        &self.part
+    }
+
+    // The stamp of its ticket.
+    fn ticket(&self) -> Stamp
+        ensures { result ≡ record { n = self.now.ticket; topic = self.now.part.topic } }
+    {
+        Stamp {
+            n: self.ticket,
+            topic: self.part.topic,
+        }
+    }
+
+    // Where it stands in the topic's order: at its stamp, or at its ticket while that isn't known.
+    pub(crate) fn key(&self) -> Stamp
+        ensures { result ≡ key self.now }
+    {
+        match self.learnt {
+            Some(stamp) => stamp,
+            None => self.ticket(),
+        }
+    }
+
+    // Whether it has learnt its stamp.
+    pub(crate) fn is_learnt(&self) -> bool
+        ensures { result ≡ is_some self.now.learnt }
+    {
+        self.learnt.is_some()
+    }
+
+    // Takes its stamp.
+    pub(crate) fn learn(&mut self, stamp: Stamp)
+        ensures { self.new ≡ record self.old { learnt = Some stamp } }
+    {
+        self.learnt = Some(stamp);
+    }
+
+    // Its row of the log, at its key.
+    pub(crate) fn into_row(self) -> Row
+        ensures { result ≡ row_of self }
+    {
+        Row {
+            id: self.part.id,
+            stamp: self.key(),
+            topics: self.topics,
+        }
+    }
+
+    // Whether the verdict is another transaction's, or has another number for the part's topic.
+    fn is_foreign(&self, verdict: &Verdict) -> bool
+        ensures { result ≡ is_foreign verdict.now self.now }
+    {
+        verdict.id() != self.part.id || !has_row(verdict.rows(), self.ticket())
+    }
+
+    // Whether it has learnt another stamp.
+    fn has_learnt_other(&self, stamp: Stamp) -> bool
+        ensures { result ≡ learnt_other stamp self.now.learnt }
+    {
+        match self.learnt {
+            Some(learnt) => learnt != stamp,
+            None => false,
+        }
+    }
+
+    // Whether it is of another transaction and stands at this stamp.
+    fn is_other_at(&self, id: TxnId, stamp: Stamp) -> bool
+        ensures { result ≡ (not (same_id self.now.part.id id) && same_stamp (key self.now) stamp) }
+    {
+        self.part.id != id && self.key() == stamp
+    }
+}
+
+// The place of the transaction's part.
+pub(crate) fn place_of(pending: &[PendingPart], id: TxnId) -> Option<usize>
+    ensures { result ≡ position (λ p. same_id p.part.id id) pending.now }
+{
+    pending.iter().position(|p| p.id() == id)
+}
+
+// The place for a transaction's part among parts that rise by id.
+pub(crate) fn place_for(pending: &[PendingPart], id: TxnId) -> usize
+    ensures within { result ≤ length pending.now }
+    ensures place { (p : Pending) → p.part.id ≡ id → insert pending.now result p ≡ insert_pending p pending.now }
+{
+    match first_above(pending, id) {
+        Some(place) => place,
+        None => pending.len(),
+    }
+}
+
+// The place of the first part whose id is above this one.
+fn first_above(pending: &[PendingPart], id: TxnId) -> Option<usize>
+    ensures { result ≡ position (λ p. id_lt id p.part.id) pending.now }
+{
+    pending.iter().position(|p| is_below(id, p.id()))
+}
+
+// Whether the first id is the smaller.
+fn is_below(a: TxnId, b: TxnId) -> bool
+    ensures { result ≡ id_lt a b }
+{
+    a < b
+}
+
+// The place of the part that is to learn the verdict's stamp.
+pub(crate) fn place_to_learn(
+    pending: &[PendingPart],
+    id: TxnId,
+    verdict: &Verdict,
+) -> Result<usize, LearnFault>
+    ensures fault { IfErr result
+        (λ fault. learn_fault_of verdict.now pending.now (find_pending id pending.now) ≡ Some fault) }
+    ensures learns { OnOk result (learn_fault_of verdict.now pending.now (find_pending id pending.now) ≡ None) }
+    ensures place { IfOk result
+        (λ place. position (λ p. same_id p.part.id id) pending.now ≡ Some place) }
+{
+    let Some(place) = place_of(pending, id) else {
+        return Err(LearnFault::NotPending);
+    };
+    let part = &pending[place];
+    if part.is_foreign(verdict) {
+        return Err(LearnFault::Foreign);
+    }
+    if clashes(pending, part, verdict) {
+        return Err(LearnFault::Clash);
+    }
+    Ok(place)
+}
+
+// Whether the part has learnt another stamp than the verdict's, or another part stands there.
+fn clashes(pending: &[PendingPart], part: &PendingPart, verdict: &Verdict) -> bool
+    ensures { result ≡ clashes verdict.now part.now pending.now }
+{
+    let stamp = verdict.stamp();
+    let id = part.id();
+    part.has_learnt_other(stamp) || has_other_at(pending, id, stamp)
+}
+
+// Whether another transaction's part stands at the stamp.
+fn has_other_at(pending: &[PendingPart], id: TxnId, stamp: Stamp) -> bool
+    ensures { result
+        ≡ list_any (λ p. not (same_id p.part.id id) && same_stamp (key p) stamp) pending.now }
+{
+    pending.iter().any(|p| p.is_other_at(id, stamp))
+}
+
+// Whether the number that a topic gave stands among a verdict's rows.
+fn has_row(rows: &[Stamp], ticket: Stamp) -> bool
+    ensures { result ≡ has_row ticket rows.now }
+{
+    rows.iter().any(|row| ticket == *row)
+}
+
+// The place of the part of least key.
+pub(crate) fn least_place(pending: &[PendingPart]) -> Option<usize>
+    ensures { MatchOption result (pending.now ≡ [])
+        (λ i. (i < length pending.now) × ((d : Pending) → least pending.now ≡ Some (slice_index_or pending.now i d))) }
+{
+    if pending.is_empty() {
+        return None;
+    }
+    let mut best = 0;
+    for i in 1..pending.len() {
+        if pending[i].key().is_before(pending[best].key()) {
+            best = i;
+        }
+    }
+    Some(best)
+}
