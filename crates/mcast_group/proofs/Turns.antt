@@ -61,7 +61,7 @@ pub learn_step : (find : TxnId → Option Decision) (x y z : TopicState) (i : �
 learn_step find x y z i d l e h =
     let id = (get_or x.pending i d).part.id in
     let next : tried_ids find (drop (suc i) (ids x.pending)) (tried id (find id) x) ≡ z =
-        subst (λ rest. tried_ids find rest x ≡ z) (drop_ids x.pending i d l) h in
+    subst (λ rest. tried_ids find rest x ≡ z) (drop_ids x.pending i d l) h in
     let k : suc i ≡ i + 1 = omega arith in
     let same : ids (tried id (find id) x).pending ≡ ids x.pending = same_ids id (find id) x in
     subst (λ (w : TopicState). tried_ids find (drop (i + 1) (ids w.pending)) w ≡ z) (sym e)

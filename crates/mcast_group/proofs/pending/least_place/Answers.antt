@@ -16,19 +16,20 @@ test_is c d =
 
 pub loop-i-preserved : goal.loop-i-preserved
 loop-i-preserved c = elim c.if-is_before.branch [
-    then-is_before w ↦ record {
-      within = omega arith;
-      is = λ d.
-          let ps = c.args.pending.now in
-          let m = least_more ps c.loop-i.i (get_or ps c.loop-i.best d) d c.loop-i-test.true (c.loop-i.invariant.is d) in
-          let t : stamp_lt (key (get_or ps c.loop-i.i d)) (key (get_or ps c.loop-i.best d)) ≡ true = sym (test_is c d) ∙ w.if-is_before.true in
-          rw w.best-is (m ∙ ap (λ (z : Bool). Some (cond z (get_or ps c.loop-i.i d) (get_or ps c.loop-i.best d))) t);
-    }
+  | then-is_before w ↦ record {
+    within = omega arith;
+    is = λ d.
+        let ps = c.args.pending.now in
+        let m = least_more ps c.loop-i.i (get_or ps c.loop-i.best d) d c.loop-i-test.true (c.loop-i.invariant.is d) in
+        let t : stamp_lt (key (get_or ps c.loop-i.i d)) (key (get_or ps c.loop-i.best d)) ≡ true = sym (test_is c d) ∙ w.if-is_before.true in
+        rw w.best-is (m ∙ ap (λ (z : Bool). Some (cond z (get_or ps c.loop-i.i d) (get_or ps c.loop-i.best d))) t);
+  }
   | else-is_before w ↦ record {
-      within = omega arith;
-      is = λ d.
-          let ps = c.args.pending.now in
-          let m = least_more ps c.loop-i.i (get_or ps c.loop-i.best d) d c.loop-i-test.true (c.loop-i.invariant.is d) in
-          let t : stamp_lt (key (get_or ps c.loop-i.i d)) (key (get_or ps c.loop-i.best d)) ≡ false = sym (test_is c d) ∙ w.if-is_before.false in
-          rw w.best-is (m ∙ ap (λ (z : Bool). Some (cond z (get_or ps c.loop-i.i d) (get_or ps c.loop-i.best d))) t);
-    } ]
+    within = omega arith;
+    is = λ d.
+        let ps = c.args.pending.now in
+        let m = least_more ps c.loop-i.i (get_or ps c.loop-i.best d) d c.loop-i-test.true (c.loop-i.invariant.is d) in
+        let t : stamp_lt (key (get_or ps c.loop-i.i d)) (key (get_or ps c.loop-i.best d)) ≡ false = sym (test_is c d) ∙ w.if-is_before.false in
+        rw w.best-is (m ∙ ap (λ (z : Bool). Some (cond z (get_or ps c.loop-i.i d) (get_or ps c.loop-i.best d))) t);
+  }
+]
