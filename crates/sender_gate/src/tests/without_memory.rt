@@ -27,7 +27,8 @@ fn txn(alloc: Global) -> Result<Txn, Fail> {
     }
 }
 
-/// The transaction's flight. Where it is refused, gate and transaction are handed back as they were, and then it begins.
+/// The transaction's flight. Where it is refused, gate and transaction are handed back as they were, and it then
+/// begins.
 fn begun(alloc: Global) -> Result<Flying, Fail> {
     let gate = Gate::resume(Sender(3), 4, stamp(10, 0));
     let (gate, txn, fault) = match gate.begin(alloc, txn(alloc)?) {
