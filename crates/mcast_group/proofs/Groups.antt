@@ -1,12 +1,10 @@
 -- What a topic's calls answer, and what its group keeps.
-use Rattle.std.proofs.Common.{◌≡◌, ℕ, zero, suc, ◌+◌, ◌<◌, ◌≤◌, ◌==◌, nat_lt, max, Bool, true, false, cond, not, ◌&&◌, ◌||◌, List, [], ◌∷◌, ◌++◌, map, length, get_or, Option, Some, None, refl, sym, ap, subst, ◌∙◌, arith}
-use Rattle.std.specs.List.{list_any}
+use Rattle.std.proofs.Common.{◌≡◌, ℕ, suc, ◌+◌, ◌<◌, ◌≤◌, nat_lt, max, Bool, true, false, List, [], ◌∷◌, ◌++◌, map, length, Option, Some, None, refl, sym, ap, subst, ◌∙◌, arith}
 use Rattle.std.specs.Option.{is_some}
 use Rattle.std.proofs.lemmas.Bool.Decides.{nat_tests}
 use Rattle.mcast_txn.specs.declared.id.Topic.{Topic}
 use Rattle.mcast_txn.specs.declared.id.TxnId.{TxnId}
 use Rattle.mcast_txn.specs.declared.stamp.Stamp.{Stamp}
-use Rattle.mcast_txn.specs.Agreed.{same_id}
 use Rattle.mcast_txn.specs.Ballot.{Decision}
 use Rattle.mcast_txn.specs.Transaction.{TopicPart}
 use Rattle.mcast_group.specs.declared.fault.ProposeFault.TheVariants.{Twice, ClockFull, LogFull}
@@ -15,8 +13,8 @@ use Rattle.mcast_group.specs.declared.fault.CancelFault.TheVariants.{Decided}
 use Rattle.mcast_group.specs.Group.{IsGroup, group_state}
 use Rattle.mcast_group.specs.Span.{LogRow}
 use Rattle.mcast_group.specs.Sound.{IsSound}
-use Rattle.mcast_group.specs.Topics.{TopicState, Pending, Entry, decided_stamp, key, insert_pending, find_pending, is_pending, without, has_row, is_foreign, clashes, same_stamp, last_number, next_number, propose_fault, proposed, learn_fault, learn_fault_of, learned, told, cancel_fault, cancelled, least, if_learnt, due_part, row_of, released, released_if, release}
-use Rattle.mcast_group.proofs.Parts.{insert_length, map_length}
+use Rattle.mcast_group.specs.Topics.{TopicState, Pending, Entry, decided_stamp, key, insert_pending, find_pending, is_pending, without, is_foreign, clashes, last_number, propose_fault, proposed, learn_fault, learn_fault_of, learned, told, cancel_fault, cancelled, least, due_part, row_of, released, released_if, release}
+use Rattle.mcast_group.proofs.Parts.{map_length}
 use Rattle.mcast_group.proofs.Keeping.{learns_is, Sound-proposed, Sound-learned, Sound-cancelled}
 use Rattle.mcast_group.proofs.Turning.{Sound-release}
 

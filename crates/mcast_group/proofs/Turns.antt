@@ -1,14 +1,14 @@
 -- A turn in two loops: it learns by places, then it releases while anything is due.
-use Rattle.std.proofs.Common.{◌≡◌, ℕ, zero, suc, ◌+◌, ◌-◌, ◌<◌, ◌≤◌, Bool, true, false, cond, not, List, [], ◌∷◌, ◌++◌, map, length, get_or, drop, Option, Some, None, refl, sym, ap, subst, ◌∙◌, arith}
+use Rattle.std.proofs.Common.{◌≡◌, ℕ, zero, suc, ◌+◌, ◌-◌, ◌<◌, ◌≤◌, Bool, true, false, not, List, [], ◌∷◌, ◌++◌, map, length, get_or, drop, Option, Some, None, refl, sym, ap, subst, ◌∙◌, arith}
 use Rattle.std.specs.Option.{is_some, option_map}
 use Rattle.std.proofs.lemmas.Bool.{false≢true}
-use Rattle.mcast_txn.specs.Agreed.{same_id, In}
+use Rattle.mcast_txn.specs.Agreed.{same_id}
 use Rattle.mcast_txn.specs.Ballot.{Decision}
 use Rattle.mcast_txn.specs.declared.id.TxnId.{TxnId}
 use Rattle.mcast_txn.specs.declared.stamp.Stamp.{Stamp}
 use Rattle.mcast_txn.proofs.Orders.{id_itself}
 use Rattle.mcast_group.specs.declared.fault.LearnFault.{LearnFault}
-use Rattle.mcast_group.specs.Topics.{TopicState, Pending, Entry, decided_stamp, key, learn_fault, learned, told, due_part, released, release, tried, tried_all, released_times, turned, row_of}
+use Rattle.mcast_group.specs.Topics.{TopicState, Pending, Entry, decided_stamp, key, learn_fault, learned, told, due_part, release, tried, tried_all, released_times, turned, row_of}
 use Rattle.mcast_group.proofs.Parts.{told_how, due_is, map_length}
 use Rattle.mcast_group.proofs.Keeping.{filter_lt}
 use Rattle.mcast_group.proofs.Groups.{release_is, release_none}
@@ -61,7 +61,7 @@ pub learn_step : (find : TxnId → Option Decision) (x y z : TopicState) (i : �
 learn_step find x y z i d l e h =
     let id = (get_or x.pending i d).part.id in
     let next : tried_ids find (drop (suc i) (ids x.pending)) (tried id (find id) x) ≡ z =
-        subst (λ rest. tried_ids find rest x ≡ z) (drop_ids x.pending i d l) h in
+    subst (λ rest. tried_ids find rest x ≡ z) (drop_ids x.pending i d l) h in
     let k : suc i ≡ i + 1 = omega arith in
     let same : ids (tried id (find id) x).pending ≡ ids x.pending = same_ids id (find id) x in
     subst (λ (w : TopicState). tried_ids find (drop (i + 1) (ids w.pending)) w ≡ z) (sym e)

@@ -109,9 +109,9 @@ impl Group {
         requires { (arc_value part).topic ≡ self.old.topic }
         ensures allowed { OnOk result (propose_fault floor (data_of (arc_value part)) self.old ≡ None) }
         ensures ticket { IfOk result (λ ticket. ticket ≡ record {
-            id = (arc_value part).id;
-            topic = self.old.topic;
-            n = next_number floor self.old;
+          id = (arc_value part).id;
+          topic = self.old.topic;
+          n = next_number floor self.old;
         }) }
         ensures ok { OnOk result (self.new ≡ proposed floor (data_of (arc_value part)) self.old) }
         ensures fault { IfErr result

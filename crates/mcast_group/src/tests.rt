@@ -132,14 +132,27 @@ fn parts_are_released_by_their_stamps(rt: HostRuntime) -> Result<(), Fail> {
     let alloc = rt.alloc();
     let mut group = Group::new(alloc, Topic(1), 0, 8);
     let first = made(propose(alloc, &mut group, id(1), &[0, 1], 0))?;
-    assert_eq!(rt; first, Ok(Ticket { id: id(1), topic: Topic(1), n: 1 }));
+    assert_eq!(rt;
+        first,
+        Ok(Ticket {
+            id: id(1),
+            topic: Topic(1),
+            n: 1
+        })
+    );
     let second = made(propose(alloc, &mut group, id(2), &[1, 2], 10))?;
     assert_eq!(rt; number_of(second), Ok(11));
-    assert_eq!(rt; made(learn(alloc, &mut group, id(2), &[(1, 11), (2, 11)]))?, Ok(()));
+    assert_eq!(rt;
+        made(learn(alloc, &mut group, id(2), &[(1, 11), (2, 11)]))?,
+        Ok(())
+    );
     assert_eq!(rt; group.release(), None);
     let foreign = made(learn(alloc, &mut group, id(1), &[(0, 10), (1, 2)]))?;
     assert_eq!(rt; foreign, Err(LearnFault::Foreign));
-    assert_eq!(rt; made(learn(alloc, &mut group, id(1), &[(0, 10), (1, 1)]))?, Ok(()));
+    assert_eq!(rt;
+        made(learn(alloc, &mut group, id(1), &[(0, 10), (1, 1)]))?,
+        Ok(())
+    );
     assert_eq!(rt; group.release(), Some((id(1), stamp(10, 0))));
     assert_eq!(rt; group.pending_len(), 1);
     assert_eq!(rt; group.release(), Some((id(2), stamp(11, 2))));
@@ -165,7 +178,10 @@ fn refusals_in_order(rt: HostRuntime) -> Result<(), Fail> {
     assert_eq!(rt; number_of(first), Ok(1));
     let second = made(propose(alloc, &mut group, id(2), &[0, 1], 0))?;
     assert_eq!(rt; number_of(second), Ok(2));
-    assert_eq!(rt; made(learn(alloc, &mut group, id(1), &[(0, 1), (1, 5)]))?, Ok(()));
+    assert_eq!(rt;
+        made(learn(alloc, &mut group, id(1), &[(0, 1), (1, 5)]))?,
+        Ok(())
+    );
     let clash = made(learn(alloc, &mut group, id(2), &[(0, 2), (1, 5)]))?;
     assert_eq!(rt; clash, Err(LearnFault::Clash));
     let unknown = made(learn(alloc, &mut group, id(3), &[(0, 3), (1, 3)]))?;

@@ -1,4 +1,4 @@
-use Rattle.std.proofs.Common.{◌≡◌, ℕ, ◌+◌, ◌<◌, max, Some, sym, ap, ◌∙◌, arith}
+use Rattle.std.proofs.Common.{◌≡◌, ℕ, ◌+◌, max, sym, ap, ◌∙◌, arith}
 use Rattle.std.specs.Arc.{arc_value}
 use Rattle.mcast_txn.specs.Part.{data_of}
 use Rattle.mcast_group.specs.Group.{group_state, or_no_memory, propose_refusal}
@@ -13,7 +13,7 @@ returns-then-is_some-clause-fault c =
     let part = data_of (arc_value c.args.part) in
     let at = rw (c.deref.ensures, c.deref-2.ensures.value) at c.place_of.ensures in
     let e = fault_twice c.args.floor part (group_state s.topic s.clock s.log_limit s.pending.items s.rows.items s.frontier)
-        (placed part.id s.pending.items c.place_of.result at (sym c.is_some.ensures ∙ c.if-is_some.true)) in
+    (placed part.id s.pending.items c.place_of.result at (sym c.is_some.ensures ∙ c.if-is_some.true)) in
     sym (ap or_no_memory e) ∙ ap (propose_refusal c.args.floor part) c.self.view_is
 
 pub returns-then-last-clause-fault : goal.returns-then-last-clause-fault
@@ -22,8 +22,8 @@ returns-then-last-clause-fault c =
     let part = data_of (arc_value c.args.part) in
     let at = rw (c.deref.ensures, c.deref-2.ensures.value) at c.place_of.ensures in
     let e = fault_clock c.args.floor part (group_state s.topic s.clock s.log_limit s.pending.items s.rows.items s.frontier)
-        (not_placed part.id s.pending.items c.place_of.result at (sym c.is_some.ensures ∙ c.if-is_some.false))
-        (sym c.max-last.ensures ∙ c.if-last.true) in
+    (not_placed part.id s.pending.items c.place_of.result at (sym c.is_some.ensures ∙ c.if-is_some.false))
+    (sym c.max-last.ensures ∙ c.if-last.true) in
     sym (ap or_no_memory e) ∙ ap (propose_refusal c.args.floor part) c.self.view_is
 
 pub returns-then-len-self-clause-fault : goal.returns-then-len-self-clause-fault
@@ -32,8 +32,8 @@ returns-then-len-self-clause-fault c =
     let part = data_of (arc_value c.args.part) in
     let at = rw (c.deref.ensures, c.deref-2.ensures.value) at c.place_of.ensures in
     let e = fault_log c.args.floor part (group_state s.topic s.clock s.log_limit s.pending.items s.rows.items s.frontier)
-        (not_placed part.id s.pending.items c.place_of.result at (sym c.is_some.ensures ∙ c.if-is_some.false))
-        (omega arith) (omega (arith, s.pending.ok.0, s.rows.ok.0)) in
+    (not_placed part.id s.pending.items c.place_of.result at (sym c.is_some.ensures ∙ c.if-is_some.false))
+    (omega arith) (omega (arith, s.pending.ok.0, s.rows.ok.0)) in
     sym (ap or_no_memory e) ∙ ap (propose_refusal c.args.floor part) c.self.view_is
 
 pub returns-in_default-clause-fault : goal.returns-in_default-clause-fault
@@ -42,8 +42,8 @@ returns-in_default-clause-fault c =
     let part = data_of (arc_value c.args.part) in
     let at = rw (c.deref.ensures, c.deref-2.ensures.value) at c.place_of.ensures in
     let e = fault_none c.args.floor part (group_state s.topic s.clock s.log_limit s.pending.items s.rows.items s.frontier)
-        (not_placed part.id s.pending.items c.place_of.result at (sym c.is_some.ensures ∙ c.if-is_some.false))
-        (omega arith) (omega (arith, s.pending.ok.0, s.rows.ok.0)) in
+    (not_placed part.id s.pending.items c.place_of.result at (sym c.is_some.ensures ∙ c.if-is_some.false))
+    (omega arith) (omega (arith, s.pending.ok.0, s.rows.ok.0)) in
     sym (ap or_no_memory e) ∙ ap (propose_refusal c.args.floor part) c.self.view_is
 
 pub returns-clause-allowed : goal.returns-clause-allowed
@@ -52,8 +52,8 @@ returns-clause-allowed c =
     let part = data_of (arc_value c.args.part) in
     let at = rw (c.deref.ensures, c.deref-2.ensures.value) at c.place_of.ensures in
     let e = fault_none c.args.floor part (group_state s.topic s.clock s.log_limit s.pending.items s.rows.items s.frontier)
-        (not_placed part.id s.pending.items c.place_of.result at (sym c.is_some.ensures ∙ c.if-is_some.false))
-        (omega arith) (omega (arith, s.pending.ok.0, s.rows.ok.0)) in
+    (not_placed part.id s.pending.items c.place_of.result at (sym c.is_some.ensures ∙ c.if-is_some.false))
+    (omega arith) (omega (arith, s.pending.ok.0, s.rows.ok.0)) in
     ap (propose_fault c.args.floor part) (sym c.self.view_is) ∙ e
 
 pub invariant_of-self-2 : goal.invariant_of-self-2

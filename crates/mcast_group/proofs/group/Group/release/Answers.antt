@@ -39,7 +39,7 @@ invariant_of-self c =
     let y = group_state s.topic s.clock s.log_limit c.remove.new.self.items c.push_reserved.new.self.items c.row.inside.stamp in
     let within : c.in_ok-place.place < length s.pending.items = rw c.deref.ensures.value at c.in_ok-place.ensures.0 in
     let fewer : length c.remove.new.self.items + 1 ≡ length s.pending.items =
-        ap (λ (z : _). length z + 1) c.remove.ensures.items ∙ length-remove s.pending.items c.in_ok-place.place within in
+    ap (λ (z : _). length z + 1) c.remove.ensures.items ∙ length-remove s.pending.items c.in_ok-place.place within in
     subst (λ (n : ℕ). IsGroup y n) (sym c.push_reserved.ensures.capacity)
     (group_released (λ e. true) c.remove.result (group_state s.topic s.clock s.log_limit s.pending.items s.rows.items s.frontier) y _ (moved c (λ e. true)) c.self.invariant (due c) fewer)
 
