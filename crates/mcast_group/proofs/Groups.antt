@@ -1,7 +1,8 @@
 -- What a topic's calls answer, and what its group keeps.
-use Rattle.std.proofs.Common.{◌≡◌, ℕ, suc, ◌+◌, ◌<◌, ◌≤◌, nat_lt, max, Bool, true, false, List, [], ◌∷◌, ◌++◌, map, length, Option, Some, None, refl, sym, ap, subst, ◌∙◌, arith}
+use Rattle.std.proofs.Common.{◌≡◌, ℕ, ◌+◌, ◌<◌, ◌≤◌, nat_lt, max, Bool, true, false, List, [], ◌∷◌, ◌++◌, map, length, Option, Some, None, refl, sym, ap, subst, ◌∙◌, arith}
 use Rattle.std.specs.Option.{is_some}
 use Rattle.std.proofs.lemmas.Bool.Decides.{nat_tests}
+use Rattle.std.proofs.lemmas.List.{length_push}
 use Rattle.mcast_txn.specs.declared.id.Topic.{Topic}
 use Rattle.mcast_txn.specs.declared.id.TxnId.{TxnId}
 use Rattle.mcast_txn.specs.declared.stamp.Stamp.{Stamp}
@@ -106,15 +107,11 @@ release_is takes x p e = ap (released_if takes x) e
 pub release_none : (takes : Entry → Bool) (x : TopicState) → due_part x ≡ None → release takes x ≡ x
 release_none takes x e = ap (released_if takes x) e
 
-push_length : {X : Type 0} (xs : List X) (x : X) → length (xs ++ x ∷ []) ≡ suc (length xs)
-push_length [] x = refl
-push_length (y ∷ xs) x = ap suc (push_length xs x)
-
 pub group_released : (takes : Entry → Bool) (p : Pending) (x y : TopicState) (capacity : ℕ) → y ≡ released takes p x → IsGroup x capacity → due_part x ≡ Some p → length y.pending + 1 ≡ length x.pending → IsGroup y capacity
 group_released takes p x y capacity e h due l = record {
   sound = subst IsSound (release_is takes x p due ∙ sym e) (Sound-release takes x h.sound);
   room =
       let r : length x.held + length x.pending ≤ capacity = h.room in
       let held : length y.held ≡ length (x.held ++ row_of p ∷ []) = ap (λ (z : TopicState). length z.held) e in
-      let m = push_length x.held (row_of p) in omega arith;
+      let m = length_push x.held (row_of p) in omega arith;
 }
