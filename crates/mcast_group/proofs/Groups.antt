@@ -1,12 +1,11 @@
 -- What a topic's calls answer, and what its group keeps.
-use Rattle.std.proofs.Common.{◌≡◌, ℕ, zero, suc, ◌+◌, ◌<◌, ◌≤◌, ◌==◌, nat_lt, max, Bool, true, false, cond, not, ◌&&◌, ◌||◌, List, [], ◌∷◌, ◌++◌, map, length, get_or, Option, Some, None, refl, sym, ap, subst, ◌∙◌, arith}
-use Rattle.std.specs.List.{list_any}
+use Rattle.std.proofs.Common.{◌≡◌, ℕ, ◌+◌, ◌<◌, ◌≤◌, nat_lt, max, Bool, true, false, List, [], ◌∷◌, ◌++◌, map, length, Option, Some, None, refl, sym, ap, subst, ◌∙◌, arith}
 use Rattle.std.specs.Option.{is_some}
 use Rattle.std.proofs.lemmas.Bool.Decides.{nat_tests}
+use Rattle.std.proofs.lemmas.List.{length_push}
 use Rattle.mcast_txn.specs.declared.id.Topic.{Topic}
 use Rattle.mcast_txn.specs.declared.id.TxnId.{TxnId}
 use Rattle.mcast_txn.specs.declared.stamp.Stamp.{Stamp}
-use Rattle.mcast_txn.specs.Agreed.{same_id}
 use Rattle.mcast_txn.specs.Ballot.{Decision}
 use Rattle.mcast_txn.specs.Transaction.{TopicPart}
 use Rattle.mcast_group.specs.declared.fault.ProposeFault.TheVariants.{Twice, ClockFull, LogFull}
@@ -15,8 +14,8 @@ use Rattle.mcast_group.specs.declared.fault.CancelFault.TheVariants.{Decided}
 use Rattle.mcast_group.specs.Group.{IsGroup, group_state}
 use Rattle.mcast_group.specs.Span.{LogRow}
 use Rattle.mcast_group.specs.Sound.{IsSound}
-use Rattle.mcast_group.specs.Topics.{TopicState, Pending, Entry, decided_stamp, key, insert_pending, find_pending, is_pending, without, has_row, is_foreign, clashes, same_stamp, last_number, next_number, propose_fault, proposed, learn_fault, learn_fault_of, learned, told, cancel_fault, cancelled, least, if_learnt, due_part, row_of, released, released_if, release}
-use Rattle.mcast_group.proofs.Parts.{insert_length, map_length}
+use Rattle.mcast_group.specs.Topics.{TopicState, Pending, Entry, decided_stamp, key, insert_pending, find_pending, is_pending, without, is_foreign, clashes, last_number, propose_fault, proposed, learn_fault, learn_fault_of, learned, told, cancel_fault, cancelled, least, due_part, row_of, released, released_if, release}
+use Rattle.mcast_group.proofs.Parts.{map_length}
 use Rattle.mcast_group.proofs.Keeping.{learns_is, Sound-proposed, Sound-learned, Sound-cancelled}
 use Rattle.mcast_group.proofs.Turning.{Sound-release}
 
@@ -108,15 +107,11 @@ release_is takes x p e = ap (released_if takes x) e
 pub release_none : (takes : Entry → Bool) (x : TopicState) → due_part x ≡ None → release takes x ≡ x
 release_none takes x e = ap (released_if takes x) e
 
-push_length : {X : Type 0} (xs : List X) (x : X) → length (xs ++ x ∷ []) ≡ suc (length xs)
-push_length [] x = refl
-push_length (y ∷ xs) x = ap suc (push_length xs x)
-
 pub group_released : (takes : Entry → Bool) (p : Pending) (x y : TopicState) (capacity : ℕ) → y ≡ released takes p x → IsGroup x capacity → due_part x ≡ Some p → length y.pending + 1 ≡ length x.pending → IsGroup y capacity
 group_released takes p x y capacity e h due l = record {
   sound = subst IsSound (release_is takes x p due ∙ sym e) (Sound-release takes x h.sound);
   room =
       let r : length x.held + length x.pending ≤ capacity = h.room in
       let held : length y.held ≡ length (x.held ++ row_of p ∷ []) = ap (λ (z : TopicState). length z.held) e in
-      let m = push_length x.held (row_of p) in omega arith;
+      let m = length_push x.held (row_of p) in omega arith;
 }

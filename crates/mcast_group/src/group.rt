@@ -94,7 +94,7 @@ impl Group {
         self.rows.len()
     }
 
-    /// The row at place `i` of the log, from 0.
+    /// The row at place `i` of the log, from 0, or `None` past its end.
     pub fn held(&self, i: usize) -> Option<&Row>
         ensures { option_map (λ row. row.now) result ≡ slice_get self.now.held i }
     {

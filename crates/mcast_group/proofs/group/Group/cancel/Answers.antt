@@ -1,7 +1,7 @@
-use Rattle.std.proofs.Common.{◌≡◌, ◌+◌, length, Some, sym, ap, ◌∙◌, arith}
+use Rattle.std.proofs.Common.{◌≡◌, length, sym, ap, ◌∙◌, arith}
 use Rattle.std.proofs.lemmas.List.Edits.{length-remove}
 use Rattle.mcast_group.specs.Group.{answer, group_state}
-use Rattle.mcast_group.specs.Topics.{cancel_fault, cancel_fault_of, cancelled}
+use Rattle.mcast_group.specs.Topics.{cancel_fault_of, cancelled}
 use Rattle.mcast_group.proofs.Places.{found_at, none_found, part_at, without_found}
 use Rattle.mcast_group.proofs.Groups.{cancel_decided, cancel_none, cancelled_state, group_cancelled}
 use Rattle.mcast_group.proofs.group.Group.cancel.Goals as goal

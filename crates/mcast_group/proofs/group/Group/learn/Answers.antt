@@ -1,4 +1,4 @@
-use Rattle.std.proofs.Common.{◌≡◌, Some, max, set, sym, ap, ◌∙◌}
+use Rattle.std.proofs.Common.{◌≡◌, max, set, ap, ◌∙◌}
 use Rattle.mcast_txn.specs.declared.stamp.Stamp.{Stamp}
 use Rattle.mcast_group.specs.Group.{group_state}
 use Rattle.mcast_group.specs.Topics.{decided_stamp, learned}
