@@ -40,6 +40,16 @@ leaves_told : told leaves
     ∷ Leaving 0 ∷ Refused Refusal.Gone ∷ Unsubscribed 0 (stamp 1 0) ∷ Gone 0 ∷ Refused Refusal.Gone ∷ []
 leaves_told = refl
 
+-- a connection that leaves closes its subscriptions by age
+abbrev leaves_two : Run
+leaves_two = with_clocks (0 ∷ 0 ∷ []) (
+    Opened ∷ Subscribes 0 (topic 1) ∷ Subscribes 0 (topic 0) ∷ Disconnects 0 ∷ Leaves 0 ∷ Leaves 0 ∷ Leaves 0 ∷ [])
+
+leaves_two_told : told leaves_two
+    ≡ Done ∷ Subscribed 0 0 (topic 1) (stamp 0 0) ∷ Subscribed 1 0 (topic 0) (stamp 0 0)
+    ∷ Leaving 0 ∷ Unsubscribed 0 (stamp 0 0) ∷ Unsubscribed 1 (stamp 0 0) ∷ Gone 0 ∷ []
+leaves_two_told = refl
+
 -- two senders' four tickets: the one decided is released once the other is
 abbrev then_decided : Run
 then_decided = four_tickets (Decides 1 ∷ Turns (topic 0) ∷ Decides 0 ∷ Turns (topic 0) ∷ [])

@@ -1,4 +1,4 @@
--- What is claimed of every run: over all capacities, log limits, opening clocks and lists of events.
+-- What is claimed of every run, over all capacities, log limits, opening clocks and lists of events, and of each step.
 use Rattle.std.specs.Prelude.{◌≡◌, ◌≢◌, ℕ, ◌<◌, ◌+◌, ◌-◌, ◌++◌, nat_lt, max, Bool, true, false, Option, Some, None, ◌⊎◌, List, [], ◌∷◌, map, filter, length}
 use Rattle.std.specs.List.{list_any}
 use Rattle.mcast_txn.specs.declared.id.Topic.{Topic}
@@ -115,7 +115,7 @@ StampIsGreatest =
 abbrev pub RefusalsChangeNothing : Type 0
 RefusalsChangeNothing = (w : World) (e : Event) (why : Refusal) → outcome w e ≡ Refused why → happens w e ≡ w
 
--- a turn is its learns, one for each pending part by rising id, and then releases until nothing is due: those that come after find nothing, and are refused
+-- a turn is its learns, one for each part that was pending, in their order, and then as many releases: those that find nothing are refused
 abbrev pub TurnIsItsSteps : Type 0
 TurnIsItsSteps =
     (w : World) (t : Topic)
@@ -152,7 +152,7 @@ TicketIsOwn =
     × (names t (topics_of (flight_at w c).txn.sends) ≡ true)
     × (ticket ≡ record { n = max (topic_at w t).clock (speaker w c).floor.n + 1; topic = t })
 
--- a verdict isn't the part's, clashes, or comes to cancel a part: what no run meets
+-- a verdict isn't the part's or clashes, or a part that has learnt its stamp is to be cancelled: what no run meets
 abbrev pub is_odd : Refusal → Bool
 is_odd Refusal.Foreign = true
 is_odd Refusal.Clash = true

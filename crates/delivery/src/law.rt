@@ -1,7 +1,15 @@
-//! Laws: functions that do nothing, whose contracts are theorems about every run of the core.
+//! Laws: functions that do nothing, whose contracts are theorems about every run or step of the core.
 
-ghost use Rattle.delivery.specs.Laws.{AcceptedIsDue, AgreedInSenderOrder, AgreedOnce, CancelFindsItsPart, ClosedIsSilent, CommitsAreKept, EntriesAreThere, FoundIsLearnt, HandedIsPrefix, LagsWhereFull, NoneIsPendingTwice, NumbersAreFree, OddNeverComes, OthersUntouched, RefusalsChangeNothing, SeqsCount, SettledLeavesNoneOut, SharedInOneOrder, StampIsGreatest, TicketIsOwn, TopicsAreSound, TurnIsItsSteps};
-ghost use Rattle.delivery.specs.Told.{EndsAreTold, EndsStay, FlyingIsOwn, QueuesAreBounded, SenderIsOwn, SpansBeginAsTold, SpansBeginAtFrontier, SpansEndAsTold};
+ghost use Rattle.delivery.specs.Laws.{AcceptedIsDue, AgreedInSenderOrder, AgreedOnce};
+ghost use Rattle.delivery.specs.Laws.{CancelFindsItsPart, ClosedIsSilent, CommitsAreKept};
+ghost use Rattle.delivery.specs.Laws.{EntriesAreThere, FoundIsLearnt, HandedIsPrefix};
+ghost use Rattle.delivery.specs.Laws.{LagsWhereFull, NoneIsPendingTwice, NumbersAreFree};
+ghost use Rattle.delivery.specs.Laws.{OddNeverComes, OthersUntouched, RefusalsChangeNothing};
+ghost use Rattle.delivery.specs.Laws.{SeqsCount, SettledLeavesNoneOut, SharedInOneOrder};
+ghost use Rattle.delivery.specs.Laws.{StampIsGreatest, TicketIsOwn, TopicsAreSound, TurnIsItsSteps};
+ghost use Rattle.delivery.specs.Told.{EndsAreTold, EndsStay, FlyingIsOwn, QueuesAreBounded};
+ghost use Rattle.delivery.specs.Told.{SenderIsOwn, SpansBeginAsTold, SpansBeginAtFrontier};
+ghost use Rattle.delivery.specs.Told.{SpansEndAsTold};
 
 /// The core's commit list is that of the decisions in the run.
 pub fn commits()
@@ -57,8 +65,9 @@ pub fn genuine()
     ensures tickets { TicketIsOwn }
 {}
 
-/// No verdict is refused as another's or as a clash, no decided part is cancelled, a ticket that is to be cancelled has its
-/// part pending, and no topic refuses a part because its transaction is pending there.
+/// No verdict is refused as another's or as a clash, no decided part is cancelled, a ticket that is
+/// to be cancelled has its part pending, and no topic refuses a part because its transaction is
+/// pending there.
 pub fn never()
     ensures refused { OddNeverComes }
     ensures in_turns { FoundIsLearnt }
@@ -66,14 +75,15 @@ pub fn never()
     ensures proposals { NoneIsPendingTwice }
 {}
 
-/// No topic refuses a subscription because its number is in use, and each subscription that isn't closed has its entry
-/// at its topic.
+/// No topic refuses a subscription because its number is in use, and each subscription that isn't
+/// closed has its entry at its topic.
 pub fn subscriptions()
     ensures begin { NumbersAreFree }
     ensures end { EntriesAreThere }
 {}
 
-/// A turn is its steps: it learns once for each pending part, by rising id, and then releases until nothing is due.
+/// A turn is its steps: a learn for each part that was pending, in their order, and then as many
+/// releases; those that find nothing are refused.
 pub fn turns()
     ensures { TurnIsItsSteps }
 {}
@@ -92,8 +102,8 @@ pub fn handed_prefix()
     ensures { HandedIsPrefix }
 {}
 
-/// Nothing is handed on of a subscription after it was unsubscribed, or after its connection was closed by
-/// itself, by an ERROR or by loss.
+/// Nothing is handed on of a subscription after it was unsubscribed, or after its connection was
+/// closed by itself, by an ERROR, by a withdrawal or by loss.
 pub fn silent_after_close()
     ensures { ClosedIsSilent }
 {}
