@@ -19,7 +19,7 @@ use Rattle.delivery.specs.World.{World, start, topic_at, speaker, subscription_a
 use Rattle.delivery.specs.Reading.{accepted_at, span_at, log_at, frontier_at}
 use Rattle.delivery.specs.Events.{Event, Outcome, happens, outcome, refusal, flight_at, find_in, oldest_live}
 use Rattle.delivery.specs.Events.Event.{Subscribes, Unsubscribes, Leaves, Proposes, Cancels, Learns, Releases, Turns}
-use Rattle.delivery.specs.Events.Outcome.{Refused, Ticket, Failed, Decided}
+use Rattle.delivery.specs.Events.Outcome.{Refused, Ticket, Failed, Decided, Withdrawn}
 use Rattle.delivery.specs.Runs.{run, outcomes, commits_of, tickets_of, handed_of, Numbered}
 use Rattle.delivery.specs.Settled.{IsSettled, SilentAfterClose}
 
@@ -186,6 +186,18 @@ abbrev pub EntriesAreThere : Type 0
 EntriesAreThere =
     (r : Run) (s : ℕ) → s < length (after r).subscriptions → (subscription_at (after r) s).closed ≡ None
     → unsubscribe_fault s (topic_at (after r) (subscription_at (after r) s).topic) ≡ None
+
+-- an entry of a topic is that of a subscription to it that isn't closed, with its beginning
+abbrev pub EntriesAreOwned : Type 0
+EntriesAreOwned =
+    (r : Run) (t : Topic) (e : Entry) → In e (topic_at (after r) t).subscriptions
+    → (e.number < length (after r).subscriptions) × ((subscription_at (after r) e.number).topic ≡ t)
+    × ((subscription_at (after r) e.number).closed ≡ None) × ((subscription_at (after r) e.number).from ≡ e.from)
+
+-- no transaction is both withdrawn and decided
+abbrev pub WithdrawnIsUndecided : Type 0
+WithdrawnIsUndecided =
+    (r : Run) (id : TxnId) (c : ℕ) (stamp : Stamp) → In (Withdrawn id c) (came r) → In (Decided id stamp) (came r) → Prim.⊥
 
 -- an open subscription as a release of p leaves it: where fewer items than its capacity weren't handed on it has one more, and else it has ended before it
 pub record IsGiven (w : World) (frontier : Stamp) (p : Pending) (before after : Entry) : Type 0 where

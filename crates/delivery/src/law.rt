@@ -2,7 +2,8 @@
 
 ghost use Rattle.delivery.specs.Laws.{AcceptedIsDue, AgreedInSenderOrder, AgreedOnce};
 ghost use Rattle.delivery.specs.Laws.{CancelFindsItsPart, ClosedIsSilent, CommitsAreKept};
-ghost use Rattle.delivery.specs.Laws.{EntriesAreThere, FoundIsLearnt, HandedIsPrefix};
+ghost use Rattle.delivery.specs.Laws.{EntriesAreOwned, EntriesAreThere, FoundIsLearnt};
+ghost use Rattle.delivery.specs.Laws.{HandedIsPrefix, WithdrawnIsUndecided};
 ghost use Rattle.delivery.specs.Laws.{LagsWhereFull, NoneIsPendingTwice, NumbersAreFree};
 ghost use Rattle.delivery.specs.Laws.{OddNeverComes, OthersUntouched, RefusalsChangeNothing};
 ghost use Rattle.delivery.specs.Laws.{SeqsCount, SettledLeavesNoneOut, SharedInOneOrder};
@@ -66,20 +67,22 @@ pub fn genuine()
 {}
 
 /// No verdict is refused as another's or as a clash, no decided part is cancelled, a ticket that is
-/// to be cancelled has its part pending, and no topic refuses a part because its transaction is
-/// pending there.
+/// to be cancelled has its part pending, no topic refuses a part because its transaction is pending
+/// there, and no transaction is both withdrawn and decided.
 pub fn never()
     ensures refused { OddNeverComes }
     ensures in_turns { FoundIsLearnt }
     ensures cancels { CancelFindsItsPart }
     ensures proposals { NoneIsPendingTwice }
+    ensures withdrawals { WithdrawnIsUndecided }
 {}
 
-/// No topic refuses a subscription because its number is in use, and each subscription that isn't
-/// closed has its entry at its topic.
+/// No topic refuses a subscription because its number is in use; each subscription that isn't closed
+/// has its entry at its topic, and a topic has no other entry.
 pub fn subscriptions()
     ensures begin { NumbersAreFree }
     ensures end { EntriesAreThere }
+    ensures owned { EntriesAreOwned }
 {}
 
 /// A turn is its steps: a learn for each part that was pending, in their order, and then as many
