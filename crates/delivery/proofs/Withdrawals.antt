@@ -1,5 +1,5 @@
 -- No transaction is both withdrawn and decided.
-use Rattle.std.proofs.Common.{◌≡◌, ℕ, inl, inr, List, [], ◌∷◌, Option, Some, None, refl, sym, ap, subst, ◌∙◌}
+use Rattle.std.proofs.Common.{◌≡◌, ℕ, inl, inr, List, [], ◌∷◌, Option, Some, None, sym, ap, subst, ◌∙◌}
 use Rattle.std.proofs.lemmas.Bool.{true≢false}
 use Rattle.mcast_txn.specs.Agreed.{In}
 use Rattle.mcast_txn.specs.declared.id.Topic.{Topic}

@@ -3,11 +3,12 @@
 ghost use Rattle.delivery.specs.Laws.{AcceptedIsDue, AgreedInSenderOrder, AgreedOnce};
 ghost use Rattle.delivery.specs.Laws.{CancelFindsItsPart, ClosedIsSilent, CommitsAreKept};
 ghost use Rattle.delivery.specs.Laws.{EntriesAreOwned, EntriesAreThere, FoundIsLearnt};
-ghost use Rattle.delivery.specs.Laws.{HandedIsPrefix, WithdrawnIsUndecided};
-ghost use Rattle.delivery.specs.Laws.{LagsWhereFull, NoneIsPendingTwice, NumbersAreFree};
-ghost use Rattle.delivery.specs.Laws.{OddNeverComes, OthersUntouched, RefusalsChangeNothing};
-ghost use Rattle.delivery.specs.Laws.{SeqsCount, SettledLeavesNoneOut, SharedInOneOrder};
-ghost use Rattle.delivery.specs.Laws.{StampIsGreatest, TicketIsOwn, TopicsAreSound, TurnIsItsSteps};
+ghost use Rattle.delivery.specs.Laws.{HandedIsPrefix, LagsWhereFull, NoneIsPendingTwice};
+ghost use Rattle.delivery.specs.Laws.{NumbersAreFree, OddNeverComes, OthersUntouched};
+ghost use Rattle.delivery.specs.Laws.{RefusalsChangeNothing, ReleasedIsLogged, SeqsCount};
+ghost use Rattle.delivery.specs.Laws.{SettledLeavesNoneOut, SharedInOneOrder, StampIsGreatest};
+ghost use Rattle.delivery.specs.Laws.{TicketIsOwn, TopicsAreSound, TurnIsItsSteps, TurnedIsLogged};
+ghost use Rattle.delivery.specs.Laws.{WithdrawnIsUndecided};
 ghost use Rattle.delivery.specs.Told.{EndsAreTold, EndsStay, FlyingIsOwn, QueuesAreBounded};
 ghost use Rattle.delivery.specs.Told.{SenderIsOwn, SpansBeginAsTold, SpansBeginAtFrontier};
 ghost use Rattle.delivery.specs.Told.{SpansEndAsTold};
@@ -86,9 +87,12 @@ pub fn subscriptions()
 {}
 
 /// A turn is its steps: a learn for each part that was pending, in their order, and then as many
-/// releases; those that find nothing are refused.
+/// releases; those that find nothing are refused. A topic's log gets the row of the transaction that
+/// a release's outcome names, and as many rows as a turn's outcome says.
 pub fn turns()
-    ensures { TurnIsItsSteps }
+    ensures steps { TurnIsItsSteps }
+    ensures released { ReleasedIsLogged }
+    ensures turned { TurnedIsLogged }
 {}
 
 /// An open subscription lags exactly at a release at its topic where as many items as its capacity
