@@ -14,11 +14,11 @@ use Rattle.delivery.specs.World.{World, topic_at, connection_at, subscription_at
 use Rattle.delivery.specs.Reading.{log_at, accepted_at, end_at, span_at, frontier_at}
 use Rattle.delivery.specs.Events.{Event, happens, outcome}
 use Rattle.delivery.specs.Events.Event.{Topic_added, Opened, Commits, Subscribes, Disconnects, Errs, Lost, Leaves, Proposes, Decides, Learns, Releases, Turns, Takes}
-use Rattle.delivery.specs.Events.Outcome.{Refused, Done, Subscribed, Unsubscribed, Leaving, Error, Gone, Ticket, Decided, Learnt, Released, Turned}
-use Rattle.delivery.specs.Runs.{run, outcomes, handed_of}
+use Rattle.delivery.specs.Events.Outcome.{Refused, Done, Subscribed, Unsubscribed, Leaving, Error, Gone, Ticket, Decided, Withdrawn, Learnt, Released, Turned}
+use Rattle.delivery.specs.Runs.{run, outcomes, commits_of, handed_of}
 use Rattle.delivery.specs.Settled.{IsSettled, IsSilent, AllResolved}
 use Rattle.delivery.specs.Laws.{Run, came, after, shared}
-use Rattle.delivery.proofs.Rows.{topic, stamp, id, send, part, flying, handed, with_clocks, told, log_of, to_both, ends, lags, sends_one, four_tickets}
+use Rattle.delivery.proofs.Rows.{topic, stamp, id, send, part, flying, handed, with_clocks, told, log_of, to_both, ends, full, lags, sends_one, four_tickets}
 
 -- a queue of two items and three rows: the third take is answered by ERROR
 lags_told : told lags
@@ -187,6 +187,13 @@ ends_there = (refl, refl, refl, refl)
 begins_late : (outcome (after settles) (Subscribes 0 (topic 0)) ≡ Subscribed 0 0 (topic 0) (stamp 1 0))
     × (frontier_at (after settles) (topic 0) ≡ stamp 1 0)
 begins_late = (refl, refl)
+
+-- a transaction that is withdrawn: it isn't decided, and its topic's log has the other's row alone
+full_withdrawn : In (Withdrawn (id 1 1) 1) (came full)
+full_withdrawn = inr (inr (inr (inr (inl refl))))
+
+full_committed : map (λ r. r.txn.id) (commits_of (came full)) ≡ id 0 1 ∷ id 2 1 ∷ []
+full_committed = refl
 
 -- a queue of two items is full, and a third row is decided: the turn ends the span, and so does the release; the end stays
 abbrev full_queue : List Event → Run

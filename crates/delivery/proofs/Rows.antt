@@ -178,7 +178,7 @@ lags_log = refl
 
 -- ---- a clock at its end: topics A at 2^64 - 2, and B; the transaction that A refuses is withdrawn and cancelled
 
-abbrev full : Run
+abbrev pub full : Run
 full = with_clocks (18446744073709551614 ∷ 0 ∷ []) (
     Opened ∷ Opened ∷ Opened ∷ Commits 0 (send 0 1 ∷ []) ∷ Proposes 0 (topic 0) true ∷ Decides 0 ∷ Turns (topic 0)
     ∷ Commits 1 to_both ∷ Proposes 1 (topic 1) true ∷ Commits 2 (send 1 2 ∷ []) ∷ Proposes 2 (topic 1) true ∷ Decides 2 ∷ Turns (topic 1)

@@ -81,7 +81,7 @@ fewer_quiet past w v o q f h = note_quiet past v.topics v.senders o q (Settling-
 
 -- ---- a turn of a topic where all is resolved
 
-committed_of : (past : List Outcome) (w : World) (id : TxnId) (stamp : Stamp) → Reached past w → In (Decided id stamp) past → HasCommit w.commits id
+pub committed_of : (past : List Outcome) (w : World) (id : TxnId) (stamp : Stamp) → Reached past w → In (Decided id stamp) past → HasCommit w.commits id
 committed_of past w id stamp h k =
     let c = commit_of id stamp past k in
     record { row = c.it; stands = subst (λ z. In c.it z) h.commits c.stands; id_is = c.id_is }
@@ -246,7 +246,7 @@ run_both (e ∷ es) past w h l = run_both es (outcome w e ∷ past) (happens w e
 no_parts : (log_limit : ℕ) (clocks : List ℕ) (t : Topic) (p : Pending) → In p (topic_in (new_topics 0 log_limit clocks) t).pending → Prim.⊥
 no_parts log_limit clocks t = at_new (λ z. (p : Pending) → In p z.pending → Prim.⊥) 0 log_limit clocks t.0 t (omega arith) (λ limit clock p i. i)
 
-start_settling : (log_limit : ℕ) (clocks : List ℕ) → Settling [] (new_topics 0 log_limit clocks) []
+pub start_settling : (log_limit : ℕ) (clocks : List ℕ) → Settling [] (new_topics 0 log_limit clocks) []
 start_settling log_limit clocks = record {
   gone = λ t p id i k. absurd k;
   flew = λ s f e. none_some f e;

@@ -1,21 +1,26 @@
--- A turn is its learns and its releases, one by one.
-use Rattle.std.proofs.Common.{◌≡◌, ℕ, ◌<◌, Bool, true, not, inl, inr, List, [], ◌∷◌, ◌++◌, map, length, set, Option, Some, None, refl, sym, ap, ◌∙◌, arith}
+-- A turn is its learns and its releases, one by one, and what its topic's log gets of it.
+use Rattle.std.proofs.Common.{◌≡◌, ℕ, zero, suc, ◌-◌, ◌<◌, Bool, true, not, inl, inr, List, [], ◌∷◌, ◌++◌, map, length, set, Option, Some, None, refl, sym, ap, ◌∙◌, arith}
 use Rattle.std.specs.Option.{is_some}
-use Rattle.std.proofs.lemmas.Bool.{lt-ltb, le-ltb}
+use Rattle.std.proofs.lemmas.Bool.{lt-ltb, le-ltb, ltb-true}
 use Rattle.std.proofs.lemmas.List.{length-set, get_or_past, get_or-set_same, set-get_or, set-set}
 use Rattle.mcast_txn.specs.Ballot.{Decision}
 use Rattle.mcast_txn.specs.declared.id.Topic.{Topic}
 use Rattle.mcast_txn.specs.declared.id.TxnId.{TxnId}
 use Rattle.mcast_group.specs.declared.fault.LearnFault.{LearnFault}
 use Rattle.mcast_group.specs.Checks.{first_refusal}
-use Rattle.mcast_group.specs.Topics.{TopicState, Pending, new_topic, learn_fault, learned, told, tried, tried_all, due_part, released_if, release, released_times, turned, decided_stamp}
+use Rattle.mcast_group.specs.Span.{LogRow}
+use Rattle.mcast_group.specs.Topics.{TopicState, Pending, Entry, row_of, new_topic, learn_fault, learned, told, tried, tried_all, due_part, released_if, release, released_times, turned, decided_stamp}
 use Rattle.mcast_group.proofs.Parts.{map_length}
 use Rattle.delivery.specs.declared.refusal.Refusal.{Refusal}
 use Rattle.delivery.specs.World.{World, topic_at, with_topic}
-use Rattle.delivery.specs.Events.{Event, happens, effect, or_else, is_topic, learn_refusal, learning, learned_at, find_in, takes}
+use Rattle.delivery.specs.Reading.{log_at}
+use Rattle.delivery.specs.Events.{Event, happens, effect, or_else, is_topic, learn_refusal, learning, learned_at, find_in, takes, answer, release_answer}
 use Rattle.delivery.specs.Events.Event.{Learns, Releases, Turns}
+use Rattle.delivery.specs.Events.Outcome.{Released, Turned}
 use Rattle.delivery.specs.Runs.{run}
 use Rattle.delivery.specs.Laws
+use Rattle.delivery.proofs.Parts.{append_again}
+use Rattle.delivery.proofs.Happening.{by_refusal, checked, false_not}
 use Rattle.delivery.proofs.Telling.{within}
 
 -- the world after a step: the new one, or the old one where it is refused
@@ -119,3 +124,84 @@ turn_is_its_steps w t = elim (within t.0 (length w.topics)) [
   | inr l ↦ turn_when w t _ (le-ltb t.0 (length w.topics) l)
       ∙ ap (λ (x : TopicState). run (steps_of t x.pending) w) (sym (get_or_past w.topics t.0 (new_topic t 0 0) l))
 ]
+
+-- ---- the log
+
+-- y's log is x's with more rows behind
+record Longer (x y : TopicState) : Type 0 where
+  rows : List LogRow
+  is : y.held ≡ x.held ++ rows
+
+append_nothing : (xs : List LogRow) → xs ≡ xs ++ []
+append_nothing [] = refl
+append_nothing (x ∷ xs) = ap (λ z. x ∷ z) (append_nothing xs)
+
+Longer-same : (x y : TopicState) → y.held ≡ x.held → Longer x y
+Longer-same x y e = record { rows = []; is = e ∙ append_nothing x.held }
+
+Longer-then : (x y z : TopicState) → Longer x y → Longer y z → Longer x z
+Longer-then x y z a b = record {
+  rows = a.rows ++ b.rows;
+  is = b.is ∙ (ap (λ (rows : List LogRow). rows ++ b.rows) a.is ∙ append_again x.held a.rows b.rows);
+}
+
+released_longer : (accepts : Entry → Bool) (x : TopicState) (o : Option Pending) → Longer x (released_if accepts x o)
+released_longer accepts x None = Longer-same x x refl
+released_longer accepts x (Some p) = record { rows = row_of p ∷ []; is = refl }
+
+times_longer : (accepts : Entry → Bool) (k : ℕ) (x : TopicState) → Longer x (released_times accepts k x)
+times_longer accepts zero x = Longer-same x x refl
+times_longer accepts (suc k) x =
+    let y = release accepts x in Longer-then x y (released_times accepts k y) (released_longer accepts x (due_part x)) (times_longer accepts k y)
+
+tried_held : (id : TxnId) (o : Option Decision) (x : TopicState) → (tried id o x).held ≡ x.held
+tried_held id None x = refl
+tried_held id (Some v) x = by (learn_fault id v x)
+  where
+    by : (o : Option LearnFault) → let y : TopicState = elim o [ None ↦ learned id (decided_stamp v) x | Some fault ↦ x ] in y.held ≡ x.held
+    by None = refl
+    by (Some fault) = refl
+
+all_held : (find : TxnId → Option Decision) (ps : List Pending) (x : TopicState) → (tried_all find ps x).held ≡ x.held
+all_held find [] x = refl
+all_held find (p ∷ ps) x = all_held find ps (tried p.part.id (find p.part.id) x) ∙ tried_held p.part.id (find p.part.id) x
+
+turned_longer : (accepts : Entry → Bool) (find : TxnId → Option Decision) (x : TopicState) → Longer x (turned accepts find x)
+turned_longer accepts find x =
+    let y = tried_all find x.pending x in
+    Longer-then x y (turned accepts find x) (Longer-same x y (all_held find x.pending x)) (times_longer accepts (length y.pending) y)
+
+more_rows : (xs ys : List LogRow) → length (xs ++ ys) - length xs ≡ length ys
+more_rows [] ys = omega arith
+more_rows (x ∷ xs) ys = let h : length (xs ++ ys) - length xs ≡ length ys = more_rows xs ys in omega arith
+
+counts_rows : (x y : TopicState) (h : Longer x y) → length h.rows ≡ length y.held - length x.held
+counts_rows x y h = sym (ap (λ (rows : List LogRow). length rows - length x.held) h.is ∙ more_rows x.held h.rows)
+
+-- the log of a topic that is there, as it is written
+log_written : (w : World) (t : Topic) (x : TopicState) → is_topic w t ≡ true → log_at (with_topic w t x) t ≡ x.held
+log_written w t x e = ap (λ (z : TopicState). z.held) (is_read w t x (ltb-true t.0 (length w.topics) e))
+
+released_case : (w : World) (t u : Topic) (id : TxnId) (o : Option Pending) → is_topic w t ≡ true → release_answer t o ≡ Released u id → (u ≡ t) × (row : LogRow) × (row.id ≡ id) × (log_at (with_topic w t (released_if (takes w) (topic_at w t) o)) t ≡ log_at w t ++ row ∷ [])
+released_case w t u id None room e = cc
+released_case w t u id (Some p) room e =
+    let a : u ≡ t = cc in let b : p.part.id ≡ id = cc in
+    (a, row_of p, b, log_written w t (released_if (takes w) (topic_at w t) (Some p)) room)
+
+pub released_is_logged : Laws.ReleasedIsLogged
+released_is_logged w t u id =
+    by_refusal (λ v o. o ≡ Released u id → (u ≡ t) × (row : LogRow) × (row.id ≡ id) × (log_at v t ≡ log_at w t ++ row ∷ [])) w (Releases t)
+    (λ why e. cc)
+    (λ n e. released_case w t u id (due_part (topic_at w t)) (false_not (is_topic w t) (checked w (Releases t) n).0) e)
+
+turned_here : (w : World) (t u : Topic) (count : ℕ) → is_topic w t ≡ true → answer w (Turns t) ≡ Turned u count → (u ≡ t) × (rows : List LogRow) × (length rows ≡ count) × (log_at (effect w (Turns t)) t ≡ log_at w t ++ rows)
+turned_here w t u count room e =
+    let x = topic_at w t in let y = turned (takes w) (find_in w) x in let h = turned_longer (takes w) (find_in w) x in
+    let a : u ≡ t = cc in let b : length y.held - length x.held ≡ count = cc in
+    (a, h.rows, counts_rows x y h ∙ b, log_written w t y room ∙ h.is)
+
+pub turned_is_logged : Laws.TurnedIsLogged
+turned_is_logged w t u count =
+    by_refusal (λ v o. o ≡ Turned u count → (u ≡ t) × (rows : List LogRow) × (length rows ≡ count) × (log_at v t ≡ log_at w t ++ rows)) w (Turns t)
+    (λ why e. cc)
+    (λ n e. turned_here w t u count (false_not (is_topic w t) (checked w (Turns t) n).0) e)

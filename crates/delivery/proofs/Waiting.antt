@@ -175,3 +175,6 @@ entries_are_there r s l unclosed =
     let h = (reached r).inv.subscribes.live s l unclosed in
     let f = finds_entry s x.subscriptions h.entry h.stands h.number in
     ap (λ (o : Option Entry). cond (is_some o) None (Some (record {}))) f.found
+
+pub entries_are_owned : Laws.EntriesAreOwned
+entries_are_owned r t e i = let h = (reached r).inv.subscribes.owned t e i in (h.there, h.topic, h.closed, h.from_is)

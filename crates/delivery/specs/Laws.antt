@@ -10,7 +10,7 @@ use Rattle.mcast_txn.specs.Agreed.{Row, In, names, same_id, agreed, EachOnce, Se
 use Rattle.mcast_txn.specs.Ballot.{Decision}
 use Rattle.mcast_group.specs.declared.fault.LearnFault.{LearnFault}
 use Rattle.mcast_group.specs.declared.fault.ProposeFault.{ProposeFault}
-use Rattle.mcast_group.specs.Span.{Item}
+use Rattle.mcast_group.specs.Span.{LogRow, Item}
 use Rattle.mcast_group.specs.Sound.{IsSound}
 use Rattle.mcast_group.specs.Topics.{Pending, Entry, learn_fault, item_of, due_part, subscribe_fault, unsubscribe_fault}
 use Rattle.delivery.specs.declared.refusal.Refusal.{Refusal}
@@ -19,7 +19,7 @@ use Rattle.delivery.specs.World.{World, start, topic_at, speaker, subscription_a
 use Rattle.delivery.specs.Reading.{accepted_at, span_at, log_at, frontier_at}
 use Rattle.delivery.specs.Events.{Event, Outcome, happens, outcome, refusal, flight_at, find_in, oldest_live}
 use Rattle.delivery.specs.Events.Event.{Subscribes, Unsubscribes, Leaves, Proposes, Cancels, Learns, Releases, Turns}
-use Rattle.delivery.specs.Events.Outcome.{Refused, Ticket, Failed, Decided}
+use Rattle.delivery.specs.Events.Outcome.{Refused, Ticket, Failed, Decided, Withdrawn, Released, Turned}
 use Rattle.delivery.specs.Runs.{run, outcomes, commits_of, tickets_of, handed_of, Numbered}
 use Rattle.delivery.specs.Settled.{IsSettled, SilentAfterClose}
 
@@ -122,6 +122,18 @@ TurnIsItsSteps =
     → happens w (Turns t)
     ≡ run (map (λ p. Learns t p.part.id) (topic_at w t).pending ++ map (λ p. Releases t) (topic_at w t).pending) w
 
+-- a release that isn't refused adds one row to its topic's log: that of the transaction which its outcome names
+abbrev pub ReleasedIsLogged : Type 0
+ReleasedIsLogged =
+    (w : World) (t u : Topic) (id : TxnId) → outcome w (Releases t) ≡ Released u id
+    → (u ≡ t) × (row : LogRow) × (row.id ≡ id) × (log_at (happens w (Releases t)) t ≡ log_at w t ++ row ∷ [])
+
+-- a turn adds as many rows to its topic's log as its outcome says
+abbrev pub TurnedIsLogged : Type 0
+TurnedIsLogged =
+    (w : World) (t u : Topic) (count : ℕ) → outcome w (Turns t) ≡ Turned u count
+    → (u ≡ t) × (rows : List LogRow) × (length rows ≡ count) × (log_at (happens w (Turns t)) t ≡ log_at w t ++ rows)
+
 -- the topic of this subscription, if there is one
 abbrev pub live_topic : World → Option ℕ → Option Topic
 live_topic w None = None
@@ -186,6 +198,18 @@ abbrev pub EntriesAreThere : Type 0
 EntriesAreThere =
     (r : Run) (s : ℕ) → s < length (after r).subscriptions → (subscription_at (after r) s).closed ≡ None
     → unsubscribe_fault s (topic_at (after r) (subscription_at (after r) s).topic) ≡ None
+
+-- an entry of a topic is that of a subscription to it that isn't closed, with its beginning
+abbrev pub EntriesAreOwned : Type 0
+EntriesAreOwned =
+    (r : Run) (t : Topic) (e : Entry) → In e (topic_at (after r) t).subscriptions
+    → (e.number < length (after r).subscriptions) × ((subscription_at (after r) e.number).topic ≡ t)
+    × ((subscription_at (after r) e.number).closed ≡ None) × ((subscription_at (after r) e.number).from ≡ e.from)
+
+-- no transaction is both withdrawn and decided
+abbrev pub WithdrawnIsUndecided : Type 0
+WithdrawnIsUndecided =
+    (r : Run) (id : TxnId) (c : ℕ) (stamp : Stamp) → In (Withdrawn id c) (came r) → In (Decided id stamp) (came r) → Prim.⊥
 
 -- an open subscription as a release of p leaves it: where fewer items than its capacity weren't handed on it has one more, and else it has ended before it
 pub record IsGiven (w : World) (frontier : Stamp) (p : Pending) (before after : Entry) : Type 0 where

@@ -2,11 +2,13 @@
 
 ghost use Rattle.delivery.specs.Laws.{AcceptedIsDue, AgreedInSenderOrder, AgreedOnce};
 ghost use Rattle.delivery.specs.Laws.{CancelFindsItsPart, ClosedIsSilent, CommitsAreKept};
-ghost use Rattle.delivery.specs.Laws.{EntriesAreThere, FoundIsLearnt, HandedIsPrefix};
-ghost use Rattle.delivery.specs.Laws.{LagsWhereFull, NoneIsPendingTwice, NumbersAreFree};
-ghost use Rattle.delivery.specs.Laws.{OddNeverComes, OthersUntouched, RefusalsChangeNothing};
-ghost use Rattle.delivery.specs.Laws.{SeqsCount, SettledLeavesNoneOut, SharedInOneOrder};
-ghost use Rattle.delivery.specs.Laws.{StampIsGreatest, TicketIsOwn, TopicsAreSound, TurnIsItsSteps};
+ghost use Rattle.delivery.specs.Laws.{EntriesAreOwned, EntriesAreThere, FoundIsLearnt};
+ghost use Rattle.delivery.specs.Laws.{HandedIsPrefix, LagsWhereFull, NoneIsPendingTwice};
+ghost use Rattle.delivery.specs.Laws.{NumbersAreFree, OddNeverComes, OthersUntouched};
+ghost use Rattle.delivery.specs.Laws.{RefusalsChangeNothing, ReleasedIsLogged, SeqsCount};
+ghost use Rattle.delivery.specs.Laws.{SettledLeavesNoneOut, SharedInOneOrder, StampIsGreatest};
+ghost use Rattle.delivery.specs.Laws.{TicketIsOwn, TopicsAreSound, TurnIsItsSteps, TurnedIsLogged};
+ghost use Rattle.delivery.specs.Laws.{WithdrawnIsUndecided};
 ghost use Rattle.delivery.specs.Told.{EndsAreTold, EndsStay, FlyingIsOwn, QueuesAreBounded};
 ghost use Rattle.delivery.specs.Told.{SenderIsOwn, SpansBeginAsTold, SpansBeginAtFrontier};
 ghost use Rattle.delivery.specs.Told.{SpansEndAsTold};
@@ -66,26 +68,31 @@ pub fn genuine()
 {}
 
 /// No verdict is refused as another's or as a clash, no decided part is cancelled, a ticket that is
-/// to be cancelled has its part pending, and no topic refuses a part because its transaction is
-/// pending there.
+/// to be cancelled has its part pending, no topic refuses a part because its transaction is pending
+/// there, and no transaction is both withdrawn and decided.
 pub fn never()
     ensures refused { OddNeverComes }
     ensures in_turns { FoundIsLearnt }
     ensures cancels { CancelFindsItsPart }
     ensures proposals { NoneIsPendingTwice }
+    ensures withdrawals { WithdrawnIsUndecided }
 {}
 
-/// No topic refuses a subscription because its number is in use, and each subscription that isn't
-/// closed has its entry at its topic.
+/// No topic refuses a subscription because its number is in use; each subscription that isn't closed
+/// has its entry at its topic, and a topic has no other entry.
 pub fn subscriptions()
     ensures begin { NumbersAreFree }
     ensures end { EntriesAreThere }
+    ensures owned { EntriesAreOwned }
 {}
 
 /// A turn is its steps: a learn for each part that was pending, in their order, and then as many
-/// releases; those that find nothing are refused.
+/// releases; those that find nothing are refused. A topic's log gets the row of the transaction that
+/// a release's outcome names, and as many rows as a turn's outcome says.
 pub fn turns()
-    ensures { TurnIsItsSteps }
+    ensures steps { TurnIsItsSteps }
+    ensures released { ReleasedIsLogged }
+    ensures turned { TurnedIsLogged }
 {}
 
 /// An open subscription lags exactly at a release at its topic where as many items as its capacity

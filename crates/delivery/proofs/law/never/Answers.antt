@@ -1,5 +1,6 @@
 use Rattle.delivery.proofs.Steps.{odd_never_comes, found_is_learnt}
 use Rattle.delivery.proofs.Waiting.{cancel_finds_its_part, none_is_pending_twice}
+use Rattle.delivery.proofs.Withdrawals.{withdrawn_is_undecided}
 use Rattle.delivery.proofs.law.never.Goals as goal
 
 pub returns : goal.returns
@@ -8,4 +9,5 @@ returns c = record {
   in_turns = found_is_learnt;
   cancels = cancel_finds_its_part;
   proposals = none_is_pending_twice;
+  withdrawals = withdrawn_is_undecided;
 }

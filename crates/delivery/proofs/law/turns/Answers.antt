@@ -1,5 +1,5 @@
-use Rattle.delivery.proofs.Turns.{turn_is_its_steps}
+use Rattle.delivery.proofs.Turns.{turn_is_its_steps, released_is_logged, turned_is_logged}
 use Rattle.delivery.proofs.law.turns.Goals as goal
 
 pub returns : goal.returns
-returns c = turn_is_its_steps
+returns c = record { steps = turn_is_its_steps; released = released_is_logged; turned = turned_is_logged }
