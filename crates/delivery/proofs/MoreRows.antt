@@ -188,7 +188,7 @@ begins_late : (outcome (after settles) (Subscribes 0 (topic 0)) ≡ Subscribed 0
     × (frontier_at (after settles) (topic 0) ≡ stamp 1 0)
 begins_late = (refl, refl)
 
--- a transaction that is withdrawn: it isn't decided, and its topic's log has the other's row alone
+-- a transaction that is withdrawn isn't committed
 full_withdrawn : In (Withdrawn (id 1 1) 1) (came full)
 full_withdrawn = inr (inr (inr (inr (inl refl))))
 
