@@ -282,7 +282,7 @@ abbrev pub left_by : World → ℕ → Option ℕ → World
 left_by w c None = with_standing w c Standing.Gone
 left_by w c (Some s) = closed_subscription w s
 
--- an open connection is leaving, one that is leaving goes on
+-- the core where this connection is leaving
 abbrev pub leaving : World → ℕ → World
 leaving w c = with_standing w c Standing.Leaving
 
