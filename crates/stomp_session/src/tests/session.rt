@@ -1,7 +1,7 @@
-//! The session's table: one row for each refusal but want of memory.
+//! The session's table: one row for each refusal but want of memory; and the messages of faults.
 
 use super::client::{Client, has, last_number};
-use crate::{Action, Step};
+use crate::{Action, SessionFault, Step};
 use std::test::Fail;
 use stomp_frame::{Command, Octets, ServerFrame, render, write_frame};
 
@@ -154,5 +154,31 @@ fn a_receipt_is_written(rt: HostRuntime) -> Result<(), Fail> {
     let mut out = Octets::new(alloc);
     write_frame(&frame, &mut out)?;
     assert!(rt; out.as_slice() == b"RECEIPT\nreceipt-id:r\n\n\0".as_slice());
+    Ok(())
+}
+
+/// The message of each fault begins with its number and its name.
+#[test]
+fn messages_begin_with_titles(rt: HostRuntime) -> Result<(), Fail> {
+    let alloc = rt.alloc();
+    for (fault, title) in [
+        (SessionFault::NotConnected, b"60 NotConnected:".as_slice()),
+        (SessionFault::AlreadyConnected, b"61 AlreadyConnected:"),
+        (SessionFault::NoVersion, b"62 NoVersion:"),
+        (SessionFault::SubIdInUse, b"63 SubIdInUse:"),
+        (SessionFault::NoSuchSub, b"64 NoSuchSub:"),
+        (SessionFault::TxnInUse, b"65 TxnInUse:"),
+        (SessionFault::NoSuchTxn, b"66 NoSuchTxn:"),
+        (SessionFault::UnknownDestination, b"67 UnknownDestination:"),
+        (SessionFault::AckMode, b"68 AckMode:"),
+        (SessionFault::TooManySubs, b"69 TooManySubs:"),
+        (SessionFault::TooManyTxns, b"70 TooManyTxns:"),
+        (SessionFault::TooManySends, b"71 TooManySends:"),
+        (SessionFault::NoMemory, b"72 NoMemory:"),
+        (SessionFault::Closed, b"73 Closed:"),
+    ] {
+        let message = format!(in alloc; "{fault}")?;
+        assert!(rt; message.as_bytes().starts_with(title));
+    }
     Ok(())
 }
