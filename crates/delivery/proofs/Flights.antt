@@ -12,7 +12,7 @@ use Rattle.mcast_group.specs.Topics.{Pending, Entry, due_part}
 use Rattle.delivery.specs.declared.refusal.Refusal.{Refusal}
 use Rattle.delivery.specs.World.{World, Connection, Leftover, SenderState, Standing, nobody, new_sender, topic_at, connection_at, subscription_at, speaker, entry_at, start}
 use Rattle.delivery.specs.Events.{Event, happens, effect, answer, find_leftover, find_verdict, oldest_live, next_txn, flown, flying_answer, proposal_fault, proposed_by, propose_answer, cancelled_at, cancel_answer, learned_at, release_answer, handed, take_answer, left_by, leave_answer, closed_with}
-use Rattle.delivery.specs.Events.Event.{Topic_added, Opened, Commits, Subscribes, Unsubscribes, Disconnects, Errs, Lost, Leaves, Proposes, Decides, Withdraws, Cancels, Learns, Releases, Turns, Takes}
+use Rattle.delivery.specs.Events.Event.{Topic_added, Opens, Commits, Subscribes, Unsubscribes, Disconnects, Errs, Lost, Leaves, Proposes, Decides, Withdraws, Cancels, Learns, Releases, Turns, Takes}
 use Rattle.delivery.specs.Events.Outcome.{Refused, Flying}
 use Rattle.delivery.specs.Runs.{run}
 use Rattle.delivery.specs.Told
@@ -53,7 +53,7 @@ no_take w s (Some item) txn e = cc
 
 answer_own : (w : World) (e : Event) (txn : Transaction) → answer w e ≡ Flying txn → IsOwn w e txn
 answer_own w (Topic_added clock) txn e = cc
-answer_own w Opened txn e = cc
+answer_own w Opens txn e = cc
 answer_own w (Commits c sends) txn e = own_case w c sends txn e
 answer_own w (Subscribes c t) txn e = cc
 answer_own w (Unsubscribes c s) txn e = cc
@@ -129,7 +129,7 @@ handed_speaks w s (Some item) h = h
 
 effect_speaks : (w : World) (e : Event) → Speaks w → Speaks (effect w e)
 effect_speaks w (Topic_added clock) h = h
-effect_speaks w Opened h =
+effect_speaks w Opens h =
     let new : Connection = record { sender = length w.senders; standing = Standing.Open } in
     let m = push_length w.senders new_sender in let n = push_length w.connections new in let k = h.same in record {
       same = omega arith;

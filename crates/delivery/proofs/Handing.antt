@@ -17,7 +17,7 @@ use Rattle.mcast_group.proofs.Queues.{More, More-same}
 use Rattle.delivery.specs.World.{World, Leftover, Subscription, no_subscription, topic_at, speaker, subscription_at, entry_at, start, with_topic}
 use Rattle.delivery.specs.Reading.{entry_items, accepted_at}
 use Rattle.delivery.specs.Events.{Event, Outcome, happens, outcome, refusal, effect, answer, find_leftover, find_verdict, find_in, oldest_live, flown, flying_answer, proposal_fault, proposed_by, propose_answer, cancelled_at, cancel_answer, learned_at, release_answer, takes, handed, item_number, flight_at, take_answer, left_by, leave_answer, closed_subscription, closed_with}
-use Rattle.delivery.specs.Events.Event.{Topic_added, Opened, Commits, Subscribes, Unsubscribes, Disconnects, Errs, Lost, Leaves, Proposes, Decides, Withdraws, Cancels, Learns, Releases, Turns, Takes}
+use Rattle.delivery.specs.Events.Event.{Topic_added, Opens, Commits, Subscribes, Unsubscribes, Disconnects, Errs, Lost, Leaves, Proposes, Decides, Withdraws, Cancels, Learns, Releases, Turns, Takes}
 use Rattle.delivery.specs.Events.Outcome.{Refused, Done, Learnt, Handed}
 use Rattle.delivery.specs.Runs.{run, outcomes, handed_of}
 use Rattle.delivery.specs.Laws
@@ -265,7 +265,7 @@ happens_handing past w (Topic_added clock) r h e = told past (effect w (Topic_ad
           (at_added (λ u z. More (entry_items (find_entry s (topic_in w.topics u).subscriptions)) (entry_items (find_entry s z.subscriptions))) w.topics w.log_limit clock (subscription_at w s).topic
           (λ k. k) (More-same (entry_items (entry_at w s))));
     }) h)
-happens_handing past w Opened r h e = record { held = h.held; fresh = h.fresh }
+happens_handing past w Opens r h e = record { held = h.held; fresh = h.fresh }
 happens_handing past w (Commits c sends) r h e = flown_handing past w c sends h
 happens_handing past w (Subscribes c t) r h e = told past (effect w (Subscribes c t)) (answer w (Subscribes c t)) (λ n. refl) (begun_handing past w c t h)
 happens_handing past w (Unsubscribes c s) r h e =

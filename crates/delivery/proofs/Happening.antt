@@ -21,7 +21,7 @@ use Rattle.mcast_group.proofs.Parts.{some_same, none_some, not_true}
 use Rattle.delivery.specs.declared.refusal.Refusal.{Refusal}
 use Rattle.delivery.specs.World.{World, Flight, Leftover, SenderState, topic_at, new_sender, connection_at, speaker, entry_at}
 use Rattle.delivery.specs.Events.{Event, Outcome, happens, outcome, refusal, effect, answer, flight_at, flight_or, find_leftover, find_verdict, find_in, oldest_live, has_ticket, next_txn, next_ticket, flown, flying_answer, proposal_fault, proposed_by, propose_answer, decided, withdrawn, cancelled_at, cancel_answer, learned_at, learning, release_answer, takes, handed, take_answer, left_by, leave_answer, closed_subscription, closed_with, or_else, or_no_memory, learn_refusal, is_topic, checks, topic_refusal}
-use Rattle.delivery.specs.Events.Event.{Topic_added, Opened, Commits, Subscribes, Unsubscribes, Disconnects, Errs, Lost, Leaves, Proposes, Decides, Withdraws, Cancels, Learns, Releases, Turns, Takes}
+use Rattle.delivery.specs.Events.Event.{Topic_added, Opens, Commits, Subscribes, Unsubscribes, Disconnects, Errs, Lost, Leaves, Proposes, Decides, Withdraws, Cancels, Learns, Releases, Turns, Takes}
 use Rattle.delivery.specs.Events.Outcome.{Refused, Flying, Ticket}
 use Rattle.delivery.specs.Runs.{made, commits_of}
 use Rattle.delivery.proofs.Invariant.{row, sender_in, Inv, Holds}
@@ -323,7 +323,7 @@ handed_reached past w s (Some item) h = record { inv = take_step (tickets past) 
 
 pub happens_reached : (past : List Outcome) (w : World) (e : Event) → Reached past w → refusal w e ≡ None → Reached (answer w e ∷ past) (effect w e)
 happens_reached past w (Topic_added clock) h e = record { inv = added_step (tickets past) w clock h.inv; flights = h.flights; commits = h.commits }
-happens_reached past w Opened h e = record {
+happens_reached past w Opens h e = record {
   inv = opened_step (tickets past) w h.inv;
   flights = λ s f. at_push (λ (z : SenderState). z.flight ≡ Some f → made f.txn.id past ≡ f.txn) w.senders s new_sender new_sender (λ d o. o) (h.flights s f);
   commits = h.commits;

@@ -15,7 +15,7 @@ use Rattle.mcast_group.proofs.Parts.{some_same, none_some}
 use Rattle.delivery.specs.World.{World, Leftover, Subscription, no_subscription, topic_at, speaker, subscription_at, entry_at, with_topic}
 use Rattle.delivery.specs.Reading.{accepted_at, end_at}
 use Rattle.delivery.specs.Events.{Event, Outcome, happens, outcome, refusal, effect, answer, find_leftover, find_verdict, oldest_live, flown, proposal_fault, proposed_by, cancelled_at, learned_at, handed, flight_at, left_by, leave_answer, closed_subscription, closed_with, end_now}
-use Rattle.delivery.specs.Events.Event.{Topic_added, Opened, Commits, Subscribes, Unsubscribes, Disconnects, Errs, Lost, Leaves, Proposes, Decides, Withdraws, Cancels, Learns, Releases, Turns, Takes}
+use Rattle.delivery.specs.Events.Event.{Topic_added, Opens, Commits, Subscribes, Unsubscribes, Disconnects, Errs, Lost, Leaves, Proposes, Decides, Withdraws, Cancels, Learns, Releases, Turns, Takes}
 use Rattle.delivery.specs.Events.Outcome.{Unsubscribed}
 use Rattle.delivery.specs.Runs.{handed_of}
 use Rattle.delivery.specs.Laws.{Run, came, after}
@@ -141,7 +141,7 @@ left_why past w c s end r (Some q) f new = closed_why past w q s end r (leave_en
 
 effect_why : (r : Run) (e : Event) (s : ℕ) (end : Stamp) → refusal (after r) e ≡ None → s < length (after r).subscriptions → New (after r) s end (effect (after r) e) → Why r e s end (effect (after r) e) (answer (after r) e)
 effect_why r (Topic_added clock) s end n l new = absurd (added_ends (after r) clock s end new)
-effect_why r Opened s end n l new = absurd (same_topics (after r) s end new)
+effect_why r Opens s end n l new = absurd (same_topics (after r) s end new)
 effect_why r (Commits c sends) s end n l new = absurd (flown_ends (after r) c sends s end new)
 effect_why r (Subscribes c t) s end n l new = absurd (begun_ends (after r) c t s end l new)
 effect_why r (Unsubscribes c q) s end n l new =

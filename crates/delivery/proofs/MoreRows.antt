@@ -13,8 +13,8 @@ use Rattle.delivery.specs.declared.refusal.Refusal.{Refusal}
 use Rattle.delivery.specs.World.{World, topic_at, connection_at, subscription_at}
 use Rattle.delivery.specs.Reading.{log_at, accepted_at, end_at, span_at, frontier_at}
 use Rattle.delivery.specs.Events.{Event, happens, outcome}
-use Rattle.delivery.specs.Events.Event.{Topic_added, Opened, Commits, Subscribes, Disconnects, Errs, Lost, Leaves, Proposes, Decides, Learns, Releases, Turns, Takes}
-use Rattle.delivery.specs.Events.Outcome.{Refused, Done, Subscribed, Unsubscribed, Leaving, Error, Gone, Ticket, Decided, Withdrawn, Learnt, Released, Turned}
+use Rattle.delivery.specs.Events.Event.{Topic_added, Opens, Commits, Subscribes, Disconnects, Errs, Lost, Leaves, Proposes, Decides, Learns, Releases, Turns, Takes}
+use Rattle.delivery.specs.Events.Outcome.{Refused, Done, Opened, Subscribed, Unsubscribed, Leaving, Error, Gone, Ticket, Decided, Withdrawn, Learnt, Released, Turned}
 use Rattle.delivery.specs.Runs.{run, outcomes, commits_of, handed_of}
 use Rattle.delivery.specs.Settled.{IsSettled, IsSilent, AllResolved}
 use Rattle.delivery.specs.Laws.{Run, came, after, shared}
@@ -22,7 +22,7 @@ use Rattle.delivery.proofs.Rows.{topic, stamp, id, send, part, flying, handed, w
 
 -- a queue of two items and three rows: the third take is answered by ERROR
 lags_told : told lags
-    ≡ Done ∷ Done ∷ Subscribed 0 1 (topic 0) (stamp 0 0)
+    ≡ Opened 0 ∷ Opened 1 ∷ Subscribed 0 1 (topic 0) (stamp 0 0)
     ∷ flying (id 0 1) (send 0 1 ∷ []) ∷ Ticket (id 0 1) (stamp 1 0) ∷ Decided (id 0 1) (stamp 1 0) ∷ Turned (topic 0) 1
     ∷ flying (id 0 2) (send 0 2 ∷ []) ∷ Ticket (id 0 2) (stamp 2 0) ∷ Decided (id 0 2) (stamp 2 0) ∷ Turned (topic 0) 1
     ∷ flying (id 0 3) (send 0 3 ∷ []) ∷ Ticket (id 0 3) (stamp 3 0) ∷ Decided (id 0 3) (stamp 3 0) ∷ Turned (topic 0) 1
@@ -32,10 +32,10 @@ lags_told = refl
 -- DISCONNECT with an item that wasn't taken
 abbrev leaves : Run
 leaves = with_clocks (0 ∷ []) (
-    Opened ∷ Subscribes 0 (topic 0) ∷ sends_one 1 (Disconnects 0 ∷ Takes 0 ∷ Leaves 0 ∷ Leaves 0 ∷ Leaves 0 ∷ []))
+    Opens ∷ Subscribes 0 (topic 0) ∷ sends_one 1 (Disconnects 0 ∷ Takes 0 ∷ Leaves 0 ∷ Leaves 0 ∷ Leaves 0 ∷ []))
 
 leaves_told : told leaves
-    ≡ Done ∷ Subscribed 0 0 (topic 0) (stamp 0 0)
+    ≡ Opened 0 ∷ Subscribed 0 0 (topic 0) (stamp 0 0)
     ∷ flying (id 0 1) (send 0 1 ∷ []) ∷ Ticket (id 0 1) (stamp 1 0) ∷ Decided (id 0 1) (stamp 1 0) ∷ Turned (topic 0) 1
     ∷ Leaving 0 ∷ Refused Refusal.Gone ∷ Unsubscribed 0 (stamp 1 0) ∷ Gone 0 ∷ Refused Refusal.Gone ∷ []
 leaves_told = refl
@@ -43,10 +43,10 @@ leaves_told = refl
 -- a connection that leaves closes its subscriptions by age
 abbrev leaves_two : Run
 leaves_two = with_clocks (0 ∷ 0 ∷ []) (
-    Opened ∷ Subscribes 0 (topic 1) ∷ Subscribes 0 (topic 0) ∷ Disconnects 0 ∷ Leaves 0 ∷ Leaves 0 ∷ Leaves 0 ∷ [])
+    Opens ∷ Subscribes 0 (topic 1) ∷ Subscribes 0 (topic 0) ∷ Disconnects 0 ∷ Leaves 0 ∷ Leaves 0 ∷ Leaves 0 ∷ [])
 
 leaves_two_told : told leaves_two
-    ≡ Done ∷ Subscribed 0 0 (topic 1) (stamp 0 0) ∷ Subscribed 1 0 (topic 0) (stamp 0 0)
+    ≡ Opened 0 ∷ Subscribed 0 0 (topic 1) (stamp 0 0) ∷ Subscribed 1 0 (topic 0) (stamp 0 0)
     ∷ Leaving 0 ∷ Unsubscribed 0 (stamp 0 0) ∷ Unsubscribed 1 (stamp 0 0) ∷ Gone 0 ∷ []
 leaves_two_told = refl
 
@@ -55,7 +55,7 @@ abbrev then_decided : Run
 then_decided = four_tickets (Decides 1 ∷ Turns (topic 0) ∷ Decides 0 ∷ Turns (topic 0) ∷ [])
 
 then_told : told then_decided
-    ≡ Done ∷ Done ∷ flying (id 0 1) to_both ∷ flying (id 1 1) to_both
+    ≡ Opened 0 ∷ Opened 1 ∷ flying (id 0 1) to_both ∷ flying (id 1 1) to_both
     ∷ Ticket (id 0 1) (stamp 1 0) ∷ Ticket (id 1 1) (stamp 1 1) ∷ Ticket (id 1 1) (stamp 2 0) ∷ Ticket (id 0 1) (stamp 2 1)
     ∷ Decided (id 1 1) (stamp 2 0) ∷ Turned (topic 0) 0 ∷ Decided (id 0 1) (stamp 2 1) ∷ Turned (topic 0) 2 ∷ []
 then_told = refl
@@ -66,7 +66,7 @@ then_logs = refl
 -- two queues that share two transactions
 abbrev both_queues : Run
 both_queues = with_clocks (0 ∷ 0 ∷ []) (
-    Opened ∷ Opened ∷ Subscribes 0 (topic 0) ∷ Subscribes 1 (topic 1) ∷ Commits 0 to_both ∷ Commits 1 to_both
+    Opens ∷ Opens ∷ Subscribes 0 (topic 0) ∷ Subscribes 1 (topic 1) ∷ Commits 0 to_both ∷ Commits 1 to_both
     ∷ Proposes 0 (topic 0) true ∷ Proposes 1 (topic 1) true ∷ Proposes 1 (topic 0) true ∷ Proposes 0 (topic 1) true
     ∷ Decides 0 ∷ Decides 1 ∷ Turns (topic 0) ∷ Turns (topic 1) ∷ [])
 
@@ -75,9 +75,9 @@ both_shared = refl
 
 -- a settled topic: its one transaction was decided, and a turn came after
 abbrev settles : Run
-settles = with_clocks (0 ∷ []) (Opened ∷ sends_one 1 [])
+settles = with_clocks (0 ∷ []) (Opens ∷ sends_one 1 [])
 
-settles_all : AllResolved (topic 0) (Decided (id 0 1) (stamp 1 0) ∷ Ticket (id 0 1) (stamp 1 0) ∷ flying (id 0 1) (send 0 1 ∷ []) ∷ Done ∷ [])
+settles_all : AllResolved (topic 0) (Decided (id 0 1) (stamp 1 0) ∷ Ticket (id 0 1) (stamp 1 0) ∷ flying (id 0 1) (send 0 1 ∷ []) ∷ Opened 0 ∷ [])
 settles_all txn (inl e) n = cc
 settles_all txn (inr (inl e)) n = cc
 settles_all txn (inr (inr (inl e))) n = inl (stamp 1 0, inl cc)
@@ -90,12 +90,12 @@ settles_settled = inl (refl, settles_all)
 -- ---- a topic is added in the midst of a run, and a transaction names it: before that it is refused, and nothing stays of it
 abbrev added : Run
 added = with_clocks (0 ∷ []) (
-    Opened ∷ Commits 0 (send 0 1 ∷ send 1 2 ∷ []) ∷ Subscribes 0 (topic 1) ∷ Topic_added 4 ∷ Subscribes 0 (topic 1)
+    Opens ∷ Commits 0 (send 0 1 ∷ send 1 2 ∷ []) ∷ Subscribes 0 (topic 1) ∷ Topic_added 4 ∷ Subscribes 0 (topic 1)
     ∷ Commits 0 (send 0 1 ∷ send 1 2 ∷ []) ∷ Proposes 0 (topic 0) true ∷ Proposes 0 (topic 1) true ∷ Decides 0
     ∷ Turns (topic 1) ∷ Takes 0 ∷ Turns (topic 0) ∷ [])
 
 added_told : told added
-    ≡ Done ∷ Refused Refusal.NotNamed ∷ Refused Refusal.NotNamed ∷ Done ∷ Subscribed 0 0 (topic 1) (stamp 0 0)
+    ≡ Opened 0 ∷ Refused Refusal.NotNamed ∷ Refused Refusal.NotNamed ∷ Done ∷ Subscribed 0 0 (topic 1) (stamp 0 0)
     ∷ flying (id 0 1) (send 0 1 ∷ send 1 2 ∷ []) ∷ Ticket (id 0 1) (stamp 1 0) ∷ Ticket (id 0 1) (stamp 5 1) ∷ Decided (id 0 1) (stamp 5 1)
     ∷ Turned (topic 1) 1 ∷ handed 0 (id 0 1) (stamp 5 1) (part 1 2 ∷ []) ∷ Turned (topic 0) 1 ∷ []
 added_told = refl
@@ -107,7 +107,7 @@ added_logs = refl
 
 -- a connection whose sender has made so many transactions, and one topic
 abbrev pub has_made : ℕ → World
-has_made seq = record (after (with_clocks (0 ∷ []) (Opened ∷ []))) {
+has_made seq = record (after (with_clocks (0 ∷ []) (Opens ∷ []))) {
   senders = record { seq = seq; floor = stamp 0 0; flight = None; leftovers = [] } ∷ [];
 }
 
@@ -126,10 +126,10 @@ nothing_is_made = refl
 -- ---- an ERROR answers a frame with a fault: the item that wasn't taken isn't handed on, and no frame is read
 abbrev errs : Run
 errs = with_clocks (0 ∷ []) (
-    Opened ∷ Subscribes 0 (topic 0) ∷ sends_one 1 (Errs 0 ∷ Takes 0 ∷ Commits 0 (send 0 2 ∷ []) ∷ Errs 0 ∷ Lost 0 ∷ Leaves 0 ∷ Takes 0 ∷ []))
+    Opens ∷ Subscribes 0 (topic 0) ∷ sends_one 1 (Errs 0 ∷ Takes 0 ∷ Commits 0 (send 0 2 ∷ []) ∷ Errs 0 ∷ Lost 0 ∷ Leaves 0 ∷ Takes 0 ∷ []))
 
 errs_told : told errs
-    ≡ Done ∷ Subscribed 0 0 (topic 0) (stamp 0 0)
+    ≡ Opened 0 ∷ Subscribed 0 0 (topic 0) (stamp 0 0)
     ∷ flying (id 0 1) (send 0 1 ∷ []) ∷ Ticket (id 0 1) (stamp 1 0) ∷ Decided (id 0 1) (stamp 1 0) ∷ Turned (topic 0) 1
     ∷ Error 0 ∷ Refused Refusal.Gone ∷ Refused Refusal.Busy ∷ Refused Refusal.Busy ∷ Refused Refusal.Busy
     ∷ Unsubscribed 0 (stamp 1 0) ∷ Refused Refusal.Gone ∷ []
@@ -144,11 +144,11 @@ errs_silent = inr (0, topic 0, stamp 0 0, Error 0, inr (inr (inr (inr (inr (inr 
 -- ---- one release by itself: nothing is due before the stamp is learnt, nor after it
 abbrev releases : Run
 releases = with_clocks (0 ∷ []) (
-    Opened ∷ Subscribes 0 (topic 0) ∷ Commits 0 (send 0 1 ∷ []) ∷ Proposes 0 (topic 0) true ∷ Decides 0
+    Opens ∷ Subscribes 0 (topic 0) ∷ Commits 0 (send 0 1 ∷ []) ∷ Proposes 0 (topic 0) true ∷ Decides 0
     ∷ Releases (topic 0) ∷ Learns (topic 0) (id 0 1) ∷ Releases (topic 0) ∷ Releases (topic 0) ∷ Learns (topic 0) (id 0 1) ∷ [])
 
 releases_told : told releases
-    ≡ Done ∷ Subscribed 0 0 (topic 0) (stamp 0 0)
+    ≡ Opened 0 ∷ Subscribed 0 0 (topic 0) (stamp 0 0)
     ∷ flying (id 0 1) (send 0 1 ∷ []) ∷ Ticket (id 0 1) (stamp 1 0) ∷ Decided (id 0 1) (stamp 1 0)
     ∷ Refused Refusal.NothingDue ∷ Learnt (id 0 1) (topic 0) ∷ Released (topic 0) (id 0 1) ∷ Refused Refusal.NothingDue ∷ Refused Refusal.NotPending ∷ []
 releases_told = refl
@@ -163,7 +163,7 @@ releases_queue = refl
 
 -- a flight: the second of two connections commits
 abbrev two_open : Run
-two_open = with_clocks (0 ∷ 0 ∷ []) (Opened ∷ Opened ∷ [])
+two_open = with_clocks (0 ∷ 0 ∷ []) (Opens ∷ Opens ∷ [])
 
 flight_made : outcome (after two_open) (Commits 1 to_both) ≡ flying (id 1 1) to_both
 flight_made = refl
@@ -201,7 +201,7 @@ full_queue then = record {
   capacity = 2;
   log_limit = 65536;
   clocks = 0 ∷ [];
-  events = Opened ∷ Opened ∷ Subscribes 1 (topic 0)
+  events = Opens ∷ Opens ∷ Subscribes 1 (topic 0)
       ∷ sends_one 1 (sends_one 2 (Commits 0 (send 0 3 ∷ []) ∷ Proposes 0 (topic 0) true ∷ Decides 0 ∷ then));
 }
 

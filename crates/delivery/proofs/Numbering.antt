@@ -12,8 +12,8 @@ use Rattle.mcast_group.specs.Topics.{Pending, Entry, due_part}
 use Rattle.mcast_group.proofs.Parts.{not_true}
 use Rattle.delivery.specs.World.{World, Leftover, SenderState, Connection, Standing, new_sender, nobody, topic_at, connection_at, speaker, subscription_at, entry_at, with_standing, start}
 use Rattle.delivery.specs.Events.{Event, Outcome, happens, outcome, refusal, effect, answer, find_leftover, find_verdict, oldest_live, next_txn, flown, flying_answer, proposal_fault, proposed_by, propose_answer, cancelled_at, cancel_answer, learned_at, release_answer, handed, take_answer, left_by, leave_answer, closed_subscription, closed_with}
-use Rattle.delivery.specs.Events.Event.{Topic_added, Opened, Commits, Subscribes, Unsubscribes, Disconnects, Errs, Lost, Leaves, Proposes, Decides, Withdraws, Cancels, Learns, Releases, Turns, Takes}
-use Rattle.delivery.specs.Events.Outcome.{Refused, Done}
+use Rattle.delivery.specs.Events.Event.{Topic_added, Opens, Commits, Subscribes, Unsubscribes, Disconnects, Errs, Lost, Leaves, Proposes, Decides, Withdraws, Cancels, Learns, Releases, Turns, Takes}
+use Rattle.delivery.specs.Events.Outcome.{Refused, Done, Opened}
 use Rattle.delivery.specs.Runs.{run, outcomes, made_by, Numbered}
 use Rattle.delivery.specs.Laws
 use Rattle.delivery.specs.Laws.{Run, came, after}
@@ -119,10 +119,10 @@ leaving_numbering past w c o a b h = told past w.senders _ o a b (standing_kept 
 
 happens_numbering : (past : List Outcome) (w : World) (e : Event) → Numbering past w.senders w.connections → refusal w e ≡ None → Numbering (answer w e ∷ past) (effect w e).senders (effect w e).connections
 happens_numbering past w (Topic_added clock) h e = told past w.senders w.connections Done (λ s. refl) (λ k. k) h
-happens_numbering past w Opened h e =
+happens_numbering past w Opens h e =
     let new : Connection = record { sender = length w.senders; standing = Standing.Open } in
     let m = push_length w.senders new_sender in let n = push_length w.connections new in
-    told past (effect w Opened).senders (effect w Opened).connections Done (λ s. refl) (λ k. k) (record {
+    told past (effect w Opens).senders (effect w Opens).connections (Opened (length w.connections)) (λ s. refl) (λ k. k) (record {
       seqs = λ s l. at_push_two (λ (z : SenderState). z.seq ≡ made_by s past) w.senders s new_sender new_sender
           (λ k. sym (h.fresh s (omega arith))) (λ ne. h.seqs s (omega arith));
       fresh = λ s l. h.fresh s (omega arith);

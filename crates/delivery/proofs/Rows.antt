@@ -12,8 +12,8 @@ use Rattle.delivery.specs.declared.refusal.Refusal.{Refusal}
 use Rattle.delivery.specs.Due.{due}
 use Rattle.delivery.specs.Reading.{log_at, accepted_at, span_at, frontier_at}
 use Rattle.delivery.specs.Events.{Event, Outcome}
-use Rattle.delivery.specs.Events.Event.{Opened, Commits, Subscribes, Unsubscribes, Lost, Leaves, Proposes, Decides, Withdraws, Cancels, Learns, Releases, Turns, Takes}
-use Rattle.delivery.specs.Events.Outcome.{Refused, Done, Flying, Subscribed, Unsubscribed, Leaving, Gone, Ticket, Failed, Decided, Withdrawn, Cancelled, Learnt, Turned, Handed}
+use Rattle.delivery.specs.Events.Event.{Opens, Commits, Subscribes, Unsubscribes, Lost, Leaves, Proposes, Decides, Withdraws, Cancels, Learns, Releases, Turns, Takes}
+use Rattle.delivery.specs.Events.Outcome.{Refused, Opened, Flying, Subscribed, Unsubscribed, Leaving, Gone, Ticket, Failed, Decided, Withdrawn, Cancelled, Learnt, Turned, Handed}
 use Rattle.delivery.specs.Runs.{commits_of, handed_of}
 use Rattle.delivery.specs.Laws.{Run, came, after}
 
@@ -55,13 +55,13 @@ log_of r t = map (λ row. row.stamp) (log_at (after r) (topic t))
 
 abbrev crossing : Run
 crossing = with_clocks (9 ∷ 0 ∷ 0 ∷ []) (
-    Opened ∷ Subscribes 0 (topic 1)
+    Opens ∷ Subscribes 0 (topic 1)
     ∷ Commits 0 (send 0 1 ∷ send 1 1 ∷ []) ∷ Proposes 0 (topic 0) true ∷ Proposes 0 (topic 1) true ∷ Decides 0
     ∷ Commits 0 (send 1 2 ∷ send 2 2 ∷ []) ∷ Proposes 0 (topic 1) true ∷ Proposes 0 (topic 2) true ∷ Decides 0
     ∷ Turns (topic 1) ∷ Takes 0 ∷ Takes 0 ∷ Takes 0 ∷ Turns (topic 0) ∷ Turns (topic 2) ∷ [])
 
 crossing_told : told crossing
-    ≡ Done ∷ Subscribed 0 0 (topic 1) (stamp 0 0)
+    ≡ Opened 0 ∷ Subscribed 0 0 (topic 1) (stamp 0 0)
     ∷ flying (id 0 1) (send 0 1 ∷ send 1 1 ∷ []) ∷ Ticket (id 0 1) (stamp 10 0) ∷ Ticket (id 0 1) (stamp 1 1) ∷ Decided (id 0 1) (stamp 10 0)
     ∷ flying (id 0 2) (send 1 2 ∷ send 2 2 ∷ []) ∷ Ticket (id 0 2) (stamp 11 1) ∷ Ticket (id 0 2) (stamp 11 2) ∷ Decided (id 0 2) (stamp 11 2)
     ∷ Turned (topic 1) 2 ∷ handed 0 (id 0 1) (stamp 10 0) (part 1 1 ∷ []) ∷ handed 0 (id 0 2) (stamp 11 2) (part 0 2 ∷ [])
@@ -83,14 +83,14 @@ to_both = send 0 1 ∷ send 1 1 ∷ []
 
 abbrev pub four_tickets : List Event → Run
 four_tickets then = with_clocks (0 ∷ 0 ∷ []) (
-    Opened ∷ Opened ∷ Commits 0 to_both ∷ Commits 1 to_both
+    Opens ∷ Opens ∷ Commits 0 to_both ∷ Commits 1 to_both
     ∷ Proposes 0 (topic 0) true ∷ Proposes 1 (topic 1) true ∷ Proposes 1 (topic 0) true ∷ Proposes 0 (topic 1) true ∷ then)
 
 abbrev both_decided : Run
 both_decided = four_tickets (Decides 0 ∷ Decides 1 ∷ Turns (topic 0) ∷ Turns (topic 1) ∷ [])
 
 four_tickets_told : told both_decided
-    ≡ Done ∷ Done ∷ flying (id 0 1) to_both ∷ flying (id 1 1) to_both
+    ≡ Opened 0 ∷ Opened 1 ∷ flying (id 0 1) to_both ∷ flying (id 1 1) to_both
     ∷ Ticket (id 0 1) (stamp 1 0) ∷ Ticket (id 1 1) (stamp 1 1) ∷ Ticket (id 1 1) (stamp 2 0) ∷ Ticket (id 0 1) (stamp 2 1)
     ∷ Decided (id 0 1) (stamp 2 1) ∷ Decided (id 1 1) (stamp 2 0) ∷ Turned (topic 0) 2 ∷ Turned (topic 1) 2 ∷ []
 four_tickets_told = refl
@@ -108,7 +108,7 @@ one_decided = four_tickets (
     Decides 1 ∷ Turns (topic 0) ∷ Learns (topic 0) (id 1 1) ∷ Releases (topic 0) ∷ Learns (topic 0) (id 0 1) ∷ [])
 
 one_decided_told : told one_decided
-    ≡ Done ∷ Done ∷ flying (id 0 1) to_both ∷ flying (id 1 1) to_both
+    ≡ Opened 0 ∷ Opened 1 ∷ flying (id 0 1) to_both ∷ flying (id 1 1) to_both
     ∷ Ticket (id 0 1) (stamp 1 0) ∷ Ticket (id 1 1) (stamp 1 1) ∷ Ticket (id 1 1) (stamp 2 0) ∷ Ticket (id 0 1) (stamp 2 1)
     ∷ Decided (id 1 1) (stamp 2 0) ∷ Turned (topic 0) 0 ∷ Learnt (id 1 1) (topic 0) ∷ Refused Refusal.NothingDue ∷ Refused Refusal.NotDecided ∷ []
 one_decided_told = refl
@@ -120,12 +120,12 @@ one_decided_log = refl
 
 abbrev three_sends : Run
 three_sends = with_clocks (0 ∷ 0 ∷ []) (
-    Opened ∷ Subscribes 0 (topic 0) ∷ Subscribes 0 (topic 1) ∷ Commits 0 (send 0 1 ∷ send 1 2 ∷ send 0 3 ∷ [])
+    Opens ∷ Subscribes 0 (topic 0) ∷ Subscribes 0 (topic 1) ∷ Commits 0 (send 0 1 ∷ send 1 2 ∷ send 0 3 ∷ [])
     ∷ Proposes 0 (topic 0) true ∷ Proposes 0 (topic 0) true ∷ Decides 0 ∷ Proposes 0 (topic 1) true ∷ Decides 0
     ∷ Turns (topic 0) ∷ Turns (topic 1) ∷ Takes 0 ∷ Takes 1 ∷ [])
 
 three_sends_told : told three_sends
-    ≡ Done ∷ Subscribed 0 0 (topic 0) (stamp 0 0) ∷ Subscribed 1 0 (topic 1) (stamp 0 0) ∷ flying (id 0 1) (send 0 1 ∷ send 1 2 ∷ send 0 3 ∷ [])
+    ≡ Opened 0 ∷ Subscribed 0 0 (topic 0) (stamp 0 0) ∷ Subscribed 1 0 (topic 1) (stamp 0 0) ∷ flying (id 0 1) (send 0 1 ∷ send 1 2 ∷ send 0 3 ∷ [])
     ∷ Ticket (id 0 1) (stamp 1 0) ∷ Refused Refusal.Twice ∷ Refused Refusal.Incomplete ∷ Ticket (id 0 1) (stamp 1 1) ∷ Decided (id 0 1) (stamp 1 1)
     ∷ Turned (topic 0) 1 ∷ Turned (topic 1) 1
     ∷ handed 0 (id 0 1) (stamp 1 1) (part 0 1 ∷ part 2 3 ∷ []) ∷ handed 1 (id 0 1) (stamp 1 1) (part 1 2 ∷ []) ∷ []
@@ -135,11 +135,11 @@ three_sends_told = refl
 
 abbrev pub ends : Run
 ends = with_clocks (0 ∷ []) (
-    Opened ∷ Opened ∷ Commits 0 (send 0 1 ∷ []) ∷ Proposes 0 (topic 0) true ∷ Decides 0 ∷ Subscribes 1 (topic 0) ∷ Turns (topic 0) ∷ Takes 0
+    Opens ∷ Opens ∷ Commits 0 (send 0 1 ∷ []) ∷ Proposes 0 (topic 0) true ∷ Decides 0 ∷ Subscribes 1 (topic 0) ∷ Turns (topic 0) ∷ Takes 0
     ∷ Commits 0 (send 0 2 ∷ []) ∷ Proposes 0 (topic 0) true ∷ Decides 0 ∷ Unsubscribes 1 0 ∷ Turns (topic 0) ∷ Takes 0 ∷ [])
 
 ends_told : told ends
-    ≡ Done ∷ Done ∷ flying (id 0 1) (send 0 1 ∷ []) ∷ Ticket (id 0 1) (stamp 1 0) ∷ Decided (id 0 1) (stamp 1 0)
+    ≡ Opened 0 ∷ Opened 1 ∷ flying (id 0 1) (send 0 1 ∷ []) ∷ Ticket (id 0 1) (stamp 1 0) ∷ Decided (id 0 1) (stamp 1 0)
     ∷ Subscribed 0 1 (topic 0) (stamp 0 0) ∷ Turned (topic 0) 1 ∷ handed 0 (id 0 1) (stamp 1 0) (part 0 1 ∷ [])
     ∷ flying (id 0 2) (send 0 2 ∷ []) ∷ Ticket (id 0 2) (stamp 2 0) ∷ Decided (id 0 2) (stamp 2 0)
     ∷ Unsubscribed 0 (stamp 1 0) ∷ Turned (topic 0) 1 ∷ Refused Refusal.Gone ∷ []
@@ -164,7 +164,7 @@ lags = record {
   capacity = 2;
   log_limit = 65536;
   clocks = 0 ∷ [];
-  events = Opened ∷ Opened ∷ Subscribes 1 (topic 0) ∷ sends_one 1 (sends_one 2 (sends_one 3 (Takes 0 ∷ Takes 0 ∷ Takes 0 ∷ Takes 0 ∷ [])));
+  events = Opens ∷ Opens ∷ Subscribes 1 (topic 0) ∷ sends_one 1 (sends_one 2 (sends_one 3 (Takes 0 ∷ Takes 0 ∷ Takes 0 ∷ Takes 0 ∷ [])));
 }
 
 lags_handed : map (λ i. i.stamp) (handed_of 0 (came lags)) ≡ stamp 1 0 ∷ stamp 2 0 ∷ []
@@ -180,12 +180,12 @@ lags_log = refl
 
 abbrev pub full : Run
 full = with_clocks (18446744073709551614 ∷ 0 ∷ []) (
-    Opened ∷ Opened ∷ Opened ∷ Commits 0 (send 0 1 ∷ []) ∷ Proposes 0 (topic 0) true ∷ Decides 0 ∷ Turns (topic 0)
+    Opens ∷ Opens ∷ Opens ∷ Commits 0 (send 0 1 ∷ []) ∷ Proposes 0 (topic 0) true ∷ Decides 0 ∷ Turns (topic 0)
     ∷ Commits 1 to_both ∷ Proposes 1 (topic 1) true ∷ Commits 2 (send 1 2 ∷ []) ∷ Proposes 2 (topic 1) true ∷ Decides 2 ∷ Turns (topic 1)
     ∷ Proposes 1 (topic 0) true ∷ Decides 1 ∷ Withdraws 1 ∷ Turns (topic 1) ∷ Cancels 1 (topic 1) ∷ Cancels 1 (topic 1) ∷ Turns (topic 1) ∷ [])
 
 full_told : told full
-    ≡ Done ∷ Done ∷ Done ∷ flying (id 0 1) (send 0 1 ∷ []) ∷ Ticket (id 0 1) (stamp 18446744073709551615 0)
+    ≡ Opened 0 ∷ Opened 1 ∷ Opened 2 ∷ flying (id 0 1) (send 0 1 ∷ []) ∷ Ticket (id 0 1) (stamp 18446744073709551615 0)
     ∷ Decided (id 0 1) (stamp 18446744073709551615 0) ∷ Turned (topic 0) 1
     ∷ flying (id 1 1) to_both ∷ Ticket (id 1 1) (stamp 1 1) ∷ flying (id 2 1) (send 1 2 ∷ []) ∷ Ticket (id 2 1) (stamp 2 1)
     ∷ Decided (id 2 1) (stamp 2 1) ∷ Turned (topic 1) 0
@@ -200,10 +200,10 @@ full_logs = refl
 
 abbrev lost : Run
 lost = with_clocks (0 ∷ 0 ∷ []) (
-    Opened ∷ Commits 0 to_both ∷ Proposes 0 (topic 0) true ∷ Lost 0 ∷ Subscribes 0 (topic 0) ∷ Leaves 0
+    Opens ∷ Commits 0 to_both ∷ Proposes 0 (topic 0) true ∷ Lost 0 ∷ Subscribes 0 (topic 0) ∷ Leaves 0
     ∷ Proposes 0 (topic 1) true ∷ Decides 0 ∷ Turns (topic 0) ∷ Turns (topic 1) ∷ Leaves 0 ∷ Leaves 0 ∷ [])
 
 lost_told : told lost
-    ≡ Done ∷ flying (id 0 1) to_both ∷ Ticket (id 0 1) (stamp 1 0) ∷ Leaving 0 ∷ Refused Refusal.Busy ∷ Refused Refusal.Busy
+    ≡ Opened 0 ∷ flying (id 0 1) to_both ∷ Ticket (id 0 1) (stamp 1 0) ∷ Leaving 0 ∷ Refused Refusal.Busy ∷ Refused Refusal.Busy
     ∷ Ticket (id 0 1) (stamp 1 1) ∷ Decided (id 0 1) (stamp 1 1) ∷ Turned (topic 0) 1 ∷ Turned (topic 1) 1 ∷ Gone 0 ∷ Refused Refusal.Gone ∷ []
 lost_told = refl

@@ -1,5 +1,5 @@
 -- Each event keeps the run beside its core, and a settled topic's log leaves no row out.
-use Rattle.std.proofs.Common.{◌≡◌, ℕ, ◌<◌, ◌≤◌, Bool, true, false, ◌⊎◌, inl, inr, List, [], ◌∷◌, set, Option, Some, None, refl, sym, ap, subst, ◌∙◌, arith}
+use Rattle.std.proofs.Common.{length, ◌≡◌, ℕ, ◌<◌, ◌≤◌, Bool, true, false, ◌⊎◌, inl, inr, List, [], ◌∷◌, set, Option, Some, None, refl, sym, ap, subst, ◌∙◌, arith}
 use Rattle.std.proofs.lemmas.Bool.{true≢false}
 use Rattle.mcast_txn.specs.Transaction.{TopicPart, topics_of}
 use Rattle.mcast_txn.specs.Agreed.{Row, same_id, In, names}
@@ -20,8 +20,8 @@ use Rattle.delivery.specs.Due.{log_row}
 use Rattle.delivery.specs.World.{World, Flight, Leftover, SenderState, new_sender, topic_at, connection_at, speaker, subscription_at, entry_at, start, new_topics}
 use Rattle.delivery.specs.Reading.{log_at}
 use Rattle.delivery.specs.Events.{Event, Outcome, happens, outcome, refusal, effect, answer, flight_at, find_leftover, find_verdict, find_in, oldest_live, flown, flying_answer, proposal_fault, proposed_by, propose_answer, withdrawn, cancelled_at, cancel_answer, learned_at, release_answer, takes, handed, take_answer, left_by, leave_answer, closed_subscription, closed_with}
-use Rattle.delivery.specs.Events.Event.{Topic_added, Opened, Commits, Subscribes, Unsubscribes, Disconnects, Errs, Lost, Leaves, Proposes, Decides, Withdraws, Cancels, Learns, Releases, Turns, Takes}
-use Rattle.delivery.specs.Events.Outcome.{Refused, Done, Subscribed, Unsubscribed, Leaving, Error, Gone, Failed, Decided, Learnt, Handed}
+use Rattle.delivery.specs.Events.Event.{Topic_added, Opens, Commits, Subscribes, Unsubscribes, Disconnects, Errs, Lost, Leaves, Proposes, Decides, Withdraws, Cancels, Learns, Releases, Turns, Takes}
+use Rattle.delivery.specs.Events.Outcome.{Refused, Done, Opened, Subscribed, Unsubscribed, Leaving, Error, Gone, Failed, Decided, Learnt, Handed}
 use Rattle.delivery.specs.Runs.{run, outcomes, commits_of}
 use Rattle.delivery.specs.Settled.{IsSettled, AllResolved}
 use Rattle.delivery.specs.Laws.{Run, came, after}
@@ -43,6 +43,9 @@ quiet_refused why = record { flying = λ txn e. cc; tickets = λ past. refl; wit
 
 quiet_done : Quiet Done
 quiet_done = record { flying = λ txn e. cc; tickets = λ past. refl; withdrawn = λ id c e. cc; cancelled = λ id t e. cc; settled = λ t past h. h }
+
+quiet_opened : (c : ℕ) → Quiet (Opened c)
+quiet_opened c = record { flying = λ txn e. cc; tickets = λ past. refl; withdrawn = λ id d e. cc; cancelled = λ id t e. cc; settled = λ t past h. h }
 
 quiet_subscribed : (s c : ℕ) (u : Topic) (from : Stamp) → Quiet (Subscribed s c u from)
 quiet_subscribed s c u from = record { flying = λ txn e. cc; tickets = λ past. refl; withdrawn = λ id d e. cc; cancelled = λ id t e. cc; settled = λ t past h. h }
@@ -198,7 +201,7 @@ happens_settling past w (Topic_added clock) h l e = fewer_quiet past w (effect w
   flights = same_flights w.senders;
   parts = λ t. at_added (λ u z. Gone_to (topic_in w.topics u).pending z.pending) w.topics w.log_limit clock t (λ k q i. absurd i) (Gone-same (topic_in w.topics t).pending);
 }) l
-happens_settling past w Opened h l e = fewer_quiet past w (effect w Opened) Done quiet_done (record {
+happens_settling past w Opens h l e = fewer_quiet past w (effect w Opens) (Opened (length w.connections)) (quiet_opened (length w.connections)) (record {
   seqs = λ s. at_push (λ (z : SenderState). (sender_in w.senders s).seq ≤ z.seq) w.senders s new_sender new_sender (λ d o. o) (omega arith);
   flights = λ s f. at_push (λ (z : SenderState). z.flight ≡ Some f → (g : Flight) × ((sender_in w.senders s).flight ≡ Some g) × (g.txn ≡ f.txn)) w.senders s new_sender new_sender
       (λ d o k. none_some f k) (λ k. (f, k, refl));

@@ -15,8 +15,8 @@ use Rattle.mcast_group.specs.Topics.{Pending, Entry, Ended, due_part}
 use Rattle.mcast_group.proofs.Parts.{some_same, none_some}
 use Rattle.delivery.specs.World.{World, Leftover, Connection, Subscription, Standing, is_open, nobody, no_subscription, topic_at, connection_at, speaker, subscription_at, entry_at, with_standing, start}
 use Rattle.delivery.specs.Events.{Event, Outcome, happens, outcome, refusal, effect, answer, is_live, find_leftover, find_verdict, oldest_live, flown, flying_answer, proposal_fault, proposed_by, propose_answer, cancelled_at, cancel_answer, learned_at, leaving, release_answer, handed, take_answer, left_by, leave_answer, closed_subscription, closed_with}
-use Rattle.delivery.specs.Events.Event.{Topic_added, Opened, Commits, Subscribes, Unsubscribes, Disconnects, Errs, Lost, Leaves, Proposes, Decides, Withdraws, Cancels, Learns, Releases, Turns, Takes}
-use Rattle.delivery.specs.Events.Outcome.{Refused, Done, Subscribed, Unsubscribed, Leaving, Error, Gone, Learnt, Handed}
+use Rattle.delivery.specs.Events.Event.{Topic_added, Opens, Commits, Subscribes, Unsubscribes, Disconnects, Errs, Lost, Leaves, Proposes, Decides, Withdraws, Cancels, Learns, Releases, Turns, Takes}
+use Rattle.delivery.specs.Events.Outcome.{Refused, Done, Opened, Subscribed, Unsubscribed, Leaving, Error, Gone, Learnt, Handed}
 use Rattle.delivery.specs.Runs.{run, outcomes}
 use Rattle.delivery.specs.Settled.{Closes, IsSilent, SilentAfterClose}
 use Rattle.delivery.specs.Laws
@@ -193,6 +193,9 @@ left_shut past w c r h (Some s) e =
 closeless_done : Closeless Done
 closeless_done = record { ended = λ s to e. cc; shut = λ c k. k; owner = λ s c t from e. cc }
 
+closeless_opened : (c : ℕ) → Closeless (Opened c)
+closeless_opened c = record { ended = λ s to e. cc; shut = λ d k. k; owner = λ s d t from e. cc }
+
 closeless_released : (t : Topic) (o : Option Pending) → Closeless (release_answer t o)
 closeless_released t None = closeless_done
 closeless_released t (Some p) = record { ended = λ s to e. cc; shut = λ c k. k; owner = λ s c u from e. cc }
@@ -259,9 +262,9 @@ or_left false b e = refl
 
 happens_shut : (past : List Outcome) (w : World) (e : Event) → Reached past w → Shutting past w.connections w.subscriptions → refusal w e ≡ None → Shutting (answer w e ∷ past) (effect w e).connections (effect w e).subscriptions
 happens_shut past w (Topic_added clock) r h e = note past w.connections w.subscriptions Done closeless_done h
-happens_shut past w Opened r h e =
-    let v = effect w Opened in let m = conn_length w.connections (record { sender = length w.senders; standing = Standing.Open }) in
-    note past v.connections w.subscriptions Done closeless_done
+happens_shut past w Opens r h e =
+    let v = effect w Opens in let m = conn_length w.connections (record { sender = length w.senders; standing = Standing.Open }) in
+    note past v.connections w.subscriptions (Opened (length w.connections)) (closeless_opened (length w.connections))
     (Shutting-on past w.connections v.connections w.subscriptions w.subscriptions (record {
       count = omega arith;
       stay = λ c l k. at_old (λ (z : Connection). is_open z.standing ≡ false) w.connections c _ nobody l k;
@@ -340,7 +343,7 @@ silent_take w s (Some item) past n h = (n, h)
 
 silent_answer : (past : List Outcome) (w : World) (e : Event) → Shutting past w.connections w.subscriptions → refusal w e ≡ None → SilentAfterClose past → SilentAfterClose (answer w e ∷ past)
 silent_answer past w (Topic_added clock) s e h = h
-silent_answer past w Opened s e h = h
+silent_answer past w Opens s e h = h
 silent_answer past w (Commits c sends) s e h = silent_flown w c sends past h
 silent_answer past w (Subscribes c t) s e h = h
 silent_answer past w (Unsubscribes c n) s e h = h

@@ -14,7 +14,7 @@ use Rattle.mcast_group.proofs.Parts.{none_some}
 use Rattle.delivery.specs.World.{World, Leftover, Subscription, no_subscription, topic_at, speaker, subscription_at, entry_at, with_topic}
 use Rattle.delivery.specs.Reading.{entry_items, entry_to, accepted_at, end_at}
 use Rattle.delivery.specs.Events.{Event, Outcome, happens, effect, find_leftover, find_verdict, oldest_live, flown, proposal_fault, proposed_by, cancelled_at, learned_at, handed, flight_at, left_by, closed_with}
-use Rattle.delivery.specs.Events.Event.{Topic_added, Opened, Commits, Subscribes, Unsubscribes, Disconnects, Errs, Lost, Leaves, Proposes, Decides, Withdraws, Cancels, Learns, Releases, Turns, Takes}
+use Rattle.delivery.specs.Events.Event.{Topic_added, Opens, Commits, Subscribes, Unsubscribes, Disconnects, Errs, Lost, Leaves, Proposes, Decides, Withdraws, Cancels, Learns, Releases, Turns, Takes}
 use Rattle.delivery.proofs.Invariant.{topic_in, Owned}
 use Rattle.delivery.proofs.Keeping.{at_topic_from}
 use Rattle.delivery.proofs.Subscriptions.{at_push_two, at_added, set_length, push_length, found_entry, new_subscription, new_entry, topic_with, taken_more}
@@ -226,7 +226,7 @@ Tells-handed w s (Some item) =
 
 effect_tells : (past : List Outcome) (w : World) (e : Event) → Reached past w → TellsOf w (effect w e)
 effect_tells past w (Topic_added clock) r = Tells-added w clock
-effect_tells past w Opened r = Tells-same w
+effect_tells past w Opens r = Tells-same w
 effect_tells past w (Commits c sends) r = Tells-flown w c sends
 effect_tells past w (Subscribes c t) r = Tells-begun past w c t r
 effect_tells past w (Unsubscribes c s) r = Tells-closed past w s r (entry_at w s) refl

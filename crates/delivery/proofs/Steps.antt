@@ -20,7 +20,7 @@ use Rattle.mcast_group.proofs.Parts.{found_part, some_same, none_some}
 use Rattle.delivery.specs.declared.refusal.Refusal.{Refusal}
 use Rattle.delivery.specs.World.{World, Leftover, topic_at, speaker, connection_at, subscription_at, entry_at, start}
 use Rattle.delivery.specs.Events.{Event, Outcome, happens, outcome, refusal, checks, topic_refusal, or_else, effect, answer, flight_at, find_leftover, find_verdict, oldest_live, flown, flying_answer, proposal_fault, proposed_by, propose_answer, cancelled_at, cancelling, cancel_refusal, cancel_answer, learned_at, learning, learn_refusal, release_answer, takes, handed, take_answer, left_by, leave_answer, closed_with}
-use Rattle.delivery.specs.Events.Event.{Topic_added, Opened, Commits, Subscribes, Unsubscribes, Disconnects, Errs, Lost, Leaves, Proposes, Decides, Withdraws, Cancels, Learns, Releases, Turns, Takes}
+use Rattle.delivery.specs.Events.Event.{Topic_added, Opens, Commits, Subscribes, Unsubscribes, Disconnects, Errs, Lost, Leaves, Proposes, Decides, Withdraws, Cancels, Learns, Releases, Turns, Takes}
 use Rattle.delivery.specs.Events.Outcome.{Refused, Ticket}
 use Rattle.delivery.specs.Runs.{outcomes}
 use Rattle.delivery.specs.Laws
@@ -61,7 +61,7 @@ no_take w s (Some item) why e = cc
 
 pub no_answer : (w : World) (e : Event) (why : Refusal) → answer w e ≡ Refused why → Prim.⊥
 no_answer w (Topic_added clock) why e = cc
-no_answer w Opened why e = cc
+no_answer w Opens why e = cc
 no_answer w (Commits c sends) why e = no_flying w c sends why e
 no_answer w (Subscribes c t) why e = cc
 no_answer w (Unsubscribes c s) why e = cc
@@ -118,7 +118,7 @@ handed_topics w s (Some item) = refl
 
 effect_untouched : (w : World) (e : Event) (u : Topic) → u.0 < length w.topics → topic_of w e ≢ Some u → topic_at (effect w e) u ≡ topic_at w u
 effect_untouched w (Topic_added clock) u l ne = at_old (λ z. z ≡ topic_at w u) w.topics u.0 _ (new_topic u 0 0) l refl
-effect_untouched w Opened u l ne = refl
+effect_untouched w Opens u l ne = refl
 effect_untouched w (Commits c sends) u l ne = ap (λ z. topic_in z u) (flown_topics w c sends)
 effect_untouched w (Subscribes c t) u l ne = untouched w.topics t u _ ne
 effect_untouched w (Unsubscribes c s) u l ne = closed_untouched w s u (entry_at w s) ne
@@ -172,7 +172,7 @@ no_ticket_take w s (Some item) id ticket e = cc
 
 answer_ticket : (w : World) (e : Event) (id : TxnId) (ticket : Stamp) → refusal w e ≡ None → answer w e ≡ Ticket id ticket → IsOwn w e id ticket
 answer_ticket w (Topic_added clock) id ticket n e = cc
-answer_ticket w Opened id ticket n e = cc
+answer_ticket w Opens id ticket n e = cc
 answer_ticket w (Commits c sends) id ticket n e = absurd (no_ticket_flying w c sends id ticket e)
 answer_ticket w (Subscribes c t) id ticket n e = cc
 answer_ticket w (Unsubscribes c s) id ticket n e = cc
@@ -212,7 +212,7 @@ usual_first (c ∷ cs) why h e = usual_case c.0 c.1 why (first_refusal cs) h.0 (
 
 usual_checks : (w : World) (e : Event) → AllUsual (checks w e)
 usual_checks w (Topic_added clock) = tt
-usual_checks w Opened = tt
+usual_checks w Opens = tt
 usual_checks w (Commits c sends) = (refl, (refl, (refl, (refl, (refl, tt)))))
 usual_checks w (Subscribes c t) = (refl, (refl, (refl, (refl, tt))))
 usual_checks w (Unsubscribes c s) = (refl, (refl, (refl, (refl, tt))))

@@ -15,7 +15,7 @@ use Rattle.mcast_group.proofs.Parts.{none_some}
 use Rattle.delivery.specs.World.{World, Leftover, Subscription, no_subscription, topic_at, speaker, subscription_at, entry_at, start}
 use Rattle.delivery.specs.Reading.{accepted_at, end_at}
 use Rattle.delivery.specs.Events.{Event, Outcome, happens, outcome, refusal, effect, answer, is_live, find_leftover, oldest_live, flying_answer, proposal_fault, propose_answer, cancel_answer, release_answer, take_answer, left_by, leave_answer, closed_subscription, closed_with, end_now}
-use Rattle.delivery.specs.Events.Event.{Topic_added, Opened, Commits, Subscribes, Unsubscribes, Disconnects, Errs, Lost, Leaves, Proposes, Decides, Withdraws, Cancels, Learns, Releases, Turns, Takes}
+use Rattle.delivery.specs.Events.Event.{Topic_added, Opens, Commits, Subscribes, Unsubscribes, Disconnects, Errs, Lost, Leaves, Proposes, Decides, Withdraws, Cancels, Learns, Releases, Turns, Takes}
 use Rattle.delivery.specs.Events.Outcome.{Subscribed, Unsubscribed}
 use Rattle.delivery.specs.Runs.{run, outcomes}
 use Rattle.delivery.specs.Laws.{Run, came, after}
@@ -78,7 +78,7 @@ begun_here w d c s u t from e =
 
 answer_begun : (w : World) (e : Event) (s c : ℕ) (t : Topic) (from : Stamp) → answer w e ≡ Subscribed s c t from → Begun w e s c t from
 answer_begun w (Topic_added clock) s c t from e = absurd (told_of _ _ e tt)
-answer_begun w Opened s c t from e = absurd (told_of _ _ e tt)
+answer_begun w Opens s c t from e = absurd (told_of _ _ e tt)
 answer_begun w (Commits d sends) s c t from e = absurd (flying_untold w d sends (told_of _ _ e tt))
 answer_begun w (Subscribes d u) s c t from e = begun_here w d c s u t from e
 answer_begun w (Unsubscribes d r) s c t from e = cc
@@ -144,7 +144,7 @@ leave_ends past w c s to r (Some q) f e =
 
 pub answer_ends : (past : List Outcome) (w : World) (e : Event) (s : ℕ) (to : Stamp) → Reached past w → refusal w e ≡ None → answer w e ≡ Unsubscribed s to → end_at (effect w e) s ≡ Some to
 answer_ends past w (Topic_added clock) s to r n e = absurd (told_of _ _ e tt)
-answer_ends past w Opened s to r n e = absurd (told_of _ _ e tt)
+answer_ends past w Opens s to r n e = absurd (told_of _ _ e tt)
 answer_ends past w (Commits d sends) s to r n e = absurd (flying_untold w d sends (told_of _ _ e tt))
 answer_ends past w (Subscribes d u) s to r n e = cc
 answer_ends past w (Unsubscribes d q) s to r n e =

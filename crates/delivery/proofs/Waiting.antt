@@ -19,7 +19,7 @@ use Rattle.mcast_group.proofs.Parts.{Waits, finds_part}
 use Rattle.delivery.specs.declared.refusal.Refusal.{Refusal}
 use Rattle.delivery.specs.World.{World, Leftover, Subscription, topic_at, connection_at, speaker, subscription_at, start}
 use Rattle.delivery.specs.Events.{Event, Outcome, happens, outcome, refusal, checks, or_else, or_no_memory, answer, flight_at, find_leftover, oldest_live, flying_answer, proposal_fault, propose_answer, cancelling, cancel_refusal, cancel_answer, release_answer, take_answer, leave_answer}
-use Rattle.delivery.specs.Events.Event.{Topic_added, Opened, Commits, Subscribes, Unsubscribes, Disconnects, Errs, Lost, Leaves, Proposes, Decides, Withdraws, Cancels, Learns, Releases, Turns, Takes}
+use Rattle.delivery.specs.Events.Event.{Topic_added, Opens, Commits, Subscribes, Unsubscribes, Disconnects, Errs, Lost, Leaves, Proposes, Decides, Withdraws, Cancels, Learns, Releases, Turns, Takes}
 use Rattle.delivery.specs.Events.Outcome.{Refused, Failed}
 use Rattle.delivery.specs.Runs.{outcomes}
 use Rattle.delivery.specs.Laws
@@ -120,7 +120,7 @@ take_once w s (Some item) id why e = cc
 
 answer_once : (past : List Outcome) (w : World) (e : Event) (id : TxnId) → Reached past w → refusal w e ≡ None → answer w e ≡ Failed id ProposeFault.Twice → Prim.⊥
 answer_once past w (Topic_added clock) id h n e = cc
-answer_once past w Opened id h n e = cc
+answer_once past w Opens id h n e = cc
 answer_once past w (Commits c sends) id h n e = flying_once w c sends id ProposeFault.Twice e
 answer_once past w (Subscribes c t) id h n e = cc
 answer_once past w (Unsubscribes c s) id h n e = cc

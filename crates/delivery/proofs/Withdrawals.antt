@@ -12,7 +12,7 @@ use Rattle.mcast_group.specs.Span.{Item}
 use Rattle.mcast_group.specs.Topics.{Pending, due_part}
 use Rattle.delivery.specs.World.{World, Flight, Leftover, topic_at, connection_at, speaker, start}
 use Rattle.delivery.specs.Events.{Event, Outcome, happens, outcome, refusal, answer, find_leftover, oldest_live, flying_answer, proposal_fault, propose_answer, cancel_answer, release_answer, take_answer, leave_answer}
-use Rattle.delivery.specs.Events.Event.{Topic_added, Opened, Commits, Subscribes, Unsubscribes, Disconnects, Errs, Lost, Leaves, Proposes, Decides, Withdraws, Cancels, Learns, Releases, Turns, Takes}
+use Rattle.delivery.specs.Events.Event.{Topic_added, Opens, Commits, Subscribes, Unsubscribes, Disconnects, Errs, Lost, Leaves, Proposes, Decides, Withdraws, Cancels, Learns, Releases, Turns, Takes}
 use Rattle.delivery.specs.Events.Outcome.{Decided, Withdrawn}
 use Rattle.delivery.specs.Runs.{outcomes}
 use Rattle.delivery.specs.Laws
@@ -63,7 +63,7 @@ take_ends w s (Some item) = tt
 
 answer_ends : (w : World) (e : Event) → refusal w e ≡ None → Ends w (answer w e)
 answer_ends w (Topic_added clock) n = tt
-answer_ends w Opened n = tt
+answer_ends w Opens n = tt
 answer_ends w (Commits c sends) n = flying_ends w c sends
 answer_ends w (Subscribes c t) n = tt
 answer_ends w (Unsubscribes c s) n = tt

@@ -26,7 +26,7 @@ pub data Event : Type 0 where
   -- a topic is added, with this opening clock
   Topic_added : (clock : ℕ) → Event
   -- a connection is opened; a sender of its own comes with it
-  Opened : Event
+  Opens : Event
   -- a frame that commits these SENDs
   Commits : (c : ℕ) (sends : List Send) → Event
   -- SUBSCRIBE to t; UNSUBSCRIBE of s; DISCONNECT; a frame with a fault, which an ERROR answers
@@ -51,6 +51,8 @@ pub data Event : Type 0 where
 pub data Outcome : Type 0 where
   Refused : (why : Refusal) → Outcome
   Done : Outcome
+  -- a connection was opened: its number
+  Opened : (c : ℕ) → Outcome
   -- a transaction was made: it is in flight
   Flying : (txn : Transaction) → Outcome
   Subscribed : (s c : ℕ) (t : Topic) (from : Stamp) → Outcome
@@ -185,7 +187,7 @@ cancelling w t (Some k) = cancel_refusal (cancel_fault k.id (topic_at w t))
 -- what stands against the event, in this order: where the first holds it is refused
 abbrev pub checks : World → Event → List (Bool × Refusal)
 checks w (Topic_added clock) = []
-checks w Opened = []
+checks w Opens = []
 checks w (Commits c sends) =
     reads w c
     ++ (not (list_all (λ send. is_topic w send.topic) sends), Refusal.NotNamed)
@@ -368,7 +370,7 @@ handed w s (Some item) = with_subscription w s (record (subscription_at w s) { t
 -- what the event does where it isn't refused
 abbrev pub effect : World → Event → World
 effect w (Topic_added clock) = record w { topics = w.topics ++ new_topic (record { 0 = length w.topics }) w.log_limit clock ∷ [] }
-effect w Opened = record w {
+effect w Opens = record w {
   senders = w.senders ++ new_sender ∷ [];
   connections = w.connections ++ record { sender = length w.senders; standing = Standing.Open } ∷ [];
 }
@@ -427,7 +429,7 @@ take_answer w s (Some item) = Handed s item
 -- what the event answers where it isn't refused
 abbrev pub answer : World → Event → Outcome
 answer w (Topic_added clock) = Done
-answer w Opened = Done
+answer w Opens = Opened (length w.connections)
 answer w (Commits c sends) = flying_answer w c sends
 answer w (Subscribes c t) = Subscribed (length w.subscriptions) c t (topic_at w t).frontier
 answer w (Unsubscribes c s) = Unsubscribed s (end_now w s)
