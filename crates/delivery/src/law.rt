@@ -1,5 +1,6 @@
 //! Laws: functions that do nothing, whose contracts are theorems about every run or step of the core.
 
+ghost use Rattle.delivery.specs.Answers.{EventsAreAnswered};
 ghost use Rattle.delivery.specs.Laws.{AcceptedIsDue, AgreedInSenderOrder, AgreedOnce};
 ghost use Rattle.delivery.specs.Laws.{CancelFindsItsPart, ClosedIsSilent, CommitsAreKept};
 ghost use Rattle.delivery.specs.Laws.{EntriesAreOwned, EntriesAreThere, FoundIsLearnt};
@@ -133,4 +134,10 @@ pub fn spans()
     ensures ends { SpansEndAsTold }
     ensures frontier { SpansBeginAtFrontier }
     ensures stays { EndsStay }
+{}
+
+/// Each event is answered by an outcome of its own, whatever the core holds: the outcome names the event's connection,
+/// topic, subscription and transaction, and a proposal fails for memory only where there was none.
+pub fn answers()
+    ensures { EventsAreAnswered }
 {}

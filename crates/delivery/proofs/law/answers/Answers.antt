@@ -1,0 +1,5 @@
+use Rattle.delivery.proofs.EventsAreAnswered.{events_are_answered}
+use Rattle.delivery.proofs.law.answers.Goals as goal
+
+pub returns : goal.returns
+returns c = events_are_answered
