@@ -8,3 +8,4 @@ pub mod Settled
 pub mod Laws
 pub mod Told
 pub mod Answers
+pub mod Tied
