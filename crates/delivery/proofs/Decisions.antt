@@ -147,11 +147,12 @@ verdict_by f = record { id = f.txn.id; rows = f.given }
 abbrev pub decided_sender : World → ℕ → Flight → SenderState
 decided_sender w s f = record (sender_in w.senders s) { floor = stamp_by f; flight = None }
 
-record TicketOf (ts : List Row) (txn : Transaction) (t : Topic) : Type 0 where
-  it : Row
-  stands : In it ts
-  txn_is : it.txn ≡ txn
-  topic_is : it.stamp.topic ≡ t
+-- a ticket that t gave this transaction
+pub record TicketOf (ts : List Row) (txn : Transaction) (t : Topic) : Type 0 where
+  pub it : Row
+  pub stands : In it ts
+  pub txn_is : it.txn ≡ txn
+  pub topic_is : it.stamp.topic ≡ t
 
 -- what a decision comes to
 record Deciding (ts : List Row) (w : World) (s : ℕ) (f : Flight) : Type 0 where
@@ -161,7 +162,8 @@ record Deciding (ts : List Row) (w : World) (s : ℕ) (f : Flight) : Type 0 wher
   greatest : (a : Row) → In a ts → a.txn ≡ f.txn → stamp_lt (stamp_by f) a.stamp ≡ false
   complete : (t : Topic) → names t (topics_of f.txn.sends) ≡ true → TicketOf ts f.txn t
 
-complete_at : (ts : List Row) (w : World) (s : ℕ) (f : Flight) → Flies ts w.commits w.topics s (sender_in w.senders s).seq (sender_in w.senders s).floor f → is_complete f ≡ true → (t : Topic) → names t (topics_of f.txn.sends) ≡ true → TicketOf ts f.txn t
+-- each named topic gave a complete flight a ticket
+pub complete_at : (ts : List Row) (w : World) (s : ℕ) (f : Flight) → Flies ts w.commits w.topics s (sender_in w.senders s).seq (sender_in w.senders s).floor f → is_complete f ≡ true → (t : Topic) → names t (topics_of f.txn.sends) ≡ true → TicketOf ts f.txn t
 complete_at ts w s f g all t n =
     let q = any_found (λ (u : Topic). u.0 == t.0) (topics_of f.txn.sends) n in
     let m = all_at (λ (u : Topic). has_ticket u f.given) q.it (topics_of f.txn.sends) all q.stands in
