@@ -1,5 +1,5 @@
 -- No event lowers a topic's clock.
-use Rattle.std.proofs.Common.{◌≡◌, ℕ, ◌+◌, ◌≤◌, List, [], ◌∷◌, ◌++◌, set, Option, Some, None, refl, sym, ap, subst, ◌∙◌, arith}
+use Rattle.std.proofs.Common.{ℕ, ◌≤◌, List, [], ◌∷◌, set, Option, Some, None, arith}
 use Rattle.mcast_txn.specs.Part.{part_at}
 use Rattle.mcast_txn.specs.Ballot.{Decision}
 use Rattle.mcast_txn.specs.declared.id.Topic.{Topic}
@@ -10,7 +10,7 @@ use Rattle.mcast_group.specs.Span.{Item}
 use Rattle.mcast_group.specs.Topics.{TopicState, Entry, proposed, cancelled, learned, release, turned, unsubscribed, decided_stamp}
 use Rattle.mcast_group.proofs.Turning.{release_keeps, turn_keeps}
 use Rattle.delivery.specs.World.{World, Leftover, topic_at, speaker, subscription_at, entry_at}
-use Rattle.delivery.specs.Events.{Event, happens, effect, find_leftover, find_verdict, find_in, oldest_live, flown, proposal_fault, proposed_by, cancelled_at, learned_at, handed, flight_at, left_by, closed_subscription, closed_with, takes}
+use Rattle.delivery.specs.Events.{Event, happens, effect, find_leftover, find_verdict, find_in, oldest_live, flown, proposal_fault, proposed_by, cancelled_at, learned_at, handed, flight_at, left_by, closed_with, takes}
 use Rattle.delivery.specs.Events.Event.{Topic_added, Opens, Commits, Subscribes, Unsubscribes, Disconnects, Errs, Lost, Leaves, Proposes, Decides, Withdraws, Cancels, Learns, Releases, Turns, Takes}
 use Rattle.delivery.proofs.Invariant.{topic_in}
 use Rattle.delivery.proofs.Keeping.{at_topic_from}

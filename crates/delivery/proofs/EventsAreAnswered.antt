@@ -1,5 +1,5 @@
 -- Each event is answered by an outcome of its own.
-use Rattle.std.proofs.Common.{◌≡◌, ℕ, zero, suc, ◌+◌, ◌<◌, ◌≤◌, Bool, true, false, cond, not, ◌&&◌, List, [], ◌∷◌, length, Option, Some, None, refl, sym, ap, subst, ◌∙◌, ◌⊎◌, inl, inr, arith, ltb}
+use Rattle.std.proofs.Common.{◌≡◌, ℕ, zero, suc, ◌+◌, ◌<◌, ◌≤◌, Bool, true, false, cond, not, ◌&&◌, List, [], ◌∷◌, length, Option, Some, None, refl, sym, subst, ◌⊎◌, inl, inr, arith, ltb}
 use Rattle.std.specs.Option.{is_some}
 use Rattle.std.proofs.lemmas.Bool.{true≢false, and_parts, ltb-true}
 use Rattle.mcast_txn.specs.Part.{part_at}
@@ -17,7 +17,7 @@ use Rattle.delivery.specs.World.{World, Leftover, Subscription, subscription_at,
 use Rattle.delivery.specs.Reading.{accepted_at, end_at}
 use Rattle.delivery.specs.Events.{Event, answer, refusal, checks, cancelling, learning, flying_answer, leave_answer, propose_answer, proposal_fault, or_no_memory, cancel_answer, release_answer, take_answer, item_number, find_leftover, find_verdict, oldest_live, is_live, flight_at}
 use Rattle.delivery.specs.Events.Event.{Topic_added, Opens, Commits, Subscribes, Unsubscribes, Disconnects, Errs, Lost, Leaves, Proposes, Decides, Withdraws, Cancels, Learns, Releases, Turns, Takes}
-use Rattle.delivery.specs.Answers.{IsAnswer, IsFailure, IsOldest, AllClosed, EventsAreAnswered}
+use Rattle.delivery.specs.Answers.{IsAnswer, IsOldest, EventsAreAnswered}
 use Rattle.delivery.proofs.Invariant.{sub_in}
 use Rattle.delivery.proofs.Decisions.{leftover_found}
 use Rattle.delivery.proofs.Happening.{by_refusal, checked, false_not, or_else_after, verdict_found}

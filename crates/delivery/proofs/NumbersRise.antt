@@ -1,5 +1,5 @@
 -- The numbers that a topic gives rise along a run, each above its opening clock.
-use Rattle.std.proofs.Common.{◌≡◌, ◌≢◌, ℕ, zero, suc, ◌+◌, ◌<◌, ◌≤◌, ◌==◌, Bool, true, false, cond, ◌⊎◌, inl, inr, List, [], ◌∷◌, ◌++◌, length, get_or, max, Option, Some, None, refl, sym, ap, subst, ◌∙◌, arith}
+use Rattle.std.proofs.Common.{◌≡◌, ℕ, zero, suc, ◌+◌, ◌<◌, ◌≤◌, ◌==◌, Bool, true, false, cond, ◌⊎◌, inl, inr, List, [], ◌∷◌, ◌++◌, length, get_or, max, Option, Some, None, refl, sym, ap, subst, ◌∙◌, arith}
 use Rattle.std.specs.List.{AllByRecursion}
 use Rattle.std.proofs.lemmas.Bool.{eqb-true}
 use Rattle.std.proofs.lemmas.List.{get_or_past}
@@ -20,8 +20,8 @@ use Rattle.delivery.specs.Events.Event.{Topic_added, Opens, Commits, Subscribes,
 use Rattle.delivery.specs.Events.Outcome.{Ticket}
 use Rattle.delivery.specs.Runs.{run, outcomes, made}
 use Rattle.delivery.specs.Laws.{Run, came, after}
-use Rattle.delivery.specs.Tied.{added_clocks, opening_clock, numbers_at}
-use Rattle.delivery.proofs.Invariant.{row, topic_in}
+use Rattle.delivery.specs.Tied.{added_clocks, numbers_at}
+use Rattle.delivery.proofs.Invariant.{row}
 use Rattle.delivery.proofs.Keeping.{same_topic}
 use Rattle.delivery.proofs.Subscriptions.{at_push_two, push_length, set_length}
 use Rattle.delivery.proofs.Happening.{Reached, tickets, by_refusal, step_reached}
@@ -126,9 +126,9 @@ added_above : (past : List Outcome) (opening : List ℕ) (w : World) (clock : �
 added_above past opening w clock t n r h i =
     at_push_two (λ m. m < n) opening t.0 clock 0
     (λ e. let beyond : length w.topics ≤ t.0 = (let m : length opening ≡ length w.topics = h.count in omega arith) in
-        let none : (topic_at w t).clock ≡ 0 = ap (λ (x : TopicState). x.clock) (get_or_past w.topics t.0 (new_topic t 0 0) beyond) in
-        let k : n ≤ (topic_at w t).clock = number_le past w t n r i in
-        let l : get_or opening t.0 0 < n = h.above t n i in absurd (omega arith))
+    let none : (topic_at w t).clock ≡ 0 = ap (λ (x : TopicState). x.clock) (get_or_past w.topics t.0 (new_topic t 0 0) beyond) in
+    let k : n ≤ (topic_at w t).clock = number_le past w t n r i in
+    let l : get_or opening t.0 0 < n = h.above t n i in absurd (omega arith))
     (λ ne. h.above t n i)
 
 added_opened : (past : List Outcome) (opening : List ℕ) (w : World) (clock : ℕ) (t : Topic) → Rising past opening w → get_or (opening ++ clock ∷ []) t.0 0 ≤ (topic_at (happens w (Topic_added clock)) t).clock
@@ -136,9 +136,9 @@ added_opened past opening w clock t h =
     let v = happens w (Topic_added clock) in let m : length opening ≡ length w.topics = h.count in
     at_push_two (λ n. n ≤ (topic_at v t).clock) opening t.0 clock 0
     (λ e. at_push_two (λ (x : TopicState). clock ≤ x.clock) w.topics t.0 (new_topic (record { 0 = length w.topics }) w.log_limit clock) (new_topic t 0 0)
-        (λ d. omega arith) (λ ne. absurd (ne (omega arith))))
+    (λ d. omega arith) (λ ne. absurd (ne (omega arith))))
     (λ ne. let l : get_or opening t.0 0 ≤ (topic_at w t).clock = h.opened t in
-        let g : (topic_at w t).clock ≤ (topic_at v t).clock = clock_grows w (Topic_added clock) t in omega arith)
+    let g : (topic_at w t).clock ≤ (topic_at v t).clock = clock_grows w (Topic_added clock) t in omega arith)
 
 -- an event that adds no topic
 kept_rising : (past : List Outcome) (opening : List ℕ) (w : World) (e : Event) → Reached past w → length (happens w e).topics ≡ length w.topics → Rising past opening w → Rising (outcome w e ∷ past) opening (happens w e)

@@ -261,6 +261,11 @@ start_settling log_limit clocks = record {
   calm = λ t e. record { none = no_parts log_limit clocks t; still = λ s f n. none_some f n };
 }
 
+-- a run beside the core that it leads to
+pub settling_run : (r : Run) → Settling (came r) (after r).topics (after r).senders
+settling_run r =
+    (run_both r.events [] (start r.capacity r.log_limit r.clocks) (start_reached r.capacity r.log_limit r.clocks) (start_settling r.log_limit r.clocks)).settling
+
 logged_of : (w : World) (t : Topic) (r : Row) → Calm w.topics w.senders t → In (log_row r) (topic_in w.topics t).held ⊎ Waits r.txn.id (topic_in w.topics t).pending → In (log_row r) (topic_in w.topics t).held
 logged_of w t r k (inl i) = i
 logged_of w t r k (inr v) = absurd (k.none v.part v.stands)

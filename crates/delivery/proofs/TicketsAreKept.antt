@@ -1,5 +1,5 @@
 -- Where each ticket is: its transaction is undecided, or committed, or it is left over from a withdrawal, or was cancelled.
-use Rattle.std.proofs.Common.{◌≡◌, ◌≢◌, ℕ, ◌+◌, ◌<◌, ◌==◌, Bool, true, false, cond, not, ◌||◌, ◌⊎◌, inl, inr, List, [], ◌∷◌, ◌++◌, length, map, set, Option, Some, None, refl, sym, ap, subst, ◌∙◌, arith}
+use Rattle.std.proofs.Common.{◌≡◌, ◌≢◌, ℕ, ◌+◌, ◌<◌, ◌==◌, Bool, true, false, cond, ◌||◌, ◌⊎◌, inl, inr, List, [], ◌∷◌, ◌++◌, length, map, set, Option, Some, None, refl, sym, ap, subst, ◌∙◌, arith}
 use Rattle.std.specs.Option.{is_some}
 use Rattle.std.proofs.lemmas.Bool.{true≢false, cases_order}
 use Rattle.mcast_txn.specs.Stamp.{greatest}
@@ -14,9 +14,9 @@ use Rattle.mcast_txn.proofs.Members.{In-push, In-append_left, In-map, at_set, at
 use Rattle.mcast_group.specs.declared.fault.ProposeFault.{ProposeFault}
 use Rattle.mcast_group.specs.Span.{Item}
 use Rattle.mcast_group.specs.Topics.{Pending, Entry, due_part}
-use Rattle.mcast_group.proofs.Parts.{none_some, some_same}
+use Rattle.mcast_group.proofs.Parts.{some_same}
 use Rattle.delivery.specs.World.{World, Flight, Leftover, SenderState, new_sender, connection_at, speaker, entry_at, topic_at, start}
-use Rattle.delivery.specs.Events.{Event, Outcome, happens, outcome, refusal, effect, answer, flight_at, find_leftover, drop_leftover, leftover, find_verdict, oldest_live, has_ticket, insert_ticket, next_txn, next_ticket, flown, flying_answer, proposal_fault, proposed_by, propose_answer, decided, withdrawn, cancelled_at, cancel_answer, learned_at, release_answer, handed, take_answer, left_by, leave_answer, closed_with}
+use Rattle.delivery.specs.Events.{Event, Outcome, happens, outcome, refusal, effect, answer, flight_at, find_leftover, drop_leftover, leftover, find_verdict, oldest_live, insert_ticket, next_txn, next_ticket, flown, flying_answer, proposal_fault, proposed_by, propose_answer, decided, withdrawn, cancelled_at, cancel_answer, learned_at, release_answer, handed, take_answer, left_by, leave_answer, closed_with}
 use Rattle.delivery.specs.Events.Event.{Topic_added, Opens, Commits, Subscribes, Unsubscribes, Disconnects, Errs, Lost, Leaves, Proposes, Decides, Withdraws, Cancels, Learns, Releases, Turns, Takes}
 use Rattle.delivery.specs.Events.Outcome.{Refused, Done, Flying, Ticket, Failed, Decided, Withdrawn, Cancelled}
 use Rattle.delivery.specs.Runs.{made, run, outcomes}
@@ -143,12 +143,12 @@ ticket_accounted past w c t r a h =
     let y : SenderState = record (speaker w c) { flight = Some after } in
     let own : new.txn ≡ f.txn = r.flights s f is in
     let fresh : (b : Row) → In b (tickets past) → b.txn ≡ new.txn → b.stamp.topic ≡ t → Prim.⊥ =
-        λ b i d e. not_given t f.given a.unheard b.stamp (g.given_all b i (d ∙ own)) (ap (λ (z : Topic). z.0) (sym e)) in record {
+    λ b i d e. not_given t f.given a.unheard b.stamp (g.given_all b i (d ∙ own)) (ap (λ (z : Topic). z.0) (sym e)) in record {
       somewhere = cons_one (λ (b : Row). IsSomewhere (o ∷ past) (set w.senders s y) w.commits b) (tickets past) new
           (λ b i. move past o w.senders w.commits w.commits s y b
-              (λ g e d. flies_on (o ∷ past) w.senders w.commits s y b after within refl (ap (λ (z : Flight). z.txn) (some_same f g (sym is ∙ e)) ∙ d))
-              (λ k j d e. keep_left (o ∷ past) w.senders w.commits s y b k j refl d e)
-              (λ q j. j) (h.somewhere b i))
+          (λ g e d. flies_on (o ∷ past) w.senders w.commits s y b after within refl (ap (λ (z : Flight). z.txn) (some_same f g (sym is ∙ e)) ∙ d))
+          (λ k j d e. keep_left (o ∷ past) w.senders w.commits s y b k j refl d e)
+          (λ q j. j) (h.somewhere b i))
           (flies_on (o ∷ past) w.senders w.commits s y new after within refl (sym own));
       one = cons_two (λ (x y : Row). x.txn ≡ y.txn → x.stamp.topic ≡ y.stamp.topic → x ≡ y) (tickets past) new h.one
           (λ b i d e. absurd (fresh b i d e))
@@ -208,12 +208,12 @@ withdrawn_accounted past w c r n h =
     let g = (r.inv.serves s).flying f is in
     let y : SenderState = record x { flight = None; leftovers = x.leftovers ++ map (leftover f.txn.id) f.given } in
     let here : (b : Row) (k : Leftover) → In k y.leftovers → k.id ≡ b.txn.id → k.ticket ≡ b.stamp → IsSomewhere (Withdrawn f.txn.id c ∷ past) (set w.senders s y) w.commits b =
-        λ b k i d e. inr (inr (inl (s, k, subst (λ (z : SenderState). In k z.leftovers) (sym (this_sender w.senders s y (within_senders w.senders s f is))) i, d, e))) in record {
+    λ b k i d e. inr (inr (inl (s, k, subst (λ (z : SenderState). In k z.leftovers) (sym (this_sender w.senders s y (within_senders w.senders s f is))) i, d, e))) in record {
       somewhere = λ b i. move past (Withdrawn f.txn.id c) w.senders w.commits w.commits s y b
           (λ z e d. let own : b.txn ≡ f.txn = sym (ap (λ (v : Flight). v.txn) (some_same f z (sym is ∙ e)) ∙ d) in
-              here b (leftover f.txn.id b.stamp)
-              (In-append_right (leftover f.txn.id b.stamp) x.leftovers (map (leftover f.txn.id) f.given) (In-map (leftover f.txn.id) b.stamp f.given (g.given_all b i own)))
-              (ap (λ (v : Transaction). v.id) (sym own)) refl)
+          here b (leftover f.txn.id b.stamp)
+          (In-append_right (leftover f.txn.id b.stamp) x.leftovers (map (leftover f.txn.id) f.given) (In-map (leftover f.txn.id) b.stamp f.given (g.given_all b i own)))
+          (ap (λ (v : Transaction). v.id) (sym own)) refl)
           (λ k j d e. here b k (In-append_left k x.leftovers (map (leftover f.txn.id) f.given) j) d e)
           (λ q j. j) (h.somewhere b i);
       one = h.one;

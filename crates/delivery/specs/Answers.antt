@@ -1,15 +1,13 @@
 -- What each event is answered: for each outcome, which event it answers, and of which connection, topic, subscription and
 -- transaction it speaks.
-use Rattle.std.specs.Prelude.{◌≡◌, ℕ, ◌<◌, ◌≤◌, ◌+◌, Bool, true, false, Some, None, ◌⊎◌, [], length}
+use Rattle.std.specs.Prelude.{◌≡◌, ℕ, ◌<◌, ◌+◌, Bool, true, false, Some, None, ◌⊎◌, [], length}
 use Rattle.std.specs.Option.{is_some}
 use Rattle.mcast_txn.specs.declared.id.Topic.{Topic}
-use Rattle.mcast_txn.specs.declared.id.TxnId.{TxnId}
 use Rattle.mcast_txn.specs.Stamp.{greatest}
 use Rattle.mcast_txn.specs.Part.{part_at}
-use Rattle.mcast_txn.specs.Agreed.{Transaction, In}
+use Rattle.mcast_txn.specs.Agreed.{In}
 use Rattle.mcast_txn.specs.Ballot.{Decision}
 use Rattle.mcast_group.specs.declared.fault.ProposeFault.{ProposeFault}
-use Rattle.mcast_group.specs.Span.{Item}
 use Rattle.mcast_group.specs.Topics.{Pending, propose_fault, due_part}
 use Rattle.delivery.specs.World.{World, Leftover, topic_at, connection_at, speaker, subscription_at}
 use Rattle.delivery.specs.Reading.{accepted_at, end_at}

@@ -10,6 +10,7 @@ ghost use Rattle.delivery.specs.Laws.{RefusalsChangeNothing, ReleasedIsLogged, S
 ghost use Rattle.delivery.specs.Laws.{SettledLeavesNoneOut, SharedInOneOrder, StampIsGreatest};
 ghost use Rattle.delivery.specs.Laws.{TicketIsOwn, TopicsAreSound, TurnIsItsSteps, TurnedIsLogged};
 ghost use Rattle.delivery.specs.Laws.{WithdrawnIsUndecided};
+ghost use Rattle.delivery.specs.Tied.{SendersAreFloored, TopicsAreTied};
 ghost use Rattle.delivery.specs.Told.{EndsAreTold, EndsStay, FlyingIsOwn, QueuesAreBounded};
 ghost use Rattle.delivery.specs.Told.{SenderIsOwn, SpansBeginAsTold, SpansBeginAtFrontier};
 ghost use Rattle.delivery.specs.Told.{SpansEndAsTold};
@@ -140,4 +141,12 @@ pub fn spans()
 /// topic, subscription and transaction, and a proposal fails for memory only where there was none.
 pub fn answers()
     ensures { EventsAreAnswered }
+{}
+
+/// A topic is tied to the tickets that it gave: their numbers rise along the run, above its opening clock, and its pending
+/// parts are exactly those of its uncancelled tickets whose transactions aren't in its log. A sender's floor is the stamp
+/// of its last committed transaction, or zero, whatever was withdrawn.
+pub fn tied()
+    ensures topics { TopicsAreTied }
+    ensures senders { SendersAreFloored }
 {}
