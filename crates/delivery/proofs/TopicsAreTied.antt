@@ -20,7 +20,7 @@ use Rattle.delivery.specs.Events.Outcome.{Ticket, Decided, Cancelled}
 use Rattle.delivery.specs.Runs.{made, commits_of}
 use Rattle.delivery.specs.Laws.{Run, came, after}
 use Rattle.delivery.specs.Tied
-use Rattle.delivery.specs.Tied.{IsWaiting, IsKept, HasTicket, IsTied, IsFloored}
+use Rattle.delivery.specs.Tied.{IsWaiting, IsAccountedFor, HasTicket, IsTied, IsFloored}
 use Rattle.delivery.proofs.Invariant.{row}
 use Rattle.delivery.proofs.Keeping.{key_ticket}
 use Rattle.delivery.proofs.Happening.{tickets}
@@ -126,7 +126,7 @@ by_ticket r t a i here v =
     let same = (accounted r).one b.ticket a b.stands i txn topic in
     (p, v.stands, v.is, ap (λ (z : Stamp). z.n) (sym b.stamp_is) ∙ ap (λ (z : Row). z.stamp.n) same)
 
-kept_by : (r : Run) (t : Topic) (a : Row) → In a (tickets (came r)) → a.stamp.topic ≡ t → IsSomewhere (came r) (after r).senders (after r).commits a → IsKept r t a.txn.id a.stamp
+kept_by : (r : Run) (t : Topic) (a : Row) → In a (tickets (came r)) → a.stamp.topic ≡ t → IsSomewhere (came r) (after r).senders (after r).commits a → IsAccountedFor r t a.txn.id a.stamp
 kept_by r t a i here (inl (s, f, e, d)) =
     let g = ((reached r).inv.serves s).flying f e in
     let v = g.waits a i (sym d) in
@@ -145,10 +145,10 @@ kept_by r t a i here (inr (inr (inl (s, k, j, d, e)))) =
     (subst (λ z. Waits k.id (topic_at (after r) z).pending) u v))))
 kept_by r t a i here (inr (inr (inr k))) = inl (subst (λ z. In (Cancelled a.txn.id z) (came r)) here k)
 
-kept : (r : Run) (t : Topic) (id : TxnId) (ticket : Stamp) → In (Ticket id ticket) (came r) → ticket.topic ≡ t → IsKept r t id ticket
+kept : (r : Run) (t : Topic) (id : TxnId) (ticket : Stamp) → In (Ticket id ticket) (came r) → ticket.topic ≡ t → IsAccountedFor r t id ticket
 kept r t id ticket i here =
     let g = given id ticket (came r) i in
-    subst (λ z. IsKept r t id z) g.stamp_is (subst (λ z. IsKept r t z g.it.stamp) g.id_is
+    subst (λ z. IsAccountedFor r t id z) g.stamp_is (subst (λ z. IsAccountedFor r t z g.it.stamp) g.id_is
     (kept_by r t g.it g.stands (ap (λ (z : Stamp). z.topic) g.stamp_is ∙ here) ((accounted r).somewhere g.it g.stands)))
 
 -- ---- a committed transaction's tickets
@@ -174,7 +174,7 @@ topics_are_tied r t =
       clock = λ n i. number_le (came r) (after r) t n (reached r) i;
       opened = rise.opened t;
       pending = λ p i. waiting r t p i;
-      kept = λ id ticket i e. kept r t id ticket i e;
+      accounted = λ id ticket i e. kept r t id ticket i e;
       tickets = λ q i n. has_ticket r t q i n;
     }
 

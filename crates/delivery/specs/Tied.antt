@@ -47,8 +47,8 @@ pub record IsWaiting (r : Run) (t : Topic) (p : Pending) : Type 0 where
   pub learnt : (stamp : Stamp) → p.learnt ≡ Some stamp → In (Decided p.part.id stamp) (came r)
 
 -- where the part is that t gave a ticket: it was cancelled, or it is in the log, or it is pending by that ticket
-abbrev pub IsKept : Run → Topic → TxnId → Stamp → Type 0
-IsKept r t id ticket =
+abbrev pub IsAccountedFor : Run → Topic → TxnId → Stamp → Type 0
+IsAccountedFor r t id ticket =
     In (Cancelled id t) (came r)
     ⊎ ((row : LogRow) × In row (log_at (after r) t) × (row.id ≡ id))
     ⊎ ((p : Pending) × In p (topic_at (after r) t).pending × (p.part.id ≡ id) × (p.ticket ≡ ticket.n))
@@ -72,7 +72,7 @@ pub record IsTied (r : Run) (t : Topic) : Type 0 where
   pub clock : (n : ℕ) → In n (numbers_at t (came r)) → n ≤ (topic_at (after r) t).clock
   pub opened : opening_clock r t ≤ (topic_at (after r) t).clock
   pub pending : (p : Pending) → In p (topic_at (after r) t).pending → IsWaiting r t p
-  pub kept : (id : TxnId) (ticket : Stamp) → In (Ticket id ticket) (came r) → ticket.topic ≡ t → IsKept r t id ticket
+  pub accounted : (id : TxnId) (ticket : Stamp) → In (Ticket id ticket) (came r) → ticket.topic ≡ t → IsAccountedFor r t id ticket
   pub tickets : (row : Row) → In row (commits_of (came r)) → names t (topics_of row.txn.sends) ≡ true → HasTicket r t row
 
 -- each topic is tied to what it gave
