@@ -9,6 +9,7 @@ ghost use Rattle.delivery.specs.Laws.{RefusalsChangeNothing, ReleasedIsLogged, S
 ghost use Rattle.delivery.specs.Laws.{SettledLeavesNoneOut, SharedInOneOrder, StampIsGreatest};
 ghost use Rattle.delivery.specs.Laws.{TicketIsOwn, TopicsAreSound, TurnIsItsSteps, TurnedIsLogged};
 ghost use Rattle.delivery.specs.Laws.{WithdrawnIsUndecided};
+ghost use Rattle.delivery.specs.Spans.{ClosedAsTold, ClosedStays, ClosesAreTold, SpansEndAtFrontier};
 ghost use Rattle.delivery.specs.Told.{EndsAreTold, EndsStay, FlyingIsOwn, QueuesAreBounded};
 ghost use Rattle.delivery.specs.Told.{SenderIsOwn, SpansBeginAsTold, SpansBeginAtFrontier};
 ghost use Rattle.delivery.specs.Told.{SpansEndAsTold};
@@ -127,10 +128,21 @@ pub fn flights()
 {}
 
 /// A subscription's span has the topic and the beginning that SUBSCRIBE was answered, which is its topic's frontier
-/// then, and the end that UNSUBSCRIBE was answered; an end that is there stays.
+/// then, and the end that UNSUBSCRIBE was answered; an end that is there stays. A span that is open until it is closed
+/// ends with its topic's frontier.
 pub fn spans()
     ensures begins { SpansBeginAsTold }
     ensures ends { SpansEndAsTold }
     ensures frontier { SpansBeginAtFrontier }
     ensures stays { EndsStay }
+    ensures until_frontier { SpansEndAtFrontier }
+{}
+
+/// A subscription is closed by the event that is answered its end, and by no other. What is left of it has that
+/// end, what its queue had accepted before, and the cause: it has lagged where its span had an end before, and
+/// else it was asked. All of it stays as it is at each later event.
+pub fn closed()
+    ensures left { ClosedAsTold }
+    ensures alone { ClosesAreTold }
+    ensures stays { ClosedStays }
 {}
