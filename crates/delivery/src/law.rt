@@ -9,7 +9,8 @@ ghost use Rattle.delivery.specs.Laws.{RefusalsChangeNothing, ReleasedIsLogged, S
 ghost use Rattle.delivery.specs.Laws.{SettledLeavesNoneOut, SharedInOneOrder, StampIsGreatest};
 ghost use Rattle.delivery.specs.Laws.{TicketIsOwn, TopicsAreSound, TurnIsItsSteps, TurnedIsLogged};
 ghost use Rattle.delivery.specs.Laws.{WithdrawnIsUndecided};
-ghost use Rattle.delivery.specs.Spans.{ClosedAsTold, ClosedStays, ClosesAreTold, SpansEndAtFrontier};
+ghost use Rattle.delivery.specs.Spans.{ClosedAsTold, ClosedStays, ClosesAreTold, LagsEndBeforeRow};
+ghost use Rattle.delivery.specs.Spans.{SpansEndAtFrontier};
 ghost use Rattle.delivery.specs.Told.{EndsAreTold, EndsStay, FlyingIsOwn, QueuesAreBounded};
 ghost use Rattle.delivery.specs.Told.{SenderIsOwn, SpansBeginAsTold, SpansBeginAtFrontier};
 ghost use Rattle.delivery.specs.Told.{SpansEndAsTold};
@@ -129,13 +130,14 @@ pub fn flights()
 
 /// A subscription's span has the topic and the beginning that SUBSCRIBE was answered, which is its topic's frontier
 /// then, and the end that UNSUBSCRIBE was answered; an end that is there stays. A span that is open until it is closed
-/// ends with its topic's frontier.
+/// ends with its topic's frontier; one that lags ends with the frontier before the row for which its queue had no room.
 pub fn spans()
     ensures begins { SpansBeginAsTold }
     ensures ends { SpansEndAsTold }
     ensures frontier { SpansBeginAtFrontier }
     ensures stays { EndsStay }
     ensures until_frontier { SpansEndAtFrontier }
+    ensures before_row { LagsEndBeforeRow }
 {}
 
 /// A subscription is closed by the event that is answered its end, and by no other. What is left of it has that
