@@ -10,7 +10,7 @@ ghost use Rattle.delivery.specs.Laws.{SettledLeavesNoneOut, SharedInOneOrder, St
 ghost use Rattle.delivery.specs.Laws.{TicketIsOwn, TopicsAreSound, TurnIsItsSteps, TurnedIsLogged};
 ghost use Rattle.delivery.specs.Laws.{WithdrawnIsUndecided};
 ghost use Rattle.delivery.specs.Spans.{ClosedAsTold, ClosedStays, ClosesAreTold, LagsEndBeforeRow};
-ghost use Rattle.delivery.specs.Spans.{SpansEndAtFrontier};
+ghost use Rattle.delivery.specs.Spans.{QueuesGrow, SpansEndAtFrontier};
 ghost use Rattle.delivery.specs.Told.{EndsAreTold, EndsStay, FlyingIsOwn, QueuesAreBounded};
 ghost use Rattle.delivery.specs.Told.{SenderIsOwn, SpansBeginAsTold, SpansBeginAtFrontier};
 ghost use Rattle.delivery.specs.Told.{SpansEndAsTold};
@@ -147,4 +147,9 @@ pub fn closed()
     ensures left { ClosedAsTold }
     ensures alone { ClosesAreTold }
     ensures stays { ClosedStays }
+{}
+
+/// A queue only grows: what it has accepted stays, and each event adds to its end alone.
+pub fn queues()
+    ensures { QueuesGrow }
 {}
