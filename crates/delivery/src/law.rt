@@ -9,6 +9,7 @@ ghost use Rattle.delivery.specs.Laws.{RefusalsChangeNothing, ReleasedIsLogged, S
 ghost use Rattle.delivery.specs.Laws.{SettledLeavesNoneOut, SharedInOneOrder, StampIsGreatest};
 ghost use Rattle.delivery.specs.Laws.{TicketIsOwn, TopicsAreSound, TurnIsItsSteps, TurnedIsLogged};
 ghost use Rattle.delivery.specs.Laws.{WithdrawnIsUndecided};
+ghost use Rattle.delivery.specs.Laws.{LogCountsReleases, LogIsAgreed, LogIsOfOutcomes};
 ghost use Rattle.delivery.specs.Spans.{ClosedAsTold, ClosedStays, ClosesAreTold, LagsEndBeforeRow};
 ghost use Rattle.delivery.specs.Spans.{QueuesGrow, SpansEndAtFrontier};
 ghost use Rattle.delivery.specs.Told.{EndsAreTold, EndsStay, FlyingIsOwn, QueuesAreBounded};
@@ -152,4 +153,12 @@ pub fn closed()
 /// A queue only grows: what it has accepted stays, and each event adds to its end alone.
 pub fn queues()
     ensures { QueuesGrow }
+{}
+
+/// A topic's log is the agreed sequence restricted to the topic, up to its frontier, and it has as many rows as
+/// releases and turns of the topic were answered. So the outcomes alone say what it is.
+pub fn logs()
+    ensures agreed { LogIsAgreed }
+    ensures count { LogCountsReleases }
+    ensures of_outcomes { LogIsOfOutcomes }
 {}
