@@ -2,8 +2,7 @@
 use Rattle.std.specs.Prelude.{◌≡◌, ℕ, true, List, [], ◌∷◌, map, filter, take, Some, None}
 use Rattle.std.proofs.Common.{refl}
 use Rattle.mcast_txn.specs.declared.id.Topic.{Topic}
-use Rattle.mcast_txn.specs.Transaction.{topics_of}
-use Rattle.mcast_txn.specs.Agreed.{names, agreed}
+use Rattle.mcast_txn.specs.Agreed.{agreed}
 use Rattle.mcast_group.specs.declared.cause.Cause.TheVariants.{Asked, Lag}
 use Rattle.mcast_group.specs.Span.{LogRow, Item}
 use Rattle.mcast_group.specs.Topics.{Ended}
@@ -14,7 +13,7 @@ use Rattle.delivery.specs.Events.{Event, happens, outcome}
 use Rattle.delivery.specs.Events.Event.{Opens, Commits, Subscribes, Unsubscribes, Lost, Leaves, Proposes, Decides, Turns}
 use Rattle.delivery.specs.Events.Outcome.{Unsubscribed, Gone, Turned}
 use Rattle.delivery.specs.Runs.{commits_of, released_at}
-use Rattle.delivery.specs.Laws.{Run, came, after, is_logged}
+use Rattle.delivery.specs.Laws.{Run, came, after, is_logged, agreed_rows}
 use Rattle.delivery.specs.Spans.{EndsBeforeRow}
 use Rattle.delivery.proofs.Rows.{topic, stamp, id, send, part, with_clocks, sends_one, to_both}
 
@@ -87,9 +86,9 @@ lagged_stays = (refl, refl)
 
 -- ---- logs: of the agreed sequence restricted to the topic, the rows that were released
 
--- the rows of the agreed sequence that name a topic
+-- the rows of a run's agreed sequence that name a topic
 abbrev agreed_at : Run → Topic → List LogRow
-agreed_at r t = map log_row (filter (λ c. names t (topics_of c.txn.sends)) (agreed (commits_of (came r))))
+agreed_at r t = agreed_rows t (commits_of (came r))
 
 one_of_four : (released_at (topic 0) (came (three_due [])) ≡ 1) × (agreed_at (three_due []) (topic 0) ≡ row 1 ∷ row 2 ∷ row 3 ∷ row 4 ∷ [])
     × (log_at (after (three_due [])) (topic 0) ≡ row 1 ∷ [])

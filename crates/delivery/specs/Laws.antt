@@ -110,18 +110,22 @@ is_logged t frontier row = names t (topics_of row.txn.sends) && not (stamp_lt fr
 abbrev pub LogIsAgreed : Type 0
 LogIsAgreed =
     (r : Run) (t : Topic)
-    → log_at (after r) t ≡ map log_row (filter (is_logged t (frontier_at (after r) t)) (agreed (commits_of (came r))))
+    → log_at (after r) t
+    ≡ map log_row (filter (is_logged t (frontier_at (after r) t)) (agreed (commits_of (came r))))
 
 -- it has as many rows as the outcomes released
 abbrev pub LogCountsReleases : Type 0
 LogCountsReleases = (r : Run) (t : Topic) → length (log_at (after r) t) ≡ released_at t (came r)
 
--- so the outcomes alone say what it is: of the agreed sequence restricted to the topic, as many rows from the front
+-- the rows of the agreed sequence that name a topic
+abbrev pub agreed_rows : Topic → List Row → List LogRow
+agreed_rows t commits = map log_row (filter (λ row. names t (topics_of row.txn.sends)) (agreed commits))
+
+-- so the outcomes alone say what it is: as many of the agreed sequence's rows that name the topic, the first ones
 abbrev pub LogIsOfOutcomes : Type 0
 LogIsOfOutcomes =
     (r : Run) (t : Topic)
-    → log_at (after r) t
-    ≡ take (released_at t (came r)) (map log_row (filter (λ row. names t (topics_of row.txn.sends)) (agreed (commits_of (came r)))))
+    → log_at (after r) t ≡ take (released_at t (came r)) (agreed_rows t (commits_of (came r)))
 
 -- nothing is handed on of a subscription that was unsubscribed, or whose connection closed
 abbrev pub ClosedIsSilent : Type 0
