@@ -103,7 +103,7 @@ reached r = run_reached r.events [] (start r.capacity r.log_limit r.clocks) (sta
 abbrev span : Topic → Stamp → Option Stamp → Span
 span t from to = record { topic = t; from = from; to = to }
 
-in_log : (ts : List Row) (w : World) (t : Topic) (r : Row) → Holds ts w → In r w.commits → stamp_lt (topic_in w.topics t).frontier r.stamp ≡ false → In (log_row r) (topic_in w.topics t).held ⊎ Waits r.txn.id (topic_in w.topics t).pending → In (log_row r) (topic_in w.topics t).held
+pub in_log : (ts : List Row) (w : World) (t : Topic) (r : Row) → Holds ts w → In r w.commits → stamp_lt (topic_in w.topics t).frontier r.stamp ≡ false → In (log_row r) (topic_in w.topics t).held ⊎ Waits r.txn.id (topic_in w.topics t).pending → In (log_row r) (topic_in w.topics t).held
 in_log ts w t r inv i f (inl l) = l
 in_log ts w t r inv i f (inr v) =
     let k = inv.tied t in let x = topic_in w.topics t in

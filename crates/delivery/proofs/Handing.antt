@@ -43,18 +43,18 @@ find_more n step number grows (e ∷ es) =
 abbrev pub items_by : Option Ended → Option Entry → List Item
 items_by closed entry = elim closed [ None ↦ entry_items entry | Some end ↦ end.accepted ]
 
-More-by : (closed : Option Ended) (a b : Option Entry) → More (entry_items a) (entry_items b) → More (items_by closed a) (items_by closed b)
+pub More-by : (closed : Option Ended) (a b : Option Entry) → More (entry_items a) (entry_items b) → More (items_by closed a) (items_by closed b)
 More-by None a b h = h
 More-by (Some end) a b h = More-same end.accepted
 
 -- after a step at one topic
-More-topic : (w : World) (t : Topic) (y : TopicState) (s : ℕ) (x : Subscription) → More (entry_items (find_entry s (topic_in w.topics t).subscriptions)) (entry_items (find_entry s y.subscriptions)) → More (items_by x.closed (find_entry s (topic_in w.topics x.topic).subscriptions)) (items_by x.closed (find_entry s (topic_in (set w.topics t.0 y) x.topic).subscriptions))
+pub More-topic : (w : World) (t : Topic) (y : TopicState) (s : ℕ) (x : Subscription) → More (entry_items (find_entry s (topic_in w.topics t).subscriptions)) (entry_items (find_entry s y.subscriptions)) → More (items_by x.closed (find_entry s (topic_in w.topics x.topic).subscriptions)) (items_by x.closed (find_entry s (topic_in (set w.topics t.0 y) x.topic).subscriptions))
 More-topic w t y s x h =
     More-by x.closed (find_entry s (topic_in w.topics x.topic).subscriptions) (find_entry s (topic_in (set w.topics t.0 y) x.topic).subscriptions)
     (at_topic_from (λ u z. More (entry_items (find_entry s (topic_in w.topics u).subscriptions)) (entry_items (find_entry s z.subscriptions))) w.topics t x.topic y
     (λ o. h) (More-same (entry_items (find_entry s (topic_in w.topics x.topic).subscriptions))))
 
-entries_more : (x y : TopicState) → Entries x y → (n : ℕ) → More (entry_items (find_entry n x.subscriptions)) (entry_items (find_entry n y.subscriptions))
+pub entries_more : (x y : TopicState) → Entries x y → (n : ℕ) → More (entry_items (find_entry n x.subscriptions)) (entry_items (find_entry n y.subscriptions))
 entries_more x y en n =
     subst (λ z. More (entry_items (find_entry n x.subscriptions)) (entry_items (find_entry n z))) (sym en.are)
     (find_more n en.step en.number en.grows x.subscriptions)
@@ -71,10 +71,10 @@ pub record Handing (past : List Outcome) (w : World) : Type 0 where
   pub fresh : (s : ℕ) → length w.subscriptions ≤ s → handed_of s past ≡ []
 
 -- from one core to another: queues grow, and nothing is handed on
-record Grows (w v : World) : Type 0 where
+pub record Grows (w v : World) : Type 0 where
   same : length v.subscriptions ≡ length w.subscriptions
   taken : (s : ℕ) → (subscription_at v s).taken ≡ (subscription_at w s).taken
-  more : (s : ℕ) → s < length w.subscriptions → More (accepted_at w s) (accepted_at v s)
+  pub more : (s : ℕ) → s < length w.subscriptions → More (accepted_at w s) (accepted_at v s)
 
 append_again : (xs ys zs : List Item) → (xs ++ ys) ++ zs ≡ xs ++ (ys ++ zs)
 append_again [] ys zs = refl
@@ -123,7 +123,7 @@ pub find_kept : (s n : ℕ) (es : List Entry) → n ≢ s → find_entry n (filt
 find_kept s n [] ne = refl
 find_kept s n (e ∷ es) ne = kept_case (e.number == s) s n e es ne refl (find_kept s n es ne)
 
-More-equal : (xs ys : List Item) → ys ≡ xs → More xs ys
+pub More-equal : (xs ys : List Item) → ys ≡ xs → More xs ys
 More-equal xs ys e = subst (λ z. More xs z) (sym e) (More-same xs)
 
 pub ended_same : (frontier : Stamp) (n : ℕ) (from : Stamp) (to : Option Stamp) (accepted : List Item) → (ended frontier (record { number = n; from = from; to = to; accepted = accepted })).accepted ≡ accepted
@@ -134,7 +134,7 @@ pub open_items : (closed : Option Ended) (entry : Option Entry) → closed ≡ N
 open_items None entry e = refl
 open_items (Some end) entry e = none_some end (sym e)
 
-closed_grows : (past : List Outcome) (w : World) (s : ℕ) → Reached past w → (o : Option Entry) → entry_at w s ≡ o → Grows w (closed_with w s o)
+pub closed_grows : (past : List Outcome) (w : World) (s : ℕ) → Reached past w → (o : Option Entry) → entry_at w s ≡ o → Grows w (closed_with w s o)
 closed_grows past w s h None e = Grows-same w
 closed_grows past w s h (Some entry) e =
     let t = (subscription_at w s).topic in let x = topic_in w.topics t in let y = unsubscribed s x in

@@ -1,5 +1,6 @@
 -- What is claimed of every run, over all capacities, log limits, opening clocks and lists of events, and of each step.
 use Rattle.std.specs.Prelude.{◌≡◌, ◌≢◌, ℕ, ◌<◌, ◌+◌, ◌-◌, ◌++◌, nat_lt, max, Bool, true, false, Option, Some, None, ◌⊎◌, List, [], ◌∷◌, map, filter, length}
+use Rattle.std.specs.Prelude.{not, ◌&&◌, take}
 use Rattle.std.specs.List.{list_any}
 use Rattle.mcast_txn.specs.declared.id.Topic.{Topic}
 use Rattle.mcast_txn.specs.declared.id.TxnId.{TxnId}
@@ -21,6 +22,7 @@ use Rattle.delivery.specs.Events.{Event, Outcome, happens, outcome, refusal, fli
 use Rattle.delivery.specs.Events.Event.{Subscribes, Unsubscribes, Leaves, Proposes, Cancels, Learns, Releases, Turns}
 use Rattle.delivery.specs.Events.Outcome.{Refused, Ticket, Failed, Decided, Withdrawn, Released, Turned}
 use Rattle.delivery.specs.Runs.{run, outcomes, commits_of, tickets_of, handed_of, Numbered}
+use Rattle.delivery.specs.Runs.{released_at}
 use Rattle.delivery.specs.Settled.{IsSettled, SilentAfterClose}
 
 -- a run: how many items a queue holds, how many rows a topic holds, the topics' opening clocks, and the events
@@ -99,6 +101,31 @@ abbrev pub HandedIsPrefix : Type 0
 HandedIsPrefix =
     (r : Run) (s : ℕ) → s < length (after r).subscriptions
     → (rest : List Item) × (accepted_at (after r) s ≡ handed_of s (came r) ++ rest)
+
+-- the row names the topic, and is at most its frontier
+abbrev pub is_logged : Topic → Stamp → Row → Bool
+is_logged t frontier row = names t (topics_of row.txn.sends) && not (stamp_lt frontier row.stamp)
+
+-- a topic's log is the agreed sequence restricted to the topic, up to its frontier
+abbrev pub LogIsAgreed : Type 0
+LogIsAgreed =
+    (r : Run) (t : Topic)
+    → log_at (after r) t
+    ≡ map log_row (filter (is_logged t (frontier_at (after r) t)) (agreed (commits_of (came r))))
+
+-- it has as many rows as the outcomes released
+abbrev pub LogCountsReleases : Type 0
+LogCountsReleases = (r : Run) (t : Topic) → length (log_at (after r) t) ≡ released_at t (came r)
+
+-- the rows of the agreed sequence that name a topic
+abbrev pub agreed_rows : Topic → List Row → List LogRow
+agreed_rows t commits = map log_row (filter (λ row. names t (topics_of row.txn.sends)) (agreed commits))
+
+-- so the outcomes alone say what it is: as many of the agreed sequence's rows that name the topic, the first ones
+abbrev pub LogIsOfOutcomes : Type 0
+LogIsOfOutcomes =
+    (r : Run) (t : Topic)
+    → log_at (after r) t ≡ take (released_at t (came r)) (agreed_rows t (commits_of (came r)))
 
 -- nothing is handed on of a subscription that was unsubscribed, or whose connection closed
 abbrev pub ClosedIsSilent : Type 0

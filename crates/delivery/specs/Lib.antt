@@ -9,3 +9,4 @@ pub mod Laws
 pub mod Told
 pub mod Answers
 pub mod Tied
+pub mod Spans

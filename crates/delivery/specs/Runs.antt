@@ -1,5 +1,6 @@
 -- A run: a list of events, what came of each, and what a reader takes from that list. It has the newest first.
 use Rattle.std.specs.Prelude.{◌≡◌, ℕ, ◌+◌, ◌==◌, List, [], ◌∷◌, ◌++◌, if◌then◌else◌}
+use Rattle.mcast_txn.specs.declared.id.Topic.{Topic}
 use Rattle.mcast_txn.specs.declared.id.TxnId.{TxnId}
 use Rattle.mcast_txn.specs.declared.stamp.Stamp.{Stamp}
 use Rattle.mcast_txn.specs.Agreed.{Transaction, Row, same_id}
@@ -7,6 +8,7 @@ use Rattle.mcast_group.specs.Span.{Item}
 use Rattle.delivery.specs.World.{World}
 use Rattle.delivery.specs.Events.{Event, Outcome, happens, outcome}
 use Rattle.delivery.specs.Events.Outcome.{Flying, Ticket, Decided, Handed}
+use Rattle.delivery.specs.Events.Outcome.{Released, Turned}
 
 -- the core after these events
 abbrev pub run : List Event → World → World
@@ -53,3 +55,10 @@ abbrev pub Numbered : List Outcome → Type 0
 Numbered [] = Unit {0}
 Numbered (Flying txn ∷ before) = (txn.id.seq ≡ made_by txn.id.sender.0 before + 1) × Numbered before
 Numbered (o ∷ before) = Numbered before
+
+-- how many parts were released at this topic: one by a release, and as many as a turn says
+abbrev pub released_at : Topic → List Outcome → ℕ
+released_at t [] = 0
+released_at t (Released u id ∷ before) = if u.0 == t.0 then released_at t before + 1 else released_at t before
+released_at t (Turned u count ∷ before) = if u.0 == t.0 then released_at t before + count else released_at t before
+released_at t (o ∷ before) = released_at t before

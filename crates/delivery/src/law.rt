@@ -11,6 +11,9 @@ ghost use Rattle.delivery.specs.Laws.{SettledLeavesNoneOut, SharedInOneOrder, St
 ghost use Rattle.delivery.specs.Laws.{TicketIsOwn, TopicsAreSound, TurnIsItsSteps, TurnedIsLogged};
 ghost use Rattle.delivery.specs.Laws.{WithdrawnIsUndecided};
 ghost use Rattle.delivery.specs.Tied.{SendersAreFloored, TopicsAreTied};
+ghost use Rattle.delivery.specs.Laws.{LogCountsReleases, LogIsAgreed, LogIsOfOutcomes};
+ghost use Rattle.delivery.specs.Spans.{ClosedAsTold, ClosedStays, ClosesAreTold, LagsEndBeforeRow};
+ghost use Rattle.delivery.specs.Spans.{QueuesGrow, SpansEndAtFrontier};
 ghost use Rattle.delivery.specs.Told.{EndsAreTold, EndsStay, FlyingIsOwn, QueuesAreBounded};
 ghost use Rattle.delivery.specs.Told.{SenderIsOwn, SpansBeginAsTold, SpansBeginAtFrontier};
 ghost use Rattle.delivery.specs.Told.{SpansEndAsTold};
@@ -129,12 +132,37 @@ pub fn flights()
 {}
 
 /// A subscription's span has the topic and the beginning that SUBSCRIBE was answered, which is its topic's frontier
-/// then, and the end that UNSUBSCRIBE was answered; an end that is there stays.
+/// then, and the end that UNSUBSCRIBE was answered; an end that is there stays. A span that is open until it is closed
+/// ends with its topic's frontier; one that lags ends with the frontier before the row for which its queue had no room.
 pub fn spans()
     ensures begins { SpansBeginAsTold }
     ensures ends { SpansEndAsTold }
     ensures frontier { SpansBeginAtFrontier }
     ensures stays { EndsStay }
+    ensures until_frontier { SpansEndAtFrontier }
+    ensures before_row { LagsEndBeforeRow }
+{}
+
+/// A subscription is closed by the event that is answered its end, and by no other. What is left of it has that
+/// end, what its queue had accepted before, and the cause: it has lagged where its span had an end before, and
+/// else it was asked. All of it stays as it is at each later event.
+pub fn closed()
+    ensures left { ClosedAsTold }
+    ensures alone { ClosesAreTold }
+    ensures stays { ClosedStays }
+{}
+
+/// A queue only grows: what it has accepted stays, and each event adds to its end alone.
+pub fn queues()
+    ensures { QueuesGrow }
+{}
+
+/// A topic's log is the agreed sequence restricted to the topic, up to its frontier, and it has as many rows as
+/// releases and turns of the topic were answered. So the outcomes alone say what it is.
+pub fn logs()
+    ensures agreed { LogIsAgreed }
+    ensures count { LogCountsReleases }
+    ensures of_outcomes { LogIsOfOutcomes }
 {}
 
 /// Each event is answered by an outcome of its own, whatever the core holds: the outcome names the event's connection,

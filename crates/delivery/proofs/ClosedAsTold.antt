@@ -1,0 +1,223 @@
+-- A subscription is closed as its event is answered, and what it left stays; an open span ends with its topic's frontier.
+use Rattle.std.proofs.Common.{◌≡◌, ◌≢◌, ℕ, ◌+◌, ◌<◌, ◌==◌, true, not, ◌⊎◌, inl, inr, List, [], ◌∷◌, length, get_or, Option, Some, None, refl, sym, ap, subst, ◌∙◌, arith, ltb}
+use Rattle.std.specs.Option.{is_some}
+use Rattle.std.proofs.lemmas.Bool.{ltb-true, and_parts, cases_order}
+use Rattle.std.proofs.lemmas.List.{get_or_past}
+use Rattle.mcast_txn.specs.Stamp.{zero_stamp}
+use Rattle.mcast_txn.specs.Ballot.{Decision}
+use Rattle.mcast_txn.specs.declared.id.Topic.{Topic}
+use Rattle.mcast_txn.specs.declared.id.TxnId.{TxnId}
+use Rattle.mcast_txn.specs.declared.send.Send.{Send}
+use Rattle.mcast_txn.specs.declared.stamp.Stamp.{Stamp}
+use Rattle.mcast_txn.proofs.Members.{at_set, at_set_within}
+use Rattle.mcast_group.specs.declared.fault.ProposeFault.{ProposeFault}
+use Rattle.mcast_group.specs.Span.{Item}
+use Rattle.mcast_group.specs.Topics.{Pending, Entry, Ended, due_part, ended}
+use Rattle.mcast_group.proofs.Parts.{some_same, none_some}
+use Rattle.delivery.specs.World.{World, Leftover, Subscription, no_subscription, topic_at, speaker, subscription_at, entry_at}
+use Rattle.delivery.specs.Reading.{entry_items, entry_to, accepted_at, end_at}
+use Rattle.delivery.specs.Events.{Event, Outcome, happens, outcome, refusal, effect, answer, is_live, find_leftover, find_verdict, oldest_live, flown, flying_answer, proposal_fault, proposed_by, propose_answer, cancelled_at, cancel_answer, learned_at, release_answer, handed, take_answer, left_by, leave_answer, closed_with}
+use Rattle.delivery.specs.Events.Event.{Topic_added, Opens, Commits, Subscribes, Unsubscribes, Disconnects, Errs, Lost, Leaves, Proposes, Decides, Withdraws, Cancels, Learns, Releases, Turns, Takes}
+use Rattle.delivery.specs.Events.Outcome.{Learnt, Unsubscribed}
+use Rattle.delivery.specs.Laws.{Run, came, after}
+use Rattle.delivery.specs.Spans
+use Rattle.delivery.specs.Spans.{cause_of}
+use Rattle.delivery.proofs.Invariant.{topic_in}
+use Rattle.delivery.proofs.Subscriptions.{at_push_two, finds_entry, new_subscription, taken_more}
+use Rattle.delivery.proofs.Happening.{Reached, by_refusal, checked, false_not}
+use Rattle.delivery.proofs.Accepting.{reached}
+use Rattle.delivery.proofs.Silence.{oldest_found, none_of, not_is}
+use Rattle.delivery.proofs.Spans.{end_by}
+use Rattle.delivery.proofs.Handing.{open_items}
+use Rattle.delivery.proofs.Logs.{topics_are_sound}
+
+-- ---- what an event makes of what subscriptions left
+
+-- what this entry would leave now
+abbrev left_of : World → ℕ → Entry → Ended
+left_of w s entry = ended (topic_at w (subscription_at w s).topic).frontier entry
+
+-- a subscription that wasn't closed is closed, and its end is answered
+record Closes (w v : World) (o : Outcome) (s : ℕ) : Type 0 where
+  unclosed : (subscription_at w s).closed ≡ None
+  entry : Entry
+  found : entry_at w s ≡ Some entry
+  told : o ≡ Unsubscribed s (left_of w s entry).to
+  left : (subscription_at v s).closed ≡ Some (left_of w s entry)
+
+-- it is as it was, and no end of it is answered
+abbrev Stays : World → World → Outcome → ℕ → Type 0
+Stays w v o s = ((subscription_at v s).closed ≡ (subscription_at w s).closed) × ((to : Stamp) → o ≡ Unsubscribed s to → Prim.⊥)
+
+abbrev StaysOrCloses : World → World → Outcome → ℕ → Type 0
+StaysOrCloses w v o s = Stays w v o s ⊎ Closes w v o s
+
+abbrev IsEnd : Outcome → Type 0
+IsEnd (Unsubscribed s to) = Unit {0}
+IsEnd o = Prim.⊥
+
+-- an event that leaves all subscriptions and answers no end
+same : (w v : World) (o : Outcome) (s : ℕ) → v.subscriptions ≡ w.subscriptions → (IsEnd o → Prim.⊥) → StaysOrCloses w v o s
+same w v o s e n = inl (ap (λ (z : List Subscription). (get_or z s no_subscription).closed) e, λ to d. n (subst IsEnd (sym d) tt))
+
+-- ---- a subscription is closed
+
+no_entry : (past : List Outcome) (w : World) (q : ℕ) → Reached past w → q < length w.subscriptions → (subscription_at w q).closed ≡ None → entry_at w q ≡ None → Prim.⊥
+no_entry past w q r l unclosed e =
+    let h = r.inv.subscribes.live q l unclosed in
+    let f = finds_entry q (topic_in w.topics (subscription_at w q).topic).subscriptions h.entry h.stands h.number in none_some f.entry (sym e ∙ f.found)
+
+closed_other : (w : World) (q s : ℕ) (entry : Entry) → s ≢ q → Stays w (closed_with w q (Some entry)) (Unsubscribed q (left_of w q entry).to) s
+closed_other w q s entry ne = (
+  at_set (λ (z : Subscription). z.closed ≡ (subscription_at w s).closed) w.subscriptions q s (record (subscription_at w q) { closed = Some (left_of w q entry) }) no_subscription
+      (λ k. absurd (ne k)) refl,
+  λ to d. (let a : q ≡ s = cc in ne (sym a)),
+)
+
+closed_itself : (w : World) (q : ℕ) (entry : Entry) → q < length w.subscriptions → (subscription_at w q).closed ≡ None → entry_at w q ≡ Some entry → Closes w (closed_with w q (Some entry)) (Unsubscribed q (left_of w q entry).to) q
+closed_itself w q entry l unclosed e = record {
+  unclosed = unclosed;
+  entry = entry;
+  found = e;
+  told = refl;
+  left = at_set_within (λ (z : Subscription). z.closed ≡ Some (left_of w q entry)) w.subscriptions q q (record (subscription_at w q) { closed = Some (left_of w q entry) }) no_subscription l
+      (λ k. refl) (λ ne. absurd (ne refl));
+}
+
+closed_case : (past : List Outcome) (w : World) (q s : ℕ) → Reached past w → q < length w.subscriptions → (subscription_at w q).closed ≡ None → (o : Option Entry) → entry_at w q ≡ o → StaysOrCloses w (closed_with w q o) (Unsubscribed q (elim o [ None ↦ zero_stamp | Some e ↦ (left_of w q e).to ])) s
+closed_case past w q s r l unclosed None e = absurd (no_entry past w q r l unclosed e)
+closed_case past w q s r l unclosed (Some entry) e = elim (cases_order s q) [
+  | inl d ↦ subst (λ n. StaysOrCloses w (closed_with w q (Some entry)) (Unsubscribed q (left_of w q entry).to) n) (sym d) (inr (closed_itself w q entry l unclosed e))
+  | inr (inl k) ↦ inl (closed_other w q s entry (λ d. omega arith))
+  | inr (inr k) ↦ inl (closed_other w q s entry (λ d. omega arith))
+]
+
+live_unclosed : (c : ℕ) (x : Subscription) → is_live c x ≡ true → x.closed ≡ None
+live_unclosed c x e = none_of x.closed (not_is (is_some x.closed) (and_parts (x.connection == c) (not (is_some x.closed)) e).1)
+
+left_case : (past : List Outcome) (w : World) (c s : ℕ) → Reached past w → (o : Option ℕ) → oldest_live c 0 w.subscriptions ≡ o → StaysOrCloses w (left_by w c o) (leave_answer w c o) s
+left_case past w c s r None f = same w (left_by w c None) (leave_answer w c None) s refl (λ i. i)
+left_case past w c s r (Some q) f =
+    let o = oldest_found c 0 q w.subscriptions f in let p : ℕ = o.place in let j : q ≡ 0 + p = o.is in let i : q ≡ p = omega arith in
+    closed_case past w q s r (let l : p < length w.subscriptions = o.there in omega arith)
+    (subst (λ n. (subscription_at w n).closed ≡ None) (sym i) (live_unclosed c (subscription_at w p) o.live)) (entry_at w q) refl
+
+-- ---- each event
+
+begun_case : (w : World) (c s : ℕ) (t : Topic) → StaysOrCloses w (effect w (Subscribes c t)) (answer w (Subscribes c t)) s
+begun_case w c s t = inl (
+  at_push_two (λ (z : Subscription). z.closed ≡ (subscription_at w s).closed) w.subscriptions s (new_subscription w c t) no_subscription
+      (λ k. sym (ap (λ (z : Subscription). z.closed) (get_or_past w.subscriptions s no_subscription (omega arith)))) (λ ne. refl),
+  λ to d. subst IsEnd (sym d) tt,
+)
+
+flown_case : (w : World) (c s : ℕ) (sends : List Send) → StaysOrCloses w (flown w c sends) (flying_answer w c sends) s
+flown_case w c s [] = same w (flown w c []) (flying_answer w c []) s refl (λ i. i)
+flown_case w c s (first ∷ others) = same w (flown w c (first ∷ others)) (flying_answer w c (first ∷ others)) s refl (λ i. i)
+
+proposed_case : (w : World) (c s : ℕ) (t : Topic) (o : Option ProposeFault) → StaysOrCloses w (proposed_by w c t o) (propose_answer w c t o) s
+proposed_case w c s t None = same w (proposed_by w c t None) (propose_answer w c t None) s refl (λ i. i)
+proposed_case w c s t (Some fault) = same w (proposed_by w c t (Some fault)) (propose_answer w c t (Some fault)) s refl (λ i. i)
+
+cancelled_case : (w : World) (c s : ℕ) (t : Topic) (o : Option Leftover) → StaysOrCloses w (cancelled_at w c t o) (cancel_answer t o) s
+cancelled_case w c s t None = same w (cancelled_at w c t None) (cancel_answer t None) s refl (λ i. i)
+cancelled_case w c s t (Some k) = same w (cancelled_at w c t (Some k)) (cancel_answer t (Some k)) s refl (λ i. i)
+
+learned_case : (w : World) (t : Topic) (id : TxnId) (s : ℕ) (o : Option Decision) → StaysOrCloses w (learned_at w t id o) (Learnt id t) s
+learned_case w t id s None = same w (learned_at w t id None) (Learnt id t) s refl (λ i. i)
+learned_case w t id s (Some v) = same w (learned_at w t id (Some v)) (Learnt id t) s refl (λ i. i)
+
+no_release_end : (t : Topic) (o : Option Pending) → IsEnd (release_answer t o) → Prim.⊥
+no_release_end t None i = i
+no_release_end t (Some p) i = i
+
+taken_case : (w : World) (q s : ℕ) (o : Option Item) → StaysOrCloses w (handed w q o) (take_answer w q o) s
+taken_case w q s None = same w (handed w q None) (take_answer w q None) s refl (λ i. i)
+taken_case w q s (Some item) = inl (
+  at_set (λ (z : Subscription). z.closed ≡ (subscription_at w s).closed) w.subscriptions q s (taken_more w q) no_subscription
+      (λ k. ap (λ n. (subscription_at w n).closed) (sym k)) refl,
+  λ to d. subst IsEnd (sym d) tt,
+)
+
+effect_closes : (past : List Outcome) (w : World) (e : Event) (s : ℕ) → Reached past w → refusal w e ≡ None → StaysOrCloses w (effect w e) (answer w e) s
+effect_closes past w (Topic_added clock) s r n = same w _ (answer w (Topic_added clock)) s refl (λ i. i)
+effect_closes past w Opens s r n = same w (effect w Opens) (answer w Opens) s refl (λ i. i)
+effect_closes past w (Commits c sends) s r n = flown_case w c s sends
+effect_closes past w (Subscribes c t) s r n = begun_case w c s t
+effect_closes past w (Unsubscribes c q) s r n =
+    let k = and_parts (ltb q (length w.subscriptions)) (is_live c (subscription_at w q)) (false_not _ (checked w (Unsubscribes c q) n).1.1.1.0) in
+    closed_case past w q s r (ltb-true q (length w.subscriptions) k.0) (live_unclosed c (subscription_at w q) k.1) (entry_at w q) refl
+effect_closes past w (Disconnects c) s r n = same w (effect w (Disconnects c)) (answer w (Disconnects c)) s refl (λ i. i)
+effect_closes past w (Errs c) s r n = same w (effect w (Errs c)) (answer w (Errs c)) s refl (λ i. i)
+effect_closes past w (Lost c) s r n = same w (effect w (Lost c)) (answer w (Lost c)) s refl (λ i. i)
+effect_closes past w (Leaves c) s r n = left_case past w c s r (oldest_live c 0 w.subscriptions) refl
+effect_closes past w (Proposes c t memory) s r n = proposed_case w c s t (proposal_fault w c t memory)
+effect_closes past w (Decides c) s r n = same w (effect w (Decides c)) (answer w (Decides c)) s refl (λ i. i)
+effect_closes past w (Withdraws c) s r n = same w (effect w (Withdraws c)) (answer w (Withdraws c)) s refl (λ i. i)
+effect_closes past w (Cancels c t) s r n = cancelled_case w c s t (find_leftover t (speaker w c).leftovers)
+effect_closes past w (Learns t id) s r n = learned_case w t id s (find_verdict id w.verdicts)
+effect_closes past w (Releases t) s r n = same w (effect w (Releases t)) (answer w (Releases t)) s refl (no_release_end t (due_part (topic_at w t)))
+effect_closes past w (Turns t) s r n = same w (effect w (Turns t)) (answer w (Turns t)) s refl (λ i. i)
+effect_closes past w (Takes q) s r n = taken_case w q s _
+
+closing : (r : Run) (e : Event) (s : ℕ) → StaysOrCloses (after r) (happens (after r) e) (outcome (after r) e) s
+closing r e s =
+    by_refusal (λ v o. StaysOrCloses (after r) v o s) (after r) e (λ why. same (after r) (after r) (Outcome.Refused why) s refl (λ i. i))
+    (λ n. effect_closes (came r) (after r) e s (reached r) n)
+
+closes : (r : Run) (e : Event) (s : ℕ) (to : Stamp) → outcome (after r) e ≡ Unsubscribed s to → Closes (after r) (happens (after r) e) (outcome (after r) e) s
+closes r e s to d = elim (closing r e s) [ inl k ↦ absurd (k.1 to d) | inr k ↦ k ]
+
+-- ---- the laws
+
+end_of : (to end : Stamp) (o : Outcome) (s : ℕ) → o ≡ Unsubscribed s to → o ≡ Unsubscribed s end → to ≡ end
+end_of to end o s d e = cc
+
+open_end : (closed : Option Ended) (entry : Option Entry) → closed ≡ None → end_by closed entry ≡ entry_to entry
+open_end None entry e = refl
+open_end (Some end) entry e = none_some end (sym e)
+
+-- the end and the queue of a subscription that isn't closed are its entry's
+end_is : (w : World) (s : ℕ) (entry : Entry) → (subscription_at w s).closed ≡ None → entry_at w s ≡ Some entry → end_at w s ≡ entry.to
+end_is w s entry unclosed e = open_end (subscription_at w s).closed (entry_at w s) unclosed ∙ ap entry_to e
+
+items_are : (w : World) (s : ℕ) (entry : Entry) → (subscription_at w s).closed ≡ None → entry_at w s ≡ Some entry → accepted_at w s ≡ entry.accepted
+items_are w s entry unclosed e = open_items (subscription_at w s).closed (entry_at w s) unclosed ∙ ap entry_items e
+
+ended_open : (frontier : Stamp) (n : ℕ) (from : Stamp) (to : Option Stamp) (accepted : List Item) → to ≡ None → (ended frontier (record { number = n; from = from; to = to; accepted = accepted })).to ≡ frontier
+ended_open frontier n from None accepted e = refl
+ended_open frontier n from (Some end) accepted e = none_some end (sym e)
+
+pub spans_end_at_frontier : Spans.SpansEndAtFrontier
+spans_end_at_frontier r e s to d none =
+    let w = after r in let x = topic_at w (subscription_at w s).topic in let k = closes r e s to d in let entry = k.entry in
+    end_of to (left_of w s entry).to (outcome w e) s d k.told
+    ∙ (ended_open x.frontier entry.number entry.from entry.to entry.accepted (sym (end_is w s entry k.unclosed k.found) ∙ none)
+    ∙ (topics_are_sound r (subscription_at w s).topic).2)
+
+abbrev left_as : Stamp → List Item → Option Stamp → Ended
+left_as to accepted end = record { to = to; accepted = accepted; cause = cause_of end }
+
+ended_is : (frontier : Stamp) (n : ℕ) (from : Stamp) (to : Option Stamp) (accepted : List Item) → let left = ended frontier (record { number = n; from = from; to = to; accepted = accepted }) in left ≡ left_as left.to accepted to
+ended_is frontier n from None accepted = refl
+ended_is frontier n from (Some end) accepted = refl
+
+pub closed_as_told : Spans.ClosedAsTold
+closed_as_told r e s to d =
+    let w = after r in let x = topic_at w (subscription_at w s).topic in let k = closes r e s to d in let entry = k.entry in let left = left_of w s entry in
+    k.left ∙ ap Some (ended_is x.frontier entry.number entry.from entry.to entry.accepted
+    ∙ (ap (λ z. left_as z entry.accepted entry.to) (sym (end_of to left.to (outcome w e) s d k.told))
+    ∙ (ap (λ z. left_as to z entry.to) (sym (items_are w s entry k.unclosed k.found))
+    ∙ ap (λ z. left_as to (accepted_at w s) z) (sym (end_is w s entry k.unclosed k.found)))))
+
+pub closes_are_told : Spans.ClosesAreTold
+closes_are_told r e s left none d = elim (closing r e s) [
+  | inl k ↦ none_some left (sym none ∙ (sym k.0 ∙ d))
+  | inr k ↦ k.told ∙ ap (λ (z : Ended). Unsubscribed s z.to) (some_same (left_of (after r) s k.entry) left (sym k.left ∙ d))
+]
+
+pub closed_stays : Spans.ClosedStays
+closed_stays r e s left d = elim (closing r e s) [
+  | inl k ↦ k.0 ∙ d
+  | inr k ↦ none_some left (sym k.unclosed ∙ d)
+]

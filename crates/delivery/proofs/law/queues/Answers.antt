@@ -1,0 +1,5 @@
+use Rattle.delivery.proofs.QueuesGrow.{queues_grow}
+use Rattle.delivery.proofs.law.queues.Goals as goal
+
+pub returns : goal.returns
+returns c = queues_grow
