@@ -7,3 +7,4 @@ pub mod Runs
 pub mod Settled
 pub mod Laws
 pub mod Told
+pub mod Examples

@@ -1,5 +1,6 @@
 //! Laws: functions that do nothing, whose contracts are theorems about every run or step of the core.
 
+ghost use Rattle.delivery.specs.Examples.{WorkedRows};
 ghost use Rattle.delivery.specs.Laws.{AcceptedIsDue, AgreedInSenderOrder, AgreedOnce};
 ghost use Rattle.delivery.specs.Laws.{CancelFindsItsPart, ClosedIsSilent, CommitsAreKept};
 ghost use Rattle.delivery.specs.Laws.{EntriesAreOwned, EntriesAreThere, FoundIsLearnt};
@@ -133,4 +134,10 @@ pub fn spans()
     ensures ends { SpansEndAsTold }
     ensures frontier { SpansBeginAtFrontier }
     ensures stays { EndsStay }
+{}
+
+/// Five worked examples: transactions that cross, a withdrawal, a loss, a DISCONNECT before an item is delivered,
+/// and a lag. What comes of each event, what logs and queues hold, and how each span ends, is computed.
+pub fn examples()
+    ensures { WorkedRows }
 {}
