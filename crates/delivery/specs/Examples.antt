@@ -118,8 +118,8 @@ withdrawal = run_of (18446744073709551614 ∷ 0 ∷ []) (
     ∷ Commits 2 to_a_and_b ∷ Proposes 2 (topic 1) true
     ∷ Commits 1 (send 1 2 ∷ []) ∷ Proposes 1 (topic 1) true ∷ Decides 1 ∷ Turns (topic 1)
     ∷ Proposes 2 (topic 0) true ∷ Decides 2 ∷ Withdraws 2 ∷ Commits 2 to_a_and_b ∷ Turns (topic 1)
-    ∷ Cancels 2 (topic 1) ∷ Cancels 2 (topic 1) ∷ Turns (topic 1) ∷ Leaves 2
-    ∷ Commits 3 (send 1 3 ∷ []) ∷ Proposes 3 (topic 1) true ∷ Decides 3 ∷ Turns (topic 1)
+    ∷ Cancels 2 (topic 1) ∷ Cancels 2 (topic 1) ∷ Commits 3 (send 1 3 ∷ []) ∷ Proposes 3 (topic 1) true
+    ∷ Turns (topic 1) ∷ Decides 3 ∷ Turns (topic 1) ∷ Leaves 2
     ∷ Takes 0 ∷ Takes 0 ∷ Takes 0 ∷ [])
 
 -- the parts at B of the transactions that were committed
@@ -224,9 +224,9 @@ pub record WorkedRows : Type 0 where
       ∷ Turned (topic 1) 0
       ∷ Failed (id 2 1) ProposeFault.ClockFull ∷ Refused Refusal.Marked ∷ Withdrawn (id 2 1) 2
       ∷ Refused Refusal.Busy ∷ Turned (topic 1) 0
-      ∷ Cancelled (id 2 1) (topic 1) ∷ Refused Refusal.NotNamed ∷ Turned (topic 1) 1 ∷ Gone 2
+      ∷ Cancelled (id 2 1) (topic 1) ∷ Refused Refusal.NotNamed
       ∷ Flying (transaction (id 3 1) (send 1 3 ∷ [])) ∷ Ticket (id 3 1) (stamp 3 1)
-      ∷ Decided (id 3 1) (stamp 3 1) ∷ Turned (topic 1) 1
+      ∷ Turned (topic 1) 1 ∷ Decided (id 3 1) (stamp 3 1) ∷ Turned (topic 1) 1 ∷ Gone 2
       ∷ Handed 0 (item (id 1 1) (stamp 2 1) (part 0 2 ∷ []))
       ∷ Handed 0 (item (id 3 1) (stamp 3 1) (part 0 3 ∷ [])) ∷ Refused Refusal.NothingDue ∷ []
   pub withdrawal_logs : log_stamps withdrawal 0 ∷ log_stamps withdrawal 1 ∷ []
