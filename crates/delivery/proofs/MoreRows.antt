@@ -1,5 +1,5 @@
--- More worked rows: what comes of a lag, of DISCONNECT with an item left, of a decision after another's, of an ERROR and of single releases;
--- what two queues share; a settled topic; a topic that is added; what a commit is refused for; a span, a flight and a turn beside their laws.
+-- More worked rows: what comes of a decision after another's, of an ERROR and of single releases; what two queues share;
+-- a settled topic; a topic that is added; what a commit is refused for; a span, a flight and a turn beside their laws.
 use Rattle.std.specs.Prelude.{◌≡◌, ℕ, true, List, [], ◌∷◌, length, map, reverse, None, Some}
 use Rattle.std.proofs.Common.{refl, inl, inr}
 use Rattle.mcast_txn.specs.declared.send.Send.{Send}
@@ -14,59 +14,40 @@ use Rattle.delivery.specs.World.{World, topic_at, connection_at, subscription_at
 use Rattle.delivery.specs.Reading.{log_at, accepted_at, end_at, span_at, frontier_at}
 use Rattle.delivery.specs.Events.{Event, happens, outcome}
 use Rattle.delivery.specs.Events.Event.{Topic_added, Opens, Commits, Subscribes, Disconnects, Errs, Lost, Leaves, Proposes, Decides, Learns, Releases, Turns, Takes}
-use Rattle.delivery.specs.Events.Outcome.{Refused, Done, Opened, Subscribed, Unsubscribed, Leaving, Error, Gone, Ticket, Decided, Withdrawn, Learnt, Released, Turned}
+use Rattle.delivery.specs.Events.Outcome.{Refused, Done, Opened, Flying, Handed, Subscribed, Unsubscribed, Leaving, Error, Gone, Ticket, Decided, Withdrawn, Learnt, Released, Turned}
 use Rattle.delivery.specs.Runs.{run, outcomes, commits_of, handed_of}
 use Rattle.delivery.specs.Settled.{IsSettled, IsSilent, AllResolved}
 use Rattle.delivery.specs.Laws.{Run, came, after, shared}
-use Rattle.delivery.proofs.Rows.{topic, stamp, id, send, part, flying, handed, with_clocks, told, log_of, to_both, ends, full, lags, sends_one, four_tickets}
-
--- a queue of two items and three rows: the third take is answered by ERROR
-lags_told : told lags
-    ≡ Opened 0 ∷ Opened 1 ∷ Subscribed 0 1 (topic 0) (stamp 0 0)
-    ∷ flying (id 0 1) (send 0 1 ∷ []) ∷ Ticket (id 0 1) (stamp 1 0) ∷ Decided (id 0 1) (stamp 1 0) ∷ Turned (topic 0) 1
-    ∷ flying (id 0 2) (send 0 2 ∷ []) ∷ Ticket (id 0 2) (stamp 2 0) ∷ Decided (id 0 2) (stamp 2 0) ∷ Turned (topic 0) 1
-    ∷ flying (id 0 3) (send 0 3 ∷ []) ∷ Ticket (id 0 3) (stamp 3 0) ∷ Decided (id 0 3) (stamp 3 0) ∷ Turned (topic 0) 1
-    ∷ handed 0 (id 0 1) (stamp 1 0) (part 0 1 ∷ []) ∷ handed 0 (id 0 2) (stamp 2 0) (part 0 2 ∷ []) ∷ Error 1 ∷ Refused Refusal.Gone ∷ []
-lags_told = refl
-
--- DISCONNECT with an item that wasn't taken
-abbrev leaves : Run
-leaves = with_clocks (0 ∷ []) (
-    Opens ∷ Subscribes 0 (topic 0) ∷ sends_one 1 (Disconnects 0 ∷ Takes 0 ∷ Leaves 0 ∷ Leaves 0 ∷ Leaves 0 ∷ []))
-
-leaves_told : told leaves
-    ≡ Opened 0 ∷ Subscribed 0 0 (topic 0) (stamp 0 0)
-    ∷ flying (id 0 1) (send 0 1 ∷ []) ∷ Ticket (id 0 1) (stamp 1 0) ∷ Decided (id 0 1) (stamp 1 0) ∷ Turned (topic 0) 1
-    ∷ Leaving 0 ∷ Refused Refusal.Gone ∷ Unsubscribed 0 (stamp 1 0) ∷ Gone 0 ∷ Refused Refusal.Gone ∷ []
-leaves_told = refl
+use Rattle.delivery.specs.Examples.{topic, stamp, id, send, part, transaction, item, run_of, answers, log_stamps, to_a_and_b, withdrawal, one_send}
+use Rattle.delivery.proofs.Rows.{ends, four_tickets}
 
 -- a connection that leaves closes its subscriptions by age
 abbrev leaves_two : Run
-leaves_two = with_clocks (0 ∷ 0 ∷ []) (
+leaves_two = run_of (0 ∷ 0 ∷ []) (
     Opens ∷ Subscribes 0 (topic 1) ∷ Subscribes 0 (topic 0) ∷ Disconnects 0 ∷ Leaves 0 ∷ Leaves 0 ∷ Leaves 0 ∷ [])
 
-leaves_two_told : told leaves_two
+leaves_two_answers : answers leaves_two
     ≡ Opened 0 ∷ Subscribed 0 0 (topic 1) (stamp 0 0) ∷ Subscribed 1 0 (topic 0) (stamp 0 0)
     ∷ Leaving 0 ∷ Unsubscribed 0 (stamp 0 0) ∷ Unsubscribed 1 (stamp 0 0) ∷ Gone 0 ∷ []
-leaves_two_told = refl
+leaves_two_answers = refl
 
 -- two senders' four tickets: the one decided is released once the other is
 abbrev then_decided : Run
 then_decided = four_tickets (Decides 1 ∷ Turns (topic 0) ∷ Decides 0 ∷ Turns (topic 0) ∷ [])
 
-then_told : told then_decided
-    ≡ Opened 0 ∷ Opened 1 ∷ flying (id 0 1) to_both ∷ flying (id 1 1) to_both
+then_answers : answers then_decided
+    ≡ Opened 0 ∷ Opened 1 ∷ Flying (transaction (id 0 1) to_a_and_b) ∷ Flying (transaction (id 1 1) to_a_and_b)
     ∷ Ticket (id 0 1) (stamp 1 0) ∷ Ticket (id 1 1) (stamp 1 1) ∷ Ticket (id 1 1) (stamp 2 0) ∷ Ticket (id 0 1) (stamp 2 1)
     ∷ Decided (id 1 1) (stamp 2 0) ∷ Turned (topic 0) 0 ∷ Decided (id 0 1) (stamp 2 1) ∷ Turned (topic 0) 2 ∷ []
-then_told = refl
+then_answers = refl
 
-then_logs : log_of then_decided 0 ≡ stamp 2 0 ∷ stamp 2 1 ∷ []
+then_logs : log_stamps then_decided 0 ≡ stamp 2 0 ∷ stamp 2 1 ∷ []
 then_logs = refl
 
 -- two queues that share two transactions
 abbrev both_queues : Run
-both_queues = with_clocks (0 ∷ 0 ∷ []) (
-    Opens ∷ Opens ∷ Subscribes 0 (topic 0) ∷ Subscribes 1 (topic 1) ∷ Commits 0 to_both ∷ Commits 1 to_both
+both_queues = run_of (0 ∷ 0 ∷ []) (
+    Opens ∷ Opens ∷ Subscribes 0 (topic 0) ∷ Subscribes 1 (topic 1) ∷ Commits 0 to_a_and_b ∷ Commits 1 to_a_and_b
     ∷ Proposes 0 (topic 0) true ∷ Proposes 1 (topic 1) true ∷ Proposes 1 (topic 0) true ∷ Proposes 0 (topic 1) true
     ∷ Decides 0 ∷ Decides 1 ∷ Turns (topic 0) ∷ Turns (topic 1) ∷ [])
 
@@ -75,9 +56,9 @@ both_shared = refl
 
 -- a settled topic: its one transaction was decided, and a turn came after
 abbrev settles : Run
-settles = with_clocks (0 ∷ []) (Opens ∷ sends_one 1 [])
+settles = run_of (0 ∷ []) (Opens ∷ one_send 1 [])
 
-settles_all : AllResolved (topic 0) (Decided (id 0 1) (stamp 1 0) ∷ Ticket (id 0 1) (stamp 1 0) ∷ flying (id 0 1) (send 0 1 ∷ []) ∷ Opened 0 ∷ [])
+settles_all : AllResolved (topic 0) (Decided (id 0 1) (stamp 1 0) ∷ Ticket (id 0 1) (stamp 1 0) ∷ Flying (transaction (id 0 1) (send 0 1 ∷ [])) ∷ Opened 0 ∷ [])
 settles_all txn (inl e) n = cc
 settles_all txn (inr (inl e)) n = cc
 settles_all txn (inr (inr (inl e))) n = inl (stamp 1 0, inl cc)
@@ -89,29 +70,29 @@ settles_settled = inl (refl, settles_all)
 
 -- ---- a topic is added in the midst of a run, and a transaction names it: before that it is refused, and nothing stays of it
 abbrev added : Run
-added = with_clocks (0 ∷ []) (
+added = run_of (0 ∷ []) (
     Opens ∷ Commits 0 (send 0 1 ∷ send 1 2 ∷ []) ∷ Subscribes 0 (topic 1) ∷ Topic_added 4 ∷ Subscribes 0 (topic 1)
     ∷ Commits 0 (send 0 1 ∷ send 1 2 ∷ []) ∷ Proposes 0 (topic 0) true ∷ Proposes 0 (topic 1) true ∷ Decides 0
     ∷ Turns (topic 1) ∷ Takes 0 ∷ Turns (topic 0) ∷ [])
 
-added_told : told added
+added_answers : answers added
     ≡ Opened 0 ∷ Refused Refusal.NotNamed ∷ Refused Refusal.NotNamed ∷ Done ∷ Subscribed 0 0 (topic 1) (stamp 0 0)
-    ∷ flying (id 0 1) (send 0 1 ∷ send 1 2 ∷ []) ∷ Ticket (id 0 1) (stamp 1 0) ∷ Ticket (id 0 1) (stamp 5 1) ∷ Decided (id 0 1) (stamp 5 1)
-    ∷ Turned (topic 1) 1 ∷ handed 0 (id 0 1) (stamp 5 1) (part 1 2 ∷ []) ∷ Turned (topic 0) 1 ∷ []
-added_told = refl
+    ∷ Flying (transaction (id 0 1) (send 0 1 ∷ send 1 2 ∷ [])) ∷ Ticket (id 0 1) (stamp 1 0) ∷ Ticket (id 0 1) (stamp 5 1) ∷ Decided (id 0 1) (stamp 5 1)
+    ∷ Turned (topic 1) 1 ∷ Handed 0 (item (id 0 1) (stamp 5 1) (part 1 2 ∷ [])) ∷ Turned (topic 0) 1 ∷ []
+added_answers = refl
 
-added_logs : log_of added 0 ∷ log_of added 1 ∷ [] ≡ (stamp 5 1 ∷ []) ∷ (stamp 5 1 ∷ []) ∷ []
+added_logs : log_stamps added 0 ∷ log_stamps added 1 ∷ [] ≡ (stamp 5 1 ∷ []) ∷ (stamp 5 1 ∷ []) ∷ []
 added_logs = refl
 
 -- ---- what a commit is refused for: a topic that isn't there, and then a sender without numbers; of no SENDs neither
 
 -- a connection whose sender has made so many transactions, and one topic
 abbrev pub has_made : ℕ → World
-has_made seq = record (after (with_clocks (0 ∷ []) (Opens ∷ []))) {
+has_made seq = record (after (run_of (0 ∷ []) (Opens ∷ []))) {
   senders = record { seq = seq; floor = stamp 0 0; flight = None; leftovers = [] } ∷ [];
 }
 
-last_is_made : outcome (has_made 18446744073709551614) (Commits 0 (send 0 1 ∷ [])) ≡ flying (id 0 18446744073709551615) (send 0 1 ∷ [])
+last_is_made : outcome (has_made 18446744073709551614) (Commits 0 (send 0 1 ∷ [])) ≡ Flying (transaction (id 0 18446744073709551615) (send 0 1 ∷ []))
 last_is_made = refl
 
 none_is_left : outcome (has_made 18446744073709551615) (Commits 0 (send 0 1 ∷ [])) ≡ Refused Refusal.SeqFull
@@ -125,15 +106,15 @@ nothing_is_made = refl
 
 -- ---- an ERROR answers a frame with a fault: the item that wasn't taken isn't handed on, and no frame is read
 abbrev errs : Run
-errs = with_clocks (0 ∷ []) (
-    Opens ∷ Subscribes 0 (topic 0) ∷ sends_one 1 (Errs 0 ∷ Takes 0 ∷ Commits 0 (send 0 2 ∷ []) ∷ Errs 0 ∷ Lost 0 ∷ Leaves 0 ∷ Takes 0 ∷ []))
+errs = run_of (0 ∷ []) (
+    Opens ∷ Subscribes 0 (topic 0) ∷ one_send 1 (Errs 0 ∷ Takes 0 ∷ Commits 0 (send 0 2 ∷ []) ∷ Errs 0 ∷ Lost 0 ∷ Leaves 0 ∷ Takes 0 ∷ []))
 
-errs_told : told errs
+errs_answers : answers errs
     ≡ Opened 0 ∷ Subscribed 0 0 (topic 0) (stamp 0 0)
-    ∷ flying (id 0 1) (send 0 1 ∷ []) ∷ Ticket (id 0 1) (stamp 1 0) ∷ Decided (id 0 1) (stamp 1 0) ∷ Turned (topic 0) 1
+    ∷ Flying (transaction (id 0 1) (send 0 1 ∷ [])) ∷ Ticket (id 0 1) (stamp 1 0) ∷ Decided (id 0 1) (stamp 1 0) ∷ Turned (topic 0) 1
     ∷ Error 0 ∷ Refused Refusal.Gone ∷ Refused Refusal.Busy ∷ Refused Refusal.Busy ∷ Refused Refusal.Busy
     ∷ Unsubscribed 0 (stamp 1 0) ∷ Refused Refusal.Gone ∷ []
-errs_told = refl
+errs_answers = refl
 
 errs_handed : (handed_of 0 (came errs) ≡ []) × (map (λ i. i.stamp) (accepted_at (after errs) 0) ≡ stamp 1 0 ∷ [])
 errs_handed = (refl, refl)
@@ -143,15 +124,15 @@ errs_silent = inr (0, topic 0, stamp 0 0, Error 0, inr (inr (inr (inr (inr (inr 
 
 -- ---- one release by itself: nothing is due before the stamp is learnt, nor after it
 abbrev releases : Run
-releases = with_clocks (0 ∷ []) (
+releases = run_of (0 ∷ []) (
     Opens ∷ Subscribes 0 (topic 0) ∷ Commits 0 (send 0 1 ∷ []) ∷ Proposes 0 (topic 0) true ∷ Decides 0
     ∷ Releases (topic 0) ∷ Learns (topic 0) (id 0 1) ∷ Releases (topic 0) ∷ Releases (topic 0) ∷ Learns (topic 0) (id 0 1) ∷ [])
 
-releases_told : told releases
+releases_answers : answers releases
     ≡ Opened 0 ∷ Subscribed 0 0 (topic 0) (stamp 0 0)
-    ∷ flying (id 0 1) (send 0 1 ∷ []) ∷ Ticket (id 0 1) (stamp 1 0) ∷ Decided (id 0 1) (stamp 1 0)
+    ∷ Flying (transaction (id 0 1) (send 0 1 ∷ [])) ∷ Ticket (id 0 1) (stamp 1 0) ∷ Decided (id 0 1) (stamp 1 0)
     ∷ Refused Refusal.NothingDue ∷ Learnt (id 0 1) (topic 0) ∷ Released (topic 0) (id 0 1) ∷ Refused Refusal.NothingDue ∷ Refused Refusal.NotPending ∷ []
-releases_told = refl
+releases_answers = refl
 
 releases_log : log_at (after releases) (topic 0) ≡ record { id = id 0 1; topics = topic 0 ∷ []; stamp = stamp 1 0 } ∷ []
 releases_log = refl
@@ -163,14 +144,14 @@ releases_queue = refl
 
 -- a flight: the second of two connections commits
 abbrev two_open : Run
-two_open = with_clocks (0 ∷ 0 ∷ []) (Opens ∷ Opens ∷ [])
+two_open = run_of (0 ∷ 0 ∷ []) (Opens ∷ Opens ∷ [])
 
-flight_made : outcome (after two_open) (Commits 1 to_both) ≡ flying (id 1 1) to_both
+flight_made : outcome (after two_open) (Commits 1 to_a_and_b) ≡ Flying (transaction (id 1 1) to_a_and_b)
 flight_made = refl
 
-flight_own : (c : ℕ) × (sends : List Send) × (Commits 1 to_both ≡ Commits c sends) × (to_both ≡ sends)
+flight_own : (c : ℕ) × (sends : List Send) × (Commits 1 to_a_and_b ≡ Commits c sends) × (to_a_and_b ≡ sends)
     × ((id 1 1).sender.0 ≡ (connection_at (after two_open) c).sender)
-flight_own = (1, to_both, refl, refl, refl)
+flight_own = (1, to_a_and_b, refl, refl, refl)
 
 -- a span: its beginning and its end as they were answered
 ends_begun : In (Subscribed 0 1 (topic 0) (stamp 0 0)) (came ends)
@@ -189,11 +170,11 @@ begins_late : (outcome (after settles) (Subscribes 0 (topic 0)) ≡ Subscribed 0
 begins_late = (refl, refl)
 
 -- a transaction that is withdrawn isn't committed
-full_withdrawn : In (Withdrawn (id 1 1) 1) (came full)
-full_withdrawn = inr (inr (inr (inr (inl refl))))
+is_withdrawn : In (Withdrawn (id 2 1) 2) (came withdrawal)
+is_withdrawn = inr (inr (inr (inr (inr (inr (inr (inr (inr (inr (inr (inr (inr (inl refl)))))))))))))
 
-full_committed : map (λ r. r.txn.id) (commits_of (came full)) ≡ id 0 1 ∷ id 2 1 ∷ []
-full_committed = refl
+others_committed : map (λ r. r.txn.id) (commits_of (came withdrawal)) ≡ id 0 1 ∷ id 1 1 ∷ id 3 1 ∷ []
+others_committed = refl
 
 -- a queue of two items is full, and a third row is decided: the turn ends the span, and so does the release; the end stays
 abbrev full_queue : List Event → Run
@@ -202,7 +183,7 @@ full_queue then = record {
   log_limit = 65536;
   clocks = 0 ∷ [];
   events = Opens ∷ Opens ∷ Subscribes 1 (topic 0)
-      ∷ sends_one 1 (sends_one 2 (Commits 0 (send 0 3 ∷ []) ∷ Proposes 0 (topic 0) true ∷ Decides 0 ∷ then));
+      ∷ one_send 1 (one_send 2 (Commits 0 (send 0 3 ∷ []) ∷ Proposes 0 (topic 0) true ∷ Decides 0 ∷ then));
 }
 
 full_ends : (end_at (after (full_queue [])) 0 ≡ None) × (end_at (happens (after (full_queue [])) (Turns (topic 0))) 0 ≡ Some (stamp 2 0))
@@ -227,12 +208,15 @@ end_stays : end_at (happens (after (full_queue (Turns (topic 0) ∷ []))) (Disco
 end_stays = refl
 
 -- the numbers of subscriptions: the next is free, that of one which has lagged isn't, and its entry is there
-lags_numbers : (subscribe_fault 1 (topic_at (after lags) (topic 0)) ≡ None)
-    × (subscribe_fault 0 (topic_at (after lags) (topic 0)) ≡ Some SubFault.SubInUse)
-lags_numbers = (refl, refl)
+abbrev lagged : Run
+lagged = full_queue (Turns (topic 0) ∷ [])
 
-lags_entry : ((subscription_at (after lags) 0).closed ≡ None) × (unsubscribe_fault 0 (topic_at (after lags) (topic 0)) ≡ None)
-lags_entry = (refl, refl)
+lagged_numbers : (subscribe_fault 1 (topic_at (after lagged) (topic 0)) ≡ None)
+    × (subscribe_fault 0 (topic_at (after lagged) (topic 0)) ≡ Some SubFault.SubInUse)
+lagged_numbers = (refl, refl)
+
+lagged_entry : ((subscription_at (after lagged) 0).closed ≡ None) × (unsubscribe_fault 0 (topic_at (after lagged) (topic 0)) ≡ None)
+lagged_entry = (refl, refl)
 
 -- a turn with two pending parts is two learns and two releases
 abbrev waiting : List Event → World
@@ -244,9 +228,9 @@ turn_steps = Learns (topic 0) (id 0 1) ∷ Learns (topic 0) (id 1 1) ∷ Release
 two_wait : map (λ p. p.part.id) (topic_at (waiting []) (topic 0)).pending ≡ id 0 1 ∷ id 1 1 ∷ []
 two_wait = refl
 
-steps_told : reverse (outcomes turn_steps (waiting (Decides 0 ∷ Decides 1 ∷ [])) [])
+steps_answers : reverse (outcomes turn_steps (waiting (Decides 0 ∷ Decides 1 ∷ [])) [])
     ≡ Learnt (id 0 1) (topic 0) ∷ Learnt (id 1 1) (topic 0) ∷ Released (topic 0) (id 1 1) ∷ Released (topic 0) (id 0 1) ∷ []
-steps_told = refl
+steps_answers = refl
 
 -- topic 0 with these pending parts, rows and frontier
 abbrev pub turned_topic : List Pending → List LogRow → Stamp → TopicState
@@ -273,14 +257,14 @@ steps_of_both : topic_at (run turn_steps (waiting (Decides 0 ∷ Decides 1 ∷ [
 steps_of_both = refl
 
 -- so too where one of them is undecided: a learn and both releases are refused
-refused_told : reverse (outcomes turn_steps (waiting (Decides 1 ∷ [])) [])
+refused_answers : reverse (outcomes turn_steps (waiting (Decides 1 ∷ [])) [])
     ≡ Refused Refusal.NotDecided ∷ Learnt (id 1 1) (topic 0) ∷ Refused Refusal.NothingDue ∷ Refused Refusal.NothingDue ∷ []
-refused_told = refl
+refused_answers = refl
 
 abbrev half_decided : List Pending
 half_decided =
-    record { part = part_at (id 0 1) to_both (topic 0); ticket = 1; learnt = None }
-    ∷ record { part = part_at (id 1 1) to_both (topic 0); ticket = 2; learnt = Some (stamp 2 0) } ∷ []
+    record { part = part_at (id 0 1) to_a_and_b (topic 0); ticket = 1; learnt = None }
+    ∷ record { part = part_at (id 1 1) to_a_and_b (topic 0); ticket = 2; learnt = Some (stamp 2 0) } ∷ []
 
 turn_of_one : topic_at (happens (waiting (Decides 1 ∷ [])) (Turns (topic 0))) (topic 0) ≡ turned_topic half_decided [] (stamp 0 0)
 turn_of_one = refl

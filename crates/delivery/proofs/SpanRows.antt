@@ -15,7 +15,7 @@ use Rattle.delivery.specs.Events.Outcome.{Unsubscribed, Gone, Turned}
 use Rattle.delivery.specs.Runs.{commits_of, released_at}
 use Rattle.delivery.specs.Laws.{Run, came, after, is_logged, agreed_rows}
 use Rattle.delivery.specs.Spans.{EndsBeforeRow}
-use Rattle.delivery.proofs.Rows.{topic, stamp, id, send, part, with_clocks, sends_one, to_both}
+use Rattle.delivery.specs.Examples.{topic, stamp, id, send, part, run_of, one_send, to_a_and_b}
 
 -- ---- a queue of two items: one row was released, and three more are decided
 
@@ -27,7 +27,7 @@ three_due then = record {
   capacity = 2;
   log_limit = 65536;
   clocks = 0 ∷ [];
-  events = Opens ∷ Opens ∷ Subscribes 1 (topic 0) ∷ sends_one 1 (decides_one 2 (decides_one 3 (decides_one 4 then)));
+  events = Opens ∷ Opens ∷ Subscribes 1 (topic 0) ∷ one_send 1 (decides_one 2 (decides_one 3 (decides_one 4 then)));
 }
 
 -- the row and the item of the transaction of this seq, which has one SEND
@@ -99,8 +99,8 @@ four_of_four = (refl, refl)
 
 -- a transaction to both topics and one to the second alone, each turned there
 abbrev mixed : Run
-mixed = with_clocks (0 ∷ 0 ∷ []) (
-    Opens ∷ Commits 0 to_both ∷ Proposes 0 (topic 0) true ∷ Proposes 0 (topic 1) true ∷ Decides 0
+mixed = run_of (0 ∷ 0 ∷ []) (
+    Opens ∷ Commits 0 to_a_and_b ∷ Proposes 0 (topic 0) true ∷ Proposes 0 (topic 1) true ∷ Decides 0
     ∷ Commits 0 (send 1 2 ∷ []) ∷ Proposes 0 (topic 1) true ∷ Decides 0 ∷ Turns (topic 0) ∷ Turns (topic 1) ∷ [])
 
 abbrev both_row : LogRow

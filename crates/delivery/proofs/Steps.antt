@@ -1,5 +1,5 @@
 -- What holds of each step.
-use Rattle.std.proofs.Common.{◌≡◌, ◌≢◌, ℕ, ◌+◌, ◌<◌, max, Bool, true, false, cond, ◌⊎◌, inl, inr, List, [], ◌∷◌, ◌++◌, length, set, Option, Some, None, refl, sym, ap, subst, ◌∙◌, ltb}
+use Rattle.std.proofs.Common.{◌≡◌, ◌≢◌, ℕ, ◌+◌, ◌<◌, ◌==◌, max, Bool, true, false, cond, ◌⊎◌, inl, inr, List, [], ◌∷◌, ◌++◌, map, length, set, Option, Some, None, refl, sym, ap, subst, ◌∙◌, ltb}
 use Rattle.std.specs.Option.{is_some}
 use Rattle.std.proofs.lemmas.Bool.{true≢false, false≢true}
 use Rattle.mcast_txn.specs.Transaction.{topics_of}
@@ -9,14 +9,15 @@ use Rattle.mcast_txn.specs.declared.id.Topic.{Topic}
 use Rattle.mcast_txn.specs.declared.id.TxnId.{TxnId}
 use Rattle.mcast_txn.specs.declared.send.Send.{Send}
 use Rattle.mcast_txn.specs.declared.stamp.Stamp.{Stamp}
-use Rattle.mcast_txn.proofs.Members.{In-map, at_set, at_set_within}
+use Rattle.mcast_txn.proofs.Members.{at_set, at_set_within}
 use Rattle.mcast_group.specs.declared.fault.ProposeFault.{ProposeFault}
 use Rattle.mcast_group.specs.declared.fault.LearnFault.{LearnFault}
 use Rattle.mcast_group.specs.declared.fault.CancelFault.{CancelFault}
 use Rattle.mcast_group.specs.Checks.{first_refusal}
 use Rattle.mcast_group.specs.Span.{Item}
-use Rattle.mcast_group.specs.Topics.{TopicState, Pending, Entry, new_topic, find_pending, cancel_fault_of, learn_fault, delivered, due_part, released_if, release, item_of}
+use Rattle.mcast_group.specs.Topics.{TopicState, Pending, Entry, new_topic, find_entry, find_pending, cancel_fault_of, learn_fault, delivered, due_part, released_if, release, item_of}
 use Rattle.mcast_group.proofs.Parts.{found_part, some_same, none_some}
+use Rattle.mcast_group.proofs.Numbers.{delivered_number}
 use Rattle.delivery.specs.declared.refusal.Refusal.{Refusal}
 use Rattle.delivery.specs.World.{World, Leftover, topic_at, speaker, connection_at, subscription_at, entry_at, start}
 use Rattle.delivery.specs.Events.{Event, Outcome, happens, outcome, refusal, checks, topic_refusal, or_else, effect, answer, flight_at, find_leftover, find_verdict, oldest_live, flown, flying_answer, proposal_fault, proposed_by, propose_answer, cancelled_at, cancelling, cancel_refusal, cancel_answer, learned_at, learning, learn_refusal, release_answer, takes, handed, take_answer, left_by, leave_answer, closed_with}
@@ -305,15 +306,26 @@ happens_when w e n = ap (λ (o : Option Refusal). pick o) n
     pick : Option Refusal → World
     pick o = elim o [ None ↦ effect w e | Some why ↦ w ]
 
+stepped_case : (step : Entry → Entry) (b : Bool) (x e : Entry) (o p : Option Entry) → (o ≡ Some e → p ≡ Some (step e)) → cond b (Some x) o ≡ Some e → cond b (Some (step x)) p ≡ Some (step e)
+stepped_case step true x e o p ih k = ap (λ z. Some (step z)) (some_same x e k)
+stepped_case step false x e o p ih k = ih k
+
+-- where each subscription makes a step that keeps its number, the one of a number is what it was after its step
+find_stepped : (n : ℕ) (step : Entry → Entry) → ((e : Entry) → (step e).number ≡ e.number) → (es : List Entry) (e : Entry) → find_entry n es ≡ Some e → find_entry n (map step es) ≡ Some (step e)
+find_stepped n step number [] e k = none_some e k
+find_stepped n step number (x ∷ es) e k =
+    subst (λ (a : ℕ). cond (a == n) (Some (step x)) (find_entry n (map step es)) ≡ Some (step e)) (sym (number x))
+    (stepped_case step (x.number == n) x e (find_entry n es) (find_entry n (map step es)) (find_stepped n step number es e) k)
+
 pub lags_where_full : Laws.LagsWhereFull
-lags_where_full w t p before n due i unended =
+lags_where_full w t p number before n due found unended =
     let x = topic_at w t in let later = delivered (takes w) x.frontier (item_of p) before in
     let room = Rattle.std.proofs.lemmas.Bool.ltb-true t.0 (length w.topics) (false_not (ltb t.0 (length w.topics)) (checked w (Releases t) n).0) in (
       later,
-      subst (λ (v : World). In later (topic_at v t).subscriptions) (sym (happens_when w (Releases t) n))
-          (at_set_within (λ (z : TopicState). In later z.subscriptions) w.topics t.0 t.0 (release (takes w) x) (new_topic t 0 0) room
-          (λ k. subst (λ (o : Option Pending). In later (released_if (takes w) x o).subscriptions) (sym due)
-          (In-map (delivered (takes w) x.frontier (item_of p)) before x.subscriptions i))
+      subst (λ (v : World). find_entry number (topic_at v t).subscriptions ≡ Some later) (sym (happens_when w (Releases t) n))
+          (at_set_within (λ (z : TopicState). find_entry number z.subscriptions ≡ Some later) w.topics t.0 t.0 (release (takes w) x) (new_topic t 0 0) room
+          (λ k. subst (λ (o : Option Pending). find_entry number (released_if (takes w) x o).subscriptions ≡ Some later) (sym due)
+          (find_stepped number (delivered (takes w) x.frontier (item_of p)) (delivered_number (takes w) x.frontier (item_of p)) x.subscriptions before found))
           (λ ne. absurd (ne refl))),
       given_of w x.frontier p before.number before.from before.to before.accepted unended,
     )

@@ -71,7 +71,8 @@ topic_with w t = subscribed (length w.subscriptions) (topic_in w.topics t)
 Tied-subscribed : (ts : List Row) (w : World) (t : Topic) → Holds ts w → Tied ts w.commits t (topic_with w t)
 Tied-subscribed ts w t inv =
     let x = topic_in w.topics t in let h = inv.tied t in
-    Tied-subs ts w.commits t x (x.subscriptions ++ new_entry w t ∷ []) h (Sound-subscribed (length w.subscriptions) x h.sound)
+    Tied-subs ts w.commits t x (x.subscriptions ++ new_entry w t ∷ []) h (Sound-subscribed (length w.subscriptions) x h.sound
+    (λ e i d. let l : e.number < length w.subscriptions = (inv.subscribes.owned t e i).there in omega arith))
     (λ e k i l. elim (In-push_cases e (new_entry w t) x.subscriptions k) [
       | inl o ↦ (e, o, l)
       | inr d ↦ absurd (subst (λ (z : Entry). In i z.accepted) (sym d) l)

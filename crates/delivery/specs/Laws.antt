@@ -13,7 +13,7 @@ use Rattle.mcast_group.specs.declared.fault.LearnFault.{LearnFault}
 use Rattle.mcast_group.specs.declared.fault.ProposeFault.{ProposeFault}
 use Rattle.mcast_group.specs.Span.{LogRow, Item}
 use Rattle.mcast_group.specs.Sound.{IsSound}
-use Rattle.mcast_group.specs.Topics.{Pending, Entry, learn_fault, item_of, due_part, subscribe_fault, unsubscribe_fault}
+use Rattle.mcast_group.specs.Topics.{Pending, Entry, learn_fault, item_of, due_part, find_entry, subscribe_fault, unsubscribe_fault}
 use Rattle.delivery.specs.declared.refusal.Refusal.{Refusal}
 use Rattle.delivery.specs.Due.{log_row, due}
 use Rattle.delivery.specs.World.{World, start, topic_at, speaker, subscription_at}
@@ -246,10 +246,10 @@ pub record IsGiven (w : World) (frontier : Stamp) (p : Pending) (before after : 
   pub full : nat_lt (length before.accepted - (subscription_at w before.number).taken) w.capacity ≡ false
       → (after.to ≡ Some frontier) × (after.accepted ≡ before.accepted)
 
--- a release lags an open subscription of its topic exactly where its queue is full
+-- a release gives the open subscription of this number the item where its queue has room, and lags it where it is full
 abbrev pub LagsWhereFull : Type 0
 LagsWhereFull =
-    (w : World) (t : Topic) (p : Pending) (before : Entry) → refusal w (Releases t) ≡ None → due_part (topic_at w t) ≡ Some p
-    → In before (topic_at w t).subscriptions → before.to ≡ None
-    → (later : Entry) × In later (topic_at (happens w (Releases t)) t).subscriptions
+    (w : World) (t : Topic) (p : Pending) (n : ℕ) (before : Entry) → refusal w (Releases t) ≡ None
+    → due_part (topic_at w t) ≡ Some p → find_entry n (topic_at w t).subscriptions ≡ Some before → before.to ≡ None
+    → (later : Entry) × (find_entry n (topic_at (happens w (Releases t)) t).subscriptions ≡ Some later)
     × IsGiven w (topic_at w t).frontier p before later

@@ -10,3 +10,4 @@ pub mod Told
 pub mod Answers
 pub mod Tied
 pub mod Spans
+pub mod Examples

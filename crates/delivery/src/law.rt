@@ -1,6 +1,7 @@
 //! Laws: functions that do nothing, whose contracts are theorems about every run or step of the core.
 
 ghost use Rattle.delivery.specs.Answers.{EventsAreAnswered};
+ghost use Rattle.delivery.specs.Examples.{WorkedRows};
 ghost use Rattle.delivery.specs.Laws.{AcceptedIsDue, AgreedInSenderOrder, AgreedOnce};
 ghost use Rattle.delivery.specs.Laws.{CancelFindsItsPart, ClosedIsSilent, CommitsAreKept};
 ghost use Rattle.delivery.specs.Laws.{EntriesAreOwned, EntriesAreThere, FoundIsLearnt};
@@ -177,4 +178,10 @@ pub fn answers()
 pub fn tied()
     ensures topics { TopicsAreTied }
     ensures senders { SendersAreFloored }
+{}
+
+/// Five worked examples: transactions that cross, a withdrawal, a loss, a DISCONNECT before an item is delivered,
+/// and a lag. What comes of each event, what logs and queues hold, and how each span ends, is computed.
+pub fn examples()
+    ensures { WorkedRows }
 {}

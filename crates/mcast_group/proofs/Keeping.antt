@@ -1,5 +1,5 @@
 -- Each step keeps a topic sound.
-use Rattle.std.proofs.Common.{◌≡◌, ℕ, suc, ◌+◌, ◌<◌, ◌≤◌, ◌==◌, max, Bool, true, false, cond, not, ◌&&◌, ◌||◌, inl, inr, List, [], ◌∷◌, ◌++◌, length, Option, Some, None, refl, sym, ap, subst, ◌∙◌, arith}
+use Rattle.std.proofs.Common.{◌≡◌, ◌≢◌, ℕ, suc, ◌+◌, ◌<◌, ◌≤◌, ◌==◌, max, Bool, true, false, cond, not, ◌&&◌, ◌||◌, inl, inr, List, [], ◌∷◌, ◌++◌, length, Option, Some, None, refl, sym, ap, subst, ◌∙◌, arith}
 use Rattle.std.specs.List.{filter, list_any}
 use Rattle.std.proofs.lemmas.Bool.{true≢false, not-false, and_parts}
 use Rattle.mcast_txn.specs.Stamp.{stamp_lt, zero_stamp}
@@ -17,6 +17,7 @@ use Rattle.mcast_group.specs.Span.{LogRow, last_stamp}
 use Rattle.mcast_group.specs.Sound.{IsSound, IsQueueOf, row_stamp}
 use Rattle.mcast_group.specs.Topics.{TopicState, Pending, Entry, decided_stamp, key, new_topic, next_number, proposed, is_pending, has_row, is_foreign, learnt_other, clashes, learn_fault, learn_fault_of, find_pending, learned, told, cancelled, released, row_of, item_of, delivered, subscribed, unsubscribed, drained, same_stamp}
 use Rattle.mcast_group.proofs.Parts.{insert_length, insert_one, insert_two, RisesById-insert, RisesById-told, RisesById-without, not_pending, each_told, each_two_told, with_stamp, map_length, Due, others, found_part, same_stamp_is, same_stamp_itself}
+use Rattle.mcast_group.proofs.Numbers.{Numbers-push, Numbers-map, Numbers-filter, delivered_number}
 use Rattle.mcast_group.proofs.Queues.{Queue-delivered, Queue-new, Queue-drained, Next}
 
 pub Sound-new : (t : Topic) (log_limit clock : ℕ) → IsSound (new_topic t log_limit clock)
@@ -33,6 +34,7 @@ Sound-new t log_limit clock = record {
   above = λ p k. absurd k;
   clock_keys = λ p k. absurd k;
   clock_frontier = omega arith;
+  numbers = tt;
   queues = λ e k. absurd k;
   limit = omega arith;
 }
@@ -66,6 +68,7 @@ Sound-proposed floor part x h own new room =
       clock_keys = insert_one (λ (q : Pending). (key q).n ≤ n) x.pending p
           (λ q k. let l : (key q).n ≤ x.clock = h.clock_keys q k in omega arith) (omega arith);
       clock_frontier = omega arith;
+      numbers = h.numbers;
       queues = h.queues;
       limit = omega arith;
     }
@@ -173,6 +176,7 @@ Sound-learned id v x h l = record {
   clock_keys = each_told id (decided_stamp v) x.pending (λ q. (key q).n ≤ max x.clock (decided_stamp v).n)
       (λ p k e. let m : (key p).n ≤ x.clock = h.clock_keys p k in omega arith) (λ p k e. omega arith);
   clock_frontier = let m : x.frontier.n ≤ x.clock = h.clock_frontier in omega arith;
+  numbers = h.numbers;
   queues = h.queues;
   limit = let m = map_length (told id (decided_stamp v)) x.pending in let r : length x.pending + length x.held ≤ x.log_limit = h.limit in omega arith;
 }
@@ -212,6 +216,7 @@ Sound-cancelled id x h = record {
   above = λ p k. h.above p (others id p x.pending k).stands;
   clock_keys = λ p k. h.clock_keys p (others id p x.pending k).stands;
   clock_frontier = h.clock_frontier;
+  numbers = h.numbers;
   queues = h.queues;
   limit = let l = filter_le (λ (p : Pending). not (same_id p.part.id id)) x.pending in let r : length x.pending + length x.held ≤ x.log_limit = h.limit in omega arith;
 }
@@ -261,6 +266,7 @@ Sound-released takes p x h due =
           (λ e. true≢false (sym (id_same q.part.id p.part.id (ap (λ (z : Pending). z.part.id) (h.differ q p o.stands i (sym e)))) ∙ o.differs));
       clock_keys = λ q k. h.clock_keys q (others p.part.id q x.pending k).stands;
       clock_frontier = h.clock_keys p i;
+      numbers = Numbers-map (delivered takes x.frontier (item_of p)) (delivered_number takes x.frontier (item_of p)) x.subscriptions h.numbers;
       queues = λ e k. let m = In-map_cases (delivered takes x.frontier (item_of p)) e x.subscriptions k in
           subst (λ (z : Entry). IsQueueOf x.base (key p) (x.held ++ row_of p ∷ []) z.from z.to z.accepted) m.is
           (Queue-delivered takes x.base x.frontier x.held (row_of p) (item_of p) m.from (next_of x p h i) (h.queues m.from m.stands));
@@ -272,8 +278,8 @@ Sound-released takes p x h due =
 
 -- ---- subscriptions and the log
 
-pub Sound-subscribed : (number : ℕ) (x : TopicState) → IsSound x → IsSound (subscribed number x)
-Sound-subscribed number x h = record {
+pub Sound-subscribed : (number : ℕ) (x : TopicState) → IsSound x → ((e : Entry) → In e x.subscriptions → e.number ≢ number) → IsSound (subscribed number x)
+Sound-subscribed number x h free = record {
   rises = h.rises;
   above_base = h.above_base;
   frontier = h.frontier;
@@ -286,6 +292,7 @@ Sound-subscribed number x h = record {
   above = h.above;
   clock_keys = h.clock_keys;
   clock_frontier = h.clock_frontier;
+  numbers = Numbers-push x.subscriptions _ h.numbers free;
   queues = push_one (λ (e : Entry). IsQueueOf x.base x.frontier x.held e.from e.to e.accepted) x.subscriptions _ h.queues
       (Queue-new x.base x.frontier x.held h.past);
   limit = h.limit;
@@ -305,6 +312,7 @@ Sound-unsubscribed number x h = record {
   above = h.above;
   clock_keys = h.clock_keys;
   clock_frontier = h.clock_frontier;
+  numbers = Numbers-filter (λ (z : Entry). not (z.number == number)) x.subscriptions h.numbers;
   queues = λ e k. h.queues e (In-filter_cases (λ (z : Entry). not (z.number == number)) e x.subscriptions k).stands;
   limit = h.limit;
 }
@@ -323,6 +331,7 @@ Sound-drained x h = record {
   above = h.above;
   clock_keys = h.clock_keys;
   clock_frontier = h.clock_frontier;
+  numbers = h.numbers;
   queues = λ e k. Queue-drained x.base x.frontier x.held e.from e.to e.accepted (h.queues e k);
   limit = let r : length x.pending + length x.held ≤ x.log_limit = h.limit in omega arith;
 }

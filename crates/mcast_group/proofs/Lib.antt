@@ -1,6 +1,7 @@
 pub mod Parts
 pub mod Places
 pub mod Queues
+pub mod Numbers
 pub mod Keeping
 pub mod Turning
 pub mod Allowed
