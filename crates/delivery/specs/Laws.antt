@@ -121,7 +121,7 @@ LogCountsReleases = (r : Run) (t : Topic) → length (log_at (after r) t) ≡ re
 abbrev pub agreed_rows : Topic → List Row → List LogRow
 agreed_rows t commits = map log_row (filter (λ row. names t (topics_of row.txn.sends)) (agreed commits))
 
--- so the outcomes alone say what it is: as many of the agreed sequence's rows that name the topic, the first ones
+-- so the outcomes alone say what it is: as many of these rows as were released, from the first
 abbrev pub LogIsOfOutcomes : Type 0
 LogIsOfOutcomes =
     (r : Run) (t : Topic)

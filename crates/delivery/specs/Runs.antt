@@ -60,5 +60,6 @@ Numbered (o ∷ before) = Numbered before
 abbrev pub released_at : Topic → List Outcome → ℕ
 released_at t [] = 0
 released_at t (Released u id ∷ before) = if u.0 == t.0 then released_at t before + 1 else released_at t before
-released_at t (Turned u count ∷ before) = if u.0 == t.0 then released_at t before + count else released_at t before
+released_at t (Turned u count ∷ before) =
+    if u.0 == t.0 then released_at t before + count else released_at t before
 released_at t (o ∷ before) = released_at t before

@@ -18,7 +18,7 @@ SpansEndAtFrontier =
     (r : Run) (e : Event) (s : ℕ) (to : Stamp) → outcome (after r) e ≡ Unsubscribed s to
     → end_at (after r) s ≡ None → to ≡ frontier_at (after r) (subscription_at (after r) s).topic
 
--- a log got rows, one for which a queue had no room, and others: the end is the last stamp before that row, so
+-- a log got rows, one for which a queue had no room, and others: the end is the last stamp before that row;
 -- where rows 2, 3 and 4 come after row 1 and the queue has room for 2 alone, it is row 2's stamp
 pub record EndsBeforeRow (before later : List LogRow) (end : Stamp) : Type 0 where
   pub rows : List LogRow
