@@ -33,7 +33,7 @@ use Rattle.delivery.proofs.Subscriptions.{at_push, at_added}
 use Rattle.delivery.proofs.Happening.{Reached, tickets, by_refusal, checked, in_flight, asks_of, Asks, new_ticket, no_fault, step_reached, same_flights, one_fewer, one_same, one_kept}
 use Rattle.delivery.proofs.Accepting.{at_new, start_reached}
 use Rattle.delivery.proofs.Outcomes.{In-ticket, commit_of}
-use Rattle.delivery.proofs.Voting.{fits, HasCommit}
+use Rattle.delivery.proofs.Voting.{fits, found_one_row, HasCommit}
 use Rattle.delivery.proofs.Settling.{Calm, Settling, Gone_to, Gone-same, Gone-learned, Gone-without, Gone-release, Gone-turned, Fewer, Fewer-same, Fewer-topic, Fewer-sender, Fewer-then, Settling-fewer, Quiet, note_quiet, note_withdrawn, note_cancelled, note_turned, flying_settling, ticket_settling}
 
 -- ---- quiet outcomes
@@ -115,6 +115,7 @@ turn_settling past w t h l =
     (λ all. record {
       none = at_set_same (λ (z : TopicState). (p : Pending) → In p z.pending → Prim.⊥) w.topics t.0 y (new_topic t 0 0)
           (λ p i. subst (λ z. In p z) (turn_none (takes w) (find_in w) (topic_in w.topics t) (h.inv.tied t).sound
+          (found_one_row (tickets past) w t h.inv)
           (fits (tickets past) w t h.inv (pending_committed past w t h l all))) i)
           (λ p i. i);
       still = flights_still past w t h l all;

@@ -11,7 +11,7 @@ use Rattle.mcast_txn.specs.declared.stamp.Stamp.{Stamp}
 use Rattle.mcast_txn.proofs.Orders.{id_same}
 use Rattle.mcast_txn.proofs.Members.{any_found, any_from}
 use Rattle.mcast_group.specs.declared.fault.LearnFault.{LearnFault}
-use Rattle.mcast_group.specs.Fitting.{Fits}
+use Rattle.mcast_group.specs.Fitting.{Fits, FoundHaveOneRowEach}
 use Rattle.mcast_group.specs.Topics.{TopicState, Pending, HasOneRowEach, key, find_pending, has_row, is_foreign, learnt_other, clashes, learn_fault, learn_fault_of, same_stamp, decided_stamp}
 use Rattle.mcast_group.proofs.Parts.{found_part, same_stamp_is, same_stamp_from, not_true}
 use Rattle.delivery.specs.World.{World}
@@ -104,7 +104,7 @@ fits ts w t inv all = record {
       let f = finds_verdict p.part.id w.verdicts vote.verdict vote.stands (vote.id_is ∙ c.id_is) in
       let g = verdict_found p.part.id w.verdicts f.verdict f.found in
       let o = own_verdict ts w t p f.verdict inv i g.0 g.1 in
-      record { verdict = f.verdict; found = f.found; one_row = o.one_row; own = o.own; learnt = o.learnt };
+      record { verdict = f.verdict; found = f.found; own = o.own; learnt = o.learnt };
   differ = λ p q v u i j e f s.
       let a = verdict_found p.part.id w.verdicts v e in let b = verdict_found q.part.id w.verdicts u f in
       let g = inv.voted v a.0 in let h = inv.voted u b.0 in
@@ -112,3 +112,7 @@ fits ts w t inv all = record {
       (g.stamp_is ∙ (s ∙ sym h.stamp_is)) in
       id_same p.part.id q.part.id (sym a.1 ∙ (sym g.id_is ∙ (ap (λ (z : Transaction). z.id) txn ∙ (h.id_is ∙ b.1))));
 }
+
+-- each verdict of the core has one row for a topic
+pub found_one_row : (ts : List Row) (w : World) (t : Topic) → Holds ts w → FoundHaveOneRowEach (find_in w) (topic_in w.topics t).pending
+found_one_row ts w t inv p v i e = (inv.voted v (verdict_found p.part.id w.verdicts v e).0).one_row

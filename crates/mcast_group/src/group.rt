@@ -1,13 +1,16 @@
 //! A topic of the multicast.
 
-ghost use Rattle.std.specs.Prelude.{◌≡◌, Bool, ◌+◌, ◌<◌, ◌≤◌, List, length, slice_get, slice_index_or, vec_capacity, Some, None, IfOk, IfErr, OnOk, OnErr};
+ghost use Rattle.std.specs.Prelude.{◌≡◌, Bool, ◌+◌, ◌<◌, ◌≤◌, List, [], length, slice_get, slice_index_or, vec_capacity, Some, None, IfOk, IfErr, OnOk, OnErr};
 ghost use Rattle.std.specs.Arc.{arc_value};
 ghost use Rattle.std.specs.Option.{option_map};
 ghost use Rattle.mcast_txn.specs.Part.{data_of};
+ghost use Rattle.mcast_txn.specs.Ballot.{Decision};
+ghost use Rattle.mcast_group.specs.Fitting.{Fits, FoundHaveOneRowEach};
 ghost use Rattle.mcast_group.specs.Group.{answer, propose_refusal};
-ghost use Rattle.mcast_group.specs.Topics.{Entry, Pending, cancel_fault, cancelled, decided_stamp, due_part, insert_pending, key, learn_fault, learned, new_topic, next_number, propose_fault, proposed, release, released_times, tried, tried_all, turn_count, turned};
+ghost use Rattle.mcast_group.specs.Topics.{Entry, HasOneRowEach, Pending, cancel_fault, cancelled, decided_stamp, due_part, insert_pending, key, learn_fault, learned, new_topic, next_number, propose_fault, proposed, release, released_times, tried, tried_all, turn_count, turned};
 
 use crate::fault::{CancelFault, LearnFault, ProposeFault};
+use crate::law::has_one_row_each;
 use crate::pending::{PendingPart, least_place, place_for, place_of, place_to_learn};
 use crate::row::Row;
 use crate::verdicts::Verdicts;
@@ -192,12 +195,14 @@ impl Group {
     }
 
     /// Learns once for each pending part, by rising id, the verdict that is found, if it isn't refused; then
-    /// releases until nothing is due. Says how many parts that were. It takes no memory.
+    /// releases until nothing is due. Returns how many parts it released. Where the verdicts that are found fit the
+    /// topic as it was, no part is pending after it. It takes no memory.
     pub fn turn<V: Verdicts>(&mut self, verdicts: &V) -> u64
         ensures turned { (takes : Entry → Bool) → self.new ≡ turned takes (V.found verdicts.now) self.old }
         ensures count { (takes : Entry → Bool) → result ≡ turn_count takes (V.found verdicts.now) self.old }
+        ensures none_pending { Fits (V.found verdicts.now) self.old → self.new.pending ≡ [] }
     {
-        let held = self.held_len();
+        let held = self.rows.len();
         self.try_all(verdicts);
         self.release_all();
         (self.held_len() - held) as u64
@@ -205,7 +210,8 @@ impl Group {
 
     // Learns once for each pending part, by rising id, the verdict that is found, if it isn't refused.
     fn try_all<V: Verdicts>(&mut self, verdicts: &V)
-        ensures { self.new ≡ tried_all (V.found verdicts.now) self.old.pending self.old }
+        ensures tried { self.new ≡ tried_all (V.found verdicts.now) self.old.pending self.old }
+        ensures one_row { FoundHaveOneRowEach (V.found verdicts.now) self.old.pending }
     {
         for place in 0..self.pending_len() {
             self.try_to_learn(place, verdicts);
@@ -215,12 +221,15 @@ impl Group {
     // Learns for the part at a place the verdict that is found, if it isn't refused.
     fn try_to_learn<V: Verdicts>(&mut self, place: usize, verdicts: &V)
         requires { place < length self.old.pending }
-        ensures { (d : Pending) → let id = (slice_index_or self.old.pending place d).part.id in
+        ensures tried { (d : Pending) → let id = (slice_index_or self.old.pending place d).part.id in
             self.new ≡ tried id (V.found verdicts.now id) self.old }
+        ensures one_row { (d : Pending) (v : Decision)
+            → V.found verdicts.now (slice_index_or self.old.pending place d).part.id ≡ Some v → HasOneRowEach v }
     {
         let part = self.pending[place].part();
         let id = part.id;
         if let Some(found) = verdicts.find(part) {
+            has_one_row_each(found.verdict);
             let _ = self.learn(id, found.verdict);
         }
     }
