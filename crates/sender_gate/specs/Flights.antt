@@ -1,4 +1,4 @@
--- What a flight stores.
+-- What a flight stores. Only proofs go by it; no public contract speaks of it.
 use Rattle.std.specs.Prelude.{◌≡◌, ◌≢◌, ◌<◌, ℕ, [], map}
 use Rattle.std.specs.List.{AllByRecursion}
 use Rattle.mcast_txn.specs.declared.stamp.Stamp.{Stamp}

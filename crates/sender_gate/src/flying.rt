@@ -18,8 +18,9 @@ use mcast_txn::{Ballot, Part, Parts, Stamp, Ticket, Tickets, Topic, TopicSet, Tx
 use std::marker::Model;
 use std::sync::Arc;
 
-/// A sender that has a transaction on its way, and can begin no other. In contracts it is the transaction, the
-/// sender's floor, each topic with the number that it gave, if it did, and the parts that weren't taken out.
+/// A sender that has a transaction on its way: its gate is gone until that ends, and can begin no other. In contracts
+/// it is the transaction, the sender's floor, each topic with the number that it gave, if it did, and the parts that
+/// weren't taken out.
 #[derive(Drop)]
 pub struct Flying {
     floor: Stamp,

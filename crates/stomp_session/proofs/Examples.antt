@@ -8,6 +8,7 @@ use Rattle.stomp_session.specs.declared.fault.SessionFault.TheVariants as faults
 use Rattle.stomp_session.specs.Open.{open_subscriptions, open_transactions, phase_of, held_after}
 use Rattle.stomp_session.specs.Frames.{send_of}
 use Rattle.stomp_session.specs.Refusals.{refusal}
+use Rattle.stomp_session.specs.Answers.{takes_memory}
 use Rattle.stomp_session.specs.Versions.{has_version}
 
 abbrev names : List (List ℕ)
@@ -62,3 +63,10 @@ refusals_in_order = (refl, refl, refl, refl)
 
 pub versions : (has_version (codes "1.2") (codes "1.0, 1.2") ≡ true) × (has_version (codes "1.2") (codes " 1.2 ") ≡ true) × (has_version (codes "1.2") (codes "11.2") ≡ false) × (has_version (codes "1.2") [] ≡ false)
 versions = (refl, refl, refl, refl)
+
+-- a CONNECT takes no memory, nor does a COMMIT of no SENDs; one of a SEND does
+pub memory_is_taken :
+    (takes_memory commands.Connect (held_after names []) connect ≡ false)
+    × (takes_memory commands.Commit (held_after names (connect ∷ begin (codes "x") ∷ [])) (commit (codes "x")) ≡ false)
+    × (takes_memory commands.Commit (held_after names (connect ∷ begin (codes "x") ∷ send (codes "x") ∷ [])) (commit (codes "x")) ≡ true)
+memory_is_taken = (refl, refl, refl)

@@ -49,16 +49,21 @@ pub record AreTexts (step : Step) : Type 0 where
   pub receipt : IfSome step.receipt IsText
   pub action : IsTextIn step.action
 
--- whether memory is taken for a frame of this command
-abbrev pub takes_memory : Command → Bool
-takes_memory commands.Connect = true
-takes_memory commands.Stomp = true
-takes_memory commands.Subscribe = true
-takes_memory commands.Begin = true
-takes_memory commands.Send = true
-takes_memory commands.Commit = true
-takes_memory _ = false
+-- whether there is a SEND among them
+abbrev pub has_sends : List Send → Bool
+has_sends [] = false
+has_sends (send ∷ sends) = true
 
--- The frame is refused by its first refusal; or there is none, and no memory where its command takes some.
+-- Whether a frame of this command takes memory: a SUBSCRIBE, a BEGIN and a SEND do, and a COMMIT whose transaction has
+-- SENDs. A CONNECT never does, nor does a COMMIT of no SENDs.
+abbrev pub takes_memory : Command → Held → RawFrame → Bool
+takes_memory commands.Subscribe s f = true
+takes_memory commands.Begin s f = true
+takes_memory commands.Send s f = true
+takes_memory commands.Commit s f = has_sends (sends_in (transaction_of f) s.transactions)
+takes_memory _ s f = false
+
+-- The frame is refused by its first refusal; or there is none, and it takes memory and there was none.
 abbrev pub Refuses : Held → RawFrame → SessionFault → Type 0
-Refuses s f fault = (refusal s f ≡ Some fault) ⊎ ((refusal s f ≡ None) × (fault ≡ NoMemory) × (takes_memory f.command ≡ true))
+Refuses s f fault =
+    (refusal s f ≡ Some fault) ⊎ ((refusal s f ≡ None) × (fault ≡ NoMemory) × (takes_memory f.command s f ≡ true))

@@ -58,10 +58,10 @@ effect _ s f = s
 abbrev pub refusal_by : Command → Held → RawFrame → Option SessionFault
 refusal_by command s f = first_fault ((is_closed s.phase, faults.Closed) ∷ open_checks command s f)
 
--- the refusal that a fault tells; none where there was no memory for a command that takes some
-abbrev pub told : Command → SessionFault → Option SessionFault
-told command faults.NoMemory = if takes_memory command then None else Some faults.NoMemory
-told command fault = Some fault
+-- the refusal that a fault tells; none where there was no memory for a frame that takes some
+abbrev pub told : Command → Held → RawFrame → SessionFault → Option SessionFault
+told command s f faults.NoMemory = if takes_memory command s f then None else Some faults.NoMemory
+told command s f fault = Some fault
 
 -- the frame is accepted, and this is what it changes
 pub record Does (command : Command) (s : Held) (f : RawFrame) (step : Step) (new : Held) : Type 0 where
@@ -72,4 +72,4 @@ pub record Does (command : Command) (s : Held) (f : RawFrame) (step : Step) (new
 
 -- the frame is refused
 abbrev pub Denies : Command → Held → RawFrame → SessionFault → Type 0
-Denies command s f fault = refusal_by command s f ≡ told command fault
+Denies command s f fault = refusal_by command s f ≡ told command s f fault

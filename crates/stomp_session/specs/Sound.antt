@@ -1,4 +1,4 @@
--- What a session keeps of its parts.
+-- What a session keeps of its parts. Only proofs go by it; no public contract speaks of it.
 use Rattle.std.specs.Prelude.{◌≡◌, ℕ, List, []}
 use Rattle.mcast_txn.specs.declared.id.Topic.{Topic}
 use Rattle.mcast_txn.specs.declared.send.Send.{Send}

@@ -1,4 +1,4 @@
--- What maps and sets of octets store.
+-- What maps and sets of octets store. Only proofs go by it; no public contract speaks of it.
 use Rattle.std.specs.Prelude.{ℕ, List, map, Vec}
 use Rattle.std.specs.declared.alloc.Global.{Global}
 

@@ -384,9 +384,9 @@ impl Session {
     /// Takes a frame: what the connection has to do for it, or the first of its refusals, with the frame handed back.
     ///
     /// 73 where the session is closed. A CONNECT is refused by 61 and 62, any other frame before it by 60. SUBSCRIBE: 68, 67, 63, 69.
-    /// UNSUBSCRIBE: 64. BEGIN: 65, 70. SEND: 67, 66, 71. COMMIT and ABORT: 66. Want of memory, 72, comes last, and only at CONNECT (and
-    /// STOMP), SUBSCRIBE, BEGIN, SEND and COMMIT. Each refusal but 73 closes the session, as DISCONNECT does: its open subscriptions
-    /// end, and its open transactions are aborted.
+    /// UNSUBSCRIBE: 64. BEGIN: 65, 70. SEND: 67, 66, 71. COMMIT and ABORT: 66. Out of memory, 72, comes last, and only at SUBSCRIBE,
+    /// BEGIN, SEND and a COMMIT whose transaction has SENDs. Each refusal but 73 closes the session, as DISCONNECT does: its open
+    /// subscriptions end, and its open transactions are aborted.
     pub fn step(&mut self, frame: ClientFrame) -> Result<Step, (ClientFrame, SessionFault)>
         ensures accepted { IfOk result (λ step. (frames : List Frame) → StandsFor self.old frames
             → Accepts (held_after self.old.names frames) (raw_of frame) step

@@ -128,6 +128,17 @@ fn a_commit_without_memory(rt: HostRuntime) {
 }
 
 #[test]
+fn a_commit_without_sends_takes_none(rt: HostRuntime) {
+    let row = Row {
+        script: b"c..,bx.",
+        command: Command::Commit,
+        pairs: &[(b"transaction", b"x"), (b"receipt", b"r")],
+        body: b"",
+    };
+    assert!(rt; !is_refused_once(&rt, rt.alloc(), &row));
+}
+
+#[test]
 fn a_connect_takes_none(rt: HostRuntime) {
     let row = Row {
         script: b"",

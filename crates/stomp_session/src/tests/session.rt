@@ -2,8 +2,9 @@
 
 use super::client::{Client, has, last_number};
 use crate::{Action, SessionFault, Step};
+use std::alloc::Global;
 use std::test::Fail;
-use stomp_frame::{Command, Octets, ServerFrame, render, write_frame};
+use stomp_frame::{Command, NoMemory, Octets, ServerFrame, render, write_frame};
 
 /// Scripts, each with the number that its last frame is answered: 0 where it's accepted.
 const ROWS: [(&[u8], u32); 22] = [
@@ -77,35 +78,58 @@ fn an_ack_is_auto(rt: HostRuntime) -> Result<(), Fail> {
     Ok(())
 }
 
-#[test]
-fn a_fault_and_an_end_close(rt: HostRuntime) -> Result<(), Fail> {
-    let mut faulty = Client::begun(rt.alloc())?;
-    faulty.letters(b'u', b'q', b' ')?;
-    let told = faulty.letters(b's', b'a', b'A')?;
-    assert_eq!(rt; told, 73);
-    let mut ended = Client::begun(rt.alloc())?;
-    ended.end();
-    let told = ended.letters(b's', b'a', b'A')?;
-    assert_eq!(rt; told, 73);
-    Ok(())
+/// The answer to a SUBSCRIBE after an end from outside, or after a refused UNSUBSCRIBE.
+fn answer_once_closed(alloc: Global, is_ended: bool) -> Result<u32, NoMemory> {
+    let mut client = Client::begun(alloc)?;
+    if is_ended {
+        client.end();
+    } else {
+        client.letters(b'u', b'q', b' ')?;
+    }
+    client.letters(b's', b'a', b'A')
 }
 
 #[test]
-fn at_most_sixty_four(rt: HostRuntime) -> Result<(), Fail> {
-    let rows: [(u8, u32); 3] = [(b's', 69), (b'b', 70), (b'm', 71)];
-    for (letter, want) in rows {
-        let mut client = Client::begun(rt.alloc())?;
-        let mut told = 0;
-        for k in 0..65u8 {
-            if told == 0 {
-                told = match letter {
-                    b's' => client.letters(b's', 127 - k, b'A')?,
-                    b'b' => client.letters(b'b', k + 1, b' ')?,
-                    _ => client.letters(b'm', b'A', b'x')?,
-                };
-            }
+fn a_fault_and_an_end_close(rt: HostRuntime) -> Result<(), Fail> {
+    for is_ended in [false, true] {
+        let told = answer_once_closed(rt.alloc(), is_ended)?;
+        assert_eq!(rt; told, 73);
+    }
+    Ok(())
+}
+
+/// The answer to a SEND in `x`, or to a SUBSCRIBE or a BEGIN with this id.
+fn answer_to(client: &mut Client, letter: u8, id: u8) -> Result<u32, NoMemory> {
+    if letter == b'm' {
+        client.letters(b'm', b'A', b'x')
+    } else {
+        client.letters(letter, id, b'A')
+    }
+}
+
+/// How many of 64 frames are accepted after the script, and the answer to one more.
+fn answers_at_the_limit(alloc: Global, script: &[u8], letter: u8) -> Result<(u32, u32), NoMemory> {
+    let mut client = Client::after(alloc, script)?;
+    let mut accepted = 0u32;
+    for id in 1..65u8 {
+        if answer_to(&mut client, letter, id)? == 0 {
+            accepted = accepted.wrapping_add(1);
         }
-        assert_eq!(rt; told, want);
+    }
+    Ok((accepted, answer_to(&mut client, letter, 65)?))
+}
+
+/// Each of the first 64 subscriptions, transactions, and SENDs in a transaction is accepted, and the 65th is refused.
+#[test]
+fn at_most_sixty_four(rt: HostRuntime) -> Result<(), Fail> {
+    let rows: [(&[u8], u8, u32); 3] = [
+        (b"c..", b's', 69),
+        (b"c..", b'b', 70),
+        (b"c..,bx.", b'm', 71),
+    ];
+    for (script, letter, want) in rows {
+        let told = answers_at_the_limit(rt.alloc(), script, letter)?;
+        assert_eq!(rt; told, (64, want));
     }
     Ok(())
 }
