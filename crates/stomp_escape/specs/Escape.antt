@@ -44,7 +44,7 @@ Spells text (b ∷ v) =
 -- The first fault of text from the left, where all before it is spelled: at this place a backslash with
 -- no letter of an escape behind it ("undefined escape sequences such as \t MUST be treated as a fatal
 -- protocol error"; STOMP 1.2, "Value Encoding"), or a backslash that is last. So `ab\x\` has Undefined 2,
--- and `a\` has Cut. Want of memory is no fault of a text.
+-- and `a\` has Cut. Being out of memory is no fault of a text.
 abbrev pub IsFirstFault : List ℕ → EscapeFault → Type 0
 IsFirstFault text (Undefined at) =
     (v front : List ℕ) × (c : ℕ) × (rest : List ℕ) × Spells front v × (length front ≡ at)

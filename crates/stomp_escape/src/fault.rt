@@ -7,19 +7,19 @@ ghost use Rattle.stomp_escape.specs.declared.fault.EscapeFault.TheVariants as es
 use crate::no_memory::NoMemory;
 use thiserror::Error;
 
-/// Why a text of a header could not be read: its first fault from the left, or want of memory
+/// Why a text of a header could not be read: its first fault from the left, or out of memory
 /// (STOMP 1.2, "Value Encoding").
 #[derive(Clone, Copy, Debug, PartialEq, Eq, Error)]
 pub enum EscapeFault {
     /// 1: a backslash whose next octet is none of `r`, `n`, `c` and backslash. With it comes the
     /// place of the backslash, which is the number of octets before it.
-    #[error("undefined escape at octet {0}: write a backslash only before r, n, c or a backslash")]
+    #[error("1 Undefined: at octet {0}, write a backslash only before r, n, c or another backslash")]
     Undefined(usize),
     /// 2: the last octet is a backslash that begins an escape.
-    #[error("the text ends within an escape: write a single backslash as two")]
+    #[error("2 Cut: write a backslash at the end of the text as two")]
     Cut,
     /// 3: no memory for the octets read. It says nothing of the text.
-    #[error("out of memory: try again once other work has ended, or give the program more")]
+    #[error("3 NoMemory: try again where more memory is free, or send less")]
     NoMemory,
 }
 

@@ -1,11 +1,11 @@
-//! Want of memory.
+//! Out of memory.
 
 use std::alloc::{AllocError, AllocFailed};
 use thiserror::Error;
 
 /// There was no memory for the result. Nothing else went wrong, so the call may be tried again.
 #[derive(Clone, Copy, Debug, PartialEq, Eq, Error)]
-#[error("out of memory: try again once other work has ended, or give the program more")]
+#[error("NoMemory: try again where more memory is free, or send less")]
 pub struct NoMemory;
 
 impl From<AllocError> for NoMemory {

@@ -1,6 +1,7 @@
 //! Worked examples of the definitions, the calls with ample memory, and their answers without it.
 
 use crate::{EscapeFault, NoMemory, Octets, escape, escape_into, unescape};
+use std::alloc::Global;
 use std::test::Fail;
 
 /// The four octets that have an escape, and the text that spells them.
@@ -96,27 +97,55 @@ fn octets_grow(rt: HostRuntime) -> Result<(), Fail> {
 
 #[test]
 fn faults_say_what_to_do(rt: HostRuntime) -> Result<(), Fail> {
-    let memory = "out of memory: try again once other work has ended, or give the program more";
     for (fault, message) in [
         (
             EscapeFault::Undefined(2),
-            "undefined escape at octet 2: write a backslash only before r, n, c or a backslash",
+            "1 Undefined: at octet 2, write a backslash only before r, n, c or another backslash",
         ),
         (
             EscapeFault::Cut,
-            "the text ends within an escape: write a single backslash as two",
+            "2 Cut: write a backslash at the end of the text as two",
         ),
-        (EscapeFault::NoMemory, memory),
+        (
+            EscapeFault::NoMemory,
+            "3 NoMemory: try again where more memory is free, or send less",
+        ),
     ] {
         assert_eq!(rt; fault.to_string(rt.alloc())?.as_str(), message);
     }
-    assert_eq!(rt; NoMemory.to_string(rt.alloc())?.as_str(), memory);
+    assert_eq!(rt;
+        NoMemory.to_string(rt.alloc())?.as_str(),
+        "NoMemory: try again where more memory is free, or send less"
+    );
+    Ok(())
+}
+
+/// Octets that repeat a piece.
+fn repeated(alloc: Global, piece: &[u8], count: usize) -> Result<Octets, NoMemory> {
+    let mut octets = Octets::new(alloc);
+    for _ in 0..count {
+        octets.extend(piece)?;
+    }
+    Ok(octets)
+}
+
+/// A value of 4,096 octets that all have escapes is written as 8,192 octets, and read again.
+#[test]
+fn memory_is_enough_for_long_escapes(rt: HostRuntime) -> Result<(), Fail> {
+    let alloc = rt.alloc();
+    let value = repeated(alloc, ESCAPED_OCTETS, 1024)?;
+    let text = repeated(alloc, FOUR_ESCAPES, 1024)?;
+    assert_eq!(rt; (value.len(), text.len()), (4096, 8192));
+    let escaped = escape(alloc, value.as_slice())?;
+    assert!(rt; escaped.as_slice() == text.as_slice());
+    let unescaped = unescape(alloc, text.as_slice())?;
+    assert!(rt; unescaped.as_slice() == value.as_slice());
     Ok(())
 }
 
 /// Holds whichever allocation fails: the answer is then `NoMemory`, and never another one.
 #[test]
-fn want_of_memory_changes_no_answer(rt: HostRuntime) {
+fn out_of_memory_changes_no_answer(rt: HostRuntime) {
     let alloc = rt.alloc();
     if let Ok(text) = escape(alloc, ESCAPED_OCTETS) {
         assert_eq!(rt; text.as_slice(), FOUR_ESCAPES);
@@ -136,7 +165,7 @@ fn want_of_memory_changes_no_answer(rt: HostRuntime) {
 
 /// Holds whichever allocation fails: what was not taken leaves the list as it was.
 #[test]
-fn want_of_memory_leaves_octets(rt: HostRuntime) {
+fn out_of_memory_leaves_octets(rt: HostRuntime) {
     let mut octets = Octets::with_capacity(rt.alloc(), 1).unwrap_or(Octets::new(rt.alloc()));
     let mut taken = 0u64;
     for _ in 0..100u8 {

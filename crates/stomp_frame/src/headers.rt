@@ -1,11 +1,12 @@
 //! Headers.
 
-ghost use Rattle.std.specs.Prelude.{◌≡◌, ◌∷◌, [], ◌++◌, ◌↔◌, IsTrue, List, ℕ, length, ◌<◌, slice_get, Some, IfSome, OnOk, OnErr};
-ghost use Rattle.std.specs.List.{AllByRecursion, position};
+ghost use Rattle.std.specs.Prelude.{◌≡◌, ◌∷◌, [], ◌==◌, ◌++◌, ◌↔◌, IsTrue, List, ℕ, length, ◌<◌, slice_get, Some, IfSome, OnOk, OnErr};
+ghost use Rattle.std.specs.List.{AllByRecursion, list_any, position};
 ghost use Rattle.std.specs.Option.{option_map};
 ghost use Rattle.std.specs.Str.{bytes_eq};
 ghost use Rattle.stomp_frame.specs.Headers.{IsPair, IsText, first_of, without_first};
 
+use crate::scan::is_utf8;
 use std::alloc::Global;
 use std::marker::Model;
 use stomp_escape::{NoMemory, Octets};
@@ -27,6 +28,19 @@ impl Model for Headers {
     ghost view = { λ h. h.pairs.items };
 
     ghost invariant = { λ h. AllByRecursion IsPair h.pairs.items };
+}
+
+fn has_null(octets: &[u8]) -> bool
+    ensures { result ≡ list_any (λ b. b == 0) octets.now }
+{
+    octets.iter().any(|b| *b == 0)
+}
+
+/// Whether the octets are UTF-8 without NULL.
+fn is_text(octets: &[u8]) -> bool
+    ensures { IsTrue result ↔ IsText octets.now }
+{
+    is_utf8(octets) && !has_null(octets)
 }
 
 impl Headers {
@@ -53,7 +67,14 @@ impl Headers {
         self.pairs.is_empty()
     }
 
-    /// Puts a header at the end.
+    /// Whether this name and value may be a header: the name isn't empty, and both are UTF-8 without NULL.
+    pub fn is_pair(name: &[u8], value: &[u8]) -> bool
+        ensures { IsTrue result ↔ IsPair (name.now, value.now) }
+    {
+        !name.is_empty() && is_text(name) && is_text(value)
+    }
+
+    /// Puts a header at the end. `is_pair` tells which may be put.
     pub fn push(&mut self, name: Octets, value: Octets) -> Result<(), NoMemory>
         requires { IsPair (name, value) }
         ensures ok { OnOk result (self.new ≡ self.old ++ (name, value) ∷ []) }

@@ -27,7 +27,8 @@ fn less_cr(line: &[u8]) -> &[u8]
     }
 }
 
-fn is_text(octets: &[u8]) -> bool
+/// Whether the octets are UTF-8.
+pub(crate) fn is_utf8(octets: &[u8]) -> bool
     ensures { result ≡ is_utf8 octets.now }
 {
     str::from_utf8(octets).is_ok()
@@ -49,7 +50,7 @@ fn check<'a>(limits: &Limits, content: &'a [u8]) -> Result<&'a [u8], Stop>
     if has_break(content) {
         return Err(Stop::Fault(Check::BadLine));
     }
-    if !is_text(content) {
+    if !is_utf8(content) {
         return Err(Stop::Fault(Check::BadText));
     }
     Ok(content)

@@ -1,61 +1,12 @@
 //! Worked examples of what is written, and answers without memory.
 
-ghost use Rattle.std.specs.Prelude.{◌≡◌, ◌&&◌, nat_le, IfOk};
-ghost use Rattle.std.specs.List.{list_all};
-ghost use Rattle.stomp_frame.specs.Headers.{IsText, IsPair};
-
-use crate::{
-    Command, FrameReader, Headers, Limits, RawFrame, ServerFrame, render, writable, write_frame,
-};
+use super::made::{headers, raw, text};
+use crate::{Command, FrameReader, Limits, RawFrame, ServerFrame, render, writable, write_frame};
 use std::alloc::Global;
 use std::test::Fail;
 use stomp_escape::{NoMemory, Octets};
 
 type Pairs<'a> = &'a [(&'a [u8], &'a [u8])];
-
-fn is_ascii(octets: &[u8]) -> bool
-    ensures { result ≡ list_all (λ b. nat_le 1 b && nat_le b 127) octets.now }
-{
-    octets.iter().all(|b| 1 <= *b && *b <= 127)
-}
-
-/// The octets, where they are ASCII without NULL, as those of these tests are.
-fn text(alloc: Global, octets: &[u8]) -> Result<Octets, NoMemory>
-    ensures { IfOk result (λ o. IsText o) }
-{
-    if !is_ascii(octets) {
-        return Err(NoMemory);
-    }
-    let text = Octets::from_slice(alloc, octets)?;
-    Ok(text)
-}
-
-fn pair(alloc: Global, name: &[u8], value: &[u8]) -> Result<(Octets, Octets), NoMemory>
-    ensures { IfOk result (λ p. IsPair p) }
-{
-    let name = text(alloc, name)?;
-    if name.is_empty() {
-        return Err(NoMemory);
-    }
-    Ok((name, text(alloc, value)?))
-}
-
-fn headers(alloc: Global, pairs: Pairs) -> Result<Headers, NoMemory> {
-    let mut headers = Headers::new(alloc);
-    for (name, value) in pairs {
-        let (name, value) = pair(alloc, name, value)?;
-        headers.push(name, value)?;
-    }
-    Ok(headers)
-}
-
-fn raw(alloc: Global, command: Command, pairs: Pairs, body: &[u8]) -> Result<RawFrame, NoMemory> {
-    Ok(RawFrame {
-        command,
-        headers: headers(alloc, pairs)?,
-        body: Octets::from_slice(alloc, body)?,
-    })
-}
 
 /// What is written of the MESSAGE for the subscription `s`.
 fn message(
@@ -372,7 +323,7 @@ fn each_command_is_read_and_written_again(rt: HostRuntime) -> Result<(), Fail> {
 
 /// Holds whichever allocation fails: what isn't written whole leaves nothing.
 #[test]
-fn want_of_memory_leaves_nothing(rt: HostRuntime) {
+fn out_of_memory_leaves_nothing(rt: HostRuntime) {
     let alloc = rt.alloc();
     let mut out = Octets::new(alloc);
     for _ in 0..20u8 {
