@@ -1,6 +1,6 @@
 //! What is written, gathered into large writes.
 
-ghost use Rattle.std.specs.Prelude.{◌≡◌, ◌≢◌, ◌++◌, [], Err, IfOk, OnOk, IfSome, IsErrOf};
+ghost use Rattle.std.specs.Prelude.{◌≡◌, ◌≢◌, ◌++◌, [], Err, IfOk, OnOk, IfSome, IsErrOf, IsTrue};
 ghost use Rattle.std.specs.Io.KnownBytes.{Appends};
 ghost use Rattle.std.specs.Option.{option_map, option_map_or};
 ghost use Rattle.stomp_frame.specs.Writing.{spelled};
@@ -64,6 +64,7 @@ pub(crate) fn finish<W: Write>(
         (waiting.old ++ option_map_or spelled (option_map rendered error) [])) }
     ensures status { IfOk result (λ status.
         status ≡ option_map_or (λ f. 2) (option_map rendered error) 0) }
+    ensures flushed { OnOk result (IsTrue writer.new.flushed) }
     ensures io { IsErrOf result ProgramFault.Io → Fails writer.old writer.new }
     ensures heard { (result ≢ Err ProgramFault.Io) → FailsNot writer.old writer.new }
 {
