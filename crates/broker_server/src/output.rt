@@ -1,6 +1,6 @@
 //! What is written, gathered into large writes.
 
-ghost use Rattle.std.specs.Prelude.{◌≡◌, ◌≢◌, ◌++◌, [], Err, IfOk, OnOk, IfSome, IsErrOf};
+ghost use Rattle.std.specs.Prelude.{◌≡◌, ◌≢◌, ◌++◌, [], Err, IfOk, OnOk, IfSome, IsErrOf, IsTrue};
 ghost use Rattle.std.specs.Io.KnownBytes.{Appends};
 ghost use Rattle.std.specs.Option.{option_map, option_map_or};
 ghost use Rattle.stomp_frame.specs.Writing.{spelled};
@@ -51,7 +51,23 @@ fn drain<W: Write>(waiting: &mut Octets, writer: &mut Counting<W>) -> Result<(),
     Ok(())
 }
 
-/// Writes all that waits and then the error, if there is one, and answers the status.
+/// Writes all that waits, and flushes.
+fn drain_and_flush<W: Write>(
+    waiting: &mut Octets,
+    writer: &mut Counting<W>,
+) -> Result<(), ProgramFault>
+    ensures sent { OnOk result
+        (Appends (W.contents writer.old.inner) (W.contents writer.new.inner) waiting.old) }
+    ensures flushed { OnOk result (IsTrue writer.new.flushed) }
+    ensures io { IsErrOf result ProgramFault.Io → Fails writer.old writer.new }
+    ensures heard { (result ≢ Err ProgramFault.Io) → FailsNot writer.old writer.new }
+{
+    drain(waiting, writer)?;
+    writer.flush()?;
+    Ok(())
+}
+
+/// Writes all that waits and then the error, if there is one, flushes, and returns the status.
 pub(crate) fn finish<W: Write>(
     alloc: Global,
     error: Option<ServerFrame>,
@@ -64,6 +80,7 @@ pub(crate) fn finish<W: Write>(
         (waiting.old ++ option_map_or spelled (option_map rendered error) [])) }
     ensures status { IfOk result (λ status.
         status ≡ option_map_or (λ f. 2) (option_map rendered error) 0) }
+    ensures flushed { OnOk result (IsTrue writer.new.flushed) }
     ensures io { IsErrOf result ProgramFault.Io → Fails writer.old writer.new }
     ensures heard { (result ≢ Err ProgramFault.Io) → FailsNot writer.old writer.new }
 {
@@ -74,7 +91,6 @@ pub(crate) fn finish<W: Write>(
         }
         None => 0,
     };
-    drain(waiting, writer)?;
-    writer.flush()?;
+    drain_and_flush(waiting, writer)?;
     Ok(status)
 }

@@ -1,10 +1,11 @@
 //! The relay of one topic.
 
 ghost use Rattle.std.specs.Prelude.{◌≡◌, ◌≢◌, ◌⊎◌, ◌≤◌, [], List, ℕ, Err, IfOk, IfSome, IsErrOf, length};
-ghost use Rattle.std.specs.Prelude.{vec_len};
+ghost use Rattle.std.specs.Prelude.{IsTrue, OnOk, vec_len};
 ghost use Rattle.std.specs.Io.KnownBytes.{Appends};
 ghost use Rattle.broker_server.specs.Counts.{plus, turns, Fails, FailsNot, RunsOut};
-ghost use Rattle.broker_server.specs.Relay.{input_limit, too_long, IsAnswered, IsRelayed};
+ghost use Rattle.broker_server.specs.Relay.{input_limit, too_long, IsAnswered};
+ghost use Rattle.broker_server.specs.Runs.{Relays, HasCause};
 ghost use Rattle.broker_server.specs.Steps.{reading, IsGathered};
 
 use crate::counting::Counting;
@@ -39,14 +40,11 @@ pub fn run_relay<R: Read, W: Write>(
     reader: &mut Counting<R>,
     writer: &mut Counting<W>,
 ) -> Result<u8, ProgramFault>
-    ensures relayed { IfOk result (λ status. IfSome (R.remaining reader.old.inner) (λ input.
-        (output : List ℕ) × Appends (W.contents writer.old.inner) (W.contents writer.new.inner) output
-        × IsRelayed name.now input output status)) }
-    // Where it isn't the writer that failed, it wasn't called.
-    ensures io { IsErrOf result ProgramFault.Io → Fails writer.old writer.new
-        ⊎ ((writer.new ≡ writer.old)
-        × (Fails reader.old reader.new ⊎ RunsOut reader.old reader.new
-        (R.remaining reader.old.inner) (R.remaining reader.new.inner))) }
+    ensures relayed { Relays name.now (R.remaining reader.old.inner)
+        (W.contents writer.old.inner) (W.contents writer.new.inner) result }
+    ensures flushed { OnOk result (IsTrue writer.new.flushed) }
+    ensures io { IsErrOf result ProgramFault.Io
+        → HasCause R.remaining reader.old reader.new writer.old writer.new }
     ensures turns { reader.new.calls ≤ plus reader.old.calls turns }
     // A failure is never passed over.
     ensures heard { (result ≢ Err ProgramFault.Io)
@@ -106,6 +104,7 @@ fn zeros(alloc: Global, len: usize) -> Result<Vec<u8>, AllocError>
 fn refuse_length<W: Write>(writer: &mut Counting<W>) -> Result<u8, ProgramFault>
     ensures told { IfOk result (λ status. (status ≡ 2)
         × Appends (W.contents writer.old.inner) (W.contents writer.new.inner) too_long) }
+    ensures flushed { OnOk result (IsTrue writer.new.flushed) }
     ensures io { IsErrOf result ProgramFault.Io → Fails writer.old writer.new }
     ensures heard { (result ≢ Err ProgramFault.Io) → FailsNot writer.old writer.new }
 {
@@ -126,6 +125,7 @@ fn relay_frames<W: Write>(
     ensures answered { IfOk result (λ status. (output : List ℕ)
         × Appends (W.contents writer.old.inner) (W.contents writer.new.inner) output
         × IsAnswered name.now frames.old.text output status) }
+    ensures flushed { OnOk result (IsTrue writer.new.flushed) }
     ensures io { IsErrOf result ProgramFault.Io → Fails writer.old writer.new }
     ensures heard { (result ≢ Err ProgramFault.Io) → FailsNot writer.old writer.new }
 {

@@ -1,0 +1,32 @@
+-- How a program ends: its status, and the line that it writes to standard error (own).
+use Rattle.std.specs.Prelude.{◌≡◌, ◌≢◌, ℕ, List, codes, Option, Some, None, Result, Ok, Err}
+use Rattle.std.specs.IoError.{error_kind}
+use Rattle.std.specs.declared.io.Error.{Error}
+use Rattle.std.specs.declared.io.ErrorKind.TheVariants.{OutOfMemory}
+use Rattle.broker_server.specs.declared.ended.Ended.{Ended}
+use Rattle.broker_server.specs.declared.message.Message.{Message}
+use Rattle.broker_server.specs.declared.message.Message.TheVariants as messages
+use Rattle.broker_server.specs.declared.program_fault.ProgramFault.{ProgramFault}
+use Rattle.broker_server.specs.declared.program_fault.ProgramFault.TheVariants.{NoMemory, Io}
+use Rattle.broker_server.specs.Programs.{fault_status}
+
+-- the text of a line on standard error
+abbrev pub message_text : Message → List ℕ
+message_text messages.Usage = codes "usage: stompd relay NAME | script | trace | audit | serve ADDR NAME.."
+message_text (messages.Fault NoMemory) = codes "no memory"
+message_text (messages.Fault Io) = codes "io fault"
+
+-- the end after wrong words: the usage, and status 1
+abbrev pub usage_end : Ended
+usage_end = record { status = 1; message = Some messages.Usage }
+
+-- the end of a program that answered this: its status and no line, or the fault's status and line
+abbrev pub end_of : Result ℕ ProgramFault → Ended
+end_of (Ok status) = record { status = status; message = None }
+end_of (Err fault) = record { status = fault_status fault; message = Some (messages.Fault fault) }
+
+-- The words could not be read: the end is that of no memory if memory was missing, and else that of wrong words.
+abbrev pub IsUnreadEnd : Error → Ended → Type 0
+IsUnreadEnd error ended =
+    (error_kind error ≡ OutOfMemory → ended ≡ end_of (Err NoMemory))
+    × (error_kind error ≢ OutOfMemory → ended ≡ usage_end)

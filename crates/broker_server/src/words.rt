@@ -1,0 +1,48 @@
+//! A program, from the words on its command line to its end.
+
+ghost use Rattle.std.specs.Prelude.{◌≡◌, ℕ, None, Result, IfErr, IfOk, IfSome, map, string_bytes};
+ghost use Rattle.broker_server.specs.Ends.{end_of, usage_end, IsUnreadEnd};
+ghost use Rattle.broker_server.specs.Programs.{relay_name};
+ghost use Rattle.broker_server.specs.Runs.{IsRun};
+
+use crate::counting::Counting;
+use crate::ended::Ended;
+use crate::program::Program;
+use crate::program_fault::ProgramFault;
+use crate::relay::run_relay;
+use std::alloc::Global;
+use std::io;
+use std::io::{ErrorKind, Read, Write};
+
+/// Runs what the words after the program's own name ask for, over this reader and this writer, and returns how the
+/// program ends. `words` is what reading them gave.
+///
+/// Wrong words end with the usage and status 1, as do words that could not be read; for these, where memory was
+/// missing, the end is that of `NoMemory`. The reader and the writer are then left alone.
+pub fn run_words<R: Read, W: Write>(
+    alloc: Global,
+    words: io::Result<Vec<String>>,
+    reader: &mut Counting<R>,
+    writer: &mut Counting<W>,
+) -> Ended
+    ensures unread { IfErr words (λ error. IsUnreadEnd error result
+        × (reader.new ≡ reader.old) × (writer.new ≡ writer.old)) }
+    ensures usage { IfOk words (λ words. relay_name (map string_bytes words.items) ≡ None
+        → (result ≡ usage_end) × (reader.new ≡ reader.old) × (writer.new ≡ writer.old)) }
+    // The end is that of what a run of the relay answered, to the name that is asked for.
+    ensures relayed { IfOk words (λ words. IfSome (relay_name (map string_bytes words.items)) (λ name.
+        (answer : Result ℕ ProgramFault) × (result ≡ end_of answer)
+        × IsRun R.remaining W.contents name reader.old reader.new writer.old writer.new answer)) }
+{
+    let words = match words {
+        Ok(words) => words,
+        Err(e) if e.kind() == ErrorKind::OutOfMemory => {
+            return Ended::by(Err(ProgramFault::NoMemory));
+        }
+        Err(_) => return Ended::by_usage(),
+    };
+    match Program::parse(words.as_slice()) {
+        Some(Program::Relay(name)) => Ended::by(run_relay(alloc, name, reader, writer)),
+        None => Ended::by_usage(),
+    }
+}
