@@ -10,7 +10,7 @@ use Rattle.mcast_txn.specs.declared.send.Send.{Send}
 use Rattle.stomp_session.specs.Names.{is_known, place_of, with_name}
 use Rattle.stomp_session.specs.Stored.{octets_of, entries_of}
 use Rattle.stomp_session.specs.Refusals.{is_open, sends_in}
-use Rattle.stomp_session.specs.Effects.{place_of_id, without, with_send}
+use Rattle.stomp_session.specs.Effects.{place_of_id, entries_without, with_send}
 
 abbrev pub Key : Type 0
 Key = Vec ℕ Global
@@ -49,11 +49,11 @@ is_open-lookup id (e ∷ es) = by (bytes_eq id e.0.items) refl (is_open-lookup i
     by true t rest = rw t
     by false t rest = rw t rest
 
-pub entries_of-remove : {X : Type 0} (id : List ℕ) (es : List (Key × X)) → entries_of (remove_entry (is_key id) es) ≡ without id (entries_of es)
+pub entries_of-remove : {X : Type 0} (id : List ℕ) (es : List (Key × X)) → entries_of (remove_entry (is_key id) es) ≡ entries_without id (entries_of es)
 entries_of-remove id [] = refl
 entries_of-remove id (e ∷ es) = by (bytes_eq id e.0.items) refl (entries_of-remove id es)
   where
-    by : (b : Bool) → bytes_eq id e.0.items ≡ b → entries_of (remove_entry (is_key id) es) ≡ without id (entries_of es) → entries_of (remove_entry (is_key id) (e ∷ es)) ≡ without id (entries_of (e ∷ es))
+    by : (b : Bool) → bytes_eq id e.0.items ≡ b → entries_of (remove_entry (is_key id) es) ≡ entries_without id (entries_of es) → entries_of (remove_entry (is_key id) (e ∷ es)) ≡ entries_without id (entries_of (e ∷ es))
     by true t rest = rw t
     by false t rest = rw t (ap (λ them. (e.0.items, e.1) ∷ them) rest)
 

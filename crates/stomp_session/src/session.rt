@@ -8,8 +8,9 @@ ghost use Rattle.stomp_frame.specs.Headers.{IsText, first_of};
 ghost use Rattle.stomp_session.specs.declared.action.Action.TheVariants as actions;
 ghost use Rattle.stomp_session.specs.declared.phase.Phase.TheVariants as phases;
 ghost use Rattle.stomp_session.specs.declared.fault.SessionFault.TheVariants as faults;
-ghost use Rattle.stomp_session.specs.Open.{closed, held_after, StandsFor};
-ghost use Rattle.stomp_session.specs.Refusals.{is_closed, is_new, first_fault, has_other_ack};
+ghost use Rattle.stomp_session.specs.Open.{after_close, held_after, StandsFor};
+ghost use Rattle.stomp_session.specs.FirstRefusal.{first_fault};
+ghost use Rattle.stomp_session.specs.Refusals.{is_closed, is_new, has_other_ack};
 ghost use Rattle.stomp_session.specs.Answers.{Accepts, AreTexts, Refuses};
 ghost use Rattle.stomp_session.specs.Effects.{AcceptsAs, Handles, IsRouteOf, RefusesAs, refusal_by};
 
@@ -107,7 +108,7 @@ impl Session {
     /// Closes it for a cause from outside: its open subscriptions end, and its open transactions are
     /// aborted. It takes no memory.
     pub fn end(&mut self)
-        ensures { self.new ≡ closed self.old }
+        ensures { self.new ≡ after_close self.old }
     {
         self.phase = Phase::Closed;
         self.subscriptions.clear();
@@ -284,7 +285,7 @@ impl Session {
         fault: SessionFault,
     ) -> Result<Step, (ClientFrame, SessionFault)>
         ensures refused { result ≡ Err (refused, fault) }
-        ensures after { self.new ≡ closed self.old }
+        ensures after { self.new ≡ after_close self.old }
     {
         self.end();
         Err((refused, fault))
@@ -304,7 +305,7 @@ impl Session {
         ensures refused { IfErr result (λ e. (frames : List Frame) → StandsFor self.old frames
             → Refuses (held_after self.old.names frames) (raw_of frame) e.1) }
         ensures back { IfErr result (λ e. e.0 ≡ frame) }
-        ensures closes { OnErr result (self.new ≡ closed self.old) }
+        ensures closes { OnErr result (self.new ≡ after_close self.old) }
         ensures stays_closed { self.old.phase ≡ phases.Closed
             → (result ≡ Err (frame, faults.Closed)) × (self.new ≡ self.old) }
         ensures names { self.new.names ≡ self.old.names }

@@ -1,8 +1,9 @@
 //! The transactions that are open.
 
 ghost use Rattle.std.specs.Prelude.{◌≡◌, ◌<◌, ℕ, List, true, false, not, [], ◌∷◌, ◌++◌, length, Some, is_some, IfSome, IfOk, IfErr, OnOk};
-ghost use Rattle.stomp_session.specs.Refusals.{is_open, is_full, is_full_of_sends, sends_in, first_fault};
-ghost use Rattle.stomp_session.specs.Effects.{place_of_id, without, with_send};
+ghost use Rattle.stomp_session.specs.Refusals.{is_open, is_full, is_full_of_sends, sends_in};
+ghost use Rattle.stomp_session.specs.FirstRefusal.{first_fault};
+ghost use Rattle.stomp_session.specs.Effects.{entries_without, place_of_id, with_send};
 ghost use Rattle.stomp_session.specs.declared.fault.SessionFault.TheVariants.{NoSuchTxn, TooManySends};
 
 use crate::fault::SessionFault;
@@ -110,7 +111,7 @@ impl Transactions {
     pub(crate) fn take(&mut self, name: &[u8]) -> Option<Draft>
         ensures was_open { is_some result ≡ is_open name.now self.old }
         ensures sends { IfSome result (λ draft. draft ≡ sends_in name.now self.old) }
-        ensures after { self.new ≡ without name.now self.old }
+        ensures after { self.new ≡ entries_without name.now self.old }
     {
         self.drafts.shift_remove(name)
     }
