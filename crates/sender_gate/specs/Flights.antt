@@ -6,7 +6,8 @@ use Rattle.mcast_txn.specs.Ballot.{given_rows}
 use Rattle.mcast_txn.specs.Slots.{Slots}
 use Rattle.mcast_txn.specs.Transaction.{TopicPart}
 
--- there is a topic, ballot and parts are of the same topics, and each number that was given is above the floor's
+-- there is a topic, ballot and parts are of the same topics, and each number that was given is above the
+-- floor's
 pub record IsFlying (floor : Stamp) (numbers : Slots ℕ) (parts : Slots TopicPart) : Type 0 where
   pub some : numbers ≢ []
   pub alike : map (λ slot. slot.0) parts ≡ map (λ slot. slot.0) numbers

@@ -24,7 +24,8 @@ pub record GateState : Type 0 where
   pub seq : ℕ
   pub floor : Stamp
 
--- a transaction on its way: its sender's floor, each of its topics with the number that it gave, and the parts that weren't taken out
+-- a transaction on its way: its sender's floor, each of its topics with the number that it gave, and the parts that
+-- weren't taken out
 pub record FlightState : Type 0 where
   pub id : TxnId
   pub floor : Stamp
@@ -37,7 +38,12 @@ next_id gate = record { sender = gate.sender; seq = gate.seq + 1 }
 
 -- the flight of the sender's next transaction, of these SENDs
 abbrev pub flight_of : GateState → List Send → FlightState
-flight_of gate sends = record { id = next_id gate; floor = gate.floor; numbers = free_slots (topics_of sends); parts = parts_of (next_id gate) sends }
+flight_of gate sends = record {
+  id = next_id gate;
+  floor = gate.floor;
+  numbers = free_slots (topics_of sends);
+  parts = parts_of (next_id gate) sends;
+}
 
 -- why a flight doesn't begin: there is no next number, or no memory
 abbrev pub begin_fault : GateState → GateFault

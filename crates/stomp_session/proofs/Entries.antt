@@ -1,16 +1,16 @@
 -- A map of octets and its entries, as contracts see them.
-use Rattle.std.proofs.Common.{◌≡◌, ℕ, Bool, true, false, cond, List, [], ◌∷◌, ◌++◌, is_some, Option, Some, None, refl, sym, ap, ◌∙◌, Vec, arith, position, if◌then◌else◌, ◌||◌, true≢false, nat_lt, length, IfSome}
+use Rattle.std.proofs.Common.{◌≡◌, ◌+◌, ℕ, zero, suc, slice_get, Bool, true, false, cond, List, [], ◌∷◌, ◌++◌, is_some, Option, Some, None, refl, sym, ap, ◌∙◌, Vec, arith, position, if◌then◌else◌, ◌||◌, true≢false, nat_lt, length, IfSome}
 use Rattle.std.specs.declared.alloc.Global.{Global}
 use Rattle.std.specs.List.{list_any, position_or_len}
-use Rattle.std.specs.Map.{lookup, remove_entry, set_value}
+use Rattle.std.specs.Map.{keys_of, lookup, remove_entry, values_of}
 use Rattle.std.specs.Str.{bytes_eq}
-use Rattle.indexmap.specs.IndexMap.{insert_entry}
+use Rattle.indexmap.specs.IndexMap.{insert_entry, set_value_at}
 use Rattle.indexmap.specs.IndexSet.{insert_key}
 use Rattle.mcast_txn.specs.declared.send.Send.{Send}
 use Rattle.stomp_session.specs.Names.{is_known, place_of, with_name}
 use Rattle.stomp_session.specs.Stored.{octets_of, entries_of}
 use Rattle.stomp_session.specs.Refusals.{is_open, sends_in}
-use Rattle.stomp_session.specs.Effects.{without, with_send}
+use Rattle.stomp_session.specs.Effects.{place_of_id, entries_without, with_send}
 
 abbrev pub Key : Type 0
 Key = Vec ℕ Global
@@ -49,11 +49,11 @@ is_open-lookup id (e ∷ es) = by (bytes_eq id e.0.items) refl (is_open-lookup i
     by true t rest = rw t
     by false t rest = rw t rest
 
-pub entries_of-remove : {X : Type 0} (id : List ℕ) (es : List (Key × X)) → entries_of (remove_entry (is_key id) es) ≡ without id (entries_of es)
+pub entries_of-remove : {X : Type 0} (id : List ℕ) (es : List (Key × X)) → entries_of (remove_entry (is_key id) es) ≡ entries_without id (entries_of es)
 entries_of-remove id [] = refl
 entries_of-remove id (e ∷ es) = by (bytes_eq id e.0.items) refl (entries_of-remove id es)
   where
-    by : (b : Bool) → bytes_eq id e.0.items ≡ b → entries_of (remove_entry (is_key id) es) ≡ without id (entries_of es) → entries_of (remove_entry (is_key id) (e ∷ es)) ≡ without id (entries_of (e ∷ es))
+    by : (b : Bool) → bytes_eq id e.0.items ≡ b → entries_of (remove_entry (is_key id) es) ≡ entries_without id (entries_of es) → entries_of (remove_entry (is_key id) (e ∷ es)) ≡ entries_without id (entries_of (e ∷ es))
     by true t rest = rw t
     by false t rest = rw t (ap (λ them. (e.0.items, e.1) ∷ them) rest)
 
@@ -77,15 +77,27 @@ sends_in-lookup id (e ∷ es) d at = by (bytes_eq id e.0.items) refl at (sends_i
     by true t here rest = rw t cc
     by false t here rest = rw t (rest here)
 
-pub entries_of-set_value : (id : List ℕ) (send : Send) (es : List (Key × List Send)) (d : List Send) → lookup (is_key id) es ≡ Some d → entries_of (set_value (is_key id) es (d ++ send ∷ [])) ≡ with_send id send (entries_of es)
-entries_of-set_value id send [] d at = refl
-entries_of-set_value id send (e ∷ es) d at = by (bytes_eq id e.0.items) refl at (entries_of-set_value id send es d)
+-- one more SEND for the entry at the place of this id
+pub entries_of-set_value_at : (id : List ℕ) (send : Send) (es : List (Key × List Send)) (i : ℕ) (d : List Send)
+    → i ≡ place_of_id id (entries_of es) → slice_get (values_of es) i ≡ Some d
+    → entries_of (set_value_at es i (d ++ send ∷ [])) ≡ with_send id send (entries_of es)
+entries_of-set_value_at id send [] i d place at = refl
+entries_of-set_value_at id send (e ∷ es) i d place at = by (bytes_eq id e.0.items) refl i place at (λ j. entries_of-set_value_at id send es j d)
   where
-    by : (b : Bool) → bytes_eq id e.0.items ≡ b → cond b (Some e.1) (lookup (is_key id) es) ≡ Some d
-        → (lookup (is_key id) es ≡ Some d → entries_of (set_value (is_key id) es (d ++ send ∷ [])) ≡ with_send id send (entries_of es))
-        → entries_of (set_value (is_key id) (e ∷ es) (d ++ send ∷ [])) ≡ with_send id send (entries_of (e ∷ es))
-    by true t here rest = let g : d ≡ e.1 = cc in rw t (ap (λ sends. (e.0.items, sends ++ send ∷ []) ∷ entries_of es) g)
-    by false t here rest = rw t (ap (λ them. (e.0.items, e.1) ∷ them) (rest here))
+    by : (b : Bool) → bytes_eq id e.0.items ≡ b → (i : ℕ) → i ≡ place_of_id id (entries_of (e ∷ es)) → slice_get (values_of (e ∷ es)) i ≡ Some d
+        → ((j : ℕ) → j ≡ place_of_id id (entries_of es) → slice_get (values_of es) j ≡ Some d → entries_of (set_value_at es j (d ++ send ∷ [])) ≡ with_send id send (entries_of es))
+        → entries_of (set_value_at (e ∷ es) i (d ++ send ∷ [])) ≡ with_send id send (entries_of (e ∷ es))
+    by true t zero place at rest = let g : e.1 ≡ d = cc in rw t (ap (λ sends. (e.0.items, sends ++ send ∷ []) ∷ entries_of es) (sym g))
+    by true t (suc i) place at rest = let none : suc i ≡ 0 = rw t at place in absurd (omega (arith, none))
+    by false t zero place at rest = let none : 0 ≡ 1 + place_of_id id (entries_of es) = rw t at place in absurd (omega (arith, none))
+    by false t (suc i) place at rest =
+        let next : suc i ≡ 1 + place_of_id id (entries_of es) = rw t at place in
+        rw t (ap (λ them. (e.0.items, e.1) ∷ them) (rest i (omega (arith, next)) at))
+
+-- the place of an id is the index of its key
+pub place_of_id-entries_of : {X : Type 0} (id : List ℕ) (es : List (Key × X)) → place_of_id id (entries_of es) ≡ position_or_len (is_key id) (keys_of es)
+place_of_id-entries_of id [] = refl
+place_of_id-entries_of id (e ∷ es) = grind (arith, place_of_id-entries_of id es)
 
 pub position-Some : {X : Type 0} (p : X → Bool) (xs : List X) (i : ℕ) → position p xs ≡ Some i → i ≡ position_or_len p xs
 position-Some p xs i at = by (nat_lt (position_or_len p xs) (length xs)) at

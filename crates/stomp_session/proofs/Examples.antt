@@ -38,7 +38,7 @@ commit x = frame commands.Commit ((codes "transaction", x) ∷ [])
 abbrev disconnect : RawFrame
 disconnect = frame commands.Disconnect []
 
--- a is closed, and b is open at topic 1
+-- a is after_close, and b is open at topic 1
 pub one_is_open : open_subscriptions names (connect ∷ subscribe (codes "a") (codes "A") ∷ subscribe (codes "b") (codes "B") ∷ unsubscribe (codes "a") ∷ []) ≡ (codes "b", record { 0 = 1 }) ∷ []
 one_is_open = refl
 

@@ -17,9 +17,10 @@ use Rattle.stomp_session.specs.declared.phase.Phase.TheVariants.{New, Connected,
 use Rattle.stomp_session.specs.declared.fault.SessionFault.{SessionFault}
 use Rattle.stomp_session.specs.declared.fault.SessionFault.TheVariants as faults
 use Rattle.stomp_session.specs.Frames.{topic_of, id_of, transaction_of, is_subscribe, is_unsubscribe, is_begin, is_end, is_send, is_disconnect, names_subscription, names_transaction, is_send_in, send_of}
-use Rattle.stomp_session.specs.Open.{Held, subscribed, begun, is_connected, is_ended, phase_of, held_after}
-use Rattle.stomp_session.specs.Refusals.{is_closed, is_new, is_open, is_full, has_other_ack, has_unknown_destination, Check, first_fault, open_checks, checks_by}
-use Rattle.stomp_session.specs.Effects.{without, with_send, effect, refusal_by}
+use Rattle.stomp_session.specs.Open.{Held, subscriptions_left, transactions_left, is_connected, is_ended, phase_of, held_after}
+use Rattle.stomp_session.specs.Refusals.{is_closed, is_new, is_open, is_full, has_other_ack, has_unknown_destination, open_tests, tests_by}
+use Rattle.stomp_session.specs.FirstRefusal.{Test, first_fault}
+use Rattle.stomp_session.specs.Effects.{entries_without, with_send, effect, refusal_by}
 use Rattle.stomp_session.proofs.Opened.{opened, opened-quiet, opened-open, opened-close, opened-send, list_any-push}
 
 abbrev opens_subscription : RawFrame → Bool
@@ -31,15 +32,15 @@ opens_transaction f = is_begin f.command
 abbrev sends_of : List (List ℕ) → RawFrame → List RawFrame → List Send
 sends_of names f after = map (send_of names) (filter (is_send_in (transaction_of f)) after)
 
-subscribed-opened : (names : List (List ℕ)) (frames : List RawFrame) → subscribed names frames ≡ opened opens_subscription names_subscription id_of (λ f after. topic_of names f) frames
-subscribed-opened names [] = refl
-subscribed-opened names (f ∷ after) =
-    λ i. cond (is_subscribe f.command && not (list_any (names_subscription (id_of f)) after)) ((id_of f, topic_of names f) ∷ subscribed-opened names after i) (subscribed-opened names after i)
+subscriptions_left-opened : (names : List (List ℕ)) (frames : List RawFrame) → subscriptions_left names frames ≡ opened opens_subscription names_subscription id_of (λ f after. topic_of names f) frames
+subscriptions_left-opened names [] = refl
+subscriptions_left-opened names (f ∷ after) =
+    λ i. cond (is_subscribe f.command && not (list_any (names_subscription (id_of f)) after)) ((id_of f, topic_of names f) ∷ subscriptions_left-opened names after i) (subscriptions_left-opened names after i)
 
-begun-opened : (names : List (List ℕ)) (frames : List RawFrame) → begun names frames ≡ opened opens_transaction names_transaction transaction_of (sends_of names) frames
-begun-opened names [] = refl
-begun-opened names (f ∷ after) =
-    λ i. cond (is_begin f.command && not (list_any (names_transaction (transaction_of f)) after)) ((transaction_of f, sends_of names f after) ∷ begun-opened names after i) (begun-opened names after i)
+transactions_left-opened : (names : List (List ℕ)) (frames : List RawFrame) → transactions_left names frames ≡ opened opens_transaction names_transaction transaction_of (sends_of names) frames
+transactions_left-opened names [] = refl
+transactions_left-opened names (f ∷ after) =
+    λ i. cond (is_begin f.command && not (list_any (names_transaction (transaction_of f)) after)) ((transaction_of f, sends_of names f after) ∷ transactions_left-opened names after i) (transactions_left-opened names after i)
 
 subscription_by_id : (x : List ℕ) (g : RawFrame) → is_subscribe g.command ≡ true → names_subscription x g ≡ bytes_eq (id_of g) x
 subscription_by_id x g opens = ap (λ b. (b || is_unsubscribe g.command) && bytes_eq (id_of g) x) opens
@@ -68,89 +69,89 @@ sends_of-quiet names f quiet g after =
     sends_of-push names f g after ∙ ap (λ b. if b then sends_of names g after ++ send_of names f ∷ [] else sends_of names g after) (quiet (transaction_of g))
 
 module _ (names : List (List ℕ)) (frames : List RawFrame) (f : RawFrame) where
-  subscribed-quiet : is_subscribe f.command ≡ false → is_unsubscribe f.command ≡ false → subscribed names (frames ++ f ∷ []) ≡ subscribed names frames
-  subscribed-quiet no_subscribe no_unsubscribe =
+  subscriptions_left-quiet : is_subscribe f.command ≡ false → is_unsubscribe f.command ≡ false → subscriptions_left names (frames ++ f ∷ []) ≡ subscriptions_left names frames
+  subscriptions_left-quiet no_subscribe no_unsubscribe =
       let none : (x : List ℕ) → names_subscription x f ≡ false = λ x i. (no_subscribe i || no_unsubscribe i) && bytes_eq (id_of f) x in
-      subscribed-opened names (frames ++ f ∷ []) ∙ opened-quiet opens_subscription names_subscription id_of (λ f after. topic_of names f) f no_subscribe none (λ g after. refl) frames ∙ sym (subscribed-opened names frames)
+      subscriptions_left-opened names (frames ++ f ∷ []) ∙ opened-quiet opens_subscription names_subscription id_of (λ f after. topic_of names f) f no_subscribe none (λ g after. refl) frames ∙ sym (subscriptions_left-opened names frames)
 
-  subscribed-open : is_subscribe f.command ≡ true → is_open (id_of f) (subscribed names frames) ≡ false → subscribed names (frames ++ f ∷ []) ≡ subscribed names frames ++ (id_of f, topic_of names f) ∷ []
-  subscribed-open opens shut =
-      let shut_here : is_open (id_of f) (opened opens_subscription names_subscription id_of (λ f after. topic_of names f) frames) ≡ false = ap (is_open (id_of f)) (sym (subscribed-opened names frames)) ∙ shut in
-      subscribed-opened names (frames ++ f ∷ [])
+  subscriptions_left-open : is_subscribe f.command ≡ true → is_open (id_of f) (subscriptions_left names frames) ≡ false → subscriptions_left names (frames ++ f ∷ []) ≡ subscriptions_left names frames ++ (id_of f, topic_of names f) ∷ []
+  subscriptions_left-open opens shut =
+      let shut_here : is_open (id_of f) (opened opens_subscription names_subscription id_of (λ f after. topic_of names f) frames) ≡ false = ap (is_open (id_of f)) (sym (subscriptions_left-opened names frames)) ∙ shut in
+      subscriptions_left-opened names (frames ++ f ∷ [])
       ∙ opened-open opens_subscription names_subscription id_of (λ f after. topic_of names f) f opens (λ x. subscription_by_id x f opens) (λ g after. refl) frames shut_here
-      ∙ ap (λ them. them ++ (id_of f, topic_of names f) ∷ []) (sym (subscribed-opened names frames))
+      ∙ ap (λ them. them ++ (id_of f, topic_of names f) ∷ []) (sym (subscriptions_left-opened names frames))
 
-  subscribed-close : is_subscribe f.command ≡ false → is_unsubscribe f.command ≡ true → subscribed names (frames ++ f ∷ []) ≡ without (id_of f) (subscribed names frames)
-  subscribed-close no_subscribe closes =
+  subscriptions_left-close : is_subscribe f.command ≡ false → is_unsubscribe f.command ≡ true → subscriptions_left names (frames ++ f ∷ []) ≡ entries_without (id_of f) (subscriptions_left names frames)
+  subscriptions_left-close no_subscribe closes =
       let by_id : (x : List ℕ) → names_subscription x f ≡ bytes_eq (id_of f) x = λ x i. (no_subscribe i || closes i) && bytes_eq (id_of f) x in
-      subscribed-opened names (frames ++ f ∷ [])
+      subscriptions_left-opened names (frames ++ f ∷ [])
       ∙ opened-close opens_subscription names_subscription id_of (λ f after. topic_of names f) f subscription_by_id no_subscribe by_id (λ g after. refl) frames
-      ∙ ap (without (id_of f)) (sym (subscribed-opened names frames))
+      ∙ ap (entries_without (id_of f)) (sym (subscriptions_left-opened names frames))
 
-  begun-quiet : is_begin f.command ≡ false → is_end f.command ≡ false → ((x : List ℕ) → is_send_in x f ≡ false) → begun names (frames ++ f ∷ []) ≡ begun names frames
-  begun-quiet no_begin no_end no_send =
+  transactions_left-quiet : is_begin f.command ≡ false → is_end f.command ≡ false → ((x : List ℕ) → is_send_in x f ≡ false) → transactions_left names (frames ++ f ∷ []) ≡ transactions_left names frames
+  transactions_left-quiet no_begin no_end no_send =
       let none : (x : List ℕ) → names_transaction x f ≡ false = λ x i. (no_begin i || no_end i) && bytes_eq (transaction_of f) x in
-      begun-opened names (frames ++ f ∷ []) ∙ opened-quiet opens_transaction names_transaction transaction_of (sends_of names) f no_begin none (sends_of-quiet names f no_send) frames ∙ sym (begun-opened names frames)
+      transactions_left-opened names (frames ++ f ∷ []) ∙ opened-quiet opens_transaction names_transaction transaction_of (sends_of names) f no_begin none (sends_of-quiet names f no_send) frames ∙ sym (transactions_left-opened names frames)
 
-  begun-open : is_begin f.command ≡ true → ((x : List ℕ) → is_send_in x f ≡ false) → is_open (transaction_of f) (begun names frames) ≡ false → begun names (frames ++ f ∷ []) ≡ begun names frames ++ (transaction_of f, []) ∷ []
-  begun-open opens no_send shut =
-      let shut_here : is_open (transaction_of f) (opened opens_transaction names_transaction transaction_of (sends_of names) frames) ≡ false = ap (is_open (transaction_of f)) (sym (begun-opened names frames)) ∙ shut in
-      begun-opened names (frames ++ f ∷ [])
+  transactions_left-open : is_begin f.command ≡ true → ((x : List ℕ) → is_send_in x f ≡ false) → is_open (transaction_of f) (transactions_left names frames) ≡ false → transactions_left names (frames ++ f ∷ []) ≡ transactions_left names frames ++ (transaction_of f, []) ∷ []
+  transactions_left-open opens no_send shut =
+      let shut_here : is_open (transaction_of f) (opened opens_transaction names_transaction transaction_of (sends_of names) frames) ≡ false = ap (is_open (transaction_of f)) (sym (transactions_left-opened names frames)) ∙ shut in
+      transactions_left-opened names (frames ++ f ∷ [])
       ∙ opened-open opens_transaction names_transaction transaction_of (sends_of names) f opens (λ x. transaction_by_id x f opens) (sends_of-quiet names f no_send) frames shut_here
-      ∙ ap (λ them. them ++ (transaction_of f, []) ∷ []) (sym (begun-opened names frames))
+      ∙ ap (λ them. them ++ (transaction_of f, []) ∷ []) (sym (transactions_left-opened names frames))
 
-  begun-close : is_begin f.command ≡ false → is_end f.command ≡ true → ((x : List ℕ) → is_send_in x f ≡ false) → begun names (frames ++ f ∷ []) ≡ without (transaction_of f) (begun names frames)
-  begun-close no_begin ends no_send =
+  transactions_left-close : is_begin f.command ≡ false → is_end f.command ≡ true → ((x : List ℕ) → is_send_in x f ≡ false) → transactions_left names (frames ++ f ∷ []) ≡ entries_without (transaction_of f) (transactions_left names frames)
+  transactions_left-close no_begin ends no_send =
       let by_id : (x : List ℕ) → names_transaction x f ≡ bytes_eq (transaction_of f) x = λ x i. (no_begin i || ends i) && bytes_eq (transaction_of f) x in
-      begun-opened names (frames ++ f ∷ [])
+      transactions_left-opened names (frames ++ f ∷ [])
       ∙ opened-close opens_transaction names_transaction transaction_of (sends_of names) f transaction_by_id no_begin by_id (sends_of-quiet names f no_send) frames
-      ∙ ap (without (transaction_of f)) (sym (begun-opened names frames))
+      ∙ ap (entries_without (transaction_of f)) (sym (transactions_left-opened names frames))
 
-  begun-send : is_begin f.command ≡ false → is_end f.command ≡ false → (x : List ℕ) → ((y : List ℕ) → is_send_in y f ≡ bytes_eq x y) → begun names (frames ++ f ∷ []) ≡ with_send x (send_of names f) (begun names frames)
-  begun-send no_begin no_end x sends =
+  transactions_left-send : is_begin f.command ≡ false → is_end f.command ≡ false → (x : List ℕ) → ((y : List ℕ) → is_send_in y f ≡ bytes_eq x y) → transactions_left names (frames ++ f ∷ []) ≡ with_send x (send_of names f) (transactions_left names frames)
+  transactions_left-send no_begin no_end x sends =
       let none : (y : List ℕ) → names_transaction y f ≡ false = λ y i. (no_begin i || no_end i) && bytes_eq (transaction_of f) y in
       let adds : (g : RawFrame) (after : List RawFrame) → sends_of names g (after ++ f ∷ []) ≡ (if bytes_eq x (transaction_of g) then sends_of names g after ++ send_of names f ∷ [] else sends_of names g after) =
       λ g after. sends_of-push names f g after ∙ ap (λ b. if b then sends_of names g after ++ send_of names f ∷ [] else sends_of names g after) (sends (transaction_of g)) in
-      begun-opened names (frames ++ f ∷ [])
+      transactions_left-opened names (frames ++ f ∷ [])
       ∙ opened-send opens_transaction names_transaction transaction_of (sends_of names) f x (send_of names f) transaction_by_id no_begin none adds frames
-      ∙ ap (with_send x (send_of names f)) (sym (begun-opened names frames))
+      ∙ ap (with_send x (send_of names f)) (sym (transactions_left-opened names frames))
 
 -- what is held where no DISCONNECT came
 abbrev live : List (List ℕ) → List RawFrame → Held
 live names frames = record {
   names = names;
   phase = if is_connected frames then Connected else New;
-  subscriptions = subscribed names frames;
-  transactions = begun names frames;
+  subscriptions = subscriptions_left names frames;
+  transactions = transactions_left names frames;
 }
 
 held_after-live : (names : List (List ℕ)) (frames : List RawFrame) → is_ended frames ≡ false → held_after names frames ≡ live names frames
 held_after-live names frames going = λ i. record {
   names = names;
   phase = if going i then Closed else (if is_connected frames then Connected else New);
-  subscriptions = if going i then [] else subscribed names frames;
-  transactions = if going i then [] else begun names frames;
+  subscriptions = if going i then [] else subscriptions_left names frames;
+  transactions = if going i then [] else transactions_left names frames;
 }
 
--- a check that doesn't stand, where no fault is found
-first_fault-none : (check : Check) (others : List Check) → first_fault (check ∷ others) ≡ None → (check.0 ≡ false) × (first_fault others ≡ None)
-first_fault-none check others none = by check.0 none
+-- where no fault is found, the first test doesn't apply
+first_fault-none : (test : Test) (others : List Test) → first_fault (test ∷ others) ≡ None → (test.0 ≡ false) × (first_fault others ≡ None)
+first_fault-none test others none = by test.0 none
   where
-    by : (b : Bool) → (if b then Some check.1 else first_fault others) ≡ None → (b ≡ false) × (first_fault others ≡ None)
+    by : (b : Bool) → (if b then Some test.1 else first_fault others) ≡ None → (b ≡ false) × (first_fault others ≡ None)
     by true none = cc
     by false none = (refl, none)
 
 -- a frame that is accepted comes before the session's end
 accepted-going : (command : Command) (names : List (List ℕ)) (frames : List RawFrame) (f : RawFrame) → refusal_by command (held_after names frames) f ≡ None → is_ended frames ≡ false
 accepted-going command names frames f none =
-    by (is_ended frames) (first_fault-none (is_closed (phase_of frames), faults.Closed) (open_checks command (held_after names frames) f) none).0
+    by (is_ended frames) (first_fault-none (is_closed (phase_of frames), faults.Closed) (open_tests command (held_after names frames) f) none).0
   where
     by : (b : Bool) → is_closed (if b then Closed else (if is_connected frames then Connected else New)) ≡ false → b ≡ false
     by true none = none
     by false none = refl
 
 -- and any but a CONNECT after a CONNECT
-accepted-connected : (b : Bool) (others : List Check)
+accepted-connected : (b : Bool) (others : List Test)
     → first_fault ((is_closed (if b then Connected else New), faults.Closed) ∷ (is_new (if b then Connected else New), faults.NotConnected) ∷ others) ≡ None
     → (b ≡ true) × (first_fault others ≡ None)
 accepted-connected true others none = (refl, none)
@@ -181,8 +182,8 @@ module _ (names : List (List ℕ)) (frames : List RawFrame) (f : RawFrame) where
   live-push : (phase : Phase) (subscriptions : List (List ℕ × Topic)) (transactions : List (List ℕ × List Send))
       → is_ended frames ≡ false → is_disconnect f.command ≡ false
       → (if is_connected frames || is_connect f.command then Connected else New) ≡ phase
-      → subscribed names (frames ++ f ∷ []) ≡ subscriptions
-      → begun names (frames ++ f ∷ []) ≡ transactions
+      → subscriptions_left names (frames ++ f ∷ []) ≡ subscriptions
+      → transactions_left names (frames ++ f ∷ []) ≡ transactions
       → record { names = names; phase = phase; subscriptions = subscriptions; transactions = transactions } ≡ held_after names (frames ++ f ∷ [])
   live-push phase subscriptions transactions going no_disconnect phase_is subscriptions_are transactions_are =
       let goes_on : is_ended (frames ++ f ∷ []) ≡ false = is_ended-push ∙ (λ i. going i || no_disconnect i) in
@@ -191,11 +192,11 @@ module _ (names : List (List ℕ)) (frames : List RawFrame) (f : RawFrame) where
       λ i. record { names = names; phase = phase_now i; subscriptions = subscriptions_are i; transactions = transactions_are i } in
       sym now ∙ sym (held_after-live names (frames ++ f ∷ []) goes_on)
 
-  -- the checks of a frame but CONNECT, where no fault is found
-  connected-checks : (others : List Check) → is_ended frames ≡ false
+  -- the tests of a frame but CONNECT, where no fault is found
+  connected-tests : (others : List Test) → is_ended frames ≡ false
       → first_fault ((is_closed (phase_of frames), faults.Closed) ∷ (is_new (phase_of frames), faults.NotConnected) ∷ others) ≡ None
       → (is_connected frames ≡ true) × (first_fault others ≡ None)
-  connected-checks others going none =
+  connected-tests others going none =
       accepted-connected (is_connected frames) others
       (let phase_is : phase_of frames ≡ (if is_connected frames then Connected else New) = ap (λ b. if b then Closed else (if is_connected frames then Connected else New)) going in
       subst (λ p. first_fault ((is_closed p, faults.Closed) ∷ (is_new p, faults.NotConnected) ∷ others) ≡ None) phase_is none)
@@ -203,8 +204,8 @@ module _ (names : List (List ℕ)) (frames : List RawFrame) (f : RawFrame) where
   -- any but a CONNECT or a DISCONNECT
   connected-push : (subscriptions : List (List ℕ × Topic)) (transactions : List (List ℕ × List Send))
       → is_ended frames ≡ false → is_disconnect f.command ≡ false → is_connected frames ≡ true
-      → subscribed names (frames ++ f ∷ []) ≡ subscriptions
-      → begun names (frames ++ f ∷ []) ≡ transactions
+      → subscriptions_left names (frames ++ f ∷ []) ≡ subscriptions
+      → transactions_left names (frames ++ f ∷ []) ≡ transactions
       → record { names = names; phase = if is_connected frames then Connected else New; subscriptions = subscriptions; transactions = transactions } ≡ held_after names (frames ++ f ∷ [])
   connected-push subscriptions transactions going no_disconnect connected subscriptions_are transactions_are =
       let phase_is : (if is_connected frames || is_connect f.command then Connected else New) ≡ (if is_connected frames then Connected else New) = rw connected in
@@ -224,50 +225,50 @@ module _ (names : List (List ℕ)) (frames : List RawFrame) (f : RawFrame) where
   subscribe-follows e none =
       let s : Held = held_after names frames in
       let going : is_ended frames ≡ false = accepted-going commands.Subscribe names frames f none in
-      let checked : (is_connected frames ≡ true) × (first_fault (checks_by commands.Subscribe s f) ≡ None) = connected-checks (checks_by commands.Subscribe s f) going none in
+      let checked : (is_connected frames ≡ true) × (first_fault (tests_by commands.Subscribe s f) ≡ None) = connected-tests (tests_by commands.Subscribe s f) going none in
       let shut_here : is_open (id_of f) s.subscriptions ≡ false = third (has_other_ack f) (has_unknown_destination s f) (is_open (id_of f) s.subscriptions) (is_full s.subscriptions) faults.AckMode faults.UnknownDestination faults.SubIdInUse faults.TooManySubs checked.1 in
-      let shut : is_open (id_of f) (subscribed names frames) ≡ false = subst (λ b. is_open (id_of f) (if b then [] else subscribed names frames) ≡ false) going shut_here in
+      let shut : is_open (id_of f) (subscriptions_left names frames) ≡ false = subst (λ b. is_open (id_of f) (if b then [] else subscriptions_left names frames) ≡ false) going shut_here in
       to_live commands.Subscribe going (connected-push _ _ going (ap is_disconnect e) checked.0
-      (subscribed-open names frames f (ap is_subscribe e) shut)
-      (begun-quiet names frames f (ap is_begin e) (ap is_end e) (not_send (ap is_send e))))
+      (subscriptions_left-open names frames f (ap is_subscribe e) shut)
+      (transactions_left-quiet names frames f (ap is_begin e) (ap is_end e) (not_send (ap is_send e))))
 
   pub unsubscribe-follows : Follows commands.Unsubscribe
   unsubscribe-follows e none =
       let s : Held = held_after names frames in
       let going : is_ended frames ≡ false = accepted-going commands.Unsubscribe names frames f none in
-      let checked : (is_connected frames ≡ true) × (first_fault (checks_by commands.Unsubscribe s f) ≡ None) = connected-checks (checks_by commands.Unsubscribe s f) going none in
+      let checked : (is_connected frames ≡ true) × (first_fault (tests_by commands.Unsubscribe s f) ≡ None) = connected-tests (tests_by commands.Unsubscribe s f) going none in
       to_live commands.Unsubscribe going (connected-push _ _ going (ap is_disconnect e) checked.0
-      (subscribed-close names frames f (ap is_subscribe e) (ap is_unsubscribe e))
-      (begun-quiet names frames f (ap is_begin e) (ap is_end e) (not_send (ap is_send e))))
+      (subscriptions_left-close names frames f (ap is_subscribe e) (ap is_unsubscribe e))
+      (transactions_left-quiet names frames f (ap is_begin e) (ap is_end e) (not_send (ap is_send e))))
 
   pub begin-follows : Follows commands.Begin
   begin-follows e none =
       let s : Held = held_after names frames in
       let going : is_ended frames ≡ false = accepted-going commands.Begin names frames f none in
-      let checked : (is_connected frames ≡ true) × (first_fault (checks_by commands.Begin s f) ≡ None) = connected-checks (checks_by commands.Begin s f) going none in
+      let checked : (is_connected frames ≡ true) × (first_fault (tests_by commands.Begin s f) ≡ None) = connected-tests (tests_by commands.Begin s f) going none in
       let shut_here : is_open (transaction_of f) s.transactions ≡ false = first (is_open (transaction_of f) s.transactions) (is_full s.transactions) faults.TxnInUse faults.TooManyTxns checked.1 in
-      let shut : is_open (transaction_of f) (begun names frames) ≡ false = subst (λ b. is_open (transaction_of f) (if b then [] else begun names frames) ≡ false) going shut_here in
+      let shut : is_open (transaction_of f) (transactions_left names frames) ≡ false = subst (λ b. is_open (transaction_of f) (if b then [] else transactions_left names frames) ≡ false) going shut_here in
       to_live commands.Begin going (connected-push _ _ going (ap is_disconnect e) checked.0
-      (subscribed-quiet names frames f (ap is_subscribe e) (ap is_unsubscribe e))
-      (begun-open names frames f (ap is_begin e) (not_send (ap is_send e)) shut))
+      (subscriptions_left-quiet names frames f (ap is_subscribe e) (ap is_unsubscribe e))
+      (transactions_left-open names frames f (ap is_begin e) (not_send (ap is_send e)) shut))
 
   pub commit-follows : Follows commands.Commit
   commit-follows e none =
       let s : Held = held_after names frames in
       let going : is_ended frames ≡ false = accepted-going commands.Commit names frames f none in
-      let checked : (is_connected frames ≡ true) × (first_fault (checks_by commands.Commit s f) ≡ None) = connected-checks (checks_by commands.Commit s f) going none in
+      let checked : (is_connected frames ≡ true) × (first_fault (tests_by commands.Commit s f) ≡ None) = connected-tests (tests_by commands.Commit s f) going none in
       to_live commands.Commit going (connected-push _ _ going (ap is_disconnect e) checked.0
-      (subscribed-quiet names frames f (ap is_subscribe e) (ap is_unsubscribe e))
-      (begun-close names frames f (ap is_begin e) (ap is_end e) (not_send (ap is_send e))))
+      (subscriptions_left-quiet names frames f (ap is_subscribe e) (ap is_unsubscribe e))
+      (transactions_left-close names frames f (ap is_begin e) (ap is_end e) (not_send (ap is_send e))))
 
   pub abort-follows : Follows commands.Abort
   abort-follows e none =
       let s : Held = held_after names frames in
       let going : is_ended frames ≡ false = accepted-going commands.Abort names frames f none in
-      let checked : (is_connected frames ≡ true) × (first_fault (checks_by commands.Abort s f) ≡ None) = connected-checks (checks_by commands.Abort s f) going none in
+      let checked : (is_connected frames ≡ true) × (first_fault (tests_by commands.Abort s f) ≡ None) = connected-tests (tests_by commands.Abort s f) going none in
       to_live commands.Abort going (connected-push _ _ going (ap is_disconnect e) checked.0
-      (subscribed-quiet names frames f (ap is_subscribe e) (ap is_unsubscribe e))
-      (begun-close names frames f (ap is_begin e) (ap is_end e) (not_send (ap is_send e))))
+      (subscriptions_left-quiet names frames f (ap is_subscribe e) (ap is_unsubscribe e))
+      (transactions_left-close names frames f (ap is_begin e) (ap is_end e) (not_send (ap is_send e))))
 
   pub disconnect-follows : Follows commands.Disconnect
   disconnect-follows e none =
@@ -275,15 +276,15 @@ module _ (names : List (List ℕ)) (frames : List RawFrame) (f : RawFrame) where
       λ i. record {
         names = names;
         phase = if ended i then Closed else (if is_connected (frames ++ f ∷ []) then Connected else New);
-        subscriptions = if ended i then [] else subscribed names (frames ++ f ∷ []);
-        transactions = if ended i then [] else begun names (frames ++ f ∷ []);
+        subscriptions = if ended i then [] else subscriptions_left names (frames ++ f ∷ []);
+        transactions = if ended i then [] else transactions_left names (frames ++ f ∷ []);
       }
 
   connect-effect : is_connect f.command ≡ true → is_subscribe f.command ≡ false → is_unsubscribe f.command ≡ false → is_begin f.command ≡ false → is_end f.command ≡ false → is_send f.command ≡ false → is_disconnect f.command ≡ false
       → is_ended frames ≡ false → effect commands.Connect (live names frames) f ≡ held_after names (frames ++ f ∷ [])
   connect-effect connects no_subscribe no_unsubscribe no_begin no_end no_send no_disconnect going =
       let phase_is : (if is_connected frames || is_connect f.command then Connected else New) ≡ Connected = ap (λ b. if is_connected frames || b then Connected else New) connects ∙ ap (λ b. if b then Connected else New) (or_all (is_connected frames)) in
-      live-push Connected _ _ going no_disconnect phase_is (subscribed-quiet names frames f no_subscribe no_unsubscribe) (begun-quiet names frames f no_begin no_end (not_send no_send))
+      live-push Connected _ _ going no_disconnect phase_is (subscriptions_left-quiet names frames f no_subscribe no_unsubscribe) (transactions_left-quiet names frames f no_begin no_end (not_send no_send))
 
   pub connect-follows : Follows commands.Connect
   connect-follows e none =
@@ -299,19 +300,19 @@ module _ (names : List (List ℕ)) (frames : List RawFrame) (f : RawFrame) where
   send-follows e none =
       let s : Held = held_after names frames in
       let going : is_ended frames ≡ false = accepted-going commands.Send names frames f none in
-      let checked : (is_connected frames ≡ true) × (first_fault (checks_by commands.Send s f) ≡ None) = connected-checks (checks_by commands.Send s f) going none in
+      let checked : (is_connected frames ≡ true) × (first_fault (tests_by commands.Send s f) ≡ None) = connected-tests (tests_by commands.Send s f) going none in
       to_live commands.Send going (by going checked.0 (first_of (codes "transaction") f.headers) refl e)
     where
       by : is_ended frames ≡ false → is_connected frames ≡ true → (o : Option (List ℕ)) → first_of (codes "transaction") f.headers ≡ o → f.command ≡ commands.Send
-          → option_map_or (λ x. record { names = names; phase = if is_connected frames then Connected else New; subscriptions = subscribed names frames; transactions = with_send x (send_of names f) (begun names frames) }) (first_of (codes "transaction") f.headers) (live names frames)
+          → option_map_or (λ x. record { names = names; phase = if is_connected frames then Connected else New; subscriptions = subscriptions_left names frames; transactions = with_send x (send_of names f) (transactions_left names frames) }) (first_of (codes "transaction") f.headers) (live names frames)
           ≡ held_after names (frames ++ f ∷ [])
       by going connected None at e =
           let outside : (x : List ℕ) → is_send_in x f ≡ false = λ x. (λ i. is_send (e i) && option_map_or (λ y. bytes_eq y x) (at i) false) in
-          rw at (connected-push (subscribed names frames) (begun names frames) going (ap is_disconnect e) connected
-          (subscribed-quiet names frames f (ap is_subscribe e) (ap is_unsubscribe e))
-          (begun-quiet names frames f (ap is_begin e) (ap is_end e) outside))
+          rw at (connected-push (subscriptions_left names frames) (transactions_left names frames) going (ap is_disconnect e) connected
+          (subscriptions_left-quiet names frames f (ap is_subscribe e) (ap is_unsubscribe e))
+          (transactions_left-quiet names frames f (ap is_begin e) (ap is_end e) outside))
       by going connected (Some x) at e =
           let inside : (y : List ℕ) → is_send_in y f ≡ bytes_eq x y = λ y. (λ i. is_send (e i) && option_map_or (λ z. bytes_eq z y) (at i) false) in
-          rw at (connected-push (subscribed names frames) (with_send x (send_of names f) (begun names frames)) going (ap is_disconnect e) connected
-          (subscribed-quiet names frames f (ap is_subscribe e) (ap is_unsubscribe e))
-          (begun-send names frames f (ap is_begin e) (ap is_end e) x inside))
+          rw at (connected-push (subscriptions_left names frames) (with_send x (send_of names f) (transactions_left names frames)) going (ap is_disconnect e) connected
+          (subscriptions_left-quiet names frames f (ap is_subscribe e) (ap is_unsubscribe e))
+          (transactions_left-send names frames f (ap is_begin e) (ap is_end e) x inside))

@@ -7,7 +7,7 @@ use Rattle.std.specs.Str.{bytes_eq}
 use Rattle.stomp_frame.specs.declared.frame.RawFrame.{RawFrame}
 use Rattle.mcast_txn.specs.declared.send.Send.{Send}
 use Rattle.stomp_session.specs.Refusals.{is_open}
-use Rattle.stomp_session.specs.Effects.{without, with_send}
+use Rattle.stomp_session.specs.Effects.{entries_without, with_send}
 
 or_none : (a : Bool) → (a || false) ≡ a
 or_none true = refl
@@ -46,11 +46,11 @@ not_none false b e = absurd (true≢false (sym e))
 pub list_any-push : (p : RawFrame → Bool) (frames : List RawFrame) (f : RawFrame) → list_any p (frames ++ f ∷ []) ≡ (list_any p frames || p f)
 list_any-push p frames f = list_any-append p frames (f ∷ []) ∙ ap (λ b. list_any p frames || b) (or_none (p f))
 
-pub without-shut : {X : Type 0} (id : List ℕ) (them : List (List ℕ × X)) → is_open id them ≡ false → without id them ≡ them
-without-shut id [] shut = refl
-without-shut id (o ∷ them) shut =
+pub entries_without-shut : {X : Type 0} (id : List ℕ) (them : List (List ℕ × X)) → is_open id them ≡ false → entries_without id them ≡ them
+entries_without-shut id [] shut = refl
+entries_without-shut id (o ∷ them) shut =
     let here : bytes_eq id o.0 ≡ false = neither_first (bytes_eq id o.0) (is_open id them) shut in
-    rw here (ap (λ rest. o ∷ rest) (without-shut id them (neither_second (bytes_eq id o.0) (is_open id them) shut)))
+    rw here (ap (λ rest. o ∷ rest) (entries_without-shut id them (neither_second (bytes_eq id o.0) (is_open id them) shut)))
 
 pub with_send-shut : (x : List ℕ) (send : Send) (them : List (List ℕ × List Send)) → is_open x them ≡ false → with_send x send them ≡ them
 with_send-shut x send [] shut = refl
@@ -114,19 +114,19 @@ module _ {X : Type 0} (opens : RawFrame → Bool) (names_it : List ℕ → RawFr
     -- a frame that closes one
     pub opened-close : ((x : List ℕ) (g : RawFrame) → opens g ≡ true → names_it x g ≡ bytes_eq (id g) x)
         → opens f ≡ false → ((x : List ℕ) → names_it x f ≡ bytes_eq (id f) x) → ((g : RawFrame) (after : List RawFrame) → value g (after ++ f ∷ []) ≡ value g after)
-        → (frames : List RawFrame) → opened (frames ++ f ∷ []) ≡ without (id f) (opened frames)
+        → (frames : List RawFrame) → opened (frames ++ f ∷ []) ≡ entries_without (id f) (opened frames)
     opened-close all_by_id opens_none by_id same [] = rw opens_none
     opened-close all_by_id opens_none by_id same (g ∷ after) = by (stays g after) refl (bytes_eq (id f) (id g)) refl (opened-close all_by_id opens_none by_id same after)
       where
         by : (b : Bool) → stays g after ≡ b → (t : Bool) → bytes_eq (id f) (id g) ≡ t
-            → opened (after ++ f ∷ []) ≡ without (id f) (opened after)
-            → opened (g ∷ after ++ f ∷ []) ≡ without (id f) (if b then (id g, value g after) ∷ opened after else opened after)
+            → opened (after ++ f ∷ []) ≡ entries_without (id f) (opened after)
+            → opened (g ∷ after ++ f ∷ []) ≡ entries_without (id f) (if b then (id g, value g after) ∷ opened after else opened after)
         by true there true same_id rest =
             let gone : stays g (after ++ f ∷ []) ≡ false = stays-push g after f ∙ ap (λ b. stays g after && not b) (by_id (id g) ∙ same_id) ∙ and_none (stays g after) in
             let unnamed : list_any (names_it (id g)) after ≡ false = not_none (opens g) (list_any (names_it (id g)) after) there in
             let shut_g : is_open (id g) (opened after) ≡ false = is_open-unnamed all_by_id (id g) after unnamed in
             let shut : is_open (id f) (opened after) ≡ false = ap (λ test. list_any test (opened after)) (λ i o. nat_list_eq_equiv.congr (id f) (id g) o.0 same_id i) ∙ shut_g in
-            rw (gone, same_id) (rest ∙ without-shut (id f) (opened after) shut)
+            rw (gone, same_id) (rest ∙ entries_without-shut (id f) (opened after) shut)
         by true there false other_id rest =
             let kept : stays g (after ++ f ∷ []) ≡ true = stays-push g after f ∙ ap (λ b. stays g after && not b) (by_id (id g) ∙ other_id) ∙ and_all (stays g after) ∙ there in
             rw (kept, other_id) (λ i. (id g, same g after i) ∷ rest i)

@@ -27,7 +27,9 @@ action_by commands.Connect s f = actions.Connected
 action_by commands.Stomp s f = actions.Connected
 action_by commands.Subscribe s f = actions.Subscribe (id_of f) (topic_of s.names f)
 action_by commands.Unsubscribe s f = actions.Unsubscribe (id_of f)
-action_by commands.Send s f = option_map_or (λ transaction. actions.Nothing) (first_of (codes "transaction") f.headers) (commit (send_of s.names f ∷ []))
+action_by commands.Send s f =
+    option_map_or (λ transaction. actions.Nothing) (first_of (codes "transaction") f.headers)
+    (commit (send_of s.names f ∷ []))
 action_by commands.Commit s f = commit (sends_in (transaction_of f) s.transactions)
 action_by commands.Disconnect s f = actions.Disconnect
 action_by _ s f = actions.Nothing

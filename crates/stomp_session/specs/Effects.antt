@@ -1,75 +1,125 @@
 -- What an accepted frame changes in what a session holds. Proofs go by it; no public contract speaks of it.
-use Rattle.std.specs.Prelude.{◌≡◌, ℕ, List, [], ◌∷◌, ◌++◌, codes, Option, Some, None, if◌then◌else◌}
-use Rattle.std.specs.Option.{option_map_or}
+use Rattle.std.specs.Prelude.{◌≡◌, ◌<◌, ℕ, List, [], ◌∷◌, ◌++◌, codes, length, Option, Some, None, IsSome, IfSome, Result, Ok, Err, if◌then◌else◌}
+use Rattle.std.specs.List.{position_or_len}
+use Rattle.std.specs.Option.{option_map, option_map_or}
 use Rattle.std.specs.Str.{bytes_eq}
 use Rattle.stomp_frame.specs.declared.command.Command.{Command}
 use Rattle.stomp_frame.specs.declared.command.Command.TheVariants as commands
 use Rattle.stomp_frame.specs.declared.frame.RawFrame.{RawFrame}
 use Rattle.stomp_frame.specs.Headers.{first_of}
-use Rattle.stomp_frame.specs.Receipts.{asked_receipt}
+use Rattle.stomp_frame.specs.Receipts.{receipt_of}
 use Rattle.mcast_txn.specs.declared.id.Topic.{Topic}
 use Rattle.mcast_txn.specs.declared.send.Send.{Send}
 use Rattle.stomp_session.specs.declared.phase.Phase.{Phase}
 use Rattle.stomp_session.specs.declared.phase.Phase.TheVariants.{Connected}
+use Rattle.stomp_session.specs.declared.action.Action.{Action}
+use Rattle.stomp_session.specs.declared.action.Action.TheVariants as actions
 use Rattle.stomp_session.specs.declared.action.Step.{Step}
 use Rattle.stomp_session.specs.declared.fault.SessionFault.{SessionFault}
 use Rattle.stomp_session.specs.declared.fault.SessionFault.TheVariants as faults
+use Rattle.stomp_session.specs.declared.judged.Judged.{Judged}
+use Rattle.stomp_session.specs.declared.judged.Judged.TheVariants as judged
+use Rattle.stomp_session.specs.declared.route.Route.{Route}
 use Rattle.stomp_session.specs.Frames.{topic_of, id_of, transaction_of, send_of}
-use Rattle.stomp_session.specs.Open.{Held, closed}
-use Rattle.stomp_session.specs.Refusals.{is_closed, open_checks, first_fault}
+use Rattle.stomp_session.specs.Open.{Held, after_close}
+use Rattle.stomp_session.specs.FirstRefusal.{first_fault}
+use Rattle.stomp_session.specs.Refusals.{is_closed, open_tests}
 use Rattle.stomp_session.specs.Answers.{action_by, takes_memory}
 
--- without the one of this id
-abbrev pub without : {X : Type 0} → List ℕ → List (List ℕ × X) → List (List ℕ × X)
-without id [] = []
-without id (o ∷ them) = if bytes_eq id o.0 then them else o ∷ without id them
+-- those that are left without the one of this id
+abbrev pub entries_without : {X : Type 0} → List ℕ → List (List ℕ × X) → List (List ℕ × X)
+entries_without id [] = []
+entries_without id (o ∷ them) = if bytes_eq id o.0 then them else o ∷ entries_without id them
 
 -- with one more SEND in this transaction
 abbrev pub with_send : List ℕ → Send → List (List ℕ × List Send) → List (List ℕ × List Send)
 with_send x send [] = []
-with_send x send (o ∷ them) = if bytes_eq x o.0 then (o.0, o.1 ++ send ∷ []) ∷ them else o ∷ with_send x send them
+with_send x send (o ∷ them) =
+    if bytes_eq x o.0 then (o.0, o.1 ++ send ∷ []) ∷ them else o ∷ with_send x send them
 
 -- in this phase
 abbrev pub with_phase : Phase → Held → Held
-with_phase phase s = record { names = s.names; phase = phase; subscriptions = s.subscriptions; transactions = s.transactions }
+with_phase phase s = record s { phase = phase }
 
 -- with these subscriptions open
 abbrev pub with_subscriptions : List (List ℕ × Topic) → Held → Held
-with_subscriptions them s = record { names = s.names; phase = s.phase; subscriptions = them; transactions = s.transactions }
+with_subscriptions them s = record s { subscriptions = them }
 
 -- with these transactions open
 abbrev pub with_transactions : List (List ℕ × List Send) → Held → Held
-with_transactions them s = record { names = s.names; phase = s.phase; subscriptions = s.subscriptions; transactions = them }
+with_transactions them s = record s { transactions = them }
 
 -- what is held after a frame, by its command
 abbrev pub effect : Command → Held → RawFrame → Held
 effect commands.Connect s f = with_phase Connected s
 effect commands.Stomp s f = with_phase Connected s
 effect commands.Subscribe s f = with_subscriptions (s.subscriptions ++ (id_of f, topic_of s.names f) ∷ []) s
-effect commands.Unsubscribe s f = with_subscriptions (without (id_of f) s.subscriptions) s
+effect commands.Unsubscribe s f = with_subscriptions (entries_without (id_of f) s.subscriptions) s
 effect commands.Begin s f = with_transactions (s.transactions ++ (transaction_of f, []) ∷ []) s
-effect commands.Send s f = option_map_or (λ x. with_transactions (with_send x (send_of s.names f) s.transactions) s) (first_of (codes "transaction") f.headers) s
-effect commands.Commit s f = with_transactions (without (transaction_of f) s.transactions) s
-effect commands.Abort s f = with_transactions (without (transaction_of f) s.transactions) s
-effect commands.Disconnect s f = closed s
+effect commands.Send s f =
+    option_map_or (λ x. with_transactions (with_send x (send_of s.names f) s.transactions) s)
+    (first_of (codes "transaction") f.headers) s
+effect commands.Commit s f = with_transactions (entries_without (transaction_of f) s.transactions) s
+effect commands.Abort s f = with_transactions (entries_without (transaction_of f) s.transactions) s
+effect commands.Disconnect s f = after_close s
 effect _ s f = s
 
 -- why the frame is refused, by its command
 abbrev pub refusal_by : Command → Held → RawFrame → Option SessionFault
-refusal_by command s f = first_fault ((is_closed s.phase, faults.Closed) ∷ open_checks command s f)
+refusal_by command s f = first_fault ((is_closed s.phase, faults.Closed) ∷ open_tests command s f)
 
--- the refusal that a fault tells; none where there was no memory for a frame that takes some
-abbrev pub told : Command → Held → RawFrame → SessionFault → Option SessionFault
-told command s f faults.NoMemory = if takes_memory command s f then None else Some faults.NoMemory
-told command s f fault = Some fault
+-- the refusal that a fault reports; none where there was no memory for a frame that takes some
+abbrev pub reported_fault : Command → Held → RawFrame → SessionFault → Option SessionFault
+reported_fault command s f faults.NoMemory = if takes_memory command s f then None else Some faults.NoMemory
+reported_fault command s f fault = Some fault
 
--- the frame is accepted, and this is what it changes
-pub record Does (command : Command) (s : Held) (f : RawFrame) (step : Step) (new : Held) : Type 0 where
+-- the frame is refused with this fault
+abbrev pub RefusesAs : Command → Held → RawFrame → SessionFault → Type 0
+RefusesAs command s f fault = refusal_by command s f ≡ reported_fault command s f fault
+
+-- the frame is accepted with this step, and this is what it changes
+pub record AcceptsAs (command : Command) (s : Held) (f : RawFrame) (step : Step) (new : Held) : Type 0 where
   pub accepted : refusal_by command s f ≡ None
   pub action : step.action ≡ action_by command s f
-  pub receipt : step.receipt ≡ asked_receipt command f.headers
+  pub receipt : step.receipt ≡ receipt_of f
   pub held : new ≡ effect command s f
 
--- the frame is refused
-abbrev pub Denies : Command → Held → RawFrame → SessionFault → Type 0
-Denies command s f fault = refusal_by command s f ≡ told command s f fault
+-- what the connection has to do for a frame of this id that was judged so
+abbrev pub action_of : Judged → List ℕ → Action
+action_of judged.Connected id = actions.Connected
+action_of judged.Nothing id = actions.Nothing
+action_of (judged.Subscribe topic) id = actions.Subscribe id topic
+action_of judged.Unsubscribe id = actions.Unsubscribe id
+action_of (judged.Commit txn) id = actions.Commit txn
+action_of judged.Disconnect id = actions.Disconnect
+
+-- the frame has the id that its action names
+abbrev pub HasItsId : Judged → RawFrame → Type 0
+HasItsId (judged.Subscribe topic) f = IsSome (first_of (codes "id") f.headers)
+HasItsId judged.Unsubscribe f = IsSome (first_of (codes "id") f.headers)
+HasItsId _ f = Unit {0}
+
+-- the frame is accepted and judged so, and this is what it changes
+pub record JudgesAs (command : Command) (s : Held) (f : RawFrame) (judged : Judged) (new : Held)
+    : Type 0 where
+  pub accepted : refusal_by command s f ≡ None
+  pub action : action_of judged (id_of f) ≡ action_by command s f
+  pub id : HasItsId judged f
+  pub held : new ≡ effect command s f
+  pub names : new.names ≡ s.names
+
+-- what a frame of this command is judged, or why it is refused; the names stay
+abbrev pub Handles : Command → Held → RawFrame → Result Judged SessionFault → Held → Type 0
+Handles command s f (Ok judged) new = JudgesAs command s f judged new
+Handles command s f (Err fault) new = RefusesAs command s f fault × (new.names ≡ s.names)
+
+-- the place of the first of this id; their number where there is none
+abbrev pub place_of_id : {X : Type 0} → List ℕ → List (List ℕ × X) → ℕ
+place_of_id id them = position_or_len (λ o. bytes_eq id o.0) them
+
+-- an accepted SEND goes there: to its topic, and into its transaction, which is open
+pub record IsRouteOf (s : Held) (f : RawFrame) (route : Route) : Type 0 where
+  pub topic : route.topic ≡ topic_of s.names f
+  pub transaction : route.transaction
+      ≡ option_map (λ x. place_of_id x s.transactions) (first_of (codes "transaction") f.headers)
+  pub within : IfSome route.transaction (λ place. place < length s.transactions)

@@ -67,7 +67,8 @@ names_transaction x f = (is_begin f.command || is_end f.command) && bytes_eq (tr
 
 -- a SEND in this transaction
 abbrev pub is_send_in : List ℕ → RawFrame → Bool
-is_send_in x f = is_send f.command && option_map_or (λ y. bytes_eq y x) (first_of (codes "transaction") f.headers) false
+is_send_in x f =
+    is_send f.command && option_map_or (λ y. bytes_eq y x) (first_of (codes "transaction") f.headers) false
 
 -- a SEND as a transaction has it
 abbrev pub send_of : List (List ℕ) → RawFrame → Send

@@ -1,5 +1,5 @@
--- What is open after a list of accepted frames, as the list itself says (STOMP 1.2, "SUBSCRIBE", "UNSUBSCRIBE", "BEGIN",
--- "COMMIT", "ABORT", "DISCONNECT").
+-- What is open after a list of accepted frames, as the list itself says (STOMP 1.2, "SUBSCRIBE", "UNSUBSCRIBE",
+-- "BEGIN", "COMMIT", "ABORT", "DISCONNECT").
 use Rattle.std.specs.Prelude.{◌≡◌, ℕ, Bool, not, ◌&&◌, List, [], ◌∷◌, filter, map, if◌then◌else◌}
 use Rattle.std.specs.List.{list_any}
 use Rattle.stomp_frame.specs.declared.frame.RawFrame.{RawFrame}
@@ -10,23 +10,25 @@ use Rattle.stomp_session.specs.declared.phase.Phase.{Phase}
 use Rattle.stomp_session.specs.declared.phase.Phase.TheVariants.{New, Connected, Closed}
 use Rattle.stomp_session.specs.Frames.{topic_of, id_of, transaction_of, is_subscribe, is_begin, is_disconnect, names_subscription, names_transaction, is_send_in, send_of}
 
--- The subscriptions that SUBSCRIBEs of these frames opened, with their topics, in order: of each subscription the last
--- frame that names it is a SUBSCRIBE.
-abbrev pub subscribed : List (List ℕ) → List RawFrame → List (List ℕ × Topic)
-subscribed names [] = []
-subscribed names (f ∷ after) =
+-- The subscriptions that SUBSCRIBEs of these frames left open, with their topics, in order: of each subscription the
+-- last frame that names it is a SUBSCRIBE.
+abbrev pub subscriptions_left : List (List ℕ) → List RawFrame → List (List ℕ × Topic)
+subscriptions_left names [] = []
+subscriptions_left names (f ∷ after) =
     if is_subscribe f.command && not (list_any (names_subscription (id_of f)) after)
-    then (id_of f, topic_of names f) ∷ subscribed names after
-    else subscribed names after
+    then (id_of f, topic_of names f) ∷ subscriptions_left names after
+    else subscriptions_left names after
 
--- The transactions that BEGINs of these frames opened, each with the SENDs that name it behind its BEGIN, in order: of
--- each transaction the last frame that names it, SENDs aside, is a BEGIN.
-abbrev pub begun : List (List ℕ) → List RawFrame → List (List ℕ × List Send)
-begun names [] = []
-begun names (f ∷ after) =
+-- The transactions that BEGINs of these frames left open, each with the SENDs after its BEGIN that name it, in order:
+-- of each transaction the last frame that names it, SENDs aside, is a BEGIN.
+abbrev pub transactions_left : List (List ℕ) → List RawFrame → List (List ℕ × List Send)
+transactions_left names [] = []
+transactions_left names (f ∷ after) =
     if is_begin f.command && not (list_any (names_transaction (transaction_of f)) after)
-    then (transaction_of f, map (send_of names) (filter (is_send_in (transaction_of f)) after)) ∷ begun names after
-    else begun names after
+    then
+    (transaction_of f, map (send_of names) (filter (is_send_in (transaction_of f)) after))
+    ∷ transactions_left names after
+    else transactions_left names after
 
 -- whether a CONNECT or a STOMP is among them
 abbrev pub is_connected : List RawFrame → Bool
@@ -42,11 +44,11 @@ phase_of frames = if is_ended frames then Closed else (if is_connected frames th
 
 -- the subscriptions that are open; none after a DISCONNECT
 abbrev pub open_subscriptions : List (List ℕ) → List RawFrame → List (List ℕ × Topic)
-open_subscriptions names frames = if is_ended frames then [] else subscribed names frames
+open_subscriptions names frames = if is_ended frames then [] else subscriptions_left names frames
 
 -- the transactions that are open; none after a DISCONNECT
 abbrev pub open_transactions : List (List ℕ) → List RawFrame → List (List ℕ × List Send)
-open_transactions names frames = if is_ended frames then [] else begun names frames
+open_transactions names frames = if is_ended frames then [] else transactions_left names frames
 
 -- what a session holds: the names of the topics, how far it is, and what is open
 pub record Held : Type 0 where
@@ -68,6 +70,6 @@ held_after names frames = record {
 abbrev pub StandsFor : Held → List RawFrame → Type 0
 StandsFor s frames = s ≡ held_after s.names frames
 
--- what a session is once it is closed: it holds nothing open
-abbrev pub closed : Held → Held
-closed s = record { names = s.names; phase = Closed; subscriptions = []; transactions = [] }
+-- what a session holds after it was closed: nothing is open
+abbrev pub after_close : Held → Held
+after_close s = record { names = s.names; phase = Closed; subscriptions = []; transactions = [] }

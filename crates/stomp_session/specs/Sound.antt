@@ -6,6 +6,10 @@ use Rattle.stomp_session.specs.declared.phase.Phase.{Phase}
 use Rattle.stomp_session.specs.declared.phase.Phase.TheVariants.{Closed}
 
 -- a closed one holds nothing open
-pub record IsSound (phase : Phase) (subscriptions : List (List ℕ × Topic)) (transactions : List (List ℕ × List Send)) : Type 0 where
+pub record IsSound
+    (phase : Phase)
+    (subscriptions : List (List ℕ × Topic))
+    (transactions : List (List ℕ × List Send))
+    : Type 0 where
   pub no_subscriptions : phase ≡ Closed → subscriptions ≡ []
   pub no_transactions : phase ≡ Closed → transactions ≡ []

@@ -3,8 +3,10 @@
 
 mod action;
 mod fault;
+mod judged;
 mod names;
 mod phase;
+mod route;
 mod session;
 mod subscriptions;
 mod transactions;

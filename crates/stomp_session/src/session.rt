@@ -5,18 +5,21 @@ ghost use Rattle.stomp_frame.specs.declared.command.Command.TheVariants as comma
 ghost use Rattle.stomp_frame.specs.declared.frame.RawFrame.{RawFrame as Frame};
 ghost use Rattle.stomp_frame.specs.ClientFrames.{raw_of};
 ghost use Rattle.stomp_frame.specs.Headers.{IsText, first_of};
+ghost use Rattle.stomp_session.specs.declared.action.Action.TheVariants as actions;
 ghost use Rattle.stomp_session.specs.declared.phase.Phase.TheVariants as phases;
 ghost use Rattle.stomp_session.specs.declared.fault.SessionFault.TheVariants as faults;
-ghost use Rattle.stomp_session.specs.Open.{closed, held_after, StandsFor};
-ghost use Rattle.stomp_session.specs.Refusals.{is_closed, is_new, first_fault, has_other_ack};
+ghost use Rattle.stomp_session.specs.Open.{after_close, held_after, StandsFor};
+ghost use Rattle.stomp_session.specs.FirstRefusal.{first_fault};
+ghost use Rattle.stomp_session.specs.Refusals.{is_closed, is_new, has_other_ack};
 ghost use Rattle.stomp_session.specs.Answers.{Accepts, AreTexts, Refuses};
-ghost use Rattle.stomp_session.specs.Effects.{Does, Denies, effect, refusal_by};
-ghost use Rattle.stomp_session.specs.Frames.{topic_of};
+ghost use Rattle.stomp_session.specs.Effects.{AcceptsAs, Handles, IsRouteOf, RefusesAs, refusal_by};
 
 use crate::action::{Action, Step};
 use crate::fault::SessionFault;
+use crate::judged::Judged;
 use crate::names::Names;
 use crate::phase::Phase;
+use crate::route::Route;
 use crate::subscriptions::Subscriptions;
 use crate::transactions::Transactions;
 use crate::versions::has_version;
@@ -59,7 +62,7 @@ fn has_other_ack(frame: &RawFrame) -> bool
     }
 }
 
-// A copy of the receipt that a SEND asks for, whose headers go on whole.
+/// A copy of the receipt that a SEND asks for, whose headers are moved whole.
 fn receipt(alloc: Global, headers: &Headers) -> Result<Option<Octets>, NoMemory>
     ensures value { IfOk result (λ receipt. receipt ≡ first_of (codes "receipt") headers.now) }
     ensures text { IfOk result (λ receipt. IfSome receipt IsText) }
@@ -70,25 +73,20 @@ fn receipt(alloc: Global, headers: &Headers) -> Result<Option<Octets>, NoMemory>
     }
 }
 
-fn single(alloc: Global, frame: SendFrame, topic: Topic) -> Result<Txn, SendFrame>
+/// The transaction of a SEND outside a transaction. Its headers and body are returned when there is no memory.
+fn single(
+    alloc: Global,
+    topic: Topic,
+    headers: Headers,
+    body: Octets,
+) -> Result<Action, (Headers, Octets)>
     ensures ok { IfOk result
-        (λ txn. txn ≡ record { topic = topic; headers = frame.raw.headers; body = frame.raw.body } ∷ []) }
-    ensures back { IfErr result (λ refused. refused ≡ frame) }
+        (λ action. action ≡ actions.Commit (record { topic = topic; headers = headers; body = body } ∷ [])) }
+    ensures back { IfErr result (λ refused. refused ≡ (headers, body)) }
 {
-    let RawFrame {
-        command,
-        headers,
-        body,
-    } = frame.raw;
     match Txn::single(alloc, topic, headers, body) {
-        Ok(txn) => Ok(txn),
-        Err((headers, body, NoMemory)) => Err(SendFrame {
-            raw: RawFrame {
-                command,
-                headers,
-                body,
-            },
-        }),
+        Ok(txn) => Ok(Action::Commit(txn)),
+        Err((headers, body, NoMemory)) => Err((headers, body)),
     }
 }
 
@@ -110,7 +108,7 @@ impl Session {
     /// Closes it for a cause from outside: its open subscriptions end, and its open transactions are
     /// aborted. It takes no memory.
     pub fn end(&mut self)
-        ensures { self.new ≡ closed self.old }
+        ensures { self.new ≡ after_close self.old }
     {
         self.phase = Phase::Closed;
         self.subscriptions.clear();
@@ -129,36 +127,23 @@ impl Session {
         }
     }
 
-    fn connect(&mut self, frame: ConnectFrame) -> Result<Step, (ConnectFrame, SessionFault)>
-        ensures accepted { IfOk result
-            (λ step. Does commands.Connect self.old frame.raw step self.new) }
-        ensures texts { IfOk result AreTexts }
-        ensures refused { IfErr result (λ e. Denies commands.Connect self.old frame.raw e.1) }
-        ensures back { IfErr result (λ e. e.0 ≡ frame) }
-        ensures names { self.new.names ≡ self.old.names }
+    fn connect(&mut self, frame: &ConnectFrame) -> Result<Judged, SessionFault>
+        ensures { Handles commands.Connect self.old frame.now.raw result self.new }
     {
         match self.phase {
             Phase::New => {}
-            Phase::Connected => return Err((frame, SessionFault::AlreadyConnected)),
-            Phase::Closed => return Err((frame, SessionFault::Closed)),
+            Phase::Connected => return Err(SessionFault::AlreadyConnected),
+            Phase::Closed => return Err(SessionFault::Closed),
         }
         if !has_version(b"1.2", frame.accept_version()) {
-            return Err((frame, SessionFault::NoVersion));
+            return Err(SessionFault::NoVersion);
         }
         self.phase = Phase::Connected;
-        Ok(Step {
-            action: Action::Connected,
-            receipt: None,
-        })
+        Ok(Judged::Connected)
     }
 
-    // Opens the subscription of a SUBSCRIBE, where it's accepted: the topic that it goes to.
-    fn open(&mut self, frame: &SubscribeFrame) -> Result<Topic, SessionFault>
-        ensures accepted { OnOk result (refusal_by commands.Subscribe self.old frame.now.raw ≡ None) }
-        ensures topic { IfOk result (λ topic. topic ≡ topic_of self.old.names frame.now.raw) }
-        ensures held { OnOk result (self.new ≡ effect commands.Subscribe self.old frame.now.raw) }
-        ensures refused { IfErr result (Denies commands.Subscribe self.old frame.now.raw) }
-        ensures names { self.new.names ≡ self.old.names }
+    fn subscribe(&mut self, frame: &SubscribeFrame) -> Result<Judged, SessionFault>
+        ensures { Handles commands.Subscribe self.old frame.now.raw result self.new }
     {
         self.connected()?;
         if has_other_ack(&frame.raw) {
@@ -175,210 +160,135 @@ impl Session {
             return Err(SessionFault::TooManySubs);
         }
         self.subscriptions.open(id, topic)?;
-        Ok(topic)
+        Ok(Judged::Subscribe(topic))
     }
 
-    fn subscribe(&mut self, frame: SubscribeFrame) -> Result<Step, (SubscribeFrame, SessionFault)>
-        ensures accepted { IfOk result
-            (λ step. Does commands.Subscribe self.old frame.raw step self.new) }
-        ensures texts { IfOk result AreTexts }
-        ensures refused { IfErr result (λ e. Denies commands.Subscribe self.old frame.raw e.1) }
-        ensures back { IfErr result (λ e. e.0 ≡ frame) }
-        ensures names { self.new.names ≡ self.old.names }
+    fn unsubscribe(&mut self, frame: &UnsubscribeFrame) -> Result<Judged, SessionFault>
+        ensures { Handles commands.Unsubscribe self.old frame.now.raw result self.new }
     {
-        let topic = match self.open(&frame) {
-            Ok(topic) => topic,
-            Err(fault) => return Err((frame, fault)),
-        };
-        let mut raw = frame.raw;
-        let id = raw.headers.take(b"id").unwrap();
-        Ok(Step {
-            action: Action::Subscribe(id, topic),
-            receipt: raw.headers.take(b"receipt"),
-        })
-    }
-
-    fn unsubscribe(
-        &mut self,
-        frame: UnsubscribeFrame,
-    ) -> Result<Step, (UnsubscribeFrame, SessionFault)>
-        ensures accepted { IfOk result
-            (λ step. Does commands.Unsubscribe self.old frame.raw step self.new) }
-        ensures texts { IfOk result AreTexts }
-        ensures refused { IfErr result (λ e. Denies commands.Unsubscribe self.old frame.raw e.1) }
-        ensures back { IfErr result (λ e. e.0 ≡ frame) }
-        ensures names { self.new.names ≡ self.old.names }
-    {
-        if let Err(fault) = self.connected() {
-            return Err((frame, fault));
-        }
+        self.connected()?;
         if !self.subscriptions.close(frame.id()) {
-            return Err((frame, SessionFault::NoSuchSub));
+            return Err(SessionFault::NoSuchSub);
         }
-        let mut raw = frame.raw;
-        let id = raw.headers.take(b"id").unwrap();
-        Ok(Step {
-            action: Action::Unsubscribe(id),
-            receipt: raw.headers.take(b"receipt"),
-        })
+        Ok(Judged::Unsubscribe)
     }
 
-    fn disconnect(
-        &mut self,
-        frame: DisconnectFrame,
-    ) -> Result<Step, (DisconnectFrame, SessionFault)>
-        ensures accepted { IfOk result
-            (λ step. Does commands.Disconnect self.old frame.raw step self.new) }
-        ensures texts { IfOk result AreTexts }
-        ensures refused { IfErr result (λ e. Denies commands.Disconnect self.old frame.raw e.1) }
-        ensures back { IfErr result (λ e. e.0 ≡ frame) }
-        ensures names { self.new.names ≡ self.old.names }
+    fn disconnect(&mut self, _frame: &DisconnectFrame) -> Result<Judged, SessionFault>
+        ensures { Handles commands.Disconnect self.old _frame.now.raw result self.new }
     {
-        if let Err(fault) = self.connected() {
-            return Err((frame, fault));
-        }
-        let mut raw = frame.raw;
-        let step = Step {
-            action: Action::Disconnect,
-            receipt: raw.headers.take(b"receipt"),
-        };
+        self.connected()?;
         self.end();
-        Ok(step)
+        Ok(Judged::Disconnect)
     }
 
-    fn begin(&mut self, frame: BeginFrame) -> Result<Step, (BeginFrame, SessionFault)>
-        ensures accepted { IfOk result
-            (λ step. Does commands.Begin self.old frame.raw step self.new) }
-        ensures texts { IfOk result AreTexts }
-        ensures refused { IfErr result (λ e. Denies commands.Begin self.old frame.raw e.1) }
-        ensures back { IfErr result (λ e. e.0 ≡ frame) }
-        ensures names { self.new.names ≡ self.old.names }
+    fn begin(&mut self, frame: &BeginFrame) -> Result<Judged, SessionFault>
+        ensures { Handles commands.Begin self.old frame.now.raw result self.new }
     {
-        if let Err(fault) = self.connected() {
-            return Err((frame, fault));
-        }
+        self.connected()?;
         let name = frame.transaction();
         if self.transactions.is_open(name) {
-            return Err((frame, SessionFault::TxnInUse));
+            return Err(SessionFault::TxnInUse);
         }
         if self.transactions.is_full() {
-            return Err((frame, SessionFault::TooManyTxns));
+            return Err(SessionFault::TooManyTxns);
         }
-        if self.transactions.begin(name).is_err() {
-            return Err((frame, SessionFault::NoMemory));
-        }
-        let mut raw = frame.raw;
-        Ok(Step {
-            action: Action::Nothing,
-            receipt: raw.headers.take(b"receipt"),
-        })
+        self.transactions.begin(name)?;
+        Ok(Judged::Nothing)
     }
 
-    fn commit(&mut self, frame: CommitFrame) -> Result<Step, (CommitFrame, SessionFault)>
-        ensures accepted { IfOk result
-            (λ step. Does commands.Commit self.old frame.raw step self.new) }
-        ensures texts { IfOk result AreTexts }
-        ensures refused { IfErr result (λ e. Denies commands.Commit self.old frame.raw e.1) }
-        ensures back { IfErr result (λ e. e.0 ≡ frame) }
-        ensures names { self.new.names ≡ self.old.names }
+    fn commit(&mut self, frame: &CommitFrame) -> Result<Judged, SessionFault>
+        ensures { Handles commands.Commit self.old frame.now.raw result self.new }
     {
-        if let Err(fault) = self.connected() {
-            return Err((frame, fault));
-        }
+        self.connected()?;
         let Some(draft) = self.transactions.take(frame.transaction()) else {
-            return Err((frame, SessionFault::NoSuchTxn));
+            return Err(SessionFault::NoSuchTxn);
         };
-        let action = match draft.seal() {
-            Ok(Some(txn)) => Action::Commit(txn),
-            Ok(None) => Action::Nothing,
-            Err((_, NoMemory)) => return Err((frame, SessionFault::NoMemory)),
-        };
-        let mut raw = frame.raw;
-        let receipt = raw.headers.take(b"receipt");
-        Ok(Step { action, receipt })
+        match draft.seal() {
+            Ok(Some(txn)) => Ok(Judged::Commit(txn)),
+            Ok(None) => Ok(Judged::Nothing),
+            Err((_, NoMemory)) => Err(SessionFault::NoMemory),
+        }
     }
 
-    fn abort(&mut self, frame: AbortFrame) -> Result<Step, (AbortFrame, SessionFault)>
-        ensures accepted { IfOk result
-            (λ step. Does commands.Abort self.old frame.raw step self.new) }
-        ensures texts { IfOk result AreTexts }
-        ensures refused { IfErr result (λ e. Denies commands.Abort self.old frame.raw e.1) }
-        ensures back { IfErr result (λ e. e.0 ≡ frame) }
-        ensures names { self.new.names ≡ self.old.names }
+    fn abort(&mut self, frame: &AbortFrame) -> Result<Judged, SessionFault>
+        ensures { Handles commands.Abort self.old frame.now.raw result self.new }
     {
-        if let Err(fault) = self.connected() {
-            return Err((frame, fault));
-        }
+        self.connected()?;
         if self.transactions.take(frame.transaction()).is_none() {
-            return Err((frame, SessionFault::NoSuchTxn));
+            return Err(SessionFault::NoSuchTxn);
         }
-        let mut raw = frame.raw;
-        Ok(Step {
-            action: Action::Nothing,
-            receipt: raw.headers.take(b"receipt"),
-        })
+        Ok(Judged::Nothing)
     }
 
-    // Whether a SEND is accepted: the topic that it goes to, and the receipt that it asks for.
-    fn accepts_send(&self, frame: &SendFrame) -> Result<(Topic, Option<Octets>), SessionFault>
+    /// Judges a SEND: where it goes, and the receipt that it asks for.
+    fn accepts_send(&self, frame: &SendFrame) -> Result<(Route, Option<Octets>), SessionFault>
         ensures accepted { OnOk result (refusal_by commands.Send self.now frame.now.raw ≡ None) }
-        ensures topic { IfOk result (λ sent. sent.0 ≡ topic_of self.now.names frame.now.raw) }
+        ensures route { IfOk result (λ sent. IsRouteOf self.now frame.now.raw sent.0) }
         ensures receipt { IfOk result (λ sent. sent.1 ≡ first_of (codes "receipt") frame.now.raw.headers) }
         ensures text { IfOk result (λ sent. IfSome sent.1 IsText) }
-        ensures refused { IfErr result (Denies commands.Send self.now frame.now.raw) }
+        ensures refused { IfErr result (RefusesAs commands.Send self.now frame.now.raw) }
     {
         self.connected()?;
         let topic = self
             .names
             .find(frame.destination())
             .ok_or(SessionFault::UnknownDestination)?;
-        if let Some(name) = frame.raw.headers.first(b"transaction") {
-            self.transactions.takes_send(name)?;
-        }
-        Ok((topic, receipt(self.alloc, &frame.raw.headers)?))
+        let transaction = match frame.raw.headers.first(b"transaction") {
+            Some(name) => Some(self.transactions.place_for_send(name)?),
+            None => None,
+        };
+        let receipt = receipt(self.alloc, &frame.raw.headers)?;
+        Ok((Route { topic, transaction }, receipt))
     }
 
     fn send(&mut self, frame: SendFrame) -> Result<Step, (SendFrame, SessionFault)>
         ensures accepted { IfOk result
-            (λ step. Does commands.Send self.old frame.raw step self.new) }
+            (λ step. AcceptsAs commands.Send self.old frame.raw step self.new) }
         ensures texts { IfOk result AreTexts }
-        ensures refused { IfErr result (λ e. Denies commands.Send self.old frame.raw e.1) }
+        ensures refused { IfErr result (λ e. RefusesAs commands.Send self.old frame.raw e.1) }
         ensures back { IfErr result (λ e. e.0 ≡ frame) }
         ensures names { self.new.names ≡ self.old.names }
     {
-        let (topic, receipt) = match self.accepts_send(&frame) {
+        let (Route { topic, transaction }, receipt) = match self.accepts_send(&frame) {
             Ok(accepted) => accepted,
             Err(fault) => return Err((frame, fault)),
         };
-        if frame.raw.headers.first(b"transaction").is_none() {
-            return match single(self.alloc, frame, topic) {
-                Ok(txn) => Ok(Step {
-                    action: Action::Commit(txn),
-                    receipt,
-                }),
-                Err(frame) => Err((frame, SessionFault::NoMemory)),
-            };
-        }
-        match self.transactions.send(frame, topic) {
-            Ok(()) => Ok(Step {
-                action: Action::Nothing,
-                receipt,
-            }),
-            Err(frame) => Err((frame, SessionFault::NoMemory)),
+        let RawFrame {
+            command,
+            headers,
+            body,
+        } = frame.raw;
+        let sent = match transaction {
+            Some(place) => self
+                .transactions
+                .add(place, topic, headers, body)
+                .map(|()| Action::Nothing),
+            None => single(self.alloc, topic, headers, body),
+        };
+        match sent {
+            Ok(action) => Ok(Step { action, receipt }),
+            Err((headers, body)) => {
+                let raw = RawFrame {
+                    command,
+                    headers,
+                    body,
+                };
+                Err((SendFrame { raw }, SessionFault::NoMemory))
+            }
         }
     }
 
-    // A refusal closes the session.
+    /// A refusal closes the session.
     fn refused(
         &mut self,
-        frame: ClientFrame,
+        refused: ClientFrame,
         fault: SessionFault,
     ) -> Result<Step, (ClientFrame, SessionFault)>
-        ensures told { result ≡ Err (frame, fault) }
-        ensures after { self.new ≡ closed self.old }
+        ensures refused { result ≡ Err (refused, fault) }
+        ensures after { self.new ≡ after_close self.old }
     {
         self.end();
-        Err((frame, fault))
+        Err((refused, fault))
     }
 
     /// Takes a frame: what the connection has to do for it, or the first of its refusals, with the frame handed back.
@@ -395,17 +305,21 @@ impl Session {
         ensures refused { IfErr result (λ e. (frames : List Frame) → StandsFor self.old frames
             → Refuses (held_after self.old.names frames) (raw_of frame) e.1) }
         ensures back { IfErr result (λ e. e.0 ≡ frame) }
-        ensures closes { OnErr result (self.new ≡ closed self.old) }
+        ensures closes { OnErr result (self.new ≡ after_close self.old) }
         ensures stays_closed { self.old.phase ≡ phases.Closed
             → (result ≡ Err (frame, faults.Closed)) × (self.new ≡ self.old) }
         ensures names { self.new.names ≡ self.old.names }
     {
-        macro_rules! steps {
+        macro_rules! answers {
             ($($case:ident => $method:ident;)*) => {
                 match frame {
-                    $(ClientFrame::$case(frame) => match self.$method(frame) {
+                    ClientFrame::Send(frame) => match self.send(frame) {
                         Ok(step) => Ok(step),
-                        Err((frame, fault)) => self.refused(ClientFrame::$case(frame), fault),
+                        Err((frame, fault)) => self.refused(ClientFrame::Send(frame), fault),
+                    },
+                    $(ClientFrame::$case(frame) => match self.$method(&frame) {
+                        Ok(judged) => Ok(judged.step(frame.raw)),
+                        Err(fault) => self.refused(ClientFrame::$case(frame), fault),
                     },)*
                 }
             };
@@ -413,12 +327,11 @@ impl Session {
         if let Phase::Closed = self.phase {
             return Err((frame, SessionFault::Closed));
         }
-        steps! {
+        answers! {
             Connect => connect;
             Subscribe => subscribe;
             Unsubscribe => unsubscribe;
             Begin => begin;
-            Send => send;
             Commit => commit;
             Abort => abort;
             Disconnect => disconnect;

@@ -2,7 +2,7 @@
 
 ghost use Rattle.std.specs.Prelude.{◌≡◌, false, [], ◌∷◌, ◌++◌, OnOk};
 ghost use Rattle.stomp_session.specs.Refusals.{is_open, is_full};
-ghost use Rattle.stomp_session.specs.Effects.{without};
+ghost use Rattle.stomp_session.specs.Effects.{entries_without};
 
 use indexmap::IndexMap;
 use mcast_txn::Topic;
@@ -69,7 +69,7 @@ impl Subscriptions {
     /// Closes the one of this id; whether it was open. It takes no memory.
     pub(crate) fn close(&mut self, id: &[u8]) -> bool
         ensures was_open { result ≡ is_open id.now self.old }
-        ensures after { self.new ≡ without id.now self.old }
+        ensures after { self.new ≡ entries_without id.now self.old }
     {
         self.topics.shift_remove(id).is_some()
     }

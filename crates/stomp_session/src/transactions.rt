@@ -1,10 +1,9 @@
 //! The transactions that are open.
 
-ghost use Rattle.std.specs.Prelude.{◌≡◌, true, false, not, [], ◌∷◌, ◌++◌, Some, codes, is_some, IsSomeAnd, IfSome, IfErr, OnOk};
-ghost use Rattle.std.specs.Option.{option_map_or};
-ghost use Rattle.stomp_frame.specs.Headers.{first_of};
-ghost use Rattle.stomp_session.specs.Refusals.{is_open, is_full, is_full_of_sends, sends_in, first_fault};
-ghost use Rattle.stomp_session.specs.Effects.{without, with_send};
+ghost use Rattle.std.specs.Prelude.{◌≡◌, ◌<◌, ℕ, List, true, false, not, [], ◌∷◌, ◌++◌, length, Some, is_some, IfSome, IfOk, IfErr, OnOk};
+ghost use Rattle.stomp_session.specs.Refusals.{is_open, is_full, is_full_of_sends, sends_in};
+ghost use Rattle.stomp_session.specs.FirstRefusal.{first_fault};
+ghost use Rattle.stomp_session.specs.Effects.{entries_without, place_of_id, with_send};
 ghost use Rattle.stomp_session.specs.declared.fault.SessionFault.TheVariants.{NoSuchTxn, TooManySends};
 
 use crate::fault::SessionFault;
@@ -13,7 +12,7 @@ use indexmap::IndexMap;
 use mcast_txn::{Draft, MAX_SENDS, Topic};
 use std::alloc::Global;
 use std::marker::Model;
-use stomp_frame::{NoMemory, RawFrame, SendFrame};
+use stomp_frame::{Headers, NoMemory, Octets};
 
 /// The transactions of a connection that are open, by their names, in the order in which they were begun
 /// (STOMP 1.2, "BEGIN"). In contracts it is the list of the names with their SENDs.
@@ -68,49 +67,43 @@ impl Transactions {
         Ok(())
     }
 
-    /// Whether the one of this name takes one more SEND: 66 where it isn't open, 71 where it has 64.
-    pub(crate) fn takes_send(&self, name: &[u8]) -> Result<(), SessionFault>
+    /// The place of the one of this name, which takes one more SEND: 66 where it isn't open, 71 where it has 64.
+    pub(crate) fn place_for_send(&self, name: &[u8]) -> Result<usize, SessionFault>
         ensures ok { OnOk result ((is_open name.now self.now ≡ true)
             × (is_full_of_sends (sends_in name.now self.now) ≡ false)) }
+        ensures place { IfOk result
+            (λ place. (place ≡ place_of_id name.now self.now) × (place < length self.now)) }
         ensures err { IfErr result (λ fault. Some fault ≡ first_fault
             ((not (is_open name.now self.now), NoSuchTxn)
             ∷ (is_full_of_sends (sends_in name.now self.now), TooManySends) ∷ [])) }
     {
-        let Some(draft) = self.drafts.get(name) else {
+        let Some((place, _, draft)) = self.drafts.get_full(name) else {
             return Err(SessionFault::NoSuchTxn);
         };
         if draft.len() >= MAX_SENDS {
             return Err(SessionFault::TooManySends);
         }
-        Ok(())
+        Ok(place)
     }
 
-    /// Puts a SEND behind the others of the transaction that it names, or hands it back for want of memory.
-    pub(crate) fn send(&mut self, frame: SendFrame, topic: Topic) -> Result<(), SendFrame>
-        requires { IsSomeAnd (first_of (codes "transaction") frame.raw.headers)
-            (λ name. is_open name self.old ≡ true) }
-        ensures ok { OnOk result (self.new ≡ option_map_or
-            (λ name. with_send name
-            (record { topic = topic; headers = frame.raw.headers; body = frame.raw.body }) self.old)
-            (first_of (codes "transaction") frame.raw.headers) self.old) }
-        ensures back { IfErr result (λ refused. refused ≡ frame) }
+    /// Puts a SEND at the end of the one at this place. Its headers and body are returned when there is no memory.
+    pub(crate) fn add(
+        &mut self,
+        place: usize,
+        topic: Topic,
+        headers: Headers,
+        body: Octets,
+    ) -> Result<(), (Headers, Octets)>
+        requires { place < length self.old }
+        ensures ok { OnOk result ((name : List ℕ) → place ≡ place_of_id name self.old
+            → self.new ≡ with_send name
+            (record { topic = topic; headers = headers; body = body }) self.old) }
+        ensures back { IfErr result (λ refused. refused ≡ (headers, body)) }
     {
-        let name = frame.raw.headers.first(b"transaction").unwrap();
-        let draft = self.drafts.get_mut(name).unwrap();
-        let RawFrame {
-            command,
-            headers,
-            body,
-        } = frame.raw;
+        let draft = self.drafts.get_index_mut(place).unwrap();
         match draft.add(topic, headers, body) {
             Ok(()) => Ok(()),
-            Err((headers, body, _)) => Err(SendFrame {
-                raw: RawFrame {
-                    command,
-                    headers,
-                    body,
-                },
-            }),
+            Err((headers, body, _)) => Err((headers, body)),
         }
     }
 
@@ -118,7 +111,7 @@ impl Transactions {
     pub(crate) fn take(&mut self, name: &[u8]) -> Option<Draft>
         ensures was_open { is_some result ≡ is_open name.now self.old }
         ensures sends { IfSome result (λ draft. draft ≡ sends_in name.now self.old) }
-        ensures after { self.new ≡ without name.now self.old }
+        ensures after { self.new ≡ entries_without name.now self.old }
     {
         self.drafts.shift_remove(name)
     }

@@ -1,7 +1,7 @@
 //! Protocol negotiation.
 
 ghost use Rattle.std.specs.Prelude.{◌≡◌};
-ghost use Rattle.stomp_session.specs.Versions.{has_version, trimmed, without_front_spaces};
+ghost use Rattle.stomp_session.specs.Versions.{has_version, trimmed_text, without_front_spaces};
 
 /// The text without the spaces at its front.
 fn without_front_spaces(mut text: &[u8]) -> &[u8]
@@ -14,8 +14,8 @@ fn without_front_spaces(mut text: &[u8]) -> &[u8]
 }
 
 /// The text without the spaces at both ends.
-fn trimmed(text: &[u8]) -> &[u8]
-    ensures { result.now ≡ trimmed text.now }
+fn trimmed_text(text: &[u8]) -> &[u8]
+    ensures { result.now ≡ trimmed_text text.now }
 {
     let mut text = without_front_spaces(text);
     while let [rest @ .., b' '] = text {
@@ -30,5 +30,5 @@ pub(crate) fn has_version(version: &[u8], text: &[u8]) -> bool
     ensures { result ≡ has_version version.now text.now }
 {
     text.split(|b| *b == b',')
-        .any(|item| trimmed(item) == version)
+        .any(|item| trimmed_text(item) == version)
 }

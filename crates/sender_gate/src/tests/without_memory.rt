@@ -6,14 +6,26 @@ use mcast_txn::{Draft, Headers, Octets, Sender, Topic, Txn, TxnId};
 use std::alloc::Global;
 use std::test::Fail;
 
+/// Puts a SEND with this letter as its body into the draft; whether there was memory.
+fn has_put(alloc: Global, draft: &mut Draft, topic: u32, letter: u8) -> bool {
+    let Ok(body) = Octets::from_slice(alloc, &[letter]) else {
+        return false;
+    };
+    draft.add(Topic(topic), Headers::new(alloc), body).is_ok()
+}
+
 /// A transaction to A, B and A with a letter as the body of each SEND, if there is memory.
 fn made(alloc: Global) -> Option<Txn> {
     let mut draft = Draft::new(alloc);
     for (topic, letter) in [(0, b'a'), (1, b'b'), (0, b'c')] {
-        let body = Octets::from_slice(alloc, &[letter]).ok()?;
-        draft.add(Topic(topic), Headers::new(alloc), body).ok()?;
+        if !has_put(alloc, &mut draft, topic, letter) {
+            return None;
+        }
     }
-    draft.seal().ok()?
+    match draft.seal() {
+        Ok(txn) => txn,
+        Err(_) => None,
+    }
 }
 
 /// The transaction, as `made` gives it the first or the second time.

@@ -181,27 +181,37 @@ fn a_receipt_is_written(rt: HostRuntime) -> Result<(), Fail> {
     Ok(())
 }
 
-/// The message of each fault begins with its number and its name.
+/// Each fault's number and title, and its message, which begins with the title.
 #[test]
-fn messages_begin_with_titles(rt: HostRuntime) -> Result<(), Fail> {
+fn faults_have_their_titles(rt: HostRuntime) -> Result<(), Fail> {
     let alloc = rt.alloc();
-    for (fault, title) in [
-        (SessionFault::NotConnected, b"60 NotConnected:".as_slice()),
-        (SessionFault::AlreadyConnected, b"61 AlreadyConnected:"),
-        (SessionFault::NoVersion, b"62 NoVersion:"),
-        (SessionFault::SubIdInUse, b"63 SubIdInUse:"),
-        (SessionFault::NoSuchSub, b"64 NoSuchSub:"),
-        (SessionFault::TxnInUse, b"65 TxnInUse:"),
-        (SessionFault::NoSuchTxn, b"66 NoSuchTxn:"),
-        (SessionFault::UnknownDestination, b"67 UnknownDestination:"),
-        (SessionFault::AckMode, b"68 AckMode:"),
-        (SessionFault::TooManySubs, b"69 TooManySubs:"),
-        (SessionFault::TooManyTxns, b"70 TooManyTxns:"),
-        (SessionFault::TooManySends, b"71 TooManySends:"),
-        (SessionFault::NoMemory, b"72 NoMemory:"),
-        (SessionFault::Closed, b"73 Closed:"),
+    for (fault, number, title) in [
+        (
+            SessionFault::NotConnected,
+            60u32,
+            b"60 NotConnected".as_slice(),
+        ),
+        (SessionFault::AlreadyConnected, 61, b"61 AlreadyConnected"),
+        (SessionFault::NoVersion, 62, b"62 NoVersion"),
+        (SessionFault::SubIdInUse, 63, b"63 SubIdInUse"),
+        (SessionFault::NoSuchSub, 64, b"64 NoSuchSub"),
+        (SessionFault::TxnInUse, 65, b"65 TxnInUse"),
+        (SessionFault::NoSuchTxn, 66, b"66 NoSuchTxn"),
+        (
+            SessionFault::UnknownDestination,
+            67,
+            b"67 UnknownDestination",
+        ),
+        (SessionFault::AckMode, 68, b"68 AckMode"),
+        (SessionFault::TooManySubs, 69, b"69 TooManySubs"),
+        (SessionFault::TooManyTxns, 70, b"70 TooManyTxns"),
+        (SessionFault::TooManySends, 71, b"71 TooManySends"),
+        (SessionFault::NoMemory, 72, b"72 NoMemory"),
+        (SessionFault::Closed, 73, b"73 Closed"),
     ] {
         let message = format!(in alloc; "{fault}")?;
+        assert_eq!(rt; fault.number(), number);
+        assert!(rt; fault.title() == title);
         assert!(rt; message.as_bytes().starts_with(title));
     }
     Ok(())

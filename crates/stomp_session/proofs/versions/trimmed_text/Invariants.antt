@@ -1,6 +1,6 @@
 use Rattle.std.proofs.Common.{◌≡◌, length, reverse}
 use Rattle.stomp_session.specs.Versions.{without_front_spaces}
-use Rattle.stomp_session.proofs.versions.trimmed.Given as goal
+use Rattle.stomp_session.proofs.versions.trimmed_text.Given as goal
 
 abbrev pub invariant-loop-text : goal.invariant-loop-text
 invariant-loop-text l = without_front_spaces (reverse l.text) ≡ without_front_spaces (reverse l.initial.text)
