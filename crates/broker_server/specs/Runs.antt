@@ -4,7 +4,7 @@ use Rattle.std.specs.Io.KnownBytes.{Appends}
 use Rattle.broker_server.specs.declared.counting.Counting.{Counting}
 use Rattle.broker_server.specs.declared.program_fault.ProgramFault.{ProgramFault}
 use Rattle.broker_server.specs.declared.program_fault.ProgramFault.TheVariants.{Io}
-use Rattle.broker_server.specs.Counts.{plus, turns, Fails, FailsNot, RunsOut}
+use Rattle.broker_server.specs.Counts.{plus, max_reads, Fails, FailsNot, RunsOut}
 use Rattle.broker_server.specs.Relay.{IsRelayed}
 
 -- Where the run answers a status and the reader's octets are known, it has written the relay of all of them.
@@ -29,6 +29,6 @@ pub record IsRun {R W : Type 0} (remaining : R → Option (List ℕ)) (contents 
   pub flushed : OnOk answer (IsTrue wrote.flushed)
   pub io : IsErrOf answer Io → HasCause remaining reader read writer wrote
   -- how often the reader is called at most
-  pub turns : read.calls ≤ plus reader.calls turns
+  pub reads : read.calls ≤ plus reader.calls max_reads
   -- no failure that was counted is passed over
   pub heard : (answer ≢ Err Io) → FailsNot reader read × FailsNot writer wrote

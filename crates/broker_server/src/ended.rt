@@ -1,7 +1,7 @@
 //! How a program ends.
 
 ghost use Rattle.std.specs.Prelude.{◌≡◌};
-ghost use Rattle.broker_server.specs.Ends.{usage_end, end_of};
+ghost use Rattle.broker_server.specs.Ended.{usage_end, end_of};
 
 use crate::message::Message;
 use crate::program_fault::ProgramFault;

@@ -1,7 +1,7 @@
 //! A program, from the words on its command line to its end.
 
 ghost use Rattle.std.specs.Prelude.{◌≡◌, ℕ, None, Result, IfErr, IfOk, IfSome, map, string_bytes};
-ghost use Rattle.broker_server.specs.Ends.{end_of, usage_end, IsUnreadEnd};
+ghost use Rattle.broker_server.specs.Ended.{end_of, usage_end, IsUnreadEnd};
 ghost use Rattle.broker_server.specs.Programs.{relay_name};
 ghost use Rattle.broker_server.specs.Runs.{IsRun};
 

@@ -17,13 +17,13 @@ use Rattle.stomp_frame.specs.Headers.{IsText}
 use Rattle.stomp_frame.specs.Receipts.{receipt_of}
 use Rattle.stomp_frame.specs.Reader.{Unread, Answers}
 use Rattle.stomp_frame.specs.ServerFrames.{error_frame, rendered, IsRenderable}
-use Rattle.broker_server.specs.declared.refusal.Refusal.{Refusal}
-use Rattle.broker_server.specs.declared.refusal.Refusal.TheVariants as refusals
-use Rattle.broker_server.specs.declared.turn.Turn.{Turn}
-use Rattle.broker_server.specs.declared.turn.Turn.TheVariants.{End}
-use Rattle.broker_server.specs.Refusals.{refusal, refusal_title}
-use Rattle.broker_server.specs.Relay.{check_error, end_error}
-use Rattle.broker_server.specs.Steps.{reading, fault_turn, Answered, Turns}
+use Rattle.broker_server.specs.declared.relay_fault.RelayFault.{RelayFault}
+use Rattle.broker_server.specs.declared.relay_fault.RelayFault.TheVariants as faults_of_relay
+use Rattle.broker_server.specs.declared.next.Next.{Next}
+use Rattle.broker_server.specs.declared.next.Next.TheVariants.{End}
+use Rattle.broker_server.specs.RelayFaults.{relay_fault, relay_fault_title}
+use Rattle.broker_server.specs.Relay.{check_error, error_at_end}
+use Rattle.broker_server.specs.Steps.{reading, next_of_fault, IsNextOfFrame, IsNext}
 
 -- ---- what is told can be written
 
@@ -47,11 +47,11 @@ all_ascii (b ∷ text) e =
 is_text : (text : List ℕ) → list_all is_ascii text ≡ true → IsText text
 is_text text e = let a = all_ascii text e in record { utf8 = IsUtf8-from_ascii text a.1; no_null = a.0 }
 
-refusal_text : (r : Refusal) → IsText (refusal_title r)
-refusal_text refusals.Unsupported = is_text (codes "21 Unsupported") refl
-refusal_text refusals.MissingDestination = is_text (codes "22 Missing destination") refl
-refusal_text refusals.UnknownDestination = is_text (codes "67 UnknownDestination") refl
-refusal_text refusals.NoSuchTxn = is_text (codes "66 NoSuchTxn") refl
+relay_fault_text : (r : RelayFault) → IsText (relay_fault_title r)
+relay_fault_text faults_of_relay.Unsupported = is_text (codes "21 Unsupported") refl
+relay_fault_text faults_of_relay.MissingDestination = is_text (codes "22 Missing destination") refl
+relay_fault_text faults_of_relay.UnknownDestination = is_text (codes "67 UnknownDestination") refl
+relay_fault_text faults_of_relay.NoSuchTxn = is_text (codes "66 NoSuchTxn") refl
 
 fault_text : (f : FrameFault) → IsText (title_of f)
 fault_text faults.BadCommand = is_text (codes "1 BadCommand") refl
@@ -71,35 +71,35 @@ seen_text : (o : Option (Bor (List ℕ))) → IfSome o (λ r. IsText r.now) → 
 seen_text None t = tt
 seen_text (Some r) t = t
 
--- ---- turns
+-- ---- what comes next
 
-pub refused_turn : (name : List ℕ) (n : ℕ) (f : RawFrame) (r : Refusal) (title : List ℕ) (receipt : Option (Bor (List ℕ))) (error : ServerFrame) → Some r ≡ refusal name f → IfSome receipt (λ v. IsText v.now)
-    → option_map (λ v. v.now) receipt ≡ receipt_of f → title ≡ refusal_title r → error ≡ Error title (option_map (λ v. v.now) receipt) false → Answered name n f (End (Some error))
-refused_turn name n f r title receipt error h text e d is =
+pub next_of_refused : (name : List ℕ) (n : ℕ) (f : RawFrame) (r : RelayFault) (title : List ℕ) (receipt : Option (Bor (List ℕ))) (error : ServerFrame) → Some r ≡ relay_fault name f → IfSome receipt (λ v. IsText v.now)
+    → option_map (λ v. v.now) receipt ≡ receipt_of f → title ≡ relay_fault_title r → error ≡ Error title (option_map (λ v. v.now) receipt) false → IsNextOfFrame name n f (End (Some error))
+next_of_refused name n f r title receipt error h text e d is =
     let seen : Option (List ℕ) = option_map (λ v. v.now) receipt in
-    let whole : error ≡ Error (refusal_title r) (receipt_of f) false = is ∙ ap (λ (t : List ℕ). Error t seen false) d ∙ ap (λ (o : Option (List ℕ)). Error (refusal_title r) o false) e in (
+    let whole : error ≡ Error (relay_fault_title r) (receipt_of f) false = is ∙ ap (λ (t : List ℕ). Error t seen false) d ∙ ap (λ (o : Option (List ℕ)). Error (relay_fault_title r) o false) e in (
       ap is_some (sym h),
-      ap (λ (e : ServerFrame). Some (rendered e)) whole ∙ ap (option_map (λ (r : Refusal). error_frame (refusal_title r) (receipt_of f) false)) h,
-      subst IsRenderable (sym whole) (refusal_text r, subst (λ (o : Option (List ℕ)). MatchOption o (Unit {0}) IsText) e (seen_text receipt text)),
+      ap (λ (e : ServerFrame). Some (rendered e)) whole ∙ ap (option_map (λ (r : RelayFault). error_frame (relay_fault_title r) (receipt_of f) false)) h,
+      subst IsRenderable (sym whole) (relay_fault_text r, subst (λ (o : Option (List ℕ)). MatchOption o (Unit {0}) IsText) e (seen_text receipt text)),
     )
 
-fault_error : (name : List ℕ) (n : ℕ) (text : List ℕ) (new : Unread) (fault : FrameFault) (turn : Turn) → turn ≡ fault_turn fault → Turns name n (reading text) (fault_turn fault) new → Turns name n (reading text) turn new
-fault_error name n text new fault turn e t = subst (λ (t : Turn). Turns name n (reading text) t new) (sym e) t
+at_next : (name : List ℕ) (n : ℕ) (text : List ℕ) (new : Unread) (fault : FrameFault) (next : Next) → next ≡ next_of_fault fault → IsNext name n (reading text) (next_of_fault fault) new → IsNext name n (reading text) next new
+at_next name n text new fault next e t = subst (λ (t : Next). IsNext name n (reading text) t new) (sym e) t
 
-within : (rest : List ℕ) → rest ≢ [] → Some (check_error checks.BadEnd) ≡ end_error rest
+within : (rest : List ℕ) → rest ≢ [] → Some (check_error checks.BadEnd) ≡ error_at_end rest
 within [] h = absurd (h refl)
 within (b ∷ rest) h = refl
 
-pub open_turn : (name : List ℕ) (n : ℕ) (old after new : Unread) (turn : Turn) → old ≡ reading old.text → Answers old (Ok None) after → after.text ≢ [] → turn ≡ fault_turn faults.BadEnd → Turns name n old turn new
-open_turn name n old after new turn fresh a some e =
+pub next_of_open : (name : List ℕ) (n : ℕ) (old after new : Unread) (next : Next) → old ≡ reading old.text → Answers old (Ok None) after → after.text ≢ [] → next ≡ next_of_fault faults.BadEnd → IsNext name n old next new
+next_of_open name n old after new next fresh a some e =
     let read = subst (λ (u : Unread). Answers u (Ok None) after) fresh a in
     let left : read.0 ≢ [] = λ nil. some (ap (λ (u : Unread). u.text) read.3 ∙ nil) in
-    let told = fault_error name n old.text new faults.BadEnd turn e (inr (read.0, read.1, inl (read.2, within read.0 left)), (fault_text faults.BadEnd, tt)) in
-    subst (λ (u : Unread). Turns name n u turn new) (sym fresh) told
+    let told = at_next name n old.text new faults.BadEnd next e (inr (read.0, read.1, inl (read.2, within read.0 left)), (fault_text faults.BadEnd, tt)) in
+    subst (λ (u : Unread). IsNext name n u next new) (sym fresh) told
 
-pub fault_turns : (name : List ℕ) (n : ℕ) (old after new : Unread) (fault : FrameFault) (turn : Turn) → old ≡ reading old.text → Answers old (Err fault) after → turn ≡ fault_turn fault → Turns name n old turn new
-fault_turns name n old after new fault turn fresh a e =
+pub next_of_failed : (name : List ℕ) (n : ℕ) (old after new : Unread) (fault : FrameFault) (next : Next) → old ≡ reading old.text → Answers old (Err fault) after → next ≡ next_of_fault fault → IsNext name n old next new
+next_of_failed name n old after new fault next fresh a e =
     let read = subst (λ (u : Unread). Answers u (Err fault) after) fresh a in
     let which : rendered (Error (title_of fault) None false) ≡ check_error read.1 = ap (λ (f : FrameFault). error_frame (title_of f) None false) read.4 in
-    let told = fault_error name n old.text new fault turn e (inr (read.0, read.2, inr (read.1, read.3, ap (λ (f : RawFrame). Some f) which)), (fault_text fault, tt)) in
-    subst (λ (u : Unread). Turns name n u turn new) (sym fresh) told
+    let told = at_next name n old.text new fault next e (inr (read.0, read.2, inr (read.1, read.3, ap (λ (f : RawFrame). Some f) which)), (fault_text fault, tt)) in
+    subst (λ (u : Unread). IsNext name n u next new) (sym fresh) told
