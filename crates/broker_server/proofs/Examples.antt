@@ -105,30 +105,36 @@ are_two_frames =
 -- The relay to `A` of these SENDs writes these MESSAGEs, with status 0.
 pub two_are_relayed : IsRelayed (codes "A") two_sends two_messages 0
 unfolding digits
-two_are_relayed = inl (lit≤ tt, record {
-  frames = hi ∷ a_null_b ∷ [];
-  rest = [];
-  error = None;
-  stream = are_two_frames;
-  final = inl (ends.1, refl);
-  written = refl;
-  status_is = refl;
-})
+two_are_relayed = inl (
+  lit≤ tt,
+  record {
+    frames = hi ∷ a_null_b ∷ [];
+    rest = [];
+    error = None;
+    stream = are_two_frames;
+    final = inl (ends.1, refl);
+    written = refl;
+    status_is = refl;
+  },
+)
 
 abbrev unknown_error : RawFrame
 unknown_error = error_frame (codes "67 UnknownDestination") None false
 
 -- The relay to `B` of the same SENDs writes this ERROR alone, with status 2.
 pub first_is_refused : IsRelayed (codes "B") two_sends (codes "ERROR\nmessage:67 UnknownDestination\ncontent-length:0\n\n" ++ 0 ∷ []) 2
-first_is_refused = inl (lit≤ tt, record {
-  frames = hi ∷ a_null_b ∷ [];
-  rest = [];
-  error = Some unknown_error;
-  stream = are_two_frames;
-  final = refl;
-  written = refl;
-  status_is = refl;
-})
+first_is_refused = inl (
+  lit≤ tt,
+  record {
+    frames = hi ∷ a_null_b ∷ [];
+    rest = [];
+    error = Some unknown_error;
+    stream = are_two_frames;
+    final = refl;
+    written = refl;
+    status_is = refl;
+  },
+)
 
 -- ---- a SEND to `B`
 

@@ -1,4 +1,4 @@
--- What comes next of a stream.
+-- What the relay does next.
 use Rattle.std.proofs.Common.{◌≡◌, ◌≢◌, inl, inr, ℕ, zero, suc, Bool, true, false, not, eqb, ltb, ◌&&◌, lit<, List, [], ◌∷◌, Option, Some, None, Bor, Ok, Err, refl, sym, ap, subst, ◌∙◌}
 use Rattle.std.specs.Prelude.{codes, is_some, IfSome, MatchOption}
 use Rattle.std.specs.List.{AllByRecursion, list_all}
@@ -25,7 +25,7 @@ use Rattle.broker_server.specs.RelayFaults.{relay_fault, relay_fault_title}
 use Rattle.broker_server.specs.Relay.{check_error, error_at_end}
 use Rattle.broker_server.specs.Steps.{reading, next_of_fault, IsNextOfFrame, IsNext}
 
--- ---- what is told can be written
+-- ---- the text of an error can be written
 
 from_not : (b : Bool) → not b ≡ true → b ≡ false
 from_not true e = absurd cc
@@ -34,7 +34,7 @@ from_not false e = refl
 abbrev pub is_ascii : ℕ → Bool
 is_ascii b = not (eqb b 0) && ltb b 128
 
--- Octets from 1 to 127 can be told.
+-- Octets from 1 to 127 are a text.
 all_ascii : (text : List ℕ) → list_all is_ascii text ≡ true → AllByRecursion (λ b. b ≢ 0) text × IsAscii text
 all_ascii [] e = (tt, λ i. lit< tt)
 all_ascii (b ∷ text) e =
@@ -66,7 +66,7 @@ fault_text faults.TooManyHeaders = is_text (codes "9 TooManyHeaders") refl
 fault_text faults.BodyTooLong = is_text (codes "10 BodyTooLong") refl
 fault_text faults.NoMemory = is_text (codes "11 NoMemory") refl
 
--- what is seen of a text is a text
+-- the text behind a reference is a text
 seen_text : (o : Option (Bor (List ℕ))) → IfSome o (λ r. IsText r.now) → MatchOption (option_map (λ r. r.now) o) (Unit {0}) IsText
 seen_text None t = tt
 seen_text (Some r) t = t

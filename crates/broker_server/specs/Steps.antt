@@ -1,5 +1,5 @@
--- This module only serves proofs: what the functions inside the relay do. The public contracts speak of Relay and
--- Runs, to which these definitions are tied.
+-- This module only serves proofs: what the functions inside the relay do. The public contracts speak of Relay
+-- and Runs, to which these definitions are tied.
 use Rattle.std.specs.Prelude.{◌≡◌, ◌≢◌, ◌⊎◌, ℕ, ◌+◌, ◌<◌, ◌≤◌, Bool, true, false, List, ◌++◌, length, Option, Some, None, Result, Err, IsErrOf, IsSome, IfSome}
 use Rattle.std.specs.Io.KnownBytes.{Appends, Consumes, IsAtEnd}
 use Rattle.std.specs.List.{AllByRecursion}
@@ -33,14 +33,16 @@ IsGathered false old new r = (given : List ℕ) × Consumes old new given × (in
 
 -- The octets are put after those that wait, and what is then first is written.
 abbrev pub Sends : Option (List ℕ) → List ℕ → Option (List ℕ) → List ℕ → List ℕ → Type 0
-Sends old waited new waits octets = (sent : List ℕ) × Appends old new sent × (waited ++ octets ≡ sent ++ waits)
+Sends old waited new waits octets =
+    (sent : List ℕ) × Appends old new sent × (waited ++ octets ≡ sent ++ waits)
 
 -- `Io` is returned only where the reader or writer failed, and no failure is passed over.
 pub record Heard {A T : Type 0} (answer : Result A ProgramFault) (old new : Counting T) : Type 0 where
   pub io : IsErrOf answer Io → Fails old new
   pub kept : (answer ≢ Err Io) → FailsNot old new
 
--- The relay of this text ends with this error, or with none: its first frame is refused, or there is no frame.
+-- The relay of this text ends with this error, or with none: its first frame is refused, or there is no
+-- frame.
 abbrev pub IsFinalError : List ℕ → List ℕ → Option RawFrame → Type 0
 IsFinalError name text error =
     ((f : RawFrame) × (others : List ℕ) × BeginsWith standard text f others
@@ -55,7 +57,8 @@ IsMessageOf n f sent = (rendered sent ≡ message n f) × IsRenderable sent
 abbrev pub IsNextOfFrame : List ℕ → ℕ → RawFrame → Next → Type 0
 IsNextOfFrame name n f (Message sent) = (relay_fault name f ≡ None) × IsMessageOf n f sent
 IsNextOfFrame name n f (End error) =
-    IsSome (relay_fault name f) × (option_map rendered error ≡ relay_fault_error name f) × IfSome error IsRenderable
+    IsSome (relay_fault name f) × (option_map rendered error ≡ relay_fault_error name f)
+    × IfSome error IsRenderable
 
 -- what comes next by a fault
 abbrev pub next_of_fault : FrameFault → Next

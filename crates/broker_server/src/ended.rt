@@ -26,7 +26,7 @@ impl Ended {
         }
     }
 
-    /// The end of a program that answered this.
+    /// The end of a program whose run returned this.
     pub(crate) fn by(answer: Result<u8, ProgramFault>) -> Ended
         ensures { result ≡ end_of answer }
     {
