@@ -1,7 +1,7 @@
 //! How a program ends.
 
 ghost use Rattle.std.specs.Prelude.{◌≡◌};
-ghost use Rattle.broker_server.specs.Ends.{usage_end, end_of};
+ghost use Rattle.broker_server.specs.Ended.{usage_end, end_of};
 
 use crate::message::Message;
 use crate::program_fault::ProgramFault;
@@ -26,7 +26,7 @@ impl Ended {
         }
     }
 
-    /// The end of a program that answered this.
+    /// The end of a program whose run returned this.
     pub(crate) fn by(answer: Result<u8, ProgramFault>) -> Ended
         ensures { result ≡ end_of answer }
     {

@@ -1,12 +1,11 @@
 //! What is written, gathered into large writes.
 
-ghost use Rattle.std.specs.Prelude.{◌≡◌, ◌≢◌, ◌++◌, [], Err, IfOk, OnOk, IfSome, IsErrOf, IsTrue};
+ghost use Rattle.std.specs.Prelude.{◌≡◌, ◌++◌, [], IfOk, OnOk, IfSome, IsTrue};
 ghost use Rattle.std.specs.Io.KnownBytes.{Appends};
 ghost use Rattle.std.specs.Option.{option_map, option_map_or};
 ghost use Rattle.stomp_frame.specs.Writing.{spelled};
 ghost use Rattle.stomp_frame.specs.ServerFrames.{rendered, IsRenderable};
-ghost use Rattle.broker_server.specs.Counts.{Fails, FailsNot};
-ghost use Rattle.broker_server.specs.Steps.{Sends};
+ghost use Rattle.broker_server.specs.Steps.{Heard, Sends};
 
 use crate::counting::Counting;
 use crate::program_fault::ProgramFault;
@@ -17,7 +16,7 @@ use stomp_frame::{Octets, ServerFrame, render, write_frame};
 /// How many octets wait before they are written.
 const FULL: usize = 65_536;
 
-/// Puts the frame behind the octets that wait, and writes them once they are many.
+/// Puts the frame after the octets that wait, and writes them once they are many.
 pub(crate) fn put<W: Write>(
     alloc: Global,
     frame: &ServerFrame,
@@ -27,8 +26,7 @@ pub(crate) fn put<W: Write>(
     requires { IsRenderable frame.now }
     ensures sent { OnOk result (Sends (W.contents writer.old.inner) waiting.old
         (W.contents writer.new.inner) waiting.new (spelled (rendered frame.now))) }
-    ensures io { IsErrOf result ProgramFault.Io → Fails writer.old writer.new }
-    ensures heard { (result ≢ Err ProgramFault.Io) → FailsNot writer.old writer.new }
+    ensures heard { Heard result writer.old writer.new }
 {
     let frame = render(alloc, frame)?;
     write_frame(&frame, waiting)?;
@@ -43,8 +41,7 @@ fn drain<W: Write>(waiting: &mut Octets, writer: &mut Counting<W>) -> Result<(),
     ensures sent { OnOk result
         (Appends (W.contents writer.old.inner) (W.contents writer.new.inner) waiting.old
         × (waiting.new ≡ [])) }
-    ensures io { IsErrOf result ProgramFault.Io → Fails writer.old writer.new }
-    ensures heard { (result ≢ Err ProgramFault.Io) → FailsNot writer.old writer.new }
+    ensures heard { Heard result writer.old writer.new }
 {
     writer.write_all(waiting.as_slice())?;
     waiting.truncate(0);
@@ -59,8 +56,7 @@ fn drain_and_flush<W: Write>(
     ensures sent { OnOk result
         (Appends (W.contents writer.old.inner) (W.contents writer.new.inner) waiting.old) }
     ensures flushed { OnOk result (IsTrue writer.new.flushed) }
-    ensures io { IsErrOf result ProgramFault.Io → Fails writer.old writer.new }
-    ensures heard { (result ≢ Err ProgramFault.Io) → FailsNot writer.old writer.new }
+    ensures heard { Heard result writer.old writer.new }
 {
     drain(waiting, writer)?;
     writer.flush()?;
@@ -81,8 +77,7 @@ pub(crate) fn finish<W: Write>(
     ensures status { IfOk result (λ status.
         status ≡ option_map_or (λ f. 2) (option_map rendered error) 0) }
     ensures flushed { OnOk result (IsTrue writer.new.flushed) }
-    ensures io { IsErrOf result ProgramFault.Io → Fails writer.old writer.new }
-    ensures heard { (result ≢ Err ProgramFault.Io) → FailsNot writer.old writer.new }
+    ensures heard { Heard result writer.old writer.new }
 {
     let status = match &error {
         Some(frame) => {

@@ -3,15 +3,15 @@
 ghost use Rattle.std.specs.Prelude.{◌≡◌, ◌≢◌, ◌⊎◌, ◌≤◌, [], List, ℕ, Err, IfOk, IfSome, IsErrOf, length};
 ghost use Rattle.std.specs.Prelude.{IsTrue, OnOk, vec_len};
 ghost use Rattle.std.specs.Io.KnownBytes.{Appends};
-ghost use Rattle.broker_server.specs.Counts.{plus, turns, Fails, FailsNot, RunsOut};
+ghost use Rattle.broker_server.specs.Counts.{plus, max_reads, Fails, FailsNot, RunsOut};
 ghost use Rattle.broker_server.specs.Relay.{input_limit, too_long, IsAnswered};
 ghost use Rattle.broker_server.specs.Runs.{Relays, HasCause};
-ghost use Rattle.broker_server.specs.Steps.{reading, IsGathered};
+ghost use Rattle.broker_server.specs.Steps.{reading, Heard, IsGathered};
 
 use crate::counting::Counting;
+use crate::next::Next;
 use crate::output::{finish, put};
 use crate::program_fault::ProgramFault;
-use crate::turn::Turn;
 use std::alloc::{AllocError, Global};
 use std::io::{ErrorKind, Read, Write};
 use stomp_frame::{FrameReader, Limits, Octets};
@@ -19,8 +19,8 @@ use stomp_frame::{FrameReader, Limits, Octets};
 /// How many octets of input are taken.
 const INPUT_LIMIT: usize = 16_777_216;
 
-/// How often the reader is called at most: for one octet each time, one past the limit, and the end.
-const TURNS: u64 = 16_777_218;
+/// How often the reader is called at most: once for each octet, once for the octet past the limit, and once for the end.
+const MAX_READS: u64 = 16_777_218;
 
 /// How many octets are read at once.
 const PIECE: usize = 65_536;
@@ -28,8 +28,8 @@ const PIECE: usize = 65_536;
 /// Relays the SEND frames of the reader's whole input to the topic of this name (one or more octets
 /// from 33 to 126): writes a MESSAGE for each frame before the first that is refused, and then the
 /// ERROR (STOMP 1.2, "SEND", "MESSAGE", "ERROR"). Nothing is written before the whole input was read.
-/// The status is 0; or 2 after an ERROR, and where the input is longer than 16,777,216 octets, of
-/// which `bad 112 TooLong` and LF are said alone.
+/// The status is 0, or 2 after an ERROR. Where the input is longer than 16,777,216 octets, it is 2
+/// and the only output is the line `bad 112 TooLong`.
 ///
 /// Errors: `Io` (status 5) where a read or a write failed, a write took nothing, or the input hadn't
 /// ended after 16,777,218 reads (a read that is interrupted is one of these, and is tried again);
@@ -45,7 +45,7 @@ pub fn run_relay<R: Read, W: Write>(
     ensures flushed { OnOk result (IsTrue writer.new.flushed) }
     ensures io { IsErrOf result ProgramFault.Io
         → HasCause R.remaining reader.old reader.new writer.old writer.new }
-    ensures turns { reader.new.calls ≤ plus reader.old.calls turns }
+    ensures reads { reader.new.calls ≤ plus reader.old.calls max_reads }
     // A failure is never passed over.
     ensures heard { (result ≢ Err ProgramFault.Io)
         → FailsNot reader.old reader.new × FailsNot writer.old writer.new }
@@ -58,7 +58,7 @@ pub fn run_relay<R: Read, W: Write>(
     }
 }
 
-/// Reads the whole input, and answers whether it is within the limit.
+/// Reads the whole input, and returns whether it is within the limit.
 fn gather<R: Read>(
     alloc: Global,
     reader: &mut Counting<R>,
@@ -70,15 +70,15 @@ fn gather<R: Read>(
     ensures io { IsErrOf result ProgramFault.Io
         → Fails reader.old reader.new ⊎ RunsOut reader.old reader.new
         (R.remaining reader.old.inner) (R.remaining reader.new.inner) }
-    ensures turns { reader.new.calls ≤ plus reader.old.calls turns }
+    ensures reads { reader.new.calls ≤ plus reader.old.calls max_reads }
     ensures heard { (result ≢ Err ProgramFault.Io) → FailsNot reader.old reader.new }
 {
     let mut piece = zeros(alloc, PIECE)?;
     let mut total = 0;
-    'turns: for _turn in 0..TURNS {
+    'reads: for _read in 0..MAX_READS {
         let count = match reader.read(&mut piece) {
             Ok(count) => count,
-            Err(e) if e.kind() == ErrorKind::Interrupted => continue 'turns,
+            Err(e) if e.kind() == ErrorKind::Interrupted => continue 'reads,
             Err(_) => return Err(ProgramFault::Io),
         };
         if count == 0 {
@@ -93,20 +93,19 @@ fn gather<R: Read>(
     Err(ProgramFault::Io)
 }
 
-/// So many zeros.
+/// A vector of `len` zeros.
 fn zeros(alloc: Global, len: usize) -> Result<Vec<u8>, AllocError>
     ensures { IfOk result (λ zeros. vec_len zeros ≡ len) }
 {
     Ok(vec![in alloc; 0u8; len]?)
 }
 
-/// Says that the input is too long.
+/// Writes that the input is too long.
 fn refuse_length<W: Write>(writer: &mut Counting<W>) -> Result<u8, ProgramFault>
-    ensures told { IfOk result (λ status. (status ≡ 2)
+    ensures written { IfOk result (λ status. (status ≡ 2)
         × Appends (W.contents writer.old.inner) (W.contents writer.new.inner) too_long) }
     ensures flushed { OnOk result (IsTrue writer.new.flushed) }
-    ensures io { IsErrOf result ProgramFault.Io → Fails writer.old writer.new }
-    ensures heard { (result ≢ Err ProgramFault.Io) → FailsNot writer.old writer.new }
+    ensures heard { Heard result writer.old writer.new }
 {
     writer.write_all(b"bad 112 TooLong\n")?;
     writer.flush()?;
@@ -126,15 +125,14 @@ fn relay_frames<W: Write>(
         × Appends (W.contents writer.old.inner) (W.contents writer.new.inner) output
         × IsAnswered name.now frames.old.text output status) }
     ensures flushed { OnOk result (IsTrue writer.new.flushed) }
-    ensures io { IsErrOf result ProgramFault.Io → Fails writer.old writer.new }
-    ensures heard { (result ≢ Err ProgramFault.Io) → FailsNot writer.old writer.new }
+    ensures heard { Heard result writer.old writer.new }
 {
     let mut waiting = Octets::new(alloc);
     let mut n = 1;
     'frames: loop {
-        match Turn::next(alloc, name, n, frames)? {
-            Turn::Message(message) => put(alloc, &message, &mut waiting, writer)?,
-            Turn::End(error) => return finish(alloc, error, &mut waiting, writer),
+        match Next::read(alloc, name, n, frames)? {
+            Next::Message(message) => put(alloc, &message, &mut waiting, writer)?,
+            Next::End(error) => return finish(alloc, error, &mut waiting, writer),
         }
         n += 1;
     }

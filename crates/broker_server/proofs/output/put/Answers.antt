@@ -3,7 +3,7 @@ use Rattle.std.proofs.lemmas.Result.{on_ok_weaker}
 use Rattle.stomp_frame.specs.declared.frame.RawFrame.{RawFrame}
 use Rattle.stomp_frame.specs.Writing.{spelled}
 use Rattle.stomp_frame.specs.ServerFrames.{rendered}
-use Rattle.broker_server.proofs.Sent.{sends_all}
+use Rattle.broker_server.proofs.WriteLemmas.{sends_all}
 use Rattle.broker_server.proofs.output.put.Goals as goal
 
 pub returns-clause-sent : goal.returns-clause-sent

@@ -3,9 +3,9 @@ use Rattle.std.specs.Option.{option_map, option_map_or}
 use Rattle.stomp_frame.specs.declared.frame.RawFrame.{RawFrame}
 use Rattle.stomp_frame.specs.Writing.{spelled}
 use Rattle.stomp_frame.specs.ServerFrames.{rendered}
-use Rattle.broker_server.specs.declared.turn.Turn.{Turn}
-use Rattle.broker_server.specs.Steps.{Sends, Turns}
-use Rattle.broker_server.proofs.SoFar.{answers, ended, goes_on, so_far_more}
+use Rattle.broker_server.specs.declared.next.Next.{Next}
+use Rattle.broker_server.specs.Steps.{Sends, IsNext}
+use Rattle.broker_server.proofs.SoFarLemmas.{answers, ended, goes_on, so_far_more}
 use Rattle.broker_server.proofs.relay.relay_frames.Goals as goal
 
 pub returns-in-End-clause-answered : goal.returns-in-End-clause-answered
@@ -15,8 +15,8 @@ returns-in-End-clause-answered g c =
     let text = c.args.frames.now.text in
     let error = option_map rendered c.in-End.error in
     let so_far = c.frames.invariant.so_far in
-    let turn = subst (λ (t : Turn). Turns name c.frames.n c.frames.frames t c.next.new.frames) c.in-End.is c.in_ok-message.ensures in
-    let end = ended name text c.frames.frames.text (so_far.0 ++ c.frames.waiting) c.frames.n error so_far.1 turn.0 in
+    let next = subst (λ (t : Next). IsNext name c.frames.n c.frames.frames t c.read.new.frames) c.in-End.is c.in_ok-message.ensures in
+    let end = ended name text c.frames.frames.text (so_far.0 ++ c.frames.waiting) c.frames.n error so_far.1 next.0 in
     answers (contents c.args.writer.now.inner) (contents c.frames.writer.inner) (contents c.finish.new.writer.inner) name text so_far.0 c.frames.waiting (option_map_or spelled error []) (option_map_or (λ (f : RawFrame). 2) error 0) c.finish.result
     so_far.2 end c.finish.ensures.written c.finish.ensures.status
 
@@ -25,15 +25,15 @@ frames-preserved g c =
     let contents = g.W.Write.contents in
     let name = c.args.name.now in
     let text = c.args.frames.now.text in
-    let others = c.next.new.frames.text in
+    let others = c.read.new.frames.text in
     let so_far = c.frames.invariant.so_far in
     let before = contents c.frames.writer.inner in
     let after = contents c.put.new.writer.inner in
-    let turn = subst (λ (t : Turn). Turns name c.frames.n c.frames.frames t c.next.new.frames) c.in-Message.is c.in_ok-message.ensures in
-    let more = so_far_more name text c.frames.frames.text (so_far.0 ++ c.frames.waiting) c.frames.n turn.0 others so_far.1 turn.1 turn.2 in
-    let sends = subst (λ (f : RawFrame). Sends before c.frames.waiting after c.put.new.waiting (spelled f)) turn.4 c.in_ok-put-in-Message.ensures.sent in
+    let next = subst (λ (t : Next). IsNext name c.frames.n c.frames.frames t c.read.new.frames) c.in-Message.is c.in_ok-message.ensures in
+    let more = so_far_more name text c.frames.frames.text (so_far.0 ++ c.frames.waiting) c.frames.n next.0 others so_far.1 next.1 next.2 in
+    let sends = subst (λ (f : RawFrame). Sends before c.frames.waiting after c.put.new.waiting (spelled f)) next.4.0 c.in_ok-put-in-Message.ensures.sent in
     record {
-      unread = turn.3;
+      unread = next.3;
       so_far = goes_on (contents c.args.writer.now.inner) before after name text others so_far.0 c.frames.waiting c.put.new.waiting _ (c.frames.n + 1) so_far.2 more sends;
-      heard = c.in_ok-put-in-Message.ensures.heard (λ e. cc) ∙ c.frames.invariant.heard;
+      heard = c.in_ok-put-in-Message.ensures.heard.kept (λ e. cc) ∙ c.frames.invariant.heard;
     }

@@ -3,49 +3,49 @@
 ghost use Rattle.std.specs.Prelude.{◌≡◌, ◌≢◌, IfOk, false};
 ghost use Rattle.std.specs.Option.{option_map};
 ghost use Rattle.stomp_frame.specs.declared.server_frame.ServerFrame.TheVariants.{Error};
-ghost use Rattle.broker_server.specs.Steps.{reading, fault_turn, Answered, Turns};
+ghost use Rattle.broker_server.specs.Steps.{reading, next_of_fault, IsNextOfFrame, IsNext};
 
-use crate::refusal::Refusal;
+use crate::relay_fault::RelayFault;
 use std::alloc::Global;
 use stomp_frame::{FrameFault, FrameReader, NoMemory, Octets, RawFrame, ServerFrame};
 
-/// What comes next of a stream.
+/// What the relay does next.
 #[derive(Drop)]
-pub(crate) enum Turn {
-    /// The message of a frame that is accepted.
+pub(crate) enum Next {
+    /// It writes the message of a frame that is accepted.
     Message(ServerFrame),
-    /// The end, with the error that is told, if there is one.
+    /// It ends, with this error, if there is one.
     End(Option<ServerFrame>),
 }
 
-impl Turn {
+impl Next {
     /// Reads the next frame. A frame that is accepted has the message `n`.
-    pub(crate) fn next(
+    pub(crate) fn read(
         alloc: Global,
         name: &[u8],
         n: u64,
         frames: &mut FrameReader,
-    ) -> Result<Turn, NoMemory>
+    ) -> Result<Next, NoMemory>
         requires { frames.old ≡ reading frames.old.text }
-        ensures { IfOk result (λ turn. Turns name.now n frames.old turn frames.new) }
+        ensures { IfOk result (λ next. IsNext name.now n frames.old next frames.new) }
     {
         match frames.next(alloc) {
-            Ok(Some(frame)) => Turn::of(alloc, name, n, frame),
-            Ok(None) if frames.clean() => Ok(Turn::End(None)),
-            Ok(None) => Turn::fault(alloc, FrameFault::BadEnd),
-            Err(fault) => Turn::fault(alloc, fault),
+            Ok(Some(frame)) => Next::of_frame(alloc, name, n, frame),
+            Ok(None) if frames.clean() => Ok(Next::End(None)),
+            Ok(None) => Next::of_fault(alloc, FrameFault::BadEnd),
+            Err(fault) => Next::of_fault(alloc, fault),
         }
     }
 
-    /// The turn of a frame.
-    fn of(alloc: Global, name: &[u8], n: u64, frame: RawFrame) -> Result<Turn, NoMemory>
-        ensures { IfOk result (Answered name.now n frame) }
+    /// What a frame asks for: its message, or the end where it is refused.
+    fn of_frame(alloc: Global, name: &[u8], n: u64, frame: RawFrame) -> Result<Next, NoMemory>
+        ensures { IfOk result (IsNextOfFrame name.now n frame) }
     {
-        if let Some(refusal) = Refusal::of(name, &frame) {
-            let error = error(alloc, refusal.title(), frame.receipt())?;
-            return Ok(Turn::End(Some(error)));
+        if let Some(fault) = RelayFault::of(name, &frame) {
+            let error = error(alloc, fault.title(), frame.receipt())?;
+            return Ok(Next::End(Some(error)));
         }
-        Ok(Turn::Message(ServerFrame::Message {
+        Ok(Next::Message(ServerFrame::Message {
             subscription: Octets::from_slice(alloc, b"0")?,
             n,
             topic: 0,
@@ -55,14 +55,15 @@ impl Turn {
         }))
     }
 
-    /// The turn of a fault that the reader of frames answers, unless that is want of memory.
-    fn fault(alloc: Global, fault: FrameFault) -> Result<Turn, NoMemory>
-        ensures { IfOk result (λ turn. (turn ≡ fault_turn fault) × (fault ≢ FrameFault.NoMemory)) }
+    /// The end by a fault of the reader of frames, unless that is out of memory.
+    fn of_fault(alloc: Global, fault: FrameFault) -> Result<Next, NoMemory>
+        ensures { IfOk result (λ next.
+            (next ≡ next_of_fault fault) × (fault ≢ FrameFault.NoMemory)) }
     {
         if fault == FrameFault::NoMemory {
             return Err(NoMemory);
         }
-        Ok(Turn::End(Some(error(alloc, fault.title(), None)?)))
+        Ok(Next::End(Some(error(alloc, fault.title(), None)?)))
     }
 }
 

@@ -1,5 +1,5 @@
 -- How a program ends: its status, and the line that it writes to standard error (own).
-use Rattle.std.specs.Prelude.{◌≡◌, ◌≢◌, ℕ, List, codes, Option, Some, None, Result, Ok, Err}
+use Rattle.std.specs.Prelude.{◌≡◌, ◌≢◌, ℕ, List, codes, Some, None, Result, Ok, Err}
 use Rattle.std.specs.IoError.{error_kind}
 use Rattle.std.specs.declared.io.Error.{Error}
 use Rattle.std.specs.declared.io.ErrorKind.TheVariants.{OutOfMemory}
@@ -20,12 +20,13 @@ message_text (messages.Fault Io) = codes "io fault"
 abbrev pub usage_end : Ended
 usage_end = record { status = 1; message = Some messages.Usage }
 
--- the end of a program that answered this: its status and no line, or the fault's status and line
+-- the end of a program whose run returned this: its status and no line, or the fault's status and line
 abbrev pub end_of : Result ℕ ProgramFault → Ended
 end_of (Ok status) = record { status = status; message = None }
 end_of (Err fault) = record { status = fault_status fault; message = Some (messages.Fault fault) }
 
--- The words could not be read: the end is that of no memory if memory was missing, and else that of wrong words.
+-- The end after words that could not be read: that of NoMemory if memory ran out, and else that of wrong
+-- words.
 abbrev pub IsUnreadEnd : Error → Ended → Type 0
 IsUnreadEnd error ended =
     (error_kind error ≡ OutOfMemory → ended ≡ end_of (Err NoMemory))
