@@ -14,7 +14,7 @@ use Rattle.stomp_escape.proofs.Laws.{Spells-escaped}
 use Rattle.stomp_frame.specs.declared.command.Command.{Command}
 use Rattle.stomp_frame.specs.declared.command.Command.TheVariants.{Send, Subscribe, Unsubscribe, Begin, Commit, Abort, Ack, Nack, Disconnect, Connect, Stomp, Connected, Message, Receipt, Error}
 use Rattle.stomp_frame.specs.declared.limits.Limits.{Limits}
-use Rattle.stomp_frame.specs.declared.frame.RawFrame.{RawFrame}
+use Rattle.stomp_frame.specs.declared.raw_frame.RawFrame.{RawFrame}
 use Rattle.stomp_frame.specs.Headers.{Header, IsText, IsPair}
 use Rattle.stomp_frame.specs.Commands.{word, has_escapes, may_have_body}
 use Rattle.stomp_frame.specs.ContentLength.{length_of, content_length}

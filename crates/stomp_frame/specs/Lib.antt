@@ -7,8 +7,8 @@ pub mod Checks
 pub mod Laws
 pub mod Faults
 pub mod Reader
-pub mod Runs
-pub mod Reading
+pub mod Pieces
+pub mod Parser
 pub mod Writing
 pub mod ServerFrames
 pub mod Cases

@@ -4,7 +4,7 @@ use Rattle.std.specs.List.{list_any}
 use Rattle.std.specs.Option.{option_map_or}
 use Rattle.std.specs.Str.{bytes_eq}
 use Rattle.stomp_frame.specs.declared.command.Command.TheVariants as commands
-use Rattle.stomp_frame.specs.declared.frame.RawFrame.{RawFrame}
+use Rattle.stomp_frame.specs.declared.raw_frame.RawFrame.{RawFrame}
 use Rattle.stomp_frame.specs.declared.server_frame.ServerFrame.{ServerFrame}
 use Rattle.stomp_frame.specs.declared.server_frame.ServerFrame.TheVariants.{Connected, Message, Receipt, Error}
 use Rattle.stomp_frame.specs.Headers.{Header, IsText, first_of}

@@ -7,13 +7,13 @@ mod client_frame;
 mod command;
 mod content_length;
 mod fault;
-mod frame;
 mod headers;
-mod law;
+pub mod law;
 mod limits;
-mod parts;
+mod lines;
+mod parse;
+mod raw_frame;
 mod reader;
-mod scan;
 mod server_frame;
 mod server_headers;
 mod writer;
@@ -26,13 +26,9 @@ pub use client_frame::{
 };
 pub use command::Command;
 pub use fault::{Check, FrameFault};
-pub use frame::RawFrame;
 pub use headers::Headers;
-pub use law::{
-    any_pieces, more_changes_nothing, one_first_frame, one_reading, open_or_at_one_fault,
-    what_is_written_is_read,
-};
 pub use limits::Limits;
+pub use raw_frame::RawFrame;
 pub use reader::FrameReader;
 pub use server_frame::{ServerFrame, render};
 pub use stomp_escape::{NoMemory, Octets};

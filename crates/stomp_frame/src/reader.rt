@@ -1,14 +1,14 @@
 //! Reading a stream.
 
 ghost use Rattle.std.specs.Prelude.{◌≡◌, ◌≢◌, ◌⊎◌, ◌↔◌, [], Option, Some, Result, Ok, Err, IsTrue, IsErrOf, IsSome, IsOk, OnOk, OnErr, IfSome};
-ghost use Rattle.stomp_frame.specs.declared.frame.RawFrame.{RawFrame};
+ghost use Rattle.stomp_frame.specs.declared.raw_frame.RawFrame.{RawFrame};
 ghost use Rattle.stomp_frame.specs.declared.fault.FrameFault.{FrameFault};
 ghost use Rattle.stomp_frame.specs.Reader.{Unread, ReadsNext, Answers, fed, unread_of};
 
 use crate::fault::{Check, FrameFault, Stop};
-use crate::frame::RawFrame;
 use crate::limits::Limits;
-use crate::parts::{eols_from, frame_from};
+use crate::parse::{eols_from, frame_from};
+use crate::raw_frame::RawFrame;
 use std::alloc::Global;
 use std::marker::Model;
 use stomp_escape::NoMemory;

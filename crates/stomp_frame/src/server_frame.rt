@@ -5,8 +5,8 @@ ghost use Rattle.stomp_frame.specs.ServerFrames.{rendered, IsRenderable};
 ghost use Rattle.stomp_frame.specs.Writing.{IsWritable};
 
 use crate::command::Command;
-use crate::frame::RawFrame;
 use crate::headers::Headers;
+use crate::raw_frame::RawFrame;
 use crate::server_headers::{
     connected_headers, error_headers, message_headers, message_id, receipt_headers,
 };
@@ -49,12 +49,6 @@ pub enum ServerFrame {
     },
 }
 
-fn empty(alloc: Global) -> Result<Octets, NoMemory>
-    ensures { IfOk result (λ o. o ≡ []) }
-{
-    Ok(Octets::new(alloc))
-}
-
 /// The raw frame of a server's frame (STOMP 1.2, "Server Frames"), which can be written. A MESSAGE has
 /// subscription, message-id (the numbers of the stamp, of its topic and of the index, with dots
 /// between them), the SEND's first destination where it has one, content-length, and then the first
@@ -66,24 +60,32 @@ pub fn render(alloc: Global, frame: &ServerFrame) -> Result<RawFrame, NoMemory>
     ensures writable { IfOk result (λ f. IsWritable f) }
 {
     macro_rules! frames {
-        ($($command:ident $fields:tt => $headers:expr, $body:expr;)*) => {
+        ($($command:ident $fields:tt => [$headers:expr, $body:expr];)*) => {
             match frame {
                 $(ServerFrame::$command $fields => Ok(RawFrame {
                     command: Command::$command,
-                    headers: $headers?,
-                    body: $body?,
+                    headers: $headers,
+                    body: $body,
                 }),)*
             }
         };
     }
     frames! {
-        Connected {} => connected_headers(alloc), empty(alloc);
-        Message { subscription, n, topic, index, headers, body } =>
-            message_headers(alloc, subscription.as_slice(), message_id(alloc, *n, *topic, *index)?.as_slice(), headers, body.len()),
-            Octets::from_slice(alloc, body.as_slice());
-        Receipt { id } => receipt_headers(alloc, id.as_slice()), empty(alloc);
-        Error { message, receipt, version } =>
-            error_headers(alloc, message.as_slice(), receipt.as_ref().map(|receipt| receipt.as_slice()), *version),
-            empty(alloc);
+        Connected {} => [connected_headers(alloc)?, Octets::new(alloc)];
+        Message { subscription, n, topic, index, headers, body } => [
+            {
+                let id = message_id(alloc, *n, *topic, *index)?;
+                message_headers(alloc, subscription.as_slice(), id.as_slice(), headers, body.len())?
+            },
+            Octets::from_slice(alloc, body.as_slice())?
+        ];
+        Receipt { id } => [receipt_headers(alloc, id.as_slice())?, Octets::new(alloc)];
+        Error { message, receipt, version } => [
+            {
+                let receipt = receipt.as_ref().map(|receipt| receipt.as_slice());
+                error_headers(alloc, message.as_slice(), receipt, *version)?
+            },
+            Octets::new(alloc)
+        ];
     }
 }

@@ -1,6 +1,6 @@
 use Rattle.std.proofs.Common.{◌≡◌, rules}
 use Rattle.stomp_frame.specs.declared.command.Command.TheVariants as commands
-use Rattle.stomp_frame.specs.declared.frame.RawFrame.{RawFrame}
+use Rattle.stomp_frame.specs.declared.raw_frame.RawFrame.{RawFrame}
 use Rattle.stomp_frame.specs.ServerFrames.{message_id, message_frame}
 use Rattle.stomp_frame.proofs.Messages.{made_writable}
 use Rattle.stomp_frame.proofs.server_frame.render.Goals as goal

@@ -1,0 +1,26 @@
+//! The frame that opens a transaction.
+
+ghost use Rattle.std.specs.Prelude.{◌≡◌, codes, Some};
+ghost use Rattle.stomp_frame.specs.Headers.{IsText, first_of};
+ghost use Rattle.stomp_frame.specs.Cases.{IsCase};
+ghost use Rattle.stomp_frame.specs.declared.command.Command.TheVariants as commands;
+
+use crate::client_frame::required::required;
+use crate::raw_frame::RawFrame;
+
+/// A BEGIN, with transaction (STOMP 1.2, "BEGIN").
+#[derive(Drop)]
+pub struct BeginFrame {
+    pub raw: RawFrame,
+    pub ghost complete: { IsCase commands.Begin raw },
+}
+
+impl BeginFrame {
+    /// The transaction's name; it names one open transaction of its connection.
+    pub fn transaction(&self) -> &[u8]
+        ensures value { Some result.now ≡ first_of (codes "transaction") self.now.raw.headers }
+        ensures text { IsText result.now }
+    {
+        required(&self.raw, b"transaction")
+    }
+}
