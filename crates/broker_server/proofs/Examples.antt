@@ -3,11 +3,11 @@ use Rattle.std.proofs.Common.{◌≡◌, ◌≢◌, true, false, inl, ℕ, List,
 use Rattle.std.specs.Fmt.{digits}
 use Rattle.std.specs.List.{list_all}
 use Rattle.stomp_frame.specs.declared.command.Command.TheVariants.{Send}
-use Rattle.stomp_frame.specs.declared.frame.RawFrame.{RawFrame}
+use Rattle.stomp_frame.specs.declared.raw_frame.RawFrame.{RawFrame}
 use Rattle.stomp_frame.specs.Checks.{IsOpen}
 use Rattle.stomp_frame.specs.Grammar.{Leaves, Stream}
 use Rattle.stomp_frame.specs.Reader.{Unread}
-use Rattle.stomp_frame.specs.Reading.{Open, frame_at, line_at, after_eols}
+use Rattle.stomp_frame.specs.Parser.{Open, frame_at, line_at, after_eols}
 use Rattle.stomp_frame.specs.Headers.{IsPair}
 use Rattle.stomp_frame.specs.ServerFrames.{error_frame}
 use Rattle.stomp_frame.specs.Writing.{spelled, IsWritable, IsWithin}

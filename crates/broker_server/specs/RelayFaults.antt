@@ -5,7 +5,7 @@ use Rattle.std.specs.Option.{option_map_or}
 use Rattle.std.specs.Str.{bytes_eq}
 use Rattle.stomp_frame.specs.declared.command.Command.{Command}
 use Rattle.stomp_frame.specs.declared.command.Command.TheVariants.{Send}
-use Rattle.stomp_frame.specs.declared.frame.RawFrame.{RawFrame}
+use Rattle.stomp_frame.specs.declared.raw_frame.RawFrame.{RawFrame}
 use Rattle.stomp_frame.specs.Headers.{Header, first_of}
 use Rattle.broker_server.specs.declared.relay_fault.RelayFault.{RelayFault}
 use Rattle.broker_server.specs.declared.relay_fault.RelayFault.TheVariants.{Unsupported, MissingDestination, UnknownDestination, NoSuchTxn}
