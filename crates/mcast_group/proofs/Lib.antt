@@ -1,5 +1,5 @@
 pub mod Parts
-pub mod Places
+pub mod Indices
 pub mod Queues
 pub mod Keeping
 pub mod Turning
