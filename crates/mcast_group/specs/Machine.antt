@@ -1,6 +1,8 @@
 -- One topic of Skeen's protocol as a pure machine: its clock, pending parts, log and subscriptions.
-use Rattle.std.specs.Prelude.{◌≡◌, ℕ, zero, suc, ◌+◌, ◌-◌, ◌==◌, nat_lt, max, Bool, false, not, ◌&&◌, ◌||◌, List, [], ◌∷◌, ◌++◌, map, length, filter, Option, Some, None, if◌then◌else◌}
-use Rattle.std.specs.List.{list_any}
+-- proofs/Rows.antt has worked rows of each step and each refusal, computed from these definitions.
+use Rattle.std.specs.Prelude.{◌≡◌, ℕ, zero, suc, ◌+◌, ◌-◌, ◌==◌, nat_lt, max, Bool, false, not, ◌&&◌, ◌||◌}
+use Rattle.std.specs.Prelude.{List, [], ◌∷◌, ◌++◌, map, length, filter, Option, Some, None, if◌then◌else◌}
+use Rattle.std.specs.List.{find, list_any}
 use Rattle.std.specs.Option.{is_some, option_map}
 use Rattle.mcast_txn.specs.declared.id.Topic.{Topic}
 use Rattle.mcast_txn.specs.declared.id.TxnId.{TxnId}
@@ -100,8 +102,7 @@ insert_pending p (q ∷ qs) = if id_lt p.part.id q.part.id then p ∷ q ∷ qs e
 
 -- the pending part of this transaction, if it has one
 abbrev pub find_pending : TxnId → List Pending → Option Pending
-find_pending id [] = None
-find_pending id (p ∷ ps) = if same_id p.part.id id then Some p else find_pending id ps
+find_pending id ps = find (λ p. same_id p.part.id id) ps
 
 -- this transaction has a pending part
 abbrev pub is_pending : TxnId → List Pending → Bool
@@ -123,7 +124,7 @@ least_part (p ∷ ps) = Some (least_part_from p ps)
 
 -- ---- propose
 
--- the number that is next at this floor: one above the clock and the floor
+-- the number that is next at this floor: one above the clock and the floor; at clock 1 and floor 10 it is 11
 abbrev pub next_number : Stamp → TopicState → ℕ
 next_number floor x = max x.clock floor.n + 1
 
@@ -212,8 +213,8 @@ row_of p = record { id = p.part.id; topics = p.part.topics; stamp = key p }
 abbrev pub item_of : Pending → Item
 item_of p = record { id = p.part.id; stamp = key p; sends = p.part.sends }
 
--- An entry after an item was due to it: its queue takes the item, or else its span ends with the frontier
--- before the item; a subscription that has lagged gets nothing. `takes` says whether an entry's queue takes it.
+-- An entry after an item was due to it: its queue takes the item, or else its span ends with the frontier before
+-- the item; a subscription that has lagged gets nothing. `takes` says whether its queue takes the item.
 abbrev pub entry_after : (Entry → Bool) → Stamp → Item → Entry → Entry
 entry_after takes frontier item e = elim e.to [
   | Some end ↦ e
@@ -236,7 +237,8 @@ abbrev pub if_learnt : Option Pending → Option Pending
 if_learnt None = None
 if_learnt (Some p) = if is_some p.learnt then Some p else None
 
--- the part that is due: that of least key, if it has learnt its stamp
+-- The part that is due: that of least key, if it has learnt its stamp. So where one part has learnt (11, 2)
+-- and another waits with ticket (1, 1), nothing is due; once the other has learnt (10, 0), it is due.
 abbrev pub due_part : TopicState → Option Pending
 due_part x = if_learnt (least_part x.pending)
 
@@ -267,7 +269,8 @@ abbrev pub after_releases : (Entry → Bool) → ℕ → TopicState → TopicSta
 after_releases takes zero x = x
 after_releases takes (suc k) x = after_releases takes k (after_release takes x)
 
--- learn once for each pending part, by rising id, then release until nothing is due
+-- Learn once for each pending part, by rising id, then release until nothing is due. So a turn that finds the
+-- stamps (10, 0) and (11, 2) for two parts releases both, in this order (`both_released` in proofs/Rows.antt).
 abbrev pub after_turn : (Entry → Bool) → (TxnId → Option Decision) → TopicState → TopicState
 after_turn takes find x =
     let y = after_tries find x.pending x in after_releases takes (length y.pending) y
@@ -280,8 +283,7 @@ turn_count takes find x = length (after_turn takes find x).held - length x.held
 
 -- the first subscription of this number
 abbrev pub find_entry : ℕ → List Entry → Option Entry
-find_entry number [] = None
-find_entry number (e ∷ es) = if e.number == number then Some e else find_entry number es
+find_entry number es = find (λ e. e.number == number) es
 
 -- why a subscription doesn't begin: its number is in use
 abbrev pub subscribe_fault : ℕ → TopicState → Option SubFault

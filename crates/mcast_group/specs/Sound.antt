@@ -24,7 +24,7 @@ pub record HasRow (item : Item) (rows : List LogRow) : Type 0 where
   pub stands : In row rows
   pub is : IsItemOf row item
 
--- What the queue of a subscription with this span has accepted, at a topic with this base, frontier and held rows.
+-- What a subscription with this span has accepted, at a topic with this base, frontier and held rows.
 -- from_past, to_past: the span begins, and ends if it does, at most at the frontier.
 -- rises: the items rise in stamp.
 -- within: each item's stamp is in the span.
@@ -67,7 +67,8 @@ pub record IsSound (x : TopicState) : Type 0 where
   pub base_past : stamp_lt x.frontier x.base ≡ false
   pub own : (p : Pending) → In p x.pending → p.part.topic ≡ x.topic
   pub by_id : RisesById x.pending
-  pub one_part : (p q : Pending) → In p x.pending → In q x.pending → same_id p.part.id q.part.id ≡ true → p ≡ q
+  pub one_part : (p q : Pending) → In p x.pending → In q x.pending
+      → same_id p.part.id q.part.id ≡ true → p ≡ q
   pub differ : (p q : Pending) → In p x.pending → In q x.pending → key p ≡ key q → p ≡ q
   pub above : (p : Pending) → In p x.pending → stamp_lt x.frontier (key p) ≡ true
   pub clock_keys : (p : Pending) → In p x.pending → (key p).n ≤ x.clock

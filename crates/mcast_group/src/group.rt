@@ -20,7 +20,7 @@ use std::marker::Model;
 use std::sync::Arc;
 
 /// A topic of the multicast, without subscriptions: its clock, its pending parts, and the rows that it released. In
-/// contracts it is a topic of `specs/Topics.antt` of whose rows none was drained.
+/// contracts it is a topic of `specs/Machine.antt` of whose rows none was drained.
 #[derive(Drop)]
 pub struct Group {
     topic: Topic,
@@ -48,7 +48,7 @@ impl Model for Group {
 }
 
 impl Group {
-    /// A topic with this clock, at which at most so many parts and rows stand together. It takes no memory.
+    /// An empty topic with this clock, of at most `log_limit` parts and rows, taken together. It takes no memory.
     pub fn new(alloc: Global, topic: Topic, clock: u64, log_limit: usize) -> Group
         ensures { result ≡ new_topic topic log_limit clock }
     {
@@ -106,7 +106,7 @@ impl Group {
 
     /// Enters a part of this topic, and gives its ticket, whose number is one above the clock and the floor's. It
     /// makes the room that the other calls need. Refused, in this order: 49 where a part of the transaction is
-    /// pending, 40 where no number is left, 41 where the log is at its limit, 42 for want of memory; the topic is
+    /// pending, 40 where no number is left, 41 where the log is at its limit, 42 out of memory; the topic is
     /// then as it was.
     pub fn propose(&mut self, floor: Stamp, part: Arc<Part>) -> Result<Ticket, ProposeFault>
         requires { (arc_value part).topic ≡ self.old.topic }
@@ -144,7 +144,7 @@ impl Group {
         })
     }
 
-    /// Tells the transaction's part its stamp by its verdict, with no memory; the same verdict again changes nothing.
+    /// Gives the transaction's part its stamp by its verdict, with no memory; the same verdict again changes nothing.
     /// Refused, in this order: 43 where no part of the transaction is pending, 44 where the verdict is another
     /// transaction's or has another number for this topic, 45 where another stamp was learnt or another part has
     /// this one; the topic is then as it was.

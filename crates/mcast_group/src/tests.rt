@@ -319,7 +319,7 @@ fn a_turn_learns_and_releases(rt: HostRuntime) -> Result<(), Fail> {
 /// With one allocation refused (`rt try --test --fail-alloc N`) a proposal is refused by 42, the topic is as it was,
 /// and the same proposal is then accepted; with ample memory it is accepted at once.
 #[test]
-fn want_of_memory_changes_nothing(rt: HostRuntime) {
+fn running_out_of_memory_changes_nothing(rt: HostRuntime) {
     let alloc = rt.alloc();
     for _ in 0..4u8 {
         let mut group = Group::new(alloc, Topic(0), 7, 1);

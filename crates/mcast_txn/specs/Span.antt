@@ -26,7 +26,7 @@ pub record Item : Type 0 where
 abbrev pub item_stamp : Item → Stamp
 item_stamp item = item.stamp
 
--- a subscription's topic, the stamp after which it begins, and, once it is closed, the last stamp that is its own
+-- a subscription's topic, the stamp after which it begins, and the last stamp of its own, once it is closed
 pub record Span : Type 0 where
   pub topic : Topic
   pub from : Stamp
@@ -37,7 +37,7 @@ abbrev pub up_to : Option Stamp → Stamp → Bool
 up_to None stamp = true
 up_to (Some end) stamp = not (stamp_lt end stamp)
 
--- the stamp is above from and at most the end
+-- the stamp is above from and at most the end; so the span from (4, 0) to (9, 0) has (9, 0), and not (4, 0)
 abbrev pub in_span : Stamp → Option Stamp → Stamp → Bool
 in_span from to stamp = stamp_lt from stamp && up_to to stamp
 

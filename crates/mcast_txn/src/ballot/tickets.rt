@@ -38,7 +38,7 @@ impl Tickets {
         self.rows.is_empty()
     }
 
-    /// The ticket at place `i`, from 0.
+    /// The ticket at index `i`, from 0.
     pub fn get(&self, i: usize) -> Ticket
         requires { i < length self.now }
         ensures { slice_get self.now i ≡ Some result }

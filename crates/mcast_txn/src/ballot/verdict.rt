@@ -31,7 +31,7 @@ impl Model for Verdict {
 }
 
 impl Verdict {
-    // A place for a verdict.
+    // Room for a verdict.
     pub(crate) fn blank(alloc: Global, id: TxnId) -> Verdict
         ensures { result ≡ record { id = id; rows = [] } }
     {

@@ -17,7 +17,7 @@ pub(crate) struct Entry {
 }
 
 impl Entry {
-    // The entry of a SEND. After want of memory its headers and body are handed back.
+    // The entry of a SEND. Out of memory, its headers and body are returned.
     pub(crate) fn new(
         alloc: Global,
         topic: Topic,

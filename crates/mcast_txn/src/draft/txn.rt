@@ -39,8 +39,8 @@ impl Model for Txn {
 }
 
 impl Txn {
-    /// The transaction of one SEND (STOMP 1.2, "SEND" outside a transaction). After want of memory its
-    /// headers and body are handed back.
+    /// The transaction of one SEND (STOMP 1.2, "SEND" outside a transaction). Out of memory, its
+    /// headers and body are returned.
     pub fn single(
         alloc: Global,
         topic: Topic,
@@ -67,7 +67,7 @@ impl Txn {
         &self.topics
     }
 
-    /// Its parts, of this flight. After want of memory the transaction is handed back.
+    /// Its parts, of this flight. Out of memory, the transaction is returned.
     pub fn split(self, alloc: Global, flight: &Arc<Flight>) -> Result<Parts, (Txn, NoMemory)>
         ensures parts { IfOk result (λ parts. parts ≡ parts_of (id_of (arc_value flight.now)) self) }
         ensures back { IfErr result (λ refused. refused.0 ≡ self) }

@@ -57,7 +57,7 @@ impl PartSends {
         self.sends.is_empty()
     }
 
-    /// The SEND at place `i` of the part, from 0.
+    /// The SEND at index `i` of the part, from 0.
     pub fn get(&self, i: usize) -> &PartMessage
         requires { i < length self.now }
         ensures { slice_get self.now i ≡ Some result.now }

@@ -9,7 +9,7 @@ use crate::id::Topic;
 use std::alloc::Global;
 use stomp_frame::NoMemory;
 
-/// A topic, and what stands there for it.
+/// A topic, and the value stored for it, if any.
 #[derive(Drop)]
 pub(crate) struct Slot<T> {
     pub(crate) topic: Topic,
