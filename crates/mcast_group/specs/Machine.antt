@@ -213,8 +213,9 @@ row_of p = record { id = p.part.id; topics = p.part.topics; stamp = key p }
 abbrev pub item_of : Pending → Item
 item_of p = record { id = p.part.id; stamp = key p; sends = p.part.sends }
 
--- An entry after an item was due to it: its queue takes the item, or else its span ends with the frontier before
--- the item; a subscription that has lagged gets nothing. `takes` says whether its queue takes the item.
+-- An entry after an item was due to it: its queue takes the item, or else its span ends with the frontier
+-- before the item; a subscription that has lagged gets nothing.
+-- `takes` says whether an entry's queue takes the item.
 abbrev pub entry_after : (Entry → Bool) → Stamp → Item → Entry → Entry
 entry_after takes frontier item e = elim e.to [
   | Some end ↦ e
@@ -270,7 +271,8 @@ after_releases takes zero x = x
 after_releases takes (suc k) x = after_releases takes k (after_release takes x)
 
 -- Learn once for each pending part, by rising id, then release until nothing is due. So a turn that finds the
--- stamps (10, 0) and (11, 2) for two parts releases both, in this order (`both_released` in proofs/Rows.antt).
+-- stamps (10, 0) and (11, 2) for two parts releases both, in this order.
+-- (`both_released` in proofs/Rows.antt is this turn.)
 abbrev pub after_turn : (Entry → Bool) → (TxnId → Option Decision) → TopicState → TopicState
 after_turn takes find x =
     let y = after_tries find x.pending x in after_releases takes (length y.pending) y

@@ -10,7 +10,6 @@ use mcast_txn::{
 };
 use std::alloc::Global;
 use std::sync::Arc;
-use std::test::Fail;
 
 /// Two verdicts, of which the first is looked at first.
 #[derive(Drop)]
@@ -44,14 +43,6 @@ fn stamp(n: u64, topic: u32) -> Stamp {
     Stamp {
         n,
         topic: Topic(topic),
-    }
-}
-
-/// What was made; fails where there was no memory for it, or it was refused.
-fn made<T>(made: Option<T>) -> Result<T, Fail> {
-    match made {
-        Some(value) => Ok(value),
-        None => Err(Fail::new("nothing was made")),
     }
 }
 
@@ -291,29 +282,51 @@ fn faults_have_their_numbers(rt: HostRuntime) {
     assert_eq!(rt; NoSub.number(), 48);
 }
 
+/// Three parts at topic 0.
+const THREE: [(Call, Answer); 3] = [
+    (Propose(1, &[0, 1], 0), Answer::Ticket(1)),
+    (Propose(2, &[0, 1], 0), Answer::Ticket(2)),
+    (Propose(3, &[0, 1], 0), Answer::Ticket(3)),
+];
+
+/// How many parts a turn releases that finds two verdicts of these topics and numbers.
+fn turned(
+    alloc: Global,
+    group: &mut Group,
+    first: (u64, &[(u32, u64)]),
+    second: (u64, &[(u32, u64)]),
+) -> Option<u64> {
+    let first = verdict_of(alloc, id(first.0), first.1)?;
+    let second = verdict_of(alloc, id(second.0), second.1)?;
+    Some(group.turn(&Pair(first, second)))
+}
+
+/// The first turn learns the second and the third part; the other turn meets a foreign verdict, and learns the first.
 #[test]
-fn a_turn_learns_and_releases(rt: HostRuntime) -> Result<(), Fail> {
+fn a_turn_learns_and_releases(rt: HostRuntime) {
     let alloc = rt.alloc();
     let mut group = Group::new(alloc, Topic(0), 0, 8);
-    for seq in 1..=3u64 {
-        let answer = made(propose(alloc, &mut group, id(seq), &[0, 1], 0))?;
-        assert_eq!(rt; proposed(answer), Answer::Ticket(seq));
-    }
-    let second = made(verdict_of(alloc, id(2), &[(0, 2), (1, 9)]))?;
-    let third = made(verdict_of(alloc, id(3), &[(0, 3), (1, 4)]))?;
-    let two = Pair(second, third);
-    assert_eq!(rt; group.turn(&two), 0);
+    assert!(rt; answers(alloc, &mut group, &THREE));
+    let waits = turned(
+        alloc,
+        &mut group,
+        (2, &[(0, 2), (1, 9)]),
+        (3, &[(0, 3), (1, 4)]),
+    );
+    assert_eq!(rt; waits, Some(0));
     assert_eq!(rt; group.pending_len(), 3);
-    let first = made(verdict_of(alloc, id(1), &[(0, 1), (1, 6)]))?;
-    let foreign = made(verdict_of(alloc, id(4), &[(0, 1), (1, 6)]))?;
-    let more = Pair(foreign, first);
-    assert_eq!(rt; group.turn(&more), 3);
+    let all = turned(
+        alloc,
+        &mut group,
+        (4, &[(0, 1), (1, 6)]),
+        (1, &[(0, 1), (1, 6)]),
+    );
+    assert_eq!(rt; all, Some(3));
     assert_eq!(rt; group.pending_len(), 0);
     assert_eq!(rt; group.frontier(), stamp(9, 1));
     assert!(rt; is_row(&group, 0, 3, stamp(4, 1), &[Topic(0), Topic(1)]));
     assert!(rt; is_row(&group, 1, 1, stamp(6, 1), &[Topic(0), Topic(1)]));
     assert!(rt; is_row(&group, 2, 2, stamp(9, 1), &[Topic(0), Topic(1)]));
-    Ok(())
 }
 
 /// With one allocation refused (`rt try --test --fail-alloc N`) a proposal is refused by 42, the topic is as it was,
