@@ -28,9 +28,9 @@ pub record IsGroup (x : TopicState) (capacity : ℕ) : Type 0 where
   pub room : length x.held + length x.pending ≤ capacity
 
 -- a call is refused where there is a fault
-abbrev pub answer : {F : Type 0} → Option F → Result Unit F
-answer None = Ok tt
-answer (Some fault) = Err fault
+abbrev pub result_of : {F : Type 0} → Option F → Result Unit F
+result_of None = Ok tt
+result_of (Some fault) = Err fault
 
 -- this fault, or out of memory where there is none
 abbrev pub or_no_memory : Option ProposeFault → ProposeFault

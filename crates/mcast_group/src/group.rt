@@ -6,7 +6,7 @@ ghost use Rattle.std.specs.Option.{option_map};
 ghost use Rattle.mcast_txn.specs.Part.{data_of};
 ghost use Rattle.mcast_txn.specs.Ballot.{Decision};
 ghost use Rattle.mcast_group.specs.Fitting.{Fits, FoundHaveOneRowEach};
-ghost use Rattle.mcast_group.specs.Group.{answer, propose_refusal};
+ghost use Rattle.mcast_group.specs.Group.{result_of, propose_refusal};
 ghost use Rattle.mcast_group.specs.Machine.{Entry, HasOneRowEach, Pending, cancel_fault, after_cancel, decided_stamp, due_part, insert_pending, key, learn_fault, after_learn, new_topic, next_number, propose_fault, after_propose, after_release, after_releases, after_try, after_tries, turn_count, after_turn};
 
 use crate::fault::{CancelFault, LearnFault, ProposeFault};
@@ -149,7 +149,7 @@ impl Group {
     /// transaction's or has another number for this topic, 45 where another stamp was learnt or another part has
     /// this one; the topic is then as it was.
     pub fn learn(&mut self, id: TxnId, verdict: &Verdict) -> Result<(), LearnFault>
-        ensures answer { result ≡ answer (learn_fault id verdict.now self.old) }
+        ensures answer { result ≡ result_of (learn_fault id verdict.now self.old) }
         ensures ok { OnOk result (self.new ≡ after_learn id (decided_stamp verdict.now) self.old) }
         ensures err { OnErr result (self.new ≡ self.old) }
     {
@@ -163,7 +163,7 @@ impl Group {
     /// Takes the transaction's part out, with no memory. Refused, in this order: 43 where no part of the transaction
     /// is pending, 46 where it has learnt its stamp; the topic is then as it was.
     pub fn cancel(&mut self, id: TxnId) -> Result<(), CancelFault>
-        ensures answer { result ≡ answer (cancel_fault id self.old) }
+        ensures answer { result ≡ result_of (cancel_fault id self.old) }
         ensures ok { OnOk result (self.new ≡ after_cancel id self.old) }
         ensures err { OnErr result (self.new ≡ self.old) }
     {

@@ -8,7 +8,7 @@ use Rattle.mcast_txn.specs.declared.draft.sent_message.SentMessage.{SentMessage}
 use Rattle.mcast_txn.specs.declared.stamp.Stamp.{Stamp}
 use Rattle.mcast_txn.specs.declared.ballot.ticket.Ticket.{Ticket}
 use Rattle.mcast_txn.specs.Agreed.{CommitRow, agreed}
-use Rattle.mcast_txn.specs.Ballot.{BallotState, put_answer, row_at, slots_of_rows, tickets_of}
+use Rattle.mcast_txn.specs.Ballot.{BallotState, put_answer, row_at, slots_of_rows, tickets_put}
 use Rattle.mcast_txn.specs.Checks.{first_refusal}
 use Rattle.mcast_txn.specs.Ids.{id_lt, same_id}
 use Rattle.mcast_txn.specs.Slots.{free_slots, held_at, slot_at, with_slot}
@@ -91,7 +91,7 @@ takes_none_unnamed = refl
 takes_none_of_another : put_answer half (ticket (id 0 2) 2 9) ≡ Err NotNamed
 takes_none_of_another = refl
 
-one_ticket : tickets_of half ≡ ticket (id 0 1) 2 7 ∷ []
+one_ticket : tickets_put half ≡ ticket (id 0 1) 2 7 ∷ []
 one_ticket = refl
 
 held_of_topic_0 : held_at (topic 0) half.tickets ≡ None

@@ -1,7 +1,7 @@
 //! A SEND as a draft stores it.
 
 ghost use Rattle.std.specs.Prelude.{◌≡◌, IfOk, IfErr};
-ghost use Rattle.mcast_txn.specs.Entries.{send_of};
+ghost use Rattle.mcast_txn.specs.Entries.{message_of};
 
 use crate::id::Topic;
 use crate::parts::PartMessage;
@@ -26,7 +26,7 @@ impl Entry {
         body: Octets,
     ) -> Result<Entry, (Headers, Octets, NoMemory)>
         ensures send { IfOk result
-            (λ entry. send_of entry ≡ record { topic = topic; headers = headers; body = body }) }
+            (λ entry. message_of entry ≡ record { topic = topic; headers = headers; body = body }) }
         ensures index { IfOk result (λ entry. entry.send.value.index ≡ index) }
         ensures back { IfErr result (λ refused. (refused.0 ≡ headers) × (refused.1 ≡ body)) }
     {

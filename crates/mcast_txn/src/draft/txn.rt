@@ -2,7 +2,7 @@
 
 ghost use Rattle.std.specs.Prelude.{◌≡◌, ◌<◌, ◌≤◌, ◌∷◌, [], length, vec_capacity, IfOk, IfErr};
 ghost use Rattle.std.specs.Arc.{arc_value};
-ghost use Rattle.mcast_txn.specs.Flight.{id_of};
+ghost use Rattle.mcast_txn.specs.Flight.{flight_id};
 ghost use Rattle.mcast_txn.specs.Part.{parts_of};
 ghost use Rattle.mcast_txn.specs.TopicSet.{IsTopicSet};
 ghost use Rattle.mcast_txn.specs.Transaction.{topics_of};
@@ -28,12 +28,12 @@ pub struct Txn {
 impl Model for Txn {
     ghost use Rattle.std.specs.Prelude.{List};
     ghost use Rattle.mcast_txn.specs.declared.draft.sent_message.SentMessage.{SentMessage};
-    ghost use Rattle.mcast_txn.specs.Entries.{sends_of};
+    ghost use Rattle.mcast_txn.specs.Entries.{messages_of};
     ghost use Rattle.mcast_txn.specs.Sealed.{IsSealed};
 
     ghost Value = { List SentMessage };
 
-    ghost view = { λ t. sends_of t.entries.items };
+    ghost view = { λ t. messages_of t.entries.items };
 
     ghost invariant = { λ t. IsSealed t.entries.items t.topics.value };
 }
@@ -69,7 +69,7 @@ impl Txn {
 
     /// Its parts, of this flight. Out of memory, the transaction is returned.
     pub fn split(self, alloc: Global, flight: &Arc<Flight>) -> Result<Parts, (Txn, NoMemory)>
-        ensures parts { IfOk result (λ parts. parts ≡ parts_of (id_of (arc_value flight.now)) self) }
+        ensures parts { IfOk result (λ parts. parts ≡ parts_of (flight_id (arc_value flight.now)) self) }
         ensures back { IfErr result (λ refused. refused.0 ≡ self) }
     {
         match Parts::of(alloc, flight, &self.topics, &self.entries) {

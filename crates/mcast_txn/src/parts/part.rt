@@ -2,7 +2,7 @@
 
 ghost use Rattle.std.specs.Prelude.{◌≡◌, IfOk};
 ghost use Rattle.std.specs.Arc.{arc_value};
-ghost use Rattle.mcast_txn.specs.Flight.{id_of};
+ghost use Rattle.mcast_txn.specs.Flight.{flight_id};
 
 use crate::draft::TopicSet;
 use crate::flight::Flight;
@@ -23,7 +23,7 @@ pub struct Part {
     pub sends: PartSends,
     /// The transaction's own flight.
     pub flight: Arc<Flight>,
-    pub ghost own: { id_of (arc_value flight) ≡ id },
+    pub ghost own: { flight_id (arc_value flight) ≡ id },
 }
 
 /// A part that its topic has let go, and the stamp of its transaction.
@@ -45,7 +45,7 @@ impl Part {
         sends: PartSends,
     ) -> Result<Arc<Part>, NoMemory>
         ensures { IfOk result (λ part. data_of (arc_value part)
-            ≡ record { id = id_of (arc_value flight.now); topic = topic; topics = arc_value topics.now; sends = sends }) }
+            ≡ record { id = flight_id (arc_value flight.now); topic = topic; topics = arc_value topics.now; sends = sends }) }
     {
         let part = Part {
             id: flight.id(),

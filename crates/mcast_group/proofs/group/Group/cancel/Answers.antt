@@ -1,6 +1,6 @@
 use Rattle.std.proofs.Common.{◌≡◌, length, sym, ap, ◌∙◌, arith}
 use Rattle.std.proofs.lemmas.List.Edits.{length-remove}
-use Rattle.mcast_group.specs.Group.{answer, group_state}
+use Rattle.mcast_group.specs.Group.{result_of, group_state}
 use Rattle.mcast_group.specs.Machine.{cancel_fault_of, after_cancel}
 use Rattle.mcast_group.proofs.Indices.{found_at, none_found, part_at, without_found}
 use Rattle.mcast_group.proofs.Groups.{cancel_decided, cancel_none, cancelled_state, group_cancelled}
@@ -10,7 +10,7 @@ pub returns-in_default-clause-answer : goal.returns-in_default-clause-answer
 returns-in_default-clause-answer c =
     let at = rw c.deref.ensures.value at c.index_of.ensures in
     let none = none_found c.args.id c.self.inside.pending.items (sym at ∙ c.in_default.is) in
-    rw (← c.self.view_is) (sym (ap (λ o. answer (cancel_fault_of o)) none))
+    rw (← c.self.view_is) (sym (ap (λ o. result_of (cancel_fault_of o)) none))
 
 pub returns-then-is_learnt-clause-answer : goal.returns-then-is_learnt-clause-answer
 returns-then-is_learnt-clause-answer c =
@@ -18,7 +18,7 @@ returns-then-is_learnt-clause-answer c =
     let at = rw c.deref.ensures.value at c.index_of.ensures in
     let found = found_at c.args.id s.pending.items c.in-Some.index c.index.result.now (sym at ∙ c.in-Some.is) c.index.ensures in
     let e = cancel_decided c.args.id (group_state s.topic s.clock s.log_limit s.pending.items s.rows.items s.frontier) c.index.result.now found (sym c.is_learnt.ensures ∙ c.if-is_learnt.true) in
-    rw (← c.self.view_is) (sym (ap answer e))
+    rw (← c.self.view_is) (sym (ap result_of e))
 
 pub returns-clause-answer : goal.returns-clause-answer
 returns-clause-answer c =
@@ -26,7 +26,7 @@ returns-clause-answer c =
     let at = rw c.deref.ensures.value at c.index_of.ensures in
     let found = found_at c.args.id s.pending.items c.in-Some.index c.index.result.now (sym at ∙ c.in-Some.is) c.index.ensures in
     let e = cancel_none c.args.id (group_state s.topic s.clock s.log_limit s.pending.items s.rows.items s.frontier) c.index.result.now found (sym c.is_learnt.ensures ∙ c.if-is_learnt.false) in
-    rw (← c.self.view_is) (sym (ap answer e))
+    rw (← c.self.view_is) (sym (ap result_of e))
 
 -- the part at the place is gone
 gone : (c : goal.After-drop-remove-2) → group_state c.self.inside.topic c.self.inside.clock c.self.inside.log_limit c.remove.new.self.items c.self.inside.rows.items c.self.inside.frontier ≡ after_cancel c.args.id (group_state c.self.inside.topic c.self.inside.clock c.self.inside.log_limit c.self.inside.pending.items c.self.inside.rows.items c.self.inside.frontier)
