@@ -20,7 +20,8 @@ use std::marker::Model;
 use std::sync::Arc;
 
 /// A topic of the multicast, without subscriptions: its clock, its pending parts, and the rows that it released. In
-/// contracts it is a topic of `specs/Machine.antt` of whose rows none was drained.
+/// contracts it is a topic of `specs/Machine.antt` of whose rows none was drained. It has no queues, so its clauses
+/// hold whatever queues would take (`takes`).
 #[derive(Drop)]
 pub struct Group {
     topic: Topic,
