@@ -4,7 +4,10 @@ use Rattle.std.specs.List.{filter, list_any}
 use Rattle.std.proofs.lemmas.Bool.{true≢false, not-true, and_parts, and_from, lt-ltb, cases_order}
 use Rattle.mcast_txn.specs.Stamp.{stamp_lt}
 use Rattle.mcast_txn.specs.Transaction.{TopicPart, topics_of}
-use Rattle.mcast_txn.specs.Agreed.{Row, same_id, In, names, stamp_of, agreed, Rises, EachOnce, SenderOrder}
+use Rattle.mcast_txn.specs.Agreed.{CommitRow, stamp_of, agreed, EachOnce, SenderOrder}
+use Rattle.mcast_txn.specs.Ids.{same_id}
+use Rattle.mcast_txn.specs.Lists.{In, Rises}
+use Rattle.mcast_txn.specs.TopicSet.{names}
 use Rattle.mcast_txn.specs.declared.id.Sender.{Sender}
 use Rattle.mcast_txn.specs.declared.id.Topic.{Topic}
 use Rattle.mcast_txn.specs.declared.id.TxnId.{TxnId}
@@ -12,9 +15,9 @@ use Rattle.mcast_txn.specs.declared.stamp.Stamp.{Stamp}
 use Rattle.mcast_txn.proofs.Orders.{lt_irrefl, lt_asym, lt_le, id_equal, id_same}
 use Rattle.mcast_txn.proofs.Members.{In-map, In-map_cases, In-filter, In-filter_cases, any_found, any_from}
 use Rattle.mcast_txn.proofs.Sorting.{In-sorted, In-sorted_cases, Rises-sorted, Rises-filter, Rises-map, same_rising}
-use Rattle.mcast_group.specs.Span.{Item, Span, in_span, last_stamp}
-use Rattle.mcast_group.specs.Sound.{IsQueueOf, item_stamp}
-use Rattle.mcast_group.specs.Topics.{TopicState, Entry, Ended, new_topic, find_entry, key}
+use Rattle.mcast_txn.specs.Span.{Item, Span, in_span, last_stamp, item_stamp}
+use Rattle.mcast_group.specs.Sound.{IsQueueOf}
+use Rattle.mcast_group.specs.Machine.{TopicState, Entry, EntryEnd, new_topic, find_entry, key}
 use Rattle.mcast_group.proofs.Parts.{Waits, none_some}
 use Rattle.mcast_group.proofs.Keeping.{Sound-new}
 use Rattle.delivery.specs.Due.{log_row, item_at, is_due, due}
@@ -103,7 +106,7 @@ reached r = run_reached r.events [] (start r.capacity r.log_limit r.clocks) (sta
 abbrev span : Topic → Stamp → Option Stamp → Span
 span t from to = record { topic = t; from = from; to = to }
 
-pub in_log : (ts : List Row) (w : World) (t : Topic) (r : Row) → Holds ts w → In r w.commits → stamp_lt (topic_in w.topics t).frontier r.stamp ≡ false → In (log_row r) (topic_in w.topics t).held ⊎ Waits r.txn.id (topic_in w.topics t).pending → In (log_row r) (topic_in w.topics t).held
+pub in_log : (ts : List CommitRow) (w : World) (t : Topic) (r : CommitRow) → Holds ts w → In r w.commits → stamp_lt (topic_in w.topics t).frontier r.stamp ≡ false → In (log_row r) (topic_in w.topics t).held ⊎ Waits r.txn.id (topic_in w.topics t).pending → In (log_row r) (topic_in w.topics t).held
 in_log ts w t r inv i f (inl l) = l
 in_log ts w t r inv i f (inr v) =
     let k = inv.tied t in let x = topic_in w.topics t in
@@ -114,7 +117,7 @@ in_log ts w t r inv i f (inr v) =
     let below = inv.consistent.greatest r (row a.txn (key p)) i (key_ticket ts w.commits t x p inv.consistent k v.stands) txn in
     absurd (true≢false (sym (lt_le x.frontier (key p) r.stamp (k.sound.above p v.stands) below) ∙ f))
 
-queue_is_due : (ts : List Row) (w : World) (t : Topic) (from : Stamp) (to : Option Stamp) (accepted : List Item) → Holds ts w → let x = topic_in w.topics t in IsQueueOf x.base x.frontier x.held from to accepted → ((i : Item) → In i accepted → Itemed w.commits t i) → accepted ≡ due w.commits (span t from to) x.frontier
+queue_is_due : (ts : List CommitRow) (w : World) (t : Topic) (from : Stamp) (to : Option Stamp) (accepted : List Item) → Holds ts w → let x = topic_in w.topics t in IsQueueOf x.base x.frontier x.held from to accepted → ((i : Item) → In i accepted → Itemed w.commits t i) → accepted ≡ due w.commits (span t from to) x.frontier
 queue_is_due ts w t from to accepted inv h items =
     let x = topic_in w.topics t in
     same_rising item_stamp accepted (due w.commits (span t from to) x.frontier) h.rises
@@ -148,17 +151,17 @@ queue_is_due ts w t from to accepted inv h items =
         let same : g.row ≡ r = one_commit ts w.commits inv.consistent g.row r g.stands old (ap (λ (z : Item). z.id) g.is ∙ j.is.id) in
         subst (λ z. In z accepted) (sym g.is ∙ (ap (item_at t) same ∙ m.is)) j.stands
 
-abbrev accepted_by : Option Ended → Option Entry → List Item
+abbrev accepted_by : Option EntryEnd → Option Entry → List Item
 accepted_by closed entry = elim closed [ None ↦ entry_items entry | Some end ↦ end.accepted ]
 
-abbrev end_by : Option Ended → Option Entry → Option Stamp
+abbrev end_by : Option EntryEnd → Option Entry → Option Stamp
 end_by closed entry = elim closed [ None ↦ entry_to entry | Some end ↦ Some end.to ]
 
 pub record Queued (w : World) (t : Topic) (from : Stamp) (to : Option Stamp) (accepted : List Item) : Type 0 where
   pub queue : let x = topic_in w.topics t in IsQueueOf x.base x.frontier x.held from to accepted
   pub items : (i : Item) → In i accepted → Itemed w.commits t i
 
-queued_entry : (ts : List Row) (w : World) (s : ℕ) (t : Topic) (from : Stamp) → Holds ts w → (h : HasEntry s from (topic_in w.topics t)) → (o : Option Entry) → find_entry s (topic_in w.topics t).subscriptions ≡ o → Queued w t from (entry_to o) (entry_items o)
+queued_entry : (ts : List CommitRow) (w : World) (s : ℕ) (t : Topic) (from : Stamp) → Holds ts w → (h : HasEntry s from (topic_in w.topics t)) → (o : Option Entry) → find_entry s (topic_in w.topics t).subscriptions ≡ o → Queued w t from (entry_to o) (entry_items o)
 queued_entry ts w s t from inv h None e =
     let f = finds_entry s (topic_in w.topics t).subscriptions h.entry h.stands h.number in none_some f.entry (sym e ∙ f.found)
 queued_entry ts w s t from inv h (Some entry) e =
@@ -169,17 +172,17 @@ queued_entry ts w s t from inv h (Some entry) e =
       items = (inv.tied t).items entry f.stands;
     })
 
-queued_case : (ts : List Row) (w : World) (s : ℕ) → Holds ts w → s < length w.subscriptions → (o : Option Ended) → (subscription_at w s).closed ≡ o → Queued w (subscription_at w s).topic (subscription_at w s).from (end_by o (entry_at w s)) (accepted_by o (entry_at w s))
+queued_case : (ts : List CommitRow) (w : World) (s : ℕ) → Holds ts w → s < length w.subscriptions → (o : Option EntryEnd) → (subscription_at w s).closed ≡ o → Queued w (subscription_at w s).topic (subscription_at w s).from (end_by o (entry_at w s)) (accepted_by o (entry_at w s))
 queued_case ts w s inv l None e =
     queued_entry ts w s (subscription_at w s).topic (subscription_at w s).from inv (inv.subscribes.live s l e) (entry_at w s) refl
 queued_case ts w s inv l (Some end) e =
     let k = inv.subscribes.closed s end e in record { queue = k.queue; items = k.items }
 
-pub queued : (ts : List Row) (w : World) (s : ℕ) → Holds ts w → s < length w.subscriptions → Queued w (subscription_at w s).topic (subscription_at w s).from (end_at w s) (accepted_at w s)
+pub queued : (ts : List CommitRow) (w : World) (s : ℕ) → Holds ts w → s < length w.subscriptions → Queued w (subscription_at w s).topic (subscription_at w s).from (end_at w s) (accepted_at w s)
 queued ts w s inv l = queued_case ts w s inv l (subscription_at w s).closed refl
 
 -- the stamp of the last row of the log is the frontier
-pub frontier_is : (ts : List Row) (w : World) (t : Topic) → Holds ts w → (topic_in w.topics t).frontier ≡ frontier_at w t
+pub frontier_is : (ts : List CommitRow) (w : World) (t : Topic) → Holds ts w → (topic_in w.topics t).frontier ≡ frontier_at w t
 frontier_is ts w t inv =
     let k = inv.tied t in k.sound.frontier ∙ ap (λ z. last_stamp z (topic_in w.topics t).held) k.undrained
 
@@ -196,17 +199,17 @@ commits_are_kept r = sym (reached r).commits
 
 -- ---- the agreed sequence
 
-each_once_of : (ts cs rs : List Row) → Consistent ts cs → ((q : Row) → In q rs → In q cs) → Rises stamp_of rs → EachOnce rs
+each_once_of : (ts cs rs : List CommitRow) → Consistent ts cs → ((q : CommitRow) → In q rs → In q cs) → Rises stamp_of rs → EachOnce rs
 each_once_of ts cs [] all sub up = tt
 each_once_of ts cs (x ∷ xs) all sub up = (
   (λ y k. ((λ e. differ x y (up.0 y k) (ap stamp_of (one_commit ts cs all x y (sub x (inl refl)) (sub y (inr k)) e))), differ x y (up.0 y k))),
   each_once_of ts cs xs all (λ q k. sub q (inr k)) up.1,
 )
   where
-    differ : (x y : Row) → stamp_lt x.stamp y.stamp ≡ true → x.stamp ≡ y.stamp → Prim.⊥
+    differ : (x y : CommitRow) → stamp_lt x.stamp y.stamp ≡ true → x.stamp ≡ y.stamp → Prim.⊥
     differ x y l e = true≢false (sym l ∙ (ap (λ z. stamp_lt z y.stamp) e ∙ lt_irrefl y.stamp))
 
-agreed_in : (cs : List Row) (q : Row) → In q (agreed cs) → In q cs
+agreed_in : (cs : List CommitRow) (q : CommitRow) → In q (agreed cs) → In q cs
 agreed_in cs q k = In-sorted_cases stamp_of q cs k
 
 pub agreed_once : Laws.AgreedOnce
@@ -216,7 +219,7 @@ agreed_once r =
     (each_once_of (tickets (came r)) (after r).commits (agreed (after r).commits) h.inv.consistent (agreed_in (after r).commits)
     (Rises-sorted stamp_of (after r).commits h.inv.consistent.apart))
 
-sender_order_of : (ts cs rs : List Row) → Consistent ts cs → ((q : Row) → In q rs → In q cs) → Rises stamp_of rs → SenderOrder rs
+sender_order_of : (ts cs rs : List CommitRow) → Consistent ts cs → ((q : CommitRow) → In q rs → In q cs) → Rises stamp_of rs → SenderOrder rs
 sender_order_of ts cs [] all sub up = tt
 sender_order_of ts cs (x ∷ xs) all sub up = (
   (λ y k e. lt-ltb x.txn.id.seq y.txn.id.seq (elim (cases_order x.txn.id.seq y.txn.id.seq) [
@@ -227,8 +230,8 @@ sender_order_of ts cs (x ∷ xs) all sub up = (
   sender_order_of ts cs xs all (λ q k. sub q (inr k)) up.1,
 )
   where
-    same : (x y : Row) → stamp_lt x.stamp y.stamp ≡ true → x ≡ y → Prim.⊥
-    same x y l e = true≢false (sym l ∙ (ap (λ (z : Row). stamp_lt z.stamp y.stamp) e ∙ lt_irrefl y.stamp))
+    same : (x y : CommitRow) → stamp_lt x.stamp y.stamp ≡ true → x ≡ y → Prim.⊥
+    same x y l e = true≢false (sym l ∙ (ap (λ (z : CommitRow). stamp_lt z.stamp y.stamp) e ∙ lt_irrefl y.stamp))
 
     id : Sender → ℕ → TxnId
     id s n = record { sender = s; seq = n }
@@ -255,7 +258,7 @@ abbrev place : TxnId → Stamp → Place
 place id stamp = record { id = id; stamp = stamp }
 
 -- what stands in both
-shared_to : (cs : List Row) (ts : List Row) (t u : Topic) (xs ys : List Item) → Consistent ts cs → ((i : Item) → In i xs → Itemed cs t i) → ((i : Item) → In i ys → Itemed cs u i) → (p : Place) → In p (shared xs ys) → In p (shared ys xs)
+shared_to : (cs : List CommitRow) (ts : List CommitRow) (t u : Topic) (xs ys : List Item) → Consistent ts cs → ((i : Item) → In i xs → Itemed cs t i) → ((i : Item) → In i ys → Itemed cs u i) → (p : Place) → In p (shared xs ys) → In p (shared ys xs)
 shared_to cs ts t u xs ys all hx hy p k =
     let m = In-filter_cases (is_in ys) p (map place_of xs) k in
     let n = In-map_cases place_of p xs m.stands in

@@ -4,10 +4,10 @@ use Rattle.mcast_txn.specs.Part.{part_at}
 use Rattle.mcast_txn.specs.Ballot.{Decision}
 use Rattle.mcast_txn.specs.declared.id.Topic.{Topic}
 use Rattle.mcast_txn.specs.declared.id.TxnId.{TxnId}
-use Rattle.mcast_txn.specs.declared.send.Send.{Send}
+use Rattle.mcast_txn.specs.declared.draft.sent_message.SentMessage.{SentMessage}
 use Rattle.mcast_group.specs.declared.fault.ProposeFault.{ProposeFault}
-use Rattle.mcast_group.specs.Span.{Item}
-use Rattle.mcast_group.specs.Topics.{TopicState, Entry, proposed, cancelled, learned, release, turned, unsubscribed, decided_stamp}
+use Rattle.mcast_txn.specs.Span.{Item}
+use Rattle.mcast_group.specs.Machine.{TopicState, Entry, after_propose, after_cancel, after_learn, after_release, after_turn, after_unsubscribe, decided_stamp}
 use Rattle.mcast_group.proofs.Turning.{release_keeps, turn_keeps}
 use Rattle.delivery.specs.World.{World, Leftover, topic_at, speaker, subscription_at, entry_at}
 use Rattle.delivery.specs.Events.{Event, happens, effect, find_leftover, find_verdict, find_in, oldest_live, flown, proposal_fault, proposed_by, cancelled_at, learned_at, handed, flight_at, left_by, closed_with, takes}
@@ -30,21 +30,21 @@ grow_topic topics t y l u =
 
 grow_proposed : (w : World) (c : ℕ) (t : Topic) (o : Option ProposeFault) → Grow w.topics (proposed_by w c t o).topics
 grow_proposed w c t None =
-    grow_topic w.topics t (proposed (speaker w c).floor (part_at (flight_at w c).txn.id (flight_at w c).txn.sends t) (topic_at w t)) (omega arith)
+    grow_topic w.topics t (after_propose (speaker w c).floor (part_at (flight_at w c).txn.id (flight_at w c).txn.sends t) (topic_at w t)) (omega arith)
 grow_proposed w c t (Some fault) = grow_same w.topics
 
 grow_cancelled : (w : World) (c : ℕ) (t : Topic) (o : Option Leftover) → Grow w.topics (cancelled_at w c t o).topics
 grow_cancelled w c t None = grow_same w.topics
-grow_cancelled w c t (Some k) = grow_topic w.topics t (cancelled k.id (topic_at w t)) (omega arith)
+grow_cancelled w c t (Some k) = grow_topic w.topics t (after_cancel k.id (topic_at w t)) (omega arith)
 
 grow_learned : (w : World) (t : Topic) (id : TxnId) (o : Option Decision) → Grow w.topics (learned_at w t id o).topics
 grow_learned w t id None = grow_same w.topics
-grow_learned w t id (Some v) = grow_topic w.topics t (learned id (decided_stamp v) (topic_at w t)) (omega arith)
+grow_learned w t id (Some v) = grow_topic w.topics t (after_learn id (decided_stamp v) (topic_at w t)) (omega arith)
 
 grow_closed : (w : World) (s : ℕ) (o : Option Entry) → Grow w.topics (closed_with w s o).topics
 grow_closed w s None = grow_same w.topics
 grow_closed w s (Some e) =
-    let t = (subscription_at w s).topic in grow_topic w.topics t (unsubscribed s (topic_at w t)) (omega arith)
+    let t = (subscription_at w s).topic in grow_topic w.topics t (after_unsubscribe s (topic_at w t)) (omega arith)
 
 grow_left : (w : World) (c : ℕ) (o : Option ℕ) → Grow w.topics (left_by w c o).topics
 grow_left w c None = grow_same w.topics
@@ -54,7 +54,7 @@ grow_handed : (w : World) (s : ℕ) (o : Option Item) → Grow w.topics (handed 
 grow_handed w s None = grow_same w.topics
 grow_handed w s (Some item) = grow_same w.topics
 
-grow_flown : (w : World) (c : ℕ) (sends : List Send) → Grow w.topics (flown w c sends).topics
+grow_flown : (w : World) (c : ℕ) (sends : List SentMessage) → Grow w.topics (flown w c sends).topics
 grow_flown w c [] = grow_same w.topics
 grow_flown w c (first ∷ others) = grow_same w.topics
 
@@ -75,10 +75,10 @@ grow_effect w (Withdraws c) u = omega arith
 grow_effect w (Cancels c t) u = grow_cancelled w c t (find_leftover t (speaker w c).leftovers) u
 grow_effect w (Learns t id) u = grow_learned w t id (find_verdict id w.verdicts) u
 grow_effect w (Releases t) u =
-    grow_topic w.topics t (release (takes w) (topic_at w t))
+    grow_topic w.topics t (after_release (takes w) (topic_at w t))
     (release_keeps (λ z. (topic_at w t).clock ≤ z.clock) (takes w) (topic_at w t) (omega arith) (λ p e. omega arith)) u
 grow_effect w (Turns t) u =
-    grow_topic w.topics t (turned (takes w) (find_in w) (topic_at w t))
+    grow_topic w.topics t (after_turn (takes w) (find_in w) (topic_at w t))
     (turn_keeps (λ z. (topic_at w t).clock ≤ z.clock) (takes w) (find_in w) (λ x id v f n k. omega arith) (λ x p e k. k) (topic_at w t) (omega arith)) u
 grow_effect w (Takes s) u = grow_handed w s _ u
 

@@ -7,12 +7,12 @@ use Rattle.mcast_txn.specs.Stamp.{zero_stamp}
 use Rattle.mcast_txn.specs.Ballot.{Decision}
 use Rattle.mcast_txn.specs.declared.id.Topic.{Topic}
 use Rattle.mcast_txn.specs.declared.id.TxnId.{TxnId}
-use Rattle.mcast_txn.specs.declared.send.Send.{Send}
+use Rattle.mcast_txn.specs.declared.draft.sent_message.SentMessage.{SentMessage}
 use Rattle.mcast_txn.specs.declared.stamp.Stamp.{Stamp}
 use Rattle.mcast_txn.proofs.Members.{at_set, at_set_within}
 use Rattle.mcast_group.specs.declared.fault.ProposeFault.{ProposeFault}
-use Rattle.mcast_group.specs.Span.{Item}
-use Rattle.mcast_group.specs.Topics.{Pending, Entry, Ended, due_part, ended}
+use Rattle.mcast_txn.specs.Span.{Item}
+use Rattle.mcast_group.specs.Machine.{Pending, Entry, EntryEnd, due_part, end_of}
 use Rattle.mcast_group.proofs.Parts.{some_same, none_some}
 use Rattle.delivery.specs.World.{World, Leftover, Subscription, no_subscription, topic_at, speaker, subscription_at, entry_at}
 use Rattle.delivery.specs.Reading.{entry_items, entry_to, accepted_at, end_at}
@@ -34,8 +34,8 @@ use Rattle.delivery.proofs.Logs.{topics_are_sound}
 -- ---- what an event makes of what subscriptions left
 
 -- what this entry would leave now
-abbrev left_of : World → ℕ → Entry → Ended
-left_of w s entry = ended (topic_at w (subscription_at w s).topic).frontier entry
+abbrev left_of : World → ℕ → Entry → EntryEnd
+left_of w s entry = end_of (topic_at w (subscription_at w s).topic).frontier entry
 
 -- a subscription that wasn't closed is closed, and its end is answered
 record Closes (w v : World) (o : Outcome) (s : ℕ) : Type 0 where
@@ -111,7 +111,7 @@ begun_case w c s t = inl (
   λ to d. subst IsEnd (sym d) tt,
 )
 
-flown_case : (w : World) (c s : ℕ) (sends : List Send) → StaysOrCloses w (flown w c sends) (flying_answer w c sends) s
+flown_case : (w : World) (c s : ℕ) (sends : List SentMessage) → StaysOrCloses w (flown w c sends) (flying_answer w c sends) s
 flown_case w c s [] = same w (flown w c []) (flying_answer w c []) s refl (λ i. i)
 flown_case w c s (first ∷ others) = same w (flown w c (first ∷ others)) (flying_answer w c (first ∷ others)) s refl (λ i. i)
 
@@ -170,10 +170,10 @@ closes r e s to d = elim (closing r e s) [ inl k ↦ absurd (k.1 to d) | inr k �
 
 -- ---- the laws
 
-end_of : (to end : Stamp) (o : Outcome) (s : ℕ) → o ≡ Unsubscribed s to → o ≡ Unsubscribed s end → to ≡ end
-end_of to end o s d e = cc
+same_end : (to end : Stamp) (o : Outcome) (s : ℕ) → o ≡ Unsubscribed s to → o ≡ Unsubscribed s end → to ≡ end
+same_end to end o s d e = cc
 
-open_end : (closed : Option Ended) (entry : Option Entry) → closed ≡ None → end_by closed entry ≡ entry_to entry
+open_end : (closed : Option EntryEnd) (entry : Option Entry) → closed ≡ None → end_by closed entry ≡ entry_to entry
 open_end None entry e = refl
 open_end (Some end) entry e = none_some end (sym e)
 
@@ -184,21 +184,21 @@ end_is w s entry unclosed e = open_end (subscription_at w s).closed (entry_at w 
 items_are : (w : World) (s : ℕ) (entry : Entry) → (subscription_at w s).closed ≡ None → entry_at w s ≡ Some entry → accepted_at w s ≡ entry.accepted
 items_are w s entry unclosed e = open_items (subscription_at w s).closed (entry_at w s) unclosed ∙ ap entry_items e
 
-ended_open : (frontier : Stamp) (n : ℕ) (from : Stamp) (to : Option Stamp) (accepted : List Item) → to ≡ None → (ended frontier (record { number = n; from = from; to = to; accepted = accepted })).to ≡ frontier
+ended_open : (frontier : Stamp) (n : ℕ) (from : Stamp) (to : Option Stamp) (accepted : List Item) → to ≡ None → (end_of frontier (record { number = n; from = from; to = to; accepted = accepted })).to ≡ frontier
 ended_open frontier n from None accepted e = refl
 ended_open frontier n from (Some end) accepted e = none_some end (sym e)
 
 pub spans_end_at_frontier : Spans.SpansEndAtFrontier
 spans_end_at_frontier r e s to d none =
     let w = after r in let x = topic_at w (subscription_at w s).topic in let k = closes r e s to d in let entry = k.entry in
-    end_of to (left_of w s entry).to (outcome w e) s d k.told
+    same_end to (left_of w s entry).to (outcome w e) s d k.told
     ∙ (ended_open x.frontier entry.number entry.from entry.to entry.accepted (sym (end_is w s entry k.unclosed k.found) ∙ none)
     ∙ (topics_are_sound r (subscription_at w s).topic).2)
 
-abbrev left_as : Stamp → List Item → Option Stamp → Ended
+abbrev left_as : Stamp → List Item → Option Stamp → EntryEnd
 left_as to accepted end = record { to = to; accepted = accepted; cause = cause_of end }
 
-ended_is : (frontier : Stamp) (n : ℕ) (from : Stamp) (to : Option Stamp) (accepted : List Item) → let left = ended frontier (record { number = n; from = from; to = to; accepted = accepted }) in left ≡ left_as left.to accepted to
+ended_is : (frontier : Stamp) (n : ℕ) (from : Stamp) (to : Option Stamp) (accepted : List Item) → let left = end_of frontier (record { number = n; from = from; to = to; accepted = accepted }) in left ≡ left_as left.to accepted to
 ended_is frontier n from None accepted = refl
 ended_is frontier n from (Some end) accepted = refl
 
@@ -206,14 +206,14 @@ pub closed_as_told : Spans.ClosedAsTold
 closed_as_told r e s to d =
     let w = after r in let x = topic_at w (subscription_at w s).topic in let k = closes r e s to d in let entry = k.entry in let left = left_of w s entry in
     k.left ∙ ap Some (ended_is x.frontier entry.number entry.from entry.to entry.accepted
-    ∙ (ap (λ z. left_as z entry.accepted entry.to) (sym (end_of to left.to (outcome w e) s d k.told))
+    ∙ (ap (λ z. left_as z entry.accepted entry.to) (sym (same_end to left.to (outcome w e) s d k.told))
     ∙ (ap (λ z. left_as to z entry.to) (sym (items_are w s entry k.unclosed k.found))
     ∙ ap (λ z. left_as to (accepted_at w s) z) (sym (end_is w s entry k.unclosed k.found)))))
 
 pub closes_are_told : Spans.ClosesAreTold
 closes_are_told r e s left none d = elim (closing r e s) [
   | inl k ↦ none_some left (sym none ∙ (sym k.0 ∙ d))
-  | inr k ↦ k.told ∙ ap (λ (z : Ended). Unsubscribed s z.to) (some_same (left_of (after r) s k.entry) left (sym k.left ∙ d))
+  | inr k ↦ k.told ∙ ap (λ (z : EntryEnd). Unsubscribed s z.to) (some_same (left_of (after r) s k.entry) left (sym k.left ∙ d))
 ]
 
 pub closed_stays : Spans.ClosedStays

@@ -3,18 +3,21 @@ use Rattle.std.proofs.Common.{◌≡◌, ◌≢◌, ℕ, zero, suc, ◌+◌, ◌
 use Rattle.std.proofs.lemmas.Bool.{true≢false, eqb-true, eq-eqb}
 use Rattle.mcast_txn.specs.Stamp.{stamp_lt, greatest}
 use Rattle.mcast_txn.specs.Transaction.{topics_of, insert_topic}
-use Rattle.mcast_txn.specs.Agreed.{Transaction, Row, same_id, In, names, stamp_of}
+use Rattle.mcast_txn.specs.Agreed.{Transaction, CommitRow, stamp_of}
+use Rattle.mcast_txn.specs.Ids.{same_id}
+use Rattle.mcast_txn.specs.Lists.{In}
+use Rattle.mcast_txn.specs.TopicSet.{names}
 use Rattle.mcast_txn.specs.Ballot.{Decision}
 use Rattle.mcast_txn.specs.declared.id.Topic.{Topic}
 use Rattle.mcast_txn.specs.declared.id.TxnId.{TxnId}
-use Rattle.mcast_txn.specs.declared.send.Send.{Send}
+use Rattle.mcast_txn.specs.declared.draft.sent_message.SentMessage.{SentMessage}
 use Rattle.mcast_txn.specs.declared.stamp.Stamp.{Stamp}
 use Rattle.mcast_txn.proofs.Orders.{lt_irrefl, lt_asym, le_lt, id_equal, id_same}
 use Rattle.mcast_txn.proofs.Members.{In-append_left, In-push, In-map_cases, any_found, all_at, at_set, at_set_within, push_one, push_two}
 use Rattle.mcast_txn.proofs.Sorting.{Apart-push}
 use Rattle.mcast_txn.proofs.Greatest.{greatest_in, greatest_past}
-use Rattle.mcast_group.specs.Span.{Item}
-use Rattle.mcast_group.specs.Topics.{TopicState, new_topic, cancelled}
+use Rattle.mcast_txn.specs.Span.{Item}
+use Rattle.mcast_group.specs.Machine.{TopicState, new_topic, after_cancel}
 use Rattle.mcast_group.proofs.Parts.{Waits, Waits-without, others, some_same, none_some}
 use Rattle.mcast_group.proofs.Keeping.{Sound-cancelled}
 use Rattle.delivery.specs.Due.{log_row}
@@ -26,7 +29,7 @@ use Rattle.delivery.proofs.Proposals.{within_senders}
 
 -- ---- a change of one sender
 
-pub sender_step : (ts : List Row) (w : World) (s : ℕ) (x : SenderState) → Holds ts w → Serves ts w.commits w.topics s x → Inv ts w.commits w.verdicts w.topics (set w.senders s x) w.subscriptions
+pub sender_step : (ts : List CommitRow) (w : World) (s : ℕ) (x : SenderState) → Holds ts w → Serves ts w.commits w.topics s x → Inv ts w.commits w.verdicts w.topics (set w.senders s x) w.subscriptions
 sender_step ts w s x inv h = record {
   consistent = inv.consistent;
   tied = inv.tied;
@@ -56,17 +59,17 @@ pub names_inserted : (s : Topic) (us : List Topic) → names s (insert_topic s u
 names_inserted s [] = rw (eq-eqb s.0 s.0 refl) refl
 names_inserted s (u ∷ us) = topic_case s u us (ltb s.0 u.0) (s.0 == u.0) (turn_eq u.0 s.0) refl (names_inserted s us)
 
-abbrev pub new_flight : ℕ → ℕ → List Send → Flight
+abbrev pub new_flight : ℕ → ℕ → List SentMessage → Flight
 new_flight s seq sends = record { txn = record { id = record { sender = record { 0 = s }; seq = seq }; sends = sends }; given = []; mark = None }
 
-none_yet : (ts cs : List Row) (topics : List TopicState) (s : ℕ) (x : SenderState) (first : Send) (others : List Send) → Serves ts cs topics s x → (a : Row) → In a ts → same_id a.txn.id (new_flight s (x.seq + 1) (first ∷ others)).txn.id ≡ true → Prim.⊥
+none_yet : (ts cs : List CommitRow) (topics : List TopicState) (s : ℕ) (x : SenderState) (first : SentMessage) (others : List SentMessage) → Serves ts cs topics s x → (a : CommitRow) → In a ts → same_id a.txn.id (new_flight s (x.seq + 1) (first ∷ others)).txn.id ≡ true → Prim.⊥
 none_yet ts cs topics s x first others h a k e =
     let d = id_equal a.txn.id (new_flight s (x.seq + 1) (first ∷ others)).txn.id e in
     let l : a.txn.id.seq ≤ x.seq = h.used a k (ap (λ (z : TxnId). z.sender.0) d) in
     let m : a.txn.id.seq ≡ x.seq + 1 = ap (λ (z : TxnId). z.seq) d in
     omega arith
 
-pub flown_step : (ts : List Row) (w : World) (s : ℕ) (first : Send) (others : List Send) → Holds ts w → let x = sender_in w.senders s in Inv ts w.commits w.verdicts w.topics (set w.senders s (record x { seq = x.seq + 1; flight = Some (new_flight s (x.seq + 1) (first ∷ others)) })) w.subscriptions
+pub flown_step : (ts : List CommitRow) (w : World) (s : ℕ) (first : SentMessage) (others : List SentMessage) → Holds ts w → let x = sender_in w.senders s in Inv ts w.commits w.verdicts w.topics (set w.senders s (record x { seq = x.seq + 1; flight = Some (new_flight s (x.seq + 1) (first ∷ others)) })) w.subscriptions
 flown_step ts w s first others inv =
     let x = sender_in w.senders s in let h = inv.serves s in
     let f = new_flight s (x.seq + 1) (first ∷ others) in
@@ -99,7 +102,7 @@ flown_step ts w s first others inv =
     })
 
 -- a flight is marked
-pub marked_step : (ts : List Row) (w : World) (s : ℕ) (f g : Flight) → Holds ts w → (sender_in w.senders s).flight ≡ Some f → g.txn ≡ f.txn → g.given ≡ f.given → let x = sender_in w.senders s in Inv ts w.commits w.verdicts w.topics (set w.senders s (record x { flight = Some g })) w.subscriptions
+pub marked_step : (ts : List CommitRow) (w : World) (s : ℕ) (f g : Flight) → Holds ts w → (sender_in w.senders s).flight ≡ Some f → g.txn ≡ f.txn → g.given ≡ f.given → let x = sender_in w.senders s in Inv ts w.commits w.verdicts w.topics (set w.senders s (record x { flight = Some g })) w.subscriptions
 marked_step ts w s f g inv e txn given =
     let x = sender_in w.senders s in let h = inv.serves s in let k = h.flying f e in
     sender_step ts w s (record x { flight = Some g }) inv (record {
@@ -118,13 +121,13 @@ marked_step ts w s f g inv e txn given =
         record {
           sender = by (λ z v. z.id.sender.0 ≡ s) k.sender;
           seq_le = by (λ z v. z.id.seq ≤ (sender_in w.senders s).seq) k.seq_le;
-          newest = by (λ z v. (r : Row) → In r w.commits → r.txn.id.sender.0 ≡ s → r.txn.id.seq < z.id.seq) k.newest;
-          same = by (λ z v. (r : Row) → In r ts → same_id r.txn.id z.id ≡ true → r.txn ≡ z) k.same;
-          higher = by (λ z v. (r : Row) → In r ts → r.txn ≡ z → stamp_lt (sender_in w.senders s).floor r.stamp ≡ true) k.higher;
+          newest = by (λ z v. (r : CommitRow) → In r w.commits → r.txn.id.sender.0 ≡ s → r.txn.id.seq < z.id.seq) k.newest;
+          same = by (λ z v. (r : CommitRow) → In r ts → same_id r.txn.id z.id ≡ true → r.txn ≡ z) k.same;
+          higher = by (λ z v. (r : CommitRow) → In r ts → r.txn ≡ z → stamp_lt (sender_in w.senders s).floor r.stamp ≡ true) k.higher;
           given_in = by (λ z v. (i : Stamp) → In i v → In (row z i) ts) k.given_in;
-          given_all = by (λ z v. (r : Row) → In r ts → r.txn ≡ z → In r.stamp v) k.given_all;
+          given_all = by (λ z v. (r : CommitRow) → In r ts → r.txn ≡ z → In r.stamp v) k.given_all;
           given_apart = by (λ z v. OneEach v) k.given_apart;
-          waits = by (λ z v. (r : Row) → In r ts → r.txn ≡ z → Waits z.id (topic_in w.topics r.stamp.topic).pending) k.waits;
+          waits = by (λ z v. (r : CommitRow) → In r ts → r.txn ≡ z → Waits z.id (topic_in w.topics r.stamp.topic).pending) k.waits;
           some = k.some;
           some_named = by (λ z v. names k.some (topics_of z.sends) ≡ true) k.some_named;
         }
@@ -138,7 +141,7 @@ pub record Decides (w : World) (s : ℕ) (f : Flight) : Type 0 where
 abbrev pub stamp_by : Flight → Stamp
 stamp_by f = greatest f.given
 
-abbrev pub row_by : Flight → Row
+abbrev pub row_by : Flight → CommitRow
 row_by f = row f.txn (stamp_by f)
 
 abbrev pub verdict_by : Flight → Decision
@@ -148,22 +151,22 @@ abbrev pub decided_sender : World → ℕ → Flight → SenderState
 decided_sender w s f = record (sender_in w.senders s) { floor = stamp_by f; flight = None }
 
 -- a ticket that t gave this transaction
-pub record TicketOf (ts : List Row) (txn : Transaction) (t : Topic) : Type 0 where
-  pub it : Row
+pub record TicketOf (ts : List CommitRow) (txn : Transaction) (t : Topic) : Type 0 where
+  pub it : CommitRow
   pub stands : In it ts
   pub txn_is : it.txn ≡ txn
   pub topic_is : it.stamp.topic ≡ t
 
 -- what a decision comes to
-record Deciding (ts : List Row) (w : World) (s : ℕ) (f : Flight) : Type 0 where
+record Deciding (ts : List CommitRow) (w : World) (s : ℕ) (f : Flight) : Type 0 where
   flies : Flies ts w.commits w.topics s (sender_in w.senders s).seq (sender_in w.senders s).floor f
   ticket : In (row_by f) ts
   given : In (stamp_by f) f.given
-  greatest : (a : Row) → In a ts → a.txn ≡ f.txn → stamp_lt (stamp_by f) a.stamp ≡ false
+  greatest : (a : CommitRow) → In a ts → a.txn ≡ f.txn → stamp_lt (stamp_by f) a.stamp ≡ false
   complete : (t : Topic) → names t (topics_of f.txn.sends) ≡ true → TicketOf ts f.txn t
 
 -- each named topic gave a complete flight a ticket
-pub complete_at : (ts : List Row) (w : World) (s : ℕ) (f : Flight) → Flies ts w.commits w.topics s (sender_in w.senders s).seq (sender_in w.senders s).floor f → is_complete f ≡ true → (t : Topic) → names t (topics_of f.txn.sends) ≡ true → TicketOf ts f.txn t
+pub complete_at : (ts : List CommitRow) (w : World) (s : ℕ) (f : Flight) → Flies ts w.commits w.topics s (sender_in w.senders s).seq (sender_in w.senders s).floor f → is_complete f ≡ true → (t : Topic) → names t (topics_of f.txn.sends) ≡ true → TicketOf ts f.txn t
 complete_at ts w s f g all t n =
     let q = any_found (λ (u : Topic). u.0 == t.0) (topics_of f.txn.sends) n in
     let m = all_at (λ (u : Topic). has_ticket u f.given) q.it (topics_of f.txn.sends) all q.stands in
@@ -175,7 +178,7 @@ complete_at ts w s f g all t n =
       topic_is = same_topic v.it.topic t (eqb-true v.it.topic.0 q.it.0 v.passes ∙ eqb-true q.it.0 t.0 q.passes);
     }
 
-decision : (ts : List Row) (w : World) (s : ℕ) (f : Flight) → Holds ts w → Decides w s f → Deciding ts w s f
+decision : (ts : List CommitRow) (w : World) (s : ℕ) (f : Flight) → Holds ts w → Decides w s f → Deciding ts w s f
 decision ts w s f inv d =
     let g = (inv.serves s).flying f d.flight in
     let all = complete_at ts w s f g d.complete in
@@ -192,11 +195,11 @@ decision ts w s f inv d =
     there : (xs : List Stamp) (a : Stamp) → In a xs → In (greatest xs) xs
     there xs a i = elim (greatest_in xs) [ inl k ↦ k | inr e ↦ absurd (subst (λ z. In a z) e i) ]
 
-decided_past : (ts : List Row) (w : World) (s : ℕ) (f : Flight) (q : Row) → Holds ts w → Deciding ts w s f → In q w.commits → q.txn.id.sender.0 ≡ s → stamp_lt q.stamp (stamp_by f) ≡ true
+decided_past : (ts : List CommitRow) (w : World) (s : ℕ) (f : Flight) (q : CommitRow) → Holds ts w → Deciding ts w s f → In q w.commits → q.txn.id.sender.0 ≡ s → stamp_lt q.stamp (stamp_by f) ≡ true
 decided_past ts w s f q inv dec k e =
     le_lt q.stamp (sender_in w.senders s).floor (stamp_by f) ((inv.serves s).floored q k e) (dec.flies.higher (row_by f) dec.ticket refl)
 
-Consistent-decided : (ts : List Row) (w : World) (s : ℕ) (f : Flight) → Holds ts w → Deciding ts w s f → Consistent ts (w.commits ++ row_by f ∷ [])
+Consistent-decided : (ts : List CommitRow) (w : World) (s : ℕ) (f : Flight) → Holds ts w → Deciding ts w s f → Consistent ts (w.commits ++ row_by f ∷ [])
 Consistent-decided ts w s f inv dec =
     let all = inv.consistent in let g = dec.flies in let r = row_by f in record {
       one_txn = all.one_txn;
@@ -204,23 +207,23 @@ Consistent-decided ts w s f inv dec =
       apart = Apart-push stamp_of w.commits r all.apart (λ q k e.
           flies_uncommitted ts w.commits w.topics s _ _ f g q k
           (id_same q.txn.id f.txn.id (ap (λ (z : Transaction). z.id) (all.one_txn q r (all.from_ticket q k) dec.ticket e))));
-      from_ticket = push_one (λ (q : Row). In q ts) w.commits r all.from_ticket dec.ticket;
-      greatest = λ q a k. push_one (λ (z : Row). In a ts → a.txn ≡ z.txn → stamp_lt z.stamp a.stamp ≡ false) w.commits r
+      from_ticket = push_one (λ (q : CommitRow). In q ts) w.commits r all.from_ticket dec.ticket;
+      greatest = λ q a k. push_one (λ (z : CommitRow). In a ts → a.txn ≡ z.txn → stamp_lt z.stamp a.stamp ≡ false) w.commits r
           (λ z l. all.greatest z a l) (λ l e. dec.greatest a l e) q k;
-      ordered = push_two (λ (x y : Row). x.txn.id.sender.0 ≡ y.txn.id.sender.0 → x.txn.id.seq < y.txn.id.seq → stamp_lt x.stamp y.stamp ≡ true) w.commits r
+      ordered = push_two (λ (x y : CommitRow). x.txn.id.sender.0 ≡ y.txn.id.sender.0 → x.txn.id.seq < y.txn.id.seq → stamp_lt x.stamp y.stamp ≡ true) w.commits r
           all.ordered
           (λ q k e l. decided_past ts w s f q inv dec k (e ∙ g.sender))
           (λ q k e l. let m : q.txn.id.seq < f.txn.id.seq = g.newest q k (sym e ∙ g.sender) in absurd (omega arith))
           (λ e l. absurd (omega arith));
     }
 
-Committed-more : (cs : List Row) (r : Row) (id : TxnId) (stamp : Stamp) → Committed cs id stamp → Committed (cs ++ r ∷ []) id stamp
+Committed-more : (cs : List CommitRow) (r : CommitRow) (id : TxnId) (stamp : Stamp) → Committed cs id stamp → Committed (cs ++ r ∷ []) id stamp
 Committed-more cs r id stamp h = record { row = h.row; stands = In-append_left h.row cs (r ∷ []) h.stands; id_is = h.id_is; stamp_is = h.stamp_is }
 
-Itemed-more : (cs : List Row) (r : Row) (t : Topic) (i : Item) → Itemed cs t i → Itemed (cs ++ r ∷ []) t i
+Itemed-more : (cs : List CommitRow) (r : CommitRow) (t : Topic) (i : Item) → Itemed cs t i → Itemed (cs ++ r ∷ []) t i
 Itemed-more cs r t i h = record { row = h.row; stands = In-append_left h.row cs (r ∷ []) h.stands; is = h.is; named = h.named }
 
-Tied-decided : (ts : List Row) (w : World) (s : ℕ) (f : Flight) → Holds ts w → Deciding ts w s f → (u : Topic) → Tied ts (w.commits ++ row_by f ∷ []) u (topic_in w.topics u)
+Tied-decided : (ts : List CommitRow) (w : World) (s : ℕ) (f : Flight) → Holds ts w → Deciding ts w s f → (u : Topic) → Tied ts (w.commits ++ row_by f ∷ []) u (topic_in w.topics u)
 Tied-decided ts w s f inv dec u =
     let h = inv.tied u in let r = row_by f in record {
       topic = h.topic;
@@ -228,7 +231,7 @@ Tied-decided ts w s f inv dec u =
       ticketed = h.ticketed;
       decided = λ p k z e. Committed-more w.commits r p.part.id z (h.decided p k z e);
       logged = λ l k. let g = h.logged l k in record { row = g.row; stands = In-append_left g.row w.commits (r ∷ []) g.stands; is = g.is; named = g.named };
-      placed = push_one (λ (q : Row). names u (topics_of q.txn.sends) ≡ true → In (log_row q) (topic_in w.topics u).held ⊎ Waits q.txn.id (topic_in w.topics u).pending) w.commits r h.placed
+      placed = push_one (λ (q : CommitRow). names u (topics_of q.txn.sends) ≡ true → In (log_row q) (topic_in w.topics u).held ⊎ Waits q.txn.id (topic_in w.topics u).pending) w.commits r h.placed
           (λ e. let a = dec.complete u e in
           inr (subst (λ z. Waits f.txn.id (topic_in w.topics z).pending) a.topic_is (dec.flies.waits a.it a.stands a.txn_is)));
       items = λ e k i l. Itemed-more w.commits r u i (h.items e k i l);
@@ -236,22 +239,22 @@ Tied-decided ts w s f inv dec u =
       sound = h.sound;
     }
 
-left_more : (cs : List Row) (topics : List TopicState) (s seq : ℕ) (k : Leftover) (r : Row) → (same_id r.txn.id k.id ≡ true → Prim.⊥) → IsLeft cs topics s seq k → IsLeft (cs ++ r ∷ []) topics s seq k
+left_more : (cs : List CommitRow) (topics : List TopicState) (s seq : ℕ) (k : Leftover) (r : CommitRow) → (same_id r.txn.id k.id ≡ true → Prim.⊥) → IsLeft cs topics s seq k → IsLeft (cs ++ r ∷ []) topics s seq k
 left_more cs topics s seq k r ne h = record {
   sender = h.sender;
   seq_le = h.seq_le;
-  uncommitted = push_one (λ (q : Row). same_id q.txn.id k.id ≡ true → Prim.⊥) cs r h.uncommitted ne;
+  uncommitted = push_one (λ (q : CommitRow). same_id q.txn.id k.id ≡ true → Prim.⊥) cs r h.uncommitted ne;
   waits = h.waits;
 }
 
-Serves-decided : (ts : List Row) (w : World) (s : ℕ) (f : Flight) → Holds ts w → Decides w s f → Deciding ts w s f → (d : ℕ) → Serves ts (w.commits ++ row_by f ∷ []) w.topics d (sender_in (set w.senders s (decided_sender w s f)) d)
+Serves-decided : (ts : List CommitRow) (w : World) (s : ℕ) (f : Flight) → Holds ts w → Decides w s f → Deciding ts w s f → (d : ℕ) → Serves ts (w.commits ++ row_by f ∷ []) w.topics d (sender_in (set w.senders s (decided_sender w s f)) d)
 Serves-decided ts w s f inv is dec d =
     let r = row_by f in let cs = w.commits ++ r ∷ [] in
     at_set_within (λ (x : SenderState). Serves ts cs w.topics d x) w.senders s d (decided_sender w s f) new_sender
     (within_senders w.senders s f is.flight)
     (λ e. subst (λ v. Serves ts cs w.topics v (decided_sender w s f)) (sym e) (let h = inv.serves s in record {
       used = h.used;
-      floored = push_one (λ (q : Row). q.txn.id.sender.0 ≡ s → stamp_lt r.stamp q.stamp ≡ false) w.commits r
+      floored = push_one (λ (q : CommitRow). q.txn.id.sender.0 ≡ s → stamp_lt r.stamp q.stamp ≡ false) w.commits r
           (λ q k i. lt_asym q.stamp r.stamp (decided_past ts w s f q inv dec k i))
           (λ i. lt_irrefl r.stamp);
       flying = λ y i. none_some y i;
@@ -264,12 +267,12 @@ Serves-decided ts w s f inv is dec d =
     }))
     (λ ne. let h = inv.serves d in record {
       used = h.used;
-      floored = push_one (λ (q : Row). q.txn.id.sender.0 ≡ d → stamp_lt (sender_in w.senders d).floor q.stamp ≡ false) w.commits r h.floored
+      floored = push_one (λ (q : CommitRow). q.txn.id.sender.0 ≡ d → stamp_lt (sender_in w.senders d).floor q.stamp ≡ false) w.commits r h.floored
           (λ i. absurd (ne (sym i ∙ dec.flies.sender)));
       flying = λ y i. let g = h.flying y i in record {
         sender = g.sender;
         seq_le = g.seq_le;
-        newest = push_one (λ (q : Row). q.txn.id.sender.0 ≡ d → q.txn.id.seq < y.txn.id.seq) w.commits r g.newest (λ j. absurd (ne (sym j ∙ dec.flies.sender)));
+        newest = push_one (λ (q : CommitRow). q.txn.id.sender.0 ≡ d → q.txn.id.seq < y.txn.id.seq) w.commits r g.newest (λ j. absurd (ne (sym j ∙ dec.flies.sender)));
         same = g.same;
         higher = g.higher;
         given_in = g.given_in;
@@ -294,7 +297,7 @@ one_each (g ∷ rest) h a b (inl i) (inr j) e = absurd (h.0 b j (ap (λ (z : Sta
 one_each (g ∷ rest) h a b (inr i) (inl j) e = absurd (h.0 a i (ap (λ (z : Stamp). z.topic.0) j ∙ ap (λ (z : Topic). z.0) (sym e)))
 one_each (g ∷ rest) h a b (inr i) (inr j) e = one_each rest h.1 a b i j e
 
-Voted-commits : (ts cs : List Row) (v : Decision) (r : Row) → Voted ts cs v → Voted ts (cs ++ r ∷ []) v
+Voted-commits : (ts cs : List CommitRow) (v : Decision) (r : CommitRow) → Voted ts cs v → Voted ts (cs ++ r ∷ []) v
 Voted-commits ts cs v r h = record {
   row = h.row;
   stands = In-append_left h.row cs (r ∷ []) h.stands;
@@ -304,10 +307,10 @@ Voted-commits ts cs v r h = record {
   all = h.all;
 }
 
-HasVote-more : (vs : List Decision) (v : Decision) (r : Row) → HasVote vs r → HasVote (vs ++ v ∷ []) r
+HasVote-more : (vs : List Decision) (v : Decision) (r : CommitRow) → HasVote vs r → HasVote (vs ++ v ∷ []) r
 HasVote-more vs v r h = record { verdict = h.verdict; stands = In-append_left h.verdict vs (v ∷ []) h.stands; id_is = h.id_is }
 
-Subscribes-commits : (cs : List Row) (topics : List TopicState) (subs : List Subscription) (r : Row) → Subscribes cs topics subs → Subscribes (cs ++ r ∷ []) topics subs
+Subscribes-commits : (cs : List CommitRow) (topics : List TopicState) (subs : List Subscription) (r : CommitRow) → Subscribes cs topics subs → Subscribes (cs ++ r ∷ []) topics subs
 Subscribes-commits cs topics subs r h = record {
   live = h.live;
   owned = h.owned;
@@ -315,7 +318,7 @@ Subscribes-commits cs topics subs r h = record {
   closed = λ s end e. let k = h.closed s end e in record { queue = k.queue; items = λ i l. Itemed-more cs r (sub_in subs s).topic i (k.items i l) };
 }
 
-decision_step : (ts : List Row) (w : World) (s : ℕ) (f : Flight) → Holds ts w → Decides w s f → Deciding ts w s f → Inv ts (w.commits ++ row_by f ∷ []) (w.verdicts ++ verdict_by f ∷ []) w.topics (set w.senders s (decided_sender w s f)) w.subscriptions
+decision_step : (ts : List CommitRow) (w : World) (s : ℕ) (f : Flight) → Holds ts w → Decides w s f → Deciding ts w s f → Inv ts (w.commits ++ row_by f ∷ []) (w.verdicts ++ verdict_by f ∷ []) w.topics (set w.senders s (decided_sender w s f)) w.subscriptions
 decision_step ts w s f inv is dec =
     let r = row_by f in let v = verdict_by f in record {
       consistent = Consistent-decided ts w s f inv dec;
@@ -330,12 +333,12 @@ decision_step ts w s f inv is dec =
             one_row = one_each f.given dec.flies.given_apart;
             all = λ a k e. dec.flies.given_all a k e;
           });
-      counted = push_one (λ (z : Row). HasVote (w.verdicts ++ v ∷ []) z) w.commits r (λ z k. HasVote-more w.verdicts v z (inv.counted z k))
+      counted = push_one (λ (z : CommitRow). HasVote (w.verdicts ++ v ∷ []) z) w.commits r (λ z k. HasVote-more w.verdicts v z (inv.counted z k))
           (record { verdict = v; stands = In-push v w.verdicts; id_is = refl });
       subscribes = Subscribes-commits w.commits w.topics w.subscriptions r inv.subscribes;
     }
 
-pub decide_step : (ts : List Row) (w : World) (s : ℕ) (f : Flight) → Holds ts w → Decides w s f → Inv ts (w.commits ++ row_by f ∷ []) (w.verdicts ++ verdict_by f ∷ []) w.topics (set w.senders s (decided_sender w s f)) w.subscriptions
+pub decide_step : (ts : List CommitRow) (w : World) (s : ℕ) (f : Flight) → Holds ts w → Decides w s f → Inv ts (w.commits ++ row_by f ∷ []) (w.verdicts ++ verdict_by f ∷ []) w.topics (set w.senders s (decided_sender w s f)) w.subscriptions
 decide_step ts w s f inv is = decision_step ts w s f inv is (decision ts w s f inv is)
 
 -- ---- a withdrawal
@@ -360,7 +363,7 @@ LeftApart-given id (g ∷ rest) h = (
   LeftApart-given id rest h.1,
 )
 
-pub withdrawn_step : (ts : List Row) (w : World) (s : ℕ) (f : Flight) → Holds ts w → (sender_in w.senders s).flight ≡ Some f → let x = sender_in w.senders s in Inv ts w.commits w.verdicts w.topics (set w.senders s (record x { flight = None; leftovers = x.leftovers ++ map (leftover f.txn.id) f.given })) w.subscriptions
+pub withdrawn_step : (ts : List CommitRow) (w : World) (s : ℕ) (f : Flight) → Holds ts w → (sender_in w.senders s).flight ≡ Some f → let x = sender_in w.senders s in Inv ts w.commits w.verdicts w.topics (set w.senders s (record x { flight = None; leftovers = x.leftovers ++ map (leftover f.txn.id) f.given })) w.subscriptions
 withdrawn_step ts w s f inv e =
     let x = sender_in w.senders s in let h = inv.serves s in let g = h.flying f e in
     sender_step ts w s (record x { flight = None; leftovers = x.leftovers ++ map (leftover f.txn.id) f.given }) inv (record {
@@ -433,7 +436,7 @@ dropped_apart t k l [] h f i same here = i
 dropped_apart t k l (x ∷ ks) h f i same here =
     dropped_case t k l x ks (x.ticket.topic.0 == t.0) refl h (λ g j s u. dropped_apart t k l ks h.1 g j s u) f i same here
 
-Tied-cancelled : (ts cs : List Row) (t : Topic) (x : TopicState) (id : TxnId) → Uncommitted cs id → Tied ts cs t x → Tied ts cs t (cancelled id x)
+Tied-cancelled : (ts cs : List CommitRow) (t : Topic) (x : TopicState) (id : TxnId) → Uncommitted cs id → Tied ts cs t x → Tied ts cs t (after_cancel id x)
 Tied-cancelled ts cs t x id un h = record {
   topic = h.topic;
   given = h.given;
@@ -450,9 +453,9 @@ Tied-cancelled ts cs t x id un h = record {
 }
 
 -- a part that isn't of the cancelled transaction, or is at another topic, waits on
-waits_on : (w : World) (t : Topic) (id other : TxnId) (u : Topic) → (other ≡ id → u ≡ t → Prim.⊥) → Waits other (topic_in w.topics u).pending → Waits other (topic_in (set w.topics t.0 (cancelled id (topic_in w.topics t))) u).pending
+waits_on : (w : World) (t : Topic) (id other : TxnId) (u : Topic) → (other ≡ id → u ≡ t → Prim.⊥) → Waits other (topic_in w.topics u).pending → Waits other (topic_in (set w.topics t.0 (after_cancel id (topic_in w.topics t))) u).pending
 waits_on w t id other u ne v =
-    at_set (λ (z : TopicState). Waits other z.pending) w.topics t.0 u.0 (cancelled id (topic_in w.topics t)) (new_topic u 0 0)
+    at_set (λ (z : TopicState). Waits other z.pending) w.topics t.0 u.0 (after_cancel id (topic_in w.topics t)) (new_topic u 0 0)
     (λ e. elim (Waits-without id other (topic_in w.topics t).pending (subst (λ z. Waits other (topic_in w.topics z).pending) (same_topic u t e) v)) [
       | inl s ↦ absurd (ne (id_equal other id s) (same_topic u t e))
       | inr k ↦ k
@@ -460,7 +463,7 @@ waits_on w t id other u ne v =
     v
 
 -- the senders, each of whose parts waits on
-Serves-cancelled : (ts : List Row) (w : World) (t : Topic) (id : TxnId) (d : ℕ) (x : SenderState) → ((f : Flight) → x.flight ≡ Some f → f.txn.id ≡ id → Prim.⊥) → ((k : Leftover) → In k x.leftovers → k.id ≡ id → k.ticket.topic ≡ t → Prim.⊥) → Serves ts w.commits w.topics d x → Serves ts w.commits (set w.topics t.0 (cancelled id (topic_in w.topics t))) d x
+Serves-cancelled : (ts : List CommitRow) (w : World) (t : Topic) (id : TxnId) (d : ℕ) (x : SenderState) → ((f : Flight) → x.flight ≡ Some f → f.txn.id ≡ id → Prim.⊥) → ((k : Leftover) → In k x.leftovers → k.id ≡ id → k.ticket.topic ≡ t → Prim.⊥) → Serves ts w.commits w.topics d x → Serves ts w.commits (set w.topics t.0 (after_cancel id (topic_in w.topics t))) d x
 Serves-cancelled ts w t id d x no_flight no_left h = record {
   used = h.used;
   floored = h.floored;
@@ -487,7 +490,7 @@ Serves-cancelled ts w t id d x no_flight no_left h = record {
   left_apart = h.left_apart;
 }
 
-Serves-dropped : (ts cs : List Row) (topics : List TopicState) (s : ℕ) (x : SenderState) (t : Topic) → Serves ts cs topics s x → Serves ts cs topics s (record x { leftovers = drop_leftover t x.leftovers })
+Serves-dropped : (ts cs : List CommitRow) (topics : List TopicState) (s : ℕ) (x : SenderState) (t : Topic) → Serves ts cs topics s x → Serves ts cs topics s (record x { leftovers = drop_leftover t x.leftovers })
 Serves-dropped ts cs topics s x t h = record {
   used = h.used;
   floored = h.floored;
@@ -502,10 +505,10 @@ has_leftover [] s k i = absurd i
 has_leftover (z ∷ zs) zero k i = omega arith
 has_leftover (z ∷ zs) (suc s) k i = let l = has_leftover zs s k i in omega arith
 
-pub cancel_step : (ts : List Row) (w : World) (s : ℕ) (t : Topic) (k : Leftover) → Holds ts w → find_leftover t (sender_in w.senders s).leftovers ≡ Some k → let x = sender_in w.senders s in Inv ts w.commits w.verdicts (set w.topics t.0 (cancelled k.id (topic_in w.topics t))) (set w.senders s (record x { leftovers = drop_leftover t x.leftovers })) w.subscriptions
+pub cancel_step : (ts : List CommitRow) (w : World) (s : ℕ) (t : Topic) (k : Leftover) → Holds ts w → find_leftover t (sender_in w.senders s).leftovers ≡ Some k → let x = sender_in w.senders s in Inv ts w.commits w.verdicts (set w.topics t.0 (after_cancel k.id (topic_in w.topics t))) (set w.senders s (record x { leftovers = drop_leftover t x.leftovers })) w.subscriptions
 cancel_step ts w s t k inv e =
     let x = sender_in w.senders s in let found = leftover_found t x.leftovers k e in let h = (inv.serves s).left k found.stands in
-    let y = cancelled k.id (topic_in w.topics t) in record {
+    let y = after_cancel k.id (topic_in w.topics t) in record {
       consistent = inv.consistent;
       tied = λ u. at_topic (λ v z. Tied ts w.commits v z) w.topics t u y (Tied-cancelled ts w.commits t (topic_in w.topics t) k.id h.uncommitted (inv.tied t)) (inv.tied u);
       serves = λ d. at_set_within (λ (z : SenderState). Serves ts w.commits (set w.topics t.0 y) d z) w.senders s d (record x { leftovers = drop_leftover t x.leftovers }) new_sender (has_leftover w.senders s k found.stands)

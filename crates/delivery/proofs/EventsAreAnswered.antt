@@ -4,14 +4,14 @@ use Rattle.std.specs.Option.{is_some}
 use Rattle.std.proofs.lemmas.Bool.{true≢false, and_parts, ltb-true}
 use Rattle.mcast_txn.specs.Part.{part_at}
 use Rattle.mcast_txn.specs.Ballot.{Decision}
-use Rattle.mcast_txn.specs.Agreed.{In}
+use Rattle.mcast_txn.specs.Lists.{In}
 use Rattle.mcast_txn.specs.declared.id.Topic.{Topic}
 use Rattle.mcast_txn.specs.declared.id.TxnId.{TxnId}
-use Rattle.mcast_txn.specs.declared.send.Send.{Send}
+use Rattle.mcast_txn.specs.declared.draft.sent_message.SentMessage.{SentMessage}
 use Rattle.mcast_group.specs.declared.fault.ProposeFault.{ProposeFault}
-use Rattle.mcast_group.specs.Checks.{first_refusal}
-use Rattle.mcast_group.specs.Span.{Item}
-use Rattle.mcast_group.specs.Topics.{Pending, due_part, propose_fault}
+use Rattle.mcast_txn.specs.Checks.{first_refusal}
+use Rattle.mcast_txn.specs.Span.{Item}
+use Rattle.mcast_group.specs.Machine.{Pending, due_part, propose_fault}
 use Rattle.mcast_group.proofs.Parts.{none_some, some_same, not_true}
 use Rattle.delivery.specs.World.{World, Leftover, Subscription, subscription_at, speaker, topic_at}
 use Rattle.delivery.specs.Reading.{accepted_at, end_at}
@@ -66,7 +66,7 @@ is_oldest w c s e =
 
 -- ---- each answer
 
-commit_is : (w : World) (c : ℕ) (sends : List Send) → IsAnswer w (Commits c sends) (flying_answer w c sends)
+commit_is : (w : World) (c : ℕ) (sends : List SentMessage) → IsAnswer w (Commits c sends) (flying_answer w c sends)
 commit_is w c [] = inr (c, refl)
 commit_is w c (first ∷ others) = (c, refl, refl, refl)
 

@@ -4,11 +4,11 @@ use Rattle.mcast_txn.specs.Agreed.{Transaction}
 use Rattle.mcast_txn.specs.Ballot.{Decision}
 use Rattle.mcast_txn.specs.declared.id.Topic.{Topic}
 use Rattle.mcast_txn.specs.declared.id.TxnId.{TxnId}
-use Rattle.mcast_txn.specs.declared.send.Send.{Send}
+use Rattle.mcast_txn.specs.declared.draft.sent_message.SentMessage.{SentMessage}
 use Rattle.mcast_txn.proofs.Members.{at_set}
 use Rattle.mcast_group.specs.declared.fault.ProposeFault.{ProposeFault}
-use Rattle.mcast_group.specs.Span.{Item}
-use Rattle.mcast_group.specs.Topics.{Pending, Entry, due_part}
+use Rattle.mcast_txn.specs.Span.{Item}
+use Rattle.mcast_group.specs.Machine.{Pending, Entry, due_part}
 use Rattle.delivery.specs.declared.refusal.Refusal.{Refusal}
 use Rattle.delivery.specs.World.{World, Connection, Leftover, SenderState, Standing, nobody, new_sender, topic_at, connection_at, subscription_at, speaker, entry_at, start}
 use Rattle.delivery.specs.Events.{Event, happens, effect, answer, find_leftover, find_verdict, oldest_live, next_txn, flown, flying_answer, proposal_fault, proposed_by, propose_answer, cancelled_at, cancel_answer, learned_at, release_answer, handed, take_answer, left_by, leave_answer, closed_with}
@@ -23,9 +23,9 @@ use Rattle.delivery.proofs.Happening.{by_refusal}
 
 abbrev IsOwn : World → Event → Transaction → Type 0
 IsOwn w e txn =
-    (c : ℕ) × (sends : List Send) × (e ≡ Commits c sends) × (txn.sends ≡ sends) × (txn.id.sender.0 ≡ (connection_at w c).sender)
+    (c : ℕ) × (sends : List SentMessage) × (e ≡ Commits c sends) × (txn.sends ≡ sends) × (txn.id.sender.0 ≡ (connection_at w c).sender)
 
-own_case : (w : World) (c : ℕ) (sends : List Send) (txn : Transaction) → flying_answer w c sends ≡ Flying txn → IsOwn w (Commits c sends) txn
+own_case : (w : World) (c : ℕ) (sends : List SentMessage) (txn : Transaction) → flying_answer w c sends ≡ Flying txn → IsOwn w (Commits c sends) txn
 own_case w c [] txn e = cc
 own_case w c (first ∷ others) txn e =
     let d : next_txn w c (first ∷ others) ≡ txn = cc in
@@ -99,7 +99,7 @@ standing_kept senders connections c standing h =
 abbrev Speaks : World → Type 0
 Speaks w = Speak w.senders w.connections
 
-flown_speaks : (w : World) (c : ℕ) (sends : List Send) → Speaks w → Speaks (flown w c sends)
+flown_speaks : (w : World) (c : ℕ) (sends : List SentMessage) → Speaks w → Speaks (flown w c sends)
 flown_speaks w c [] h = h
 flown_speaks w c (first ∷ others) h = sender_kept w.senders w.connections (connection_at w c).sender _ h
 

@@ -2,16 +2,16 @@
 use Rattle.std.proofs.Common.{◌≡◌, ◌≢◌, ℕ, ◌==◌, Bool, cond, List, [], ◌∷◌, ◌++◌, set, Option, Some, None, refl, sym, ap, subst, ◌∙◌}
 use Rattle.std.proofs.lemmas.Bool.{eqb-true, eq-eqb}
 use Rattle.mcast_txn.specs.Stamp.{zero_stamp, greatest}
-use Rattle.mcast_txn.specs.Agreed.{Row}
+use Rattle.mcast_txn.specs.Agreed.{CommitRow}
 use Rattle.mcast_txn.specs.Ballot.{Decision}
 use Rattle.mcast_txn.specs.declared.id.Topic.{Topic}
 use Rattle.mcast_txn.specs.declared.id.TxnId.{TxnId}
-use Rattle.mcast_txn.specs.declared.send.Send.{Send}
+use Rattle.mcast_txn.specs.declared.draft.sent_message.SentMessage.{SentMessage}
 use Rattle.mcast_txn.specs.declared.stamp.Stamp.{Stamp}
 use Rattle.mcast_txn.proofs.Members.{at_set, at_set_within}
 use Rattle.mcast_group.specs.declared.fault.ProposeFault.{ProposeFault}
-use Rattle.mcast_group.specs.Span.{Item}
-use Rattle.mcast_group.specs.Topics.{Entry}
+use Rattle.mcast_txn.specs.Span.{Item}
+use Rattle.mcast_group.specs.Machine.{Entry}
 use Rattle.mcast_group.proofs.Parts.{not_true}
 use Rattle.delivery.specs.World.{World, Leftover, SenderState, new_sender, connection_at, speaker, entry_at, start}
 use Rattle.delivery.specs.Events.{Event, Outcome, happens, outcome, refusal, effect, flight_at, find_leftover, find_verdict, oldest_live, flown, proposal_fault, proposed_by, decided, cancelled_at, learned_at, handed, left_by, closed_with}
@@ -26,30 +26,30 @@ use Rattle.delivery.proofs.Happening.{Reached, by_refusal, checked, in_flight, s
 use Rattle.delivery.proofs.Accepting.{start_reached}
 
 -- one more row: it is the last of its own sender's, and no other's
-floor_push : (s : ℕ) (floor : Stamp) (rows : List Row) (r : Row) → floor_after s floor (rows ++ r ∷ []) ≡ cond (r.txn.id.sender.0 == s) r.stamp (floor_after s floor rows)
+floor_push : (s : ℕ) (floor : Stamp) (rows : List CommitRow) (r : CommitRow) → floor_after s floor (rows ++ r ∷ []) ≡ cond (r.txn.id.sender.0 == s) r.stamp (floor_after s floor rows)
 floor_push s floor [] r = refl
 floor_push s floor (q ∷ rows) r = floor_push s (cond (q.txn.id.sender.0 == s) q.stamp floor) rows r
 
-own_row : (s : ℕ) (rows : List Row) (r : Row) → r.txn.id.sender.0 ≡ s → floor_after s zero_stamp (rows ++ r ∷ []) ≡ r.stamp
+own_row : (s : ℕ) (rows : List CommitRow) (r : CommitRow) → r.txn.id.sender.0 ≡ s → floor_after s zero_stamp (rows ++ r ∷ []) ≡ r.stamp
 own_row s rows r e =
     floor_push s zero_stamp rows r ∙ ap (λ (b : Bool). cond b r.stamp (floor_after s zero_stamp rows)) (eq-eqb r.txn.id.sender.0 s e)
 
-other_row : (s : ℕ) (rows : List Row) (r : Row) → r.txn.id.sender.0 ≢ s → floor_after s zero_stamp (rows ++ r ∷ []) ≡ floor_after s zero_stamp rows
+other_row : (s : ℕ) (rows : List CommitRow) (r : CommitRow) → r.txn.id.sender.0 ≢ s → floor_after s zero_stamp (rows ++ r ∷ []) ≡ floor_after s zero_stamp rows
 other_row s rows r ne =
     floor_push s zero_stamp rows r
     ∙ ap (λ (b : Bool). cond b r.stamp (floor_after s zero_stamp rows)) (not_true (r.txn.id.sender.0 == s) refl (λ e. ne (eqb-true r.txn.id.sender.0 s e)))
 
 -- each sender's floor is that
-abbrev Floors : List SenderState → List Row → Type 0
+abbrev Floors : List SenderState → List CommitRow → Type 0
 Floors senders commits = (s : ℕ) → (sender_in senders s).floor ≡ floor_after s zero_stamp commits
 
 -- a sender that keeps its floor
-floor_kept : (senders : List SenderState) (commits : List Row) (s : ℕ) (x : SenderState) → x.floor ≡ (sender_in senders s).floor → Floors senders commits → Floors (set senders s x) commits
+floor_kept : (senders : List SenderState) (commits : List CommitRow) (s : ℕ) (x : SenderState) → x.floor ≡ (sender_in senders s).floor → Floors senders commits → Floors (set senders s x) commits
 floor_kept senders commits s x e h d =
     at_set (λ (z : SenderState). z.floor ≡ floor_after d zero_stamp commits) senders s d x new_sender
     (λ n. subst (λ (k : ℕ). x.floor ≡ floor_after k zero_stamp commits) (sym n) (e ∙ h s)) (h d)
 
-flown_floors : (w : World) (c : ℕ) (sends : List Send) → Floors w.senders w.commits → Floors (flown w c sends).senders (flown w c sends).commits
+flown_floors : (w : World) (c : ℕ) (sends : List SentMessage) → Floors w.senders w.commits → Floors (flown w c sends).senders (flown w c sends).commits
 flown_floors w c [] h = h
 flown_floors w c (first ∷ others) h = floor_kept w.senders w.commits (connection_at w c).sender _ refl h
 
@@ -82,7 +82,7 @@ decided_floors past w c r n h d =
     let fl = in_flight w c (checked w (Decides c) n).1.1.0 in
     let s = (connection_at w c).sender in let f = flight_at w c in
     let is : (speaker w c).flight ≡ Some f = fl.is ∙ ap Some (sym fl.at) in
-    let own = ((r.inv.serves s).flying f is).sender in let new : Row = row f.txn (greatest f.given) in
+    let own = ((r.inv.serves s).flying f is).sender in let new : CommitRow = row f.txn (greatest f.given) in
     let y : SenderState = record (speaker w c) { floor = greatest f.given; flight = None } in
     at_set_within (λ (z : SenderState). z.floor ≡ floor_after d zero_stamp (w.commits ++ new ∷ [])) w.senders s d y new_sender (within_senders w.senders s f is)
     (λ e. sym (own_row d w.commits new (own ∙ sym e)))

@@ -6,12 +6,12 @@ use Rattle.mcast_txn.specs.Part.{part_at}
 use Rattle.mcast_txn.specs.Ballot.{Decision}
 use Rattle.mcast_txn.specs.declared.id.Topic.{Topic}
 use Rattle.mcast_txn.specs.declared.id.TxnId.{TxnId}
-use Rattle.mcast_txn.specs.declared.send.Send.{Send}
+use Rattle.mcast_txn.specs.declared.draft.sent_message.SentMessage.{SentMessage}
 use Rattle.mcast_txn.specs.declared.stamp.Stamp.{Stamp}
 use Rattle.mcast_txn.proofs.Members.{at_set, at_set_within}
 use Rattle.mcast_group.specs.declared.fault.ProposeFault.{ProposeFault}
-use Rattle.mcast_group.specs.Span.{Item}
-use Rattle.mcast_group.specs.Topics.{TopicState, Pending, Entry, Ended, find_entry, ended, proposed, cancelled, learned, due_part, unsubscribed, decided_stamp}
+use Rattle.mcast_txn.specs.Span.{Item}
+use Rattle.mcast_group.specs.Machine.{TopicState, Pending, Entry, EntryEnd, find_entry, end_of, after_propose, after_cancel, after_learn, due_part, after_unsubscribe, decided_stamp}
 use Rattle.mcast_group.proofs.Parts.{some_same, none_some, not_true}
 use Rattle.mcast_group.proofs.Queues.{More, More-same}
 use Rattle.delivery.specs.World.{World, Leftover, Subscription, no_subscription, topic_at, speaker, subscription_at, entry_at, start, with_topic}
@@ -40,10 +40,10 @@ find_more n step number grows (e ∷ es) =
     subst (λ (k : ℕ). More (entry_items (cond (e.number == n) (Some e) (find_entry n es))) (entry_items (cond (k == n) (Some (step e)) (find_entry n (map step es))))) (sym (number e))
     (find_more_case (e.number == n) e (step e) (find_entry n es) (find_entry n (map step es)) (grows e) (find_more n step number grows es))
 
-abbrev pub items_by : Option Ended → Option Entry → List Item
+abbrev pub items_by : Option EntryEnd → Option Entry → List Item
 items_by closed entry = elim closed [ None ↦ entry_items entry | Some end ↦ end.accepted ]
 
-pub More-by : (closed : Option Ended) (a b : Option Entry) → More (entry_items a) (entry_items b) → More (items_by closed a) (items_by closed b)
+pub More-by : (closed : Option EntryEnd) (a b : Option Entry) → More (entry_items a) (entry_items b) → More (items_by closed a) (items_by closed b)
 More-by None a b h = h
 More-by (Some end) a b h = More-same end.accepted
 
@@ -126,18 +126,18 @@ find_kept s n (e ∷ es) ne = kept_case (e.number == s) s n e es ne refl (find_k
 pub More-equal : (xs ys : List Item) → ys ≡ xs → More xs ys
 More-equal xs ys e = subst (λ z. More xs z) (sym e) (More-same xs)
 
-pub ended_same : (frontier : Stamp) (n : ℕ) (from : Stamp) (to : Option Stamp) (accepted : List Item) → (ended frontier (record { number = n; from = from; to = to; accepted = accepted })).accepted ≡ accepted
+pub ended_same : (frontier : Stamp) (n : ℕ) (from : Stamp) (to : Option Stamp) (accepted : List Item) → (end_of frontier (record { number = n; from = from; to = to; accepted = accepted })).accepted ≡ accepted
 ended_same frontier n from None accepted = refl
 ended_same frontier n from (Some end) accepted = refl
 
-pub open_items : (closed : Option Ended) (entry : Option Entry) → closed ≡ None → items_by closed entry ≡ entry_items entry
+pub open_items : (closed : Option EntryEnd) (entry : Option Entry) → closed ≡ None → items_by closed entry ≡ entry_items entry
 open_items None entry e = refl
 open_items (Some end) entry e = none_some end (sym e)
 
 pub closed_grows : (past : List Outcome) (w : World) (s : ℕ) → Reached past w → (o : Option Entry) → entry_at w s ≡ o → Grows w (closed_with w s o)
 closed_grows past w s h None e = Grows-same w
 closed_grows past w s h (Some entry) e =
-    let t = (subscription_at w s).topic in let x = topic_in w.topics t in let y = unsubscribed s x in
+    let t = (subscription_at w s).topic in let x = topic_in w.topics t in let y = after_unsubscribe s x in
     let v = closed_with w s (Some entry) in
     let f = found_entry s x.subscriptions entry e in
     let own = subst (λ n. Owned w.subscriptions t n entry.from) f.is (h.inv.subscribes.owned t entry f.stands) in
@@ -146,8 +146,8 @@ closed_grows past w s h (Some entry) e =
       taken = λ r. at_set (λ (z : Subscription). z.taken ≡ (subscription_at w r).taken) w.subscriptions s r _ no_subscription
           (λ k. ap (λ n. (subscription_at w n).taken) (sym k)) refl;
       more = λ r l. at_set_within (λ (z : Subscription). More (accepted_at w r) (items_by z.closed (find_entry r (topic_in v.topics z.topic).subscriptions))) w.subscriptions s r _ no_subscription own.there
-          (λ k. subst (λ n. More (accepted_at w n) (ended x.frontier entry).accepted) (sym k)
-          (More-equal (accepted_at w s) (ended x.frontier entry).accepted
+          (λ k. subst (λ n. More (accepted_at w n) (end_of x.frontier entry).accepted) (sym k)
+          (More-equal (accepted_at w s) (end_of x.frontier entry).accepted
           (ended_same x.frontier entry.number entry.from entry.to entry.accepted
           ∙ sym (open_items (subscription_at w s).closed (entry_at w s) own.closed ∙ ap entry_items e))))
           (λ ne. More-by (subscription_at w r).closed (find_entry r (topic_in w.topics (subscription_at w r).topic).subscriptions) (find_entry r (topic_in v.topics (subscription_at w r).topic).subscriptions)
@@ -224,7 +224,7 @@ handed_handing past w s l h (Some i) e =
 
 -- ---- each event
 
-flown_handing : (past : List Outcome) (w : World) (c : ℕ) (sends : List Send) → Handing past w → Handing (flying_answer w c sends ∷ past) (flown w c sends)
+flown_handing : (past : List Outcome) (w : World) (c : ℕ) (sends : List SentMessage) → Handing past w → Handing (flying_answer w c sends ∷ past) (flown w c sends)
 flown_handing past w c [] h = record { held = h.held; fresh = h.fresh }
 flown_handing past w c (first ∷ others) h = record { held = h.held; fresh = h.fresh }
 
@@ -233,18 +233,18 @@ pending_same w t y e = Grows-topic w t y (entries_more (topic_in w.topics t) y (
 
 proposed_handing : (past : List Outcome) (w : World) (c : ℕ) (t : Topic) (o : Option ProposeFault) → Handing past w → Handing (propose_answer w c t o ∷ past) (proposed_by w c t o)
 proposed_handing past w c t None h =
-    let k = grown past w (with_topic w t (proposed (speaker w c).floor (part_at (flight_at w c).txn.id (flight_at w c).txn.sends t) (topic_at w t))) (pending_same w t _ refl) h in record { held = k.held; fresh = k.fresh }
+    let k = grown past w (with_topic w t (after_propose (speaker w c).floor (part_at (flight_at w c).txn.id (flight_at w c).txn.sends t) (topic_at w t))) (pending_same w t _ refl) h in record { held = k.held; fresh = k.fresh }
 proposed_handing past w c t (Some fault) h = record { held = h.held; fresh = h.fresh }
 
 cancelled_handing : (past : List Outcome) (w : World) (c : ℕ) (t : Topic) (o : Option Leftover) → Handing past w → Handing (cancel_answer t o ∷ past) (cancelled_at w c t o)
 cancelled_handing past w c t None h = record { held = h.held; fresh = h.fresh }
 cancelled_handing past w c t (Some k) h =
-    let g = grown past w (with_topic w t (cancelled k.id (topic_at w t))) (pending_same w t _ refl) h in record { held = g.held; fresh = g.fresh }
+    let g = grown past w (with_topic w t (after_cancel k.id (topic_at w t))) (pending_same w t _ refl) h in record { held = g.held; fresh = g.fresh }
 
 learned_handing : (past : List Outcome) (w : World) (t : Topic) (id : TxnId) (o : Option Decision) → Handing past w → Handing (Learnt id t ∷ past) (learned_at w t id o)
 learned_handing past w t id None h = record { held = h.held; fresh = h.fresh }
 learned_handing past w t id (Some v) h =
-    let g = grown past w (with_topic w t (learned id (decided_stamp v) (topic_at w t))) (pending_same w t _ refl) h in record { held = g.held; fresh = g.fresh }
+    let g = grown past w (with_topic w t (after_learn id (decided_stamp v) (topic_at w t))) (pending_same w t _ refl) h in record { held = g.held; fresh = g.fresh }
 
 released_handed : (n : ℕ) (t : Topic) (o : Option Pending) (past : List Outcome) → handed_of n (release_answer t o ∷ past) ≡ handed_of n past
 released_handed n t None past = refl

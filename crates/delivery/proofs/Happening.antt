@@ -5,18 +5,21 @@ use Rattle.std.proofs.lemmas.Bool.{true≢false, and_parts, ltb-true}
 use Rattle.mcast_txn.specs.Stamp.{greatest}
 use Rattle.mcast_txn.specs.Part.{part_at}
 use Rattle.mcast_txn.specs.Transaction.{topics_of}
-use Rattle.mcast_txn.specs.Agreed.{Transaction, Row, same_id, In, names}
+use Rattle.mcast_txn.specs.Agreed.{Transaction, CommitRow}
+use Rattle.mcast_txn.specs.Ids.{same_id}
+use Rattle.mcast_txn.specs.Lists.{In}
+use Rattle.mcast_txn.specs.TopicSet.{names}
 use Rattle.mcast_txn.specs.Ballot.{Decision}
 use Rattle.mcast_txn.specs.declared.id.Topic.{Topic}
 use Rattle.mcast_txn.specs.declared.id.TxnId.{TxnId}
-use Rattle.mcast_txn.specs.declared.send.Send.{Send}
+use Rattle.mcast_txn.specs.declared.draft.sent_message.SentMessage.{SentMessage}
 use Rattle.mcast_txn.proofs.Orders.{id_equal, id_itself}
 use Rattle.mcast_txn.proofs.Members.{at_set}
 use Rattle.mcast_group.specs.declared.fault.ProposeFault.{ProposeFault}
 use Rattle.mcast_group.specs.declared.fault.LearnFault.{LearnFault}
-use Rattle.mcast_group.specs.Checks.{first_refusal}
-use Rattle.mcast_group.specs.Span.{Item}
-use Rattle.mcast_group.specs.Topics.{Pending, Entry, propose_checks, propose_fault, is_pending, learned, due_part, release, turned, decided_stamp}
+use Rattle.mcast_txn.specs.Checks.{first_refusal}
+use Rattle.mcast_txn.specs.Span.{Item}
+use Rattle.mcast_group.specs.Machine.{Pending, Entry, propose_checks, propose_fault, is_pending, after_learn, due_part, after_release, after_turn, decided_stamp}
 use Rattle.mcast_group.proofs.Parts.{some_same, none_some, not_true}
 use Rattle.delivery.specs.declared.refusal.Refusal.{Refusal}
 use Rattle.delivery.specs.World.{World, Flight, Leftover, SenderState, topic_at, new_sender, connection_at, speaker, entry_at}
@@ -85,7 +88,7 @@ false_not false e = absurd (true≢false e)
 -- ---- tickets of a past
 
 -- each ticket with its transaction
-abbrev pub tickets : List Outcome → List Row
+abbrev pub tickets : List Outcome → List CommitRow
 tickets [] = []
 tickets (Ticket id ticket ∷ before) = row (made id before) ticket ∷ tickets before
 tickets (o ∷ before) = tickets before
@@ -110,7 +113,7 @@ pub verdict_found : (id : TxnId) (vs : List Decision) (u : Decision) → find_ve
 verdict_found id [] u e = cc
 verdict_found id (v ∷ vs) u e = find_verdict_case id v u vs (same_id v.id id) refl (verdict_found id vs u) e
 
-pub finds : (ts : List Row) (w : World) → Holds ts w → Finds w.commits (find_in w)
+pub finds : (ts : List CommitRow) (w : World) → Holds ts w → Finds w.commits (find_in w)
 finds ts w inv id v e =
     let f = verdict_found id w.verdicts v e in let k = inv.voted v f.0 in
     record { row = k.row; stands = k.stands; id_is = k.id_is; stamp_is = k.stamp_is }
@@ -149,7 +152,7 @@ made_new past txn = rw (id_itself txn.id) refl
 made_other : (past : List Outcome) (txn : Transaction) (id : TxnId) → same_id txn.id id ≡ false → made id (Flying txn ∷ past) ≡ made id past
 made_other past txn id e = rw e refl
 
-flown_reached : (past : List Outcome) (w : World) (c : ℕ) (sends : List Send) → Reached past w → Reached (flying_answer w c sends ∷ past) (flown w c sends)
+flown_reached : (past : List Outcome) (w : World) (c : ℕ) (sends : List SentMessage) → Reached past w → Reached (flying_answer w c sends ∷ past) (flown w c sends)
 flown_reached past w c [] h = record { inv = h.inv; flights = h.flights; commits = h.commits }
 flown_reached past w c (first ∷ others) h =
     let s = (connection_at w c).sender in let txn = next_txn w c (first ∷ others) in record {
@@ -248,7 +251,7 @@ decided_reached past w c h e =
     let s = (connection_at w c).sender in let f = flight_at w c in let k = fl.is ∙ ap Some (sym fl.at) in record {
       inv = decide_step (tickets past) w s f h.inv (record { flight = k; complete = false_not _ p.1.1.1.1.0 });
       flights = flights_fewer past w.senders _ (one_fewer w.senders s _ refl) h.flights;
-      commits = ap (λ (z : List Row). z ++ row (made f.txn.id past) (greatest f.given) ∷ []) h.commits
+      commits = ap (λ (z : List CommitRow). z ++ row (made f.txn.id past) (greatest f.given) ∷ []) h.commits
           ∙ ap (λ (z : Transaction). w.commits ++ row z (greatest f.given) ∷ []) (h.flights s f k);
     }
 
@@ -279,7 +282,7 @@ no_learn_fault (Some fault) e = none_some _ (sym e)
 learned_case : (past : List Outcome) (w : World) (t : Topic) (id : TxnId) → Reached past w → (o : Option Decision) → find_verdict id w.verdicts ≡ o → learning w t id o ≡ None → Holds (tickets past) (learned_at w t id o)
 learned_case past w t id h None f e = none_some _ (sym e)
 learned_case past w t id h (Some v) f e =
-    topic_step (tickets past) w t (learned id (decided_stamp v) (topic_at w t)) h.inv
+    topic_step (tickets past) w t (after_learn id (decided_stamp v) (topic_at w t)) h.inv
     (Keeps-learned (tickets past) w.commits t (topic_at w t) id v (h.inv.tied t) (no_learn_fault _ e) (finds (tickets past) w h.inv id v f))
 
 learned_same : (w : World) (t : Topic) (id : TxnId) (o : Option Decision) → ((learned_at w t id o).senders ≡ w.senders) × ((learned_at w t id o).commits ≡ w.commits)
@@ -347,13 +350,13 @@ happens_reached past w (Withdraws c) h e = withdrawn_reached past w c h e
 happens_reached past w (Cancels c t) h e = cancelled_case past w c t h (find_leftover t (speaker w c).leftovers) refl
 happens_reached past w (Learns t id) h e = unspoken past (effect w (Learns t id)) _ refl (λ id. refl) refl (learned_reached past w t id h e)
 happens_reached past w (Releases t) h e = released_unspoken past (effect w (Releases t)) t (due_part (topic_at w t)) (record {
-  inv = topic_step (tickets past) w t (release (takes w) (topic_at w t)) h.inv
+  inv = topic_step (tickets past) w t (after_release (takes w) (topic_at w t)) h.inv
       (Keeps-release (tickets past) w.commits t (takes w) (topic_at w t) h.inv.consistent (h.inv.tied t));
   flights = h.flights;
   commits = h.commits;
 })
 happens_reached past w (Turns t) h e = record {
-  inv = topic_step (tickets past) w t (turned (takes w) (find_in w) (topic_at w t)) h.inv
+  inv = topic_step (tickets past) w t (after_turn (takes w) (find_in w) (topic_at w t)) h.inv
       (Keeps-turned (tickets past) w.commits t (takes w) (find_in w) (topic_at w t) h.inv.consistent (finds (tickets past) w h.inv) (h.inv.tied t));
   flights = h.flights;
   commits = h.commits;

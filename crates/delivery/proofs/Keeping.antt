@@ -2,16 +2,18 @@
 use Rattle.std.proofs.Common.{◌≡◌, ℕ, ◌<◌, ◌≤◌, Bool, true, inl, inr, List, [], ◌∷◌, ◌++◌, map, set, Option, Some, None, refl, sym, ap, subst, ◌∙◌, arith}
 use Rattle.mcast_txn.specs.Part.{part_at}
 use Rattle.mcast_txn.specs.Transaction.{TopicPart, topics_of}
-use Rattle.mcast_txn.specs.Agreed.{Transaction, Row, In, names}
+use Rattle.mcast_txn.specs.Agreed.{Transaction, CommitRow}
+use Rattle.mcast_txn.specs.Lists.{In}
+use Rattle.mcast_txn.specs.TopicSet.{names}
 use Rattle.mcast_txn.specs.Ballot.{Decision}
 use Rattle.mcast_txn.specs.declared.id.Topic.{Topic}
 use Rattle.mcast_txn.specs.declared.id.TxnId.{TxnId}
 use Rattle.mcast_txn.specs.declared.stamp.Stamp.{Stamp}
 use Rattle.mcast_txn.proofs.Orders.{same_stamps, id_equal, id_same}
 use Rattle.mcast_txn.proofs.Members.{In-append_left, In-push, In-map, In-map_cases, at_set, push_one}
-use Rattle.mcast_group.specs.Span.{LogRow, Item}
+use Rattle.mcast_txn.specs.Span.{LogRow, Item}
 use Rattle.mcast_group.specs.Sound.{IsQueueOf}
-use Rattle.mcast_group.specs.Topics.{TopicState, Pending, Entry, new_topic, key, learned, learn_fault, without, delivered, released, release, row_of, item_of, turned, decided_stamp}
+use Rattle.mcast_group.specs.Machine.{TopicState, Pending, Entry, new_topic, key, after_learn, learn_fault, parts_without, entry_after, after_release_of, after_release, row_of, item_of, after_turn, decided_stamp}
 use Rattle.mcast_group.proofs.Parts.{Waits, Waits-told, Waits-without, each_told, Due, due_is, others, some_same}
 use Rattle.mcast_group.proofs.Queues.{Queue-closed, delivered_number, delivered_from, In-delivered_cases, More, More-same, More-then, More-delivered}
 use Rattle.mcast_group.proofs.Keeping.{Learns, learns_is, Sound-learned, Sound-released, next_of}
@@ -23,20 +25,20 @@ use Rattle.delivery.proofs.Invariant.{row, Consistent, Uncommitted, Ticketed, Co
 -- ---- the commit list and the tickets
 
 -- a transaction is committed with one stamp
-pub one_row : (ts cs : List Row) → Consistent ts cs → (r q : Row) → In r cs → In q cs → r.txn ≡ q.txn → r ≡ q
+pub one_row : (ts cs : List CommitRow) → Consistent ts cs → (r q : CommitRow) → In r cs → In q cs → r.txn ≡ q.txn → r ≡ q
 one_row ts cs all r q h k e =
     let a = all.greatest r q h (all.from_ticket q k) (sym e) in
     let b = all.greatest q r k (all.from_ticket r h) e in
     let same = same_stamps r.stamp q.stamp a b in
     ap (λ (x : Transaction). row x r.stamp) e ∙ ap (row q.txn) same
 
-pub one_commit : (ts cs : List Row) → Consistent ts cs → (r q : Row) → In r cs → In q cs → r.txn.id ≡ q.txn.id → r ≡ q
+pub one_commit : (ts cs : List CommitRow) → Consistent ts cs → (r q : CommitRow) → In r cs → In q cs → r.txn.id ≡ q.txn.id → r ≡ q
 one_commit ts cs all r q h k e =
     one_row ts cs all r q h k (all.one_id r q (all.from_ticket r h) (all.from_ticket q k) (id_same r.txn.id q.txn.id e))
 
 -- the committed row of a pending part that has learnt, as its log row and its item
-pub record PartRow (cs : List Row) (p : Pending) : Type 0 where
-  pub row : Row
+pub record PartRow (cs : List CommitRow) (p : Pending) : Type 0 where
+  pub row : CommitRow
   pub stands : In row cs
   pub id_is : row.txn.id ≡ p.part.id
   pub log_is : log_row row ≡ row_of p
@@ -55,10 +57,10 @@ item_of_part part stamp = record { id = part.id; stamp = stamp; sends = part.sen
 pub key_learnt : (p : Pending) (s : Stamp) → p.learnt ≡ Some s → key p ≡ s
 key_learnt p s e = ap (λ (o : Option Stamp). key (record p { learnt = o })) e
 
-pub key_unlearnt : (p : Pending) → p.learnt ≡ None → key p ≡ record { n = p.ticket; topic = p.part.topic }
+pub key_unlearnt : (p : Pending) → p.learnt ≡ None → key p ≡ record { n = p.number; topic = p.part.topic }
 key_unlearnt p e = ap (λ (o : Option Stamp). key (record p { learnt = o })) e
 
-pub part_row : (ts cs : List Row) (p : Pending) (s : Stamp) → Consistent ts cs → Ticketed ts p.part p.ticket → p.learnt ≡ Some s → Committed cs p.part.id s → PartRow cs p
+pub part_row : (ts cs : List CommitRow) (p : Pending) (s : Stamp) → Consistent ts cs → Ticketed ts p.part p.number → p.learnt ≡ Some s → Committed cs p.part.id s → PartRow cs p
 part_row ts cs p s all t e c =
     let a = t.ticket.txn in
     let ids : a.id ≡ c.row.txn.id = ap (λ (z : TopicPart). z.id) t.part_is ∙ sym c.id_is in
@@ -75,7 +77,7 @@ part_row ts cs p s all t e c =
     }
 
 -- a pending part's key is a ticket of its own transaction
-key_case : (ts cs : List Row) (p : Pending) → Consistent ts cs → (t : Ticketed ts p.part p.ticket) → ((s : Stamp) → p.learnt ≡ Some s → Committed cs p.part.id s) → (o : Option Stamp) → p.learnt ≡ o → In (row t.ticket.txn (key p)) ts
+key_case : (ts cs : List CommitRow) (p : Pending) → Consistent ts cs → (t : Ticketed ts p.part p.number) → ((s : Stamp) → p.learnt ≡ Some s → Committed cs p.part.id s) → (o : Option Stamp) → p.learnt ≡ o → In (row t.ticket.txn (key p)) ts
 key_case ts cs p all t c None e =
     subst (λ z. In (row t.ticket.txn z) ts) (t.stamp_is ∙ sym (key_unlearnt p e)) t.stands
 key_case ts cs p all t c (Some s) e =
@@ -84,7 +86,7 @@ key_case ts cs p all t c (Some s) e =
     let txn = all.one_id t.ticket k.row t.stands (all.from_ticket k.row k.stands) (id_same t.ticket.txn.id k.row.txn.id ids) in
     subst (λ z. In (row z (key p)) ts) (sym txn) (subst (λ z. In (row k.row.txn z) ts) (k.stamp_is ∙ sym (key_learnt p s e)) (all.from_ticket k.row k.stands))
 
-pub key_ticket : (ts cs : List Row) (t : Topic) (x : TopicState) (p : Pending) → Consistent ts cs → (h : Tied ts cs t x) → (i : In p x.pending) → In (row (h.ticketed p i).ticket.txn (key p)) ts
+pub key_ticket : (ts cs : List CommitRow) (t : Topic) (x : TopicState) (p : Pending) → Consistent ts cs → (h : Tied ts cs t x) → (i : In p x.pending) → In (row (h.ticketed p i).ticket.txn (key p)) ts
 key_ticket ts cs t x p all h i = key_case ts cs p all (h.ticketed p i) (h.decided p i) p.learnt refl
 
 -- ---- steps
@@ -118,16 +120,16 @@ Entries-then x y z a b = record {
 }
 
 -- from x to y at topic t
-pub record Keeps (ts cs : List Row) (t : Topic) (x y : TopicState) : Type 0 where
+pub record Keeps (ts cs : List CommitRow) (t : Topic) (x y : TopicState) : Type 0 where
   pub tied : Tied ts cs t y
   pub waits : (id : TxnId) → Uncommitted cs id → Waits id x.pending → Waits id y.pending
   pub entries : Entries x y
   pub queues : (from end : Stamp) (accepted : List Item) → IsQueueOf x.base x.frontier x.held from (Some end) accepted → IsQueueOf y.base y.frontier y.held from (Some end) accepted
 
-pub Keeps-same : (ts cs : List Row) (t : Topic) (x : TopicState) → Tied ts cs t x → Keeps ts cs t x x
+pub Keeps-same : (ts cs : List CommitRow) (t : Topic) (x : TopicState) → Tied ts cs t x → Keeps ts cs t x x
 Keeps-same ts cs t x h = record { tied = h; waits = λ id u v. v; entries = Entries-same x x refl; queues = λ from end accepted q. q }
 
-pub Keeps-then : (ts cs : List Row) (t : Topic) (x y z : TopicState) → Keeps ts cs t x y → Keeps ts cs t y z → Keeps ts cs t x z
+pub Keeps-then : (ts cs : List CommitRow) (t : Topic) (x y z : TopicState) → Keeps ts cs t x y → Keeps ts cs t y z → Keeps ts cs t x z
 Keeps-then ts cs t x y z a b = record {
   tied = b.tied;
   waits = λ id u v. b.waits id u (a.waits id u v);
@@ -135,11 +137,11 @@ Keeps-then ts cs t x y z a b = record {
   queues = λ from end accepted q. b.queues from end accepted (a.queues from end accepted q);
 }
 
-pub Tied-learned : (ts cs : List Row) (t : Topic) (x : TopicState) (id : TxnId) (v : Decision) → Tied ts cs t x → Learns id v x → Committed cs v.id (decided_stamp v) → Tied ts cs t (learned id (decided_stamp v) x)
+pub Tied-learned : (ts cs : List CommitRow) (t : Topic) (x : TopicState) (id : TxnId) (v : Decision) → Tied ts cs t x → Learns id v x → Committed cs v.id (decided_stamp v) → Tied ts cs t (after_learn id (decided_stamp v) x)
 Tied-learned ts cs t x id v h l c = record {
   topic = h.topic;
   given = λ a k e. let m : a.stamp.n ≤ x.clock = h.given a k e in omega arith;
-  ticketed = each_told id (decided_stamp v) x.pending (λ q. Ticketed ts q.part q.ticket) (λ p k e. h.ticketed p k) (λ p k e. h.ticketed p k);
+  ticketed = each_told id (decided_stamp v) x.pending (λ q. Ticketed ts q.part q.number) (λ p k e. h.ticketed p k) (λ p k e. h.ticketed p k);
   decided = each_told id (decided_stamp v) x.pending (λ q. (s : Stamp) → q.learnt ≡ Some s → Committed cs q.part.id s) (λ p k e. h.decided p k)
       (λ p k e s d. record {
         row = c.row;
@@ -154,15 +156,15 @@ Tied-learned ts cs t x id v h l c = record {
   sound = Sound-learned id v x h.sound l;
 }
 
-pub Keeps-learned : (ts cs : List Row) (t : Topic) (x : TopicState) (id : TxnId) (v : Decision) → Tied ts cs t x → learn_fault id v x ≡ None → Committed cs v.id (decided_stamp v) → Keeps ts cs t x (learned id (decided_stamp v) x)
+pub Keeps-learned : (ts cs : List CommitRow) (t : Topic) (x : TopicState) (id : TxnId) (v : Decision) → Tied ts cs t x → learn_fault id v x ≡ None → Committed cs v.id (decided_stamp v) → Keeps ts cs t x (after_learn id (decided_stamp v) x)
 Keeps-learned ts cs t x id v h e c = record {
   tied = Tied-learned ts cs t x id v h (learns_is id v x e) c;
   waits = λ other u w. Waits-told id (decided_stamp v) other x.pending w;
-  entries = Entries-same x (learned id (decided_stamp v) x) refl;
+  entries = Entries-same x (after_learn id (decided_stamp v) x) refl;
   queues = λ from end accepted q. q;
 }
 
-pub Tied-released : (ts cs : List Row) (t : Topic) (x : TopicState) (takes : Entry → Bool) (p : Pending) → Consistent ts cs → Tied ts cs t x → Due p x → Tied ts cs t (released takes p x)
+pub Tied-released : (ts cs : List CommitRow) (t : Topic) (x : TopicState) (takes : Entry → Bool) (p : Pending) → Consistent ts cs → Tied ts cs t x → Due p x → Tied ts cs t (after_release_of takes p x)
 Tied-released ts cs t x takes p all h due =
     let i = due.least.stands in
     let r = part_row ts cs p due.stamp all (h.ticketed p i) due.learnt (h.decided p i due.stamp due.learnt) in
@@ -183,7 +185,7 @@ Tied-released ts cs t x takes p all h due =
           | inr v ↦ inr v
         ]
       ];
-      items = λ e k j l. let m = In-map_cases (delivered takes x.frontier (item_of p)) e x.subscriptions k in
+      items = λ e k j l. let m = In-map_cases (entry_after takes x.frontier (item_of p)) e x.subscriptions k in
           elim (In-delivered_cases takes x.frontier (item_of p) m.from j (subst (λ (z : Entry). In j z.accepted) (sym m.is) l)) [
             | inl o ↦ h.items m.from m.stands j o
             | inr d ↦ record { row = r.row; stands = r.stands; is = ap (λ z. item_at z r.row) (sym here) ∙ (r.item_is ∙ d); named = subst (λ z. names z (topics_of r.row.txn.sends) ≡ true) here r.named }
@@ -192,7 +194,7 @@ Tied-released ts cs t x takes p all h due =
       sound = Sound-released takes p x h.sound due;
     }
 
-released_waits : (ts cs : List Row) (t : Topic) (x : TopicState) (p : Pending) → Consistent ts cs → Tied ts cs t x → Due p x → (id : TxnId) → Uncommitted cs id → Waits id x.pending → Waits id (without p.part.id x.pending)
+released_waits : (ts cs : List CommitRow) (t : Topic) (x : TopicState) (p : Pending) → Consistent ts cs → Tied ts cs t x → Due p x → (id : TxnId) → Uncommitted cs id → Waits id x.pending → Waits id (parts_without p.part.id x.pending)
 released_waits ts cs t x p all h due id u w =
     elim (Waits-without p.part.id id x.pending w) [
       | inl s ↦ (let c = h.decided p due.least.stands due.stamp due.learnt in
@@ -200,12 +202,12 @@ released_waits ts cs t x p all h due id u w =
       | inr k ↦ k
     ]
 
-pub Keeps-released : (ts cs : List Row) (t : Topic) (x : TopicState) (takes : Entry → Bool) (p : Pending) → Consistent ts cs → Tied ts cs t x → Due p x → Keeps ts cs t x (released takes p x)
+pub Keeps-released : (ts cs : List CommitRow) (t : Topic) (x : TopicState) (takes : Entry → Bool) (p : Pending) → Consistent ts cs → Tied ts cs t x → Due p x → Keeps ts cs t x (after_release_of takes p x)
 Keeps-released ts cs t x takes p all h due = record {
   tied = Tied-released ts cs t x takes p all h due;
   waits = released_waits ts cs t x p all h due;
   entries = record {
-    step = delivered takes x.frontier (item_of p);
+    step = entry_after takes x.frontier (item_of p);
     are = refl;
     number = delivered_number takes x.frontier (item_of p);
     from = delivered_from takes x.frontier (item_of p);
@@ -214,19 +216,19 @@ Keeps-released ts cs t x takes p all h due = record {
   queues = λ from end accepted q. Queue-closed x.base x.frontier x.held from end accepted (row_of p) (item_of p) (next_of x p h.sound due.least.stands) q;
 }
 
-pub Keeps-release : (ts cs : List Row) (t : Topic) (takes : Entry → Bool) (x : TopicState) → Consistent ts cs → Tied ts cs t x → Keeps ts cs t x (release takes x)
+pub Keeps-release : (ts cs : List CommitRow) (t : Topic) (takes : Entry → Bool) (x : TopicState) → Consistent ts cs → Tied ts cs t x → Keeps ts cs t x (after_release takes x)
 Keeps-release ts cs t takes x all h =
     release_keeps (Keeps ts cs t x) takes x (Keeps-same ts cs t x h) (λ p e. Keeps-released ts cs t x takes p all h (due_is x p e))
 
 -- what is found is a verdict of the commit list
-abbrev pub Finds : List Row → (TxnId → Option Decision) → Type 0
+abbrev pub Finds : List CommitRow → (TxnId → Option Decision) → Type 0
 Finds cs find = (id : TxnId) (v : Decision) → find id ≡ Some v → Committed cs v.id (decided_stamp v)
 
-pub Keeps-turned : (ts cs : List Row) (t : Topic) (takes : Entry → Bool) (find : TxnId → Option Decision) (x : TopicState) → Consistent ts cs → Finds cs find → Tied ts cs t x → Keeps ts cs t x (turned takes find x)
+pub Keeps-turned : (ts cs : List CommitRow) (t : Topic) (takes : Entry → Bool) (find : TxnId → Option Decision) (x : TopicState) → Consistent ts cs → Finds cs find → Tied ts cs t x → Keeps ts cs t x (after_turn takes find x)
 Keeps-turned ts cs t takes find x all finds h =
     turn_keeps (Keeps ts cs t x) takes find
-    (λ y id v f e k. Keeps-then ts cs t x y (learned id (decided_stamp v) y) k (Keeps-learned ts cs t y id v k.tied e (finds id v f)))
-    (λ y p e k. Keeps-then ts cs t x y (released takes p y) k (Keeps-released ts cs t y takes p all k.tied (due_is y p e)))
+    (λ y id v f e k. Keeps-then ts cs t x y (after_learn id (decided_stamp v) y) k (Keeps-learned ts cs t y id v k.tied e (finds id v f)))
+    (λ y p e k. Keeps-then ts cs t x y (after_release_of takes p y) k (Keeps-released ts cs t y takes p all k.tied (due_is y p e)))
     x (Keeps-same ts cs t x h)
 
 -- ---- in the world
@@ -248,7 +250,7 @@ at_topic_from P topics t u y h k =
     at_set (P u) topics t.0 u.0 y (new_topic u 0 0)
     (λ e. subst (λ z. P z y) (sym (same_topic u t e)) (h (subst (λ z. P z (topic_in topics z)) (same_topic u t e) k))) k
 
-pub flies_uncommitted : (ts cs : List Row) (topics : List TopicState) (s seq : ℕ) (floor : Stamp) (f : Flight) → Flies ts cs topics s seq floor f → Uncommitted cs f.txn.id
+pub flies_uncommitted : (ts cs : List CommitRow) (topics : List TopicState) (s seq : ℕ) (floor : Stamp) (f : Flight) → Flies ts cs topics s seq floor f → Uncommitted cs f.txn.id
 flies_uncommitted ts cs topics s seq floor f h r k e =
     let d = id_equal r.txn.id f.txn.id e in
     let l : r.txn.id.seq < f.txn.id.seq = h.newest r k (ap (λ (z : TxnId). z.sender.0) d ∙ h.sender) in
@@ -256,7 +258,7 @@ flies_uncommitted ts cs topics s seq floor f h r k e =
     absurd (omega arith)
 
 -- the senders, where no uncommitted part is lost
-pub Serves-topics : (ts cs : List Row) (topics others : List TopicState) (s : ℕ) (x : SenderState) → ((id : TxnId) (t : Topic) → Uncommitted cs id → Waits id (topic_in topics t).pending → Waits id (topic_in others t).pending) → Serves ts cs topics s x → Serves ts cs others s x
+pub Serves-topics : (ts cs : List CommitRow) (topics others : List TopicState) (s : ℕ) (x : SenderState) → ((id : TxnId) (t : Topic) → Uncommitted cs id → Waits id (topic_in topics t).pending → Waits id (topic_in others t).pending) → Serves ts cs topics s x → Serves ts cs others s x
 Serves-topics ts cs topics others s x keep h = record {
   used = h.used;
   floored = h.floored;
@@ -306,7 +308,7 @@ one_step x y en h e f i j d =
     let b : n.from.number ≡ f.number = sym (en.number n.from) ∙ ap (λ (z : Entry). z.number) n.is in
     sym m.is ∙ (ap en.step (h m.from n.from m.stands n.stands (a ∙ (d ∙ sym b))) ∙ n.is)
 
-pub Subscribes-topic : (cs : List Row) (topics : List TopicState) (subs : List Subscription) (t : Topic) (y : TopicState) → Entries (topic_in topics t) y → ((from end : Stamp) (accepted : List Item) → let x = topic_in topics t in IsQueueOf x.base x.frontier x.held from (Some end) accepted → IsQueueOf y.base y.frontier y.held from (Some end) accepted) → Subscribes cs topics subs → Subscribes cs (set topics t.0 y) subs
+pub Subscribes-topic : (cs : List CommitRow) (topics : List TopicState) (subs : List Subscription) (t : Topic) (y : TopicState) → Entries (topic_in topics t) y → ((from end : Stamp) (accepted : List Item) → let x = topic_in topics t in IsQueueOf x.base x.frontier x.held from (Some end) accepted → IsQueueOf y.base y.frontier y.held from (Some end) accepted) → Subscribes cs topics subs → Subscribes cs (set topics t.0 y) subs
 Subscribes-topic cs topics subs t y en queues h = record {
   live = λ s l c. at_topic_from (λ u z. HasEntry s (sub_in subs s).from z) topics t (sub_in subs s).topic y
       (entry_step (topic_in topics t) y s (sub_in subs s).from en) (h.live s l c);
@@ -319,7 +321,7 @@ Subscribes-topic cs topics subs t y en queues h = record {
 }
 
 -- a step of one topic keeps all
-pub topic_step : (ts : List Row) (w : World) (t : Topic) (y : TopicState) → Holds ts w → Keeps ts w.commits t (topic_in w.topics t) y → Inv ts w.commits w.verdicts (set w.topics t.0 y) w.senders w.subscriptions
+pub topic_step : (ts : List CommitRow) (w : World) (t : Topic) (y : TopicState) → Holds ts w → Keeps ts w.commits t (topic_in w.topics t) y → Inv ts w.commits w.verdicts (set w.topics t.0 y) w.senders w.subscriptions
 topic_step ts w t y inv k = record {
   consistent = inv.consistent;
   tied = λ u. at_topic (λ v z. Tied ts w.commits v z) w.topics t u y k.tied (inv.tied u);

@@ -5,12 +5,12 @@ use Rattle.mcast_txn.specs.Part.{part_at}
 use Rattle.mcast_txn.specs.Ballot.{Decision}
 use Rattle.mcast_txn.specs.declared.id.Topic.{Topic}
 use Rattle.mcast_txn.specs.declared.id.TxnId.{TxnId}
-use Rattle.mcast_txn.specs.declared.send.Send.{Send}
+use Rattle.mcast_txn.specs.declared.draft.sent_message.SentMessage.{SentMessage}
 use Rattle.mcast_txn.specs.declared.stamp.Stamp.{Stamp}
 use Rattle.mcast_txn.proofs.Members.{at_set, at_set_within}
 use Rattle.mcast_group.specs.declared.fault.ProposeFault.{ProposeFault}
-use Rattle.mcast_group.specs.Span.{Item}
-use Rattle.mcast_group.specs.Topics.{TopicState, Entry, find_entry, ended, proposed, cancelled, learned, unsubscribed, decided_stamp}
+use Rattle.mcast_txn.specs.Span.{Item}
+use Rattle.mcast_group.specs.Machine.{TopicState, Entry, find_entry, end_of, after_propose, after_cancel, after_learn, after_unsubscribe, decided_stamp}
 use Rattle.mcast_group.proofs.Parts.{some_same, none_some}
 use Rattle.delivery.specs.World.{World, Leftover, Subscription, no_subscription, topic_at, speaker, subscription_at, entry_at, with_topic}
 use Rattle.delivery.specs.Reading.{accepted_at, end_at}
@@ -49,21 +49,21 @@ added_ends w clock s end new =
     let x = subscription_at w s in
     none_some end (sym new.0 ∙ (ap (end_by x.closed) (sym (at_added (λ u z. find_entry s z.subscriptions ≡ find_entry s (topic_in w.topics u).subscriptions) w.topics w.log_limit clock x.topic (λ k. k) refl)) ∙ new.1))
 
-flown_ends : (w : World) (c : ℕ) (sends : List Send) (s : ℕ) (end : Stamp) → New w s end (flown w c sends) → Prim.⊥
+flown_ends : (w : World) (c : ℕ) (sends : List SentMessage) (s : ℕ) (end : Stamp) → New w s end (flown w c sends) → Prim.⊥
 flown_ends w c [] s end new = same_topics w s end new
 flown_ends w c (first ∷ others) s end new = same_topics w s end new
 
 proposed_ends : (w : World) (c : ℕ) (t : Topic) (o : Option ProposeFault) (s : ℕ) (end : Stamp) → New w s end (proposed_by w c t o) → Prim.⊥
-proposed_ends w c t None s end new = same_ends w t (proposed (speaker w c).floor (part_at (flight_at w c).txn.id (flight_at w c).txn.sends t) (topic_at w t)) s end refl new
+proposed_ends w c t None s end new = same_ends w t (after_propose (speaker w c).floor (part_at (flight_at w c).txn.id (flight_at w c).txn.sends t) (topic_at w t)) s end refl new
 proposed_ends w c t (Some fault) s end new = same_topics w s end new
 
 cancelled_ends : (w : World) (c : ℕ) (t : Topic) (o : Option Leftover) (s : ℕ) (end : Stamp) → New w s end (cancelled_at w c t o) → Prim.⊥
 cancelled_ends w c t None s end new = same_topics w s end new
-cancelled_ends w c t (Some k) s end new = same_ends w t (cancelled k.id (topic_at w t)) s end refl new
+cancelled_ends w c t (Some k) s end new = same_ends w t (after_cancel k.id (topic_at w t)) s end refl new
 
 learned_ends : (w : World) (t : Topic) (id : TxnId) (o : Option Decision) (s : ℕ) (end : Stamp) → New w s end (learned_at w t id o) → Prim.⊥
 learned_ends w t id None s end new = same_topics w s end new
-learned_ends w t id (Some v) s end new = same_ends w t (learned id (decided_stamp v) (topic_at w t)) s end refl new
+learned_ends w t id (Some v) s end new = same_ends w t (after_learn id (decided_stamp v) (topic_at w t)) s end refl new
 
 handed_ends : (w : World) (q : ℕ) (o : Option Item) (s : ℕ) (end : Stamp) → New w s end (handed w q o) → Prim.⊥
 handed_ends w q None s end new = same_topics w s end new
@@ -75,8 +75,8 @@ handed_ends w q (Some item) s end new =
 closed_other : (past : List Outcome) (w : World) (q s : ℕ) (end : Stamp) → Reached past w → (o : Option Entry) → entry_at w q ≡ o → (s ≢ q) → New w s end (closed_with w q o) → Prim.⊥
 closed_other past w q s end r None e ne new = same_topics w s end new
 closed_other past w q s end r (Some entry) e ne new =
-    let t = (subscription_at w q).topic in let x = topic_in w.topics t in let y = unsubscribed q x in
-    let v = closed_with w q (Some entry) in let left = ended x.frontier entry in let z = subscription_at w s in
+    let t = (subscription_at w q).topic in let x = topic_in w.topics t in let y = after_unsubscribe q x in
+    let v = closed_with w q (Some entry) in let left = end_of x.frontier entry in let z = subscription_at w s in
     let f = found_entry q x.subscriptions entry e in
     let own = subst (λ n. Owned w.subscriptions t n entry.from) f.is (r.inv.subscribes.owned t entry f.stands) in
     none_some end (sym new.0 ∙ (sym (at_set_within (λ (a : Subscription). end_in v.topics s a ≡ end_at w s) w.subscriptions q s (record (subscription_at w q) { closed = Some left }) no_subscription own.there

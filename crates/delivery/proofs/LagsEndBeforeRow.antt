@@ -5,8 +5,8 @@ use Rattle.mcast_txn.specs.Stamp.{zero_stamp}
 use Rattle.mcast_txn.specs.Ballot.{Decision}
 use Rattle.mcast_txn.specs.declared.id.TxnId.{TxnId}
 use Rattle.mcast_txn.specs.declared.stamp.Stamp.{Stamp}
-use Rattle.mcast_group.specs.Span.{LogRow, Item, last_stamp}
-use Rattle.mcast_group.specs.Topics.{TopicState, Pending, Entry, Ended, find_entry, delivered, released, release, turned, row_of, item_of}
+use Rattle.mcast_txn.specs.Span.{LogRow, Item, last_stamp}
+use Rattle.mcast_group.specs.Machine.{TopicState, Pending, Entry, EntryEnd, find_entry, entry_after, after_release_of, after_release, after_turn, row_of, item_of}
 use Rattle.mcast_group.proofs.Parts.{some_same, none_some}
 use Rattle.mcast_group.proofs.Queues.{delivered_number}
 use Rattle.mcast_group.proofs.Turning.{release_keeps, turn_keeps}
@@ -45,7 +45,7 @@ given_to : (b : Bool) (frontier end : Stamp) (number : ℕ) (from : Stamp) (acce
 given_to true frontier end number from accepted items e = none_some end e
 given_to false frontier end number from accepted items e = some_same frontier end e
 
-delivered_to : (accepts : Entry → Bool) (frontier end : Stamp) (item : Item) (number : ℕ) (from : Stamp) (to : Option Stamp) (accepted : List Item) → (delivered accepts frontier item (record { number = number; from = from; to = to; accepted = accepted })).to ≡ Some end → (to ≡ Some end) ⊎ (frontier ≡ end)
+delivered_to : (accepts : Entry → Bool) (frontier end : Stamp) (item : Item) (number : ℕ) (from : Stamp) (to : Option Stamp) (accepted : List Item) → (entry_after accepts frontier item (record { number = number; from = from; to = to; accepted = accepted })).to ≡ Some end → (to ≡ Some end) ⊎ (frontier ≡ end)
 delivered_to accepts frontier end item number from None accepted e =
     inr (given_to (accepts (record { number = number; from = from; to = None; accepted = accepted })) frontier end number from accepted (accepted ++ item ∷ []) e)
 delivered_to accepts frontier end item number from (Some old) accepted e = inl e
@@ -55,10 +55,10 @@ found_case : (frontier end : Stamp) (b : Bool) (e f : Entry) (o p : Option Entry
 found_case frontier end true e f o p h k d = h d
 found_case frontier end false e f o p h k d = k d
 
-found_to : (accepts : Entry → Bool) (frontier end : Stamp) (item : Item) (n : ℕ) (es : List Entry) → entry_to (find_entry n (map (delivered accepts frontier item) es)) ≡ Some end → (entry_to (find_entry n es) ≡ Some end) ⊎ (frontier ≡ end)
+found_to : (accepts : Entry → Bool) (frontier end : Stamp) (item : Item) (n : ℕ) (es : List Entry) → entry_to (find_entry n (map (entry_after accepts frontier item) es)) ≡ Some end → (entry_to (find_entry n es) ≡ Some end) ⊎ (frontier ≡ end)
 found_to accepts frontier end item n [] d = none_some end d
 found_to accepts frontier end item n (e ∷ es) d =
-    let f = delivered accepts frontier item e in let o = find_entry n es in let p = find_entry n (map (delivered accepts frontier item) es) in
+    let f = entry_after accepts frontier item e in let o = find_entry n es in let p = find_entry n (map (entry_after accepts frontier item) es) in
     found_case frontier end (e.number == n) e f o p (delivered_to accepts frontier end item e.number e.from e.to e.accepted)
     (found_to accepts frontier end item n es)
     (subst (λ (k : ℕ). entry_to (cond (k == n) (Some f) p) ≡ Some end) (delivered_number accepts frontier item e) d)
@@ -73,7 +73,7 @@ longer xs ys end r h = record {
   end_is = h.end_is;
 }
 
-Lags-released : (accepts : Entry → Bool) (x y : TopicState) (p : Pending) → Lags x y → Lags x (released accepts p y)
+Lags-released : (accepts : Entry → Bool) (x y : TopicState) (p : Pending) → Lags x y → Lags x (after_release_of accepts p y)
 Lags-released accepts x y p h = record {
   rows = h.rows ++ row_of p ∷ [];
   log = ap (λ (z : List LogRow). z ++ row_of p ∷ []) h.log ∙ append_assoc x.held h.rows (row_of p ∷ []);
@@ -90,10 +90,10 @@ Lags-released accepts x y p h = record {
   ];
 }
 
-release_lags : (accepts : Entry → Bool) (x : TopicState) → x.frontier ≡ last_stamp zero_stamp x.held → Lags x (release accepts x)
+release_lags : (accepts : Entry → Bool) (x : TopicState) → x.frontier ≡ last_stamp zero_stamp x.held → Lags x (after_release accepts x)
 release_lags accepts x f = release_keeps (Lags x) accepts x (Lags-same x f) (λ p e. Lags-released accepts x x p (Lags-same x f))
 
-turned_lags : (accepts : Entry → Bool) (find : TxnId → Option Decision) (x : TopicState) → x.frontier ≡ last_stamp zero_stamp x.held → Lags x (turned accepts find x)
+turned_lags : (accepts : Entry → Bool) (find : TxnId → Option Decision) (x : TopicState) → x.frontier ≡ last_stamp zero_stamp x.held → Lags x (after_turn accepts find x)
 turned_lags accepts find x f =
     turn_keeps (Lags x) accepts find
     (λ y id v e n h. record { rows = h.rows; log = h.log; frontier = h.frontier; ends = h.ends })
@@ -102,7 +102,7 @@ turned_lags accepts find x f =
 
 -- ---- the core
 
-open_ends : (end : Stamp) (closed : Option Ended) (a b : Option Entry) → end_by closed a ≡ None → end_by closed b ≡ Some end → (entry_to a ≡ None) × (entry_to b ≡ Some end)
+open_ends : (end : Stamp) (closed : Option EntryEnd) (a b : Option Entry) → end_by closed a ≡ None → end_by closed b ≡ Some end → (entry_to a ≡ None) × (entry_to b ≡ Some end)
 open_ends end None a b n d = (n, d)
 open_ends end (Some left) a b n d = none_some left.to (sym n)
 
@@ -127,7 +127,7 @@ lags_end_before_row r e s end none some lag =
     elim (ends_are_told r e s end none some) [
       | inl d ↦ absurd (lag d)
       | inr (inl d, full) ↦ subst (λ z. end_at (happens w z) s ≡ Some end → EndsBeforeRow (log_at w t) (log_at (happens w z) t) end) (sym d)
-          (step_lags w (Releases t) s end (release (takes w) x) refl (release_lags (takes w) x f) none) some
+          (step_lags w (Releases t) s end (after_release (takes w) x) refl (release_lags (takes w) x f) none) some
       | inr (inr d, full) ↦ subst (λ z. end_at (happens w z) s ≡ Some end → EndsBeforeRow (log_at w t) (log_at (happens w z) t) end) (sym d)
-          (step_lags w (Turns t) s end (turned (takes w) (find_in w) x) refl (turned_lags (takes w) (find_in w) x f) none) some
+          (step_lags w (Turns t) s end (after_turn (takes w) (find_in w) x) refl (turned_lags (takes w) (find_in w) x f) none) some
     ]

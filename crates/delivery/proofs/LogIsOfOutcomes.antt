@@ -6,19 +6,20 @@ use Rattle.std.proofs.lemmas.List.{get_or-set_same, length-append, take-map}
 use Rattle.mcast_txn.specs.Stamp.{stamp_lt}
 use Rattle.mcast_txn.specs.Part.{part_at}
 use Rattle.mcast_txn.specs.Transaction.{topics_of}
-use Rattle.mcast_txn.specs.Agreed.{Row, In, names, stamp_of, agreed, Rises}
+use Rattle.mcast_txn.specs.Agreed.{CommitRow, stamp_of, agreed}
+use Rattle.mcast_txn.specs.Lists.{In, Rises}
+use Rattle.mcast_txn.specs.TopicSet.{names}
 use Rattle.mcast_txn.specs.Ballot.{Decision}
 use Rattle.mcast_txn.specs.declared.id.Topic.{Topic}
 use Rattle.mcast_txn.specs.declared.id.TxnId.{TxnId}
-use Rattle.mcast_txn.specs.declared.send.Send.{Send}
+use Rattle.mcast_txn.specs.declared.draft.sent_message.SentMessage.{SentMessage}
 use Rattle.mcast_txn.specs.declared.stamp.Stamp.{Stamp}
 use Rattle.mcast_txn.proofs.Orders.{lt_asym, le_lt}
 use Rattle.mcast_txn.proofs.Members.{In-map, In-map_cases, In-filter, In-filter_cases, at_set}
 use Rattle.mcast_txn.proofs.Sorting.{In-sorted, In-sorted_cases, Rises-sorted, Rises-filter, Rises-map, same_rising}
 use Rattle.mcast_group.specs.declared.fault.ProposeFault.{ProposeFault}
-use Rattle.mcast_group.specs.Span.{LogRow, Item}
-use Rattle.mcast_group.specs.Sound.{row_stamp}
-use Rattle.mcast_group.specs.Topics.{TopicState, Pending, Entry, new_topic, due_part, proposed, cancelled, learned, unsubscribed, released_if, turned, row_of, decided_stamp}
+use Rattle.mcast_txn.specs.Span.{LogRow, Item, row_stamp}
+use Rattle.mcast_group.specs.Machine.{TopicState, Pending, Entry, new_topic, due_part, after_propose, after_cancel, after_learn, after_unsubscribe, after_release_if, after_turn, row_of, decided_stamp}
 use Rattle.mcast_group.proofs.Parts.{map_length}
 use Rattle.mcast_group.proofs.Turns.{turn_grows}
 use Rattle.delivery.specs.Due.{log_row}
@@ -38,7 +39,7 @@ use Rattle.delivery.proofs.Accepting.{reached, at_new, frontier_is, in_log}
 
 -- ---- the log beside the agreed sequence
 
-log_is : (ts : List Row) (w : World) (t : Topic) → Holds ts w → let x = topic_in w.topics t in x.held ≡ map log_row (filter (is_logged t x.frontier) (agreed w.commits))
+log_is : (ts : List CommitRow) (w : World) (t : Topic) → Holds ts w → let x = topic_in w.topics t in x.held ≡ map log_row (filter (is_logged t x.frontier) (agreed w.commits))
 log_is ts w t inv =
     let x = topic_in w.topics t in
     same_rising row_stamp x.held (map log_row (filter (is_logged t x.frontier) (agreed w.commits))) (inv.tied t).sound.rises
@@ -105,14 +106,14 @@ written t past w u y n room e h = written_case t past w u y n room e h (u.0 == t
 added_counts : (t : Topic) (past : List Outcome) (w : World) (clock : ℕ) → Counts t past w → Counts t (Done ∷ past) (effect w (Topic_added clock))
 added_counts t past w clock h = at_added (λ u z. length z.held ≡ released_at t past) w.topics w.log_limit clock t (λ k. k) h
 
-flown_counts : (t : Topic) (past : List Outcome) (w : World) (c : ℕ) (sends : List Send) → Counts t past w → Counts t (flying_answer w c sends ∷ past) (flown w c sends)
+flown_counts : (t : Topic) (past : List Outcome) (w : World) (c : ℕ) (sends : List SentMessage) → Counts t past w → Counts t (flying_answer w c sends ∷ past) (flown w c sends)
 flown_counts t past w c [] h = h
 flown_counts t past w c (first ∷ others) h = h
 
 closed_counts : (t : Topic) (past : List Outcome) (w : World) (s : ℕ) (o : Option Entry) → Counts t past w → Counts t past (closed_with w s o)
 closed_counts t past w s None h = h
 closed_counts t past w s (Some entry) h =
-    let u = (subscription_at w s).topic in beside t past w u (unsubscribed s (topic_at w u)) refl h
+    let u = (subscription_at w s).topic in beside t past w u (after_unsubscribe s (topic_at w u)) refl h
 
 left_counts : (t : Topic) (past : List Outcome) (w : World) (c : ℕ) (o : Option ℕ) → Counts t past w → Counts t (leave_answer w c o ∷ past) (left_by w c o)
 left_counts t past w c None h = h
@@ -120,25 +121,25 @@ left_counts t past w c (Some s) h = closed_counts t past w s (entry_at w s) h
 
 proposed_counts : (t : Topic) (past : List Outcome) (w : World) (c : ℕ) (u : Topic) (o : Option ProposeFault) → Counts t past w → Counts t (propose_answer w c u o ∷ past) (proposed_by w c u o)
 proposed_counts t past w c u None h =
-    beside t past w u (proposed (speaker w c).floor (part_at (flight_at w c).txn.id (flight_at w c).txn.sends u) (topic_at w u)) refl h
+    beside t past w u (after_propose (speaker w c).floor (part_at (flight_at w c).txn.id (flight_at w c).txn.sends u) (topic_at w u)) refl h
 proposed_counts t past w c u (Some fault) h = h
 
 cancelled_counts : (t : Topic) (past : List Outcome) (w : World) (c : ℕ) (u : Topic) (o : Option Leftover) → Counts t past w → Counts t (cancel_answer u o ∷ past) (cancelled_at w c u o)
 cancelled_counts t past w c u None h = h
-cancelled_counts t past w c u (Some k) h = beside t past w u (cancelled k.id (topic_at w u)) refl h
+cancelled_counts t past w c u (Some k) h = beside t past w u (after_cancel k.id (topic_at w u)) refl h
 
 learned_counts : (t : Topic) (past : List Outcome) (w : World) (u : Topic) (id : TxnId) (o : Option Decision) → Counts t past w → Counts t (Learnt id u ∷ past) (learned_at w u id o)
 learned_counts t past w u id None h = h
-learned_counts t past w u id (Some v) h = beside t past w u (learned id (decided_stamp v) (topic_at w u)) refl h
+learned_counts t past w u id (Some v) h = beside t past w u (after_learn id (decided_stamp v) (topic_at w u)) refl h
 
-released_counts : (t : Topic) (past : List Outcome) (w : World) (u : Topic) → is_topic w u ≡ true → (o : Option Pending) → Counts t past w → Counts t (release_answer u o ∷ past) (with_topic w u (released_if (takes w) (topic_at w u) o))
+released_counts : (t : Topic) (past : List Outcome) (w : World) (u : Topic) → is_topic w u ≡ true → (o : Option Pending) → Counts t past w → Counts t (release_answer u o ∷ past) (with_topic w u (after_release_if (takes w) (topic_at w u) o))
 released_counts t past w u room None h = beside t past w u (topic_at w u) refl h
 released_counts t past w u room (Some p) h =
-    written t past w u (released_if (takes w) (topic_at w u) (Some p)) 1 (ltb-true u.0 (length w.topics) room) (length-append (log_at w u) (row_of p ∷ [])) h
+    written t past w u (after_release_if (takes w) (topic_at w u) (Some p)) 1 (ltb-true u.0 (length w.topics) room) (length-append (log_at w u) (row_of p ∷ [])) h
 
 turned_counts : (t : Topic) (past : List Outcome) (w : World) (u : Topic) → is_topic w u ≡ true → Counts t past w → Counts t (answer w (Turns u) ∷ past) (effect w (Turns u))
 turned_counts t past w u room h =
-    let x = topic_at w u in let y = turned (takes w) (find_in w) x in
+    let x = topic_at w u in let y = after_turn (takes w) (find_in w) x in
     let l : length x.held ≤ length y.held = turn_grows (takes w) (find_in w) x in
     written t past w u y (length y.held - length x.held) (ltb-true u.0 (length w.topics) room) (omega arith) h
 
@@ -184,29 +185,29 @@ none_pass q [] h = refl
 none_pass q (x ∷ xs) h = ap (λ (b : Bool). cond b (x ∷ filter q xs) (filter q xs)) (h x (inl refl)) ∙ none_pass q xs (λ y i. h y (inr i))
 
 -- of rows that rise those up to f that pass are a front of those that pass
-abbrev IsFront : (Row → Bool) → Stamp → List Row → Type 0
-IsFront p f rows = let q : Row → Bool = λ r. p r && not (stamp_lt f r.stamp) in filter q rows ≡ take (length (filter q rows)) (filter p rows)
+abbrev IsFront : (CommitRow → Bool) → Stamp → List CommitRow → Type 0
+IsFront p f rows = let q : CommitRow → Bool = λ r. p r && not (stamp_lt f r.stamp) in filter q rows ≡ take (length (filter q rows)) (filter p rows)
 
 and_false : (a b : Bool) → b ≡ false → (a && b) ≡ false
 and_false true b e = e
 and_false false b e = refl
 
-front_case : (p : Row → Bool) (f : Stamp) (x : Row) (xs : List Row) → ((y : Row) → In y xs → stamp_lt x.stamp y.stamp ≡ true) → IsFront p f xs → let q : Row → Bool = λ r. p r && not (stamp_lt f r.stamp) in (a b : Bool) → stamp_lt f x.stamp ≡ b → let front = cond (a && not b) (x ∷ filter q xs) (filter q xs) in front ≡ take (length front) (cond a (x ∷ filter p xs) (filter p xs))
+front_case : (p : CommitRow → Bool) (f : Stamp) (x : CommitRow) (xs : List CommitRow) → ((y : CommitRow) → In y xs → stamp_lt x.stamp y.stamp ≡ true) → IsFront p f xs → let q : CommitRow → Bool = λ r. p r && not (stamp_lt f r.stamp) in (a b : Bool) → stamp_lt f x.stamp ≡ b → let front = cond (a && not b) (x ∷ filter q xs) (filter q xs) in front ≡ take (length front) (cond a (x ∷ filter p xs) (filter p xs))
 front_case p f x xs up h false b e = h
 front_case p f x xs up h true false e = ap (λ z. x ∷ z) h
 front_case p f x xs up h true true e =
     let n = none_pass (λ r. p r && not (stamp_lt f r.stamp)) xs
     (λ y i. and_false (p y) (not (stamp_lt f y.stamp)) (ap not (le_lt f x.stamp y.stamp (lt_asym f x.stamp e) (up y i)))) in
-    n ∙ sym (ap (λ (z : List Row). take (length z) (x ∷ filter p xs)) n)
+    n ∙ sym (ap (λ (z : List CommitRow). take (length z) (x ∷ filter p xs)) n)
 
-front : (p : Row → Bool) (f : Stamp) (rows : List Row) → Rises stamp_of rows → IsFront p f rows
+front : (p : CommitRow → Bool) (f : Stamp) (rows : List CommitRow) → Rises stamp_of rows → IsFront p f rows
 front p f [] up = refl
 front p f (x ∷ xs) up = front_case p f x xs up.0 (front p f xs up.1) (p x) (stamp_lt f x.stamp) refl
 
 pub log_is_of_outcomes : Laws.LogIsOfOutcomes
 log_is_of_outcomes r t =
     let h = reached r in let w = after r in let f = frontier_at w t in let cs = commits_of (came r) in
-    let p : Row → Bool = λ row. names t (topics_of row.txn.sends) in
+    let p : CommitRow → Bool = λ row. names t (topics_of row.txn.sends) in
     let up : Rises stamp_of (agreed cs) = subst (λ z. Rises stamp_of (agreed z)) (sym h.commits) (Rises-sorted stamp_of w.commits h.inv.consistent.apart) in
     let a = log_is_agreed r t in let logged = filter (is_logged t f) (agreed cs) in
     let n : length logged ≡ released_at t (came r) = sym (map_length log_row logged) ∙ (sym (ap (λ (z : List LogRow). length z) a) ∙ log_counts_releases r t) in

@@ -1,9 +1,10 @@
 -- Each topic of a run is sound and undrained, and a settled topic's frontier is at least each stamp that names it.
 use Rattle.std.proofs.Common.{◌≡◌, false, ◌∙◌, ap, subst}
 use Rattle.mcast_txn.specs.Stamp.{stamp_lt}
-use Rattle.mcast_txn.specs.Agreed.{Row, In}
+use Rattle.mcast_txn.specs.Agreed.{CommitRow}
+use Rattle.mcast_txn.specs.Lists.{In}
 use Rattle.mcast_txn.specs.declared.id.Topic.{Topic}
-use Rattle.mcast_group.specs.Span.{last_stamp}
+use Rattle.mcast_txn.specs.Span.{last_stamp}
 use Rattle.mcast_group.specs.Sound.{IsSound}
 use Rattle.delivery.specs.Due.{log_row}
 use Rattle.delivery.specs.World.{topic_at}
@@ -23,7 +24,7 @@ frontier_is_last r t =
 pub topics_are_sound : Laws.TopicsAreSound
 topics_are_sound r t = (is_sound r t, ((reached r).inv.tied t).undrained, frontier_is_last r t)
 
-settled_at_most : (r : Run) (t : Topic) (row : Row) → In (log_row row) (log_at (after r) t) → stamp_lt (frontier_at (after r) t) row.stamp ≡ false
+settled_at_most : (r : Run) (t : Topic) (row : CommitRow) → In (log_row row) (log_at (after r) t) → stamp_lt (frontier_at (after r) t) row.stamp ≡ false
 settled_at_most r t row i = subst (λ f. stamp_lt f row.stamp ≡ false) (frontier_is_last r t) ((is_sound r t).past (log_row row) i)
 
 pub settled_leaves_none_out : Laws.SettledLeavesNoneOut

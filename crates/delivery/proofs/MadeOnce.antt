@@ -1,7 +1,9 @@
 -- A run makes each transaction once: what is looked up by its id is the transaction itself.
 use Rattle.std.proofs.Common.{◌≡◌, ℕ, ◌+◌, ◌≤◌, ◌==◌, Bool, true, false, cond, inl, inr, List, [], ◌∷◌, refl, ap, subst, ◌∙◌, arith}
 use Rattle.std.proofs.lemmas.Bool.{eq-eqb}
-use Rattle.mcast_txn.specs.Agreed.{Transaction, same_id, In}
+use Rattle.mcast_txn.specs.Agreed.{Transaction}
+use Rattle.mcast_txn.specs.Ids.{same_id}
+use Rattle.mcast_txn.specs.Lists.{In}
 use Rattle.mcast_txn.specs.declared.id.TxnId.{TxnId}
 use Rattle.mcast_txn.proofs.Orders.{id_equal, id_itself}
 use Rattle.mcast_group.proofs.Parts.{not_true}

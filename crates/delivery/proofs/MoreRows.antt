@@ -2,13 +2,13 @@
 -- a settled topic; a topic that is added; what a commit is refused for; a span, a flight and a turn beside their laws.
 use Rattle.std.specs.Prelude.{◌≡◌, ℕ, true, List, [], ◌∷◌, length, map, reverse, None, Some}
 use Rattle.std.proofs.Common.{refl, inl, inr}
-use Rattle.mcast_txn.specs.declared.send.Send.{Send}
+use Rattle.mcast_txn.specs.declared.draft.sent_message.SentMessage.{SentMessage}
 use Rattle.mcast_txn.specs.declared.stamp.Stamp.{Stamp}
 use Rattle.mcast_txn.specs.Part.{part_at}
-use Rattle.mcast_txn.specs.Agreed.{In}
+use Rattle.mcast_txn.specs.Lists.{In}
 use Rattle.mcast_group.specs.declared.fault.SubFault.{SubFault}
-use Rattle.mcast_group.specs.Span.{LogRow}
-use Rattle.mcast_group.specs.Topics.{TopicState, Pending, Entry, subscribe_fault, unsubscribe_fault}
+use Rattle.mcast_txn.specs.Span.{LogRow}
+use Rattle.mcast_group.specs.Machine.{TopicState, Pending, Entry, subscribe_fault, unsubscribe_fault}
 use Rattle.delivery.specs.declared.refusal.Refusal.{Refusal}
 use Rattle.delivery.specs.World.{World, topic_at, connection_at, subscription_at}
 use Rattle.delivery.specs.Reading.{log_at, accepted_at, end_at, span_at, frontier_at}
@@ -149,7 +149,7 @@ two_open = run_of (0 ∷ 0 ∷ []) (Opens ∷ Opens ∷ [])
 flight_made : outcome (after two_open) (Commits 1 to_a_and_b) ≡ Flying (transaction (id 1 1) to_a_and_b)
 flight_made = refl
 
-flight_own : (c : ℕ) × (sends : List Send) × (Commits 1 to_a_and_b ≡ Commits c sends) × (to_a_and_b ≡ sends)
+flight_own : (c : ℕ) × (sends : List SentMessage) × (Commits 1 to_a_and_b ≡ Commits c sends) × (to_a_and_b ≡ sends)
     × ((id 1 1).sender.0 ≡ (connection_at (after two_open) c).sender)
 flight_own = (1, to_a_and_b, refl, refl, refl)
 
@@ -263,8 +263,8 @@ refused_answers = refl
 
 abbrev half_decided : List Pending
 half_decided =
-    record { part = part_at (id 0 1) to_a_and_b (topic 0); ticket = 1; learnt = None }
-    ∷ record { part = part_at (id 1 1) to_a_and_b (topic 0); ticket = 2; learnt = Some (stamp 2 0) } ∷ []
+    record { part = part_at (id 0 1) to_a_and_b (topic 0); number = 1; learnt = None }
+    ∷ record { part = part_at (id 1 1) to_a_and_b (topic 0); number = 2; learnt = Some (stamp 2 0) } ∷ []
 
 turn_of_one : topic_at (happens (waiting (Decides 1 ∷ [])) (Turns (topic 0))) (topic 0) ≡ turned_topic half_decided [] (stamp 0 0)
 turn_of_one = refl

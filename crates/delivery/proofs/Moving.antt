@@ -5,8 +5,8 @@ use Rattle.mcast_txn.specs.Ballot.{Decision}
 use Rattle.mcast_txn.specs.declared.id.TxnId.{TxnId}
 use Rattle.mcast_txn.specs.declared.stamp.Stamp.{Stamp}
 use Rattle.mcast_group.specs.declared.fault.LearnFault.{LearnFault}
-use Rattle.mcast_group.specs.Span.{Item}
-use Rattle.mcast_group.specs.Topics.{TopicState, Pending, Entry, find_entry, delivered, due_part, released_if, release, learn_fault, learned, tried, tried_all, released_times, turned, item_of, decided_stamp}
+use Rattle.mcast_txn.specs.Span.{Item}
+use Rattle.mcast_group.specs.Machine.{TopicState, Pending, Entry, find_entry, entry_after, due_part, after_release_if, after_release, learn_fault, after_learn, after_try, after_tries, after_releases, after_turn, item_of, decided_stamp}
 use Rattle.mcast_group.proofs.Parts.{none_some}
 use Rattle.delivery.specs.World.{World, subscription_at}
 use Rattle.delivery.specs.Reading.{entry_items, entry_to}
@@ -73,7 +73,7 @@ given_moves w frontier item number from accepted false e =
       full = λ o s k m. minus_le (length accepted) n w.capacity (λ l. true≢false (sym (lt-ltb (length accepted - n) w.capacity l) ∙ e)) m;
     }
 
-delivered_case : (w : World) (frontier : Stamp) (item : Item) (number : ℕ) (from : Stamp) (to : Option Stamp) (accepted : List Item) → let later = delivered (takes w) frontier item (entry_of number from to accepted) in Moves (subscription_at w number).taken w.capacity to accepted later.to later.accepted
+delivered_case : (w : World) (frontier : Stamp) (item : Item) (number : ℕ) (from : Stamp) (to : Option Stamp) (accepted : List Item) → let later = entry_after (takes w) frontier item (entry_of number from to accepted) in Moves (subscription_at w number).taken w.capacity to accepted later.to later.accepted
 delivered_case w frontier item number from None accepted = given_moves w frontier item number from accepted (takes w (entry_of number from None accepted)) refl
 delivered_case w frontier item number from (Some end) accepted = Moves-same (subscription_at w number).taken w.capacity (Some end) accepted
 
@@ -81,7 +81,7 @@ number_given : (b : Bool) (e f : Entry) → e.number ≡ f.number → (cond b e 
 number_given true e f d = d
 number_given false e f d = refl
 
-number_case : (w : World) (frontier : Stamp) (item : Item) (number : ℕ) (from : Stamp) (to : Option Stamp) (accepted : List Item) → (delivered (takes w) frontier item (entry_of number from to accepted)).number ≡ number
+number_case : (w : World) (frontier : Stamp) (item : Item) (number : ℕ) (from : Stamp) (to : Option Stamp) (accepted : List Item) → (entry_after (takes w) frontier item (entry_of number from to accepted)).number ≡ number
 number_case w frontier item number from None accepted =
     number_given (takes w (entry_of number from None accepted)) (entry_of number from None (accepted ++ item ∷ [])) (entry_of number from (Some frontier) accepted) refl
 number_case w frontier item number from (Some end) accepted = refl
@@ -121,39 +121,39 @@ Goes-then w x y z a b = record {
       (subst (λ n. Moves (subscription_at w n).taken w.capacity f.to f.accepted g.to g.accepted) (a.number e) (b.moves f));
 }
 
-released_goes : (w : World) (x : TopicState) (o : Option Pending) → Goes w x (released_if (takes w) x o)
+released_goes : (w : World) (x : TopicState) (o : Option Pending) → Goes w x (after_release_if (takes w) x o)
 released_goes w x None = Goes-same w x x refl
 released_goes w x (Some p) = record {
-  step = delivered (takes w) x.frontier (item_of p);
+  step = entry_after (takes w) x.frontier (item_of p);
   are = refl;
   number = λ e. number_case w x.frontier (item_of p) e.number e.from e.to e.accepted;
   moves = λ e. delivered_case w x.frontier (item_of p) e.number e.from e.to e.accepted;
 }
 
-pub release_goes : (w : World) (x : TopicState) → Goes w x (release (takes w) x)
+pub release_goes : (w : World) (x : TopicState) → Goes w x (after_release (takes w) x)
 release_goes w x = released_goes w x (due_part x)
 
-times_go : (w : World) (k : ℕ) (x : TopicState) → Goes w x (released_times (takes w) k x)
+times_go : (w : World) (k : ℕ) (x : TopicState) → Goes w x (after_releases (takes w) k x)
 times_go w zero x = Goes-same w x x refl
 times_go w (suc k) x =
-    Goes-then w x (release (takes w) x) (released_times (takes w) k (release (takes w) x)) (release_goes w x) (times_go w k (release (takes w) x))
+    Goes-then w x (after_release (takes w) x) (after_releases (takes w) k (after_release (takes w) x)) (release_goes w x) (times_go w k (after_release (takes w) x))
 
-tried_case : (id : TxnId) (v : Decision) (x : TopicState) (o : Option LearnFault) → let y : TopicState = elim o [ None ↦ learned id (decided_stamp v) x | Some fault ↦ x ] in y.subscriptions ≡ x.subscriptions
+tried_case : (id : TxnId) (v : Decision) (x : TopicState) (o : Option LearnFault) → let y : TopicState = elim o [ None ↦ after_learn id (decided_stamp v) x | Some fault ↦ x ] in y.subscriptions ≡ x.subscriptions
 tried_case id v x None = refl
 tried_case id v x (Some fault) = refl
 
-tried_subscriptions : (id : TxnId) (o : Option Decision) (x : TopicState) → (tried id o x).subscriptions ≡ x.subscriptions
+tried_subscriptions : (id : TxnId) (o : Option Decision) (x : TopicState) → (after_try id o x).subscriptions ≡ x.subscriptions
 tried_subscriptions id None x = refl
 tried_subscriptions id (Some v) x = tried_case id v x (learn_fault id v x)
 
-all_tried : (find : TxnId → Option Decision) (ps : List Pending) (x : TopicState) → (tried_all find ps x).subscriptions ≡ x.subscriptions
+all_tried : (find : TxnId → Option Decision) (ps : List Pending) (x : TopicState) → (after_tries find ps x).subscriptions ≡ x.subscriptions
 all_tried find [] x = refl
-all_tried find (p ∷ ps) x = all_tried find ps (tried p.part.id (find p.part.id) x) ∙ tried_subscriptions p.part.id (find p.part.id) x
+all_tried find (p ∷ ps) x = all_tried find ps (after_try p.part.id (find p.part.id) x) ∙ tried_subscriptions p.part.id (find p.part.id) x
 
-pub turned_goes : (w : World) (x : TopicState) → Goes w x (turned (takes w) (find_in w) x)
+pub turned_goes : (w : World) (x : TopicState) → Goes w x (after_turn (takes w) (find_in w) x)
 turned_goes w x =
-    let y = tried_all (find_in w) x.pending x in
-    Goes-then w x y (released_times (takes w) (length y.pending) y) (Goes-same w x y (all_tried (find_in w) x.pending x)) (times_go w (length y.pending) y)
+    let y = after_tries (find_in w) x.pending x in
+    Goes-then w x y (after_releases (takes w) (length y.pending) y) (Goes-same w x y (all_tried (find_in w) x.pending x)) (times_go w (length y.pending) y)
 
 -- ---- one entry of it
 

@@ -4,11 +4,11 @@ use Rattle.std.proofs.lemmas.Bool.{eqb-true, eq-eqb, ltb-true}
 use Rattle.mcast_txn.specs.Ballot.{Decision}
 use Rattle.mcast_txn.specs.declared.id.Topic.{Topic}
 use Rattle.mcast_txn.specs.declared.id.TxnId.{TxnId}
-use Rattle.mcast_txn.specs.declared.send.Send.{Send}
+use Rattle.mcast_txn.specs.declared.draft.sent_message.SentMessage.{SentMessage}
 use Rattle.mcast_txn.proofs.Members.{at_set, at_set_within}
 use Rattle.mcast_group.specs.declared.fault.ProposeFault.{ProposeFault}
-use Rattle.mcast_group.specs.Span.{Item}
-use Rattle.mcast_group.specs.Topics.{Pending, Entry, due_part}
+use Rattle.mcast_txn.specs.Span.{Item}
+use Rattle.mcast_group.specs.Machine.{Pending, Entry, due_part}
 use Rattle.mcast_group.proofs.Parts.{not_true}
 use Rattle.delivery.specs.World.{World, Leftover, SenderState, Connection, Standing, new_sender, nobody, topic_at, connection_at, speaker, subscription_at, entry_at, with_standing, start}
 use Rattle.delivery.specs.Events.{Event, Outcome, happens, outcome, refusal, effect, answer, find_leftover, find_verdict, oldest_live, next_txn, flown, flying_answer, proposal_fault, proposed_by, propose_answer, cancelled_at, cancel_answer, learned_at, release_answer, handed, take_answer, left_by, leave_answer, closed_subscription, closed_with}
@@ -66,7 +66,7 @@ told past senders connections o a b h = record {
 made_case : (s t n : ℕ) (b : Bool) → (t == s) ≡ b → cond b (n + 1) n ≡ cond (t == s) (n + 1) n
 made_case s t n b e = ap (λ (c : Bool). cond c (n + 1) n) (sym e)
 
-flown_numbering : (past : List Outcome) (w : World) (c : ℕ) (sends : List Send) → c < length w.connections → Numbering past w.senders w.connections → Numbering (flying_answer w c sends ∷ past) (flown w c sends).senders (flown w c sends).connections
+flown_numbering : (past : List Outcome) (w : World) (c : ℕ) (sends : List SentMessage) → c < length w.connections → Numbering past w.senders w.connections → Numbering (flying_answer w c sends ∷ past) (flown w c sends).senders (flown w c sends).connections
 flown_numbering past w c [] l h = told past w.senders w.connections Done (λ s. refl) (λ k. k) h
 flown_numbering past w c (first ∷ others) l h =
     let t = (connection_at w c).sender in let own = h.owners c l in let x = sender_in w.senders t in

@@ -3,17 +3,17 @@ use Rattle.std.proofs.Common.{◌≡◌, ℕ, zero, suc, ◌+◌, ◌<◌, ◌�
 use Rattle.std.specs.List.{AllByRecursion}
 use Rattle.std.proofs.lemmas.Bool.{eqb-true}
 use Rattle.std.proofs.lemmas.List.{get_or_past}
-use Rattle.mcast_txn.specs.Topics.{RisesBy}
-use Rattle.mcast_txn.specs.Agreed.{Row, In}
+use Rattle.mcast_txn.specs.Lists.{RisesBy, In}
+use Rattle.mcast_txn.specs.Agreed.{CommitRow}
 use Rattle.mcast_txn.specs.declared.id.Topic.{Topic}
 use Rattle.mcast_txn.specs.declared.id.TxnId.{TxnId}
 use Rattle.mcast_txn.specs.declared.stamp.Stamp.{Stamp}
 use Rattle.mcast_txn.proofs.Members.{In-push_cases}
 use Rattle.mcast_txn.specs.Ballot.{Decision}
-use Rattle.mcast_txn.specs.declared.send.Send.{Send}
+use Rattle.mcast_txn.specs.declared.draft.sent_message.SentMessage.{SentMessage}
 use Rattle.mcast_group.specs.declared.fault.ProposeFault.{ProposeFault}
-use Rattle.mcast_group.specs.Span.{Item}
-use Rattle.mcast_group.specs.Topics.{TopicState, Entry, new_topic}
+use Rattle.mcast_txn.specs.Span.{Item}
+use Rattle.mcast_group.specs.Machine.{TopicState, Entry, new_topic}
 use Rattle.delivery.specs.World.{World, Leftover, topic_at, speaker, subscription_at, entry_at, start, new_topics}
 use Rattle.delivery.specs.Events.{Event, Outcome, happens, outcome, effect, find_leftover, find_verdict, oldest_live, flown, proposal_fault, proposed_by, cancelled_at, learned_at, handed, left_by, closed_with}
 use Rattle.delivery.specs.Events.Event.{Topic_added, Opens, Commits, Subscribes, Unsubscribes, Disconnects, Errs, Lost, Leaves, Proposes, Decides, Withdraws, Cancels, Learns, Releases, Turns, Takes}
@@ -43,13 +43,13 @@ rises_push (x ∷ xs) n h below =
 -- ---- a topic's numbers are those of its tickets
 
 -- the ticket of a number
-record NumberOf (t : Topic) (n : ℕ) (ts : List Row) : Type 0 where
-  it : Row
+record NumberOf (t : Topic) (n : ℕ) (ts : List CommitRow) : Type 0 where
+  it : CommitRow
   stands : In it ts
   topic : it.stamp.topic ≡ t
   number : it.stamp.n ≡ n
 
-number_more : (t : Topic) (n : ℕ) (ts : List Row) (a : Row) → NumberOf t n ts → NumberOf t n (a ∷ ts)
+number_more : (t : Topic) (n : ℕ) (ts : List CommitRow) (a : CommitRow) → NumberOf t n ts → NumberOf t n (a ∷ ts)
 number_more t n ts a h = record { it = h.it; stands = inr h.stands; topic = h.topic; number = h.number }
 
 number_case : (t : Topic) (n : ℕ) (id : TxnId) (ticket : Stamp) (past : List Outcome) (b : Bool) → (ticket.topic.0 == t.0) ≡ b → (In n (numbers_at t past) → NumberOf t n (tickets past)) → In n (cond b (numbers_at t past ++ ticket.n ∷ []) (numbers_at t past)) → NumberOf t n (row (made id past) ticket ∷ tickets past)
@@ -193,7 +193,7 @@ length_handed : (w : World) (s : ℕ) (o : Option Item) → length (handed w s o
 length_handed w s None = refl
 length_handed w s (Some item) = refl
 
-length_flown : (w : World) (c : ℕ) (sends : List Send) → length (flown w c sends).topics ≡ length w.topics
+length_flown : (w : World) (c : ℕ) (sends : List SentMessage) → length (flown w c sends).topics ≡ length w.topics
 length_flown w c [] = refl
 length_flown w c (first ∷ others) = refl
 

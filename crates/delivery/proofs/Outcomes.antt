@@ -2,7 +2,9 @@
 use Rattle.std.proofs.Common.{◌≡◌, Bool, true, false, cond, inl, inr, List, [], ◌∷◌, ◌++◌, refl, sym, ap, subst, ◌∙◌}
 use Rattle.std.proofs.lemmas.Bool.{true≢false}
 use Rattle.mcast_txn.specs.Stamp.{stamp_lt, greatest}
-use Rattle.mcast_txn.specs.Agreed.{Transaction, Row, same_id, In}
+use Rattle.mcast_txn.specs.Agreed.{Transaction, CommitRow}
+use Rattle.mcast_txn.specs.Ids.{same_id}
+use Rattle.mcast_txn.specs.Lists.{In}
 use Rattle.mcast_txn.specs.declared.id.TxnId.{TxnId}
 use Rattle.mcast_txn.specs.declared.stamp.Stamp.{Stamp}
 use Rattle.mcast_txn.proofs.Orders.{id_equal, id_same}
@@ -28,13 +30,13 @@ made_id id (Flying txn ∷ past) = made_case id txn (made id past) (same_id txn.
 made_id id (o ∷ past) = made_id id past
 
 -- a ticket of this transaction
-pub record TicketOf (id : TxnId) (ticket : Stamp) (ts : List Row) : Type 0 where
-  pub it : Row
+pub record TicketOf (id : TxnId) (ticket : Stamp) (ts : List CommitRow) : Type 0 where
+  pub it : CommitRow
   pub stands : In it ts
   pub id_is : it.txn.id ≡ id
   pub stamp_is : it.stamp ≡ ticket
 
-TicketOf-more : (id : TxnId) (ticket : Stamp) (ts : List Row) (a : Row) → TicketOf id ticket ts → TicketOf id ticket (a ∷ ts)
+TicketOf-more : (id : TxnId) (ticket : Stamp) (ts : List CommitRow) (a : CommitRow) → TicketOf id ticket ts → TicketOf id ticket (a ∷ ts)
 TicketOf-more id ticket ts a h = record { it = h.it; stands = inr h.stands; id_is = h.id_is; stamp_is = h.stamp_is }
 
 of_case : (id i : TxnId) (x ticket : Stamp) (past : List Outcome) (b : Bool) → same_id i id ≡ b → (In x (tickets_of id past) → TicketOf id x (tickets past)) → In x (cond b (ticket ∷ tickets_of id past) (tickets_of id past)) → TicketOf id x (row (made i past) ticket ∷ tickets past)
@@ -47,32 +49,32 @@ ticket_of id x [] k = absurd k
 ticket_of id x (Ticket i ticket ∷ past) k = of_case id i x ticket past (same_id i id) refl (ticket_of id x past) k
 ticket_of id x (o ∷ past) k = ticket_of id x past k
 
-to_case : (id i : TxnId) (a : Row) (ticket : Stamp) (past : List Outcome) (b : Bool) → same_id i id ≡ b → (In a (tickets past) → In a.stamp (tickets_of id past)) → In a (row (made i past) ticket ∷ tickets past) → a.txn.id ≡ id → In a.stamp (cond b (ticket ∷ tickets_of id past) (tickets_of id past))
-to_case id i a ticket past true e ih (inl d) n = inl (ap (λ (z : Row). z.stamp) d)
+to_case : (id i : TxnId) (a : CommitRow) (ticket : Stamp) (past : List Outcome) (b : Bool) → same_id i id ≡ b → (In a (tickets past) → In a.stamp (tickets_of id past)) → In a (row (made i past) ticket ∷ tickets past) → a.txn.id ≡ id → In a.stamp (cond b (ticket ∷ tickets_of id past) (tickets_of id past))
+to_case id i a ticket past true e ih (inl d) n = inl (ap (λ (z : CommitRow). z.stamp) d)
 to_case id i a ticket past true e ih (inr k) n = inr (ih k)
 to_case id i a ticket past false e ih (inl d) n =
-    absurd (true≢false (sym (id_same i id (sym (made_id i past) ∙ (ap (λ (z : Row). z.txn.id) d ∙ n))) ∙ e))
+    absurd (true≢false (sym (id_same i id (sym (made_id i past) ∙ (ap (λ (z : CommitRow). z.txn.id) d ∙ n))) ∙ e))
 to_case id i a ticket past false e ih (inr k) n = ih k
 
-pub to_tickets : (id : TxnId) (a : Row) (past : List Outcome) → In a (tickets past) → a.txn.id ≡ id → In a.stamp (tickets_of id past)
+pub to_tickets : (id : TxnId) (a : CommitRow) (past : List Outcome) → In a (tickets past) → a.txn.id ≡ id → In a.stamp (tickets_of id past)
 to_tickets id a [] k n = absurd k
 to_tickets id a (Ticket i ticket ∷ past) k n = to_case id i a ticket past (same_id i id) refl (λ j. to_tickets id a past j n) k n
 to_tickets id a (o ∷ past) k n = to_tickets id a past k n
 
 -- a ticket that was given stands in the list
-In-ticket_case : (a : Row) (i : TxnId) (ticket : Stamp) (past : List Outcome) → (In a (tickets past) → In (Ticket a.txn.id a.stamp) past) → In a (row (made i past) ticket ∷ tickets past) → In (Ticket a.txn.id a.stamp) (Ticket i ticket ∷ past)
+In-ticket_case : (a : CommitRow) (i : TxnId) (ticket : Stamp) (past : List Outcome) → (In a (tickets past) → In (Ticket a.txn.id a.stamp) past) → In a (row (made i past) ticket ∷ tickets past) → In (Ticket a.txn.id a.stamp) (Ticket i ticket ∷ past)
 In-ticket_case a i ticket past ih (inl d) =
-    inl (ap (λ z. Ticket z ticket) (sym (made_id i past)) ∙ ap (λ (z : Row). Ticket z.txn.id z.stamp) d)
+    inl (ap (λ z. Ticket z ticket) (sym (made_id i past)) ∙ ap (λ (z : CommitRow). Ticket z.txn.id z.stamp) d)
 In-ticket_case a i ticket past ih (inr k) = inr (ih k)
 
-pub In-ticket : (a : Row) (past : List Outcome) → In a (tickets past) → In (Ticket a.txn.id a.stamp) past
+pub In-ticket : (a : CommitRow) (past : List Outcome) → In a (tickets past) → In (Ticket a.txn.id a.stamp) past
 In-ticket a [] k = absurd k
 In-ticket a (Ticket i ticket ∷ past) k = In-ticket_case a i ticket past (In-ticket a past) k
 In-ticket a (o ∷ past) k = inr (In-ticket a past k)
 
 -- a decision stands in the commit list
-pub record CommitOf (id : TxnId) (stamp : Stamp) (cs : List Row) : Type 0 where
-  pub it : Row
+pub record CommitOf (id : TxnId) (stamp : Stamp) (cs : List CommitRow) : Type 0 where
+  pub it : CommitRow
   pub stands : In it cs
   pub id_is : it.txn.id ≡ id
   pub stamp_is : it.stamp ≡ stamp

@@ -3,10 +3,10 @@ use Rattle.std.proofs.Common.{◌≡◌, ℕ, suc, ◌+◌, ◌==◌, Bool, true
 use Rattle.std.specs.List.{filter, list_any}
 use Rattle.std.proofs.lemmas.Bool.{eqb-true}
 use Rattle.mcast_txn.specs.Transaction.{topics_of, insert_topic, part_from, part_of}
-use Rattle.mcast_txn.specs.Agreed.{names}
+use Rattle.mcast_txn.specs.TopicSet.{names}
 use Rattle.mcast_txn.specs.declared.id.Topic.{Topic}
-use Rattle.mcast_txn.specs.declared.send.Send.{Send}
-use Rattle.mcast_txn.specs.declared.send.PartSend.{PartSend}
+use Rattle.mcast_txn.specs.declared.draft.sent_message.SentMessage.{SentMessage}
+use Rattle.mcast_txn.specs.declared.parts.part_message.PartMessage.{PartMessage}
 
 -- ---- topics
 
@@ -31,36 +31,36 @@ names_inserted : (t s : Topic) (us : List Topic) → names t (insert_topic s us)
 names_inserted t s [] = refl
 names_inserted t s (u ∷ us) = names_case t s u us (ltb s.0 u.0) (s.0 == u.0) refl (names_inserted t s us)
 
-pub names_any : (t : Topic) (sends : List Send) → list_any (λ (s : Send). s.topic.0 == t.0) sends ≡ names t (topics_of sends)
+pub names_any : (t : Topic) (sends : List SentMessage) → list_any (λ (s : SentMessage). s.topic.0 == t.0) sends ≡ names t (topics_of sends)
 names_any t [] = refl
 names_any t (s ∷ sends) = ap (λ (z : Bool). (s.topic.0 == t.0) || z) (names_any t sends) ∙ sym (names_inserted t s.topic (topics_of sends))
 
 -- ---- parts
 
-abbrev pub part_send : ℕ → Send → PartSend
+abbrev pub part_send : ℕ → SentMessage → PartMessage
 part_send i s = record { index = i; headers = s.headers; body = s.body }
 
-abbrev pub last_part : ℕ → Topic → Send → List PartSend
+abbrev pub last_part : ℕ → Topic → SentMessage → List PartMessage
 last_part i t s = cond (s.topic.0 == t.0) (part_send i s ∷ []) []
 
-part_case : (i : ℕ) (t : Topic) (x s : Send) (sends : List Send) (b : Bool) → part_from (i + 1) t (sends ++ s ∷ []) ≡ part_from (i + 1) t sends ++ last_part (i + suc (length sends)) t s → cond b (part_send i x ∷ part_from (i + 1) t (sends ++ s ∷ [])) (part_from (i + 1) t (sends ++ s ∷ [])) ≡ cond b (part_send i x ∷ part_from (i + 1) t sends) (part_from (i + 1) t sends) ++ last_part (i + suc (length sends)) t s
+part_case : (i : ℕ) (t : Topic) (x s : SentMessage) (sends : List SentMessage) (b : Bool) → part_from (i + 1) t (sends ++ s ∷ []) ≡ part_from (i + 1) t sends ++ last_part (i + suc (length sends)) t s → cond b (part_send i x ∷ part_from (i + 1) t (sends ++ s ∷ [])) (part_from (i + 1) t (sends ++ s ∷ [])) ≡ cond b (part_send i x ∷ part_from (i + 1) t sends) (part_from (i + 1) t sends) ++ last_part (i + suc (length sends)) t s
 part_case i t x s sends true ih = ap (λ z. part_send i x ∷ z) ih
 part_case i t x s sends false ih = ih
 
-last_case : (i : ℕ) (t : Topic) (s : Send) (b : Bool) → cond b (part_send i s ∷ []) [] ≡ cond b (part_send (i + 0) s ∷ []) []
+last_case : (i : ℕ) (t : Topic) (s : SentMessage) (b : Bool) → cond b (part_send i s ∷ []) [] ≡ cond b (part_send (i + 0) s ∷ []) []
 last_case i t s true = ap (λ n. part_send n s ∷ []) (plain i)
   where
     plain : (i : ℕ) → i ≡ i + 0
     plain i = omega arith
 last_case i t s false = refl
 
-part_last_from : (i : ℕ) (t : Topic) (sends : List Send) (s : Send) → part_from i t (sends ++ s ∷ []) ≡ part_from i t sends ++ last_part (i + length sends) t s
+part_last_from : (i : ℕ) (t : Topic) (sends : List SentMessage) (s : SentMessage) → part_from i t (sends ++ s ∷ []) ≡ part_from i t sends ++ last_part (i + length sends) t s
 part_last_from i t [] s = last_case i t s (s.topic.0 == t.0)
 part_last_from i t (x ∷ sends) s =
     let k : i + 1 + length sends ≡ i + suc (length sends) = omega arith in
     part_case i t x s sends (x.topic.0 == t.0) (part_last_from (i + 1) t sends s ∙ ap (λ n. part_from (i + 1) t sends ++ last_part n t s) k)
 
-pub part_last : (t : Topic) (sends : List Send) (s : Send) → part_of t (sends ++ s ∷ []) ≡ part_of t sends ++ last_part (length sends) t s
+pub part_last : (t : Topic) (sends : List SentMessage) (s : SentMessage) → part_of t (sends ++ s ∷ []) ≡ part_of t sends ++ last_part (length sends) t s
 part_last t sends s =
     let k : 0 + length sends ≡ length sends = omega arith in
     part_last_from 0 t sends s ∙ ap (λ n. part_of t sends ++ last_part n t s) k
@@ -70,12 +70,12 @@ append_again [] ys zs = refl
 append_again (x ∷ xs) ys zs = ap (λ z. x ∷ z) (append_again xs ys zs)
 
 -- what was gathered so far, behind what is left
-pub part_taken : (t : Topic) (sends : List Send) (s : Send) (done : List PartSend) → (s.topic.0 == t.0) ≡ true → part_of t (sends ++ s ∷ []) ++ done ≡ part_of t sends ++ part_send (length sends) s ∷ done
+pub part_taken : (t : Topic) (sends : List SentMessage) (s : SentMessage) (done : List PartMessage) → (s.topic.0 == t.0) ≡ true → part_of t (sends ++ s ∷ []) ++ done ≡ part_of t sends ++ part_send (length sends) s ∷ done
 part_taken t sends s done e =
     ap (λ z. z ++ done) (part_last t sends s ∙ ap (λ (b : Bool). part_of t sends ++ cond b (part_send (length sends) s ∷ []) []) e)
     ∙ append_again (part_of t sends) (part_send (length sends) s ∷ []) done
 
-pub part_passed : (t : Topic) (sends : List Send) (s : Send) (done : List PartSend) → (s.topic.0 == t.0) ≡ false → part_of t (sends ++ s ∷ []) ++ done ≡ part_of t sends ++ done
+pub part_passed : (t : Topic) (sends : List SentMessage) (s : SentMessage) (done : List PartMessage) → (s.topic.0 == t.0) ≡ false → part_of t (sends ++ s ∷ []) ++ done ≡ part_of t sends ++ done
 part_passed t sends s done e =
     ap (λ z. z ++ done) (part_last t sends s ∙ ap (λ (b : Bool). part_of t sends ++ cond b (part_send (length sends) s ∷ []) []) e)
     ∙ append_again (part_of t sends) [] done

@@ -5,14 +5,17 @@ use Rattle.std.proofs.lemmas.List.{get_or_past}
 use Rattle.mcast_txn.specs.Stamp.{stamp_lt}
 use Rattle.mcast_txn.specs.Part.{part_at}
 use Rattle.mcast_txn.specs.Transaction.{TopicPart, topics_of}
-use Rattle.mcast_txn.specs.Agreed.{Transaction, Row, same_id, In, names}
+use Rattle.mcast_txn.specs.Agreed.{Transaction, CommitRow}
+use Rattle.mcast_txn.specs.Ids.{same_id}
+use Rattle.mcast_txn.specs.Lists.{In}
+use Rattle.mcast_txn.specs.TopicSet.{names}
 use Rattle.mcast_txn.specs.Ballot.{Decision}
 use Rattle.mcast_txn.specs.declared.id.Topic.{Topic}
 use Rattle.mcast_txn.specs.declared.id.TxnId.{TxnId}
 use Rattle.mcast_txn.specs.declared.stamp.Stamp.{Stamp}
 use Rattle.mcast_txn.proofs.Orders.{lt_by_number, id_equal, id_same, id_turned}
 use Rattle.mcast_txn.proofs.Members.{any_from, at_set_within}
-use Rattle.mcast_group.specs.Topics.{TopicState, Pending, new_topic, is_pending, next_number, proposed}
+use Rattle.mcast_group.specs.Machine.{TopicState, Pending, new_topic, is_pending, next_number, after_propose}
 use Rattle.mcast_group.proofs.Parts.{Waits, In-insert, insert_one, some_same, none_some}
 use Rattle.mcast_group.proofs.Keeping.{Sound-proposed}
 use Rattle.delivery.specs.World.{World, Flight, Leftover, SenderState, new_sender}
@@ -86,11 +89,11 @@ number w s t = next_number (sender_in w.senders s).floor (topic_in w.topics t)
 abbrev pub ticket : World → ℕ → Topic → Stamp
 ticket w s t = record { n = number w s t; topic = t }
 
-abbrev pub heard : World → ℕ → Topic → Flight → Row
+abbrev pub heard : World → ℕ → Topic → Flight → CommitRow
 heard w s t f = row f.txn (ticket w s t)
 
 abbrev pub topic_after : World → ℕ → Topic → Flight → TopicState
-topic_after w s t f = proposed (sender_in w.senders s).floor (part_at f.txn.id f.txn.sends t) (topic_in w.topics t)
+topic_after w s t f = after_propose (sender_in w.senders s).floor (part_at f.txn.id f.txn.sends t) (topic_in w.topics t)
 
 abbrev pub flight_after : World → ℕ → Topic → Flight → Flight
 flight_after w s t f = record f { given = insert_ticket (ticket w s t) f.given }
@@ -98,49 +101,49 @@ flight_after w s t f = record f { given = insert_ticket (ticket w s t) f.given }
 abbrev pub sender_after : World → ℕ → Topic → Flight → SenderState
 sender_after w s t f = record (sender_in w.senders s) { flight = Some (flight_after w s t f) }
 
-flies : (ts : List Row) (w : World) (s : ℕ) (t : Topic) (f : Flight) → Holds ts w → New w s t f → Flies ts w.commits w.topics s (sender_in w.senders s).seq (sender_in w.senders s).floor f
+flies : (ts : List CommitRow) (w : World) (s : ℕ) (t : Topic) (f : Flight) → Holds ts w → New w s t f → Flies ts w.commits w.topics s (sender_in w.senders s).seq (sender_in w.senders s).floor f
 flies ts w s t f inv new = (inv.serves s).flying f new.flight
 
-new_stamp : (ts : List Row) (w : World) (s : ℕ) (t : Topic) (b : Row) → Holds ts w → In b ts → b.stamp ≡ ticket w s t → Prim.⊥
+new_stamp : (ts : List CommitRow) (w : World) (s : ℕ) (t : Topic) (b : CommitRow) → Holds ts w → In b ts → b.stamp ≡ ticket w s t → Prim.⊥
 new_stamp ts w s t b inv k e =
     let l : b.stamp.n ≤ (topic_in w.topics t).clock = (inv.tied t).given b k (ap (λ (z : Stamp). z.topic) e) in
     let m : b.stamp.n ≡ number w s t = ap (λ (z : Stamp). z.n) e in
     omega arith
 
-Consistent-enter : (ts : List Row) (w : World) (s : ℕ) (t : Topic) (f : Flight) → Holds ts w → New w s t f → Consistent (heard w s t f ∷ ts) w.commits
+Consistent-enter : (ts : List CommitRow) (w : World) (s : ℕ) (t : Topic) (f : Flight) → Holds ts w → New w s t f → Consistent (heard w s t f ∷ ts) w.commits
 Consistent-enter ts w s t f inv new =
     let g = flies ts w s t f inv new in let all = inv.consistent in let a = heard w s t f in record {
-      one_txn = cons_two (λ (x y : Row). x.stamp ≡ y.stamp → x.txn ≡ y.txn) ts a all.one_txn
+      one_txn = cons_two (λ (x y : CommitRow). x.stamp ≡ y.stamp → x.txn ≡ y.txn) ts a all.one_txn
           (λ x k e. absurd (new_stamp ts w s t x inv k e))
           (λ x k e. absurd (new_stamp ts w s t x inv k (sym e)))
           (λ e. refl);
-      one_id = cons_two (λ (x y : Row). same_id x.txn.id y.txn.id ≡ true → x.txn ≡ y.txn) ts a all.one_id
+      one_id = cons_two (λ (x y : CommitRow). same_id x.txn.id y.txn.id ≡ true → x.txn ≡ y.txn) ts a all.one_id
           (λ x k e. g.same x k e)
           (λ x k e. sym (g.same x k (id_turned f.txn.id x.txn.id e)))
           (λ e. refl);
       apart = all.apart;
       from_ticket = λ r k. inr (all.from_ticket r k);
-      greatest = λ r x k. cons_one (λ (z : Row). z.txn ≡ r.txn → stamp_lt r.stamp z.stamp ≡ false) ts a
+      greatest = λ r x k. cons_one (λ (z : CommitRow). z.txn ≡ r.txn → stamp_lt r.stamp z.stamp ≡ false) ts a
           (λ z j d. all.greatest r z k j d)
           (λ d. absurd (flies_uncommitted ts w.commits w.topics s _ _ f g r k (id_same r.txn.id f.txn.id (ap (λ (z : Transaction). z.id) (sym d)))))
           x;
       ordered = all.ordered;
     }
 
-Ticketed-more : (ts : List Row) (a : Row) (part : TopicPart) (n : ℕ) → Ticketed ts part n → Ticketed (a ∷ ts) part n
+Ticketed-more : (ts : List CommitRow) (a : CommitRow) (part : TopicPart) (n : ℕ) → Ticketed ts part n → Ticketed (a ∷ ts) part n
 Ticketed-more ts a part n h = record { ticket = h.ticket; stands = inr h.stands; part_is = h.part_is; stamp_is = h.stamp_is; named = h.named }
 
 -- the topic that gives the ticket
-Tied-here : (ts : List Row) (w : World) (s : ℕ) (t : Topic) (f : Flight) → Holds ts w → New w s t f → Tied (heard w s t f ∷ ts) w.commits t (topic_after w s t f)
+Tied-here : (ts : List CommitRow) (w : World) (s : ℕ) (t : Topic) (f : Flight) → Holds ts w → New w s t f → Tied (heard w s t f ∷ ts) w.commits t (topic_after w s t f)
 Tied-here ts w s t f inv new =
     let x = topic_in w.topics t in let h = inv.tied t in let a = heard w s t f in
-    let p : Pending = record { part = part_at f.txn.id f.txn.sends t; ticket = number w s t; learnt = None } in
+    let p : Pending = record { part = part_at f.txn.id f.txn.sends t; number = number w s t; learnt = None } in
     record {
       topic = h.topic;
-      given = cons_one (λ (b : Row). b.stamp.topic ≡ t → b.stamp.n ≤ number w s t) ts a
+      given = cons_one (λ (b : CommitRow). b.stamp.topic ≡ t → b.stamp.n ≤ number w s t) ts a
           (λ b k e. let l : b.stamp.n ≤ x.clock = h.given b k e in omega arith) (λ e. omega arith);
-      ticketed = insert_one (λ (q : Pending). Ticketed (a ∷ ts) q.part q.ticket) x.pending p
-          (λ q k. Ticketed-more ts a q.part q.ticket (h.ticketed q k))
+      ticketed = insert_one (λ (q : Pending). Ticketed (a ∷ ts) q.part q.number) x.pending p
+          (λ q k. Ticketed-more ts a q.part q.number (h.ticketed q k))
           (record { ticket = a; stands = inl refl; part_is = refl; stamp_is = refl; named = new.named });
       decided = insert_one (λ (q : Pending). (z : Stamp) → q.learnt ≡ Some z → Committed w.commits q.part.id z) x.pending p h.decided
           (λ z e. none_some z e);
@@ -152,11 +155,11 @@ Tied-here ts w s t f inv new =
     }
 
 -- another topic
-Tied-there : (ts : List Row) (cs : List Row) (u : Topic) (x : TopicState) (a : Row) → a.stamp.topic ≢ u → Tied ts cs u x → Tied (a ∷ ts) cs u x
+Tied-there : (ts : List CommitRow) (cs : List CommitRow) (u : Topic) (x : TopicState) (a : CommitRow) → a.stamp.topic ≢ u → Tied ts cs u x → Tied (a ∷ ts) cs u x
 Tied-there ts cs u x a ne h = record {
   topic = h.topic;
-  given = cons_one (λ (b : Row). b.stamp.topic ≡ u → b.stamp.n ≤ x.clock) ts a h.given (λ e. absurd (ne e));
-  ticketed = λ q k. Ticketed-more ts a q.part q.ticket (h.ticketed q k);
+  given = cons_one (λ (b : CommitRow). b.stamp.topic ≡ u → b.stamp.n ≤ x.clock) ts a h.given (λ e. absurd (ne e));
+  ticketed = λ q k. Ticketed-more ts a q.part q.number (h.ticketed q k);
   decided = h.decided;
   logged = h.logged;
   placed = h.placed;
@@ -177,7 +180,7 @@ within_senders senders s f e = elim (cases_lt s (length senders)) [
       none_some f (sym (ap (λ (x : SenderState). x.flight) p) ∙ e)
 ]
 
-left_kept : (ts : List Row) (w : World) (s d : ℕ) (t : Topic) (f : Flight) (seq : ℕ) (k : Leftover) → IsLeft w.commits w.topics d seq k → IsLeft w.commits (set w.topics t.0 (topic_after w s t f)) d seq k
+left_kept : (ts : List CommitRow) (w : World) (s d : ℕ) (t : Topic) (f : Flight) (seq : ℕ) (k : Leftover) → IsLeft w.commits w.topics d seq k → IsLeft w.commits (set w.topics t.0 (topic_after w s t f)) d seq k
 left_kept ts w s d t f seq k h = record {
   sender = h.sender;
   seq_le = h.seq_le;
@@ -186,29 +189,29 @@ left_kept ts w s d t f seq k h = record {
 }
 
 -- the sender whose transaction got the ticket
-Serves-here : (ts : List Row) (w : World) (s : ℕ) (t : Topic) (f : Flight) → Holds ts w → New w s t f → Serves (heard w s t f ∷ ts) w.commits (set w.topics t.0 (topic_after w s t f)) s (sender_after w s t f)
+Serves-here : (ts : List CommitRow) (w : World) (s : ℕ) (t : Topic) (f : Flight) → Holds ts w → New w s t f → Serves (heard w s t f ∷ ts) w.commits (set w.topics t.0 (topic_after w s t f)) s (sender_after w s t f)
 Serves-here ts w s t f inv new =
     let h = inv.serves s in let g = flies ts w s t f inv new in let a = heard w s t f in let x = sender_in w.senders s in
     let topics = set w.topics t.0 (topic_after w s t f) in record {
-      used = cons_one (λ (b : Row). b.txn.id.sender.0 ≡ s → b.txn.id.seq ≤ x.seq) ts a h.used (λ e. g.seq_le);
+      used = cons_one (λ (b : CommitRow). b.txn.id.sender.0 ≡ s → b.txn.id.seq ≤ x.seq) ts a h.used (λ e. g.seq_le);
       floored = h.floored;
       flying = λ y e. subst (λ (z : Flight). Flies (a ∷ ts) w.commits topics s x.seq x.floor z) (some_same (flight_after w s t f) y e) (record {
         sender = g.sender;
         seq_le = g.seq_le;
         newest = g.newest;
-        same = cons_one (λ (b : Row). same_id b.txn.id f.txn.id ≡ true → b.txn ≡ f.txn) ts a g.same (λ i. refl);
-        higher = cons_one (λ (b : Row). b.txn ≡ f.txn → stamp_lt x.floor b.stamp ≡ true) ts a g.higher
+        same = cons_one (λ (b : CommitRow). same_id b.txn.id f.txn.id ≡ true → b.txn ≡ f.txn) ts a g.same (λ i. refl);
+        higher = cons_one (λ (b : CommitRow). b.txn ≡ f.txn → stamp_lt x.floor b.stamp ≡ true) ts a g.higher
             (λ i. lt_by_number x.floor a.stamp (omega arith));
         given_in = λ z i. elim (In-ticket_cases z (ticket w s t) f.given i) [ inl e ↦ inl (ap (row f.txn) e) | inr k ↦ inr (g.given_in z k) ];
-        given_all = cons_one (λ (b : Row). b.txn ≡ f.txn → In b.stamp (insert_ticket (ticket w s t) f.given)) ts a
+        given_all = cons_one (λ (b : CommitRow). b.txn ≡ f.txn → In b.stamp (insert_ticket (ticket w s t) f.given)) ts a
             (λ b k e. In-ticket b.stamp (ticket w s t) f.given (inr (g.given_all b k e)))
             (λ e. In-ticket a.stamp (ticket w s t) f.given (inl refl));
         given_apart = OneEach-insert (ticket w s t) f.given (not_given t f.given new.unheard) g.given_apart;
-        waits = cons_one (λ (b : Row). b.txn ≡ f.txn → Waits f.txn.id (topic_in topics b.stamp.topic).pending) ts a
+        waits = cons_one (λ (b : CommitRow). b.txn ≡ f.txn → Waits f.txn.id (topic_in topics b.stamp.topic).pending) ts a
             (λ b k i. waits_kept w s t f f.txn.id b.stamp.topic (g.waits b k i))
             (λ i. at_set_within (λ (z : TopicState). Waits f.txn.id z.pending) w.topics t.0 t.0 (topic_after w s t f) (new_topic t 0 0) new.room
             (λ j. record {
-              part = record { part = part_at f.txn.id f.txn.sends t; ticket = number w s t; learnt = None };
+              part = record { part = part_at f.txn.id f.txn.sends t; number = number w s t; learnt = None };
               stands = In-insert _ _ (topic_in w.topics t).pending (inl refl);
               is = refl;
             })
@@ -222,29 +225,29 @@ Serves-here ts w s t f inv new =
     }
 
 -- two undecided transactions of one id have one sender
-pub one_flight : (ts cs : List Row) (topics : List TopicState) (s d m n : ℕ) (a b : Stamp) (f g : Flight) → Flies ts cs topics s m a f → Flies ts cs topics d n b g → f.txn.id ≡ g.txn.id → s ≡ d
+pub one_flight : (ts cs : List CommitRow) (topics : List TopicState) (s d m n : ℕ) (a b : Stamp) (f g : Flight) → Flies ts cs topics s m a f → Flies ts cs topics d n b g → f.txn.id ≡ g.txn.id → s ≡ d
 one_flight ts cs topics s d m n a b f g h k e = sym h.sender ∙ (ap (λ (z : TxnId). z.sender.0) e ∙ k.sender)
 
 -- another sender
-Serves-there : (ts : List Row) (w : World) (s : ℕ) (t : Topic) (f : Flight) → Holds ts w → New w s t f → (d : ℕ) → d ≢ s → Serves (heard w s t f ∷ ts) w.commits (set w.topics t.0 (topic_after w s t f)) d (sender_in w.senders d)
+Serves-there : (ts : List CommitRow) (w : World) (s : ℕ) (t : Topic) (f : Flight) → Holds ts w → New w s t f → (d : ℕ) → d ≢ s → Serves (heard w s t f ∷ ts) w.commits (set w.topics t.0 (topic_after w s t f)) d (sender_in w.senders d)
 Serves-there ts w s t f inv new d ne =
     let h = inv.serves d in let mine = flies ts w s t f inv new in let a = heard w s t f in let x = sender_in w.senders d in
     let topics = set w.topics t.0 (topic_after w s t f) in record {
-      used = cons_one (λ (b : Row). b.txn.id.sender.0 ≡ d → b.txn.id.seq ≤ x.seq) ts a h.used (λ e. absurd (ne (sym e ∙ mine.sender)));
+      used = cons_one (λ (b : CommitRow). b.txn.id.sender.0 ≡ d → b.txn.id.seq ≤ x.seq) ts a h.used (λ e. absurd (ne (sym e ∙ mine.sender)));
       floored = h.floored;
       flying = λ y e. let g = h.flying y e in record {
         sender = g.sender;
         seq_le = g.seq_le;
         newest = g.newest;
-        same = cons_one (λ (b : Row). same_id b.txn.id y.txn.id ≡ true → b.txn ≡ y.txn) ts a g.same
+        same = cons_one (λ (b : CommitRow). same_id b.txn.id y.txn.id ≡ true → b.txn ≡ y.txn) ts a g.same
             (λ i. absurd (apart y e (id_equal f.txn.id y.txn.id i)));
-        higher = cons_one (λ (b : Row). b.txn ≡ y.txn → stamp_lt x.floor b.stamp ≡ true) ts a g.higher
+        higher = cons_one (λ (b : CommitRow). b.txn ≡ y.txn → stamp_lt x.floor b.stamp ≡ true) ts a g.higher
             (λ i. absurd (apart y e (ap (λ (z : Transaction). z.id) i)));
         given_in = λ z i. inr (g.given_in z i);
-        given_all = cons_one (λ (b : Row). b.txn ≡ y.txn → In b.stamp y.given) ts a g.given_all
+        given_all = cons_one (λ (b : CommitRow). b.txn ≡ y.txn → In b.stamp y.given) ts a g.given_all
             (λ i. absurd (apart y e (ap (λ (z : Transaction). z.id) i)));
         given_apart = g.given_apart;
-        waits = cons_one (λ (b : Row). b.txn ≡ y.txn → Waits y.txn.id (topic_in topics b.stamp.topic).pending) ts a
+        waits = cons_one (λ (b : CommitRow). b.txn ≡ y.txn → Waits y.txn.id (topic_in topics b.stamp.topic).pending) ts a
             (λ b k i. waits_kept w s t f y.txn.id b.stamp.topic (g.waits b k i))
             (λ i. absurd (apart y e (ap (λ (z : Transaction). z.id) i)));
         some = g.some;
@@ -258,18 +261,18 @@ Serves-there ts w s t f inv new d ne =
     apart : (y : Flight) → (sender_in w.senders d).flight ≡ Some y → f.txn.id ≡ y.txn.id → Prim.⊥
     apart y e i = ne (sym (one_flight ts w.commits w.topics s d _ _ _ _ f y (flies ts w s t f inv new) ((inv.serves d).flying y e) i))
 
-Voted-more : (ts cs : List Row) (v : Decision) (a : Row) → Uncommitted cs a.txn.id → Voted ts cs v → Voted (a ∷ ts) cs v
+Voted-more : (ts cs : List CommitRow) (v : Decision) (a : CommitRow) → Uncommitted cs a.txn.id → Voted ts cs v → Voted (a ∷ ts) cs v
 Voted-more ts cs v a un h = record {
   row = h.row;
   stands = h.stands;
   id_is = h.id_is;
   stamp_is = h.stamp_is;
   one_row = h.one_row;
-  all = cons_one (λ (b : Row). b.txn ≡ h.row.txn → In b.stamp v.rows) ts a h.all
+  all = cons_one (λ (b : CommitRow). b.txn ≡ h.row.txn → In b.stamp v.rows) ts a h.all
       (λ e. absurd (un h.row h.stands (id_same h.row.txn.id a.txn.id (ap (λ (z : Transaction). z.id) (sym e)))));
 }
 
-pub enter_step : (ts : List Row) (w : World) (s : ℕ) (t : Topic) (f : Flight) → Holds ts w → New w s t f → Inv (heard w s t f ∷ ts) w.commits w.verdicts (set w.topics t.0 (topic_after w s t f)) (set w.senders s (sender_after w s t f)) w.subscriptions
+pub enter_step : (ts : List CommitRow) (w : World) (s : ℕ) (t : Topic) (f : Flight) → Holds ts w → New w s t f → Inv (heard w s t f ∷ ts) w.commits w.verdicts (set w.topics t.0 (topic_after w s t f)) (set w.senders s (sender_after w s t f)) w.subscriptions
 enter_step ts w s t f inv new =
     let a = heard w s t f in let topics = set w.topics t.0 (topic_after w s t f) in record {
       consistent = Consistent-enter ts w s t f inv new;

@@ -4,11 +4,11 @@ use Rattle.mcast_txn.specs.Part.{part_at}
 use Rattle.mcast_txn.specs.Ballot.{Decision}
 use Rattle.mcast_txn.specs.declared.id.Topic.{Topic}
 use Rattle.mcast_txn.specs.declared.id.TxnId.{TxnId}
-use Rattle.mcast_txn.specs.declared.send.Send.{Send}
+use Rattle.mcast_txn.specs.declared.draft.sent_message.SentMessage.{SentMessage}
 use Rattle.mcast_txn.proofs.Members.{at_set}
 use Rattle.mcast_group.specs.declared.fault.ProposeFault.{ProposeFault}
-use Rattle.mcast_group.specs.Span.{Item}
-use Rattle.mcast_group.specs.Topics.{TopicState, find_entry, proposed, cancelled, learned, release, turned, decided_stamp}
+use Rattle.mcast_txn.specs.Span.{Item}
+use Rattle.mcast_group.specs.Machine.{TopicState, find_entry, after_propose, after_cancel, after_learn, after_release, after_turn, decided_stamp}
 use Rattle.mcast_group.proofs.Queues.{More, More-same}
 use Rattle.delivery.specs.World.{World, Leftover, Subscription, no_subscription, topic_at, speaker, subscription_at, entry_at, with_topic}
 use Rattle.delivery.specs.Reading.{entry_items, accepted_at}
@@ -38,7 +38,7 @@ Grow-topic w t y h s l = More-topic w t y s (subscription_at w s) (h s)
 Grow-beside : (w : World) (t : Topic) (y : TopicState) → y.subscriptions ≡ (topic_in w.topics t).subscriptions → Grow w (with_topic w t y)
 Grow-beside w t y e = Grow-topic w t y (entries_more (topic_in w.topics t) y (Entries-same (topic_in w.topics t) y e))
 
-flown_grow : (w : World) (c : ℕ) (sends : List Send) → Grow w (flown w c sends)
+flown_grow : (w : World) (c : ℕ) (sends : List SentMessage) → Grow w (flown w c sends)
 flown_grow w c [] = Grow-same w
 flown_grow w c (first ∷ others) = Grow-same w
 
@@ -56,16 +56,16 @@ left_grow past w c (Some s) r = (closed_grows past w s r (entry_at w s) refl).mo
 
 proposed_grow : (w : World) (c : ℕ) (t : Topic) (o : Option ProposeFault) → Grow w (proposed_by w c t o)
 proposed_grow w c t None =
-    Grow-beside w t (proposed (speaker w c).floor (part_at (flight_at w c).txn.id (flight_at w c).txn.sends t) (topic_at w t)) refl
+    Grow-beside w t (after_propose (speaker w c).floor (part_at (flight_at w c).txn.id (flight_at w c).txn.sends t) (topic_at w t)) refl
 proposed_grow w c t (Some fault) = Grow-same w
 
 cancelled_grow : (w : World) (c : ℕ) (t : Topic) (o : Option Leftover) → Grow w (cancelled_at w c t o)
 cancelled_grow w c t None = Grow-same w
-cancelled_grow w c t (Some k) = Grow-beside w t (cancelled k.id (topic_at w t)) refl
+cancelled_grow w c t (Some k) = Grow-beside w t (after_cancel k.id (topic_at w t)) refl
 
 learned_grow : (w : World) (t : Topic) (id : TxnId) (o : Option Decision) → Grow w (learned_at w t id o)
 learned_grow w t id None = Grow-same w
-learned_grow w t id (Some v) = Grow-beside w t (learned id (decided_stamp v) (topic_at w t)) refl
+learned_grow w t id (Some v) = Grow-beside w t (after_learn id (decided_stamp v) (topic_at w t)) refl
 
 taken_grow : (w : World) (q : ℕ) (o : Option Item) → Grow w (handed w q o)
 taken_grow w q None s l = More-same (accepted_at w s)
@@ -97,9 +97,9 @@ effect_grow past w (Decides c) r = Grow-same w
 effect_grow past w (Withdraws c) r = Grow-same w
 effect_grow past w (Cancels c t) r = cancelled_grow w c t (find_leftover t (speaker w c).leftovers)
 effect_grow past w (Learns t id) r = learned_grow w t id (find_verdict id w.verdicts)
-effect_grow past w (Releases t) r = Grow-topic w t (release (takes w) (topic_at w t)) (entries_more (topic_in w.topics t) (release (takes w) (topic_at w t))
+effect_grow past w (Releases t) r = Grow-topic w t (after_release (takes w) (topic_at w t)) (entries_more (topic_in w.topics t) (after_release (takes w) (topic_at w t))
     (Keeps-release (tickets past) w.commits t (takes w) (topic_at w t) r.inv.consistent (r.inv.tied t)).entries)
-effect_grow past w (Turns t) r = Grow-topic w t (turned (takes w) (find_in w) (topic_at w t)) (entries_more (topic_in w.topics t) (turned (takes w) (find_in w) (topic_at w t))
+effect_grow past w (Turns t) r = Grow-topic w t (after_turn (takes w) (find_in w) (topic_at w t)) (entries_more (topic_in w.topics t) (after_turn (takes w) (find_in w) (topic_at w t))
     (Keeps-turned (tickets past) w.commits t (takes w) (find_in w) (topic_at w t) r.inv.consistent (finds (tickets past) w r.inv) (r.inv.tied t)).entries)
 effect_grow past w (Takes s) r = taken_grow w s _
 

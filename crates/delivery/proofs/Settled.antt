@@ -2,17 +2,20 @@
 use Rattle.std.proofs.Common.{length, ◌≡◌, ℕ, ◌<◌, ◌≤◌, Bool, true, false, ◌⊎◌, inl, inr, List, [], ◌∷◌, set, Option, Some, None, refl, sym, ap, subst, ◌∙◌, arith}
 use Rattle.std.proofs.lemmas.Bool.{true≢false}
 use Rattle.mcast_txn.specs.Transaction.{TopicPart, topics_of}
-use Rattle.mcast_txn.specs.Agreed.{Row, same_id, In, names}
+use Rattle.mcast_txn.specs.Agreed.{CommitRow}
+use Rattle.mcast_txn.specs.Ids.{same_id}
+use Rattle.mcast_txn.specs.Lists.{In}
+use Rattle.mcast_txn.specs.TopicSet.{names}
 use Rattle.mcast_txn.specs.Ballot.{Decision}
 use Rattle.mcast_txn.specs.declared.id.Topic.{Topic}
 use Rattle.mcast_txn.specs.declared.id.TxnId.{TxnId}
-use Rattle.mcast_txn.specs.declared.send.Send.{Send}
+use Rattle.mcast_txn.specs.declared.draft.sent_message.SentMessage.{SentMessage}
 use Rattle.mcast_txn.specs.declared.stamp.Stamp.{Stamp}
 use Rattle.mcast_txn.proofs.Orders.{id_equal, id_same, id_itself}
 use Rattle.mcast_txn.proofs.Members.{at_set, at_set_within, at_set_same}
 use Rattle.mcast_group.specs.declared.fault.ProposeFault.{ProposeFault}
-use Rattle.mcast_group.specs.Span.{Item}
-use Rattle.mcast_group.specs.Topics.{TopicState, Pending, Entry, decided_stamp, new_topic, learned, cancelled, due_part, turned, turn_count}
+use Rattle.mcast_txn.specs.Span.{Item}
+use Rattle.mcast_group.specs.Machine.{TopicState, Pending, Entry, decided_stamp, new_topic, after_learn, after_cancel, due_part, after_turn, turn_count}
 use Rattle.mcast_group.proofs.Parts.{Waits, others, not_true, none_some}
 use Rattle.mcast_group.proofs.Turning.{turn_none}
 use Rattle.delivery.specs.declared.refusal.Refusal.{Refusal}
@@ -108,9 +111,9 @@ flights_still past w t h l all s f e = not_true (names t (topics_of f.txn.sends)
       | inr d ↦ true≢false (sym (id_itself f.txn.id) ∙ l.not_withdrawn s f f.txn.id d.0.0 e d.0.1)
     ])
 
-turn_settling : (past : List Outcome) (w : World) (t : Topic) → Reached past w → Settling past w.topics w.senders → Settling (answer w (Turns t) ∷ past) (set w.topics t.0 (turned (takes w) (find_in w) (topic_at w t))) w.senders
+turn_settling : (past : List Outcome) (w : World) (t : Topic) → Reached past w → Settling past w.topics w.senders → Settling (answer w (Turns t) ∷ past) (set w.topics t.0 (after_turn (takes w) (find_in w) (topic_at w t))) w.senders
 turn_settling past w t h l =
-    let y = turned (takes w) (find_in w) (topic_at w t) in
+    let y = after_turn (takes w) (find_in w) (topic_at w t) in
     note_turned past (set w.topics t.0 y) w.senders t (turn_count (takes w) (find_in w) (topic_at w t))
     (λ all. record {
       none = at_set_same (λ (z : TopicState). (p : Pending) → In p z.pending → Prim.⊥) w.topics t.0 y (new_topic t 0 0)
@@ -154,7 +157,7 @@ cancelled_settling past w c t h l None e = note_quiet past w.topics w.senders Do
 cancelled_settling past w c t h l (Some k) e =
     let s = (connection_at w c).sender in let x = sender_in w.senders s in let v = cancelled_at w c t (Some k) in
     let found = leftover_found t x.leftovers k e in let g = (h.inv.serves s).left k found.stands in
-    let y = cancelled k.id (topic_in w.topics t) in
+    let y = after_cancel k.id (topic_in w.topics t) in
     note_cancelled past v.topics v.senders k.id t
     (at_set (λ (z : SenderState). k.id.seq ≤ z.seq) w.senders s k.id.sender.0 _ new_sender (λ n. g.seq_le)
     (subst (λ z. k.id.seq ≤ (sender_in w.senders z).seq) (sym g.sender) g.seq_le))
@@ -177,7 +180,7 @@ cancelled_settling past w c t h l (Some k) e =
 
 learned_fewer : (w : World) (t : Topic) (id : TxnId) (o : Option Decision) → Fewer w.topics w.senders (learned_at w t id o).topics (learned_at w t id o).senders
 learned_fewer w t id None = Fewer-same w.topics w.senders
-learned_fewer w t id (Some v) = Fewer-topic w.topics w.senders t (learned id (decided_stamp v) (topic_at w t)) (Gone-learned id (decided_stamp v) (topic_at w t))
+learned_fewer w t id (Some v) = Fewer-topic w.topics w.senders t (after_learn id (decided_stamp v) (topic_at w t)) (Gone-learned id (decided_stamp v) (topic_at w t))
 
 closed_fewer : (w : World) (s : ℕ) (o : Option Entry) → Fewer w.topics w.senders (closed_with w s o).topics (closed_with w s o).senders
 closed_fewer w s None = Fewer-same w.topics w.senders
@@ -192,7 +195,7 @@ handed_settling : (past : List Outcome) (w : World) (s : ℕ) (o : Option Item) 
 handed_settling past w s None l = note_quiet past w.topics w.senders (take_answer w s None) (quiet_error _) l
 handed_settling past w s (Some item) l = note_quiet past w.topics w.senders (Handed s item) (quiet_handed s item) l
 
-flown_settling : (past : List Outcome) (w : World) (c : ℕ) (sends : List Send) → Reached past w → Settling past w.topics w.senders → Settling (flying_answer w c sends ∷ past) (flown w c sends).topics (flown w c sends).senders
+flown_settling : (past : List Outcome) (w : World) (c : ℕ) (sends : List SentMessage) → Reached past w → Settling past w.topics w.senders → Settling (flying_answer w c sends ∷ past) (flown w c sends).topics (flown w c sends).senders
 flown_settling past w c [] h l = note_quiet past w.topics w.senders Done quiet_done l
 flown_settling past w c (first ∷ others) h l = flying_settling past w c first others h.inv l
 
@@ -267,11 +270,11 @@ pub settling_run : (r : Run) → Settling (came r) (after r).topics (after r).se
 settling_run r =
     (run_both r.events [] (start r.capacity r.log_limit r.clocks) (start_reached r.capacity r.log_limit r.clocks) (start_settling r.log_limit r.clocks)).settling
 
-logged_of : (w : World) (t : Topic) (r : Row) → Calm w.topics w.senders t → In (log_row r) (topic_in w.topics t).held ⊎ Waits r.txn.id (topic_in w.topics t).pending → In (log_row r) (topic_in w.topics t).held
+logged_of : (w : World) (t : Topic) (r : CommitRow) → Calm w.topics w.senders t → In (log_row r) (topic_in w.topics t).held ⊎ Waits r.txn.id (topic_in w.topics t).pending → In (log_row r) (topic_in w.topics t).held
 logged_of w t r k (inl i) = i
 logged_of w t r k (inr v) = absurd (k.none v.part v.stands)
 
-pub settled_in_log : (r : Run) (t : Topic) (row : Row) → IsSettled t (came r) → In row (commits_of (came r)) → names t (topics_of row.txn.sends) ≡ true
+pub settled_in_log : (r : Run) (t : Topic) (row : CommitRow) → IsSettled t (came r) → In row (commits_of (came r)) → names t (topics_of row.txn.sends) ≡ true
     → In (log_row row) (log_at (after r) t)
 settled_in_log r t row settled i n =
     let w = after r in

@@ -2,15 +2,18 @@
 use Rattle.std.proofs.Common.{◌≡◌, ℕ, ◌+◌, ◌≤◌, Bool, false, inl, inr, List, [], ◌∷◌, set, Option, Some, None, refl, sym, ap, subst, ◌∙◌, arith}
 use Rattle.std.proofs.lemmas.Bool.{true≢false}
 use Rattle.mcast_txn.specs.Transaction.{TopicPart, topics_of}
-use Rattle.mcast_txn.specs.Agreed.{Transaction, Row, same_id, In, names}
+use Rattle.mcast_txn.specs.Agreed.{Transaction, CommitRow}
+use Rattle.mcast_txn.specs.Ids.{same_id}
+use Rattle.mcast_txn.specs.Lists.{In}
+use Rattle.mcast_txn.specs.TopicSet.{names}
 use Rattle.mcast_txn.specs.Ballot.{Decision}
 use Rattle.mcast_txn.specs.declared.id.Topic.{Topic}
 use Rattle.mcast_txn.specs.declared.id.TxnId.{TxnId}
-use Rattle.mcast_txn.specs.declared.send.Send.{Send}
+use Rattle.mcast_txn.specs.declared.draft.sent_message.SentMessage.{SentMessage}
 use Rattle.mcast_txn.specs.declared.stamp.Stamp.{Stamp}
 use Rattle.mcast_txn.proofs.Orders.{id_equal}
 use Rattle.mcast_txn.proofs.Members.{In-map_cases, at_set}
-use Rattle.mcast_group.specs.Topics.{TopicState, Pending, Entry, told, learned, cancelled, release, turned, decided_stamp}
+use Rattle.mcast_group.specs.Machine.{TopicState, Pending, Entry, with_stamp, after_learn, after_cancel, after_release, after_turn, decided_stamp}
 use Rattle.mcast_group.proofs.Parts.{Waits, In-insert_cases, told_how, others, not_true, some_same}
 use Rattle.mcast_group.proofs.Turning.{release_keeps, turn_keeps}
 use Rattle.delivery.specs.World.{World, Flight, SenderState, new_sender, connection_at, speaker}
@@ -32,7 +35,7 @@ pub record Calm (topics : List TopicState) (senders : List SenderState) (t : Top
 pub record Settling (past : List Outcome) (topics : List TopicState) (senders : List SenderState) : Type 0 where
   pub gone : (t : Topic) (p : Pending) (id : TxnId) → In p (topic_in topics t).pending → In (Cancelled id t) past → same_id p.part.id id ≡ false
   pub flew : (s : ℕ) (f : Flight) → (sender_in senders s).flight ≡ Some f → In (Flying f.txn) past
-  pub ticket_flew : (a : Row) → In a (tickets past) → In (Flying a.txn) past
+  pub ticket_flew : (a : CommitRow) → In a (tickets past) → In (Flying a.txn) past
   pub withdrawn_old : (id : TxnId) (c : ℕ) → In (Withdrawn id c) past → id.seq ≤ (sender_in senders id.sender.0).seq
   pub cancelled_old : (id : TxnId) (t : Topic) → In (Cancelled id t) past → id.seq ≤ (sender_in senders id.sender.0).seq
   pub not_withdrawn : (s : ℕ) (f : Flight) (id : TxnId) (c : ℕ) → (sender_in senders s).flight ≡ Some f → In (Withdrawn id c) past → same_id f.txn.id id ≡ false
@@ -50,21 +53,21 @@ Gone-same ps q i = record { part = q; stands = i; is = refl }
 Gone-then : (ps qs rs : List Pending) → Gone_to ps qs → Gone_to qs rs → Gone_to ps rs
 Gone-then ps qs rs a b r i = let k = b r i in let m = a k.part k.stands in record { part = m.part; stands = m.stands; is = m.is ∙ k.is }
 
-pub Gone-learned : (id : TxnId) (stamp : Stamp) (x : TopicState) → Gone_to x.pending (learned id stamp x).pending
-Gone-learned id stamp x q i = let m = In-map_cases (told id stamp) q x.pending i in
+pub Gone-learned : (id : TxnId) (stamp : Stamp) (x : TopicState) → Gone_to x.pending (after_learn id stamp x).pending
+Gone-learned id stamp x q i = let m = In-map_cases (with_stamp id stamp) q x.pending i in
     record { part = m.from; stands = m.stands; is = ap (λ (z : TopicPart). z.id) (sym (told_how id stamp m.from).part) ∙ ap (λ (z : Pending). z.part.id) m.is }
 
-pub Gone-without : (id : TxnId) (x : TopicState) → Gone_to x.pending (cancelled id x).pending
+pub Gone-without : (id : TxnId) (x : TopicState) → Gone_to x.pending (after_cancel id x).pending
 Gone-without id x q i = record { part = q; stands = (others id q x.pending i).stands; is = refl }
 
-pub Gone-release : (takes : Entry → Bool) (x : TopicState) → Gone_to x.pending (release takes x).pending
+pub Gone-release : (takes : Entry → Bool) (x : TopicState) → Gone_to x.pending (after_release takes x).pending
 Gone-release takes x = release_keeps (λ y. Gone_to x.pending y.pending) takes x (Gone-same x.pending) (λ p e. Gone-without p.part.id x)
 
-pub Gone-turned : (takes : Entry → Bool) (find : TxnId → Option Decision) (x : TopicState) → Gone_to x.pending (turned takes find x).pending
+pub Gone-turned : (takes : Entry → Bool) (find : TxnId → Option Decision) (x : TopicState) → Gone_to x.pending (after_turn takes find x).pending
 Gone-turned takes find x =
     turn_keeps (λ y. Gone_to x.pending y.pending) takes find
-    (λ y id v f e g. Gone-then x.pending y.pending (learned id (decided_stamp v) y).pending g (Gone-learned id (decided_stamp v) y))
-    (λ y p e g. Gone-then x.pending y.pending (cancelled p.part.id y).pending g (Gone-without p.part.id y))
+    (λ y id v f e g. Gone-then x.pending y.pending (after_learn id (decided_stamp v) y).pending g (Gone-learned id (decided_stamp v) y))
+    (λ y p e g. Gone-then x.pending y.pending (after_cancel p.part.id y).pending g (Gone-without p.part.id y))
     x (Gone-same x.pending)
 
 -- from one core to another: seqs rise, flights may end, parts may go
@@ -192,7 +195,7 @@ note_turned past topics senders u count now h = record {
 
 -- ---- a transaction is made
 
-pub flying_settling : (past : List Outcome) (w : World) (c : ℕ) (first : Send) (others : List Send) → Holds (tickets past) w → Settling past w.topics w.senders → Settling (Flying (next_txn w c (first ∷ others)) ∷ past) w.topics (flown w c (first ∷ others)).senders
+pub flying_settling : (past : List Outcome) (w : World) (c : ℕ) (first : SentMessage) (others : List SentMessage) → Holds (tickets past) w → Settling past w.topics w.senders → Settling (Flying (next_txn w c (first ∷ others)) ∷ past) w.topics (flown w c (first ∷ others)).senders
 flying_settling past w c first others inv h = record {
   gone = λ t p id i k. elim k [ inl e ↦ cc | inr j ↦ h.gone t p id i j ];
   flew = λ d f. moved (λ (z : SenderState). z.flight ≡ Some f → In (Flying f.txn) (Flying txn ∷ past)) d
@@ -254,7 +257,7 @@ ticket_settling past w s t f inv new is h = record {
   flew = λ d y. kept (λ (z : SenderState). z.flight ≡ Some y → In (Flying y.txn) (Ticket f.txn.id (heard w s t f).stamp ∷ past)) d
       (λ n k. inr (subst (λ (z : Flight). In (Flying z.txn) past) (some_same (flight_after w s t f) y k) (h.flew s f new.flight)))
       (λ k. inr (h.flew d y k));
-  ticket_flew = cons_one (λ (a : Row). In (Flying a.txn) (Ticket f.txn.id (heard w s t f).stamp ∷ past)) (tickets past) (row (made f.txn.id past) (heard w s t f).stamp)
+  ticket_flew = cons_one (λ (a : CommitRow). In (Flying a.txn) (Ticket f.txn.id (heard w s t f).stamp ∷ past)) (tickets past) (row (made f.txn.id past) (heard w s t f).stamp)
       (λ a k. inr (h.ticket_flew a k)) (inr (subst (λ z. In (Flying z) past) (sym is) (h.flew s f new.flight)));
   withdrawn_old = λ id c k. elim k [ inl e ↦ absurd (cc) | inr j ↦ kept (λ (z : SenderState). id.seq ≤ z.seq) id.sender.0 (λ e. subst (λ v. id.seq ≤ (sender_in w.senders v).seq) e (h.withdrawn_old id c j)) (h.withdrawn_old id c j) ];
   cancelled_old = λ id u k. elim k [ inl e ↦ absurd (cc) | inr j ↦ kept (λ (z : SenderState). id.seq ≤ z.seq) id.sender.0 (λ e. subst (λ v. id.seq ≤ (sender_in w.senders v).seq) e (h.cancelled_old id u j)) (h.cancelled_old id u j) ];

@@ -2,16 +2,16 @@
 use Rattle.std.proofs.Common.{◌≡◌, ℕ, zero, suc, ◌+◌, ◌<◌, ◌≤◌, ◌==◌, Bool, true, false, cond, not, ◌||◌, inl, inr, List, [], ◌∷◌, ◌++◌, length, get_or, Option, Some, None, refl, sym, ap, subst, ◌∙◌, arith, ltb}
 use Rattle.std.specs.Option.{is_some}
 use Rattle.std.proofs.lemmas.Bool.{true≢false, false≢true, ltb-true, and_parts}
-use Rattle.mcast_txn.specs.Agreed.{In}
+use Rattle.mcast_txn.specs.Lists.{In}
 use Rattle.mcast_txn.specs.Ballot.{Decision}
 use Rattle.mcast_txn.specs.declared.id.Topic.{Topic}
 use Rattle.mcast_txn.specs.declared.id.TxnId.{TxnId}
-use Rattle.mcast_txn.specs.declared.send.Send.{Send}
+use Rattle.mcast_txn.specs.declared.draft.sent_message.SentMessage.{SentMessage}
 use Rattle.mcast_txn.specs.declared.stamp.Stamp.{Stamp}
 use Rattle.mcast_txn.proofs.Members.{at_set, at_set_within}
 use Rattle.mcast_group.specs.declared.fault.ProposeFault.{ProposeFault}
-use Rattle.mcast_group.specs.Span.{Item}
-use Rattle.mcast_group.specs.Topics.{Pending, Entry, Ended, due_part}
+use Rattle.mcast_txn.specs.Span.{Item}
+use Rattle.mcast_group.specs.Machine.{Pending, Entry, EntryEnd, due_part}
 use Rattle.mcast_group.proofs.Parts.{some_same, none_some}
 use Rattle.delivery.specs.World.{World, Leftover, Connection, Subscription, Standing, is_open, nobody, no_subscription, topic_at, connection_at, speaker, subscription_at, entry_at, with_standing, start}
 use Rattle.delivery.specs.Events.{Event, Outcome, happens, outcome, refusal, effect, answer, is_live, find_leftover, find_verdict, oldest_live, flown, flying_answer, proposal_fault, proposed_by, propose_answer, cancelled_at, cancel_answer, learned_at, leaving, release_answer, handed, take_answer, left_by, leave_answer, closed_subscription, closed_with}
@@ -151,7 +151,7 @@ closing_shut past w s end r l n h =
     note_ended past v.connections v.subscriptions s end (closed_now w s l (entry_at w s) (no_entry past w s r l n))
     (Shutting-on past w.connections v.connections w.subscriptions v.subscriptions (Shuts-closed w s (entry_at w s)) h)
 
-pub none_of : (o : Option Ended) → is_some o ≡ false → o ≡ None
+pub none_of : (o : Option EntryEnd) → is_some o ≡ false → o ≡ None
 none_of None e = refl
 none_of (Some end) e = absurd (true≢false e)
 
@@ -200,7 +200,7 @@ closeless_released : (t : Topic) (o : Option Pending) → Closeless (release_ans
 closeless_released t None = closeless_done
 closeless_released t (Some p) = record { ended = λ s to e. cc; shut = λ c k. k; owner = λ s c u from e. cc }
 
-flown_shut : (past : List Outcome) (w : World) (c : ℕ) (sends : List Send) → Shutting past w.connections w.subscriptions → Shutting (flying_answer w c sends ∷ past) (flown w c sends).connections (flown w c sends).subscriptions
+flown_shut : (past : List Outcome) (w : World) (c : ℕ) (sends : List SentMessage) → Shutting past w.connections w.subscriptions → Shutting (flying_answer w c sends ∷ past) (flown w c sends).connections (flown w c sends).subscriptions
 flown_shut past w c [] h = note past w.connections w.subscriptions Done closeless_done h
 flown_shut past w c (first ∷ others) h = note past w.connections w.subscriptions _ (record { ended = λ s to e. cc; shut = λ d k. k; owner = λ s d t from e. cc }) h
 
@@ -317,7 +317,7 @@ not_silent past w s h e (inr k) =
     let shut = h.shut k.0 k.3 k.5 k.6 in
     true≢false (sym (false_not _ (or_right (is_some (subscription_at w s).closed) _ p)) ∙ subst (λ z. is_open (stands w.connections z) ≡ false) (sym own.1) shut.1)
 
-silent_flown : (w : World) (c : ℕ) (sends : List Send) (past : List Outcome) → SilentAfterClose past → SilentAfterClose (flying_answer w c sends ∷ past)
+silent_flown : (w : World) (c : ℕ) (sends : List SentMessage) (past : List Outcome) → SilentAfterClose past → SilentAfterClose (flying_answer w c sends ∷ past)
 silent_flown w c [] past h = h
 silent_flown w c (first ∷ others) past h = h
 

@@ -4,8 +4,8 @@ use Rattle.std.proofs.Common.{refl}
 use Rattle.mcast_txn.specs.declared.id.Topic.{Topic}
 use Rattle.mcast_txn.specs.Agreed.{agreed}
 use Rattle.mcast_group.specs.declared.cause.Cause.TheVariants.{Asked, Lag}
-use Rattle.mcast_group.specs.Span.{LogRow, Item}
-use Rattle.mcast_group.specs.Topics.{Ended}
+use Rattle.mcast_txn.specs.Span.{LogRow, Item}
+use Rattle.mcast_group.specs.Machine.{EntryEnd}
 use Rattle.delivery.specs.Due.{log_row}
 use Rattle.delivery.specs.World.{subscription_at}
 use Rattle.delivery.specs.Reading.{log_at, accepted_at, end_at, frontier_at}
@@ -42,7 +42,7 @@ asked : (outcome (after (three_due [])) (Unsubscribes 1 0) ≡ Unsubscribed 0 (s
     × (frontier_at (after (three_due [])) (topic 0) ≡ stamp 1 0)
 asked = (refl, refl, refl)
 
-abbrev asked_left : Ended
+abbrev asked_left : EntryEnd
 asked_left = record { to = stamp 1 0; accepted = item 1 ∷ []; cause = Asked }
 
 asked_closed : ((subscription_at (after (three_due [])) 0).closed ≡ None)
@@ -69,7 +69,7 @@ turn_grows = (refl, refl)
 abbrev pub lost_after : List Event → Run
 lost_after then = three_due (Turns (topic 0) ∷ Lost 1 ∷ then)
 
-abbrev lagged_left : Ended
+abbrev lagged_left : EntryEnd
 lagged_left = record { to = stamp 2 0; accepted = item 1 ∷ item 2 ∷ []; cause = Lag }
 
 lagged : (outcome (after (lost_after [])) (Leaves 1) ≡ Unsubscribed 0 (stamp 2 0)) × (end_at (after (lost_after [])) 0 ≡ Some (stamp 2 0))

@@ -4,12 +4,12 @@ use Rattle.mcast_txn.specs.Part.{part_at}
 use Rattle.mcast_txn.specs.Ballot.{Decision}
 use Rattle.mcast_txn.specs.declared.id.Topic.{Topic}
 use Rattle.mcast_txn.specs.declared.id.TxnId.{TxnId}
-use Rattle.mcast_txn.specs.declared.send.Send.{Send}
+use Rattle.mcast_txn.specs.declared.draft.sent_message.SentMessage.{SentMessage}
 use Rattle.mcast_txn.specs.declared.stamp.Stamp.{Stamp}
 use Rattle.mcast_txn.proofs.Members.{at_set, at_set_within}
 use Rattle.mcast_group.specs.declared.fault.ProposeFault.{ProposeFault}
-use Rattle.mcast_group.specs.Span.{Item}
-use Rattle.mcast_group.specs.Topics.{TopicState, Entry, Ended, find_entry, ended, proposed, cancelled, learned, unsubscribed, decided_stamp}
+use Rattle.mcast_txn.specs.Span.{Item}
+use Rattle.mcast_group.specs.Machine.{TopicState, Entry, EntryEnd, find_entry, end_of, after_propose, after_cancel, after_learn, after_unsubscribe, decided_stamp}
 use Rattle.mcast_group.proofs.Parts.{none_some}
 use Rattle.delivery.specs.World.{World, Leftover, Subscription, no_subscription, topic_at, speaker, subscription_at, entry_at, with_topic}
 use Rattle.delivery.specs.Reading.{entry_items, entry_to, accepted_at, end_at}
@@ -22,7 +22,7 @@ use Rattle.delivery.proofs.Happening.{Reached, by_refusal}
 use Rattle.delivery.proofs.Handing.{items_by, find_kept, find_pushed, ended_same, open_items}
 use Rattle.delivery.proofs.Moving.{Moves, Moves-same, Goes, Goes-same, release_goes, turned_goes, entry_moves}
 
-abbrev pub end_by : Option Ended → Option Entry → Option Stamp
+abbrev pub end_by : Option EntryEnd → Option Entry → Option Stamp
 end_by closed entry = elim closed [ None ↦ entry_to entry | Some end ↦ Some end.to ]
 
 abbrev pub end_in : List TopicState → ℕ → Subscription → Option Stamp
@@ -64,7 +64,7 @@ Tells-same w = record {
 
 -- ---- a step of one topic
 
-Moves-by : (taken capacity : ℕ) (closed : Option Ended) (a b : Option Entry) → Moves taken capacity (entry_to a) (entry_items a) (entry_to b) (entry_items b) → Moves taken capacity (end_by closed a) (items_by closed a) (end_by closed b) (items_by closed b)
+Moves-by : (taken capacity : ℕ) (closed : Option EntryEnd) (a b : Option Entry) → Moves taken capacity (entry_to a) (entry_items a) (entry_to b) (entry_items b) → Moves taken capacity (end_by closed a) (items_by closed a) (end_by closed b) (items_by closed b)
 Moves-by taken capacity None a b h = h
 Moves-by taken capacity (Some end) a b h = Moves-same taken capacity (Some end.to) end.accepted
 
@@ -152,19 +152,19 @@ Tells-begun past w c t r =
 
 -- ---- a subscription is closed
 
-ended_to : (frontier : Stamp) (n : ℕ) (from : Stamp) (to : Option Stamp) (accepted : List Item) (s : Stamp) → to ≡ Some s → Some (ended frontier (record { number = n; from = from; to = to; accepted = accepted })).to ≡ Some s
+ended_to : (frontier : Stamp) (n : ℕ) (from : Stamp) (to : Option Stamp) (accepted : List Item) (s : Stamp) → to ≡ Some s → Some (end_of frontier (record { number = n; from = from; to = to; accepted = accepted })).to ≡ Some s
 ended_to frontier n from None accepted s e = none_some s e
 ended_to frontier n from (Some end) accepted s e = e
 
-open_end : (closed : Option Ended) (entry : Option Entry) → closed ≡ None → end_by closed entry ≡ entry_to entry
+open_end : (closed : Option EntryEnd) (entry : Option Entry) → closed ≡ None → end_by closed entry ≡ entry_to entry
 open_end None entry e = refl
 open_end (Some end) entry e = none_some end (sym e)
 
 Tells-closed : (past : List Outcome) (w : World) (s : ℕ) → Reached past w → (o : Option Entry) → entry_at w s ≡ o → TellsOf w (closed_with w s o)
 Tells-closed past w s r None e = Tells-same w
 Tells-closed past w s r (Some entry) e =
-    let t = (subscription_at w s).topic in let x = topic_in w.topics t in let y = unsubscribed s x in
-    let v = closed_with w s (Some entry) in let left = ended x.frontier entry in
+    let t = (subscription_at w s).topic in let x = topic_in w.topics t in let y = after_unsubscribe s x in
+    let v = closed_with w s (Some entry) in let left = end_of x.frontier entry in
     let new : Subscription = record (subscription_at w s) { closed = Some left } in
     let f = found_entry s x.subscriptions entry e in
     let own = subst (λ n. Owned w.subscriptions t n entry.from) f.is (r.inv.subscribes.owned t entry f.stands) in
@@ -190,22 +190,22 @@ Tells-closed past w s r (Some entry) e =
 
 -- ---- each event
 
-Tells-flown : (w : World) (c : ℕ) (sends : List Send) → TellsOf w (flown w c sends)
+Tells-flown : (w : World) (c : ℕ) (sends : List SentMessage) → TellsOf w (flown w c sends)
 Tells-flown w c [] = Tells-same w
 Tells-flown w c (first ∷ others) = Tells-same w
 
 Tells-proposed : (w : World) (c : ℕ) (t : Topic) (o : Option ProposeFault) → TellsOf w (proposed_by w c t o)
 Tells-proposed w c t None =
-    let y = proposed (speaker w c).floor (part_at (flight_at w c).txn.id (flight_at w c).txn.sends t) (topic_at w t) in Tells-topic w t y (Goes-same w (topic_at w t) y refl)
+    let y = after_propose (speaker w c).floor (part_at (flight_at w c).txn.id (flight_at w c).txn.sends t) (topic_at w t) in Tells-topic w t y (Goes-same w (topic_at w t) y refl)
 Tells-proposed w c t (Some fault) = Tells-same w
 
 Tells-cancelled : (w : World) (c : ℕ) (t : Topic) (o : Option Leftover) → TellsOf w (cancelled_at w c t o)
 Tells-cancelled w c t None = Tells-same w
-Tells-cancelled w c t (Some k) = Tells-topic w t (cancelled k.id (topic_at w t)) (Goes-same w (topic_at w t) (cancelled k.id (topic_at w t)) refl)
+Tells-cancelled w c t (Some k) = Tells-topic w t (after_cancel k.id (topic_at w t)) (Goes-same w (topic_at w t) (after_cancel k.id (topic_at w t)) refl)
 
 Tells-learned : (w : World) (t : Topic) (id : TxnId) (o : Option Decision) → TellsOf w (learned_at w t id o)
 Tells-learned w t id None = Tells-same w
-Tells-learned w t id (Some v) = Tells-topic w t (learned id (decided_stamp v) (topic_at w t)) (Goes-same w (topic_at w t) (learned id (decided_stamp v) (topic_at w t)) refl)
+Tells-learned w t id (Some v) = Tells-topic w t (after_learn id (decided_stamp v) (topic_at w t)) (Goes-same w (topic_at w t) (after_learn id (decided_stamp v) (topic_at w t)) refl)
 
 Tells-left : (past : List Outcome) (w : World) (c : ℕ) (o : Option ℕ) → Reached past w → TellsOf w (left_by w c o)
 Tells-left past w c None r = Tells-same w

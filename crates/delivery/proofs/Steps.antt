@@ -3,19 +3,20 @@ use Rattle.std.proofs.Common.{◌≡◌, ◌≢◌, ℕ, ◌+◌, ◌<◌, ◌==
 use Rattle.std.specs.Option.{is_some}
 use Rattle.std.proofs.lemmas.Bool.{true≢false, false≢true}
 use Rattle.mcast_txn.specs.Transaction.{topics_of}
-use Rattle.mcast_txn.specs.Agreed.{In, names}
+use Rattle.mcast_txn.specs.Lists.{In}
+use Rattle.mcast_txn.specs.TopicSet.{names}
 use Rattle.mcast_txn.specs.Ballot.{Decision}
 use Rattle.mcast_txn.specs.declared.id.Topic.{Topic}
 use Rattle.mcast_txn.specs.declared.id.TxnId.{TxnId}
-use Rattle.mcast_txn.specs.declared.send.Send.{Send}
+use Rattle.mcast_txn.specs.declared.draft.sent_message.SentMessage.{SentMessage}
 use Rattle.mcast_txn.specs.declared.stamp.Stamp.{Stamp}
 use Rattle.mcast_txn.proofs.Members.{at_set, at_set_within}
 use Rattle.mcast_group.specs.declared.fault.ProposeFault.{ProposeFault}
 use Rattle.mcast_group.specs.declared.fault.LearnFault.{LearnFault}
 use Rattle.mcast_group.specs.declared.fault.CancelFault.{CancelFault}
-use Rattle.mcast_group.specs.Checks.{first_refusal}
-use Rattle.mcast_group.specs.Span.{Item}
-use Rattle.mcast_group.specs.Topics.{TopicState, Pending, Entry, new_topic, find_entry, find_pending, cancel_fault_of, learn_fault, delivered, due_part, released_if, release, item_of}
+use Rattle.mcast_txn.specs.Checks.{first_refusal}
+use Rattle.mcast_txn.specs.Span.{Item}
+use Rattle.mcast_group.specs.Machine.{TopicState, Pending, Entry, new_topic, find_entry, find_pending, cancel_fault_of, learn_fault, entry_after, due_part, after_release_if, after_release, item_of}
 use Rattle.mcast_group.proofs.Parts.{found_part, some_same, none_some}
 use Rattle.mcast_group.proofs.Numbers.{delivered_number}
 use Rattle.delivery.specs.declared.refusal.Refusal.{Refusal}
@@ -36,7 +37,7 @@ use Rattle.delivery.proofs.Voting.{learn_fault_is}
 
 -- ---- an answer is no refusal
 
-no_flying : (w : World) (c : ℕ) (sends : List Send) (why : Refusal) → flying_answer w c sends ≡ Refused why → Prim.⊥
+no_flying : (w : World) (c : ℕ) (sends : List SentMessage) (why : Refusal) → flying_answer w c sends ≡ Refused why → Prim.⊥
 no_flying w c [] why e = cc
 no_flying w c (first ∷ others) why e = cc
 
@@ -89,7 +90,7 @@ untouched : (topics : List TopicState) (t u : Topic) (y : TopicState) → (Some 
 untouched topics t u y ne =
     at_set (λ z. z ≡ topic_in topics u) topics t.0 u.0 y (new_topic u 0 0) (λ e. absurd (ne (ap Some (sym (same_topic u t e))))) refl
 
-flown_topics : (w : World) (c : ℕ) (sends : List Send) → (flown w c sends).topics ≡ w.topics
+flown_topics : (w : World) (c : ℕ) (sends : List SentMessage) → (flown w c sends).topics ≡ w.topics
 flown_topics w c [] = refl
 flown_topics w c (first ∷ others) = refl
 
@@ -151,7 +152,7 @@ ticket_case : (w : World) (c : ℕ) (t : Topic) (memory : Bool) (o : Option Prop
 ticket_case w c t memory None id ticket a e = (c, t, memory, refl, (cc), a.named, cc)
 ticket_case w c t memory (Some fault) id ticket a e = cc
 
-no_ticket_flying : (w : World) (c : ℕ) (sends : List Send) (id : TxnId) (ticket : Stamp) → flying_answer w c sends ≡ Ticket id ticket → Prim.⊥
+no_ticket_flying : (w : World) (c : ℕ) (sends : List SentMessage) (id : TxnId) (ticket : Stamp) → flying_answer w c sends ≡ Ticket id ticket → Prim.⊥
 no_ticket_flying w c [] id ticket e = cc
 no_ticket_flying w c (first ∷ others) id ticket e = cc
 
@@ -296,7 +297,7 @@ given_case : (w : World) (frontier : Stamp) (p : Pending) (number : ℕ) (from :
 given_case w frontier p number from accepted true e = record { number = refl; room = λ k. (refl, refl); full = λ k. absurd (true≢false (sym e ∙ k)) }
 given_case w frontier p number from accepted false e = record { number = refl; room = λ k. absurd (true≢false (sym k ∙ e)); full = λ k. (refl, refl) }
 
-given_of : (w : World) (frontier : Stamp) (p : Pending) (number : ℕ) (from : Stamp) (to : Option Stamp) (accepted : List Item) → to ≡ None → let before : Entry = record { number = number; from = from; to = to; accepted = accepted } in IsGiven w frontier p before (delivered (takes w) frontier (item_of p) before)
+given_of : (w : World) (frontier : Stamp) (p : Pending) (number : ℕ) (from : Stamp) (to : Option Stamp) (accepted : List Item) → to ≡ None → let before : Entry = record { number = number; from = from; to = to; accepted = accepted } in IsGiven w frontier p before (entry_after (takes w) frontier (item_of p) before)
 given_of w frontier p number from None accepted e = given_case w frontier p number from accepted (takes w (record { number = number; from = from; to = None; accepted = accepted })) refl
 given_of w frontier p number from (Some end) accepted e = none_some end (sym e)
 
@@ -319,13 +320,13 @@ find_stepped n step number (x ∷ es) e k =
 
 pub lags_where_full : Laws.LagsWhereFull
 lags_where_full w t p number before n due found unended =
-    let x = topic_at w t in let later = delivered (takes w) x.frontier (item_of p) before in
+    let x = topic_at w t in let later = entry_after (takes w) x.frontier (item_of p) before in
     let room = Rattle.std.proofs.lemmas.Bool.ltb-true t.0 (length w.topics) (false_not (ltb t.0 (length w.topics)) (checked w (Releases t) n).0) in (
       later,
       subst (λ (v : World). find_entry number (topic_at v t).subscriptions ≡ Some later) (sym (happens_when w (Releases t) n))
-          (at_set_within (λ (z : TopicState). find_entry number z.subscriptions ≡ Some later) w.topics t.0 t.0 (release (takes w) x) (new_topic t 0 0) room
-          (λ k. subst (λ (o : Option Pending). find_entry number (released_if (takes w) x o).subscriptions ≡ Some later) (sym due)
-          (find_stepped number (delivered (takes w) x.frontier (item_of p)) (delivered_number (takes w) x.frontier (item_of p)) x.subscriptions before found))
+          (at_set_within (λ (z : TopicState). find_entry number z.subscriptions ≡ Some later) w.topics t.0 t.0 (after_release (takes w) x) (new_topic t 0 0) room
+          (λ k. subst (λ (o : Option Pending). find_entry number (after_release_if (takes w) x o).subscriptions ≡ Some later) (sym due)
+          (find_stepped number (entry_after (takes w) x.frontier (item_of p)) (delivered_number (takes w) x.frontier (item_of p)) x.subscriptions before found))
           (λ ne. absurd (ne refl))),
       given_of w x.frontier p before.number before.from before.to before.accepted unended,
     )

@@ -2,13 +2,14 @@
 use Rattle.std.proofs.Common.{◌≡◌, ◌≢◌, ℕ, zero, suc, ◌+◌, ◌<◌, ◌≤◌, ◌==◌, Bool, true, false, cond, not, inl, inr, List, [], ◌∷◌, ◌++◌, length, get_or, set, Option, Some, None, refl, sym, ap, subst, ◌∙◌, arith}
 use Rattle.std.specs.List.{filter}
 use Rattle.std.proofs.lemmas.Bool.{true≢false, not-true, eqb-true, eq-eqb}
-use Rattle.mcast_txn.specs.Agreed.{Row, In}
+use Rattle.mcast_txn.specs.Agreed.{CommitRow}
+use Rattle.mcast_txn.specs.Lists.{In}
 use Rattle.mcast_txn.specs.declared.id.Topic.{Topic}
 use Rattle.mcast_txn.specs.declared.stamp.Stamp.{Stamp}
 use Rattle.mcast_txn.proofs.Members.{In-append_left, In-push, In-push_cases, In-filter, In-filter_cases, at_set, at_set_within, push_one, push_two}
-use Rattle.mcast_group.specs.Span.{Item}
+use Rattle.mcast_txn.specs.Span.{Item}
 use Rattle.mcast_group.specs.Sound.{IsSound, IsQueueOf}
-use Rattle.mcast_group.specs.Topics.{TopicState, Entry, Ended, new_topic, find_entry, subscribed, ended, unsubscribed}
+use Rattle.mcast_group.specs.Machine.{TopicState, Entry, EntryEnd, new_topic, find_entry, after_subscribe, end_of, after_unsubscribe}
 use Rattle.mcast_group.proofs.Parts.{Waits, some_same, none_some, not_true}
 use Rattle.mcast_group.proofs.Queues.{Queue-ended}
 use Rattle.mcast_group.proofs.Keeping.{Sound-new, Sound-subscribed, Sound-unsubscribed}
@@ -44,7 +45,7 @@ push_length (y ∷ xs) x = ap suc (push_length xs x)
 
 -- ---- a change of one topic's subscriptions
 
-Tied-subs : (ts cs : List Row) (t : Topic) (x : TopicState) (subs : List Entry) → Tied ts cs t x → IsSound (record x { subscriptions = subs }) → ((e : Entry) → In e subs → (i : Item) → In i e.accepted → (f : Entry) × In f x.subscriptions × In i f.accepted) → Tied ts cs t (record x { subscriptions = subs })
+Tied-subs : (ts cs : List CommitRow) (t : Topic) (x : TopicState) (subs : List Entry) → Tied ts cs t x → IsSound (record x { subscriptions = subs }) → ((e : Entry) → In e subs → (i : Item) → In i e.accepted → (f : Entry) × In f x.subscriptions × In i f.accepted) → Tied ts cs t (record x { subscriptions = subs })
 Tied-subs ts cs t x subs h sound old = record {
   topic = h.topic;
   given = h.given;
@@ -66,9 +67,9 @@ abbrev pub new_entry : World → Topic → Entry
 new_entry w t = record { number = length w.subscriptions; from = (topic_in w.topics t).frontier; to = None; accepted = [] }
 
 abbrev pub topic_with : World → Topic → TopicState
-topic_with w t = subscribed (length w.subscriptions) (topic_in w.topics t)
+topic_with w t = after_subscribe (length w.subscriptions) (topic_in w.topics t)
 
-Tied-subscribed : (ts : List Row) (w : World) (t : Topic) → Holds ts w → Tied ts w.commits t (topic_with w t)
+Tied-subscribed : (ts : List CommitRow) (w : World) (t : Topic) → Holds ts w → Tied ts w.commits t (topic_with w t)
 Tied-subscribed ts w t inv =
     let x = topic_in w.topics t in let h = inv.tied t in
     Tied-subs ts w.commits t x (x.subscriptions ++ new_entry w t ∷ []) h (Sound-subscribed (length w.subscriptions) x h.sound
@@ -90,10 +91,10 @@ Owned-more subs v t n from h = record {
 same_else : (P : Topic → TopicState → Type 0) (topics : List TopicState) (t u : Topic) (subs : List Entry) → ((x : TopicState) → P t x → P t (record x { subscriptions = subs })) → P u (topic_in topics u) → P u (topic_in (set topics t.0 (record (topic_in topics t) { subscriptions = subs })) u)
 same_else P topics t u subs h k = at_topic_from P topics t u (record (topic_in topics t) { subscriptions = subs }) (h (topic_in topics t)) k
 
-IsClosed-subs : (cs : List Row) (from : Stamp) (end : Ended) (t : Topic) (x : TopicState) (subs : List Entry) → IsClosed cs from end t x → IsClosed cs from end t (record x { subscriptions = subs })
+IsClosed-subs : (cs : List CommitRow) (from : Stamp) (end : EntryEnd) (t : Topic) (x : TopicState) (subs : List Entry) → IsClosed cs from end t x → IsClosed cs from end t (record x { subscriptions = subs })
 IsClosed-subs cs from end t x subs h = record { queue = h.queue; items = h.items }
 
-Subscribes-begun : (ts : List Row) (w : World) (c : ℕ) (t : Topic) → Holds ts w → t.0 < length w.topics → Subscribes w.commits (set w.topics t.0 (topic_with w t)) (w.subscriptions ++ new_subscription w c t ∷ [])
+Subscribes-begun : (ts : List CommitRow) (w : World) (c : ℕ) (t : Topic) → Holds ts w → t.0 < length w.topics → Subscribes w.commits (set w.topics t.0 (topic_with w t)) (w.subscriptions ++ new_subscription w c t ∷ [])
 Subscribes-begun ts w c t inv room =
     let h = inv.subscribes in let v = new_subscription w c t in let e = new_entry w t in let x = topic_in w.topics t in
     let subs = w.subscriptions in let topics = set w.topics t.0 (topic_with w t) in
@@ -126,7 +127,7 @@ Subscribes-begun ts w c t inv room =
     moved s from u k = at_topic_from (λ y z. HasEntry s from z) w.topics t u (topic_with w t)
         (λ o. record { entry = o.entry; stands = In-append_left o.entry (topic_in w.topics t).subscriptions (new_entry w t ∷ []) o.stands; number = o.number; from_is = o.from_is }) k
 
-pub subscribe_step : (ts : List Row) (w : World) (c : ℕ) (t : Topic) → Holds ts w → t.0 < length w.topics → Inv ts w.commits w.verdicts (set w.topics t.0 (topic_with w t)) w.senders (w.subscriptions ++ new_subscription w c t ∷ [])
+pub subscribe_step : (ts : List CommitRow) (w : World) (c : ℕ) (t : Topic) → Holds ts w → t.0 < length w.topics → Inv ts w.commits w.verdicts (set w.topics t.0 (topic_with w t)) w.senders (w.subscriptions ++ new_subscription w c t ∷ [])
 subscribe_step ts w c t inv room = record {
   consistent = inv.consistent;
   tied = λ u. at_topic (λ v z. Tied ts w.commits v z) w.topics t u (topic_with w t) (Tied-subscribed ts w t inv) (inv.tied u);
@@ -169,15 +170,15 @@ finds_entry n (x ∷ es) e (inl k) d =
 finds_entry n (x ∷ es) e (inr k) d = finds_case n x es (x.number == n) (λ f. finds_entry n es e k d) refl
 
 abbrev pub topic_without : World → Topic → ℕ → TopicState
-topic_without w t s = unsubscribed s (topic_in w.topics t)
+topic_without w t s = after_unsubscribe s (topic_in w.topics t)
 
 abbrev pub kept_by : ℕ → Entry → Bool
 kept_by s e = not (e.number == s)
 
 abbrev pub subscription_after : World → ℕ → Entry → Subscription
-subscription_after w s e = let x = sub_in w.subscriptions s in record x { closed = Some (ended (topic_in w.topics x.topic).frontier e) }
+subscription_after w s e = let x = sub_in w.subscriptions s in record x { closed = Some (end_of (topic_in w.topics x.topic).frontier e) }
 
-ended_items : (frontier : Stamp) (n : ℕ) (from : Stamp) (to : Option Stamp) (accepted : List Item) (i : Item) → In i (ended frontier (record { number = n; from = from; to = to; accepted = accepted })).accepted → In i accepted
+ended_items : (frontier : Stamp) (n : ℕ) (from : Stamp) (to : Option Stamp) (accepted : List Item) (i : Item) → In i (end_of frontier (record { number = n; from = from; to = to; accepted = accepted })).accepted → In i accepted
 ended_items frontier n from None accepted i k = k
 ended_items frontier n from (Some end) accepted i k = k
 
@@ -191,7 +192,7 @@ has_topic [] n d empty e i = absurd (subst (λ z. In e z) empty i)
 has_topic (x ∷ xs) zero d empty e i = omega arith
 has_topic (x ∷ xs) (suc n) d empty e i = let l = has_topic xs n d empty e i in omega arith
 
-kept_entry : (s r : ℕ) (from : Stamp) (x : TopicState) → r ≢ s → HasEntry r from x → HasEntry r from (unsubscribed s x)
+kept_entry : (s r : ℕ) (from : Stamp) (x : TopicState) → r ≢ s → HasEntry r from x → HasEntry r from (after_unsubscribe s x)
 kept_entry s r from x ne h = record {
   entry = h.entry;
   stands = In-filter (kept_by s) h.entry x.subscriptions h.stands
@@ -208,16 +209,16 @@ Owned-kept subs s v t n from ne h = record {
   from_is = at_set (λ (z : Subscription). z.from ≡ from) subs s n v no_subscription (λ e. absurd (ne e)) h.from_is;
 }
 
-new_closed : (ts : List Row) (w : World) (t : Topic) (from : Stamp) (e : Entry) (end : Ended) → Holds ts w → In e (topic_in w.topics t).subscriptions → e.from ≡ from → Some (ended (topic_in w.topics t).frontier e) ≡ Some end → IsClosed w.commits from end t (topic_in w.topics t)
+new_closed : (ts : List CommitRow) (w : World) (t : Topic) (from : Stamp) (e : Entry) (end : EntryEnd) → Holds ts w → In e (topic_in w.topics t).subscriptions → e.from ≡ from → Some (end_of (topic_in w.topics t).frontier e) ≡ Some end → IsClosed w.commits from end t (topic_in w.topics t)
 new_closed ts w t from e end inv i f n =
     let x = topic_in w.topics t in
-    subst (λ z. IsClosed w.commits from z t x) (some_same (ended x.frontier e) end n) (record {
-      queue = subst (λ z. IsQueueOf x.base x.frontier x.held z (Some (ended x.frontier e).to) (ended x.frontier e).accepted) f
+    subst (λ z. IsClosed w.commits from z t x) (some_same (end_of x.frontier e) end n) (record {
+      queue = subst (λ z. IsQueueOf x.base x.frontier x.held z (Some (end_of x.frontier e).to) (end_of x.frontier e).accepted) f
           (Queue-ended x.base x.frontier x.held e ((inv.tied t).sound.queues e i));
       items = λ j k. (inv.tied t).items e i j (ended_items x.frontier e.number e.from e.to e.accepted j k);
     })
 
-Subscribes-ended : (ts : List Row) (w : World) (s : ℕ) (e : Entry) → Holds ts w → In e (topic_in w.topics (sub_in w.subscriptions s).topic).subscriptions → e.number ≡ s → let t = (sub_in w.subscriptions s).topic in Subscribes w.commits (set w.topics t.0 (topic_without w t s)) (set w.subscriptions s (subscription_after w s e))
+Subscribes-ended : (ts : List CommitRow) (w : World) (s : ℕ) (e : Entry) → Holds ts w → In e (topic_in w.topics (sub_in w.subscriptions s).topic).subscriptions → e.number ≡ s → let t = (sub_in w.subscriptions s).topic in Subscribes w.commits (set w.topics t.0 (topic_without w t s)) (set w.subscriptions s (subscription_after w s e))
 Subscribes-ended ts w s e inv i d =
     let h = inv.subscribes in let subs = w.subscriptions in let x0 = sub_in subs s in let t = x0.topic in let x = topic_in w.topics t in
     let y = topic_without w t s in let topics = set w.topics t.0 y in let v = subscription_after w s e in
@@ -246,13 +247,13 @@ Subscribes-ended ts w s e inv i d =
           (λ z k. IsClosed-subs w.commits (sub_in subs r).from end t z y.subscriptions k) (h.closed r end n));
     }
 
-Tied-unsubscribed : (ts : List Row) (w : World) (t : Topic) (s : ℕ) → Holds ts w → Tied ts w.commits t (topic_without w t s)
+Tied-unsubscribed : (ts : List CommitRow) (w : World) (t : Topic) (s : ℕ) → Holds ts w → Tied ts w.commits t (topic_without w t s)
 Tied-unsubscribed ts w t s inv =
     let x = topic_in w.topics t in let h = inv.tied t in
     Tied-subs ts w.commits t x (filter (kept_by s) x.subscriptions) h (Sound-unsubscribed s x h.sound)
     (λ e k i l. (e, (In-filter_cases (kept_by s) e x.subscriptions k).stands, l))
 
-pub end_step : (ts : List Row) (w : World) (s : ℕ) (e : Entry) → Holds ts w → find_entry s (topic_in w.topics (sub_in w.subscriptions s).topic).subscriptions ≡ Some e → let t = (sub_in w.subscriptions s).topic in Inv ts w.commits w.verdicts (set w.topics t.0 (topic_without w t s)) w.senders (set w.subscriptions s (subscription_after w s e))
+pub end_step : (ts : List CommitRow) (w : World) (s : ℕ) (e : Entry) → Holds ts w → find_entry s (topic_in w.topics (sub_in w.subscriptions s).topic).subscriptions ≡ Some e → let t = (sub_in w.subscriptions s).topic in Inv ts w.commits w.verdicts (set w.topics t.0 (topic_without w t s)) w.senders (set w.subscriptions s (subscription_after w s e))
 end_step ts w s e inv d =
     let t = (sub_in w.subscriptions s).topic in let f = found_entry s (topic_in w.topics t).subscriptions e d in record {
       consistent = inv.consistent;
@@ -270,12 +271,12 @@ abbrev pub taken_more : World → ℕ → Subscription
 taken_more w s = record (sub_in w.subscriptions s) { taken = (sub_in w.subscriptions s).taken + 1 }
 
 -- what doesn't speak of the items handed on holds after one more
-at_taken : (P : ℕ → Topic → Stamp → Option Ended → Type 0) (subs : List Subscription) (s r n : ℕ) → let x = sub_in subs r in P r x.topic x.from x.closed → let y = sub_in (set subs s (record (sub_in subs s) { taken = n })) r in P r y.topic y.from y.closed
+at_taken : (P : ℕ → Topic → Stamp → Option EntryEnd → Type 0) (subs : List Subscription) (s r n : ℕ) → let x = sub_in subs r in P r x.topic x.from x.closed → let y = sub_in (set subs s (record (sub_in subs s) { taken = n })) r in P r y.topic y.from y.closed
 at_taken P subs s r n h =
     at_set (λ (z : Subscription). P r z.topic z.from z.closed) subs s r (record (sub_in subs s) { taken = n }) no_subscription
     (λ e. subst (λ q. let x = sub_in subs q in P r x.topic x.from x.closed) e h) h
 
-pub take_step : (ts : List Row) (w : World) (s : ℕ) → Holds ts w → Inv ts w.commits w.verdicts w.topics w.senders (set w.subscriptions s (taken_more w s))
+pub take_step : (ts : List CommitRow) (w : World) (s : ℕ) → Holds ts w → Inv ts w.commits w.verdicts w.topics w.senders (set w.subscriptions s (taken_more w s))
 take_step ts w s inv =
     let subs = w.subscriptions in let n = (sub_in subs s).taken + 1 in let more = set subs s (taken_more w s) in let h = inv.subscribes in record {
       consistent = inv.consistent;
@@ -299,7 +300,7 @@ take_step ts w s inv =
 
 -- ---- a topic is added, and a sender
 
-Tied-fresh : (ts cs : List Row) (t : Topic) (log_limit clock : ℕ) → Tied ts cs t (new_topic t 0 0) → Tied ts cs t (new_topic t log_limit clock)
+Tied-fresh : (ts cs : List CommitRow) (t : Topic) (log_limit clock : ℕ) → Tied ts cs t (new_topic t 0 0) → Tied ts cs t (new_topic t log_limit clock)
 Tied-fresh ts cs t log_limit clock h = record {
   topic = refl;
   given = λ a k e. let l : a.stamp.n ≤ 0 = h.given a k e in omega arith;
@@ -318,7 +319,7 @@ at_added P topics log_limit clock u h k =
     at_push (P u) topics u.0 (new_topic (record { 0 = length topics }) log_limit clock) (new_topic u 0 0)
     (λ e o. subst (λ z. P u (new_topic z log_limit clock)) (same_topic u (record { 0 = length topics }) e) (h o)) k
 
-pub added_step : (ts : List Row) (w : World) (clock : ℕ) → Holds ts w → Inv ts w.commits w.verdicts (w.topics ++ new_topic (record { 0 = length w.topics }) w.log_limit clock ∷ []) w.senders w.subscriptions
+pub added_step : (ts : List CommitRow) (w : World) (clock : ℕ) → Holds ts w → Inv ts w.commits w.verdicts (w.topics ++ new_topic (record { 0 = length w.topics }) w.log_limit clock ∷ []) w.senders w.subscriptions
 added_step ts w clock inv =
     let h = inv.subscribes in record {
       consistent = inv.consistent;
@@ -339,7 +340,7 @@ added_step ts w clock inv =
       };
     }
 
-pub opened_step : (ts : List Row) (w : World) → Holds ts w → Inv ts w.commits w.verdicts w.topics (w.senders ++ new_sender ∷ []) w.subscriptions
+pub opened_step : (ts : List CommitRow) (w : World) → Holds ts w → Inv ts w.commits w.verdicts w.topics (w.senders ++ new_sender ∷ []) w.subscriptions
 opened_step ts w inv = record {
   consistent = inv.consistent;
   tied = inv.tied;

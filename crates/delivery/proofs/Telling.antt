@@ -4,13 +4,13 @@ use Rattle.std.specs.Option.{is_some}
 use Rattle.std.proofs.lemmas.Bool.{ltb-true, and_parts, cases_order}
 use Rattle.mcast_txn.specs.Stamp.{zero_stamp}
 use Rattle.mcast_txn.specs.declared.id.Topic.{Topic}
-use Rattle.mcast_txn.specs.declared.send.Send.{Send}
+use Rattle.mcast_txn.specs.declared.draft.sent_message.SentMessage.{SentMessage}
 use Rattle.mcast_txn.specs.declared.stamp.Stamp.{Stamp}
-use Rattle.mcast_txn.specs.Agreed.{In}
+use Rattle.mcast_txn.specs.Lists.{In}
 use Rattle.mcast_txn.proofs.Members.{at_set_within}
 use Rattle.mcast_group.specs.declared.fault.ProposeFault.{ProposeFault}
-use Rattle.mcast_group.specs.Span.{Item}
-use Rattle.mcast_group.specs.Topics.{Pending, Entry, due_part, ended}
+use Rattle.mcast_txn.specs.Span.{Item}
+use Rattle.mcast_group.specs.Machine.{Pending, Entry, due_part, end_of}
 use Rattle.mcast_group.proofs.Parts.{none_some}
 use Rattle.delivery.specs.World.{World, Leftover, Subscription, no_subscription, topic_at, speaker, subscription_at, entry_at, start}
 use Rattle.delivery.specs.Reading.{accepted_at, end_at}
@@ -41,7 +41,7 @@ IsTold (Subscribed s c t from) = Unit {0}
 IsTold (Unsubscribed s to) = Unit {0}
 IsTold o = Prim.⊥
 
-flying_untold : (w : World) (c : ℕ) (sends : List Send) → IsTold (flying_answer w c sends) → Prim.⊥
+flying_untold : (w : World) (c : ℕ) (sends : List SentMessage) → IsTold (flying_answer w c sends) → Prim.⊥
 flying_untold w c [] i = i
 flying_untold w c (first ∷ others) i = i
 
@@ -115,12 +115,12 @@ begins_now w e s c t from =
 
 -- ---- an answer that ends one
 
-closed_case : (past : List Outcome) (w : World) (s : ℕ) → Reached past w → s < length w.subscriptions → (subscription_at w s).closed ≡ None → (o : Option Entry) → entry_at w s ≡ o → end_at (closed_with w s o) s ≡ Some (elim o [ None ↦ zero_stamp | Some e ↦ (ended (topic_at w (subscription_at w s).topic).frontier e).to ])
+closed_case : (past : List Outcome) (w : World) (s : ℕ) → Reached past w → s < length w.subscriptions → (subscription_at w s).closed ≡ None → (o : Option Entry) → entry_at w s ≡ o → end_at (closed_with w s o) s ≡ Some (elim o [ None ↦ zero_stamp | Some e ↦ (end_of (topic_at w (subscription_at w s).topic).frontier e).to ])
 closed_case past w s r l unclosed None e =
     let h = r.inv.subscribes.live s l unclosed in
     let f = finds_entry s (topic_in w.topics (subscription_at w s).topic).subscriptions h.entry h.stands h.number in none_some f.entry (sym e ∙ f.found)
 closed_case past w s r l unclosed (Some entry) e =
-    let left = ended (topic_at w (subscription_at w s).topic).frontier entry in
+    let left = end_of (topic_at w (subscription_at w s).topic).frontier entry in
     at_set_within (λ (z : Subscription). end_in (closed_with w s (Some entry)).topics s z ≡ Some left.to) w.subscriptions s s (record (subscription_at w s) { closed = Some left }) no_subscription l
     (λ k. refl) (λ ne. absurd (ne refl))
 

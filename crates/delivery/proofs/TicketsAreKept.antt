@@ -4,16 +4,18 @@ use Rattle.std.specs.Option.{is_some}
 use Rattle.std.proofs.lemmas.Bool.{true≢false, cases_order}
 use Rattle.mcast_txn.specs.Stamp.{greatest}
 use Rattle.mcast_txn.specs.Transaction.{topics_of}
-use Rattle.mcast_txn.specs.Agreed.{Transaction, Row, In, names}
+use Rattle.mcast_txn.specs.Agreed.{Transaction, CommitRow}
+use Rattle.mcast_txn.specs.Lists.{In}
+use Rattle.mcast_txn.specs.TopicSet.{names}
 use Rattle.mcast_txn.specs.Ballot.{Decision}
 use Rattle.mcast_txn.specs.declared.id.Topic.{Topic}
 use Rattle.mcast_txn.specs.declared.id.TxnId.{TxnId}
-use Rattle.mcast_txn.specs.declared.send.Send.{Send}
+use Rattle.mcast_txn.specs.declared.draft.sent_message.SentMessage.{SentMessage}
 use Rattle.mcast_txn.specs.declared.stamp.Stamp.{Stamp}
 use Rattle.mcast_txn.proofs.Members.{In-push, In-append_left, In-map, at_set, at_set_within, push_one}
 use Rattle.mcast_group.specs.declared.fault.ProposeFault.{ProposeFault}
-use Rattle.mcast_group.specs.Span.{Item}
-use Rattle.mcast_group.specs.Topics.{Pending, Entry, due_part}
+use Rattle.mcast_txn.specs.Span.{Item}
+use Rattle.mcast_group.specs.Machine.{Pending, Entry, due_part}
 use Rattle.mcast_group.proofs.Parts.{some_same}
 use Rattle.delivery.specs.World.{World, Flight, Leftover, SenderState, new_sender, connection_at, speaker, entry_at, topic_at, start}
 use Rattle.delivery.specs.Events.{Event, Outcome, happens, outcome, refusal, effect, answer, flight_at, find_leftover, drop_leftover, leftover, find_verdict, oldest_live, insert_ticket, next_txn, next_ticket, flown, flying_answer, proposal_fault, proposed_by, propose_answer, decided, withdrawn, cancelled_at, cancel_answer, learned_at, release_answer, handed, take_answer, left_by, leave_answer, closed_with}
@@ -31,40 +33,40 @@ use Rattle.delivery.proofs.Accepting.{start_reached}
 -- ---- where a ticket is
 
 -- its transaction is sender s's undecided one
-abbrev IsUndecided : List SenderState → Row → Type 0
+abbrev IsUndecided : List SenderState → CommitRow → Type 0
 IsUndecided senders a = (s : ℕ) × (f : Flight) × ((sender_in senders s).flight ≡ Some f) × (f.txn ≡ a.txn)
 
 -- its transaction is committed
-abbrev IsCommitted : List Row → Row → Type 0
-IsCommitted commits a = (r : Row) × In r commits × (r.txn ≡ a.txn)
+abbrev IsCommitted : List CommitRow → CommitRow → Type 0
+IsCommitted commits a = (r : CommitRow) × In r commits × (r.txn ≡ a.txn)
 
 -- it is left over from a withdrawal of sender s
-abbrev IsLeftOver : List SenderState → Row → Type 0
+abbrev IsLeftOver : List SenderState → CommitRow → Type 0
 IsLeftOver senders a = (s : ℕ) × (k : Leftover) × In k (sender_in senders s).leftovers × (k.id ≡ a.txn.id) × (k.ticket ≡ a.stamp)
 
 -- it is in one of these places, or was cancelled
-abbrev pub IsSomewhere : List Outcome → List SenderState → List Row → Row → Type 0
+abbrev pub IsSomewhere : List Outcome → List SenderState → List CommitRow → CommitRow → Type 0
 IsSomewhere past senders commits a =
     IsUndecided senders a ⊎ IsCommitted commits a ⊎ IsLeftOver senders a ⊎ In (Cancelled a.txn.id a.stamp.topic) past
 
 -- each ticket is somewhere, of a topic that its transaction names, and alone there; and a committed transaction has one of
 -- each topic that it names
-pub record Accounted (past : List Outcome) (senders : List SenderState) (commits : List Row) : Type 0 where
-  pub somewhere : (a : Row) → In a (tickets past) → IsSomewhere past senders commits a
-  pub one : (a b : Row) → In a (tickets past) → In b (tickets past) → a.txn ≡ b.txn → a.stamp.topic ≡ b.stamp.topic → a ≡ b
-  pub named : (a : Row) → In a (tickets past) → names a.stamp.topic (topics_of a.txn.sends) ≡ true
-  pub complete : (r : Row) → In r commits → (t : Topic) → names t (topics_of r.txn.sends) ≡ true → TicketOf (tickets past) r.txn t
+pub record Accounted (past : List Outcome) (senders : List SenderState) (commits : List CommitRow) : Type 0 where
+  pub somewhere : (a : CommitRow) → In a (tickets past) → IsSomewhere past senders commits a
+  pub one : (a b : CommitRow) → In a (tickets past) → In b (tickets past) → a.txn ≡ b.txn → a.stamp.topic ≡ b.stamp.topic → a ≡ b
+  pub named : (a : CommitRow) → In a (tickets past) → names a.stamp.topic (topics_of a.txn.sends) ≡ true
+  pub complete : (r : CommitRow) → In r commits → (t : Topic) → names t (topics_of r.txn.sends) ≡ true → TicketOf (tickets past) r.txn t
 
 -- ---- one more outcome
 
-note_where : (past : List Outcome) (o : Outcome) (senders : List SenderState) (commits : List Row) (a : Row) → IsSomewhere past senders commits a → IsSomewhere (o ∷ past) senders commits a
+note_where : (past : List Outcome) (o : Outcome) (senders : List SenderState) (commits : List CommitRow) (a : CommitRow) → IsSomewhere past senders commits a → IsSomewhere (o ∷ past) senders commits a
 note_where past o senders commits a (inl h) = inl h
 note_where past o senders commits a (inr (inl h)) = inr (inl h)
 note_where past o senders commits a (inr (inr (inl h))) = inr (inr (inl h))
 note_where past o senders commits a (inr (inr (inr i))) = inr (inr (inr (inr i)))
 
 -- an outcome that gives no ticket
-note : (past : List Outcome) (o : Outcome) (senders : List SenderState) (commits : List Row) → tickets (o ∷ past) ≡ tickets past → Accounted past senders commits → Accounted (o ∷ past) senders commits
+note : (past : List Outcome) (o : Outcome) (senders : List SenderState) (commits : List CommitRow) → tickets (o ∷ past) ≡ tickets past → Accounted past senders commits → Accounted (o ∷ past) senders commits
 note past o senders commits e h = record {
   somewhere = λ a i. note_where past o senders commits a (h.somewhere a (subst (λ z. In a z) e i));
   one = λ a b i j. h.one a b (subst (λ z. In a z) e i) (subst (λ z. In b z) e j);
@@ -89,10 +91,10 @@ same_or_other d s = elim (cases_order d s) [
 ]
 
 -- where a ticket is after sender s becomes x: as for others, but for what is known of s
-move : (past : List Outcome) (o : Outcome) (senders : List SenderState) (commits more : List Row) (s : ℕ) (x : SenderState) (a : Row)
+move : (past : List Outcome) (o : Outcome) (senders : List SenderState) (commits more : List CommitRow) (s : ℕ) (x : SenderState) (a : CommitRow)
     → ((f : Flight) → (sender_in senders s).flight ≡ Some f → f.txn ≡ a.txn → IsSomewhere (o ∷ past) (set senders s x) more a)
     → ((k : Leftover) → In k (sender_in senders s).leftovers → k.id ≡ a.txn.id → k.ticket ≡ a.stamp → IsSomewhere (o ∷ past) (set senders s x) more a)
-    → ((r : Row) → In r commits → In r more)
+    → ((r : CommitRow) → In r commits → In r more)
     → IsSomewhere past senders commits a → IsSomewhere (o ∷ past) (set senders s x) more a
 move past o senders commits more s x a flying left grow (inl h) = elim (same_or_other h.0 s) [
   | inl e ↦ flying h.1 (subst (λ d. (sender_in senders d).flight ≡ Some h.1) e h.2) h.3
@@ -106,18 +108,18 @@ move past o senders commits more s x a flying left grow (inr (inr (inl h))) = el
 move past o senders commits more s x a flying left grow (inr (inr (inr i))) = inr (inr (inr (inr i)))
 
 -- sender s keeps what was left over
-keep_left : (past : List Outcome) (senders : List SenderState) (commits : List Row) (s : ℕ) (x : SenderState) (a : Row) (k : Leftover) → In k (sender_in senders s).leftovers → x.leftovers ≡ (sender_in senders s).leftovers → k.id ≡ a.txn.id → k.ticket ≡ a.stamp → IsSomewhere past (set senders s x) commits a
+keep_left : (past : List Outcome) (senders : List SenderState) (commits : List CommitRow) (s : ℕ) (x : SenderState) (a : CommitRow) (k : Leftover) → In k (sender_in senders s).leftovers → x.leftovers ≡ (sender_in senders s).leftovers → k.id ≡ a.txn.id → k.ticket ≡ a.stamp → IsSomewhere past (set senders s x) commits a
 keep_left past senders commits s x a k i same d e =
     inr (inr (inl (s, k, at_set (λ (z : SenderState). In k z.leftovers) senders s s x new_sender (λ n. subst (λ z. In k z) (sym same) i) i, d, e)))
 
 -- the sender has this transaction in flight
-flies_on : (past : List Outcome) (senders : List SenderState) (commits : List Row) (s : ℕ) (x : SenderState) (a : Row) (g : Flight) → s < length senders → x.flight ≡ Some g → g.txn ≡ a.txn → IsSomewhere past (set senders s x) commits a
+flies_on : (past : List Outcome) (senders : List SenderState) (commits : List CommitRow) (s : ℕ) (x : SenderState) (a : CommitRow) (g : Flight) → s < length senders → x.flight ≡ Some g → g.txn ≡ a.txn → IsSomewhere past (set senders s x) commits a
 flies_on past senders commits s x a g l e d =
     inl (s, g, ap (λ (z : SenderState). z.flight) (this_sender senders s x l) ∙ e, d)
 
 -- ---- a transaction is made
 
-flown_accounted : (past : List Outcome) (w : World) (c : ℕ) (sends : List Send) → is_some (speaker w c).flight ≡ false → Accounted past w.senders w.commits → Accounted (flying_answer w c sends ∷ past) (flown w c sends).senders (flown w c sends).commits
+flown_accounted : (past : List Outcome) (w : World) (c : ℕ) (sends : List SentMessage) → is_some (speaker w c).flight ≡ false → Accounted past w.senders w.commits → Accounted (flying_answer w c sends ∷ past) (flown w c sends).senders (flown w c sends).commits
 flown_accounted past w c [] n h = note past Done w.senders w.commits refl h
 flown_accounted past w c (first ∷ others) n h =
     let s = (connection_at w c).sender in let x = speaker w c in let o = Flying (next_txn w c (first ∷ others)) in
@@ -138,23 +140,23 @@ ticket_accounted past w c t r a h =
     let s = (connection_at w c).sender in let f = flight_at w c in
     let is : (speaker w c).flight ≡ Some f = a.flying.is ∙ ap Some (sym a.flying.at) in
     let within = within_senders w.senders s f is in let g = (r.inv.serves s).flying f is in
-    let new : Row = row (made f.txn.id past) (next_ticket w c t) in let o = Ticket f.txn.id (next_ticket w c t) in
+    let new : CommitRow = row (made f.txn.id past) (next_ticket w c t) in let o = Ticket f.txn.id (next_ticket w c t) in
     let after : Flight = record f { given = insert_ticket (next_ticket w c t) f.given } in
     let y : SenderState = record (speaker w c) { flight = Some after } in
     let own : new.txn ≡ f.txn = r.flights s f is in
-    let fresh : (b : Row) → In b (tickets past) → b.txn ≡ new.txn → b.stamp.topic ≡ t → Prim.⊥ =
+    let fresh : (b : CommitRow) → In b (tickets past) → b.txn ≡ new.txn → b.stamp.topic ≡ t → Prim.⊥ =
     λ b i d e. not_given t f.given a.unheard b.stamp (g.given_all b i (d ∙ own)) (ap (λ (z : Topic). z.0) (sym e)) in record {
-      somewhere = cons_one (λ (b : Row). IsSomewhere (o ∷ past) (set w.senders s y) w.commits b) (tickets past) new
+      somewhere = cons_one (λ (b : CommitRow). IsSomewhere (o ∷ past) (set w.senders s y) w.commits b) (tickets past) new
           (λ b i. move past o w.senders w.commits w.commits s y b
           (λ g e d. flies_on (o ∷ past) w.senders w.commits s y b after within refl (ap (λ (z : Flight). z.txn) (some_same f g (sym is ∙ e)) ∙ d))
           (λ k j d e. keep_left (o ∷ past) w.senders w.commits s y b k j refl d e)
           (λ q j. j) (h.somewhere b i))
           (flies_on (o ∷ past) w.senders w.commits s y new after within refl (sym own));
-      one = cons_two (λ (x y : Row). x.txn ≡ y.txn → x.stamp.topic ≡ y.stamp.topic → x ≡ y) (tickets past) new h.one
+      one = cons_two (λ (x y : CommitRow). x.txn ≡ y.txn → x.stamp.topic ≡ y.stamp.topic → x ≡ y) (tickets past) new h.one
           (λ b i d e. absurd (fresh b i d e))
           (λ b i d e. absurd (fresh b i (sym d) (sym e)))
           (λ d e. refl);
-      named = cons_one (λ (b : Row). names b.stamp.topic (topics_of b.txn.sends) ≡ true) (tickets past) new h.named
+      named = cons_one (λ (b : CommitRow). names b.stamp.topic (topics_of b.txn.sends) ≡ true) (tickets past) new h.named
           (subst (λ (z : Transaction). names t (topics_of z.sends) ≡ true) (sym own) a.named);
       complete = λ q i u n. let k = h.complete q i u n in record { it = k.it; stands = inr k.stands; txn_is = k.txn_is; topic_is = k.topic_is };
     }
@@ -182,7 +184,7 @@ decided_accounted past w c r n h =
     let p = checked w (Decides c) n in let fl = in_flight w c p.1.1.0 in
     let s = (connection_at w c).sender in let f = flight_at w c in
     let is : (speaker w c).flight ≡ Some f = fl.is ∙ ap Some (sym fl.at) in
-    let g = (r.inv.serves s).flying f is in let new : Row = row f.txn (greatest f.given) in
+    let g = (r.inv.serves s).flying f is in let new : CommitRow = row f.txn (greatest f.given) in
     let o = Decided f.txn.id (greatest f.given) in let y : SenderState = record (speaker w c) { floor = greatest f.given; flight = None } in record {
       somewhere = λ b i. move past o w.senders w.commits (w.commits ++ new ∷ []) s y b
           (λ y e d. inr (inl (new, In-push new w.commits, ap (λ (z : Flight). z.txn) (some_same f y (sym is ∙ e)) ∙ d)))
@@ -190,7 +192,7 @@ decided_accounted past w c r n h =
           (λ q j. In-append_left q w.commits (new ∷ []) j) (h.somewhere b i);
       one = h.one;
       named = h.named;
-      complete = push_one (λ (q : Row). (t : Topic) → names t (topics_of q.txn.sends) ≡ true → TicketOf (tickets past) q.txn t) w.commits new h.complete
+      complete = push_one (λ (q : CommitRow). (t : Topic) → names t (topics_of q.txn.sends) ≡ true → TicketOf (tickets past) q.txn t) w.commits new h.complete
           (λ t m. complete_at (tickets past) w s f g (false_not _ p.1.1.1.1.0) t m);
     }
 
@@ -207,7 +209,7 @@ withdrawn_accounted past w c r n h =
     let is : (speaker w c).flight ≡ Some f = fl.is ∙ ap Some (sym fl.at) in
     let g = (r.inv.serves s).flying f is in
     let y : SenderState = record x { flight = None; leftovers = x.leftovers ++ map (leftover f.txn.id) f.given } in
-    let here : (b : Row) (k : Leftover) → In k y.leftovers → k.id ≡ b.txn.id → k.ticket ≡ b.stamp → IsSomewhere (Withdrawn f.txn.id c ∷ past) (set w.senders s y) w.commits b =
+    let here : (b : CommitRow) (k : Leftover) → In k y.leftovers → k.id ≡ b.txn.id → k.ticket ≡ b.stamp → IsSomewhere (Withdrawn f.txn.id c ∷ past) (set w.senders s y) w.commits b =
     λ b k i d e. inr (inr (inl (s, k, subst (λ (z : SenderState). In k z.leftovers) (sym (this_sender w.senders s y (within_senders w.senders s f is))) i, d, e))) in record {
       somewhere = λ b i. move past (Withdrawn f.txn.id c) w.senders w.commits w.commits s y b
           (λ z e d. let own : b.txn ≡ f.txn = sym (ap (λ (v : Flight). v.txn) (some_same f z (sym is ∙ e)) ∙ d) in
@@ -280,7 +282,7 @@ handed_accounted past w s None h = note past _ w.senders w.commits refl h
 handed_accounted past w s (Some item) h = note past _ w.senders w.commits refl h
 
 -- a new sender has nothing
-opened_accounted : (past : List Outcome) (o : Outcome) (senders : List SenderState) (commits : List Row) → tickets (o ∷ past) ≡ tickets past → Accounted past senders commits → Accounted (o ∷ past) (senders ++ new_sender ∷ []) commits
+opened_accounted : (past : List Outcome) (o : Outcome) (senders : List SenderState) (commits : List CommitRow) → tickets (o ∷ past) ≡ tickets past → Accounted past senders commits → Accounted (o ∷ past) (senders ++ new_sender ∷ []) commits
 opened_accounted past o senders commits e h = let k = note past o senders commits e h in record {
   somewhere = λ a i. there a (k.somewhere a i);
   one = k.one;
@@ -291,7 +293,7 @@ opened_accounted past o senders commits e h = let k = note past o senders commit
     same : (d : ℕ) → sender_in (senders ++ new_sender ∷ []) d ≡ sender_in senders d
     same d = at_push (λ (z : SenderState). z ≡ sender_in senders d) senders d new_sender new_sender (λ n x. x) refl
 
-    there : (a : Row) → IsSomewhere (o ∷ past) senders commits a → IsSomewhere (o ∷ past) (senders ++ new_sender ∷ []) commits a
+    there : (a : CommitRow) → IsSomewhere (o ∷ past) senders commits a → IsSomewhere (o ∷ past) (senders ++ new_sender ∷ []) commits a
     there a (inl x) = inl (x.0, x.1, ap (λ (z : SenderState). z.flight) (same x.0) ∙ x.2, x.3)
     there a (inr (inl x)) = inr (inl x)
     there a (inr (inr (inl x))) = inr (inr (inl (x.0, x.1, subst (λ (z : SenderState). In x.1 z.leftovers) (sym (same x.0)) x.2, x.3, x.4)))

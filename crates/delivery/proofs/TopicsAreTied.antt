@@ -4,14 +4,16 @@ use Rattle.std.proofs.lemmas.Bool.{true≢false}
 use Rattle.mcast_txn.specs.Stamp.{zero_stamp, stamp_lt}
 use Rattle.mcast_txn.specs.Transaction.{TopicPart, topics_of}
 use Rattle.mcast_txn.specs.Part.{part_at}
-use Rattle.mcast_txn.specs.Agreed.{Transaction, Row, In, names}
+use Rattle.mcast_txn.specs.Agreed.{Transaction, CommitRow}
+use Rattle.mcast_txn.specs.Lists.{In}
+use Rattle.mcast_txn.specs.TopicSet.{names}
 use Rattle.mcast_txn.specs.declared.id.Topic.{Topic}
 use Rattle.mcast_txn.specs.declared.id.TxnId.{TxnId}
 use Rattle.mcast_txn.specs.declared.stamp.Stamp.{Stamp}
 use Rattle.mcast_txn.proofs.Orders.{id_same, id_itself, le_lt}
 use Rattle.mcast_txn.proofs.Members.{In-push_cases}
-use Rattle.mcast_group.specs.Span.{LogRow}
-use Rattle.mcast_group.specs.Topics.{Pending, key}
+use Rattle.mcast_txn.specs.Span.{LogRow}
+use Rattle.mcast_group.specs.Machine.{Pending, key}
 use Rattle.mcast_group.proofs.Parts.{Waits}
 use Rattle.delivery.specs.Due.{log_row}
 use Rattle.delivery.specs.World.{topic_at, sender_at}
@@ -36,13 +38,13 @@ use Rattle.delivery.proofs.FloorsAreStamps.{floors}
 -- ---- tickets and decisions as outcomes and as rows
 
 -- a ticket that was given, with its transaction
-record Given (id : TxnId) (ticket : Stamp) (ts : List Row) : Type 0 where
-  it : Row
+record Given (id : TxnId) (ticket : Stamp) (ts : List CommitRow) : Type 0 where
+  it : CommitRow
   stands : In it ts
   id_is : it.txn.id ≡ id
   stamp_is : it.stamp ≡ ticket
 
-given_more : (id : TxnId) (ticket : Stamp) (ts : List Row) (a : Row) → Given id ticket ts → Given id ticket (a ∷ ts)
+given_more : (id : TxnId) (ticket : Stamp) (ts : List CommitRow) (a : CommitRow) → Given id ticket ts → Given id ticket (a ∷ ts)
 given_more id ticket ts a h = record { it = h.it; stands = inr h.stands; id_is = h.id_is; stamp_is = h.stamp_is }
 
 given_case : (id i : TxnId) (x ticket : Stamp) (past : List Outcome) → (In (Ticket id x) past → Given id x (tickets past)) → In (Ticket id x) (Ticket i ticket ∷ past) → Given id x (row (made i past) ticket ∷ tickets past)
@@ -61,12 +63,12 @@ given id x (Ticket i ticket ∷ past) k = given_case id i x ticket past (given i
 given id x (o ∷ past) k = given id x past (not_head (Ticket id x) _ past (λ e. cc) k)
 
 -- a committed row was decided
-decided_case : (r : Row) (i : TxnId) (s : Stamp) (past : List Outcome) → (In r (commits_of past) → In (Decided r.txn.id r.stamp) past) → In r (commits_of past) ⊎ (row (made i past) s ≡ r) → In (Decided r.txn.id r.stamp) (Decided i s ∷ past)
+decided_case : (r : CommitRow) (i : TxnId) (s : Stamp) (past : List Outcome) → (In r (commits_of past) → In (Decided r.txn.id r.stamp) past) → In r (commits_of past) ⊎ (row (made i past) s ≡ r) → In (Decided r.txn.id r.stamp) (Decided i s ∷ past)
 decided_case r i s past ih (inl k) = inr (ih k)
 decided_case r i s past ih (inr d) =
-    inl (ap (λ z. Decided z s) (sym (made_id i past)) ∙ ap (λ (z : Row). Decided z.txn.id z.stamp) d)
+    inl (ap (λ z. Decided z s) (sym (made_id i past)) ∙ ap (λ (z : CommitRow). Decided z.txn.id z.stamp) d)
 
-decided_of : (r : Row) (past : List Outcome) → In r (commits_of past) → In (Decided r.txn.id r.stamp) past
+decided_of : (r : CommitRow) (past : List Outcome) → In r (commits_of past) → In (Decided r.txn.id r.stamp) past
 decided_of r [] k = absurd k
 decided_of r (Decided i s ∷ past) k = decided_case r i s past (decided_of r past) (In-push_cases r (row (made i past) s) (commits_of past) k)
 decided_of r (o ∷ past) k = inr (decided_of r past k)
@@ -74,7 +76,7 @@ decided_of r (o ∷ past) k = inr (decided_of r past k)
 -- ---- a pending part
 
 -- the transaction of a ticket is what was made under its id
-ticket_made : (r : Run) (a : Row) → In a (tickets (came r)) → made a.txn.id (came r) ≡ a.txn
+ticket_made : (r : Run) (a : CommitRow) → In a (tickets (came r)) → made a.txn.id (came r) ≡ a.txn
 ticket_made r a i = made_is (came r) (seqs_count r) a.txn ((settling_run r).ticket_flew a i)
 
 -- a pending part's transaction isn't in the log: its key is above the frontier, and its stamp would be at least its key
@@ -97,12 +99,12 @@ waiting r t p i =
     let w = after r in let h = reached r in let tied = h.inv.tied t in let a = tied.ticketed p i in
     let here : p.part.topic ≡ t = tied.sound.own p i ∙ tied.topic in
     let id : a.ticket.txn.id ≡ p.part.id = ap (λ (z : TopicPart). z.id) a.part_is in
-    let stamp : a.ticket.stamp ≡ record { n = p.ticket; topic = t } = a.stamp_is ∙ ap (λ (z : Topic). at p.ticket z) here in
+    let stamp : a.ticket.stamp ≡ record { n = p.number; topic = t } = a.stamp_is ∙ ap (λ (z : Topic). at p.number z) here in
     let flew = ticket_made r a.ticket a.stands in record {
       part = sym (ap (λ (z : Transaction). part_at p.part.id z.sends t) (ap (λ (z : TxnId). made z (came r)) (sym id) ∙ flew)
           ∙ (ap (λ (z : TxnId). part_at z a.ticket.txn.sends t) (sym id)
           ∙ (ap (part_at a.ticket.txn.id a.ticket.txn.sends) (sym here) ∙ a.part_is)));
-      ticket = subst (λ z. In (Ticket z (at p.ticket t)) (came r)) id
+      ticket = subst (λ z. In (Ticket z (at p.number t)) (came r)) id
           (subst (λ z. In (Ticket a.ticket.txn.id z) (came r)) stamp (In-ticket a.ticket (came r) a.stands));
       uncancelled = λ k. true≢false (sym (id_itself p.part.id) ∙ (settling_run r).gone t p p.part.id i k);
       unlogged = λ l j e. logged_below r t p l i j e;
@@ -117,16 +119,16 @@ waiting r t p i =
 -- ---- where a ticket's part is
 
 -- the pending part of a ticket's transaction has that ticket's number
-by_ticket : (r : Run) (t : Topic) (a : Row) → In a (tickets (came r)) → a.stamp.topic ≡ t → Waits a.txn.id (topic_at (after r) t).pending → (p : Pending) × In p (topic_at (after r) t).pending × (p.part.id ≡ a.txn.id) × (p.ticket ≡ a.stamp.n)
+by_ticket : (r : Run) (t : Topic) (a : CommitRow) → In a (tickets (came r)) → a.stamp.topic ≡ t → Waits a.txn.id (topic_at (after r) t).pending → (p : Pending) × In p (topic_at (after r) t).pending × (p.part.id ≡ a.txn.id) × (p.number ≡ a.stamp.n)
 by_ticket r t a i here v =
     let h = (reached r).inv in let tied = h.tied t in let p = v.part in let b = tied.ticketed p v.stands in
     let id : b.ticket.txn.id ≡ a.txn.id = ap (λ (z : TopicPart). z.id) b.part_is ∙ v.is in
     let txn = h.consistent.one_id b.ticket a b.stands i (id_same b.ticket.txn.id a.txn.id id) in
     let topic : b.ticket.stamp.topic ≡ a.stamp.topic = ap (λ (z : Stamp). z.topic) b.stamp_is ∙ (tied.sound.own p v.stands ∙ (tied.topic ∙ sym here)) in
     let same = (accounted r).one b.ticket a b.stands i txn topic in
-    (p, v.stands, v.is, ap (λ (z : Stamp). z.n) (sym b.stamp_is) ∙ ap (λ (z : Row). z.stamp.n) same)
+    (p, v.stands, v.is, ap (λ (z : Stamp). z.n) (sym b.stamp_is) ∙ ap (λ (z : CommitRow). z.stamp.n) same)
 
-kept_by : (r : Run) (t : Topic) (a : Row) → In a (tickets (came r)) → a.stamp.topic ≡ t → IsSomewhere (came r) (after r).senders (after r).commits a → IsAccountedFor r t a.txn.id a.stamp
+kept_by : (r : Run) (t : Topic) (a : CommitRow) → In a (tickets (came r)) → a.stamp.topic ≡ t → IsSomewhere (came r) (after r).senders (after r).commits a → IsAccountedFor r t a.txn.id a.stamp
 kept_by r t a i here (inl (s, f, e, d)) =
     let g = ((reached r).inv.serves s).flying f e in
     let v = g.waits a i (sym d) in
@@ -153,7 +155,7 @@ kept r t id ticket i here =
 
 -- ---- a committed transaction's tickets
 
-has_ticket : (r : Run) (t : Topic) (q : Row) → In q (commits_of (came r)) → names t (topics_of q.txn.sends) ≡ true → HasTicket r t q
+has_ticket : (r : Run) (t : Topic) (q : CommitRow) → In q (commits_of (came r)) → names t (topics_of q.txn.sends) ≡ true → HasTicket r t q
 has_ticket r t q i n =
     let h = reached r in let all = h.inv.consistent in let j = subst (λ z. In q z) h.commits i in
     let k = (accounted r).complete q j t n in record {
@@ -161,7 +163,7 @@ has_ticket r t q i n =
       given = subst (λ (z : Transaction). In (Ticket z.id k.it.stamp) (came r)) k.txn_is (In-ticket k.it (came r) k.stands);
       topic = k.topic_is;
       least = all.greatest q k.it j k.stands k.txn_is;
-      own = λ e. ap (λ (z : Row). z.stamp) ((accounted r).one k.it q k.stands (all.from_ticket q j) k.txn_is (k.topic_is ∙ sym e));
+      own = λ e. ap (λ (z : CommitRow). z.stamp) ((accounted r).one k.it q k.stands (all.from_ticket q j) k.txn_is (k.topic_is ∙ sym e));
     }
 
 -- ---- all together

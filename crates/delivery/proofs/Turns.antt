@@ -7,9 +7,9 @@ use Rattle.mcast_txn.specs.Ballot.{Decision}
 use Rattle.mcast_txn.specs.declared.id.Topic.{Topic}
 use Rattle.mcast_txn.specs.declared.id.TxnId.{TxnId}
 use Rattle.mcast_group.specs.declared.fault.LearnFault.{LearnFault}
-use Rattle.mcast_group.specs.Checks.{first_refusal}
-use Rattle.mcast_group.specs.Span.{LogRow}
-use Rattle.mcast_group.specs.Topics.{TopicState, Pending, Entry, row_of, new_topic, learn_fault, learned, told, tried, tried_all, due_part, released_if, release, released_times, turned, decided_stamp}
+use Rattle.mcast_txn.specs.Checks.{first_refusal}
+use Rattle.mcast_txn.specs.Span.{LogRow}
+use Rattle.mcast_group.specs.Machine.{TopicState, Pending, Entry, row_of, new_topic, learn_fault, after_learn, with_stamp, after_try, after_tries, due_part, after_release_if, after_release, after_releases, after_turn, decided_stamp}
 use Rattle.mcast_group.proofs.Parts.{map_length}
 use Rattle.delivery.specs.declared.refusal.Refusal.{Refusal}
 use Rattle.delivery.specs.World.{World, topic_at, with_topic}
@@ -43,61 +43,61 @@ is_there w t x room = lt-ltb t.0 (length (set w.topics t.0 x)) (let n = length-s
 
 -- ---- a learning
 
-fault_case : (w : World) (t : Topic) (id : TxnId) (v : Decision) (x : TopicState) (o : Option LearnFault) → let u = with_topic w t x in stepped u (with_topic u t (learned id (decided_stamp v) x)) (learn_refusal o) ≡ with_topic w t (elim o [ None ↦ learned id (decided_stamp v) x | Some fault ↦ x ])
-fault_case w t id v x None = twice w t x (learned id (decided_stamp v) x)
+fault_case : (w : World) (t : Topic) (id : TxnId) (v : Decision) (x : TopicState) (o : Option LearnFault) → let u = with_topic w t x in stepped u (with_topic u t (after_learn id (decided_stamp v) x)) (learn_refusal o) ≡ with_topic w t (elim o [ None ↦ after_learn id (decided_stamp v) x | Some fault ↦ x ])
+fault_case w t id v x None = twice w t x (after_learn id (decided_stamp v) x)
 fault_case w t id v x (Some fault) = refl
 
-learn_case : (w : World) (t : Topic) (id : TxnId) (x : TopicState) (o : Option Decision) → t.0 < length w.topics → let u = with_topic w t x in stepped u (learned_at u t id o) (learning u t id o) ≡ with_topic w t (tried id o x)
+learn_case : (w : World) (t : Topic) (id : TxnId) (x : TopicState) (o : Option Decision) → t.0 < length w.topics → let u = with_topic w t x in stepped u (learned_at u t id o) (learning u t id o) ≡ with_topic w t (after_try id o x)
 learn_case w t id x None room = refl
 learn_case w t id x (Some v) room =
     let u = with_topic w t x in
-    ap (λ (z : TopicState). stepped u (with_topic u t (learned id (decided_stamp v) z)) (learn_refusal (learn_fault id v z))) (is_read w t x room)
+    ap (λ (z : TopicState). stepped u (with_topic u t (after_learn id (decided_stamp v) z)) (learn_refusal (learn_fault id v z))) (is_read w t x room)
     ∙ fault_case w t id v x (learn_fault id v x)
 
-learn_step : (w : World) (t : Topic) (id : TxnId) (x : TopicState) → t.0 < length w.topics → happens (with_topic w t x) (Learns t id) ≡ with_topic w t (tried id (find_in w id) x)
+learn_step : (w : World) (t : Topic) (id : TxnId) (x : TopicState) → t.0 < length w.topics → happens (with_topic w t x) (Learns t id) ≡ with_topic w t (after_try id (find_in w id) x)
 learn_step w t id x room =
     let u = with_topic w t x in
     ap (λ (b : Bool). stepped u (effect u (Learns t id)) (or_else (first_refusal ((not b, Refusal.NotNamed) ∷ [])) (learning u t id (find_in w id)))) (is_there w t x room)
     ∙ learn_case w t id x (find_in w id) room
 
-learn_steps : (w : World) (t : Topic) (ps : List Pending) (x : TopicState) → t.0 < length w.topics → run (map (λ p. Learns t p.part.id) ps) (with_topic w t x) ≡ with_topic w t (tried_all (find_in w) ps x)
+learn_steps : (w : World) (t : Topic) (ps : List Pending) (x : TopicState) → t.0 < length w.topics → run (map (λ p. Learns t p.part.id) ps) (with_topic w t x) ≡ with_topic w t (after_tries (find_in w) ps x)
 learn_steps w t [] x room = refl
 learn_steps w t (p ∷ ps) x room =
     ap (run (map (λ q. Learns t q.part.id) ps)) (learn_step w t p.part.id x room)
-    ∙ learn_steps w t ps (tried p.part.id (find_in w p.part.id) x) room
+    ∙ learn_steps w t ps (after_try p.part.id (find_in w p.part.id) x) room
 
 -- ---- a release
 
-due_case : (w : World) (t : Topic) (x : TopicState) (o : Option Pending) → let u = with_topic w t x in let y = released_if (takes w) x o in stepped u (with_topic u t y) (or_else (first_refusal ((not (is_some o), Refusal.NothingDue) ∷ [])) None) ≡ with_topic w t y
+due_case : (w : World) (t : Topic) (x : TopicState) (o : Option Pending) → let u = with_topic w t x in let y = after_release_if (takes w) x o in stepped u (with_topic u t y) (or_else (first_refusal ((not (is_some o), Refusal.NothingDue) ∷ [])) None) ≡ with_topic w t y
 due_case w t x None = refl
-due_case w t x (Some p) = twice w t x (released_if (takes w) x (Some p))
+due_case w t x (Some p) = twice w t x (after_release_if (takes w) x (Some p))
 
-release_step : (w : World) (t : Topic) (x : TopicState) → t.0 < length w.topics → happens (with_topic w t x) (Releases t) ≡ with_topic w t (release (takes w) x)
+release_step : (w : World) (t : Topic) (x : TopicState) → t.0 < length w.topics → happens (with_topic w t x) (Releases t) ≡ with_topic w t (after_release (takes w) x)
 release_step w t x room =
     let u = with_topic w t x in
     ap (λ (b : Bool). stepped u (effect u (Releases t)) (or_else (first_refusal ((not b, Refusal.NotNamed) ∷ (not (is_some (due_part (topic_at u t))), Refusal.NothingDue) ∷ [])) None)) (is_there w t x room)
-    ∙ (ap (λ (z : TopicState). stepped u (with_topic u t (release (takes w) z)) (or_else (first_refusal ((not (is_some (due_part z)), Refusal.NothingDue) ∷ [])) None)) (is_read w t x room)
+    ∙ (ap (λ (z : TopicState). stepped u (with_topic u t (after_release (takes w) z)) (or_else (first_refusal ((not (is_some (due_part z)), Refusal.NothingDue) ∷ [])) None)) (is_read w t x room)
     ∙ due_case w t x (due_part x))
 
-release_steps : (w : World) (t : Topic) (ps : List Pending) (x : TopicState) → t.0 < length w.topics → run (map (λ p. Releases t) ps) (with_topic w t x) ≡ with_topic w t (released_times (takes w) (length ps) x)
+release_steps : (w : World) (t : Topic) (ps : List Pending) (x : TopicState) → t.0 < length w.topics → run (map (λ p. Releases t) ps) (with_topic w t x) ≡ with_topic w t (after_releases (takes w) (length ps) x)
 release_steps w t [] x room = refl
 release_steps w t (p ∷ ps) x room =
     ap (run (map (λ q. Releases t) ps)) (release_step w t x room)
-    ∙ release_steps w t ps (release (takes w) x) room
+    ∙ release_steps w t ps (after_release (takes w) x) room
 
 -- ---- the whole turn
 
-tried_length : (id : TxnId) (o : Option Decision) (x : TopicState) → length (tried id o x).pending ≡ length x.pending
+tried_length : (id : TxnId) (o : Option Decision) (x : TopicState) → length (after_try id o x).pending ≡ length x.pending
 tried_length id None x = refl
 tried_length id (Some v) x = by (learn_fault id v x)
   where
-    by : (o : Option LearnFault) → let y : TopicState = elim o [ None ↦ learned id (decided_stamp v) x | Some fault ↦ x ] in length y.pending ≡ length x.pending
-    by None = map_length (told id (decided_stamp v)) x.pending
+    by : (o : Option LearnFault) → let y : TopicState = elim o [ None ↦ after_learn id (decided_stamp v) x | Some fault ↦ x ] in length y.pending ≡ length x.pending
+    by None = map_length (with_stamp id (decided_stamp v)) x.pending
     by (Some fault) = refl
 
-all_length : (find : TxnId → Option Decision) (ps : List Pending) (x : TopicState) → length (tried_all find ps x).pending ≡ length x.pending
+all_length : (find : TxnId → Option Decision) (ps : List Pending) (x : TopicState) → length (after_tries find ps x).pending ≡ length x.pending
 all_length find [] x = refl
-all_length find (p ∷ ps) x = all_length find ps (tried p.part.id (find p.part.id) x) ∙ tried_length p.part.id (find p.part.id) x
+all_length find (p ∷ ps) x = all_length find ps (after_try p.part.id (find p.part.id) x) ∙ tried_length p.part.id (find p.part.id) x
 
 run_append : (es fs : List Event) (w : World) → run (es ++ fs) w ≡ run fs (run es w)
 run_append [] fs w = refl
@@ -106,11 +106,11 @@ run_append (e ∷ es) fs w = run_append es fs (happens w e)
 abbrev steps_of : Topic → List Pending → List Event
 steps_of t ps = map (λ p. Learns t p.part.id) ps ++ map (λ p. Releases t) ps
 
-turn_within : (w : World) (t : Topic) → t.0 < length w.topics → with_topic w t (turned (takes w) (find_in w) (topic_at w t)) ≡ run (steps_of t (topic_at w t).pending) w
+turn_within : (w : World) (t : Topic) → t.0 < length w.topics → with_topic w t (after_turn (takes w) (find_in w) (topic_at w t)) ≡ run (steps_of t (topic_at w t).pending) w
 turn_within w t room =
-    let x = topic_at w t in let y = tried_all (find_in w) x.pending x in
+    let x = topic_at w t in let y = after_tries (find_in w) x.pending x in
     let learns = map (λ (p : Pending). Learns t p.part.id) x.pending in let releases = map (λ (p : Pending). Releases t) x.pending in
-    ap (λ (k : ℕ). with_topic w t (released_times (takes w) k y)) (all_length (find_in w) x.pending x)
+    ap (λ (k : ℕ). with_topic w t (after_releases (takes w) k y)) (all_length (find_in w) x.pending x)
     ∙ (sym (release_steps w t x.pending y room)
     ∙ (ap (run releases) (sym (learn_steps w t x.pending x room))
     ∙ (ap (λ (v : World). run releases (run learns v)) (unwritten w t) ∙ sym (run_append learns releases w))))
@@ -145,31 +145,31 @@ Longer-then x y z a b = record {
   is = b.is ∙ (ap (λ (rows : List LogRow). rows ++ b.rows) a.is ∙ append_again x.held a.rows b.rows);
 }
 
-released_longer : (accepts : Entry → Bool) (x : TopicState) (o : Option Pending) → Longer x (released_if accepts x o)
+released_longer : (accepts : Entry → Bool) (x : TopicState) (o : Option Pending) → Longer x (after_release_if accepts x o)
 released_longer accepts x None = Longer-same x x refl
 released_longer accepts x (Some p) = record { rows = row_of p ∷ []; is = refl }
 
-times_longer : (accepts : Entry → Bool) (k : ℕ) (x : TopicState) → Longer x (released_times accepts k x)
+times_longer : (accepts : Entry → Bool) (k : ℕ) (x : TopicState) → Longer x (after_releases accepts k x)
 times_longer accepts zero x = Longer-same x x refl
 times_longer accepts (suc k) x =
-    let y = release accepts x in Longer-then x y (released_times accepts k y) (released_longer accepts x (due_part x)) (times_longer accepts k y)
+    let y = after_release accepts x in Longer-then x y (after_releases accepts k y) (released_longer accepts x (due_part x)) (times_longer accepts k y)
 
-tried_held : (id : TxnId) (o : Option Decision) (x : TopicState) → (tried id o x).held ≡ x.held
+tried_held : (id : TxnId) (o : Option Decision) (x : TopicState) → (after_try id o x).held ≡ x.held
 tried_held id None x = refl
 tried_held id (Some v) x = by (learn_fault id v x)
   where
-    by : (o : Option LearnFault) → let y : TopicState = elim o [ None ↦ learned id (decided_stamp v) x | Some fault ↦ x ] in y.held ≡ x.held
+    by : (o : Option LearnFault) → let y : TopicState = elim o [ None ↦ after_learn id (decided_stamp v) x | Some fault ↦ x ] in y.held ≡ x.held
     by None = refl
     by (Some fault) = refl
 
-all_held : (find : TxnId → Option Decision) (ps : List Pending) (x : TopicState) → (tried_all find ps x).held ≡ x.held
+all_held : (find : TxnId → Option Decision) (ps : List Pending) (x : TopicState) → (after_tries find ps x).held ≡ x.held
 all_held find [] x = refl
-all_held find (p ∷ ps) x = all_held find ps (tried p.part.id (find p.part.id) x) ∙ tried_held p.part.id (find p.part.id) x
+all_held find (p ∷ ps) x = all_held find ps (after_try p.part.id (find p.part.id) x) ∙ tried_held p.part.id (find p.part.id) x
 
-turned_longer : (accepts : Entry → Bool) (find : TxnId → Option Decision) (x : TopicState) → Longer x (turned accepts find x)
+turned_longer : (accepts : Entry → Bool) (find : TxnId → Option Decision) (x : TopicState) → Longer x (after_turn accepts find x)
 turned_longer accepts find x =
-    let y = tried_all find x.pending x in
-    Longer-then x y (turned accepts find x) (Longer-same x y (all_held find x.pending x)) (times_longer accepts (length y.pending) y)
+    let y = after_tries find x.pending x in
+    Longer-then x y (after_turn accepts find x) (Longer-same x y (all_held find x.pending x)) (times_longer accepts (length y.pending) y)
 
 more_rows : (xs ys : List LogRow) → length (xs ++ ys) - length xs ≡ length ys
 more_rows [] ys = omega arith
@@ -182,11 +182,11 @@ counts_rows x y h = sym (ap (λ (rows : List LogRow). length rows - length x.hel
 log_written : (w : World) (t : Topic) (x : TopicState) → is_topic w t ≡ true → log_at (with_topic w t x) t ≡ x.held
 log_written w t x e = ap (λ (z : TopicState). z.held) (is_read w t x (ltb-true t.0 (length w.topics) e))
 
-released_case : (w : World) (t u : Topic) (id : TxnId) (o : Option Pending) → is_topic w t ≡ true → release_answer t o ≡ Released u id → (u ≡ t) × (row : LogRow) × (row.id ≡ id) × (log_at (with_topic w t (released_if (takes w) (topic_at w t) o)) t ≡ log_at w t ++ row ∷ [])
+released_case : (w : World) (t u : Topic) (id : TxnId) (o : Option Pending) → is_topic w t ≡ true → release_answer t o ≡ Released u id → (u ≡ t) × (row : LogRow) × (row.id ≡ id) × (log_at (with_topic w t (after_release_if (takes w) (topic_at w t) o)) t ≡ log_at w t ++ row ∷ [])
 released_case w t u id None room e = cc
 released_case w t u id (Some p) room e =
     let a : u ≡ t = cc in let b : p.part.id ≡ id = cc in
-    (a, row_of p, b, log_written w t (released_if (takes w) (topic_at w t) (Some p)) room)
+    (a, row_of p, b, log_written w t (after_release_if (takes w) (topic_at w t) (Some p)) room)
 
 pub released_is_logged : Laws.ReleasedIsLogged
 released_is_logged w t u id =
@@ -196,7 +196,7 @@ released_is_logged w t u id =
 
 turned_here : (w : World) (t u : Topic) (count : ℕ) → is_topic w t ≡ true → answer w (Turns t) ≡ Turned u count → (u ≡ t) × (rows : List LogRow) × (length rows ≡ count) × (log_at (effect w (Turns t)) t ≡ log_at w t ++ rows)
 turned_here w t u count room e =
-    let x = topic_at w t in let y = turned (takes w) (find_in w) x in let h = turned_longer (takes w) (find_in w) x in
+    let x = topic_at w t in let y = after_turn (takes w) (find_in w) x in let h = turned_longer (takes w) (find_in w) x in
     let a : u ≡ t = cc in let b : length y.held - length x.held ≡ count = cc in
     (a, h.rows, counts_rows x y h ∙ b, log_written w t y room ∙ h.is)
 

@@ -2,19 +2,20 @@
 use Rattle.std.proofs.Common.{◌≡◌, ℕ, ◌<◌, Bool, true, false, cond, ◌⊎◌, inl, inr, List, [], ◌∷◌, length, Option, Some, None, refl, sym, ap, subst, ◌∙◌, arith}
 use Rattle.std.specs.Option.{is_some}
 use Rattle.mcast_txn.specs.Transaction.{TopicPart}
-use Rattle.mcast_txn.specs.Agreed.{same_id, In}
+use Rattle.mcast_txn.specs.Ids.{same_id}
+use Rattle.mcast_txn.specs.Lists.{In}
 use Rattle.mcast_txn.specs.declared.id.Topic.{Topic}
 use Rattle.mcast_txn.specs.declared.id.TxnId.{TxnId}
-use Rattle.mcast_txn.specs.declared.send.Send.{Send}
+use Rattle.mcast_txn.specs.declared.draft.sent_message.SentMessage.{SentMessage}
 use Rattle.mcast_txn.specs.declared.stamp.Stamp.{Stamp}
 use Rattle.mcast_txn.proofs.Orders.{id_equal, id_same}
 use Rattle.mcast_txn.proofs.Members.{any_found}
 use Rattle.mcast_group.specs.declared.fault.ProposeFault.{ProposeFault}
 use Rattle.mcast_group.specs.declared.fault.CancelFault.{CancelFault}
 use Rattle.mcast_group.specs.declared.fault.SubFault.{SubFault}
-use Rattle.mcast_group.specs.Checks.{first_refusal}
-use Rattle.mcast_group.specs.Span.{Item}
-use Rattle.mcast_group.specs.Topics.{TopicState, Pending, Entry, find_pending, is_pending, cancel_fault_of, due_part, find_entry}
+use Rattle.mcast_txn.specs.Checks.{first_refusal}
+use Rattle.mcast_txn.specs.Span.{Item}
+use Rattle.mcast_group.specs.Machine.{TopicState, Pending, Entry, find_pending, is_pending, cancel_fault_of, due_part, find_entry}
 use Rattle.mcast_group.proofs.Parts.{Waits, finds_part}
 use Rattle.delivery.specs.declared.refusal.Refusal.{Refusal}
 use Rattle.delivery.specs.World.{World, Leftover, Subscription, topic_at, connection_at, speaker, subscription_at, start}
@@ -98,7 +99,7 @@ propose_once : (w : World) (c : ℕ) (t : Topic) (id : TxnId) (o : Option Propos
 propose_once w c t id None n e = cc
 propose_once w c t id (Some fault) n e = let d : fault ≡ ProposeFault.Twice = cc in n (ap Some d)
 
-flying_once : (w : World) (c : ℕ) (sends : List Send) (id : TxnId) (why : ProposeFault) → flying_answer w c sends ≡ Failed id why → Prim.⊥
+flying_once : (w : World) (c : ℕ) (sends : List SentMessage) (id : TxnId) (why : ProposeFault) → flying_answer w c sends ≡ Failed id why → Prim.⊥
 flying_once w c [] id why e = cc
 flying_once w c (first ∷ others) id why e = cc
 

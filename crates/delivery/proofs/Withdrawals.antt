@@ -1,15 +1,15 @@
 -- No transaction is both withdrawn and decided.
 use Rattle.std.proofs.Common.{◌≡◌, ℕ, inl, inr, List, [], ◌∷◌, Option, Some, None, sym, ap, subst, ◌∙◌}
 use Rattle.std.proofs.lemmas.Bool.{true≢false}
-use Rattle.mcast_txn.specs.Agreed.{In}
+use Rattle.mcast_txn.specs.Lists.{In}
 use Rattle.mcast_txn.specs.declared.id.Topic.{Topic}
 use Rattle.mcast_txn.specs.declared.id.TxnId.{TxnId}
-use Rattle.mcast_txn.specs.declared.send.Send.{Send}
+use Rattle.mcast_txn.specs.declared.draft.sent_message.SentMessage.{SentMessage}
 use Rattle.mcast_txn.specs.declared.stamp.Stamp.{Stamp}
 use Rattle.mcast_txn.proofs.Orders.{id_same}
 use Rattle.mcast_group.specs.declared.fault.ProposeFault.{ProposeFault}
-use Rattle.mcast_group.specs.Span.{Item}
-use Rattle.mcast_group.specs.Topics.{Pending, due_part}
+use Rattle.mcast_txn.specs.Span.{Item}
+use Rattle.mcast_group.specs.Machine.{Pending, due_part}
 use Rattle.delivery.specs.World.{World, Flight, Leftover, topic_at, connection_at, speaker, start}
 use Rattle.delivery.specs.Events.{Event, Outcome, happens, outcome, refusal, answer, find_leftover, oldest_live, flying_answer, proposal_fault, propose_answer, cancel_answer, release_answer, take_answer, leave_answer}
 use Rattle.delivery.specs.Events.Event.{Topic_added, Opens, Commits, Subscribes, Unsubscribes, Disconnects, Errs, Lost, Leaves, Proposes, Decides, Withdraws, Cancels, Learns, Releases, Turns, Takes}
@@ -37,7 +37,7 @@ Ends w (Decided id stamp) = IsFlying w id
 Ends w (Withdrawn id c) = IsFlying w id
 Ends w o = Unit {0}
 
-flying_ends : (w : World) (c : ℕ) (sends : List Send) → Ends w (flying_answer w c sends)
+flying_ends : (w : World) (c : ℕ) (sends : List SentMessage) → Ends w (flying_answer w c sends)
 flying_ends w c [] = tt
 flying_ends w c (first ∷ others) = tt
 

@@ -5,10 +5,10 @@ use Rattle.std.specs.Option.{is_some}
 use Rattle.mcast_txn.specs.declared.id.Topic.{Topic}
 use Rattle.mcast_txn.specs.Stamp.{greatest}
 use Rattle.mcast_txn.specs.Part.{part_at}
-use Rattle.mcast_txn.specs.Agreed.{In}
+use Rattle.mcast_txn.specs.Lists.{In}
 use Rattle.mcast_txn.specs.Ballot.{Decision}
 use Rattle.mcast_group.specs.declared.fault.ProposeFault.{ProposeFault}
-use Rattle.mcast_group.specs.Topics.{Pending, propose_fault, due_part}
+use Rattle.mcast_group.specs.Machine.{Pending, propose_fault, due_part}
 use Rattle.delivery.specs.World.{World, Leftover, topic_at, connection_at, speaker, subscription_at}
 use Rattle.delivery.specs.Reading.{accepted_at, end_at}
 use Rattle.delivery.specs.Events.{Event, Outcome, outcome, flight_at, is_live, item_number}

@@ -4,19 +4,21 @@ use Rattle.std.specs.List.{list_any, list_all}
 use Rattle.std.specs.Option.{is_some}
 use Rattle.mcast_txn.specs.declared.id.Topic.{Topic}
 use Rattle.mcast_txn.specs.declared.id.TxnId.{TxnId}
-use Rattle.mcast_txn.specs.declared.send.Send.{Send}
+use Rattle.mcast_txn.specs.declared.draft.sent_message.SentMessage.{SentMessage}
 use Rattle.mcast_txn.specs.declared.stamp.Stamp.{Stamp}
 use Rattle.mcast_txn.specs.Stamp.{zero_stamp, greatest}
 use Rattle.mcast_txn.specs.Part.{part_at}
 use Rattle.mcast_txn.specs.Transaction.{topics_of}
-use Rattle.mcast_txn.specs.Agreed.{Transaction, same_id, names}
+use Rattle.mcast_txn.specs.Agreed.{Transaction}
+use Rattle.mcast_txn.specs.Ids.{same_id}
+use Rattle.mcast_txn.specs.TopicSet.{names}
 use Rattle.mcast_txn.specs.Ballot.{Decision}
 use Rattle.mcast_group.specs.declared.fault.ProposeFault.{ProposeFault}
 use Rattle.mcast_group.specs.declared.fault.LearnFault.{LearnFault}
 use Rattle.mcast_group.specs.declared.fault.CancelFault.{CancelFault}
-use Rattle.mcast_group.specs.Checks.{first_refusal}
-use Rattle.mcast_group.specs.Span.{Item}
-use Rattle.mcast_group.specs.Topics.{Entry, Pending, new_topic, last_number, next_number, propose_fault, proposed, learn_fault, learned, cancel_fault, cancelled, due_part, release, turned, turn_count, subscribed, ended, unsubscribed, decided_stamp}
+use Rattle.mcast_txn.specs.Checks.{first_refusal}
+use Rattle.mcast_txn.specs.Span.{Item}
+use Rattle.mcast_group.specs.Machine.{Entry, Pending, new_topic, last_number, next_number, propose_fault, after_propose, learn_fault, after_learn, cancel_fault, after_cancel, due_part, after_release, after_turn, turn_count, after_subscribe, end_of, after_unsubscribe, decided_stamp}
 use Rattle.delivery.specs.declared.refusal.Refusal.{Refusal}
 use Rattle.delivery.specs.World.{World, Flight, Leftover, Subscription, Standing, is_open, is_gone, topic_at, new_sender, connection_at, speaker, subscription_at, entry_at, with_topic, with_sender, with_standing, with_subscription}
 use Rattle.delivery.specs.Reading.{accepted_at, end_at}
@@ -28,7 +30,7 @@ pub data Event : Type 0 where
   -- a connection is opened; a sender of its own comes with it
   Opens : Event
   -- a frame that commits these SENDs
-  Commits : (c : ℕ) (sends : List Send) → Event
+  Commits : (c : ℕ) (sends : List SentMessage) → Event
   -- SUBSCRIBE to t; UNSUBSCRIBE of s; DISCONNECT; a frame with a fault, which an ERROR answers
   Subscribes : (c : ℕ) (t : Topic) → Event
   Unsubscribes : (c s : ℕ) → Event
@@ -244,14 +246,14 @@ refusal w e = or_else (first_refusal (checks w e)) (topic_refusal w e)
 -- ---- what is done
 
 -- the transaction that these SENDs make
-abbrev pub next_txn : World → ℕ → List Send → Transaction
+abbrev pub next_txn : World → ℕ → List SentMessage → Transaction
 next_txn w c sends = record {
   id = record { sender = record { 0 = (connection_at w c).sender }; seq = (speaker w c).seq + 1 };
   sends = sends;
 }
 
 -- the transaction is in flight under the next seq; of no SENDs there is none
-abbrev pub flown : World → ℕ → List Send → World
+abbrev pub flown : World → ℕ → List SentMessage → World
 flown w c [] = w
 flown w c (first ∷ others) =
     with_sender w (connection_at w c).sender (record (speaker w c) {
@@ -263,7 +265,7 @@ flown w c (first ∷ others) =
 abbrev pub opened_subscription : World → ℕ → Topic → World
 opened_subscription w c t =
     let x = topic_at w t in
-    record (with_topic w t (subscribed (length w.subscriptions) x)) {
+    record (with_topic w t (after_subscribe (length w.subscriptions) x)) {
       subscriptions = w.subscriptions ++ record { connection = c; topic = t; from = x.frontier; taken = 0; closed = None } ∷ [];
     }
 
@@ -272,8 +274,8 @@ abbrev pub closed_with : World → ℕ → Option Entry → World
 closed_with w s None = w
 closed_with w s (Some e) =
     let x = subscription_at w s in
-    with_subscription (with_topic w x.topic (unsubscribed s (topic_at w x.topic))) s
-    (record x { closed = Some (ended (topic_at w x.topic).frontier e) })
+    with_subscription (with_topic w x.topic (after_unsubscribe s (topic_at w x.topic))) s
+    (record x { closed = Some (end_of (topic_at w x.topic).frontier e) })
 
 -- the subscription is closed: what its entry leaves is kept, and the entry is dropped
 abbrev pub closed_subscription : World → ℕ → World
@@ -310,7 +312,7 @@ with_flight w c f = with_sender w (connection_at w c).sender (record (speaker w 
 abbrev pub proposed_by : World → ℕ → Topic → Option ProposeFault → World
 proposed_by w c t None =
     let f = flight_at w c in
-    with_flight (with_topic w t (proposed (speaker w c).floor (part_at f.txn.id f.txn.sends t) (topic_at w t))) c
+    with_flight (with_topic w t (after_propose (speaker w c).floor (part_at f.txn.id f.txn.sends t) (topic_at w t))) c
     (record f { given = insert_ticket (next_ticket w c t) f.given })
 proposed_by w c t (Some fault) = with_flight w c (record (flight_at w c) { mark = Some fault })
 
@@ -340,13 +342,13 @@ withdrawn w c =
 abbrev pub cancelled_at : World → ℕ → Topic → Option Leftover → World
 cancelled_at w c t None = w
 cancelled_at w c t (Some k) =
-    with_sender (with_topic w t (cancelled k.id (topic_at w t))) (connection_at w c).sender
+    with_sender (with_topic w t (after_cancel k.id (topic_at w t))) (connection_at w c).sender
     (record (speaker w c) { leftovers = drop_leftover t (speaker w c).leftovers })
 
 -- t learns the verdict that was found
 abbrev pub learned_at : World → Topic → TxnId → Option Decision → World
 learned_at w t id None = w
-learned_at w t id (Some v) = with_topic w t (learned id (decided_stamp v) (topic_at w t))
+learned_at w t id (Some v) = with_topic w t (after_learn id (decided_stamp v) (topic_at w t))
 
 -- the queue takes one more item: fewer than its capacity weren't handed on
 abbrev pub takes : World → Entry → Bool
@@ -386,20 +388,20 @@ effect w (Decides c) = decided w c
 effect w (Withdraws c) = withdrawn w c
 effect w (Cancels c t) = cancelled_at w c t (find_leftover t (speaker w c).leftovers)
 effect w (Learns t id) = learned_at w t id (find_verdict id w.verdicts)
-effect w (Releases t) = with_topic w t (release (takes w) (topic_at w t))
-effect w (Turns t) = with_topic w t (turned (takes w) (find_in w) (topic_at w t))
+effect w (Releases t) = with_topic w t (after_release (takes w) (topic_at w t))
+effect w (Turns t) = with_topic w t (after_turn (takes w) (find_in w) (topic_at w t))
 effect w (Takes s) = handed w s (item_number (subscription_at w s).taken (accepted_at w s))
 
 -- ---- what is answered
 
 -- the transaction that these SENDs make; of none there is none
-abbrev pub flying_answer : World → ℕ → List Send → Outcome
+abbrev pub flying_answer : World → ℕ → List SentMessage → Outcome
 flying_answer w c [] = Done
 flying_answer w c (first ∷ others) = Flying (next_txn w c (first ∷ others))
 
 -- where the subscription's span would end now
 abbrev pub end_now : World → ℕ → Stamp
-end_now w s = elim (entry_at w s) [ None ↦ zero_stamp | Some e ↦ (ended (topic_at w (subscription_at w s).topic).frontier e).to ]
+end_now w s = elim (entry_at w s) [ None ↦ zero_stamp | Some e ↦ (end_of (topic_at w (subscription_at w s).topic).frontier e).to ]
 
 -- the subscription that is closed, and where; where there is none, the connection is gone
 abbrev pub leave_answer : World → ℕ → Option ℕ → Outcome

@@ -2,15 +2,15 @@
 use Rattle.std.specs.Prelude.{◌≡◌, ℕ, true, List, [], ◌∷◌, map, reverse, Option, Some, None}
 use Rattle.mcast_txn.specs.declared.id.Topic.{Topic}
 use Rattle.mcast_txn.specs.declared.id.TxnId.{TxnId}
-use Rattle.mcast_txn.specs.declared.send.Send.{Send}
-use Rattle.mcast_txn.specs.declared.send.PartSend.{PartSend}
+use Rattle.mcast_txn.specs.declared.draft.sent_message.SentMessage.{SentMessage}
+use Rattle.mcast_txn.specs.declared.parts.part_message.PartMessage.{PartMessage}
 use Rattle.mcast_txn.specs.declared.stamp.Stamp.{Stamp}
 use Rattle.mcast_txn.specs.Stamp.{zero_stamp}
 use Rattle.mcast_txn.specs.Agreed.{Transaction}
 use Rattle.mcast_group.specs.declared.cause.Cause.TheVariants.{Asked, Lag}
 use Rattle.mcast_group.specs.declared.fault.ProposeFault.{ProposeFault}
-use Rattle.mcast_group.specs.Span.{Item, Span}
-use Rattle.mcast_group.specs.Topics.{Ended}
+use Rattle.mcast_txn.specs.Span.{Item, Span}
+use Rattle.mcast_group.specs.Machine.{EntryEnd}
 use Rattle.delivery.specs.declared.refusal.Refusal.{Refusal}
 use Rattle.delivery.specs.World.{subscription_at}
 use Rattle.delivery.specs.Reading.{log_at, accepted_at, span_at}
@@ -39,19 +39,19 @@ abbrev pub id : ℕ → ℕ → TxnId
 id sender seq = record { sender = record { 0 = sender }; seq = seq }
 
 -- a SEND to topic t of one octet
-abbrev pub send : ℕ → ℕ → Send
+abbrev pub send : ℕ → ℕ → SentMessage
 send t octet = record { topic = topic t; headers = []; body = octet ∷ [] }
 
 -- the same in a part, with its index in the whole transaction
-abbrev pub part : ℕ → ℕ → PartSend
+abbrev pub part : ℕ → ℕ → PartMessage
 part index octet = record { index = index; headers = []; body = octet ∷ [] }
 
 -- the transaction of this id with these SENDs
-abbrev pub transaction : TxnId → List Send → Transaction
+abbrev pub transaction : TxnId → List SentMessage → Transaction
 transaction i sends = record { id = i; sends = sends }
 
 -- its part in a queue
-abbrev pub item : TxnId → Stamp → List PartSend → Item
+abbrev pub item : TxnId → Stamp → List PartMessage → Item
 item i at sends = record { id = i; stamp = at; sends = sends }
 
 -- topic t from this stamp to this end
@@ -79,17 +79,17 @@ abbrev pub queue : Run → ℕ → List Item
 queue r s = accepted_at (after r) s
 
 -- what subscription s left as it was closed
-abbrev pub left : Run → ℕ → Option Ended
+abbrev pub left : Run → ℕ → Option EntryEnd
 left r s = (subscription_at (after r) s).closed
 
 -- ---- crossing
 
 -- one octet to A, and to B
-abbrev pub to_a_and_b : List Send
+abbrev pub to_a_and_b : List SentMessage
 to_a_and_b = send 0 1 ∷ send 1 1 ∷ []
 
 -- one octet to B, and to C
-abbrev pub to_b_and_c : List Send
+abbrev pub to_b_and_c : List SentMessage
 to_b_and_c = send 1 2 ∷ send 2 2 ∷ []
 
 -- topics A at clock 9, B and C at 0: connection 0 subscribes to B, and commits transaction 1 to A and B, and
@@ -129,7 +129,7 @@ withdrawal_at_b = item (id 1 1) (stamp 2 1) (part 0 2 ∷ []) ∷ item (id 3 1) 
 -- ---- loss
 
 -- one octet to A, one to B, and one to A
-abbrev pub to_a_b_and_a : List Send
+abbrev pub to_a_b_and_a : List SentMessage
 to_a_b_and_a = send 0 1 ∷ send 1 2 ∷ send 0 3 ∷ []
 
 -- connections 0 and 1 subscribe to A. Connection 0 commits to A, B and A, and is lost when A has given its

@@ -7,13 +7,16 @@ use Rattle.mcast_txn.specs.declared.id.TxnId.{TxnId}
 use Rattle.mcast_txn.specs.declared.stamp.Stamp.{Stamp}
 use Rattle.mcast_txn.specs.Stamp.{zero_stamp, stamp_lt, greatest}
 use Rattle.mcast_txn.specs.Transaction.{topics_of}
-use Rattle.mcast_txn.specs.Agreed.{Row, In, names, same_id, agreed, EachOnce, SenderOrder}
+use Rattle.mcast_txn.specs.Agreed.{CommitRow, agreed, EachOnce, SenderOrder}
+use Rattle.mcast_txn.specs.Lists.{In}
+use Rattle.mcast_txn.specs.TopicSet.{names}
+use Rattle.mcast_txn.specs.Ids.{same_id}
 use Rattle.mcast_txn.specs.Ballot.{Decision}
 use Rattle.mcast_group.specs.declared.fault.LearnFault.{LearnFault}
 use Rattle.mcast_group.specs.declared.fault.ProposeFault.{ProposeFault}
-use Rattle.mcast_group.specs.Span.{LogRow, Item}
+use Rattle.mcast_txn.specs.Span.{LogRow, Item}
 use Rattle.mcast_group.specs.Sound.{IsSound}
-use Rattle.mcast_group.specs.Topics.{Pending, Entry, learn_fault, item_of, due_part, find_entry, subscribe_fault, unsubscribe_fault}
+use Rattle.mcast_group.specs.Machine.{Pending, Entry, learn_fault, item_of, due_part, find_entry, subscribe_fault, unsubscribe_fault}
 use Rattle.delivery.specs.declared.refusal.Refusal.{Refusal}
 use Rattle.delivery.specs.Due.{log_row, due}
 use Rattle.delivery.specs.World.{World, start, topic_at, speaker, subscription_at}
@@ -85,7 +88,7 @@ SharedInOneOrder =
 -- a committed transaction that names a settled topic stands in its log, at most at its frontier
 abbrev pub SettledLeavesNoneOut : Type 0
 SettledLeavesNoneOut =
-    (r : Run) (t : Topic) (row : Row) → IsSettled t (came r) → In row (commits_of (came r))
+    (r : Run) (t : Topic) (row : CommitRow) → IsSettled t (came r) → In row (commits_of (came r))
     → names t (topics_of row.txn.sends) ≡ true
     → In (log_row row) (log_at (after r) t) × (stamp_lt (frontier_at (after r) t) row.stamp ≡ false)
 
@@ -103,7 +106,7 @@ HandedIsPrefix =
     → (rest : List Item) × (accepted_at (after r) s ≡ handed_of s (came r) ++ rest)
 
 -- the row names the topic, and is at most its frontier
-abbrev pub is_logged : Topic → Stamp → Row → Bool
+abbrev pub is_logged : Topic → Stamp → CommitRow → Bool
 is_logged t frontier row = names t (topics_of row.txn.sends) && not (stamp_lt frontier row.stamp)
 
 -- a topic's log is the agreed sequence restricted to the topic, up to its frontier
@@ -118,7 +121,7 @@ abbrev pub LogCountsReleases : Type 0
 LogCountsReleases = (r : Run) (t : Topic) → length (log_at (after r) t) ≡ released_at t (came r)
 
 -- the rows of the agreed sequence that name a topic
-abbrev pub agreed_rows : Topic → List Row → List LogRow
+abbrev pub agreed_rows : Topic → List CommitRow → List LogRow
 agreed_rows t commits = map log_row (filter (λ row. names t (topics_of row.txn.sends)) (agreed commits))
 
 -- so the outcomes alone say what it is: as many of these rows as were released, from the first

@@ -3,8 +3,8 @@ use Rattle.std.specs.Prelude.{ℕ, List, [], Option, Some, None}
 use Rattle.mcast_txn.specs.declared.id.Topic.{Topic}
 use Rattle.mcast_txn.specs.declared.stamp.Stamp.{Stamp}
 use Rattle.mcast_txn.specs.Stamp.{zero_stamp}
-use Rattle.mcast_group.specs.Span.{LogRow, Item, Span, last_stamp}
-use Rattle.mcast_group.specs.Topics.{Entry}
+use Rattle.mcast_txn.specs.Span.{LogRow, Item, Span, last_stamp}
+use Rattle.mcast_group.specs.Machine.{Entry}
 use Rattle.delivery.specs.World.{World, topic_at, subscription_at, entry_at}
 
 -- the rows that a topic holds: its whole log while nothing is drained, as in every run

@@ -3,8 +3,9 @@ use Rattle.std.specs.Prelude.{◌≡◌, ℕ, ◌+◌, ◌==◌, List, [], ◌�
 use Rattle.mcast_txn.specs.declared.id.Topic.{Topic}
 use Rattle.mcast_txn.specs.declared.id.TxnId.{TxnId}
 use Rattle.mcast_txn.specs.declared.stamp.Stamp.{Stamp}
-use Rattle.mcast_txn.specs.Agreed.{Transaction, Row, same_id}
-use Rattle.mcast_group.specs.Span.{Item}
+use Rattle.mcast_txn.specs.Agreed.{Transaction, CommitRow}
+use Rattle.mcast_txn.specs.Ids.{same_id}
+use Rattle.mcast_txn.specs.Span.{Item}
 use Rattle.delivery.specs.World.{World}
 use Rattle.delivery.specs.Events.{Event, Outcome, happens, outcome}
 use Rattle.delivery.specs.Events.Outcome.{Flying, Ticket, Decided, Handed}
@@ -27,7 +28,7 @@ made id (Flying txn ∷ before) = if same_id txn.id id then txn else made id bef
 made id (o ∷ before) = made id before
 
 -- the commit list: one row for each transaction that was decided, in that order
-abbrev pub commits_of : List Outcome → List Row
+abbrev pub commits_of : List Outcome → List CommitRow
 commits_of [] = []
 commits_of (Decided id stamp ∷ before) = commits_of before ++ record { txn = made id before; stamp = stamp } ∷ []
 commits_of (o ∷ before) = commits_of before

@@ -4,7 +4,9 @@ use Rattle.mcast_txn.specs.declared.id.Topic.{Topic}
 use Rattle.mcast_txn.specs.declared.id.TxnId.{TxnId}
 use Rattle.mcast_txn.specs.declared.stamp.Stamp.{Stamp}
 use Rattle.mcast_txn.specs.Transaction.{topics_of}
-use Rattle.mcast_txn.specs.Agreed.{Transaction, In, names}
+use Rattle.mcast_txn.specs.Agreed.{Transaction}
+use Rattle.mcast_txn.specs.Lists.{In}
+use Rattle.mcast_txn.specs.TopicSet.{names}
 use Rattle.delivery.specs.Events.{Outcome}
 use Rattle.delivery.specs.Events.Outcome.{Flying, Ticket, Decided, Withdrawn, Cancelled, Turned, Subscribed, Unsubscribed, Leaving, Error, Handed}
 use Rattle.delivery.specs.Runs.{made}

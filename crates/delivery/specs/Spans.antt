@@ -4,8 +4,8 @@ use Rattle.mcast_txn.specs.declared.stamp.Stamp.{Stamp}
 use Rattle.mcast_txn.specs.Stamp.{zero_stamp}
 use Rattle.mcast_group.specs.declared.cause.Cause.{Cause}
 use Rattle.mcast_group.specs.declared.cause.Cause.TheVariants.{Asked, Lag}
-use Rattle.mcast_group.specs.Span.{LogRow, Item, last_stamp}
-use Rattle.mcast_group.specs.Topics.{Ended}
+use Rattle.mcast_txn.specs.Span.{LogRow, Item, last_stamp}
+use Rattle.mcast_group.specs.Machine.{EntryEnd}
 use Rattle.delivery.specs.World.{subscription_at}
 use Rattle.delivery.specs.Reading.{log_at, accepted_at, end_at, frontier_at}
 use Rattle.delivery.specs.Events.{Event, happens, outcome}
@@ -56,12 +56,12 @@ ClosedAsTold =
 -- only an event that answers a subscription's end closes it
 abbrev pub ClosesAreTold : Type 0
 ClosesAreTold =
-    (r : Run) (e : Event) (s : ℕ) (left : Ended) → (subscription_at (after r) s).closed ≡ None
+    (r : Run) (e : Event) (s : ℕ) (left : EntryEnd) → (subscription_at (after r) s).closed ≡ None
     → (subscription_at (happens (after r) e) s).closed ≡ Some left
     → outcome (after r) e ≡ Unsubscribed s left.to
 
 -- what a closed subscription left stays as it is
 abbrev pub ClosedStays : Type 0
 ClosedStays =
-    (r : Run) (e : Event) (s : ℕ) (left : Ended) → (subscription_at (after r) s).closed ≡ Some left
+    (r : Run) (e : Event) (s : ℕ) (left : EntryEnd) → (subscription_at (after r) s).closed ≡ Some left
     → (subscription_at (happens (after r) e) s).closed ≡ Some left

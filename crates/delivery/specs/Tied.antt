@@ -5,12 +5,13 @@ use Rattle.mcast_txn.specs.declared.id.Topic.{Topic}
 use Rattle.mcast_txn.specs.declared.id.TxnId.{TxnId}
 use Rattle.mcast_txn.specs.declared.stamp.Stamp.{Stamp}
 use Rattle.mcast_txn.specs.Stamp.{zero_stamp, stamp_lt}
-use Rattle.mcast_txn.specs.Topics.{RisesBy}
+use Rattle.mcast_txn.specs.Lists.{RisesBy, In}
 use Rattle.mcast_txn.specs.Transaction.{topics_of}
 use Rattle.mcast_txn.specs.Part.{part_at}
-use Rattle.mcast_txn.specs.Agreed.{Row, In, names}
-use Rattle.mcast_group.specs.Span.{LogRow}
-use Rattle.mcast_group.specs.Topics.{Pending}
+use Rattle.mcast_txn.specs.Agreed.{CommitRow}
+use Rattle.mcast_txn.specs.TopicSet.{names}
+use Rattle.mcast_txn.specs.Span.{LogRow}
+use Rattle.mcast_group.specs.Machine.{Pending}
 use Rattle.delivery.specs.World.{Flight, topic_at, sender_at}
 use Rattle.delivery.specs.Reading.{log_at}
 use Rattle.delivery.specs.Events.{Event, Outcome}
@@ -41,7 +42,7 @@ numbers_at t (o ∷ before) = numbers_at t before
 -- a stamp that it has learnt is its transaction's: so the part of an undecided or a withdrawn transaction has learnt none.
 pub record IsWaiting (r : Run) (t : Topic) (p : Pending) : Type 0 where
   pub part : p.part ≡ part_at p.part.id (made p.part.id (came r)).sends t
-  pub ticket : In (Ticket p.part.id (record { n = p.ticket; topic = t })) (came r)
+  pub ticket : In (Ticket p.part.id (record { n = p.number; topic = t })) (came r)
   pub uncancelled : In (Cancelled p.part.id t) (came r) → Prim.⊥
   pub unlogged : (row : LogRow) → In row (log_at (after r) t) → row.id ≢ p.part.id
   pub learnt : (stamp : Stamp) → p.learnt ≡ Some stamp → In (Decided p.part.id stamp) (came r)
@@ -51,11 +52,11 @@ abbrev pub IsAccountedFor : Run → Topic → TxnId → Stamp → Type 0
 IsAccountedFor r t id ticket =
     In (Cancelled id t) (came r)
     ⊎ ((row : LogRow) × In row (log_at (after r) t) × (row.id ≡ id))
-    ⊎ ((p : Pending) × In p (topic_at (after r) t).pending × (p.part.id ≡ id) × (p.ticket ≡ ticket.n))
+    ⊎ ((p : Pending) × In p (topic_at (after r) t).pending × (p.part.id ≡ id) × (p.number ≡ ticket.n))
 
 -- a committed transaction that names t has one ticket there: its stamp is at least that, and equal to it where t is the
 -- stamp's topic
-pub record HasTicket (r : Run) (t : Topic) (row : Row) : Type 0 where
+pub record HasTicket (r : Run) (t : Topic) (row : CommitRow) : Type 0 where
   pub ticket : Stamp
   pub given : In (Ticket row.txn.id ticket) (came r)
   pub topic : ticket.topic ≡ t
@@ -73,7 +74,7 @@ pub record IsTied (r : Run) (t : Topic) : Type 0 where
   pub opened : opening_clock r t ≤ (topic_at (after r) t).clock
   pub pending : (p : Pending) → In p (topic_at (after r) t).pending → IsWaiting r t p
   pub accounted : (id : TxnId) (ticket : Stamp) → In (Ticket id ticket) (came r) → ticket.topic ≡ t → IsAccountedFor r t id ticket
-  pub tickets : (row : Row) → In row (commits_of (came r)) → names t (topics_of row.txn.sends) ≡ true → HasTicket r t row
+  pub tickets : (row : CommitRow) → In row (commits_of (came r)) → names t (topics_of row.txn.sends) ≡ true → HasTicket r t row
 
 -- each topic is tied to what it gave
 abbrev pub TopicsAreTied : Type 0
@@ -82,7 +83,7 @@ TopicsAreTied = (r : Run) (t : Topic) → IsTied r t
 -- ---- a sender
 
 -- the stamp of the last of these rows that is of sender s, or else the floor that is given
-abbrev pub floor_after : ℕ → Stamp → List Row → Stamp
+abbrev pub floor_after : ℕ → Stamp → List CommitRow → Stamp
 floor_after s floor [] = floor
 floor_after s floor (r ∷ rows) = floor_after s (if r.txn.id.sender.0 == s then r.stamp else floor) rows
 

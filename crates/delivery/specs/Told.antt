@@ -1,9 +1,10 @@
 -- What a run's outcomes and spans tell: whose a transaction is, where a span begins and ends, and how much a queue holds.
 use Rattle.std.specs.Prelude.{◌≡◌, ℕ, ◌<◌, ◌≤◌, ◌+◌, Some, None, ◌⊎◌, List, length}
 use Rattle.mcast_txn.specs.declared.id.Topic.{Topic}
-use Rattle.mcast_txn.specs.declared.send.Send.{Send}
+use Rattle.mcast_txn.specs.declared.draft.sent_message.SentMessage.{SentMessage}
 use Rattle.mcast_txn.specs.declared.stamp.Stamp.{Stamp}
-use Rattle.mcast_txn.specs.Agreed.{Transaction, In}
+use Rattle.mcast_txn.specs.Agreed.{Transaction}
+use Rattle.mcast_txn.specs.Lists.{In}
 use Rattle.delivery.specs.World.{World, connection_at, subscription_at}
 use Rattle.delivery.specs.Reading.{accepted_at, end_at, span_at, frontier_at}
 use Rattle.delivery.specs.Events.{Event, happens, outcome}
@@ -16,7 +17,7 @@ use Rattle.delivery.specs.Laws.{Run, came, after}
 abbrev pub FlyingIsOwn : Type 0
 FlyingIsOwn =
     (w : World) (e : Event) (txn : Transaction) → outcome w e ≡ Flying txn
-    → (c : ℕ) × (sends : List Send) × (e ≡ Commits c sends) × (txn.sends ≡ sends)
+    → (c : ℕ) × (sends : List SentMessage) × (e ≡ Commits c sends) × (txn.sends ≡ sends)
     × (txn.id.sender.0 ≡ (connection_at w c).sender)
 
 -- each connection speaks for a sender of its own

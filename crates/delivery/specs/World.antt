@@ -4,10 +4,10 @@ use Rattle.mcast_txn.specs.declared.id.Topic.{Topic}
 use Rattle.mcast_txn.specs.declared.id.TxnId.{TxnId}
 use Rattle.mcast_txn.specs.declared.stamp.Stamp.{Stamp}
 use Rattle.mcast_txn.specs.Stamp.{zero_stamp}
-use Rattle.mcast_txn.specs.Agreed.{Transaction, Row}
+use Rattle.mcast_txn.specs.Agreed.{Transaction, CommitRow}
 use Rattle.mcast_txn.specs.Ballot.{Decision}
 use Rattle.mcast_group.specs.declared.fault.ProposeFault.{ProposeFault}
-use Rattle.mcast_group.specs.Topics.{TopicState, Entry, Ended, new_topic, find_entry}
+use Rattle.mcast_group.specs.Machine.{TopicState, Entry, EntryEnd, new_topic, find_entry}
 
 -- a sender's undecided transaction: the tickets that it was given, by rising topic, and why a topic refused it, if one did (then it is marked)
 pub record Flight : Type 0 where
@@ -56,7 +56,7 @@ pub record Subscription : Type 0 where
   pub topic : Topic
   pub from : Stamp
   pub taken : ℕ
-  pub closed : Option Ended
+  pub closed : Option EntryEnd
 
 -- the core: the commit list and the verdicts stand in the order of Decide
 pub record World : Type 0 where
@@ -66,7 +66,7 @@ pub record World : Type 0 where
   pub senders : List SenderState
   pub connections : List Connection
   pub subscriptions : List Subscription
-  pub commits : List Row
+  pub commits : List CommitRow
   pub verdicts : List Decision
 
 -- topics with these opening clocks, numbered from i

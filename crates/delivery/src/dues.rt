@@ -3,12 +3,12 @@
 ghost use Rattle.std.specs.Prelude.{◌≡◌, ◌==◌, IfOk};
 ghost use Rattle.std.specs.List.{list_any};
 ghost use Rattle.mcast_txn.specs.Transaction.{topics_of, part_of};
-ghost use Rattle.mcast_txn.specs.Agreed.{names};
-ghost use Rattle.mcast_group.specs.Span.{in_span, up_to};
+ghost use Rattle.mcast_txn.specs.TopicSet.{names};
+ghost use Rattle.mcast_txn.specs.Span.{in_span, up_to};
 ghost use Rattle.delivery.specs.Due.{due, is_due, item_at};
 
 use crate::plain::{CommitRow, agreed};
-use mcast_txn::{NoMemory, PartSend, Send, Stamp, Topic, TxnId};
+use mcast_txn::{NoMemory, PartMessage, SentMessage, Stamp, Topic, TxnId};
 use std::alloc::Global;
 use std::marker::Model;
 
@@ -17,11 +17,11 @@ use std::marker::Model;
 pub struct QueueItem {
     pub id: TxnId,
     pub stamp: Stamp,
-    pub sends: Vec<PartSend>,
+    pub sends: Vec<PartMessage>,
 }
 
 impl Model for QueueItem {
-    ghost use Rattle.mcast_group.specs.Span.{Item};
+    ghost use Rattle.mcast_txn.specs.Span.{Item};
 
     ghost Value = { Item };
 
@@ -31,7 +31,11 @@ impl Model for QueueItem {
 /// The SENDs to the topic, each with its index in the whole transaction, which has fewer than 2^32: else
 /// want of memory is answered.
 #[tactic(auto, using(crate::proofs::Parts::part_taken, crate::proofs::Parts::part_passed))]
-fn part(alloc: Global, topic: Topic, mut sends: Vec<Send>) -> Result<Vec<PartSend>, NoMemory>
+fn part(
+    alloc: Global,
+    topic: Topic,
+    mut sends: Vec<SentMessage>,
+) -> Result<Vec<PartMessage>, NoMemory>
     ensures { IfOk result (λ part. part.items ≡ part_of topic sends.items) }
 {
     let mut part = Vec::new(alloc);
@@ -44,7 +48,7 @@ fn part(alloc: Global, topic: Topic, mut sends: Vec<Send>) -> Result<Vec<PartSen
             let body = send.body;
             part.insert(
                 0,
-                PartSend {
+                PartMessage {
                     index,
                     headers,
                     body,
@@ -66,13 +70,13 @@ fn item(alloc: Global, topic: Topic, row: CommitRow) -> Result<QueueItem, NoMemo
     })
 }
 
-fn has_send(topic: Topic, sends: &[Send]) -> bool
+fn has_send(topic: Topic, sends: &[SentMessage]) -> bool
     ensures { result ≡ list_any (λ send. send.topic.0 == topic.0) sends.now }
 {
     sends.iter().any(|send| send.topic.0 == topic.0)
 }
 
-fn names(topic: Topic, sends: &[Send]) -> bool
+fn names(topic: Topic, sends: &[SentMessage]) -> bool
     ensures { result ≡ names topic (topics_of sends.now) }
 {
     has_send(topic, sends)

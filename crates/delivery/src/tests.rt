@@ -1,7 +1,7 @@
 //! Worked rows by the plain programs, with ample memory.
 
 use crate::{CommitRow, QueueItem, agreed, due};
-use mcast_txn::{Send, Sender, Stamp, Topic, TxnId};
+use mcast_txn::{Sender, SentMessage, Stamp, Topic, TxnId};
 use std::alloc::{AllocError, Global};
 use std::test::Fail;
 use stomp_frame::{Headers, Octets};
@@ -20,7 +20,7 @@ fn row(alloc: Global, seq: u64, topics: &[u32], stamp: Stamp) -> Result<CommitRo
         let topic = Topic(*topic);
         let headers = Headers::new(alloc);
         let body = Octets::new(alloc);
-        sends.push(Send {
+        sends.push(SentMessage {
             topic,
             headers,
             body,

@@ -12,9 +12,9 @@ use Rattle.mcast_group.specs.declared.fault.ProposeFault.TheVariants.{Twice, Clo
 use Rattle.mcast_group.specs.declared.fault.LearnFault.TheVariants.{Foreign, Clash}
 use Rattle.mcast_group.specs.declared.fault.CancelFault.TheVariants.{Decided}
 use Rattle.mcast_group.specs.Group.{IsGroup, group_state}
-use Rattle.mcast_group.specs.Span.{LogRow}
+use Rattle.mcast_txn.specs.Span.{LogRow}
 use Rattle.mcast_group.specs.Sound.{IsSound}
-use Rattle.mcast_group.specs.Topics.{TopicState, Pending, Entry, decided_stamp, key, insert_pending, find_pending, is_pending, without, is_foreign, clashes, last_number, propose_fault, proposed, learn_fault, learn_fault_of, learned, told, cancel_fault, cancelled, least, due_part, row_of, released, released_if, release}
+use Rattle.mcast_group.specs.Machine.{TopicState, Pending, Entry, decided_stamp, key, insert_pending, find_pending, is_pending, parts_without, is_foreign, clashes, last_number, propose_fault, after_propose, learn_fault, learn_fault_of, after_learn, with_stamp, cancel_fault, after_cancel, least_part, due_part, row_of, after_release_of, after_release_if, after_release}
 use Rattle.mcast_group.proofs.Parts.{map_length}
 use Rattle.mcast_group.proofs.Keeping.{learns_is, Sound-proposed, Sound-learned, Sound-cancelled}
 use Rattle.mcast_group.proofs.Turning.{Sound-release}
@@ -61,34 +61,34 @@ cancel_none id x p e l = rw (e, l) refl
 -- ---- what is stored after a call
 
 module _ (t : Topic) (clock limit : ℕ) (ps : List Pending) (rows : List LogRow) (f : Stamp) where
-  pub proposed_state : (floor : Stamp) (part : TopicPart) (n : ℕ) (after : List Pending) (log : List LogRow) → n ≡ max clock floor.n + 1 → after ≡ insert_pending (record { part = part; ticket = n; learnt = None }) ps → log ≡ rows → group_state t n limit after log f ≡ proposed floor part (group_state t clock limit ps rows f)
+  pub proposed_state : (floor : Stamp) (part : TopicPart) (n : ℕ) (after : List Pending) (log : List LogRow) → n ≡ max clock floor.n + 1 → after ≡ insert_pending (record { part = part; number = n; learnt = None }) ps → log ≡ rows → group_state t n limit after log f ≡ after_propose floor part (group_state t clock limit ps rows f)
   proposed_state floor part n after log e k l = rw (k, l, e) refl
 
-  pub learned_state : (id : TxnId) (v : Decision) (n : ℕ) (after : List Pending) → n ≡ max clock (decided_stamp v).n → after ≡ map (told id (decided_stamp v)) ps → group_state t n limit after rows f ≡ learned id (decided_stamp v) (group_state t clock limit ps rows f)
+  pub learned_state : (id : TxnId) (v : Decision) (n : ℕ) (after : List Pending) → n ≡ max clock (decided_stamp v).n → after ≡ map (with_stamp id (decided_stamp v)) ps → group_state t n limit after rows f ≡ after_learn id (decided_stamp v) (group_state t clock limit ps rows f)
   learned_state id v n after e k = rw (e, k) refl
 
-  pub cancelled_state : (id : TxnId) (after : List Pending) → after ≡ without id ps → group_state t clock limit after rows f ≡ cancelled id (group_state t clock limit ps rows f)
+  pub cancelled_state : (id : TxnId) (after : List Pending) → after ≡ parts_without id ps → group_state t clock limit after rows f ≡ after_cancel id (group_state t clock limit ps rows f)
   cancelled_state id after e = rw e refl
 
-  pub released_state : (takes : Entry → Bool) (p : Pending) (after : List Pending) (log : List LogRow) (frontier : Stamp) → after ≡ without p.part.id ps → log ≡ rows ++ row_of p ∷ [] → frontier ≡ key p → group_state t clock limit after log frontier ≡ released takes p (group_state t clock limit ps rows f)
+  pub released_state : (takes : Entry → Bool) (p : Pending) (after : List Pending) (log : List LogRow) (frontier : Stamp) → after ≡ parts_without p.part.id ps → log ≡ rows ++ row_of p ∷ [] → frontier ≡ key p → group_state t clock limit after log frontier ≡ after_release_of takes p (group_state t clock limit ps rows f)
   released_state takes p after log frontier e k l = rw (e, k, l) refl
 
 -- ---- what a group keeps
 
-pub group_proposed : (floor : Stamp) (part : TopicPart) (x y : TopicState) (capacity after : ℕ) → y ≡ proposed floor part x → IsGroup x capacity → part.topic ≡ x.topic → is_pending part.id x.pending ≡ false → length x.pending + length x.held < x.log_limit → length y.held + length y.pending ≤ after → IsGroup y after
+pub group_proposed : (floor : Stamp) (part : TopicPart) (x y : TopicState) (capacity after : ℕ) → y ≡ after_propose floor part x → IsGroup x capacity → part.topic ≡ x.topic → is_pending part.id x.pending ≡ false → length x.pending + length x.held < x.log_limit → length y.held + length y.pending ≤ after → IsGroup y after
 group_proposed floor part x y capacity after e h own new room l = record {
   sound = subst IsSound (sym e) (Sound-proposed floor part x h.sound own new room);
   room = l;
 }
 
-pub group_learned : (id : TxnId) (v : Decision) (x y : TopicState) (capacity : ℕ) → y ≡ learned id (decided_stamp v) x → IsGroup x capacity → learn_fault id v x ≡ None → IsGroup y capacity
+pub group_learned : (id : TxnId) (v : Decision) (x y : TopicState) (capacity : ℕ) → y ≡ after_learn id (decided_stamp v) x → IsGroup x capacity → learn_fault id v x ≡ None → IsGroup y capacity
 group_learned id v x y capacity e h none =
     subst (λ (z : TopicState). IsGroup z capacity) (sym e) (record {
       sound = Sound-learned id v x h.sound (learns_is id v x none);
-      room = let m = map_length (told id (decided_stamp v)) x.pending in let r : length x.held + length x.pending ≤ capacity = h.room in omega arith;
+      room = let m = map_length (with_stamp id (decided_stamp v)) x.pending in let r : length x.held + length x.pending ≤ capacity = h.room in omega arith;
     })
 
-pub group_cancelled : (id : TxnId) (x y : TopicState) (capacity : ℕ) → y ≡ cancelled id x → IsGroup x capacity → length y.pending ≤ length x.pending → IsGroup y capacity
+pub group_cancelled : (id : TxnId) (x y : TopicState) (capacity : ℕ) → y ≡ after_cancel id x → IsGroup x capacity → length y.pending ≤ length x.pending → IsGroup y capacity
 group_cancelled id x y capacity e h l = record {
   sound = subst IsSound (sym e) (Sound-cancelled id x h.sound);
   room =
@@ -98,16 +98,16 @@ group_cancelled id x y capacity e h l = record {
 
 -- ---- releases
 
-pub due_here : (x : TopicState) (p : Pending) → least x.pending ≡ Some p → is_some p.learnt ≡ true → due_part x ≡ Some p
+pub due_here : (x : TopicState) (p : Pending) → least_part x.pending ≡ Some p → is_some p.learnt ≡ true → due_part x ≡ Some p
 due_here x p e l = rw (e, l) refl
 
-pub release_is : (takes : Entry → Bool) (x : TopicState) (p : Pending) → due_part x ≡ Some p → release takes x ≡ released takes p x
-release_is takes x p e = ap (released_if takes x) e
+pub release_is : (takes : Entry → Bool) (x : TopicState) (p : Pending) → due_part x ≡ Some p → after_release takes x ≡ after_release_of takes p x
+release_is takes x p e = ap (after_release_if takes x) e
 
-pub release_none : (takes : Entry → Bool) (x : TopicState) → due_part x ≡ None → release takes x ≡ x
-release_none takes x e = ap (released_if takes x) e
+pub release_none : (takes : Entry → Bool) (x : TopicState) → due_part x ≡ None → after_release takes x ≡ x
+release_none takes x e = ap (after_release_if takes x) e
 
-pub group_released : (takes : Entry → Bool) (p : Pending) (x y : TopicState) (capacity : ℕ) → y ≡ released takes p x → IsGroup x capacity → due_part x ≡ Some p → length y.pending + 1 ≡ length x.pending → IsGroup y capacity
+pub group_released : (takes : Entry → Bool) (p : Pending) (x y : TopicState) (capacity : ℕ) → y ≡ after_release_of takes p x → IsGroup x capacity → due_part x ≡ Some p → length y.pending + 1 ≡ length x.pending → IsGroup y capacity
 group_released takes p x y capacity e h due l = record {
   sound = subst IsSound (release_is takes x p due ∙ sym e) (Sound-release takes x h.sound);
   room =

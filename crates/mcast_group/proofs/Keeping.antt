@@ -2,9 +2,10 @@
 use Rattle.std.proofs.Common.{◌≡◌, ◌≢◌, ℕ, suc, ◌+◌, ◌<◌, ◌≤◌, ◌==◌, max, Bool, true, false, cond, not, ◌&&◌, ◌||◌, inl, inr, List, [], ◌∷◌, ◌++◌, length, Option, Some, None, refl, sym, ap, subst, ◌∙◌, arith}
 use Rattle.std.specs.List.{filter, list_any}
 use Rattle.std.proofs.lemmas.Bool.{true≢false, not-false, and_parts}
-use Rattle.mcast_txn.specs.Stamp.{stamp_lt, zero_stamp}
+use Rattle.mcast_txn.specs.Stamp.{stamp_lt, zero_stamp, same_stamp}
 use Rattle.mcast_txn.specs.Transaction.{TopicPart}
-use Rattle.mcast_txn.specs.Agreed.{same_id, In}
+use Rattle.mcast_txn.specs.Ids.{same_id}
+use Rattle.mcast_txn.specs.Lists.{In}
 use Rattle.mcast_txn.specs.Ballot.{Decision}
 use Rattle.mcast_txn.specs.declared.id.Topic.{Topic}
 use Rattle.mcast_txn.specs.declared.id.TxnId.{TxnId}
@@ -13,10 +14,10 @@ use Rattle.mcast_txn.proofs.Orders.{lt_irrefl, lt_asym, lt_le, le_lt, lt_by_numb
 use Rattle.mcast_txn.proofs.Members.{In-map_cases, In-filter_cases, any_found, any_from, push_one}
 use Rattle.mcast_txn.proofs.Sorting.{Rises-push}
 use Rattle.mcast_txn.proofs.Greatest.{greatest_past}
-use Rattle.mcast_group.specs.Span.{LogRow, last_stamp}
-use Rattle.mcast_group.specs.Sound.{IsSound, IsQueueOf, row_stamp}
-use Rattle.mcast_group.specs.Topics.{TopicState, Pending, Entry, decided_stamp, key, new_topic, next_number, proposed, is_pending, has_row, is_foreign, learnt_other, clashes, learn_fault, learn_fault_of, find_pending, learned, told, cancelled, released, row_of, item_of, delivered, subscribed, unsubscribed, drained, same_stamp}
-use Rattle.mcast_group.proofs.Parts.{insert_length, insert_one, insert_two, RisesById-insert, RisesById-told, RisesById-without, not_pending, each_told, each_two_told, with_stamp, map_length, Due, others, found_part, same_stamp_is, same_stamp_itself}
+use Rattle.mcast_txn.specs.Span.{LogRow, last_stamp, row_stamp}
+use Rattle.mcast_group.specs.Sound.{IsSound, IsQueueOf}
+use Rattle.mcast_group.specs.Machine.{TopicState, Pending, Entry, decided_stamp, key, new_topic, next_number, after_propose, is_pending, has_row, is_foreign, has_learnt_other, clashes, learn_fault, learn_fault_of, find_pending, after_learn, with_stamp, after_cancel, after_release_of, row_of, item_of, entry_after, after_subscribe, after_unsubscribe, after_drain}
+use Rattle.mcast_group.proofs.Parts.{insert_length, insert_one, insert_two, RisesById-insert, RisesById-told, RisesById-without, not_pending, each_told, each_two_told, part_with_stamp, map_length, Due, others, found_part, same_stamp_is, same_stamp_itself}
 use Rattle.mcast_group.proofs.Numbers.{Numbers-push, Numbers-map, Numbers-filter, delivered_number}
 use Rattle.mcast_group.proofs.Queues.{Queue-delivered, Queue-new, Queue-drained, Next}
 
@@ -41,10 +42,10 @@ Sound-new t log_limit clock = record {
 
 -- ---- propose
 
-pub Sound-proposed : (floor : Stamp) (part : TopicPart) (x : TopicState) → IsSound x → part.topic ≡ x.topic → is_pending part.id x.pending ≡ false → length x.pending + length x.held < x.log_limit → IsSound (proposed floor part x)
+pub Sound-proposed : (floor : Stamp) (part : TopicPart) (x : TopicState) → IsSound x → part.topic ≡ x.topic → is_pending part.id x.pending ≡ false → length x.pending + length x.held < x.log_limit → IsSound (after_propose floor part x)
 Sound-proposed floor part x h own new room =
     let n = next_number floor x in
-    let p : Pending = record { part = part; ticket = n; learnt = None } in
+    let p : Pending = record { part = part; number = n; learnt = None } in
     let far : x.frontier.n ≤ x.clock = h.clock_frontier in
     let more = insert_length p x.pending in
     record {
@@ -81,8 +82,8 @@ pub record Learns (id : TxnId) (v : Decision) (x : TopicState) : Type 0 where
   pub stands : In part x.pending
   pub is : part.part.id ≡ id
   pub verdict : v.id ≡ id
-  pub row : has_row (record { n = part.ticket; topic = part.part.topic }) v.rows ≡ true
-  pub again : learnt_other (decided_stamp v) part.learnt ≡ false
+  pub row : has_row (record { n = part.number; topic = part.part.topic }) v.rows ≡ true
+  pub again : has_learnt_other (decided_stamp v) part.learnt ≡ false
   pub new : (q : Pending) → In q x.pending → key q ≡ decided_stamp v → same_id q.part.id id ≡ true
 
 or_left : (a b : Bool) → (a || b) ≡ false → a ≡ false
@@ -101,15 +102,15 @@ new_case id v p ps e none q k s false d =
 
 learns_clash : (id : TxnId) (v : Decision) (x : TopicState) (p : Pending) → In p x.pending → p.part.id ≡ id → is_foreign v p ≡ false → clashes v p x.pending ≡ false → Learns id v x
 learns_clash id v x p i e f c =
-    let own = and_parts (same_id v.id p.part.id) (has_row (record { n = p.ticket; topic = p.part.topic }) v.rows) (not-false _ f) in
+    let own = and_parts (same_id v.id p.part.id) (has_row (record { n = p.number; topic = p.part.topic }) v.rows) (not-false _ f) in
     record {
       part = p;
       stands = i;
       is = e;
       verdict = id_equal v.id p.part.id own.0 ∙ e;
       row = own.1;
-      again = or_left (learnt_other (decided_stamp v) p.learnt) _ c;
-      new = λ q k s. new_case id v p x.pending e (or_right (learnt_other (decided_stamp v) p.learnt) _ c) q k s (same_id q.part.id p.part.id) refl;
+      again = or_left (has_learnt_other (decided_stamp v) p.learnt) _ c;
+      new = λ q k s. new_case id v p x.pending e (or_right (has_learnt_other (decided_stamp v) p.learnt) _ c) q k s (same_id q.part.id p.part.id) refl;
     }
 
 learns_checks : (id : TxnId) (v : Decision) (x : TopicState) (p : Pending) → In p x.pending → p.part.id ≡ id → (a b : Bool) → is_foreign v p ≡ a → clashes v p x.pending ≡ b → learn_fault_of v x.pending (Some p) ≡ None → Learns id v x
@@ -139,12 +140,12 @@ pub learns_is : (id : TxnId) (v : Decision) (x : TopicState) → learn_fault id 
 learns_is id v x e = learns_found id v x (find_pending id x.pending) refl e
 
 -- the stamp learnt is at least the part's key
-key_case : (p : Pending) (v : Decision) (o : Option Stamp) → p.learnt ≡ o → learnt_other (decided_stamp v) o ≡ false → has_row (record { n = p.ticket; topic = p.part.topic }) v.rows ≡ true → stamp_lt (decided_stamp v) (key p) ≡ false
+key_case : (p : Pending) (v : Decision) (o : Option Stamp) → p.learnt ≡ o → has_learnt_other (decided_stamp v) o ≡ false → has_row (record { n = p.number; topic = p.part.topic }) v.rows ≡ true → stamp_lt (decided_stamp v) (key p) ≡ false
 key_case p v (Some s) e again row =
     let d : s ≡ decided_stamp v = same_stamp_is s (decided_stamp v) (not-false (same_stamp s (decided_stamp v)) again) in
     rw (e, d) (lt_irrefl (decided_stamp v))
 key_case p v None e again row =
-    let t : Stamp = record { n = p.ticket; topic = p.part.topic } in
+    let t : Stamp = record { n = p.number; topic = p.part.topic } in
     let f = any_found (same_stamp t) v.rows row in
     let d : t ≡ f.it = same_stamp_is t f.it f.passes in
     let k : key p ≡ t = ap (λ (o : Option Stamp). key (record p { learnt = o })) e in
@@ -153,7 +154,7 @@ key_case p v None e again row =
 pub key_past : (id : TxnId) (v : Decision) (x : TopicState) (l : Learns id v x) → stamp_lt (decided_stamp v) (key l.part) ≡ false
 key_past id v x l = key_case l.part v l.part.learnt refl l.again l.row
 
-pub Sound-learned : (id : TxnId) (v : Decision) (x : TopicState) → IsSound x → Learns id v x → IsSound (learned id (decided_stamp v) x)
+pub Sound-learned : (id : TxnId) (v : Decision) (x : TopicState) → IsSound x → Learns id v x → IsSound (after_learn id (decided_stamp v) x)
 Sound-learned id v x h l = record {
   rises = h.rises;
   above_base = h.above_base;
@@ -166,19 +167,19 @@ Sound-learned id v x h l = record {
       (λ p q k i e f s. h.one_part p q k i s)
       (λ p q k i e f s. absurd (apart p q e f s))
       (λ p q k i e f s. absurd (apart q p f e (id_turned p.part.id q.part.id s)))
-      (λ p q k i e f s. ap (λ z. with_stamp z (decided_stamp v)) (h.one_part p q k i s));
+      (λ p q k i e f s. ap (λ z. part_with_stamp z (decided_stamp v)) (h.one_part p q k i s));
   differ = each_two_told id (decided_stamp v) x.pending (λ p q. key p ≡ key q → p ≡ q)
       (λ p q k i e f s. h.differ p q k i s)
       (λ p q k i e f s. absurd (true≢false (sym (l.new q i (sym s)) ∙ f)))
       (λ p q k i e f s. absurd (true≢false (sym (l.new p k s) ∙ e)))
-      (λ p q k i e f s. ap (λ z. with_stamp z (decided_stamp v)) (h.one_part p q k i (both p q e f)));
+      (λ p q k i e f s. ap (λ z. part_with_stamp z (decided_stamp v)) (h.one_part p q k i (both p q e f)));
   above = each_told id (decided_stamp v) x.pending (λ q. stamp_lt x.frontier (key q) ≡ true) (λ p k e. h.above p k) (λ p k e. up);
   clock_keys = each_told id (decided_stamp v) x.pending (λ q. (key q).n ≤ max x.clock (decided_stamp v).n)
       (λ p k e. let m : (key p).n ≤ x.clock = h.clock_keys p k in omega arith) (λ p k e. omega arith);
   clock_frontier = let m : x.frontier.n ≤ x.clock = h.clock_frontier in omega arith;
   numbers = h.numbers;
   queues = h.queues;
-  limit = let m = map_length (told id (decided_stamp v)) x.pending in let r : length x.pending + length x.held ≤ x.log_limit = h.limit in omega arith;
+  limit = let m = map_length (with_stamp id (decided_stamp v)) x.pending in let r : length x.pending + length x.held ≤ x.log_limit = h.limit in omega arith;
 }
   where
     up : stamp_lt x.frontier (decided_stamp v) ≡ true
@@ -202,7 +203,7 @@ filter_le p (x ∷ xs) = by (p x) (filter_le p xs)
     by true l = omega arith
     by false l = omega arith
 
-pub Sound-cancelled : (id : TxnId) (x : TopicState) → IsSound x → IsSound (cancelled id x)
+pub Sound-cancelled : (id : TxnId) (x : TopicState) → IsSound x → IsSound (after_cancel id x)
 Sound-cancelled id x h = record {
   rises = h.rises;
   above_base = h.above_base;
@@ -245,7 +246,7 @@ filter_lt p x (y ∷ ys) (inr k) e = filter_lt_case (length ys) (p y) y (filter 
 pub next_of : (x : TopicState) (p : Pending) → IsSound x → In p x.pending → Next x.frontier x.held (row_of p) (item_of p)
 next_of x p h i = record { up = h.above p i; past = h.past; is = record { id = refl; stamp = refl } }
 
-pub Sound-released : (takes : Entry → Bool) (p : Pending) (x : TopicState) → IsSound x → Due p x → IsSound (released takes p x)
+pub Sound-released : (takes : Entry → Bool) (p : Pending) (x : TopicState) → IsSound x → Due p x → IsSound (after_release_of takes p x)
 Sound-released takes p x h due =
     let i = due.least.stands in
     let up : stamp_lt x.frontier (key p) ≡ true = h.above p i in
@@ -266,8 +267,8 @@ Sound-released takes p x h due =
           (λ e. true≢false (sym (id_same q.part.id p.part.id (ap (λ (z : Pending). z.part.id) (h.differ q p o.stands i (sym e)))) ∙ o.differs));
       clock_keys = λ q k. h.clock_keys q (others p.part.id q x.pending k).stands;
       clock_frontier = h.clock_keys p i;
-      numbers = Numbers-map (delivered takes x.frontier (item_of p)) (delivered_number takes x.frontier (item_of p)) x.subscriptions h.numbers;
-      queues = λ e k. let m = In-map_cases (delivered takes x.frontier (item_of p)) e x.subscriptions k in
+      numbers = Numbers-map (entry_after takes x.frontier (item_of p)) (delivered_number takes x.frontier (item_of p)) x.subscriptions h.numbers;
+      queues = λ e k. let m = In-map_cases (entry_after takes x.frontier (item_of p)) e x.subscriptions k in
           subst (λ (z : Entry). IsQueueOf x.base (key p) (x.held ++ row_of p ∷ []) z.from z.to z.accepted) m.is
           (Queue-delivered takes x.base x.frontier x.held (row_of p) (item_of p) m.from (next_of x p h i) (h.queues m.from m.stands));
       limit =
@@ -278,7 +279,7 @@ Sound-released takes p x h due =
 
 -- ---- subscriptions and the log
 
-pub Sound-subscribed : (number : ℕ) (x : TopicState) → IsSound x → ((e : Entry) → In e x.subscriptions → e.number ≢ number) → IsSound (subscribed number x)
+pub Sound-subscribed : (number : ℕ) (x : TopicState) → IsSound x → ((e : Entry) → In e x.subscriptions → e.number ≢ number) → IsSound (after_subscribe number x)
 Sound-subscribed number x h free = record {
   rises = h.rises;
   above_base = h.above_base;
@@ -298,7 +299,7 @@ Sound-subscribed number x h free = record {
   limit = h.limit;
 }
 
-pub Sound-unsubscribed : (number : ℕ) (x : TopicState) → IsSound x → IsSound (unsubscribed number x)
+pub Sound-unsubscribed : (number : ℕ) (x : TopicState) → IsSound x → IsSound (after_unsubscribe number x)
 Sound-unsubscribed number x h = record {
   rises = h.rises;
   above_base = h.above_base;
@@ -317,7 +318,7 @@ Sound-unsubscribed number x h = record {
   limit = h.limit;
 }
 
-pub Sound-drained : (x : TopicState) → IsSound x → IsSound (drained x)
+pub Sound-drained : (x : TopicState) → IsSound x → IsSound (after_drain x)
 Sound-drained x h = record {
   rises = tt;
   above_base = λ r k. absurd k;

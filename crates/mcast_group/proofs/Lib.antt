@@ -1,5 +1,5 @@
 pub mod Parts
-pub mod Places
+pub mod Indices
 pub mod Queues
 pub mod Numbers
 pub mod Keeping

@@ -3,13 +3,13 @@ use Rattle.std.proofs.Common.{◌≡◌, ◌≢◌, ℕ, ◌==◌, Bool, true, f
 use Rattle.std.specs.List.{filter}
 use Rattle.std.specs.Option.{is_some}
 use Rattle.std.proofs.lemmas.Bool.{eq-eqb, true≢false}
-use Rattle.mcast_txn.specs.Agreed.{In}
+use Rattle.mcast_txn.specs.Lists.{In}
 use Rattle.mcast_txn.specs.declared.stamp.Stamp.{Stamp}
 use Rattle.mcast_txn.proofs.Members.{In-map_cases, In-filter_cases, In-push_cases}
 use Rattle.mcast_group.specs.declared.fault.SubFault.{SubFault}
-use Rattle.mcast_group.specs.Span.{Item}
+use Rattle.mcast_txn.specs.Span.{Item}
 use Rattle.mcast_group.specs.Sound.{NumbersDiffer}
-use Rattle.mcast_group.specs.Topics.{TopicState, Entry, find_entry, subscribe_fault, delivered}
+use Rattle.mcast_group.specs.Machine.{TopicState, Entry, find_entry, subscribe_fault, entry_after}
 use Rattle.mcast_group.proofs.Parts.{none_some}
 
 -- a subscription with a new number comes last
@@ -45,12 +45,12 @@ number_case : (b : Bool) (e : Entry) (frontier : Stamp) (item : Item) → (cond 
 number_case true e frontier item = refl
 number_case false e frontier item = refl
 
-number_by : (takes : Entry → Bool) (frontier : Stamp) (item : Item) (n : ℕ) (from : Stamp) (to : Option Stamp) (accepted : List Item) → (delivered takes frontier item (record { number = n; from = from; to = to; accepted = accepted })).number ≡ n
+number_by : (takes : Entry → Bool) (frontier : Stamp) (item : Item) (n : ℕ) (from : Stamp) (to : Option Stamp) (accepted : List Item) → (entry_after takes frontier item (record { number = n; from = from; to = to; accepted = accepted })).number ≡ n
 number_by takes frontier item n from None accepted =
     let e : Entry = record { number = n; from = from; to = None; accepted = accepted } in number_case (takes e) e frontier item
 number_by takes frontier item n from (Some end) accepted = refl
 
-pub delivered_number : (takes : Entry → Bool) (frontier : Stamp) (item : Item) (e : Entry) → (delivered takes frontier item e).number ≡ e.number
+pub delivered_number : (takes : Entry → Bool) (frontier : Stamp) (item : Item) (e : Entry) → (entry_after takes frontier item e).number ≡ e.number
 delivered_number takes frontier item e = number_by takes frontier item e.number e.from e.to e.accepted
 
 unfound_case : (n : ℕ) (e : Entry) (es : List Entry) (b : Bool) → (e.number == n) ≡ b → cond b (Some e) (find_entry n es) ≡ None → (find_entry n es ≡ None → (f : Entry) → In f es → f.number ≢ n) → (f : Entry) → In f (e ∷ es) → f.number ≢ n

@@ -2,14 +2,14 @@
 use Rattle.std.proofs.Common.{◌≡◌, ℕ, Bool, true, false, cond, not, ◌⊎◌, inl, inr, List, [], ◌∷◌, ◌++◌, Option, Some, None, refl, sym, ap, subst, ◌∙◌}
 use Rattle.std.proofs.lemmas.Bool.{true≢false, and_parts, and_from}
 use Rattle.mcast_txn.specs.Stamp.{stamp_lt}
-use Rattle.mcast_txn.specs.Agreed.{In}
+use Rattle.mcast_txn.specs.Lists.{In}
 use Rattle.mcast_txn.specs.declared.stamp.Stamp.{Stamp}
 use Rattle.mcast_txn.proofs.Orders.{lt_irrefl, lt_asym, le_lt}
 use Rattle.mcast_txn.proofs.Members.{In-append_left, In-push, In-push_cases}
 use Rattle.mcast_txn.proofs.Sorting.{Rises-push}
-use Rattle.mcast_group.specs.Span.{LogRow, Item, in_span}
-use Rattle.mcast_group.specs.Sound.{IsQueueOf, IsItemOf, HasItem, HasRow, item_stamp}
-use Rattle.mcast_group.specs.Topics.{Entry, delivered, ended}
+use Rattle.mcast_txn.specs.Span.{LogRow, Item, in_span, item_stamp}
+use Rattle.mcast_group.specs.Sound.{IsQueueOf, IsItemOf, HasItem, HasRow}
+use Rattle.mcast_group.specs.Machine.{Entry, entry_after, end_of}
 use Rattle.mcast_group.proofs.Parts.{some_same, none_some}
 
 abbrev entry : ℕ → Stamp → Option Stamp → List Item → Entry
@@ -89,18 +89,18 @@ delivered_open base frontier held number from accepted r i new h true = queue_ta
 delivered_open base frontier held number from accepted r i new h false =
     Queue-closed base frontier held from frontier accepted r i new (queue_ends base frontier held from accepted h)
 
-delivered_of : (takes : Entry → Bool) (base frontier : Stamp) (held : List LogRow) (number : ℕ) (from : Stamp) (to : Option Stamp) (accepted : List Item) (r : LogRow) (i : Item) → Next frontier held r i → IsQueueOf base frontier held from to accepted → let e = delivered takes frontier i (entry number from to accepted) in IsQueueOf base r.stamp (held ++ r ∷ []) e.from e.to e.accepted
+delivered_of : (takes : Entry → Bool) (base frontier : Stamp) (held : List LogRow) (number : ℕ) (from : Stamp) (to : Option Stamp) (accepted : List Item) (r : LogRow) (i : Item) → Next frontier held r i → IsQueueOf base frontier held from to accepted → let e = entry_after takes frontier i (entry number from to accepted) in IsQueueOf base r.stamp (held ++ r ∷ []) e.from e.to e.accepted
 delivered_of takes base frontier held number from None accepted r i new h = delivered_open base frontier held number from accepted r i new h _
 delivered_of takes base frontier held number from (Some end) accepted r i new h = Queue-closed base frontier held from end accepted r i new h
 
-pub Queue-delivered : (takes : Entry → Bool) (base frontier : Stamp) (held : List LogRow) (r : LogRow) (i : Item) (e : Entry) → Next frontier held r i → IsQueueOf base frontier held e.from e.to e.accepted → let d = delivered takes frontier i e in IsQueueOf base r.stamp (held ++ r ∷ []) d.from d.to d.accepted
+pub Queue-delivered : (takes : Entry → Bool) (base frontier : Stamp) (held : List LogRow) (r : LogRow) (i : Item) (e : Entry) → Next frontier held r i → IsQueueOf base frontier held e.from e.to e.accepted → let d = entry_after takes frontier i e in IsQueueOf base r.stamp (held ++ r ∷ []) d.from d.to d.accepted
 Queue-delivered takes base frontier held r i e new h = delivered_of takes base frontier held e.number e.from e.to e.accepted r i new h
 
-ended_of : (base frontier : Stamp) (held : List LogRow) (number : ℕ) (from : Stamp) (to : Option Stamp) (accepted : List Item) → IsQueueOf base frontier held from to accepted → let d = ended frontier (entry number from to accepted) in IsQueueOf base frontier held from (Some d.to) d.accepted
+ended_of : (base frontier : Stamp) (held : List LogRow) (number : ℕ) (from : Stamp) (to : Option Stamp) (accepted : List Item) → IsQueueOf base frontier held from to accepted → let d = end_of frontier (entry number from to accepted) in IsQueueOf base frontier held from (Some d.to) d.accepted
 ended_of base frontier held number from None accepted h = queue_ends base frontier held from accepted h
 ended_of base frontier held number from (Some end) accepted h = h
 
-pub Queue-ended : (base frontier : Stamp) (held : List LogRow) (e : Entry) → IsQueueOf base frontier held e.from e.to e.accepted → IsQueueOf base frontier held e.from (Some (ended frontier e).to) (ended frontier e).accepted
+pub Queue-ended : (base frontier : Stamp) (held : List LogRow) (e : Entry) → IsQueueOf base frontier held e.from e.to e.accepted → IsQueueOf base frontier held e.from (Some (end_of frontier e).to) (end_of frontier e).accepted
 Queue-ended base frontier held e h = ended_of base frontier held e.number e.from e.to e.accepted h
 
 pub Queue-new : (base frontier : Stamp) (held : List LogRow) → ((q : LogRow) → In q held → stamp_lt frontier q.stamp ≡ false) → IsQueueOf base frontier held frontier None []
@@ -126,7 +126,7 @@ Queue-drained base frontier held from to accepted h = record {
 }
 
 -- what an entry keeps as items come
-delivered_same : (takes : Entry → Bool) (frontier : Stamp) (i : Item) (number : ℕ) (from : Stamp) (to : Option Stamp) (accepted : List Item) → ((delivered takes frontier i (entry number from to accepted)).number ≡ number) × ((delivered takes frontier i (entry number from to accepted)).from ≡ from)
+delivered_same : (takes : Entry → Bool) (frontier : Stamp) (i : Item) (number : ℕ) (from : Stamp) (to : Option Stamp) (accepted : List Item) → ((entry_after takes frontier i (entry number from to accepted)).number ≡ number) × ((entry_after takes frontier i (entry number from to accepted)).from ≡ from)
 delivered_same takes frontier i number from None accepted = by (takes (entry number from None accepted))
   where
     by : (b : Bool) → ((cond b (entry number from None (accepted ++ i ∷ [])) (entry number from (Some frontier) accepted)).number ≡ number) × ((cond b (entry number from None (accepted ++ i ∷ [])) (entry number from (Some frontier) accepted)).from ≡ from)
@@ -134,14 +134,14 @@ delivered_same takes frontier i number from None accepted = by (takes (entry num
     by false = (refl, refl)
 delivered_same takes frontier i number from (Some end) accepted = (refl, refl)
 
-pub delivered_number : (takes : Entry → Bool) (frontier : Stamp) (i : Item) (e : Entry) → (delivered takes frontier i e).number ≡ e.number
+pub delivered_number : (takes : Entry → Bool) (frontier : Stamp) (i : Item) (e : Entry) → (entry_after takes frontier i e).number ≡ e.number
 delivered_number takes frontier i e = (delivered_same takes frontier i e.number e.from e.to e.accepted).0
 
-pub delivered_from : (takes : Entry → Bool) (frontier : Stamp) (i : Item) (e : Entry) → (delivered takes frontier i e).from ≡ e.from
+pub delivered_from : (takes : Entry → Bool) (frontier : Stamp) (i : Item) (e : Entry) → (entry_after takes frontier i e).from ≡ e.from
 delivered_from takes frontier i e = (delivered_same takes frontier i e.number e.from e.to e.accepted).1
 
 -- what comes into a queue is the item
-delivered_items : (takes : Entry → Bool) (frontier : Stamp) (i : Item) (number : ℕ) (from : Stamp) (to : Option Stamp) (accepted : List Item) (j : Item) → In j (delivered takes frontier i (entry number from to accepted)).accepted → In j accepted ⊎ (i ≡ j)
+delivered_items : (takes : Entry → Bool) (frontier : Stamp) (i : Item) (number : ℕ) (from : Stamp) (to : Option Stamp) (accepted : List Item) (j : Item) → In j (entry_after takes frontier i (entry number from to accepted)).accepted → In j accepted ⊎ (i ≡ j)
 delivered_items takes frontier i number from None accepted j k = by (takes (entry number from None accepted)) k
   where
     by : (b : Bool) → In j (cond b (entry number from None (accepted ++ i ∷ [])) (entry number from (Some frontier) accepted)).accepted → In j accepted ⊎ (i ≡ j)
@@ -149,7 +149,7 @@ delivered_items takes frontier i number from None accepted j k = by (takes (entr
     by false k = inl k
 delivered_items takes frontier i number from (Some end) accepted j k = inl k
 
-pub In-delivered_cases : (takes : Entry → Bool) (frontier : Stamp) (i : Item) (e : Entry) (j : Item) → In j (delivered takes frontier i e).accepted → In j e.accepted ⊎ (i ≡ j)
+pub In-delivered_cases : (takes : Entry → Bool) (frontier : Stamp) (i : Item) (e : Entry) (j : Item) → In j (entry_after takes frontier i e).accepted → In j e.accepted ⊎ (i ≡ j)
 In-delivered_cases takes frontier i e j k = delivered_items takes frontier i e.number e.from e.to e.accepted j k
 
 -- what a queue has accepted only grows
@@ -171,7 +171,7 @@ More-same xs = record { more = []; is = nothing_more xs }
 pub More-then : (xs ys zs : List Item) → More xs ys → More ys zs → More xs zs
 More-then xs ys zs a b = record { more = a.more ++ b.more; is = b.is ∙ (ap (λ z. z ++ b.more) a.is ∙ append_again xs a.more b.more) }
 
-delivered_more : (takes : Entry → Bool) (frontier : Stamp) (i : Item) (number : ℕ) (from : Stamp) (to : Option Stamp) (accepted : List Item) → More accepted (delivered takes frontier i (entry number from to accepted)).accepted
+delivered_more : (takes : Entry → Bool) (frontier : Stamp) (i : Item) (number : ℕ) (from : Stamp) (to : Option Stamp) (accepted : List Item) → More accepted (entry_after takes frontier i (entry number from to accepted)).accepted
 delivered_more takes frontier i number from None accepted = by (takes (entry number from None accepted))
   where
     by : (b : Bool) → More accepted (cond b (entry number from None (accepted ++ i ∷ [])) (entry number from (Some frontier) accepted)).accepted
@@ -179,5 +179,5 @@ delivered_more takes frontier i number from None accepted = by (takes (entry num
     by false = More-same accepted
 delivered_more takes frontier i number from (Some end) accepted = More-same accepted
 
-pub More-delivered : (takes : Entry → Bool) (frontier : Stamp) (i : Item) (e : Entry) → More e.accepted (delivered takes frontier i e).accepted
+pub More-delivered : (takes : Entry → Bool) (frontier : Stamp) (i : Item) (e : Entry) → More e.accepted (entry_after takes frontier i e).accepted
 More-delivered takes frontier i e = delivered_more takes frontier i e.number e.from e.to e.accepted

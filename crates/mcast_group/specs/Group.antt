@@ -5,9 +5,9 @@ use Rattle.mcast_txn.specs.declared.stamp.Stamp.{Stamp}
 use Rattle.mcast_txn.specs.Stamp.{zero_stamp}
 use Rattle.mcast_txn.specs.Transaction.{TopicPart}
 use Rattle.mcast_group.specs.declared.fault.ProposeFault.{ProposeFault}
-use Rattle.mcast_group.specs.Span.{LogRow}
+use Rattle.mcast_txn.specs.Span.{LogRow}
 use Rattle.mcast_group.specs.Sound.{IsSound}
-use Rattle.mcast_group.specs.Topics.{TopicState, Pending, propose_fault}
+use Rattle.mcast_group.specs.Machine.{TopicState, Pending, propose_fault}
 
 -- a topic without subscriptions, of whose rows none was drained
 abbrev pub group_state : Topic → ℕ → ℕ → List Pending → List LogRow → Stamp → TopicState
@@ -27,16 +27,16 @@ pub record IsGroup (x : TopicState) (capacity : ℕ) : Type 0 where
   pub sound : IsSound x
   pub room : length x.held + length x.pending ≤ capacity
 
--- a call is refused where a fault stands against it
-abbrev pub answer : {F : Type 0} → Option F → Result Unit F
-answer None = Ok tt
-answer (Some fault) = Err fault
+-- a call is refused where there is a fault
+abbrev pub result_of : {F : Type 0} → Option F → Result Unit F
+result_of None = Ok tt
+result_of (Some fault) = Err fault
 
--- this fault, or want of memory where there is none
+-- this fault, or out of memory where there is none
 abbrev pub or_no_memory : Option ProposeFault → ProposeFault
 or_no_memory None = ProposeFault.NoMemory
 or_no_memory (Some fault) = fault
 
--- why a proposal is refused: what stands against it, or else want of memory
+-- why a proposal is refused: by the first of its tests that holds, or else for out of memory
 abbrev pub propose_refusal : Stamp → TopicPart → TopicState → ProposeFault
 propose_refusal floor part x = or_no_memory (propose_fault floor part x)

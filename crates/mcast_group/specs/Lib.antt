@@ -1,6 +1,4 @@
-pub mod Checks
-pub mod Span
-pub mod Topics
+pub mod Machine
 pub mod Sound
 pub mod Fitting
 pub mod Group

@@ -6,12 +6,12 @@ ghost use Rattle.std.specs.Option.{option_map};
 ghost use Rattle.mcast_txn.specs.Part.{data_of};
 ghost use Rattle.mcast_txn.specs.Ballot.{Decision};
 ghost use Rattle.mcast_group.specs.Fitting.{Fits, FoundHaveOneRowEach};
-ghost use Rattle.mcast_group.specs.Group.{answer, propose_refusal};
-ghost use Rattle.mcast_group.specs.Topics.{Entry, HasOneRowEach, Pending, cancel_fault, cancelled, decided_stamp, due_part, insert_pending, key, learn_fault, learned, new_topic, next_number, propose_fault, proposed, release, released_times, tried, tried_all, turn_count, turned};
+ghost use Rattle.mcast_group.specs.Group.{result_of, propose_refusal};
+ghost use Rattle.mcast_group.specs.Machine.{Entry, HasOneRowEach, Pending, cancel_fault, after_cancel, decided_stamp, due_part, insert_pending, key, learn_fault, after_learn, new_topic, next_number, propose_fault, after_propose, after_release, after_releases, after_try, after_tries, turn_count, after_turn};
 
 use crate::fault::{CancelFault, LearnFault, ProposeFault};
 use crate::law::has_one_row_each;
-use crate::pending::{PendingPart, least_place, place_for, place_of, place_to_learn};
+use crate::pending::{PendingPart, index_for, index_of, index_to_learn, least_index};
 use crate::row::Row;
 use crate::verdicts::Verdicts;
 use mcast_txn::{NoMemory, Part, Stamp, Ticket, Topic, TxnId, Verdict};
@@ -20,7 +20,8 @@ use std::marker::Model;
 use std::sync::Arc;
 
 /// A topic of the multicast, without subscriptions: its clock, its pending parts, and the rows that it released. In
-/// contracts it is a topic of `specs/Topics.antt` of whose rows none was drained.
+/// contracts it is a topic of `specs/Machine.antt` of whose rows none was drained. It has no queues, so its clauses
+/// hold whatever queues would take (`takes`).
 #[derive(Drop)]
 pub struct Group {
     topic: Topic,
@@ -36,7 +37,7 @@ pub struct Group {
 impl Model for Group {
     ghost use Rattle.std.specs.Prelude.{vec_capacity};
     ghost use Rattle.mcast_group.specs.Group.{IsGroup, group_state};
-    ghost use Rattle.mcast_group.specs.Topics.{TopicState};
+    ghost use Rattle.mcast_group.specs.Machine.{TopicState};
 
     ghost Value = { TopicState };
 
@@ -48,7 +49,7 @@ impl Model for Group {
 }
 
 impl Group {
-    /// A topic with this clock, at which at most so many parts and rows stand together. It takes no memory.
+    /// An empty topic with this clock, of at most `log_limit` parts and rows, taken together. It takes no memory.
     pub fn new(alloc: Global, topic: Topic, clock: u64, log_limit: usize) -> Group
         ensures { result ≡ new_topic topic log_limit clock }
     {
@@ -97,7 +98,7 @@ impl Group {
         self.rows.len()
     }
 
-    /// The row at place `i` of the log, from 0, or `None` past its end.
+    /// The row at index `i` of the log, from 0, or `None` past its end.
     pub fn held(&self, i: usize) -> Option<&Row>
         ensures { option_map (λ row. row.now) result ≡ slice_get self.now.held i }
     {
@@ -106,7 +107,7 @@ impl Group {
 
     /// Enters a part of this topic, and gives its ticket, whose number is one above the clock and the floor's. It
     /// makes the room that the other calls need. Refused, in this order: 49 where a part of the transaction is
-    /// pending, 40 where no number is left, 41 where the log is at its limit, 42 for want of memory; the topic is
+    /// pending, 40 where no number is left, 41 where the log is at its limit, 42 out of memory; the topic is
     /// then as it was.
     pub fn propose(&mut self, floor: Stamp, part: Arc<Part>) -> Result<Ticket, ProposeFault>
         requires { (arc_value part).topic ≡ self.old.topic }
@@ -116,13 +117,13 @@ impl Group {
           topic = self.old.topic;
           n = next_number floor self.old;
         }) }
-        ensures ok { OnOk result (self.new ≡ proposed floor (data_of (arc_value part)) self.old) }
+        ensures ok { OnOk result (self.new ≡ after_propose floor (data_of (arc_value part)) self.old) }
         ensures fault { IfErr result
             (λ fault. fault ≡ propose_refusal floor (data_of (arc_value part)) self.old) }
         ensures err { OnErr result (self.new ≡ self.old) }
     {
         let id = part.id;
-        if place_of(&self.pending, id).is_some() {
+        if index_of(&self.pending, id).is_some() {
             return Err(ProposeFault::Twice);
         }
         let last = self.clock.max(floor.n);
@@ -144,18 +145,18 @@ impl Group {
         })
     }
 
-    /// Tells the transaction's part its stamp by its verdict, with no memory; the same verdict again changes nothing.
+    /// Gives the transaction's part its stamp by its verdict, with no memory; the same verdict again changes nothing.
     /// Refused, in this order: 43 where no part of the transaction is pending, 44 where the verdict is another
     /// transaction's or has another number for this topic, 45 where another stamp was learnt or another part has
     /// this one; the topic is then as it was.
     pub fn learn(&mut self, id: TxnId, verdict: &Verdict) -> Result<(), LearnFault>
-        ensures answer { result ≡ answer (learn_fault id verdict.now self.old) }
-        ensures ok { OnOk result (self.new ≡ learned id (decided_stamp verdict.now) self.old) }
+        ensures answer { result ≡ result_of (learn_fault id verdict.now self.old) }
+        ensures ok { OnOk result (self.new ≡ after_learn id (decided_stamp verdict.now) self.old) }
         ensures err { OnErr result (self.new ≡ self.old) }
     {
-        let place = place_to_learn(&self.pending, id, verdict)?;
+        let index = index_to_learn(&self.pending, id, verdict)?;
         let stamp = verdict.stamp();
-        self.pending[place].learn(stamp);
+        self.pending[index].learn(stamp);
         self.clock = self.clock.max(stamp.n);
         Ok(())
     }
@@ -163,17 +164,17 @@ impl Group {
     /// Takes the transaction's part out, with no memory. Refused, in this order: 43 where no part of the transaction
     /// is pending, 46 where it has learnt its stamp; the topic is then as it was.
     pub fn cancel(&mut self, id: TxnId) -> Result<(), CancelFault>
-        ensures answer { result ≡ answer (cancel_fault id self.old) }
-        ensures ok { OnOk result (self.new ≡ cancelled id self.old) }
+        ensures answer { result ≡ result_of (cancel_fault id self.old) }
+        ensures ok { OnOk result (self.new ≡ after_cancel id self.old) }
         ensures err { OnErr result (self.new ≡ self.old) }
     {
-        let Some(place) = place_of(&self.pending, id) else {
+        let Some(index) = index_of(&self.pending, id) else {
             return Err(CancelFault::NotPending);
         };
-        if self.pending[place].is_learnt() {
+        if self.pending[index].is_learnt() {
             return Err(CancelFault::Decided);
         }
-        self.pending.remove(place);
+        self.pending.remove(index);
         Ok(())
     }
 
@@ -181,13 +182,13 @@ impl Group {
     /// memory.
     pub fn release(&mut self) -> Option<(TxnId, Stamp)>
         ensures due { result ≡ option_map (λ p. (p.part.id, key p)) (due_part self.old) }
-        ensures released { (takes : Entry → Bool) → self.new ≡ release takes self.old }
+        ensures released { (takes : Entry → Bool) → self.new ≡ after_release takes self.old }
     {
-        let place = least_place(&self.pending)?;
-        if !self.pending[place].is_learnt() {
+        let index = least_index(&self.pending)?;
+        if !self.pending[index].is_learnt() {
             return None;
         }
-        let row = self.pending.remove(place).into_row();
+        let row = self.pending.remove(index).into_row();
         let (id, stamp) = (row.id, row.stamp);
         self.rows.push_reserved(row);
         self.frontier = stamp;
@@ -198,7 +199,7 @@ impl Group {
     /// releases until nothing is due. Returns how many parts it released. Where the verdicts that are found fit the
     /// topic as it was, no part is pending after it. It takes no memory.
     pub fn turn<V: Verdicts>(&mut self, verdicts: &V) -> u64
-        ensures turned { (takes : Entry → Bool) → self.new ≡ turned takes (V.found verdicts.now) self.old }
+        ensures turned { (takes : Entry → Bool) → self.new ≡ after_turn takes (V.found verdicts.now) self.old }
         ensures count { (takes : Entry → Bool) → result ≡ turn_count takes (V.found verdicts.now) self.old }
         ensures none_pending { Fits (V.found verdicts.now) self.old → self.new.pending ≡ [] }
     {
@@ -210,23 +211,23 @@ impl Group {
 
     // Learns once for each pending part, by rising id, the verdict that is found, if it isn't refused.
     fn try_all<V: Verdicts>(&mut self, verdicts: &V)
-        ensures tried { self.new ≡ tried_all (V.found verdicts.now) self.old.pending self.old }
+        ensures tried { self.new ≡ after_tries (V.found verdicts.now) self.old.pending self.old }
         ensures one_row { FoundHaveOneRowEach (V.found verdicts.now) self.old.pending }
     {
-        for place in 0..self.pending_len() {
-            self.try_to_learn(place, verdicts);
+        for index in 0..self.pending_len() {
+            self.try_to_learn(index, verdicts);
         }
     }
 
-    // Learns for the part at a place the verdict that is found, if it isn't refused.
-    fn try_to_learn<V: Verdicts>(&mut self, place: usize, verdicts: &V)
-        requires { place < length self.old.pending }
-        ensures tried { (d : Pending) → let id = (slice_index_or self.old.pending place d).part.id in
-            self.new ≡ tried id (V.found verdicts.now id) self.old }
+    // Learns for the part at an index the verdict that is found, if it isn't refused.
+    fn try_to_learn<V: Verdicts>(&mut self, index: usize, verdicts: &V)
+        requires { index < length self.old.pending }
+        ensures tried { (d : Pending) → let id = (slice_index_or self.old.pending index d).part.id in
+            self.new ≡ after_try id (V.found verdicts.now id) self.old }
         ensures one_row { (d : Pending) (v : Decision)
-            → V.found verdicts.now (slice_index_or self.old.pending place d).part.id ≡ Some v → HasOneRowEach v }
+            → V.found verdicts.now (slice_index_or self.old.pending index d).part.id ≡ Some v → HasOneRowEach v }
     {
-        let part = self.pending[place].part();
+        let part = self.pending[index].part();
         let id = part.id;
         if let Some(found) = verdicts.find(part) {
             has_one_row_each(found.verdict);
@@ -237,7 +238,7 @@ impl Group {
     // Releases until nothing is due.
     fn release_all(&mut self)
         ensures { (takes : Entry → Bool)
-            → self.new ≡ released_times takes (length self.old.pending) self.old }
+            → self.new ≡ after_releases takes (length self.old.pending) self.old }
     {
         while self.release().is_some() {}
     }
@@ -248,18 +249,18 @@ fn enter(
     pending: &mut Vec<PendingPart>,
     rows: &mut Vec<Row>,
     part: Arc<Part>,
-    ticket: u64,
+    number: u64,
 ) -> Result<(), NoMemory>
     requires { length rows.old.items + length pending.old.items ≤ vec_capacity rows.old }
     ensures ok { OnOk result (pending.new.items ≡ insert_pending
-        (record { part = data_of (arc_value part); ticket = ticket; learnt = None }) pending.old.items) }
+        (record { part = data_of (arc_value part); number = number; learnt = None }) pending.old.items) }
     ensures err { OnErr result (pending.new.items ≡ pending.old.items) }
     ensures rows { rows.new.items ≡ rows.old.items }
     ensures room { length rows.new.items + length pending.new.items ≤ vec_capacity rows.new }
 {
-    let entry = PendingPart::new(part, ticket)?;
+    let entry = PendingPart::new(part, number)?;
     rows.reserve(pending.len() + 1)?;
-    let place = place_for(pending, entry.id());
-    pending.insert(place, entry)?;
+    let index = index_for(pending, entry.id());
+    pending.insert(index, entry)?;
     Ok(())
 }

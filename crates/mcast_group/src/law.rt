@@ -1,7 +1,7 @@
 //! Laws: functions that do nothing, whose contracts are theorems about one topic.
 
 ghost use Rattle.mcast_group.specs.Laws.{KeepsSound, TurnLeavesNone, TurnLeavesNothingDue};
-ghost use Rattle.mcast_group.specs.Topics.{HasOneRowEach};
+ghost use Rattle.mcast_group.specs.Machine.{HasOneRowEach};
 
 use mcast_txn::Verdict;
 

@@ -5,8 +5,9 @@ ghost use Rattle.std.specs.Arc.{arc_value};
 ghost use Rattle.std.specs.List.{insert, list_any};
 ghost use Rattle.std.specs.Option.{is_some};
 ghost use Rattle.mcast_txn.specs.Part.{data_of};
-ghost use Rattle.mcast_txn.specs.Ids.{same_id};
-ghost use Rattle.mcast_group.specs.Topics.{Pending, clashes, find_pending, has_row, id_lt, insert_pending, is_foreign, key, learn_fault_of, learnt_other, least, row_of, same_stamp};
+ghost use Rattle.mcast_txn.specs.Ids.{same_id, id_lt};
+ghost use Rattle.mcast_group.specs.Machine.{Pending, clashes, find_pending, has_row, insert_pending, is_foreign, key, learn_fault_of, has_learnt_other, least_part, row_of, ticket_stamp};
+ghost use Rattle.mcast_txn.specs.Stamp.{same_stamp};
 
 use crate::fault::LearnFault;
 use crate::row::Row;
@@ -21,7 +22,7 @@ pub(crate) struct PendingPart {
     part: Arc<Part>,
     /// The part's topics, shared once more, so that a release takes no memory.
     topics: Arc<TopicSet>,
-    ticket: u64,
+    number: u64,
     learnt: Option<Stamp>,
 }
 
@@ -29,26 +30,26 @@ impl Model for PendingPart {
     ghost use Rattle.std.specs.Prelude.{◌≡◌};
     ghost use Rattle.std.specs.Arc.{arc_value};
     ghost use Rattle.mcast_txn.specs.Part.{data_of};
-    ghost use Rattle.mcast_group.specs.Topics.{Pending};
+    ghost use Rattle.mcast_group.specs.Machine.{Pending};
 
     ghost Value = { Pending };
 
-    ghost view = { λ p. record { part = data_of (arc_value p.part); ticket = p.ticket; learnt = p.learnt } };
+    ghost view = { λ p. record { part = data_of (arc_value p.part); number = p.number; learnt = p.learnt } };
 
     ghost invariant = { λ p. arc_value p.topics ≡ (data_of (arc_value p.part)).topics };
 }
 
 impl PendingPart {
     // A part that hasn't learnt its stamp.
-    pub(crate) fn new(part: Arc<Part>, ticket: u64) -> Result<PendingPart, NoMemory>
+    pub(crate) fn new(part: Arc<Part>, number: u64) -> Result<PendingPart, NoMemory>
         ensures { IfOk result
-            (λ pending. pending ≡ record { part = data_of (arc_value part); ticket = ticket; learnt = None }) }
+            (λ pending. pending ≡ record { part = data_of (arc_value part); number = number; learnt = None }) }
     {
         let topics = part.topics.clone()?;
         Ok(PendingPart {
             part,
             topics,
-            ticket,
+            number,
             learnt: None,
         })
     }
@@ -67,23 +68,23 @@ impl PendingPart {
         &self.part
     }
 
-    // The stamp of its ticket.
-    fn ticket(&self) -> Stamp
-        ensures { result ≡ record { n = self.now.ticket; topic = self.now.part.topic } }
+    // Its ticket as a stamp.
+    fn ticket_stamp(&self) -> Stamp
+        ensures { result ≡ ticket_stamp self.now }
     {
         Stamp {
-            n: self.ticket,
+            n: self.number,
             topic: self.part.topic,
         }
     }
 
-    // Where it stands in the topic's order: at its stamp, or at its ticket while that isn't known.
+    // What it is ordered by: its stamp, or its ticket while the stamp isn't known.
     pub(crate) fn key(&self) -> Stamp
         ensures { result ≡ key self.now }
     {
         match self.learnt {
             Some(stamp) => stamp,
-            None => self.ticket(),
+            None => self.ticket_stamp(),
         }
     }
 
@@ -116,12 +117,12 @@ impl PendingPart {
     fn is_foreign(&self, verdict: &Verdict) -> bool
         ensures { result ≡ is_foreign verdict.now self.now }
     {
-        verdict.id() != self.part.id || !has_row(verdict.rows(), self.ticket())
+        verdict.id() != self.part.id || !has_row(verdict.rows(), self.ticket_stamp())
     }
 
     // Whether it has learnt another stamp.
     fn has_learnt_other(&self, stamp: Stamp) -> bool
-        ensures { result ≡ learnt_other stamp self.now.learnt }
+        ensures { result ≡ has_learnt_other stamp self.now.learnt }
     {
         match self.learnt {
             Some(learnt) => learnt != stamp,
@@ -129,7 +130,7 @@ impl PendingPart {
         }
     }
 
-    // Whether it is of another transaction and stands at this stamp.
+    // Whether it is of another transaction and has this stamp as its key.
     fn is_other_at(&self, id: TxnId, stamp: Stamp) -> bool
         ensures { result ≡ (not (same_id self.now.part.id id) && same_stamp (key self.now) stamp) }
     {
@@ -137,25 +138,25 @@ impl PendingPart {
     }
 }
 
-// The place of the transaction's part.
-pub(crate) fn place_of(pending: &[PendingPart], id: TxnId) -> Option<usize>
+// The index of the transaction's part.
+pub(crate) fn index_of(pending: &[PendingPart], id: TxnId) -> Option<usize>
     ensures { result ≡ position (λ p. same_id p.part.id id) pending.now }
 {
     pending.iter().position(|p| p.id() == id)
 }
 
-// The place for a transaction's part among parts that rise by id.
-pub(crate) fn place_for(pending: &[PendingPart], id: TxnId) -> usize
+// The index for a transaction's part among parts that rise by id.
+pub(crate) fn index_for(pending: &[PendingPart], id: TxnId) -> usize
     ensures within { result ≤ length pending.now }
-    ensures place { (p : Pending) → p.part.id ≡ id → insert pending.now result p ≡ insert_pending p pending.now }
+    ensures index { (p : Pending) → p.part.id ≡ id → insert pending.now result p ≡ insert_pending p pending.now }
 {
     match first_above(pending, id) {
-        Some(place) => place,
+        Some(index) => index,
         None => pending.len(),
     }
 }
 
-// The place of the first part whose id is above this one.
+// The index of the first part whose id is above this one.
 fn first_above(pending: &[PendingPart], id: TxnId) -> Option<usize>
     ensures { result ≡ position (λ p. id_lt id p.part.id) pending.now }
 {
@@ -169,8 +170,8 @@ fn is_below(a: TxnId, b: TxnId) -> bool
     a < b
 }
 
-// The place of the part that is to learn the verdict's stamp.
-pub(crate) fn place_to_learn(
+// The index of the part that is to learn the verdict's stamp.
+pub(crate) fn index_to_learn(
     pending: &[PendingPart],
     id: TxnId,
     verdict: &Verdict,
@@ -178,23 +179,23 @@ pub(crate) fn place_to_learn(
     ensures fault { IfErr result
         (λ fault. learn_fault_of verdict.now pending.now (find_pending id pending.now) ≡ Some fault) }
     ensures learns { OnOk result (learn_fault_of verdict.now pending.now (find_pending id pending.now) ≡ None) }
-    ensures place { IfOk result
-        (λ place. position (λ p. same_id p.part.id id) pending.now ≡ Some place) }
+    ensures index { IfOk result
+        (λ index. position (λ p. same_id p.part.id id) pending.now ≡ Some index) }
 {
-    let Some(place) = place_of(pending, id) else {
+    let Some(index) = index_of(pending, id) else {
         return Err(LearnFault::NotPending);
     };
-    let part = &pending[place];
+    let part = &pending[index];
     if part.is_foreign(verdict) {
         return Err(LearnFault::Foreign);
     }
     if clashes(pending, part, verdict) {
         return Err(LearnFault::Clash);
     }
-    Ok(place)
+    Ok(index)
 }
 
-// Whether the part has learnt another stamp than the verdict's, or another part stands there.
+// Whether the part has learnt another stamp than the verdict's, or another part has that stamp as its key.
 fn clashes(pending: &[PendingPart], part: &PendingPart, verdict: &Verdict) -> bool
     ensures { result ≡ clashes verdict.now part.now pending.now }
 {
@@ -203,7 +204,7 @@ fn clashes(pending: &[PendingPart], part: &PendingPart, verdict: &Verdict) -> bo
     part.has_learnt_other(stamp) || has_other_at(pending, id, stamp)
 }
 
-// Whether another transaction's part stands at the stamp.
+// Whether another transaction's part has the stamp as its key.
 fn has_other_at(pending: &[PendingPart], id: TxnId, stamp: Stamp) -> bool
     ensures { result
         ≡ list_any (λ p. not (same_id p.part.id id) && same_stamp (key p) stamp) pending.now }
@@ -211,17 +212,17 @@ fn has_other_at(pending: &[PendingPart], id: TxnId, stamp: Stamp) -> bool
     pending.iter().any(|p| p.is_other_at(id, stamp))
 }
 
-// Whether the number that a topic gave stands among a verdict's rows.
+// Whether the ticket that a topic gave is among a verdict's rows.
 fn has_row(rows: &[Stamp], ticket: Stamp) -> bool
     ensures { result ≡ has_row ticket rows.now }
 {
     rows.iter().any(|row| ticket == *row)
 }
 
-// The place of the part of least key.
-pub(crate) fn least_place(pending: &[PendingPart]) -> Option<usize>
+// The index of the part of least key.
+pub(crate) fn least_index(pending: &[PendingPart]) -> Option<usize>
     ensures { MatchOption result (pending.now ≡ [])
-        (λ i. (i < length pending.now) × ((d : Pending) → least pending.now ≡ Some (slice_index_or pending.now i d))) }
+        (λ i. (i < length pending.now) × ((d : Pending) → least_part pending.now ≡ Some (slice_index_or pending.now i d))) }
 {
     if pending.is_empty() {
         return None;

@@ -1,16 +1,15 @@
-//! Worked rows of a topic, each refusal, and want of memory.
+//! Worked rows of a topic, each refusal, and what is answered when memory runs out.
 
 ghost use Rattle.std.specs.Prelude.{◌≡◌, Some, None, if◌then◌else◌, IfSome};
 ghost use Rattle.std.specs.Arc.{arc_value};
 ghost use Rattle.mcast_txn.specs.Ids.{same_id};
 
-use crate::{CancelFault, Found, Group, LearnFault, ProposeFault, Verdicts};
+use crate::{Found, Group, NoSub, ProposeFault, SubFault, Verdicts};
 use mcast_txn::{
     Ballot, Draft, Flight, Headers, Octets, Part, Sender, Stamp, Ticket, Topic, Txn, TxnId, Verdict,
 };
 use std::alloc::Global;
 use std::sync::Arc;
-use std::test::Fail;
 
 /// Two verdicts, of which the first is looked at first.
 #[derive(Drop)]
@@ -44,14 +43,6 @@ fn stamp(n: u64, topic: u32) -> Stamp {
     Stamp {
         n,
         topic: Topic(topic),
-    }
-}
-
-/// What was made; fails where there was no memory for it, or it was refused.
-fn made<T>(made: Option<T>) -> Result<T, Fail> {
-    match made {
-        Some(value) => Ok(value),
-        None => Err(Fail::new("nothing was made")),
     }
 }
 
@@ -111,152 +102,237 @@ fn verdict_of(alloc: Global, id: TxnId, rows: &[(u32, u64)]) -> Option<Box<Verdi
     ballot.close().ok()
 }
 
-/// Tells the group a verdict of these topics and numbers.
-fn learn(
-    alloc: Global,
-    group: &mut Group,
-    id: TxnId,
-    rows: &[(u32, u64)],
-) -> Option<Result<(), LearnFault>> {
-    let verdict = verdict_of(alloc, id, rows)?;
-    Some(group.learn(id, &verdict))
+/// A call for a transaction of sender 0, by its seq.
+#[derive(Clone, Copy)]
+enum Call {
+    /// Propose it to these topics, with the floor (n, 0).
+    Propose(u64, &'static [u32], u64),
+    /// Learn its verdict of these topics and numbers.
+    Learn(u64, &'static [(u32, u64)]),
+    Cancel(u64),
+    Release,
 }
 
-/// The number of the ticket that a proposal got.
-fn number_of(answer: Result<Ticket, ProposeFault>) -> Result<u64, ProposeFault> {
-    Ok(answer?.n)
+/// What a call answered.
+#[derive(Clone, Copy, Debug, PartialEq, Eq)]
+enum Answer {
+    /// A ticket of this number.
+    Ticket(u64),
+    /// The transaction of this seq was released at this number and topic.
+    Released(u64, u64, u32),
+    Done,
+    Nothing,
+    /// The fault of this number.
+    Fault(u32),
 }
+
+use Answer::{Done, Fault, Nothing, Released};
+use Call::{Cancel, Learn, Propose, Release};
+
+/// What a proposal answered.
+fn proposed(answer: Result<Ticket, ProposeFault>) -> Answer {
+    match answer {
+        Ok(ticket) => Answer::Ticket(ticket.n),
+        Err(fault) => Fault(fault.number()),
+    }
+}
+
+/// What the topic answers to a verdict of these topics and numbers.
+fn learnt(alloc: Global, group: &mut Group, id: TxnId, rows: &[(u32, u64)]) -> Option<Answer> {
+    let verdict = verdict_of(alloc, id, rows)?;
+    Some(match group.learn(id, &verdict) {
+        Ok(()) => Done,
+        Err(fault) => Fault(fault.number()),
+    })
+}
+
+/// What the topic answers to a cancel.
+fn cancelled(group: &mut Group, id: TxnId) -> Answer {
+    match group.cancel(id) {
+        Ok(()) => Done,
+        Err(fault) => Fault(fault.number()),
+    }
+}
+
+/// What a release answers.
+fn released(group: &mut Group) -> Answer {
+    match group.release() {
+        Some((id, stamp)) => Released(id.seq, stamp.n, stamp.topic.0),
+        None => Nothing,
+    }
+}
+
+/// What the topic answers to a call; nothing where memory ran out before it.
+fn reply(alloc: Global, group: &mut Group, call: Call) -> Option<Answer> {
+    match call {
+        Propose(seq, topics, n) => Some(proposed(propose(alloc, group, id(seq), topics, n)?)),
+        Learn(seq, rows) => learnt(alloc, group, id(seq), rows),
+        Cancel(seq) => Some(cancelled(group, id(seq))),
+        Release => Some(released(group)),
+    }
+}
+
+/// Whether the topic answers each of these calls as is written beside it.
+fn answers(alloc: Global, group: &mut Group, rows: &[(Call, Answer)]) -> bool {
+    for &(call, wanted) in rows {
+        if reply(alloc, group, call) != Some(wanted) {
+            return false;
+        }
+    }
+    true
+}
+
+/// Whether the log's row at an index is that of this transaction, with this stamp and these topics.
+fn is_row(group: &Group, i: usize, seq: u64, at: Stamp, topics: &[Topic]) -> bool {
+    match group.held(i) {
+        Some(row) => row.id == id(seq) && row.stamp == at && row.topics.as_slice() == topics,
+        None => false,
+    }
+}
+
+/// Topic 1 with two parts: the second learns first, and waits for the first.
+const BY_STAMPS: [(Call, Answer); 8] = [
+    (Propose(1, &[0, 1], 0), Answer::Ticket(1)),
+    (Propose(2, &[1, 2], 10), Answer::Ticket(11)),
+    (Learn(2, &[(1, 11), (2, 11)]), Done),
+    (Release, Nothing),
+    (Learn(1, &[(0, 10), (1, 1)]), Done),
+    (Release, Released(1, 10, 0)),
+    (Release, Released(2, 11, 2)),
+    (Release, Nothing),
+];
 
 #[test]
-fn parts_are_released_by_their_stamps(rt: HostRuntime) -> Result<(), Fail> {
+fn parts_are_released_by_their_stamps(rt: HostRuntime) {
     let alloc = rt.alloc();
     let mut group = Group::new(alloc, Topic(1), 0, 8);
-    let first = made(propose(alloc, &mut group, id(1), &[0, 1], 0))?;
-    assert_eq!(rt;
-        first,
-        Ok(Ticket {
-            id: id(1),
-            topic: Topic(1),
-            n: 1
-        })
-    );
-    let second = made(propose(alloc, &mut group, id(2), &[1, 2], 10))?;
-    assert_eq!(rt; number_of(second), Ok(11));
-    assert_eq!(rt;
-        made(learn(alloc, &mut group, id(2), &[(1, 11), (2, 11)]))?,
-        Ok(())
-    );
-    assert_eq!(rt; group.release(), None);
-    let foreign = made(learn(alloc, &mut group, id(1), &[(0, 10), (1, 2)]))?;
-    assert_eq!(rt; foreign, Err(LearnFault::Foreign));
-    assert_eq!(rt;
-        made(learn(alloc, &mut group, id(1), &[(0, 10), (1, 1)]))?,
-        Ok(())
-    );
-    assert_eq!(rt; group.release(), Some((id(1), stamp(10, 0))));
-    assert_eq!(rt; group.pending_len(), 1);
-    assert_eq!(rt; group.release(), Some((id(2), stamp(11, 2))));
-    assert_eq!(rt; group.release(), None);
+    assert!(rt; answers(alloc, &mut group, &BY_STAMPS));
     assert_eq!(rt; group.clock(), 11);
     assert_eq!(rt; group.frontier(), stamp(11, 2));
     assert_eq!(rt; group.held_len(), 2);
-    let Some(row) = group.held(0) else {
-        return Err(Fail::new("there is no row"));
-    };
-    assert_eq!(rt; row.id, id(1));
-    assert_eq!(rt; row.stamp, stamp(10, 0));
-    assert_eq!(rt; row.topics.as_slice(), [Topic(0), Topic(1)].as_slice());
+    assert!(rt; is_row(&group, 0, 1, stamp(10, 0), &[Topic(0), Topic(1)]));
+    assert!(rt; is_row(&group, 1, 2, stamp(11, 2), &[Topic(1), Topic(2)]));
     assert!(rt; group.held(2).is_none());
-    Ok(())
 }
 
+/// Topic 0 with room for two: each refusal but 40 and 42, by its number in docs/FAULTS.md.
+const REFUSALS: [(Call, Answer); 14] = [
+    (Propose(1, &[0, 1], 0), Answer::Ticket(1)),
+    (Propose(2, &[0, 1], 0), Answer::Ticket(2)),
+    (Propose(3, &[0, 1], 0), Fault(41)),
+    (Learn(1, &[(0, 2), (1, 5)]), Fault(44)),
+    (Learn(1, &[(0, 1), (1, 5)]), Done),
+    (Learn(1, &[(0, 1), (1, 6)]), Fault(45)),
+    (Learn(2, &[(0, 2), (1, 5)]), Fault(45)),
+    (Learn(3, &[(0, 3), (1, 3)]), Fault(43)),
+    (Cancel(1), Fault(46)),
+    (Cancel(3), Fault(43)),
+    (Propose(2, &[0, 1], 0), Fault(49)),
+    (Cancel(2), Done),
+    (Release, Released(1, 5, 1)),
+    (Propose(2, &[0, 1], 0), Answer::Ticket(6)),
+];
+
 #[test]
-fn refusals_in_order(rt: HostRuntime) -> Result<(), Fail> {
+fn refusals_in_order(rt: HostRuntime) {
     let alloc = rt.alloc();
     let mut group = Group::new(alloc, Topic(0), 0, 2);
-    let first = made(propose(alloc, &mut group, id(1), &[0, 1], 0))?;
-    assert_eq!(rt; number_of(first), Ok(1));
-    let second = made(propose(alloc, &mut group, id(2), &[0, 1], 0))?;
-    assert_eq!(rt; number_of(second), Ok(2));
-    assert_eq!(rt;
-        made(learn(alloc, &mut group, id(1), &[(0, 1), (1, 5)]))?,
-        Ok(())
-    );
-    let clash = made(learn(alloc, &mut group, id(2), &[(0, 2), (1, 5)]))?;
-    assert_eq!(rt; clash, Err(LearnFault::Clash));
-    let unknown = made(learn(alloc, &mut group, id(3), &[(0, 3), (1, 3)]))?;
-    assert_eq!(rt; unknown, Err(LearnFault::NotPending));
-    assert_eq!(rt; group.cancel(id(1)), Err(CancelFault::Decided));
-    assert_eq!(rt; group.cancel(id(3)), Err(CancelFault::NotPending));
-    let twice = made(propose(alloc, &mut group, id(2), &[0, 1], 0))?;
-    assert_eq!(rt; number_of(twice), Err(ProposeFault::Twice));
-    assert_eq!(rt; group.clock(), 5);
-    assert_eq!(rt; group.cancel(id(2)), Ok(()));
+    assert!(rt; answers(alloc, &mut group, &REFUSALS));
+    assert_eq!(rt; group.clock(), 6);
     assert_eq!(rt; group.pending_len(), 1);
-    Ok(())
 }
 
+/// Topic 0 with room for one: a row counts until it is drained.
+const LIMIT: [(Call, Answer); 5] = [
+    (Propose(1, &[0], 0), Answer::Ticket(1)),
+    (Propose(2, &[0], 0), Fault(41)),
+    (Learn(1, &[(0, 1)]), Done),
+    (Release, Released(1, 1, 0)),
+    (Propose(2, &[0], 0), Fault(41)),
+];
+
 #[test]
-fn rows_count_for_the_limit(rt: HostRuntime) -> Result<(), Fail> {
+fn rows_count_for_the_limit(rt: HostRuntime) {
     let alloc = rt.alloc();
     let mut group = Group::new(alloc, Topic(0), 0, 1);
-    let first = made(propose(alloc, &mut group, id(1), &[0], 0))?;
-    assert_eq!(rt; number_of(first), Ok(1));
-    let next = made(propose(alloc, &mut group, id(2), &[0], 0))?;
-    assert_eq!(rt; number_of(next), Err(ProposeFault::LogFull));
-    assert_eq!(rt; made(learn(alloc, &mut group, id(1), &[(0, 1)]))?, Ok(()));
-    assert_eq!(rt; group.release(), Some((id(1), stamp(1, 0))));
-    let later = made(propose(alloc, &mut group, id(2), &[0], 0))?;
-    assert_eq!(rt; number_of(later), Err(ProposeFault::LogFull));
-    Ok(())
+    assert!(rt; answers(alloc, &mut group, &LIMIT));
 }
 
+/// A floor with the last number leaves none, and the one before it leaves the last.
+const LAST_NUMBER: [(Call, Answer); 2] = [
+    (Propose(1, &[0], u64::MAX), Fault(40)),
+    (Propose(1, &[0], u64::MAX - 1), Answer::Ticket(u64::MAX)),
+];
+
 #[test]
-fn no_number_is_left(rt: HostRuntime) -> Result<(), Fail> {
+fn no_number_is_left(rt: HostRuntime) {
     let alloc = rt.alloc();
-    let mut group = Group::new(alloc, Topic(0), u64::MAX, 1);
-    let full = made(propose(alloc, &mut group, id(1), &[0], 0))?;
-    assert_eq!(rt; number_of(full), Err(ProposeFault::ClockFull));
+    let mut full = Group::new(alloc, Topic(0), u64::MAX, 1);
+    assert!(rt; answers(alloc, &mut full, &[(Propose(1, &[0], 0), Fault(40))]));
     let mut group = Group::new(alloc, Topic(0), 0, 1);
-    let above = made(propose(alloc, &mut group, id(1), &[0], u64::MAX))?;
-    assert_eq!(rt; number_of(above), Err(ProposeFault::ClockFull));
-    let last = made(propose(alloc, &mut group, id(1), &[0], u64::MAX - 1))?;
-    assert_eq!(rt; number_of(last), Ok(u64::MAX));
-    Ok(())
+    assert!(rt; answers(alloc, &mut group, &LAST_NUMBER));
 }
 
+/// The numbers of the faults, by their names in docs/FAULTS.md.
 #[test]
-fn a_turn_learns_and_releases(rt: HostRuntime) -> Result<(), Fail> {
+fn faults_have_their_numbers(rt: HostRuntime) {
+    assert_eq!(rt; ProposeFault::NoMemory.number(), 42);
+    assert_eq!(rt; SubFault::SubInUse.number(), 47);
+    assert_eq!(rt; SubFault::NoMemory.number(), 42);
+    assert_eq!(rt; NoSub.number(), 48);
+}
+
+/// Three parts at topic 0.
+const THREE: [(Call, Answer); 3] = [
+    (Propose(1, &[0, 1], 0), Answer::Ticket(1)),
+    (Propose(2, &[0, 1], 0), Answer::Ticket(2)),
+    (Propose(3, &[0, 1], 0), Answer::Ticket(3)),
+];
+
+/// How many parts a turn releases that finds two verdicts of these topics and numbers.
+fn turned(
+    alloc: Global,
+    group: &mut Group,
+    first: (u64, &[(u32, u64)]),
+    second: (u64, &[(u32, u64)]),
+) -> Option<u64> {
+    let first = verdict_of(alloc, id(first.0), first.1)?;
+    let second = verdict_of(alloc, id(second.0), second.1)?;
+    Some(group.turn(&Pair(first, second)))
+}
+
+/// The first turn learns the second and the third part; the other turn meets a foreign verdict, and learns the first.
+#[test]
+fn a_turn_learns_and_releases(rt: HostRuntime) {
     let alloc = rt.alloc();
     let mut group = Group::new(alloc, Topic(0), 0, 8);
-    for seq in 1..=3u64 {
-        let answer = made(propose(alloc, &mut group, id(seq), &[0, 1], 0))?;
-        assert_eq!(rt; number_of(answer), Ok(seq));
-    }
-    let second = made(verdict_of(alloc, id(2), &[(0, 2), (1, 9)]))?;
-    let third = made(verdict_of(alloc, id(3), &[(0, 3), (1, 4)]))?;
-    let two = Pair(second, third);
-    assert_eq!(rt; group.turn(&two), 0);
+    assert!(rt; answers(alloc, &mut group, &THREE));
+    let waits = turned(
+        alloc,
+        &mut group,
+        (2, &[(0, 2), (1, 9)]),
+        (3, &[(0, 3), (1, 4)]),
+    );
+    assert_eq!(rt; waits, Some(0));
     assert_eq!(rt; group.pending_len(), 3);
-    let first = made(verdict_of(alloc, id(1), &[(0, 1), (1, 6)]))?;
-    let foreign = made(verdict_of(alloc, id(4), &[(0, 1), (1, 6)]))?;
-    let more = Pair(foreign, first);
-    assert_eq!(rt; group.turn(&more), 3);
+    let all = turned(
+        alloc,
+        &mut group,
+        (4, &[(0, 1), (1, 6)]),
+        (1, &[(0, 1), (1, 6)]),
+    );
+    assert_eq!(rt; all, Some(3));
     assert_eq!(rt; group.pending_len(), 0);
     assert_eq!(rt; group.frontier(), stamp(9, 1));
-    for (place, seq) in [(0, 3), (1, 1), (2, 2)] {
-        let Some(row) = group.held(place) else {
-            return Err(Fail::new("there is no row"));
-        };
-        assert_eq!(rt; row.id, id(seq));
-    }
-    Ok(())
+    assert!(rt; is_row(&group, 0, 3, stamp(4, 1), &[Topic(0), Topic(1)]));
+    assert!(rt; is_row(&group, 1, 1, stamp(6, 1), &[Topic(0), Topic(1)]));
+    assert!(rt; is_row(&group, 2, 2, stamp(9, 1), &[Topic(0), Topic(1)]));
 }
 
-/// With one allocation refused (`rt try --test --fail-alloc N`) a proposal is told 42, the topic is as it was, and
-/// the same proposal is then accepted; with ample memory it is accepted at once.
+/// With one allocation refused (`rt try --test --fail-alloc N`) a proposal is refused by 42, the topic is as it was,
+/// and the same proposal is then accepted; with ample memory it is accepted at once.
 #[test]
-fn want_of_memory_changes_nothing(rt: HostRuntime) {
+fn running_out_of_memory_changes_nothing(rt: HostRuntime) {
     let alloc = rt.alloc();
     for _ in 0..4u8 {
         let mut group = Group::new(alloc, Topic(0), 7, 1);
@@ -264,14 +340,14 @@ fn want_of_memory_changes_nothing(rt: HostRuntime) {
             continue;
         };
         let Err(fault) = answer else {
-            assert_eq!(rt; number_of(answer), Ok(8));
+            assert_eq!(rt; proposed(answer), Answer::Ticket(8));
             continue;
         };
         assert_eq!(rt; fault, ProposeFault::NoMemory);
         assert_eq!(rt; group.clock(), 7);
         assert_eq!(rt; group.pending_len(), 0);
         if let Some(again) = propose(alloc, &mut group, id(1), &[0, 1], 0) {
-            assert_eq!(rt; number_of(again), Ok(8));
+            assert_eq!(rt; proposed(again), Answer::Ticket(8));
         }
     }
 }

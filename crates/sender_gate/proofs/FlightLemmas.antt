@@ -5,14 +5,14 @@ use Rattle.std.specs.List.{AllByRecursion}
 use Rattle.std.specs.Option.{option_map, option_to_list}
 use Rattle.mcast_txn.specs.declared.id.Topic.{Topic}
 use Rattle.mcast_txn.specs.declared.id.TxnId.{TxnId}
-use Rattle.mcast_txn.specs.declared.send.Send.{Send}
+use Rattle.mcast_txn.specs.declared.draft.sent_message.SentMessage.{SentMessage}
 use Rattle.mcast_txn.specs.declared.stamp.Stamp.{Stamp}
-use Rattle.mcast_txn.specs.declared.ticket.Ticket.{Ticket}
-use Rattle.mcast_txn.specs.Ballot.{given_rows, numbers_of}
+use Rattle.mcast_txn.specs.declared.ballot.ticket.Ticket.{Ticket}
+use Rattle.mcast_txn.specs.Ballot.{ticket_rows, slots_of_rows}
 use Rattle.mcast_txn.specs.Part.{parts_of, part_at}
 use Rattle.mcast_txn.specs.Slots.{Slots, free_slots, with_slot}
 use Rattle.mcast_txn.specs.Stamp.{stamp_lt, greatest}
-use Rattle.mcast_txn.specs.Topics.{IsTopicSet}
+use Rattle.mcast_txn.specs.TopicSet.{IsTopicSet}
 use Rattle.mcast_txn.specs.Transaction.{TopicPart, topics_of}
 use Rattle.mcast_txn.proofs.StampLemmas.{lt_trans}
 use Rattle.sender_gate.specs.declared.fault.GateFault.TheVariants.{BelowFloor}
@@ -57,16 +57,16 @@ module _ (floor : Stamp) where
   above_case false u (Some m) n rest new h next all = (all.0, next all.1)
 
   -- a number above the floor keeps all above it
-  above_with : (t : Topic) (n : ℕ) (numbers : Slots ℕ) → floor.n < n → Above (given_rows numbers) → Above (given_rows (with_slot t (Some n) numbers))
+  above_with : (t : Topic) (n : ℕ) (tickets : Slots ℕ) → floor.n < n → Above (ticket_rows tickets) → Above (ticket_rows (with_slot t (Some n) tickets))
   above_with t n [] h all = tt
-  above_with t n (s ∷ numbers) h all = above_case (s.0.0 == t.0) s.0 s.1 n (given_rows numbers) (given_rows (with_slot t (Some n) numbers)) h (above_with t n numbers h) all
+  above_with t n (s ∷ tickets) h all = above_case (s.0.0 == t.0) s.0 s.1 n (ticket_rows tickets) (ticket_rows (with_slot t (Some n) tickets)) h (above_with t n tickets h) all
 
-  above_free : (topics : List Topic) → Above (given_rows (free_slots topics))
+  above_free : (topics : List Topic) → Above (ticket_rows (free_slots topics))
   above_free [] = tt
   above_free (t ∷ topics) = above_free topics
 
   -- a new flight
-  pub flying_new : (id : TxnId) (sends : List Send) → IsTopicSet (topics_of sends) → IsFlying floor (free_slots (topics_of sends)) (parts_of id sends)
+  pub flying_new : (id : TxnId) (sends : List SentMessage) → IsTopicSet (topics_of sends) → IsFlying floor (free_slots (topics_of sends)) (parts_of id sends)
   flying_new id sends set = record {
     some = no_topics (topics_of sends) set.some;
     alike = firsts (λ t. Some (part_at id sends t)) (topics_of sends) ∙ sym (firsts {A = ℕ} (λ _. None) (topics_of sends));
@@ -78,18 +78,18 @@ module _ (floor : Stamp) where
       no_topics (t ∷ topics) some = λ none. omega (arith, ap length none)
 
   -- a part taken out, a ticket put
-  module _ (numbers : Slots ℕ) (parts : Slots TopicPart) (flying : IsFlying floor numbers parts) (t : Topic) where
-    pub flying_part : IsFlying floor numbers (with_slot t None parts)
+  module _ (tickets : Slots ℕ) (parts : Slots TopicPart) (flying : IsFlying floor tickets parts) (t : Topic) where
+    pub flying_part : IsFlying floor tickets (with_slot t None parts)
     flying_part = record { some = flying.some; alike = firsts_with t None parts ∙ flying.alike; above = flying.above }
 
-    pub flying_put : (n : ℕ) → floor.n < n → IsFlying floor (with_slot t (Some n) numbers) parts
+    pub flying_put : (n : ℕ) → floor.n < n → IsFlying floor (with_slot t (Some n) tickets) parts
     flying_put n h = record {
-      some = some_with t (Some n) numbers flying.some;
-      alike = flying.alike ∙ sym (firsts_with t (Some n) numbers);
-      above = above_with t n numbers h flying.above;
+      some = some_with t (Some n) tickets flying.some;
+      alike = flying.alike ∙ sym (firsts_with t (Some n) tickets);
+      above = above_with t n tickets h flying.above;
     }
 
-  given_all : (rows : List Stamp) → given_rows (numbers_of rows) ≡ rows
+  given_all : (rows : List Stamp) → ticket_rows (slots_of_rows rows) ≡ rows
   given_all [] = refl
   given_all (row ∷ rows) = ap (λ rest. row ∷ rest) (given_all rows)
 
@@ -104,6 +104,6 @@ module _ (floor : Stamp) where
   greatest_above (row ∷ rows) some above = later_above (stamp_lt row (greatest rows)) row (greatest rows) refl above.0
 
   -- the stamp of a complete flight is above the floor
-  pub decided_above : (numbers : Slots ℕ) (parts : Slots TopicPart) (rows : List Stamp) → IsFlying floor numbers parts → numbers_of rows ≡ numbers → stamp_lt floor (greatest rows) ≡ true
-  decided_above numbers parts rows flying e =
-      greatest_above rows (λ none. flying.some (sym e ∙ ap numbers_of none)) (subst Above (ap given_rows (sym e) ∙ given_all rows) flying.above)
+  pub decided_above : (tickets : Slots ℕ) (parts : Slots TopicPart) (rows : List Stamp) → IsFlying floor tickets parts → slots_of_rows rows ≡ tickets → stamp_lt floor (greatest rows) ≡ true
+  decided_above tickets parts rows flying e =
+      greatest_above rows (λ none. flying.some (sym e ∙ ap slots_of_rows none)) (subst Above (ap ticket_rows (sym e) ∙ given_all rows) flying.above)

@@ -3,10 +3,10 @@ use Rattle.std.specs.Prelude.{◌+◌, ◌==◌, nat_lt, ℕ, List, Result, Ok, 
 use Rattle.mcast_txn.specs.declared.fault.BallotFault.{BallotFault}
 use Rattle.mcast_txn.specs.declared.id.Sender.{Sender}
 use Rattle.mcast_txn.specs.declared.id.TxnId.{TxnId}
-use Rattle.mcast_txn.specs.declared.send.Send.{Send}
+use Rattle.mcast_txn.specs.declared.draft.sent_message.SentMessage.{SentMessage}
 use Rattle.mcast_txn.specs.declared.stamp.Stamp.{Stamp}
-use Rattle.mcast_txn.specs.declared.ticket.Ticket.{Ticket}
-use Rattle.mcast_txn.specs.Ballot.{Tally, put_answer}
+use Rattle.mcast_txn.specs.declared.ballot.ticket.Ticket.{Ticket}
+use Rattle.mcast_txn.specs.Ballot.{BallotState, put_answer}
 use Rattle.mcast_txn.specs.Part.{parts_of}
 use Rattle.mcast_txn.specs.Slots.{Slots, free_slots}
 use Rattle.mcast_txn.specs.Transaction.{TopicPart, topics_of}
@@ -29,7 +29,7 @@ pub record GateState : Type 0 where
 pub record FlightState : Type 0 where
   pub id : TxnId
   pub floor : Stamp
-  pub numbers : Slots ℕ
+  pub tickets : Slots ℕ
   pub parts : Slots TopicPart
 
 -- the id of the sender's next transaction
@@ -37,11 +37,11 @@ abbrev pub next_id : GateState → TxnId
 next_id gate = record { sender = gate.sender; seq = gate.seq + 1 }
 
 -- the flight of the sender's next transaction, of these SENDs
-abbrev pub flight_of : GateState → List Send → FlightState
+abbrev pub flight_of : GateState → List SentMessage → FlightState
 flight_of gate sends = record {
   id = next_id gate;
   floor = gate.floor;
-  numbers = free_slots (topics_of sends);
+  tickets = free_slots (topics_of sends);
   parts = parts_of (next_id gate) sends;
 }
 
@@ -50,8 +50,8 @@ abbrev pub begin_fault : GateState → GateFault
 begin_fault gate = if gate.seq == max_seq then SeqFull else NoMemory
 
 -- the tickets that were put into a flight
-abbrev pub tally_of : FlightState → Tally
-tally_of flight = record { id = flight.id; numbers = flight.numbers }
+abbrev pub ballot_of : FlightState → BallotState
+ballot_of flight = record { id = flight.id; tickets = flight.tickets }
 
 -- what a flight with this floor answers where its ballot answers so: the number must be above the floor's
 abbrev pub over_floor : Stamp → Ticket → Result Unit BallotFault → Result Unit GateFault
@@ -60,7 +60,7 @@ over_floor floor ticket (Err fault) = Err (gate_fault fault)
 
 -- what a flight answers to a ticket
 abbrev pub flight_answer : FlightState → Ticket → Result Unit GateFault
-flight_answer flight ticket = over_floor flight.floor ticket (put_answer (tally_of flight) ticket)
+flight_answer flight ticket = over_floor flight.floor ticket (put_answer (ballot_of flight) ticket)
 
 -- the gate once its flight has ended with this floor
 abbrev pub gate_after : FlightState → Stamp → GateState

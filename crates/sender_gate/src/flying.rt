@@ -4,13 +4,13 @@ ghost use Rattle.std.specs.Prelude.{◌≡◌, [], map, Some, None, IsTrue, IfOk
 ghost use Rattle.std.specs.Arc.{arc_value};
 ghost use Rattle.std.specs.List.{list_any};
 ghost use Rattle.std.specs.Option.{is_none, option_map};
-ghost use Rattle.mcast_txn.specs.Ballot.{numbers_of, tickets_of};
+ghost use Rattle.mcast_txn.specs.Ballot.{slots_of_rows, tickets_put};
 ghost use Rattle.mcast_txn.specs.Part.{data_of};
 ghost use Rattle.mcast_txn.specs.Slots.{held_at, with_slot};
 ghost use Rattle.mcast_txn.specs.Stamp.{greatest, stamp_lt};
 ghost use Rattle.sender_gate.specs.declared.fault.GateFault.TheVariants.{Incomplete};
 ghost use Rattle.sender_gate.specs.Flights.{IsFlying};
-ghost use Rattle.sender_gate.specs.Gate.{flight_answer, gate_after, tally_of};
+ghost use Rattle.sender_gate.specs.Gate.{flight_answer, gate_after, ballot_of};
 
 use crate::fault::GateFault;
 use crate::gate::Gate;
@@ -34,16 +34,16 @@ impl Model for Flying {
 
     ghost Value = { FlightState };
 
-    ghost view = { λ f. record { id = f.ballot.id; floor = f.floor; numbers = f.ballot.numbers; parts = f.parts } };
+    ghost view = { λ f. record { id = f.ballot.id; floor = f.floor; tickets = f.ballot.tickets; parts = f.parts } };
 
-    ghost invariant = { λ f. IsFlying f.floor f.ballot.numbers f.parts };
+    ghost invariant = { λ f. IsFlying f.floor f.ballot.tickets f.parts };
 }
 
 impl Flying {
     // A flight with this ballot and these parts.
     pub(crate) fn new(floor: Stamp, ballot: Ballot, parts: Parts) -> Flying
-        requires { IsFlying floor ballot.numbers parts }
-        ensures { result ≡ record { id = ballot.id; floor = floor; numbers = ballot.numbers; parts = parts } }
+        requires { IsFlying floor ballot.tickets parts }
+        ensures { result ≡ record { id = ballot.id; floor = floor; tickets = ballot.tickets; parts = parts } }
     {
         Flying {
             floor,
@@ -61,7 +61,7 @@ impl Flying {
 
     /// Its topics.
     pub fn topics(&self) -> &TopicSet
-        ensures { result.now ≡ map (λ slot. slot.0) self.now.numbers }
+        ensures { result.now ≡ map (λ slot. slot.0) self.now.tickets }
     {
         self.parts.topics()
     }
@@ -87,7 +87,7 @@ impl Flying {
     pub fn put(&mut self, ticket: Ticket) -> Result<(), GateFault>
         ensures answer { result ≡ flight_answer self.old ticket }
         ensures ok { OnOk result
-            (self.new ≡ record self.old { numbers = with_slot ticket.topic (Some ticket.n) self.old.numbers }) }
+            (self.new ≡ record self.old { tickets = with_slot ticket.topic (Some ticket.n) self.old.tickets }) }
         ensures err { OnErr result (self.new ≡ self.old) }
     {
         self.ballot.check(ticket)?;
@@ -101,9 +101,9 @@ impl Flying {
     /// Ends with the verdict, whose stamp is the sender's new floor, with no memory. Refused (52) where a topic gave
     /// no ticket: the flight is then handed back.
     pub fn decide(self) -> Result<(Gate, Box<Verdict>), (Flying, GateFault)>
-        ensures incomplete { is_err result ≡ list_any (λ s. is_none s.1) self.numbers }
+        ensures incomplete { is_err result ≡ list_any (λ s. is_none s.1) self.tickets }
         ensures id { IfOk result (λ decided. decided.1.value.id ≡ self.id) }
-        ensures rows { IfOk result (λ decided. numbers_of decided.1.value.rows ≡ self.numbers) }
+        ensures rows { IfOk result (λ decided. slots_of_rows decided.1.value.rows ≡ self.tickets) }
         ensures gate { IfOk result
             (λ decided. decided.0 ≡ gate_after self (greatest decided.1.value.rows)) }
         ensures above { IfOk result (λ decided. IsTrue (stamp_lt self.floor decided.0.floor)) }
@@ -125,7 +125,7 @@ impl Flying {
     /// are handed back, by rising topic.
     pub fn withdraw(self) -> (Gate, Tickets)
         ensures gate { result.0 ≡ gate_after self self.floor }
-        ensures tickets { result.1 ≡ tickets_of (tally_of self) }
+        ensures tickets { result.1 ≡ tickets_put (ballot_of self) }
     {
         let Flying {
             floor,

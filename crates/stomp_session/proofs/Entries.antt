@@ -6,7 +6,7 @@ use Rattle.std.specs.Map.{keys_of, lookup, remove_entry, values_of}
 use Rattle.std.specs.Str.{bytes_eq}
 use Rattle.indexmap.specs.IndexMap.{insert_entry, set_value_at}
 use Rattle.indexmap.specs.IndexSet.{insert_key}
-use Rattle.mcast_txn.specs.declared.send.Send.{Send}
+use Rattle.mcast_txn.specs.declared.draft.sent_message.SentMessage.{SentMessage}
 use Rattle.stomp_session.specs.Names.{is_known, place_of, with_name}
 use Rattle.stomp_session.specs.Stored.{octets_of, entries_of}
 use Rattle.stomp_session.specs.Refusals.{is_open, sends_in}
@@ -67,7 +67,7 @@ entries_of-insert (e ∷ es) k v new = by (bytes_eq k.items e.0.items) refl new 
     by true t none rest = absurd (true≢false none)
     by false t none rest = rw t (ap (λ them. (e.0.items, e.1) ∷ them) (rest none))
 
-pub sends_in-lookup : (id : List ℕ) (es : List (Key × List Send)) (d : List Send) → lookup (is_key id) es ≡ Some d → sends_in id (entries_of es) ≡ d
+pub sends_in-lookup : (id : List ℕ) (es : List (Key × List SentMessage)) (d : List SentMessage) → lookup (is_key id) es ≡ Some d → sends_in id (entries_of es) ≡ d
 sends_in-lookup id [] d at = cc
 sends_in-lookup id (e ∷ es) d at = by (bytes_eq id e.0.items) refl at (sends_in-lookup id es d)
   where
@@ -78,7 +78,7 @@ sends_in-lookup id (e ∷ es) d at = by (bytes_eq id e.0.items) refl at (sends_i
     by false t here rest = rw t (rest here)
 
 -- one more SEND for the entry at the place of this id
-pub entries_of-set_value_at : (id : List ℕ) (send : Send) (es : List (Key × List Send)) (i : ℕ) (d : List Send)
+pub entries_of-set_value_at : (id : List ℕ) (send : SentMessage) (es : List (Key × List SentMessage)) (i : ℕ) (d : List SentMessage)
     → i ≡ place_of_id id (entries_of es) → slice_get (values_of es) i ≡ Some d
     → entries_of (set_value_at es i (d ++ send ∷ [])) ≡ with_send id send (entries_of es)
 entries_of-set_value_at id send [] i d place at = refl
@@ -106,9 +106,9 @@ position-Some p xs i at = by (nat_lt (position_or_len p xs) (length xs)) at
     by true at = cc
     by false at = cc
 
-pub sends_in-found : (id : List ℕ) (es : List (Key × List Send)) → IfSome (lookup (is_key id) es) (λ d. d ≡ sends_in id (entries_of es))
+pub sends_in-found : (id : List ℕ) (es : List (Key × List SentMessage)) → IfSome (lookup (is_key id) es) (λ d. d ≡ sends_in id (entries_of es))
 sends_in-found id es = by (lookup (is_key id) es) refl
   where
-    by : (found : Option (List Send)) → lookup (is_key id) es ≡ found → IfSome found (λ d. d ≡ sends_in id (entries_of es))
+    by : (found : Option (List SentMessage)) → lookup (is_key id) es ≡ found → IfSome found (λ d. d ≡ sends_in id (entries_of es))
     by None at = tt
     by (Some d) at = sym (sends_in-lookup id es d at)

@@ -11,7 +11,7 @@ use Rattle.stomp_frame.specs.declared.raw_frame.RawFrame.{RawFrame}
 use Rattle.stomp_frame.specs.Cases.{is_connect}
 use Rattle.stomp_frame.specs.Headers.{first_of}
 use Rattle.mcast_txn.specs.declared.id.Topic.{Topic}
-use Rattle.mcast_txn.specs.declared.send.Send.{Send}
+use Rattle.mcast_txn.specs.declared.draft.sent_message.SentMessage.{SentMessage}
 use Rattle.stomp_session.specs.declared.phase.Phase.{Phase}
 use Rattle.stomp_session.specs.declared.phase.Phase.TheVariants.{New, Connected, Closed}
 use Rattle.stomp_session.specs.declared.fault.SessionFault.{SessionFault}
@@ -29,7 +29,7 @@ opens_subscription f = is_subscribe f.command
 abbrev opens_transaction : RawFrame → Bool
 opens_transaction f = is_begin f.command
 
-abbrev sends_of : List (List ℕ) → RawFrame → List RawFrame → List Send
+abbrev sends_of : List (List ℕ) → RawFrame → List RawFrame → List SentMessage
 sends_of names f after = map (send_of names) (filter (is_send_in (transaction_of f)) after)
 
 subscriptions_left-opened : (names : List (List ℕ)) (frames : List RawFrame) → subscriptions_left names frames ≡ opened opens_subscription names_subscription id_of (λ f after. topic_of names f) frames
@@ -179,7 +179,7 @@ module _ (names : List (List ℕ)) (frames : List RawFrame) (f : RawFrame) where
   is_connected-push = list_any-push (λ f. is_connect f.command) frames f
 
   -- one more frame that doesn't end the session, by what it changes
-  live-push : (phase : Phase) (subscriptions : List (List ℕ × Topic)) (transactions : List (List ℕ × List Send))
+  live-push : (phase : Phase) (subscriptions : List (List ℕ × Topic)) (transactions : List (List ℕ × List SentMessage))
       → is_ended frames ≡ false → is_disconnect f.command ≡ false
       → (if is_connected frames || is_connect f.command then Connected else New) ≡ phase
       → subscriptions_left names (frames ++ f ∷ []) ≡ subscriptions
@@ -202,7 +202,7 @@ module _ (names : List (List ℕ)) (frames : List RawFrame) (f : RawFrame) where
       subst (λ p. first_fault ((is_closed p, faults.Closed) ∷ (is_new p, faults.NotConnected) ∷ others) ≡ None) phase_is none)
 
   -- any but a CONNECT or a DISCONNECT
-  connected-push : (subscriptions : List (List ℕ × Topic)) (transactions : List (List ℕ × List Send))
+  connected-push : (subscriptions : List (List ℕ × Topic)) (transactions : List (List ℕ × List SentMessage))
       → is_ended frames ≡ false → is_disconnect f.command ≡ false → is_connected frames ≡ true
       → subscriptions_left names (frames ++ f ∷ []) ≡ subscriptions
       → transactions_left names (frames ++ f ∷ []) ≡ transactions

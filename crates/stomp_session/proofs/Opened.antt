@@ -5,7 +5,7 @@ use Rattle.std.specs.Cmp.Lexicographic.{nat_list_eq_equiv}
 use Rattle.std.specs.List.{list_any}
 use Rattle.std.specs.Str.{bytes_eq}
 use Rattle.stomp_frame.specs.declared.raw_frame.RawFrame.{RawFrame}
-use Rattle.mcast_txn.specs.declared.send.Send.{Send}
+use Rattle.mcast_txn.specs.declared.draft.sent_message.SentMessage.{SentMessage}
 use Rattle.stomp_session.specs.Refusals.{is_open}
 use Rattle.stomp_session.specs.Effects.{entries_without, with_send}
 
@@ -52,7 +52,7 @@ entries_without-shut id (o ∷ them) shut =
     let here : bytes_eq id o.0 ≡ false = neither_first (bytes_eq id o.0) (is_open id them) shut in
     rw here (ap (λ rest. o ∷ rest) (entries_without-shut id them (neither_second (bytes_eq id o.0) (is_open id them) shut)))
 
-pub with_send-shut : (x : List ℕ) (send : Send) (them : List (List ℕ × List Send)) → is_open x them ≡ false → with_send x send them ≡ them
+pub with_send-shut : (x : List ℕ) (send : SentMessage) (them : List (List ℕ × List SentMessage)) → is_open x them ≡ false → with_send x send them ≡ them
 with_send-shut x send [] shut = refl
 with_send-shut x send (o ∷ them) shut =
     let here : bytes_eq x o.0 ≡ false = neither_first (bytes_eq x o.0) (is_open x them) shut in
@@ -134,7 +134,7 @@ module _ {X : Type 0} (opens : RawFrame → Bool) (names_it : List ℕ → RawFr
             let gone : stays g (after ++ f ∷ []) ≡ false = stays-push g after f ∙ ap (λ b. b && not (names_it (id g) f)) there in
             rw gone rest
 
-module _ (opens : RawFrame → Bool) (names_it : List ℕ → RawFrame → Bool) (id : RawFrame → List ℕ) (value : RawFrame → List RawFrame → List Send) (f : RawFrame) (x : List ℕ) (send : Send) where
+module _ (opens : RawFrame → Bool) (names_it : List ℕ → RawFrame → Bool) (id : RawFrame → List ℕ) (value : RawFrame → List RawFrame → List SentMessage) (f : RawFrame) (x : List ℕ) (send : SentMessage) where
   -- a frame that is a SEND in one
   pub opened-send : ((x : List ℕ) (g : RawFrame) → opens g ≡ true → names_it x g ≡ bytes_eq (id g) x)
       → opens f ≡ false → ((x : List ℕ) → names_it x f ≡ false)

@@ -6,7 +6,7 @@ use Rattle.stomp_frame.specs.declared.command.Command.TheVariants as commands
 use Rattle.stomp_frame.specs.declared.raw_frame.RawFrame.{RawFrame}
 use Rattle.stomp_frame.specs.Headers.{IsText, first_of}
 use Rattle.stomp_frame.specs.Receipts.{receipt_of}
-use Rattle.mcast_txn.specs.declared.send.Send.{Send}
+use Rattle.mcast_txn.specs.declared.draft.sent_message.SentMessage.{SentMessage}
 use Rattle.stomp_session.specs.declared.action.Action.{Action}
 use Rattle.stomp_session.specs.declared.action.Action.TheVariants as actions
 use Rattle.stomp_session.specs.declared.action.Step.{Step}
@@ -17,7 +17,7 @@ use Rattle.stomp_session.specs.Open.{Held}
 use Rattle.stomp_session.specs.Refusals.{sends_in, refusal}
 
 -- a transaction of these SENDs; none where there are none
-abbrev pub commit : List Send → Action
+abbrev pub commit : List SentMessage → Action
 commit [] = actions.Nothing
 commit (send ∷ sends) = actions.Commit (send ∷ sends)
 
@@ -52,7 +52,7 @@ pub record AreTexts (step : Step) : Type 0 where
   pub action : IsTextIn step.action
 
 -- whether there is a SEND among them
-abbrev pub has_sends : List Send → Bool
+abbrev pub has_sends : List SentMessage → Bool
 has_sends [] = false
 has_sends (send ∷ sends) = true
 

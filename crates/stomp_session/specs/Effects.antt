@@ -9,7 +9,7 @@ use Rattle.stomp_frame.specs.declared.raw_frame.RawFrame.{RawFrame}
 use Rattle.stomp_frame.specs.Headers.{first_of}
 use Rattle.stomp_frame.specs.Receipts.{receipt_of}
 use Rattle.mcast_txn.specs.declared.id.Topic.{Topic}
-use Rattle.mcast_txn.specs.declared.send.Send.{Send}
+use Rattle.mcast_txn.specs.declared.draft.sent_message.SentMessage.{SentMessage}
 use Rattle.stomp_session.specs.declared.phase.Phase.{Phase}
 use Rattle.stomp_session.specs.declared.phase.Phase.TheVariants.{Connected}
 use Rattle.stomp_session.specs.declared.action.Action.{Action}
@@ -32,7 +32,7 @@ entries_without id [] = []
 entries_without id (o ∷ them) = if bytes_eq id o.0 then them else o ∷ entries_without id them
 
 -- with one more SEND in this transaction
-abbrev pub with_send : List ℕ → Send → List (List ℕ × List Send) → List (List ℕ × List Send)
+abbrev pub with_send : List ℕ → SentMessage → List (List ℕ × List SentMessage) → List (List ℕ × List SentMessage)
 with_send x send [] = []
 with_send x send (o ∷ them) =
     if bytes_eq x o.0 then (o.0, o.1 ++ send ∷ []) ∷ them else o ∷ with_send x send them
@@ -46,7 +46,7 @@ abbrev pub with_subscriptions : List (List ℕ × Topic) → Held → Held
 with_subscriptions them s = record s { subscriptions = them }
 
 -- with these transactions open
-abbrev pub with_transactions : List (List ℕ × List Send) → Held → Held
+abbrev pub with_transactions : List (List ℕ × List SentMessage) → Held → Held
 with_transactions them s = record s { transactions = them }
 
 -- what is held after a frame, by its command

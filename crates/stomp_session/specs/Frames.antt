@@ -7,7 +7,7 @@ use Rattle.stomp_frame.specs.declared.command.Command.TheVariants as commands
 use Rattle.stomp_frame.specs.declared.raw_frame.RawFrame.{RawFrame}
 use Rattle.stomp_frame.specs.Headers.{first_of}
 use Rattle.mcast_txn.specs.declared.id.Topic.{Topic}
-use Rattle.mcast_txn.specs.declared.send.Send.{Send}
+use Rattle.mcast_txn.specs.declared.draft.sent_message.SentMessage.{SentMessage}
 use Rattle.stomp_session.specs.Names.{place_of}
 
 -- the value of a header that the case table requires of the frame
@@ -71,5 +71,5 @@ is_send_in x f =
     is_send f.command && option_map_or (λ y. bytes_eq y x) (first_of (codes "transaction") f.headers) false
 
 -- a SEND as a transaction has it
-abbrev pub send_of : List (List ℕ) → RawFrame → Send
+abbrev pub send_of : List (List ℕ) → RawFrame → SentMessage
 send_of names f = record { topic = topic_of names f; headers = f.headers; body = f.body }

@@ -5,7 +5,7 @@ use Rattle.std.specs.List.{list_any}
 use Rattle.stomp_frame.specs.declared.raw_frame.RawFrame.{RawFrame}
 use Rattle.stomp_frame.specs.Cases.{is_connect}
 use Rattle.mcast_txn.specs.declared.id.Topic.{Topic}
-use Rattle.mcast_txn.specs.declared.send.Send.{Send}
+use Rattle.mcast_txn.specs.declared.draft.sent_message.SentMessage.{SentMessage}
 use Rattle.stomp_session.specs.declared.phase.Phase.{Phase}
 use Rattle.stomp_session.specs.declared.phase.Phase.TheVariants.{New, Connected, Closed}
 use Rattle.stomp_session.specs.Frames.{topic_of, id_of, transaction_of, is_subscribe, is_begin, is_disconnect, names_subscription, names_transaction, is_send_in, send_of}
@@ -21,7 +21,7 @@ subscriptions_left names (f ∷ after) =
 
 -- The transactions that BEGINs of these frames left open, each with the SENDs after its BEGIN that name it, in order:
 -- of each transaction the last frame that names it, SENDs aside, is a BEGIN.
-abbrev pub transactions_left : List (List ℕ) → List RawFrame → List (List ℕ × List Send)
+abbrev pub transactions_left : List (List ℕ) → List RawFrame → List (List ℕ × List SentMessage)
 transactions_left names [] = []
 transactions_left names (f ∷ after) =
     if is_begin f.command && not (list_any (names_transaction (transaction_of f)) after)
@@ -47,7 +47,7 @@ abbrev pub open_subscriptions : List (List ℕ) → List RawFrame → List (List
 open_subscriptions names frames = if is_ended frames then [] else subscriptions_left names frames
 
 -- the transactions that are open; none after a DISCONNECT
-abbrev pub open_transactions : List (List ℕ) → List RawFrame → List (List ℕ × List Send)
+abbrev pub open_transactions : List (List ℕ) → List RawFrame → List (List ℕ × List SentMessage)
 open_transactions names frames = if is_ended frames then [] else transactions_left names frames
 
 -- what a session holds: the names of the topics, how far it is, and what is open
@@ -55,7 +55,7 @@ pub record Held : Type 0 where
   pub names : List (List ℕ)
   pub phase : Phase
   pub subscriptions : List (List ℕ × Topic)
-  pub transactions : List (List ℕ × List Send)
+  pub transactions : List (List ℕ × List SentMessage)
 
 -- what a session holds after these accepted frames
 abbrev pub held_after : List (List ℕ) → List RawFrame → Held

@@ -8,7 +8,7 @@ use Rattle.stomp_frame.specs.declared.command.Command.{Command}
 use Rattle.stomp_frame.specs.declared.command.Command.TheVariants as commands
 use Rattle.stomp_frame.specs.declared.raw_frame.RawFrame.{RawFrame}
 use Rattle.stomp_frame.specs.Headers.{first_of}
-use Rattle.mcast_txn.specs.declared.send.Send.{Send}
+use Rattle.mcast_txn.specs.declared.draft.sent_message.SentMessage.{SentMessage}
 use Rattle.mcast_txn.specs.Draft.{max_sends}
 use Rattle.stomp_session.specs.declared.phase.Phase.{Phase}
 use Rattle.stomp_session.specs.declared.phase.Phase.TheVariants as phases
@@ -39,7 +39,7 @@ abbrev pub is_open : {X : Type 0} → List ℕ → List (List ℕ × X) → Bool
 is_open id them = list_any (λ o. bytes_eq id o.0) them
 
 -- the SENDs of this transaction; none where it isn't open
-abbrev pub sends_in : List ℕ → List (List ℕ × List Send) → List Send
+abbrev pub sends_in : List ℕ → List (List ℕ × List SentMessage) → List SentMessage
 sends_in x [] = []
 sends_in x (o ∷ others) = if bytes_eq x o.0 then o.1 else sends_in x others
 
@@ -48,7 +48,7 @@ abbrev pub is_full : {X : Type 0} → List X → Bool
 is_full them = not (nat_lt (length them) open_limit)
 
 -- whether a transaction takes no more SENDs
-abbrev pub is_full_of_sends : List Send → Bool
+abbrev pub is_full_of_sends : List SentMessage → Bool
 is_full_of_sends sends = not (nat_lt (length sends) max_sends)
 
 -- an ack of another mode than auto, which is the one where none is named (STOMP 1.2, "SUBSCRIBE ack Header")

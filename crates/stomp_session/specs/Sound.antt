@@ -1,7 +1,7 @@
 -- What a session keeps of its parts. Only proofs go by it; no public contract speaks of it.
 use Rattle.std.specs.Prelude.{◌≡◌, ℕ, List, []}
 use Rattle.mcast_txn.specs.declared.id.Topic.{Topic}
-use Rattle.mcast_txn.specs.declared.send.Send.{Send}
+use Rattle.mcast_txn.specs.declared.draft.sent_message.SentMessage.{SentMessage}
 use Rattle.stomp_session.specs.declared.phase.Phase.{Phase}
 use Rattle.stomp_session.specs.declared.phase.Phase.TheVariants.{Closed}
 
@@ -9,7 +9,7 @@ use Rattle.stomp_session.specs.declared.phase.Phase.TheVariants.{Closed}
 pub record IsSound
     (phase : Phase)
     (subscriptions : List (List ℕ × Topic))
-    (transactions : List (List ℕ × List Send))
+    (transactions : List (List ℕ × List SentMessage))
     : Type 0 where
   pub no_subscriptions : phase ≡ Closed → subscriptions ≡ []
   pub no_transactions : phase ≡ Closed → transactions ≡ []

@@ -24,10 +24,10 @@ pub(crate) struct Transactions {
 
 impl Model for Transactions {
     ghost use Rattle.std.specs.Prelude.{ℕ, List};
-    ghost use Rattle.mcast_txn.specs.declared.send.Send.{Send};
+    ghost use Rattle.mcast_txn.specs.declared.draft.sent_message.SentMessage.{SentMessage};
     ghost use Rattle.stomp_session.specs.Stored.{entries_of};
 
-    ghost Value = { List (List ℕ × List Send) };
+    ghost Value = { List (List ℕ × List SentMessage) };
 
     ghost view = { λ t. entries_of t.drafts.entries };
 }

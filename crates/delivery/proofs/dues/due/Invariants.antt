@@ -1,6 +1,6 @@
 use Rattle.std.proofs.Common.{◌≡◌, ◌++◌, map, vec_len}
 use Rattle.std.specs.List.{filter}
-use Rattle.mcast_group.specs.Span.{Span}
+use Rattle.mcast_txn.specs.Span.{Span}
 use Rattle.delivery.specs.Due.{due, is_due, item_at}
 use Rattle.delivery.proofs.dues.due.Given as goal
 

@@ -1,5 +1,5 @@
 use Rattle.std.proofs.Common.{◌≤◌, ◌-◌, true, length, refl, sym, ◌∙◌, arith}
-use Rattle.mcast_group.specs.Topics.{released_times}
+use Rattle.mcast_group.specs.Machine.{after_releases}
 use Rattle.mcast_group.proofs.Turns.{some_due, none_due, release_less, release_step, release_done}
 use Rattle.mcast_group.proofs.group.Group.release_all.Goals as goal
 
@@ -24,11 +24,11 @@ loop-preserved c =
     record {
       steps = c.loop.invariant.steps - 1;
       enough = omega arith;
-      rest = λ takes. release_step takes c.loop.invariant.steps c.loop.self c.release.new.self (released_times takes (length x.pending) x) (omega arith) (c.release.ensures.released takes) (c.loop.invariant.rest takes);
+      rest = λ takes. release_step takes c.loop.invariant.steps c.loop.self c.release.new.self (after_releases takes (length x.pending) x) (omega arith) (c.release.ensures.released takes) (c.loop.invariant.rest takes);
     }
 
 pub returns : goal.returns
 returns c = λ takes.
     let x = c.args.self.now in
     let none = none_due c.loop.self c.release.result c.release.ensures.due (sym c.is_some.ensures ∙ c.loop-test.false) in
-    release_done takes c.loop.invariant.steps c.loop.self c.release.new.self (released_times takes (length x.pending) x) none (c.release.ensures.released takes) (c.loop.invariant.rest takes)
+    release_done takes c.loop.invariant.steps c.loop.self c.release.new.self (after_releases takes (length x.pending) x) none (c.release.ensures.released takes) (c.loop.invariant.rest takes)

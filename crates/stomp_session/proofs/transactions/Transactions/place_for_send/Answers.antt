@@ -4,15 +4,15 @@ use Rattle.std.proofs.lemmas.List.{length-map}
 use Rattle.std.proofs.lemmas.Option.{slice_get_within}
 use Rattle.std.specs.Map.{keys_of, lookup}
 use Rattle.std.specs.Option.{option_map}
-use Rattle.mcast_txn.specs.declared.send.Send.{Send}
+use Rattle.mcast_txn.specs.declared.draft.sent_message.SentMessage.{SentMessage}
 use Rattle.stomp_session.specs.Refusals.{is_open, is_full_of_sends, sends_in}
 use Rattle.stomp_session.proofs.Entries.{is_key, is_open-lookup, place_of_id-entries_of, position-Some, sends_in-lookup}
 use Rattle.stomp_session.proofs.transactions.Transactions.place_for_send.Goals as goal
 
-below_is_not_full : (sends : List Send) → length sends < 64 → is_full_of_sends sends ≡ false
+below_is_not_full : (sends : List SentMessage) → length sends < 64 → is_full_of_sends sends ≡ false
 below_is_not_full sends few = grind (arith, nat_tests)
 
-many_is_full : (sends : List Send) → 64 ≤ length sends → is_full_of_sends sends ≡ true
+many_is_full : (sends : List SentMessage) → 64 ≤ length sends → is_full_of_sends sends ≡ true
 many_is_full sends many = grind (arith, nat_tests)
 
 pub returns-in_default-clause-err : goal.returns-in_default-clause-err

@@ -1,0 +1,99 @@
+//! A transaction whose SENDs are all there.
+
+ghost use Rattle.std.specs.Prelude.{◌≡◌, ◌<◌, ◌≤◌, ◌∷◌, [], length, vec_capacity, IfOk, IfErr};
+ghost use Rattle.std.specs.Arc.{arc_value};
+ghost use Rattle.mcast_txn.specs.Flight.{flight_id};
+ghost use Rattle.mcast_txn.specs.Part.{parts_of};
+ghost use Rattle.mcast_txn.specs.TopicSet.{IsTopicSet};
+ghost use Rattle.mcast_txn.specs.Transaction.{topics_of};
+
+use crate::draft::TopicSet;
+use crate::draft::entry::Entry;
+use crate::flight::Flight;
+use crate::id::Topic;
+use crate::parts::Parts;
+use std::alloc::Global;
+use std::marker::Model;
+use std::sync::Arc;
+use stomp_frame::{Headers, NoMemory, Octets};
+
+/// A transaction that is committed (STOMP 1.2, "COMMIT"): its SENDs, at least one. In contracts it is their list, in
+/// order.
+#[derive(Drop)]
+pub struct Txn {
+    pub(crate) entries: Vec<Entry>,
+    pub(crate) topics: Arc<TopicSet>,
+}
+
+impl Model for Txn {
+    ghost use Rattle.std.specs.Prelude.{List};
+    ghost use Rattle.mcast_txn.specs.declared.draft.sent_message.SentMessage.{SentMessage};
+    ghost use Rattle.mcast_txn.specs.Entries.{messages_of};
+    ghost use Rattle.mcast_txn.specs.Sealed.{IsSealed};
+
+    ghost Value = { List SentMessage };
+
+    ghost view = { λ t. messages_of t.entries.items };
+
+    ghost invariant = { λ t. IsSealed t.entries.items t.topics.value };
+}
+
+impl Txn {
+    /// The transaction of one SEND (STOMP 1.2, "SEND" outside a transaction). Out of memory, its
+    /// headers and body are returned.
+    pub fn single(
+        alloc: Global,
+        topic: Topic,
+        headers: Headers,
+        body: Octets,
+    ) -> Result<Txn, (Headers, Octets, NoMemory)>
+        ensures ok { IfOk result
+            (λ txn. txn ≡ record { topic = topic; headers = headers; body = body } ∷ []) }
+        ensures back { IfErr result (λ refused. (refused.0 ≡ headers) × (refused.1 ≡ body)) }
+    {
+        let Ok((mut entries, topics)) = room_for_one(alloc, topic) else {
+            return Err((headers, body, NoMemory));
+        };
+        let entry = Entry::new(alloc, topic, 0, headers, body)?;
+        entries.push_reserved(entry);
+        Ok(Txn { entries, topics })
+    }
+
+    /// Its topics: the destinations of its SENDs.
+    pub fn topics(&self) -> &TopicSet
+        ensures value { result.now ≡ topics_of self.now }
+        ensures rising { IsTopicSet result.now }
+    {
+        &self.topics
+    }
+
+    /// Its parts, of this flight. Out of memory, the transaction is returned.
+    pub fn split(self, alloc: Global, flight: &Arc<Flight>) -> Result<Parts, (Txn, NoMemory)>
+        ensures parts { IfOk result (λ parts. parts ≡ parts_of (flight_id (arc_value flight.now)) self) }
+        ensures back { IfErr result (λ refused. refused.0 ≡ self) }
+    {
+        match Parts::of(alloc, flight, &self.topics, &self.entries) {
+            Ok(parts) => Ok(parts),
+            Err(refused) => Err((self, refused)),
+        }
+    }
+
+    /// How many SENDs it has, at least one.
+    pub fn len(&self) -> usize
+        ensures value { result ≡ length self.now }
+        ensures some { 0 < result }
+    {
+        self.entries.len()
+    }
+}
+
+// Room for one SEND, and its topic.
+fn room_for_one(alloc: Global, topic: Topic) -> Result<(Vec<Entry>, Arc<TopicSet>), NoMemory>
+    ensures empty { IfOk result (λ room. room.0.items ≡ []) }
+    ensures room { IfOk result (λ room. 1 ≤ vec_capacity room.0) }
+    ensures topic { IfOk result (λ room. room.1.value ≡ topic ∷ []) }
+{
+    let entries = Vec::with_capacity(alloc, 1)?;
+    let topics = Arc::new(alloc, TopicSet::one(alloc, topic)?)?;
+    Ok((entries, topics))
+}

@@ -1,0 +1,59 @@
+//! A transaction's part at a topic.
+
+ghost use Rattle.std.specs.Prelude.{◌≡◌, IfOk};
+ghost use Rattle.std.specs.Arc.{arc_value};
+ghost use Rattle.mcast_txn.specs.Flight.{flight_id};
+
+use crate::draft::TopicSet;
+use crate::flight::Flight;
+use crate::id::{Topic, TxnId};
+use crate::parts::PartSends;
+use crate::stamp::Stamp;
+use std::alloc::Global;
+use std::sync::Arc;
+use stomp_frame::NoMemory;
+
+/// A transaction's part at a topic: its SENDs to that topic, with what the topic must know of the whole.
+#[derive(Drop)]
+pub struct Part {
+    pub id: TxnId,
+    pub topic: Topic,
+    /// All topics of the transaction.
+    pub topics: Arc<TopicSet>,
+    pub sends: PartSends,
+    /// The transaction's own flight.
+    pub flight: Arc<Flight>,
+    pub ghost own: { flight_id (arc_value flight) ≡ id },
+}
+
+/// A part that its topic has let go, and the stamp of its transaction.
+#[derive(Drop)]
+pub struct Released {
+    pub part: Arc<Part>,
+    pub stamp: Stamp,
+}
+
+impl Part {
+    ghost use Rattle.mcast_txn.specs.Part.{data_of};
+
+    // The flight's part at a topic.
+    pub(crate) fn at(
+        alloc: Global,
+        flight: &Arc<Flight>,
+        topics: &Arc<TopicSet>,
+        topic: Topic,
+        sends: PartSends,
+    ) -> Result<Arc<Part>, NoMemory>
+        ensures { IfOk result (λ part. data_of (arc_value part)
+            ≡ record { id = flight_id (arc_value flight.now); topic = topic; topics = arc_value topics.now; sends = sends }) }
+    {
+        let part = Part {
+            id: flight.id(),
+            topic,
+            topics: topics.clone()?,
+            sends,
+            flight: flight.clone()?,
+        };
+        Ok(Arc::new(alloc, part)?)
+    }
+}

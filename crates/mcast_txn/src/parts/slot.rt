@@ -1,0 +1,39 @@
+//! Lists by topics.
+
+ghost use Rattle.std.specs.Prelude.{◌≡◌, ◌≢◌, IfOk, IfNone, IfSome, map};
+ghost use Rattle.mcast_txn.specs.declared.id.Topic.{Topic};
+ghost use Rattle.mcast_txn.specs.SlotIndex.{IsIndexOf, HasNone, free_slot};
+ghost use Rattle.mcast_txn.specs.Lists.{RisesBy};
+
+use crate::id::Topic;
+use std::alloc::Global;
+use stomp_frame::NoMemory;
+
+/// A topic, and the value stored for it, if any.
+#[derive(Drop)]
+pub(crate) struct Slot<T> {
+    pub(crate) topic: Topic,
+    pub(crate) held: Option<T>,
+}
+
+// A free slot for each topic.
+pub(crate) fn free_slots<T: Drop>(alloc: Global, topics: &[Topic]) -> Result<Vec<Slot<T>>, NoMemory>
+    ensures { IfOk result (λ slots. slots.items ≡ map free_slot topics.now) }
+{
+    let mut slots = Vec::with_capacity(alloc, topics.len())?;
+    for &topic in topics {
+        slots.push(Slot { topic, held: None })?;
+    }
+    Ok(slots)
+}
+
+// Where a topic's slot is.
+pub(crate) fn index_of<T>(slots: &[Slot<T>], topic: Topic) -> Option<usize>
+    requires { RisesBy (λ slot. slot.topic.0) slots.now }
+    ensures found { IfSome result (IsIndexOf topic slots.now) }
+    ensures absent { IfNone result (HasNone topic slots.now) }
+{
+    slots
+        .binary_search_by_key(&topic.0, |slot| slot.topic.0)
+        .ok()
+}
