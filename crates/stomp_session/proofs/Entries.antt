@@ -1,7 +1,8 @@
 -- A map of octets and its entries, as contracts see them.
-use Rattle.std.proofs.Common.{◌≡◌, ◌+◌, ℕ, zero, suc, slice_get, Bool, true, false, cond, List, [], ◌∷◌, ◌++◌, is_some, Option, Some, None, refl, sym, ap, ◌∙◌, Vec, arith, position, if◌then◌else◌, ◌||◌, true≢false, nat_lt, length, IfSome}
+use Rattle.std.proofs.Common.{◌≡◌, ◌+◌, ℕ, zero, suc, slice_get, Bool, true, false, cond, List, [], ◌∷◌, ◌++◌, is_some, Some, None, refl, sym, ap, ◌∙◌, Vec, arith, position, if◌then◌else◌, ◌||◌, true≢false, nat_lt, length}
 use Rattle.std.specs.declared.alloc.Global.{Global}
 use Rattle.std.specs.List.{list_any, position_or_len}
+use Rattle.std.specs.Option.{unwrap_or}
 use Rattle.std.specs.Map.{keys_of, lookup, remove_entry, values_of}
 use Rattle.std.specs.Str.{bytes_eq}
 use Rattle.indexmap.specs.IndexMap.{insert_entry, set_value_at}
@@ -67,15 +68,12 @@ entries_of-insert (e ∷ es) k v new = by (bytes_eq k.items e.0.items) refl new 
     by true t none rest = absurd (true≢false none)
     by false t none rest = rw t (ap (λ them. (e.0.items, e.1) ∷ them) (rest none))
 
+pub lookup-entries_of : {X : Type 0} (id : List ℕ) (es : List (Key × X)) → lookup (bytes_eq id) (entries_of es) ≡ lookup (is_key id) es
+lookup-entries_of id [] = refl
+lookup-entries_of id (e ∷ es) = ap (cond (bytes_eq id e.0.items) (Some e.1)) (lookup-entries_of id es)
+
 pub sends_in-lookup : (id : List ℕ) (es : List (Key × List SentMessage)) (d : List SentMessage) → lookup (is_key id) es ≡ Some d → sends_in id (entries_of es) ≡ d
-sends_in-lookup id [] d at = cc
-sends_in-lookup id (e ∷ es) d at = by (bytes_eq id e.0.items) refl at (sends_in-lookup id es d)
-  where
-    by : (b : Bool) → bytes_eq id e.0.items ≡ b → cond b (Some e.1) (lookup (is_key id) es) ≡ Some d
-        → (lookup (is_key id) es ≡ Some d → sends_in id (entries_of es) ≡ d)
-        → sends_in id (entries_of (e ∷ es)) ≡ d
-    by true t here rest = rw t cc
-    by false t here rest = rw t (rest here)
+sends_in-lookup id es d at = ap (λ o. unwrap_or o []) (lookup-entries_of id es ∙ at)
 
 -- one more SEND for the entry at the place of this id
 pub entries_of-set_value_at : (id : List ℕ) (send : SentMessage) (es : List (Key × List SentMessage)) (i : ℕ) (d : List SentMessage)
@@ -105,10 +103,3 @@ position-Some p xs i at = by (nat_lt (position_or_len p xs) (length xs)) at
     by : (b : Bool) → cond b (Some (position_or_len p xs)) None ≡ Some i → i ≡ position_or_len p xs
     by true at = cc
     by false at = cc
-
-pub sends_in-found : (id : List ℕ) (es : List (Key × List SentMessage)) → IfSome (lookup (is_key id) es) (λ d. d ≡ sends_in id (entries_of es))
-sends_in-found id es = by (lookup (is_key id) es) refl
-  where
-    by : (found : Option (List SentMessage)) → lookup (is_key id) es ≡ found → IfSome found (λ d. d ≡ sends_in id (entries_of es))
-    by None at = tt
-    by (Some d) at = sym (sends_in-lookup id es d at)

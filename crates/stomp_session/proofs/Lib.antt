@@ -1,5 +1,5 @@
 pub mod Entries
-pub mod Opened
+pub mod LeftOpen
 pub mod History
 pub mod Taken
 pub mod Examples

@@ -1,8 +1,9 @@
 -- What a session refuses, and in which order (STOMP 1.2, "Client Frames"; the limits and the order are this server's
 -- own).
-use Rattle.std.specs.Prelude.{ℕ, Bool, true, false, not, nat_lt, List, [], ◌∷◌, codes, length, Option, if◌then◌else◌}
+use Rattle.std.specs.Prelude.{ℕ, Bool, true, false, not, nat_lt, List, [], ◌∷◌, codes, length, Option}
 use Rattle.std.specs.List.{list_any}
-use Rattle.std.specs.Option.{option_map_or}
+use Rattle.std.specs.Map.{lookup}
+use Rattle.std.specs.Option.{option_map_or, unwrap_or}
 use Rattle.std.specs.Str.{bytes_eq}
 use Rattle.stomp_frame.specs.declared.command.Command.{Command}
 use Rattle.stomp_frame.specs.declared.command.Command.TheVariants as commands
@@ -40,8 +41,7 @@ is_open id them = list_any (λ o. bytes_eq id o.0) them
 
 -- the SENDs of this transaction; none where it isn't open
 abbrev pub sends_in : List ℕ → List (List ℕ × List SentMessage) → List SentMessage
-sends_in x [] = []
-sends_in x (o ∷ others) = if bytes_eq x o.0 then o.1 else sends_in x others
+sends_in x them = unwrap_or (lookup (bytes_eq x) them) []
 
 -- whether no more subscriptions, or no more transactions, may be open
 abbrev pub is_full : {X : Type 0} → List X → Bool

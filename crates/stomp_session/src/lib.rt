@@ -5,10 +5,10 @@ mod action;
 mod fault;
 mod judged;
 mod names;
+mod opened;
 mod phase;
 mod route;
 mod session;
-mod subscriptions;
 mod transactions;
 mod versions;
 

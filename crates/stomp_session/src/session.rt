@@ -18,12 +18,11 @@ use crate::action::{Action, Step};
 use crate::fault::SessionFault;
 use crate::judged::Judged;
 use crate::names::Names;
+use crate::opened::Opened;
 use crate::phase::Phase;
 use crate::route::Route;
-use crate::subscriptions::Subscriptions;
-use crate::transactions::Transactions;
 use crate::versions::has_version;
-use mcast_txn::{Topic, Txn};
+use mcast_txn::{Draft, Topic, Txn};
 use std::alloc::Global;
 use std::marker::Model;
 use std::sync::Arc;
@@ -38,8 +37,8 @@ pub struct Session {
     alloc: Global,
     names: Arc<Names>,
     phase: Phase,
-    subscriptions: Subscriptions,
-    transactions: Transactions,
+    subscriptions: Opened<Topic>,
+    transactions: Opened<Draft>,
 }
 
 impl Model for Session {
@@ -53,6 +52,7 @@ impl Model for Session {
     ghost invariant = { λ s. IsSound s.phase s.subscriptions s.transactions };
 }
 
+/// Whether the frame has an ack of another mode than auto.
 fn has_other_ack(frame: &RawFrame) -> bool
     ensures { result ≡ has_other_ack frame.now }
 {
@@ -91,7 +91,7 @@ fn single(
 }
 
 impl Session {
-    /// A session that no frame came to yet. It takes no memory.
+    /// A session before its first frame. It takes no memory.
     pub fn new(alloc: Global, names: Arc<Names>) -> Session
         ensures names { result.names ≡ names.value }
         ensures start { StandsFor result [] }
@@ -100,8 +100,8 @@ impl Session {
             alloc,
             names,
             phase: Phase::New,
-            subscriptions: Subscriptions::new(alloc),
-            transactions: Transactions::new(alloc),
+            subscriptions: Opened::new(alloc),
+            transactions: Opened::new(alloc),
         }
     }
 
@@ -115,6 +115,7 @@ impl Session {
         self.transactions.clear();
     }
 
+    /// Whether it is connected: 60 before a CONNECT, 73 where it is closed.
     fn connected(&self) -> Result<(), SessionFault>
         ensures ok { OnOk result (self.now.phase ≡ phases.Connected) }
         ensures err { IfErr result (λ fault. Some fault ≡ first_fault
@@ -127,6 +128,7 @@ impl Session {
         }
     }
 
+    /// Judges a CONNECT or a STOMP, and connects.
     fn connect(&mut self, frame: &ConnectFrame) -> Result<Judged, SessionFault>
         ensures { Handles commands.Connect self.old frame.now.raw result self.new }
     {
@@ -142,6 +144,7 @@ impl Session {
         Ok(Judged::Connected)
     }
 
+    /// Judges a SUBSCRIBE, and opens its subscription.
     fn subscribe(&mut self, frame: &SubscribeFrame) -> Result<Judged, SessionFault>
         ensures { Handles commands.Subscribe self.old frame.now.raw result self.new }
     {
@@ -163,16 +166,18 @@ impl Session {
         Ok(Judged::Subscribe(topic))
     }
 
+    /// Judges an UNSUBSCRIBE, and ends its subscription.
     fn unsubscribe(&mut self, frame: &UnsubscribeFrame) -> Result<Judged, SessionFault>
         ensures { Handles commands.Unsubscribe self.old frame.now.raw result self.new }
     {
         self.connected()?;
-        if !self.subscriptions.close(frame.id()) {
+        if self.subscriptions.take(frame.id()).is_none() {
             return Err(SessionFault::NoSuchSub);
         }
         Ok(Judged::Unsubscribe)
     }
 
+    /// Judges a DISCONNECT, and closes.
     fn disconnect(&mut self, _frame: &DisconnectFrame) -> Result<Judged, SessionFault>
         ensures { Handles commands.Disconnect self.old _frame.now.raw result self.new }
     {
@@ -181,6 +186,7 @@ impl Session {
         Ok(Judged::Disconnect)
     }
 
+    /// Judges a BEGIN, and opens its transaction.
     fn begin(&mut self, frame: &BeginFrame) -> Result<Judged, SessionFault>
         ensures { Handles commands.Begin self.old frame.now.raw result self.new }
     {
@@ -192,10 +198,11 @@ impl Session {
         if self.transactions.is_full() {
             return Err(SessionFault::TooManyTxns);
         }
-        self.transactions.begin(name)?;
+        self.transactions.open(name, Draft::new(self.alloc))?;
         Ok(Judged::Nothing)
     }
 
+    /// Judges a COMMIT, and takes its transaction out.
     fn commit(&mut self, frame: &CommitFrame) -> Result<Judged, SessionFault>
         ensures { Handles commands.Commit self.old frame.now.raw result self.new }
     {
@@ -210,6 +217,7 @@ impl Session {
         }
     }
 
+    /// Judges an ABORT, and drops its transaction.
     fn abort(&mut self, frame: &AbortFrame) -> Result<Judged, SessionFault>
         ensures { Handles commands.Abort self.old frame.now.raw result self.new }
     {
@@ -241,6 +249,7 @@ impl Session {
         Ok((Route { topic, transaction }, receipt))
     }
 
+    /// Judges a SEND, and moves its content to where it goes; a refused one is returned as it came.
     fn send(&mut self, frame: SendFrame) -> Result<Step, (SendFrame, SessionFault)>
         ensures accepted { IfOk result
             (λ step. AcceptsAs commands.Send self.old frame.raw step self.new) }
@@ -291,12 +300,12 @@ impl Session {
         Err((refused, fault))
     }
 
-    /// Takes a frame: what the connection has to do for it, or the first of its refusals, with the frame handed back.
+    /// Takes a frame: what the connection has to do for it, or the first of its refusals with the frame as it came.
     ///
-    /// 73 where the session is closed. A CONNECT is refused by 61 and 62, any other frame before it by 60. SUBSCRIBE: 68, 67, 63, 69.
-    /// UNSUBSCRIBE: 64. BEGIN: 65, 70. SEND: 67, 66, 71. COMMIT and ABORT: 66. Out of memory, 72, comes last, and only at SUBSCRIBE,
-    /// BEGIN, SEND and a COMMIT whose transaction has SENDs. Each refusal but 73 closes the session, as DISCONNECT does: its open
-    /// subscriptions end, and its open transactions are aborted.
+    /// 73 where the session is closed. A CONNECT is refused by 61 and 62, any other frame before it by 60.
+    /// SUBSCRIBE: 68, 67, 63, 69. UNSUBSCRIBE: 64. BEGIN: 65, 70. SEND: 67, 66, 71. COMMIT and ABORT: 66. Out of memory,
+    /// 72, comes last, and only at SUBSCRIBE, BEGIN, SEND and a COMMIT whose transaction has SENDs. Each refusal but 73
+    /// closes the session, as DISCONNECT does: its open subscriptions end, and its open transactions are aborted.
     pub fn step(&mut self, frame: ClientFrame) -> Result<Step, (ClientFrame, SessionFault)>
         ensures accepted { IfOk result (λ step. (frames : List Frame) → StandsFor self.old frames
             → Accepts (held_after self.old.names frames) (raw_of frame) step

@@ -7,7 +7,7 @@ use Rattle.std.specs.Option.{option_map}
 use Rattle.mcast_txn.specs.declared.draft.sent_message.SentMessage.{SentMessage}
 use Rattle.stomp_session.specs.Refusals.{is_open, is_full_of_sends, sends_in}
 use Rattle.stomp_session.proofs.Entries.{is_key, is_open-lookup, place_of_id-entries_of, position-Some, sends_in-lookup}
-use Rattle.stomp_session.proofs.transactions.Transactions.place_for_send.Goals as goal
+use Rattle.stomp_session.proofs.transactions.Opened+Draft.place_for_send.Goals as goal
 
 below_is_not_full : (sends : List SentMessage) → length sends < 64 → is_full_of_sends sends ≡ false
 below_is_not_full sends few = grind (arith, nat_tests)
@@ -17,12 +17,12 @@ many_is_full sends many = grind (arith, nat_tests)
 
 pub returns-in_default-clause-err : goal.returns-in_default-clause-err
 returns-in_default-clause-err c =
-    let shut : is_open c.args.name.now c.args.self.now ≡ false = rw (← c.self.view_is) (is_open-lookup c.args.name.now c.self.inside.drafts.entries ∙ ap is_some (sym c.get_full.ensures.value ∙ ap (option_map (λ p. p.2.now)) c.in_default.is)) in
+    let shut : is_open c.args.name.now c.args.self.now ≡ false = rw (← c.self.view_is) (is_open-lookup c.args.name.now c.self.inside.values.entries ∙ ap is_some (sym c.get_full.ensures.value ∙ ap (option_map (λ p. p.2.now)) c.in_default.is)) in
     rw shut
 
 pub returns-then-len-ge-MAX_SENDS-clause-err : goal.returns-then-len-ge-MAX_SENDS-clause-err
 returns-then-len-ge-MAX_SENDS-clause-err c =
-    let es = c.self.inside.drafts.entries in
+    let es = c.self.inside.values.entries in
     let at : lookup (is_key c.args.name.now) es ≡ Some c.in-Some.draft.now = sym c.get_full.ensures.value ∙ ap (option_map (λ p. p.2.now)) c.in-Some.is in
     let there : is_open c.args.name.now c.args.self.now ≡ true = rw (← c.self.view_is) (is_open-lookup c.args.name.now es ∙ ap is_some at) in
     let sends : sends_in c.args.name.now c.args.self.now ≡ c.in-Some.draft.now = rw (← c.self.view_is) (sends_in-lookup c.args.name.now es c.in-Some.draft.now at) in
@@ -30,7 +30,7 @@ returns-then-len-ge-MAX_SENDS-clause-err c =
 
 pub returns-clause-ok : goal.returns-clause-ok
 returns-clause-ok c =
-    let es = c.self.inside.drafts.entries in
+    let es = c.self.inside.values.entries in
     let at : lookup (is_key c.args.name.now) es ≡ Some c.in-Some.draft.now = sym c.get_full.ensures.value ∙ ap (option_map (λ p. p.2.now)) c.in-Some.is in
     let there : is_open c.args.name.now c.args.self.now ≡ true = rw (← c.self.view_is) (is_open-lookup c.args.name.now es ∙ ap is_some at) in
     let sends : sends_in c.args.name.now c.args.self.now ≡ c.in-Some.draft.now = rw (← c.self.view_is) (sends_in-lookup c.args.name.now es c.in-Some.draft.now at) in
@@ -38,7 +38,7 @@ returns-clause-ok c =
 
 pub returns-clause-place : goal.returns-clause-place
 returns-clause-place c =
-    let es = c.self.inside.drafts.entries in (
+    let es = c.self.inside.values.entries in (
       rw (← c.self.view_is, place_of_id-entries_of c.args.name.now es) (position-Some (is_key c.args.name.now) (keys_of es) c.in-Some.place (sym c.get_full.ensures.index ∙ ap (option_map (λ p. p.0)) c.in-Some.is)),
       rw (← c.self.view_is, length-map es _) (slice_get_within es c.in-Some.place _ c.in-Some.ensures.entry),
     )
