@@ -4,7 +4,7 @@ use Rattle.stomp_escape.specs.declared.fault.EscapeFault.{EscapeFault}
 use Rattle.stomp_escape.specs.declared.fault.EscapeFault.TheVariants.{Undefined, Cut, NoMemory}
 
 -- the number under which each fault is documented (own)
-abbrev pub number_of : EscapeFault → ℕ
-number_of (Undefined at) = 1
-number_of Cut = 2
-number_of NoMemory = 3
+abbrev pub escape_number : EscapeFault → ℕ
+escape_number (Undefined at) = 1
+escape_number Cut = 2
+escape_number NoMemory = 3

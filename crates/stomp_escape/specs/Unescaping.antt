@@ -1,6 +1,6 @@
--- Only serves proofs: reading a spelling from left to right, with the first fault that is met. No public contract
--- names this reading. What a text means is said by Spells and IsFirstFault (specs/Escape.antt), and proofs/Laws.antt
--- ties the two.
+-- Only serves proofs: reading a spelling from left to right, up to the first fault. No public contract
+-- names this reading. What a text means is said by Spells and IsFirstFault (specs/Escape.antt);
+-- proofs/Laws.antt ties the two.
 use Rattle.std.specs.Prelude.{ℕ, ◌+◌, List, [], ◌∷◌, Option, Some, None, Result, Ok, Err, ◌==◌, if◌then◌else◌}
 use Rattle.std.specs.Option.{option_map_or}
 use Rattle.stomp_escape.specs.declared.fault.EscapeFault.{EscapeFault}

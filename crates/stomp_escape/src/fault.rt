@@ -1,7 +1,7 @@
 //! Why a text could not be read.
 
 ghost use Rattle.std.specs.Prelude.{◌≡◌};
-ghost use Rattle.stomp_escape.specs.Fault.{number_of};
+ghost use Rattle.stomp_escape.specs.Fault.{escape_number};
 ghost use Rattle.stomp_escape.specs.declared.fault.EscapeFault.TheVariants as escape_faults;
 
 use crate::no_memory::NoMemory;
@@ -26,7 +26,7 @@ pub enum EscapeFault {
 impl EscapeFault {
     /// The number under which the fault is documented: 1 Undefined, 2 Cut, 3 NoMemory.
     pub fn number(self) -> u32
-        ensures { result ≡ number_of self }
+        ensures { result ≡ escape_number self }
     {
         match self {
             EscapeFault::Undefined(_) => 1,

@@ -1,6 +1,8 @@
 pub mod Cuts
 pub mod Fields
+pub mod Failing
 pub mod AtFault
+pub mod FirstFailed
 pub mod Whole
 pub mod Unread
 pub mod Pieces

@@ -18,7 +18,7 @@ use Rattle.stomp_frame.specs.declared.raw_frame.RawFrame.{RawFrame}
 use Rattle.stomp_frame.specs.Headers.{Header, IsText, IsPair}
 use Rattle.stomp_frame.specs.Commands.{word, has_escapes, may_have_body}
 use Rattle.stomp_frame.specs.ContentLength.{length_of, content_length}
-use Rattle.stomp_frame.specs.Grammar.{IsLine, Stands, IsHeader, AreHeaders, IsSpelling, BeginsWith}
+use Rattle.stomp_frame.specs.Grammar.{IsLine, Encodes, IsHeader, AreHeaders, IsSpelling, BeginsWith}
 use Rattle.stomp_frame.specs.Writing.{written, header_line, header_lines, spelled, IsBare, SaysLength, HasItsLength, IsWritable, IsWithin}
 use Rattle.stomp_frame.proofs.Digits.{says}
 use Rattle.stomp_frame.proofs.Texts.{escaped_utf8, with_ascii, option_cases}
@@ -55,7 +55,7 @@ two_bare [] w = (tt, tt)
 two_bare (b ∷ v) w = let later = two_bare v w.1 in (((w.0.0, w.0.1), later.0), (w.0.2, later.1))
 
 record IsField (escapes : Bool) (v : List ℕ) : Type 0 where
-  stands : Stands escapes (written escapes v) v
+  stands : Encodes escapes (written escapes v) v
   plain : AllByRecursion Plain (written escapes v)
   utf8 : IsUtf8 (written escapes v)
 
@@ -88,7 +88,7 @@ header_is limits escapes h w bare short =
       value = written escapes h.1;
       line = record { ended = inl refl; short = short; plain = all_append Plain (written escapes h.0) (58 ∷ written escapes h.1) n.0.plain (((λ e. omega arith), (λ e. omega arith), (λ e. omega arith)), v.plain); utf8 = with_ascii (written escapes h.0) 58 (written escapes h.1) (omega arith) n.0.utf8 v.utf8 };
       named = (written_some escapes h.0 w.named, n.1);
-      stands = (n.0.stands, v.stands);
+      encodes = (n.0.stands, v.stands);
     }
 
 headers_are : (limits : Limits) (escapes : Bool) (hs : List Header) → AllByRecursion IsPair hs → AllByRecursion (λ h. IsBare escapes h) hs → AllByRecursion (λ h. length (header_line escapes h) ≤ limits.line) hs → AreHeaders limits escapes (header_lines escapes hs) hs

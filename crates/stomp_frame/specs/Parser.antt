@@ -1,5 +1,5 @@
--- Only serves proofs: the checks in their order as a function of a text, with the first that fails. No public contract
--- speaks of it: those speak of Grammar and Checks, to which the laws tie it.
+-- Only serves proofs: the reading of a text as a function, with the first check that fails. No public
+-- contract speaks of it: those speak of Grammar and Checks, to which proofs tie it.
 use Rattle.std.specs.Prelude.{◌≡◌, ℕ, ◌+◌, ◌-◌, zero, suc, Bool, true, false, ◌&&◌, ◌||◌, ◌==◌, nat_lt, nat_le, List, [], ◌∷◌, length, take, drop, slice_index, Option, Some, None, Result, Ok, Err, find, if◌then◌else◌}
 use Rattle.std.specs.List.{list_any}
 use Rattle.std.specs.Option.{option_map, option_map_or}
@@ -34,9 +34,9 @@ Stops stops.Open read = read ≡ Err Open
 Stops stops.Memory read = Unit {0}
 Stops (stops.Fault k) read = read ≡ Err (Fault k)
 
-abbrev pub Gives : {X Y : Type 0} → (X → Y) → Result X Stop → Result Y Halt → Type 0
-Gives view (Ok x) read = read ≡ Ok (view x)
-Gives view (Err e) read = Stops e read
+abbrev pub Returns : {X Y : Type 0} → (X → Y) → Result X Stop → Result Y Halt → Type 0
+Returns view (Ok x) read = read ≡ Ok (view x)
+Returns view (Err e) read = Stops e read
 
 -- what stands before the first of these octets, and what stands after it
 abbrev pub cut : ℕ → List ℕ → Option (List ℕ × List ℕ)
@@ -60,15 +60,20 @@ line_at limits text =
     option_map_or (λ p. checked limits (without_cr p.0) >>= λ content. Ok (content, p.1)) (cut 10 text)
     (if nat_le (limits.line + 2) (length text) then Err (Fault LineTooLong) else Err Open)
 
--- the text behind the EOLs at its front
+-- the text after the end-of-lines at its front
 unfoldable pub after_eols : List ℕ → List ℕ
 after_eols [] = []
 after_eols (b ∷ []) = if b == 10 then [] else b ∷ []
-after_eols (b ∷ c ∷ rest) = if b == 10 then after_eols (c ∷ rest) else if b == 13 && c == 10 then after_eols rest else b ∷ c ∷ rest
+after_eols (b ∷ c ∷ rest) =
+    if b == 10 then after_eols (c ∷ rest)
+    else if b == 13 && c == 10 then after_eols rest
+    else b ∷ c ∷ rest
 
 -- all commands
 abbrev pub commands : List Command
-commands = Send ∷ Subscribe ∷ Unsubscribe ∷ Begin ∷ Commit ∷ Abort ∷ Ack ∷ Nack ∷ Disconnect ∷ Connect ∷ Stomp ∷ Connected ∷ Message ∷ Receipt ∷ Error ∷ []
+commands =
+    Send ∷ Subscribe ∷ Unsubscribe ∷ Begin ∷ Commit ∷ Abort ∷ Ack ∷ Nack ∷ Disconnect ∷ Connect ∷ Stomp
+    ∷ Connected ∷ Message ∷ Receipt ∷ Error ∷ []
 
 -- the command that a line is
 abbrev pub command_named : List ℕ → Option Command
@@ -88,41 +93,50 @@ unfoldable pub field_of : Bool → List ℕ → Result (List ℕ) Halt
 field_of false text = Ok text
 field_of true text = or_bad_escape (unescaped text)
 
--- a header: what stands before the first colon, which isn't empty, and what stands after it
+-- a header: what comes before the first colon, which isn't empty, and what comes after it
 abbrev pub named : Bool → List ℕ × List ℕ → Result Header Halt
-named escapes parts = if length parts.0 == 0 then Err (Fault BadHeader) else (field_of escapes parts.0 >>= λ name. field_of escapes parts.1 >>= λ value. Ok (name, value))
+named escapes parts =
+    if length parts.0 == 0 then Err (Fault BadHeader)
+    else (field_of escapes parts.0 >>= λ name. field_of escapes parts.1 >>= λ value. Ok (name, value))
 
 -- a header's line
 unfoldable pub header_of : Bool → List ℕ → Result Header Halt
 header_of escapes line = option_map_or (named escapes) (cut 58 line) (Err (Fault BadHeader))
 
--- the headers up to the empty line, with room for so many
+-- the headers up to the empty line, with room for this number
 unfoldable pub headers_at : Limits → Bool → ℕ → List ℕ → Result (List Header × List ℕ) Halt
 headers_at limits escapes zero text = do
   line ← line_at limits text
   if length line.0 == 0 then Ok ([], line.1) else Err (Fault TooManyHeaders)
 headers_at limits escapes (suc room) text = do
   line ← line_at limits text
-  if length line.0 == 0 then Ok ([], line.1) else (header_of escapes line.0 >>= λ h. headers_at limits escapes room line.1 >>= λ hs. Ok (h ∷ hs.0, hs.1))
+  if length line.0 == 0 then Ok ([], line.1)
+      else (header_of escapes line.0 >>= λ h.
+      headers_at limits escapes room line.1 >>= λ hs. Ok (h ∷ hs.0, hs.1))
 
--- a body of so many octets, and NULL
+-- a body of n octets, and NULL
 unfoldable pub counted_at : ℕ → List ℕ → Result (List ℕ × List ℕ) Halt
-counted_at n text = if nat_le (length text) n then Err Open else if slice_index text n == 0 then Ok (take n text, drop (n + 1) text) else Err (Fault BadEnd)
+counted_at n text =
+    if nat_le (length text) n then Err Open
+    else if slice_index text n == 0 then Ok (take n text, drop (n + 1) text)
+    else Err (Fault BadEnd)
 
 -- a body up to the first NULL
 unfoldable pub uncounted_at : Limits → List ℕ → Result (List ℕ × List ℕ) Halt
 uncounted_at limits text =
-    option_map_or (λ p. if nat_lt limits.body (length p.0) then Err (Fault BodyTooLong) else Ok p) (cut 0 text)
+    option_map_or
+    (λ p. if nat_lt limits.body (length p.0) then Err (Fault BodyTooLong) else Ok p) (cut 0 text)
     (if nat_lt limits.body (length text) then Err (Fault BodyTooLong) else Err Open)
 
 -- the body, as the headers say
 unfoldable pub body_at : Limits → List Header → List ℕ → Result (List ℕ × List ℕ) Halt
 body_at limits headers text =
     option_map_or (λ digits.
-    option_map_or (λ n. if nat_lt limits.body n then Err (Fault BodyTooLong) else counted_at n text) (length_of digits) (Err (Fault BadLength)))
+    option_map_or (λ n. if nat_lt limits.body n then Err (Fault BodyTooLong) else counted_at n text)
+    (length_of digits) (Err (Fault BadLength)))
     (content_length headers) (uncounted_at limits text)
 
--- the first frame, and the text behind it
+-- the first frame, and the text after it
 unfoldable pub frame_at : Limits → List ℕ → Result (RawFrame × List ℕ) Halt
 frame_at limits text = do
   line ← line_at limits (after_eols text)

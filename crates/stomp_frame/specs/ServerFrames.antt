@@ -9,57 +9,79 @@ use Rattle.stomp_frame.specs.declared.server_frame.ServerFrame.{ServerFrame}
 use Rattle.stomp_frame.specs.declared.server_frame.ServerFrame.TheVariants.{Connected, Message, Receipt, Error}
 use Rattle.stomp_frame.specs.Headers.{Header, IsText, first_of}
 
--- the first entry of each header whose name isn't among these
+-- The first entry of each header whose name isn't among these.
 abbrev pub first_entries : List (List ℕ) → List Header → List Header
 first_entries names [] = []
-first_entries names (h ∷ hs) = if list_any (λ name. bytes_eq h.0 name) names then first_entries names hs else h ∷ first_entries (h.0 ∷ names) hs
+first_entries names (h ∷ hs) =
+    if list_any (λ name. bytes_eq h.0 name) names then first_entries names hs
+    else h ∷ first_entries (h.0 ∷ names) hs
 
--- the headers of a SEND that its MESSAGE doesn't pass on, or has of its own (own)
+-- The headers of a SEND that its MESSAGE doesn't pass on, or has of its own (own).
 abbrev pub kept_back : List (List ℕ)
-kept_back = codes "destination" ∷ codes "transaction" ∷ codes "receipt" ∷ codes "content-length" ∷ codes "subscription" ∷ codes "message-id" ∷ codes "ack" ∷ []
+kept_back =
+    codes "destination" ∷ codes "transaction" ∷ codes "receipt" ∷ codes "content-length"
+    ∷ codes "subscription" ∷ codes "message-id" ∷ codes "ack" ∷ []
 
--- a message's id: the number of its stamp, the topic of its stamp, and its index in its transaction (own)
+-- A message's id: the number of its stamp, the topic of its stamp, and its index in its transaction (own).
+-- So the second SEND of a transaction with the stamp (7, 3) has `7.3.1`.
 abbrev pub message_id : ℕ → ℕ → ℕ → List ℕ
 message_id n topic index = decimal n ++ codes "." ++ decimal topic ++ codes "." ++ decimal index
 
--- a header that is left out where there is no value
+-- A header that is left out where there is no value.
 abbrev pub optional : List ℕ → Option (List ℕ) → List Header
 optional name value = option_map_or (λ v. (name, v) ∷ []) value []
 
--- The headers of a MESSAGE, of a SEND with these headers and a body of so many octets (STOMP 1.2, "MESSAGE"):
--- its own, and those of the SEND but for those that are kept back. That destination is left out where the SEND has none is (own).
+-- The headers of a MESSAGE, of a SEND with these headers and a body of this size (STOMP 1.2, "MESSAGE"):
+-- its own, and those of the SEND but for those that are kept back. That destination is left out where the
+-- SEND has none is (own).
 abbrev pub message_headers : List ℕ → List ℕ → List Header → ℕ → List Header
-message_headers subscription id sent size = (codes "subscription", subscription) ∷ (codes "message-id", id) ∷ (optional (codes "destination") (first_of (codes "destination") sent) ++ (codes "content-length", decimal size) ∷ first_entries kept_back sent)
+message_headers subscription id sent size =
+    (codes "subscription", subscription) ∷ (codes "message-id", id)
+    ∷ (optional (codes "destination") (first_of (codes "destination") sent)
+    ++ (codes "content-length", decimal size) ∷ first_entries kept_back sent)
 
--- A SEND as a subscriber gets it (STOMP 1.2, "MESSAGE"): its body behind those headers.
+-- A SEND as a subscriber gets it (STOMP 1.2, "MESSAGE"): those headers and its body.
 abbrev pub message_frame : List ℕ → List ℕ → List Header → List ℕ → RawFrame
-message_frame subscription id sent body = record { command = commands.Message; headers = message_headers subscription id sent (length body); body = body }
+message_frame subscription id sent body = record {
+  command = commands.Message;
+  headers = message_headers subscription id sent (length body);
+  body = body;
+}
 
--- The headers of an ERROR (STOMP 1.2, "ERROR"): its message, the receipt that the faulty frame asked for, and, where
--- the client's version isn't supported, the version that is (STOMP 1.2, "Protocol Negotiation").
+-- The headers of an ERROR (STOMP 1.2, "ERROR"): its message, the receipt that the faulty frame asked for,
+-- and, where the client's version isn't supported, the version that is (STOMP 1.2, "Protocol Negotiation").
 abbrev pub error_headers : List ℕ → Option (List ℕ) → Bool → List Header
-error_headers message receipt version = (codes "message", message) ∷ (optional (codes "receipt-id") receipt ++ (optional (codes "version") (if version then Some (codes "1.2") else None) ++ (codes "content-length", codes "0") ∷ []))
+error_headers message receipt version =
+    (codes "message", message)
+    ∷ (optional (codes "receipt-id") receipt
+    ++ (optional (codes "version") (if version then Some (codes "1.2") else None)
+    ++ (codes "content-length", codes "0") ∷ []))
 
--- an error, which has no body
+-- An ERROR, which has no body.
 abbrev pub error_frame : List ℕ → Option (List ℕ) → Bool → RawFrame
-error_frame message receipt version = record { command = commands.Error; headers = error_headers message receipt version; body = [] }
+error_frame message receipt version = record {
+  command = commands.Error;
+  headers = error_headers message receipt version;
+  body = [];
+}
 
 -- The answer to a CONNECT (STOMP 1.2, "CONNECTED Frame"): this version, and no heart-beats ("Heart-beating").
 abbrev pub connected_headers : List Header
 connected_headers = (codes "version", codes "1.2") ∷ (codes "heart-beat", codes "0,0") ∷ []
 
--- a CONNECTED, which has no body
+-- A CONNECTED, which has no body.
 abbrev pub connected_frame : RawFrame
 connected_frame = record { command = commands.Connected; headers = connected_headers; body = [] }
 
--- what tells a client that its frame with this receipt has had its effect (STOMP 1.2, "RECEIPT")
+-- What reports to a client that its frame with this receipt has had its effect (STOMP 1.2, "RECEIPT").
 abbrev pub receipt_frame : List ℕ → RawFrame
 receipt_frame id = record { command = commands.Receipt; headers = (codes "receipt-id", id) ∷ []; body = [] }
 
--- the frame of each
+-- The raw frame of a server's frame.
 abbrev pub rendered : ServerFrame → RawFrame
 rendered Connected = connected_frame
-rendered (Message subscription n topic index headers body) = message_frame subscription (message_id n topic index) headers body
+rendered (Message subscription n topic index headers body) =
+    message_frame subscription (message_id n topic index) headers body
 rendered (Receipt id) = receipt_frame id
 rendered (Error message receipt version) = error_frame message receipt version
 

@@ -4,7 +4,7 @@ ghost use Rattle.std.specs.Prelude.{◌≡◌, ◌<◌, ◌+◌, length, slice_i
 ghost use Rattle.std.specs.List.{list_any};
 ghost use Rattle.std.specs.Option.{option_map};
 ghost use Rattle.std.specs.Str.{is_utf8};
-ghost use Rattle.stomp_frame.specs.Parser.{Gives, cut, without_cr, checked, line_at, after_eols};
+ghost use Rattle.stomp_frame.specs.Parser.{Returns, cut, without_cr, checked, line_at, after_eols};
 
 use crate::fault::{Check, Stop};
 use crate::limits::Limits;
@@ -42,7 +42,7 @@ fn has_cr_or_null(content: &[u8]) -> bool
 
 #[tactic(auto, unfolding(crate::specs::Parser::checked))]
 fn check<'a>(limits: &Limits, content: &'a [u8]) -> Result<&'a [u8], Stop>
-    ensures { Gives (λ x. x.now) result (checked limits.now content.now) }
+    ensures { Returns (λ x. x.now) result (checked limits.now content.now) }
 {
     if content.len() > limits.line {
         return Err(Stop::Fault(Check::LineTooLong));
@@ -59,7 +59,7 @@ fn check<'a>(limits: &Limits, content: &'a [u8]) -> Result<&'a [u8], Stop>
 /// The content of the line at the front, and what stands behind it.
 #[tactic(auto, unfolding(crate::specs::Parser::line_at))]
 pub(crate) fn take_line<'a>(limits: &Limits, text: &'a [u8]) -> Result<(&'a [u8], &'a [u8]), Stop>
-    ensures { Gives (λ x. (x.0.now, x.1.now)) result (line_at limits.now text.now) }
+    ensures { Returns (λ x. (x.0.now, x.1.now)) result (line_at limits.now text.now) }
 {
     match split_at_first(b'\n', text) {
         Some((line, rest)) => Ok((check(limits, without_cr(line))?, rest)),

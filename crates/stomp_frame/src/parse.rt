@@ -1,7 +1,7 @@
 //! Reading a frame's parts from the front of a text.
 
 ghost use Rattle.std.specs.Prelude.{◌≡◌, ◌≤◌, length, drop, IfOk};
-ghost use Rattle.stomp_frame.specs.Parser.{Gives, after_eols, command_of, field_of, header_of, headers_at, counted_at, uncounted_at, body_at, frame_at};
+ghost use Rattle.stomp_frame.specs.Parser.{Returns, after_eols, command_of, field_of, header_of, headers_at, counted_at, uncounted_at, body_at, frame_at};
 
 use crate::command::Command;
 use crate::content_length::length_in;
@@ -15,7 +15,7 @@ use stomp_escape::{EscapeFault, Octets, unescape};
 
 #[tactic(auto, unfolding(crate::specs::Parser::command_of))]
 fn parse_command(line: &[u8]) -> Result<Command, Stop>
-    ensures { Gives (λ x. x) result (command_of line.now) }
+    ensures { Returns (λ x. x) result (command_of line.now) }
 {
     match Command::named(line) {
         Some(command) => Ok(command),
@@ -25,7 +25,7 @@ fn parse_command(line: &[u8]) -> Result<Command, Stop>
 
 #[tactic(auto, unfolding(crate::specs::Parser::field_of))]
 fn parse_field(alloc: Global, escapes: bool, text: &[u8]) -> Result<Octets, Stop>
-    ensures { Gives (λ x. x) result (field_of escapes text.now) }
+    ensures { Returns (λ x. x) result (field_of escapes text.now) }
 {
     if !escapes {
         return Ok(Octets::from_slice(alloc, text)?);
@@ -40,7 +40,7 @@ fn parse_field(alloc: Global, escapes: bool, text: &[u8]) -> Result<Octets, Stop
 
 #[tactic(auto, unfolding(crate::specs::Parser::header_of))]
 fn parse_header(alloc: Global, escapes: bool, line: &[u8]) -> Result<(Octets, Octets), Stop>
-    ensures { Gives (λ x. x) result (header_of escapes line.now) }
+    ensures { Returns (λ x. x) result (header_of escapes line.now) }
 {
     match split_at_first(b':', line) {
         None => Err(Stop::Fault(Check::BadHeader)),
@@ -61,7 +61,7 @@ fn parse_headers<'a>(
     escapes: bool,
     text: &'a [u8],
 ) -> Result<(Headers, &'a [u8]), Stop>
-    ensures { Gives (λ x. (x.0, x.1.now)) result
+    ensures { Returns (λ x. (x.0, x.1.now)) result
         (headers_at limits.now escapes limits.now.headers text.now) }
 {
     let mut headers = Headers::new(alloc);
@@ -85,7 +85,7 @@ fn parse_headers<'a>(
 
 #[tactic(auto, unfolding(crate::specs::Parser::counted_at))]
 fn take_counted(n: usize, text: &[u8]) -> Result<(&[u8], &[u8]), Stop>
-    ensures { Gives (λ x. (x.0.now, x.1.now)) result (counted_at n text.now) }
+    ensures { Returns (λ x. (x.0.now, x.1.now)) result (counted_at n text.now) }
 {
     if text.len() <= n {
         return Err(Stop::Open);
@@ -98,7 +98,7 @@ fn take_counted(n: usize, text: &[u8]) -> Result<(&[u8], &[u8]), Stop>
 
 #[tactic(auto, unfolding(crate::specs::Parser::uncounted_at))]
 fn take_uncounted<'a>(limits: &Limits, text: &'a [u8]) -> Result<(&'a [u8], &'a [u8]), Stop>
-    ensures { Gives (λ x. (x.0.now, x.1.now)) result (uncounted_at limits.now text.now) }
+    ensures { Returns (λ x. (x.0.now, x.1.now)) result (uncounted_at limits.now text.now) }
 {
     match split_at_first(0, text) {
         Some((body, rest)) => {
@@ -122,7 +122,7 @@ fn parse_body<'a>(
     headers: &Headers,
     text: &'a [u8],
 ) -> Result<(&'a [u8], &'a [u8]), Stop>
-    ensures { Gives (λ x. (x.0.now, x.1.now)) result (body_at limits.now headers.now text.now) }
+    ensures { Returns (λ x. (x.0.now, x.1.now)) result (body_at limits.now headers.now text.now) }
 {
     match headers.first(b"content-length") {
         None => take_uncounted(limits, text),
@@ -144,7 +144,7 @@ fn parse_frame<'a>(
     limits: &Limits,
     text: &'a [u8],
 ) -> Result<(RawFrame, &'a [u8]), Stop>
-    ensures { Gives (λ x. (x.0, x.1.now)) result (frame_at limits.now text.now) }
+    ensures { Returns (λ x. (x.0, x.1.now)) result (frame_at limits.now text.now) }
 {
     let (line, rest) = take_line(limits, skip_eols(text))?;
     let command = parse_command(line)?;
@@ -179,7 +179,7 @@ pub(crate) fn frame_from(
 ) -> Result<(RawFrame, usize), Stop>
     requires { start ≤ length text.now }
     ensures within { IfOk result (λ x. x.1 ≤ length text.now) }
-    ensures read { Gives (λ x. (x.0, drop x.1 text.now)) result
+    ensures read { Returns (λ x. (x.0, drop x.1 text.now)) result
         (frame_at limits.now (drop start text.now)) }
 {
     let (frame, rest) = parse_frame(alloc, limits, &text[start..])?;
