@@ -1,13 +1,3 @@
-pub mod Due
 pub mod Faults
-pub mod World
-pub mod Reading
-pub mod Events
-pub mod Runs
-pub mod Settled
-pub mod Laws
-pub mod Told
-pub mod Answers
-pub mod Tied
-pub mod Spans
-pub mod Examples
+pub mod Machine
+pub mod Theorem

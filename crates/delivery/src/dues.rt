@@ -5,7 +5,7 @@ ghost use Rattle.std.specs.List.{list_any};
 ghost use Rattle.mcast_txn.specs.Transaction.{topics_of, part_of};
 ghost use Rattle.mcast_txn.specs.TopicSet.{names};
 ghost use Rattle.mcast_txn.specs.Span.{in_span, up_to};
-ghost use Rattle.delivery.specs.Due.{due, is_due, item_at};
+ghost use Rattle.delivery.specs.Theorem.Due.{due, is_due, item_at};
 
 use crate::plain::{CommitRow, agreed};
 use mcast_txn::{NoMemory, PartMessage, SentMessage, Stamp, Topic, TxnId};
@@ -30,7 +30,7 @@ impl Model for QueueItem {
 
 /// The SENDs to the topic, each with its index in the whole transaction, which has fewer than 2^32: else
 /// want of memory is answered.
-#[tactic(auto, using(crate::proofs::Parts::part_taken, crate::proofs::Parts::part_passed))]
+#[tactic(auto, using(crate::proofs::Theorem::PlainDue::part_taken, crate::proofs::Theorem::PlainDue::part_passed))]
 fn part(
     alloc: Global,
     topic: Topic,
@@ -104,7 +104,7 @@ fn is_due(topic: Topic, from: Stamp, to: Option<Stamp>, frontier: Stamp, row: &C
 }
 
 /// What is due to a span up to a frontier, of these committed transactions: each as one item, in the agreed order.
-#[tactic(auto, using(crate::proofs::Parts::filter_taken, crate::proofs::Parts::filter_passed))]
+#[tactic(auto, using(crate::proofs::Theorem::PlainDue::filter_taken, crate::proofs::Theorem::PlainDue::filter_passed))]
 pub fn due(
     alloc: Global,
     rows: Vec<CommitRow>,

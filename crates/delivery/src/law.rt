@@ -1,23 +1,23 @@
 //! Laws: functions that do nothing, whose contracts are theorems about every run or step of the core.
 
-ghost use Rattle.delivery.specs.Answers.{EventsAreAnswered};
-ghost use Rattle.delivery.specs.Examples.{WorkedRows};
-ghost use Rattle.delivery.specs.Laws.{AcceptedIsDue, AgreedInSenderOrder, AgreedOnce};
-ghost use Rattle.delivery.specs.Laws.{CancelFindsItsPart, ClosedIsSilent, CommitsAreKept};
-ghost use Rattle.delivery.specs.Laws.{EntriesAreOwned, EntriesAreThere, FoundIsLearnt};
-ghost use Rattle.delivery.specs.Laws.{HandedIsPrefix, LagsWhereFull, NoneIsPendingTwice};
-ghost use Rattle.delivery.specs.Laws.{NumbersAreFree, OddNeverComes, OthersUntouched};
-ghost use Rattle.delivery.specs.Laws.{RefusalsChangeNothing, ReleasedIsLogged, SeqsCount};
-ghost use Rattle.delivery.specs.Laws.{SettledLeavesNoneOut, SharedInOneOrder, StampIsGreatest};
-ghost use Rattle.delivery.specs.Laws.{TicketIsOwn, TopicsAreSound, TurnIsItsSteps, TurnedIsLogged};
-ghost use Rattle.delivery.specs.Laws.{WithdrawnIsUndecided};
-ghost use Rattle.delivery.specs.Tied.{SendersAreFloored, TopicsAreTied};
-ghost use Rattle.delivery.specs.Laws.{LogCountsReleases, LogIsAgreed, LogIsOfOutcomes};
-ghost use Rattle.delivery.specs.Spans.{ClosedAsTold, ClosedStays, ClosesAreTold, LagsEndBeforeRow};
-ghost use Rattle.delivery.specs.Spans.{QueuesGrow, SpansEndAtFrontier};
-ghost use Rattle.delivery.specs.Told.{EndsAreTold, EndsStay, FlyingIsOwn, QueuesAreBounded};
-ghost use Rattle.delivery.specs.Told.{SenderIsOwn, SpansBeginAsTold, SpansBeginAtFrontier};
-ghost use Rattle.delivery.specs.Told.{SpansEndAsTold};
+ghost use Rattle.delivery.specs.Theorem.Answers.{MovesAreAnswered};
+ghost use Rattle.delivery.specs.Theorem.Examples.{WorkedRows};
+ghost use Rattle.delivery.specs.Theorem.Laws.{AcceptedIsDue, AgreedInSenderOrder, AgreedOnce};
+ghost use Rattle.delivery.specs.Theorem.Laws.{CancelFindsItsPart, ClosedIsSilent, CommitsAreKept};
+ghost use Rattle.delivery.specs.Theorem.Laws.{EntriesAreOwned, EntriesAreThere, FoundIsLearnt};
+ghost use Rattle.delivery.specs.Theorem.Laws.{HandedIsPrefix, LagsWhereFull, NoneIsPendingTwice};
+ghost use Rattle.delivery.specs.Theorem.Laws.{NumbersAreFree, OddNeverComes, OthersUntouched};
+ghost use Rattle.delivery.specs.Theorem.Laws.{RefusalsChangeNothing, ReleasedIsLogged, SeqsCount};
+ghost use Rattle.delivery.specs.Theorem.Laws.{SettledLeavesNoneOut, SharedInOneOrder, StampIsGreatest};
+ghost use Rattle.delivery.specs.Theorem.Laws.{TicketIsOwn, TopicsAreSound, TurnIsItsSteps, TurnedIsLogged};
+ghost use Rattle.delivery.specs.Theorem.Laws.{WithdrawnIsUndecided};
+ghost use Rattle.delivery.specs.Theorem.Tied.{SendersAreFloored, TopicsAreTied};
+ghost use Rattle.delivery.specs.Theorem.Laws.{LogCountsReleases, LogIsAgreed, LogIsOfAnswers};
+ghost use Rattle.delivery.specs.Theorem.Spans.{ClosedAsAnswered, ClosedStays, ClosesAreAnswered, LagsEndBeforeRow};
+ghost use Rattle.delivery.specs.Theorem.Spans.{QueuesGrow, SpansEndAtFrontier};
+ghost use Rattle.delivery.specs.Theorem.Reported.{EndsAreAnswered, EndsStay, BegunIsOwn, QueuesAreBounded};
+ghost use Rattle.delivery.specs.Theorem.Reported.{SenderIsOwn, SpansBeginAsAnswered, SpansBeginAtFrontier};
+ghost use Rattle.delivery.specs.Theorem.Reported.{SpansEndAsAnswered};
 
 /// The core's commit list is that of the decisions in the run.
 pub fn commits()
@@ -107,7 +107,7 @@ pub fn turns()
 pub fn lags_only_where_full()
     ensures releases { LagsWhereFull }
     ensures bound { QueuesAreBounded }
-    ensures ends { EndsAreTold }
+    ensures ends { EndsAreAnswered }
 {}
 
 /// What was handed on of a subscription is a prefix of what its queue has accepted.
@@ -128,7 +128,7 @@ pub fn numbers()
 
 /// A transaction that is made has all SENDs of its frame, in their order, and its sender is its connection's own.
 pub fn flights()
-    ensures own { FlyingIsOwn }
+    ensures own { BegunIsOwn }
     ensures sender { SenderIsOwn }
 {}
 
@@ -136,8 +136,8 @@ pub fn flights()
 /// then, and the end that UNSUBSCRIBE was answered; an end that is there stays. A span that is open until it is closed
 /// ends with its topic's frontier; one that lags ends with the frontier before the row for which its queue had no room.
 pub fn spans()
-    ensures begins { SpansBeginAsTold }
-    ensures ends { SpansEndAsTold }
+    ensures begins { SpansBeginAsAnswered }
+    ensures ends { SpansEndAsAnswered }
     ensures frontier { SpansBeginAtFrontier }
     ensures stays { EndsStay }
     ensures until_frontier { SpansEndAtFrontier }
@@ -148,8 +148,8 @@ pub fn spans()
 /// end, what its queue had accepted before, and the cause: it has lagged where its span had an end before, and
 /// else it was asked. All of it stays as it is at each later event.
 pub fn closed()
-    ensures left { ClosedAsTold }
-    ensures alone { ClosesAreTold }
+    ensures left { ClosedAsAnswered }
+    ensures alone { ClosesAreAnswered }
     ensures stays { ClosedStays }
 {}
 
@@ -163,13 +163,13 @@ pub fn queues()
 pub fn logs()
     ensures agreed { LogIsAgreed }
     ensures count { LogCountsReleases }
-    ensures of_outcomes { LogIsOfOutcomes }
+    ensures of_outcomes { LogIsOfAnswers }
 {}
 
 /// Each event is answered by an outcome of its own, whatever the core holds: the outcome names the event's connection,
 /// topic, subscription and transaction, and a proposal fails for memory only where there was none.
 pub fn answers()
-    ensures { EventsAreAnswered }
+    ensures { MovesAreAnswered }
 {}
 
 /// A topic is tied to the tickets that it gave: their numbers rise along the run, above its opening clock, and its pending

@@ -1,5 +1,5 @@
 use Rattle.std.proofs.Common.{◌∙◌}
-use Rattle.delivery.proofs.Parts.{names_any}
+use Rattle.delivery.proofs.Theorem.PlainDue.{names_any}
 use Rattle.delivery.proofs.dues.names.Goals as goal
 
 pub returns : goal.returns

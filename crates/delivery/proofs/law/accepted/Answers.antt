@@ -1,4 +1,4 @@
-use Rattle.delivery.proofs.Accepting.{accepted_is_due}
+use Rattle.delivery.proofs.Theorem.AcceptedIsDue.{accepted_is_due}
 use Rattle.delivery.proofs.law.accepted.Goals as goal
 
 pub returns : goal.returns

@@ -1,4 +1,4 @@
-use Rattle.delivery.proofs.EventsAreAnswered.{events_are_answered}
+use Rattle.delivery.proofs.Theorem.MovesAreAnswered.{events_are_answered}
 use Rattle.delivery.proofs.law.answers.Goals as goal
 
 pub returns : goal.returns

@@ -1,4 +1,4 @@
-use Rattle.delivery.proofs.ClosedAsTold.{closed_as_told, closed_stays, closes_are_told}
+use Rattle.delivery.proofs.Theorem.ClosedAsAnswered.{closed_as_told, closed_stays, closes_are_told}
 use Rattle.delivery.proofs.law.closed.Goals as goal
 
 pub returns : goal.returns

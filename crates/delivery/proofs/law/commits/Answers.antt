@@ -1,4 +1,4 @@
-use Rattle.delivery.proofs.Accepting.{commits_are_kept}
+use Rattle.delivery.proofs.Theorem.AcceptedIsDue.{commits_are_kept}
 use Rattle.delivery.proofs.law.commits.Goals as goal
 
 pub returns : goal.returns

@@ -1,4 +1,4 @@
-use Rattle.delivery.proofs.Accepting.{agreed_in_sender_order}
+use Rattle.delivery.proofs.Theorem.AcceptedIsDue.{agreed_in_sender_order}
 use Rattle.delivery.proofs.law.fifo_order.Goals as goal
 
 pub returns : goal.returns

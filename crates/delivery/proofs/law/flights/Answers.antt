@@ -1,4 +1,4 @@
-use Rattle.delivery.proofs.Flights.{flying_is_own, sender_is_own}
+use Rattle.delivery.proofs.Theorem.BegunIsOwn.{flying_is_own, sender_is_own}
 use Rattle.delivery.proofs.law.flights.Goals as goal
 
 pub returns : goal.returns

@@ -1,4 +1,4 @@
-use Rattle.delivery.proofs.Steps.{others_untouched, ticket_is_own}
+use Rattle.delivery.proofs.Theorem.StepLaws.{others_untouched, ticket_is_own}
 use Rattle.delivery.proofs.law.genuine.Goals as goal
 
 pub returns : goal.returns

@@ -1,4 +1,4 @@
-use Rattle.delivery.proofs.Handing.{handed_is_prefix}
+use Rattle.delivery.proofs.Theorem.HandedIsPrefix.{handed_is_prefix}
 use Rattle.delivery.proofs.law.handed_prefix.Goals as goal
 
 pub returns : goal.returns

@@ -1,6 +1,6 @@
-use Rattle.delivery.proofs.Steps.{lags_where_full}
-use Rattle.delivery.proofs.Lagging.{ends_are_told}
-use Rattle.delivery.proofs.Telling.{queues_are_bounded}
+use Rattle.delivery.proofs.Theorem.StepLaws.{lags_where_full}
+use Rattle.delivery.proofs.Theorem.EndsAreAnswered.{ends_are_told}
+use Rattle.delivery.proofs.Theorem.SpansAsAnswered.{queues_are_bounded}
 use Rattle.delivery.proofs.law.lags_only_where_full.Goals as goal
 
 pub returns : goal.returns

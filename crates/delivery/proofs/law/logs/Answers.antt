@@ -1,4 +1,4 @@
-use Rattle.delivery.proofs.LogIsOfOutcomes.{log_counts_releases, log_is_agreed, log_is_of_outcomes}
+use Rattle.delivery.proofs.Theorem.LogIsOfAnswers.{log_counts_releases, log_is_agreed, log_is_of_outcomes}
 use Rattle.delivery.proofs.law.logs.Goals as goal
 
 pub returns : goal.returns

@@ -1,6 +1,6 @@
-use Rattle.delivery.proofs.Steps.{odd_never_comes, found_is_learnt}
-use Rattle.delivery.proofs.Waiting.{cancel_finds_its_part, none_is_pending_twice}
-use Rattle.delivery.proofs.Withdrawals.{withdrawn_is_undecided}
+use Rattle.delivery.proofs.Theorem.StepLaws.{odd_never_comes, found_is_learnt}
+use Rattle.delivery.proofs.Theorem.NeverRefused.{cancel_finds_its_part, none_is_pending_twice}
+use Rattle.delivery.proofs.Theorem.WithdrawnIsUndecided.{withdrawn_is_undecided}
 use Rattle.delivery.proofs.law.never.Goals as goal
 
 pub returns : goal.returns

@@ -1,4 +1,4 @@
-use Rattle.delivery.proofs.Numbering.{seqs_count}
+use Rattle.delivery.proofs.Theorem.SeqsCount.{seqs_count}
 use Rattle.delivery.proofs.law.numbers.Goals as goal
 
 pub returns : goal.returns

@@ -1,4 +1,4 @@
-use Rattle.delivery.proofs.QueuesGrow.{queues_grow}
+use Rattle.delivery.proofs.Theorem.QueuesGrow.{queues_grow}
 use Rattle.delivery.proofs.law.queues.Goals as goal
 
 pub returns : goal.returns

@@ -1,4 +1,4 @@
-use Rattle.delivery.proofs.Steps.{refusals_change_nothing}
+use Rattle.delivery.proofs.Theorem.StepLaws.{refusals_change_nothing}
 use Rattle.delivery.proofs.law.refusals_change_nothing.Goals as goal
 
 pub returns : goal.returns

@@ -1,4 +1,4 @@
-use Rattle.delivery.proofs.Outcomes.{stamp_is_greatest}
+use Rattle.delivery.proofs.Machine.AnswerLemmas.{stamp_is_greatest}
 use Rattle.delivery.proofs.law.stamps.Goals as goal
 
 pub returns : goal.returns

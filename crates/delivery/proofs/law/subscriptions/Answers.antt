@@ -1,4 +1,4 @@
-use Rattle.delivery.proofs.Waiting.{numbers_are_free, entries_are_there, entries_are_owned}
+use Rattle.delivery.proofs.Theorem.NeverRefused.{numbers_are_free, entries_are_there, entries_are_owned}
 use Rattle.delivery.proofs.law.subscriptions.Goals as goal
 
 pub returns : goal.returns

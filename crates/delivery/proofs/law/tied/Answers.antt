@@ -1,4 +1,4 @@
-use Rattle.delivery.proofs.TopicsAreTied.{topics_are_tied, senders_are_floored}
+use Rattle.delivery.proofs.Theorem.TopicsAreTied.{topics_are_tied, senders_are_floored}
 use Rattle.delivery.proofs.law.tied.Goals as goal
 
 pub returns : goal.returns

@@ -1,4 +1,4 @@
-use Rattle.delivery.proofs.Logs.{topics_are_sound}
+use Rattle.delivery.proofs.Theorem.TopicsAreSound.{topics_are_sound}
 use Rattle.delivery.proofs.law.topics_are_sound.Goals as goal
 
 pub returns : goal.returns

@@ -1,4 +1,4 @@
-use Rattle.delivery.proofs.Accepting.{shared_in_one_order}
+use Rattle.delivery.proofs.Theorem.AcceptedIsDue.{shared_in_one_order}
 use Rattle.delivery.proofs.law.total_order.Goals as goal
 
 pub returns : goal.returns

@@ -1,4 +1,4 @@
-use Rattle.delivery.proofs.Turns.{turn_is_its_steps, released_is_logged, turned_is_logged}
+use Rattle.delivery.proofs.Theorem.TurnIsItsSteps.{turn_is_its_steps, released_is_logged, turned_is_logged}
 use Rattle.delivery.proofs.law.turns.Goals as goal
 
 pub returns : goal.returns

@@ -1,4 +1,4 @@
-use Rattle.delivery.proofs.Logs.{settled_leaves_none_out}
+use Rattle.delivery.proofs.Theorem.TopicsAreSound.{settled_leaves_none_out}
 use Rattle.delivery.proofs.law.validity.Goals as goal
 
 pub returns : goal.returns

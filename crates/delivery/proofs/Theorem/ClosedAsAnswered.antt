@@ -1,0 +1,223 @@
+-- A subscription is closed as its event is answered, and what it left stays; an open span ends with its topic's frontier.
+use Rattle.std.proofs.Common.{◌≡◌, ◌≢◌, ℕ, ◌+◌, ◌<◌, ◌==◌, true, not, ◌⊎◌, inl, inr, List, [], ◌∷◌, length, get_or, Option, Some, None, refl, sym, ap, subst, ◌∙◌, arith, ltb}
+use Rattle.std.specs.Option.{is_some}
+use Rattle.std.proofs.lemmas.Bool.{ltb-true, and_parts, cases_order}
+use Rattle.std.proofs.lemmas.List.{get_or_past}
+use Rattle.mcast_txn.specs.Stamp.{zero_stamp}
+use Rattle.mcast_txn.specs.Ballot.{Decision}
+use Rattle.mcast_txn.specs.declared.id.Topic.{Topic}
+use Rattle.mcast_txn.specs.declared.id.TxnId.{TxnId}
+use Rattle.mcast_txn.specs.declared.draft.sent_message.SentMessage.{SentMessage}
+use Rattle.mcast_txn.specs.declared.stamp.Stamp.{Stamp}
+use Rattle.mcast_txn.proofs.Members.{at_set, at_set_within}
+use Rattle.mcast_group.specs.declared.fault.ProposeFault.{ProposeFault}
+use Rattle.mcast_txn.specs.Span.{Item}
+use Rattle.mcast_group.specs.Machine.{Pending, Entry, EntryEnd, due_part, end_of}
+use Rattle.mcast_group.proofs.Parts.{some_same, none_some}
+use Rattle.delivery.specs.Machine.World.{World, Leftover, Subscription, no_subscription, topic_at, speaker, subscription_at, entry_at}
+use Rattle.delivery.specs.Machine.Observed.{entry_items, entry_to, accepted_at, end_at}
+use Rattle.delivery.specs.Machine.Moves.{Move, Answer, world_after, answer_to, move_refusal, move_effect, move_answer, is_live, find_leftover, find_verdict, oldest_live, commit_effect, commit_answer, proposal_fault, propose_effect, propose_answer, cancel_effect, cancel_answer, learn_effect, release_answer, take_effect, take_answer, leave_effect, leave_answer, close_effect_of}
+use Rattle.delivery.specs.Machine.Moves.Move.{AddsTopic, Opens, Commits, Subscribes, Unsubscribes, Disconnects, Errs, Lost, Leaves, Proposes, Decides, Withdraws, Cancels, Learns, Releases, Turns, Takes}
+use Rattle.delivery.specs.Machine.Moves.Answer.{Learnt, Unsubscribed}
+use Rattle.delivery.specs.Theorem.Laws.{Run, answers_of, final_world}
+use Rattle.delivery.specs.Theorem.Spans
+use Rattle.delivery.specs.Theorem.Spans.{cause_of}
+use Rattle.delivery.proofs.Machine.Invariant.{topic_in}
+use Rattle.delivery.proofs.Machine.SubscriptionSteps.{at_push_two, finds_entry, new_subscription, taken_more}
+use Rattle.delivery.proofs.Machine.InvariantIsKept.{Reached, by_refusal, checked, false_not}
+use Rattle.delivery.proofs.Theorem.AcceptedIsDue.{reached}
+use Rattle.delivery.proofs.Theorem.ClosedIsSilent.{oldest_found, none_of, not_is}
+use Rattle.delivery.proofs.Machine.SpanSteps.{end_by}
+use Rattle.delivery.proofs.Theorem.HandedIsPrefix.{open_items}
+use Rattle.delivery.proofs.Theorem.TopicsAreSound.{topics_are_sound}
+
+-- ---- what an event makes of what subscriptions left
+
+-- what this entry would leave now
+abbrev left_of : World → ℕ → Entry → EntryEnd
+left_of w s entry = end_of (topic_at w (subscription_at w s).topic).frontier entry
+
+-- a subscription that wasn't closed is closed, and its end is answered
+record Closes (w v : World) (o : Answer) (s : ℕ) : Type 0 where
+  unclosed : (subscription_at w s).closed ≡ None
+  entry : Entry
+  found : entry_at w s ≡ Some entry
+  told : o ≡ Unsubscribed s (left_of w s entry).to
+  left : (subscription_at v s).closed ≡ Some (left_of w s entry)
+
+-- it is as it was, and no end of it is answered
+abbrev Stays : World → World → Answer → ℕ → Type 0
+Stays w v o s = ((subscription_at v s).closed ≡ (subscription_at w s).closed) × ((to : Stamp) → o ≡ Unsubscribed s to → Prim.⊥)
+
+abbrev StaysOrCloses : World → World → Answer → ℕ → Type 0
+StaysOrCloses w v o s = Stays w v o s ⊎ Closes w v o s
+
+abbrev IsEnd : Answer → Type 0
+IsEnd (Unsubscribed s to) = Unit {0}
+IsEnd o = Prim.⊥
+
+-- an event that leaves all subscriptions and answers no end
+same : (w v : World) (o : Answer) (s : ℕ) → v.subscriptions ≡ w.subscriptions → (IsEnd o → Prim.⊥) → StaysOrCloses w v o s
+same w v o s e n = inl (ap (λ (z : List Subscription). (get_or z s no_subscription).closed) e, λ to d. n (subst IsEnd (sym d) tt))
+
+-- ---- a subscription is closed
+
+no_entry : (past : List Answer) (w : World) (q : ℕ) → Reached past w → q < length w.subscriptions → (subscription_at w q).closed ≡ None → entry_at w q ≡ None → Prim.⊥
+no_entry past w q r l unclosed e =
+    let h = r.inv.subscribes.live q l unclosed in
+    let f = finds_entry q (topic_in w.topics (subscription_at w q).topic).subscriptions h.entry h.stands h.number in none_some f.entry (sym e ∙ f.found)
+
+closed_other : (w : World) (q s : ℕ) (entry : Entry) → s ≢ q → Stays w (close_effect_of w q (Some entry)) (Unsubscribed q (left_of w q entry).to) s
+closed_other w q s entry ne = (
+  at_set (λ (z : Subscription). z.closed ≡ (subscription_at w s).closed) w.subscriptions q s (record (subscription_at w q) { closed = Some (left_of w q entry) }) no_subscription
+      (λ k. absurd (ne k)) refl,
+  λ to d. (let a : q ≡ s = cc in ne (sym a)),
+)
+
+closed_itself : (w : World) (q : ℕ) (entry : Entry) → q < length w.subscriptions → (subscription_at w q).closed ≡ None → entry_at w q ≡ Some entry → Closes w (close_effect_of w q (Some entry)) (Unsubscribed q (left_of w q entry).to) q
+closed_itself w q entry l unclosed e = record {
+  unclosed = unclosed;
+  entry = entry;
+  found = e;
+  told = refl;
+  left = at_set_within (λ (z : Subscription). z.closed ≡ Some (left_of w q entry)) w.subscriptions q q (record (subscription_at w q) { closed = Some (left_of w q entry) }) no_subscription l
+      (λ k. refl) (λ ne. absurd (ne refl));
+}
+
+closed_case : (past : List Answer) (w : World) (q s : ℕ) → Reached past w → q < length w.subscriptions → (subscription_at w q).closed ≡ None → (o : Option Entry) → entry_at w q ≡ o → StaysOrCloses w (close_effect_of w q o) (Unsubscribed q (elim o [ None ↦ zero_stamp | Some e ↦ (left_of w q e).to ])) s
+closed_case past w q s r l unclosed None e = absurd (no_entry past w q r l unclosed e)
+closed_case past w q s r l unclosed (Some entry) e = elim (cases_order s q) [
+  | inl d ↦ subst (λ n. StaysOrCloses w (close_effect_of w q (Some entry)) (Unsubscribed q (left_of w q entry).to) n) (sym d) (inr (closed_itself w q entry l unclosed e))
+  | inr (inl k) ↦ inl (closed_other w q s entry (λ d. omega arith))
+  | inr (inr k) ↦ inl (closed_other w q s entry (λ d. omega arith))
+]
+
+live_unclosed : (c : ℕ) (x : Subscription) → is_live c x ≡ true → x.closed ≡ None
+live_unclosed c x e = none_of x.closed (not_is (is_some x.closed) (and_parts (x.connection == c) (not (is_some x.closed)) e).1)
+
+left_case : (past : List Answer) (w : World) (c s : ℕ) → Reached past w → (o : Option ℕ) → oldest_live c 0 w.subscriptions ≡ o → StaysOrCloses w (leave_effect w c o) (leave_answer w c o) s
+left_case past w c s r None f = same w (leave_effect w c None) (leave_answer w c None) s refl (λ i. i)
+left_case past w c s r (Some q) f =
+    let o = oldest_found c 0 q w.subscriptions f in let p : ℕ = o.place in let j : q ≡ 0 + p = o.is in let i : q ≡ p = omega arith in
+    closed_case past w q s r (let l : p < length w.subscriptions = o.there in omega arith)
+    (subst (λ n. (subscription_at w n).closed ≡ None) (sym i) (live_unclosed c (subscription_at w p) o.live)) (entry_at w q) refl
+
+-- ---- each event
+
+begun_case : (w : World) (c s : ℕ) (t : Topic) → StaysOrCloses w (move_effect w (Subscribes c t)) (move_answer w (Subscribes c t)) s
+begun_case w c s t = inl (
+  at_push_two (λ (z : Subscription). z.closed ≡ (subscription_at w s).closed) w.subscriptions s (new_subscription w c t) no_subscription
+      (λ k. sym (ap (λ (z : Subscription). z.closed) (get_or_past w.subscriptions s no_subscription (omega arith)))) (λ ne. refl),
+  λ to d. subst IsEnd (sym d) tt,
+)
+
+flown_case : (w : World) (c s : ℕ) (sends : List SentMessage) → StaysOrCloses w (commit_effect w c sends) (commit_answer w c sends) s
+flown_case w c s [] = same w (commit_effect w c []) (commit_answer w c []) s refl (λ i. i)
+flown_case w c s (first ∷ others) = same w (commit_effect w c (first ∷ others)) (commit_answer w c (first ∷ others)) s refl (λ i. i)
+
+proposed_case : (w : World) (c s : ℕ) (t : Topic) (o : Option ProposeFault) → StaysOrCloses w (propose_effect w c t o) (propose_answer w c t o) s
+proposed_case w c s t None = same w (propose_effect w c t None) (propose_answer w c t None) s refl (λ i. i)
+proposed_case w c s t (Some fault) = same w (propose_effect w c t (Some fault)) (propose_answer w c t (Some fault)) s refl (λ i. i)
+
+cancelled_case : (w : World) (c s : ℕ) (t : Topic) (o : Option Leftover) → StaysOrCloses w (cancel_effect w c t o) (cancel_answer t o) s
+cancelled_case w c s t None = same w (cancel_effect w c t None) (cancel_answer t None) s refl (λ i. i)
+cancelled_case w c s t (Some k) = same w (cancel_effect w c t (Some k)) (cancel_answer t (Some k)) s refl (λ i. i)
+
+learned_case : (w : World) (t : Topic) (id : TxnId) (s : ℕ) (o : Option Decision) → StaysOrCloses w (learn_effect w t id o) (Learnt id t) s
+learned_case w t id s None = same w (learn_effect w t id None) (Learnt id t) s refl (λ i. i)
+learned_case w t id s (Some v) = same w (learn_effect w t id (Some v)) (Learnt id t) s refl (λ i. i)
+
+no_release_end : (t : Topic) (o : Option Pending) → IsEnd (release_answer t o) → Prim.⊥
+no_release_end t None i = i
+no_release_end t (Some p) i = i
+
+taken_case : (w : World) (q s : ℕ) (o : Option Item) → StaysOrCloses w (take_effect w q o) (take_answer w q o) s
+taken_case w q s None = same w (take_effect w q None) (take_answer w q None) s refl (λ i. i)
+taken_case w q s (Some item) = inl (
+  at_set (λ (z : Subscription). z.closed ≡ (subscription_at w s).closed) w.subscriptions q s (taken_more w q) no_subscription
+      (λ k. ap (λ n. (subscription_at w n).closed) (sym k)) refl,
+  λ to d. subst IsEnd (sym d) tt,
+)
+
+effect_closes : (past : List Answer) (w : World) (e : Move) (s : ℕ) → Reached past w → move_refusal w e ≡ None → StaysOrCloses w (move_effect w e) (move_answer w e) s
+effect_closes past w (AddsTopic clock) s r n = same w _ (move_answer w (AddsTopic clock)) s refl (λ i. i)
+effect_closes past w Opens s r n = same w (move_effect w Opens) (move_answer w Opens) s refl (λ i. i)
+effect_closes past w (Commits c sends) s r n = flown_case w c s sends
+effect_closes past w (Subscribes c t) s r n = begun_case w c s t
+effect_closes past w (Unsubscribes c q) s r n =
+    let k = and_parts (ltb q (length w.subscriptions)) (is_live c (subscription_at w q)) (false_not _ (checked w (Unsubscribes c q) n).1.1.1.0) in
+    closed_case past w q s r (ltb-true q (length w.subscriptions) k.0) (live_unclosed c (subscription_at w q) k.1) (entry_at w q) refl
+effect_closes past w (Disconnects c) s r n = same w (move_effect w (Disconnects c)) (move_answer w (Disconnects c)) s refl (λ i. i)
+effect_closes past w (Errs c) s r n = same w (move_effect w (Errs c)) (move_answer w (Errs c)) s refl (λ i. i)
+effect_closes past w (Lost c) s r n = same w (move_effect w (Lost c)) (move_answer w (Lost c)) s refl (λ i. i)
+effect_closes past w (Leaves c) s r n = left_case past w c s r (oldest_live c 0 w.subscriptions) refl
+effect_closes past w (Proposes c t memory) s r n = proposed_case w c s t (proposal_fault w c t memory)
+effect_closes past w (Decides c) s r n = same w (move_effect w (Decides c)) (move_answer w (Decides c)) s refl (λ i. i)
+effect_closes past w (Withdraws c) s r n = same w (move_effect w (Withdraws c)) (move_answer w (Withdraws c)) s refl (λ i. i)
+effect_closes past w (Cancels c t) s r n = cancelled_case w c s t (find_leftover t (speaker w c).leftovers)
+effect_closes past w (Learns t id) s r n = learned_case w t id s (find_verdict id w.verdicts)
+effect_closes past w (Releases t) s r n = same w (move_effect w (Releases t)) (move_answer w (Releases t)) s refl (no_release_end t (due_part (topic_at w t)))
+effect_closes past w (Turns t) s r n = same w (move_effect w (Turns t)) (move_answer w (Turns t)) s refl (λ i. i)
+effect_closes past w (Takes q) s r n = taken_case w q s _
+
+closing : (r : Run) (e : Move) (s : ℕ) → StaysOrCloses (final_world r) (world_after (final_world r) e) (answer_to (final_world r) e) s
+closing r e s =
+    by_refusal (λ v o. StaysOrCloses (final_world r) v o s) (final_world r) e (λ why. same (final_world r) (final_world r) (Answer.Refused why) s refl (λ i. i))
+    (λ n. effect_closes (answers_of r) (final_world r) e s (reached r) n)
+
+closes : (r : Run) (e : Move) (s : ℕ) (to : Stamp) → answer_to (final_world r) e ≡ Unsubscribed s to → Closes (final_world r) (world_after (final_world r) e) (answer_to (final_world r) e) s
+closes r e s to d = elim (closing r e s) [ inl k ↦ absurd (k.1 to d) | inr k ↦ k ]
+
+-- ---- the laws
+
+same_end : (to end : Stamp) (o : Answer) (s : ℕ) → o ≡ Unsubscribed s to → o ≡ Unsubscribed s end → to ≡ end
+same_end to end o s d e = cc
+
+open_end : (closed : Option EntryEnd) (entry : Option Entry) → closed ≡ None → end_by closed entry ≡ entry_to entry
+open_end None entry e = refl
+open_end (Some end) entry e = none_some end (sym e)
+
+-- the end and the queue of a subscription that isn't closed are its entry's
+end_is : (w : World) (s : ℕ) (entry : Entry) → (subscription_at w s).closed ≡ None → entry_at w s ≡ Some entry → end_at w s ≡ entry.to
+end_is w s entry unclosed e = open_end (subscription_at w s).closed (entry_at w s) unclosed ∙ ap entry_to e
+
+items_are : (w : World) (s : ℕ) (entry : Entry) → (subscription_at w s).closed ≡ None → entry_at w s ≡ Some entry → accepted_at w s ≡ entry.accepted
+items_are w s entry unclosed e = open_items (subscription_at w s).closed (entry_at w s) unclosed ∙ ap entry_items e
+
+ended_open : (frontier : Stamp) (n : ℕ) (from : Stamp) (to : Option Stamp) (accepted : List Item) → to ≡ None → (end_of frontier (record { number = n; from = from; to = to; accepted = accepted })).to ≡ frontier
+ended_open frontier n from None accepted e = refl
+ended_open frontier n from (Some end) accepted e = none_some end (sym e)
+
+pub spans_end_at_frontier : Spans.SpansEndAtFrontier
+spans_end_at_frontier r e s to d none =
+    let w = final_world r in let x = topic_at w (subscription_at w s).topic in let k = closes r e s to d in let entry = k.entry in
+    same_end to (left_of w s entry).to (answer_to w e) s d k.told
+    ∙ (ended_open x.frontier entry.number entry.from entry.to entry.accepted (sym (end_is w s entry k.unclosed k.found) ∙ none)
+    ∙ (topics_are_sound r (subscription_at w s).topic).2)
+
+abbrev left_as : Stamp → List Item → Option Stamp → EntryEnd
+left_as to accepted end = record { to = to; accepted = accepted; cause = cause_of end }
+
+ended_is : (frontier : Stamp) (n : ℕ) (from : Stamp) (to : Option Stamp) (accepted : List Item) → let left = end_of frontier (record { number = n; from = from; to = to; accepted = accepted }) in left ≡ left_as left.to accepted to
+ended_is frontier n from None accepted = refl
+ended_is frontier n from (Some end) accepted = refl
+
+pub closed_as_told : Spans.ClosedAsAnswered
+closed_as_told r e s to d =
+    let w = final_world r in let x = topic_at w (subscription_at w s).topic in let k = closes r e s to d in let entry = k.entry in let left = left_of w s entry in
+    k.left ∙ ap Some (ended_is x.frontier entry.number entry.from entry.to entry.accepted
+    ∙ (ap (λ z. left_as z entry.accepted entry.to) (sym (same_end to left.to (answer_to w e) s d k.told))
+    ∙ (ap (λ z. left_as to z entry.to) (sym (items_are w s entry k.unclosed k.found))
+    ∙ ap (λ z. left_as to (accepted_at w s) z) (sym (end_is w s entry k.unclosed k.found)))))
+
+pub closes_are_told : Spans.ClosesAreAnswered
+closes_are_told r e s left none d = elim (closing r e s) [
+  | inl k ↦ none_some left (sym none ∙ (sym k.0 ∙ d))
+  | inr k ↦ k.told ∙ ap (λ (z : EntryEnd). Unsubscribed s z.to) (some_same (left_of (final_world r) s k.entry) left (sym k.left ∙ d))
+]
+
+pub closed_stays : Spans.ClosedStays
+closed_stays r e s left d = elim (closing r e s) [
+  | inl k ↦ k.0 ∙ d
+  | inr k ↦ none_some left (sym k.unclosed ∙ d)
+]

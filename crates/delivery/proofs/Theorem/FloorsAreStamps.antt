@@ -1,0 +1,117 @@
+-- A sender's floor is the stamp of its last row in the commit list.
+use Rattle.std.proofs.Common.{◌≡◌, ◌≢◌, ℕ, ◌==◌, Bool, cond, List, [], ◌∷◌, ◌++◌, set, Option, Some, None, refl, sym, ap, subst, ◌∙◌}
+use Rattle.std.proofs.lemmas.Bool.{eqb-true, eq-eqb}
+use Rattle.mcast_txn.specs.Stamp.{zero_stamp, greatest}
+use Rattle.mcast_txn.specs.Agreed.{CommitRow}
+use Rattle.mcast_txn.specs.Ballot.{Decision}
+use Rattle.mcast_txn.specs.declared.id.Topic.{Topic}
+use Rattle.mcast_txn.specs.declared.id.TxnId.{TxnId}
+use Rattle.mcast_txn.specs.declared.draft.sent_message.SentMessage.{SentMessage}
+use Rattle.mcast_txn.specs.declared.stamp.Stamp.{Stamp}
+use Rattle.mcast_txn.proofs.Members.{at_set, at_set_within}
+use Rattle.mcast_group.specs.declared.fault.ProposeFault.{ProposeFault}
+use Rattle.mcast_txn.specs.Span.{Item}
+use Rattle.mcast_group.specs.Machine.{Entry}
+use Rattle.mcast_group.proofs.Parts.{not_true}
+use Rattle.delivery.specs.Machine.World.{World, Leftover, SenderState, new_sender, connection_at, speaker, entry_at, start}
+use Rattle.delivery.specs.Machine.Moves.{Move, Answer, world_after, answer_to, move_refusal, move_effect, undecided_at, find_leftover, find_verdict, oldest_live, commit_effect, proposal_fault, propose_effect, decide_effect, cancel_effect, learn_effect, take_effect, leave_effect, close_effect_of}
+use Rattle.delivery.specs.Machine.Moves.Move.{AddsTopic, Opens, Commits, Subscribes, Unsubscribes, Disconnects, Errs, Lost, Leaves, Proposes, Decides, Withdraws, Cancels, Learns, Releases, Turns, Takes}
+use Rattle.delivery.specs.Machine.Runs.{run}
+use Rattle.delivery.specs.Theorem.Laws.{Run, final_world}
+use Rattle.delivery.specs.Theorem.Tied.{floor_after}
+use Rattle.delivery.proofs.Machine.Invariant.{row, sender_in}
+use Rattle.delivery.proofs.Machine.ProposeStep.{within_senders}
+use Rattle.delivery.proofs.Machine.SubscriptionSteps.{at_push}
+use Rattle.delivery.proofs.Machine.InvariantIsKept.{Reached, by_refusal, checked, in_flight, step_reached}
+use Rattle.delivery.proofs.Theorem.AcceptedIsDue.{start_reached}
+
+-- one more row: it is the last of its own sender's, and no other's
+floor_push : (s : ℕ) (floor : Stamp) (rows : List CommitRow) (r : CommitRow) → floor_after s floor (rows ++ r ∷ []) ≡ cond (r.txn.id.sender.0 == s) r.stamp (floor_after s floor rows)
+floor_push s floor [] r = refl
+floor_push s floor (q ∷ rows) r = floor_push s (cond (q.txn.id.sender.0 == s) q.stamp floor) rows r
+
+own_row : (s : ℕ) (rows : List CommitRow) (r : CommitRow) → r.txn.id.sender.0 ≡ s → floor_after s zero_stamp (rows ++ r ∷ []) ≡ r.stamp
+own_row s rows r e =
+    floor_push s zero_stamp rows r ∙ ap (λ (b : Bool). cond b r.stamp (floor_after s zero_stamp rows)) (eq-eqb r.txn.id.sender.0 s e)
+
+other_row : (s : ℕ) (rows : List CommitRow) (r : CommitRow) → r.txn.id.sender.0 ≢ s → floor_after s zero_stamp (rows ++ r ∷ []) ≡ floor_after s zero_stamp rows
+other_row s rows r ne =
+    floor_push s zero_stamp rows r
+    ∙ ap (λ (b : Bool). cond b r.stamp (floor_after s zero_stamp rows)) (not_true (r.txn.id.sender.0 == s) refl (λ e. ne (eqb-true r.txn.id.sender.0 s e)))
+
+-- each sender's floor is that
+abbrev Floors : List SenderState → List CommitRow → Type 0
+Floors senders commits = (s : ℕ) → (sender_in senders s).floor ≡ floor_after s zero_stamp commits
+
+-- a sender that keeps its floor
+floor_kept : (senders : List SenderState) (commits : List CommitRow) (s : ℕ) (x : SenderState) → x.floor ≡ (sender_in senders s).floor → Floors senders commits → Floors (set senders s x) commits
+floor_kept senders commits s x e h d =
+    at_set (λ (z : SenderState). z.floor ≡ floor_after d zero_stamp commits) senders s d x new_sender
+    (λ n. subst (λ (k : ℕ). x.floor ≡ floor_after k zero_stamp commits) (sym n) (e ∙ h s)) (h d)
+
+flown_floors : (w : World) (c : ℕ) (sends : List SentMessage) → Floors w.senders w.commits → Floors (commit_effect w c sends).senders (commit_effect w c sends).commits
+flown_floors w c [] h = h
+flown_floors w c (first ∷ others) h = floor_kept w.senders w.commits (connection_at w c).sender _ refl h
+
+proposed_floors : (w : World) (c : ℕ) (t : Topic) (o : Option ProposeFault) → Floors w.senders w.commits → Floors (propose_effect w c t o).senders (propose_effect w c t o).commits
+proposed_floors w c t None h = floor_kept w.senders w.commits (connection_at w c).sender _ refl h
+proposed_floors w c t (Some fault) h = floor_kept w.senders w.commits (connection_at w c).sender _ refl h
+
+cancelled_floors : (w : World) (c : ℕ) (t : Topic) (o : Option Leftover) → Floors w.senders w.commits → Floors (cancel_effect w c t o).senders (cancel_effect w c t o).commits
+cancelled_floors w c t None h = h
+cancelled_floors w c t (Some k) h = floor_kept w.senders w.commits (connection_at w c).sender _ refl h
+
+learned_floors : (w : World) (t : Topic) (id : TxnId) (o : Option Decision) → Floors w.senders w.commits → Floors (learn_effect w t id o).senders (learn_effect w t id o).commits
+learned_floors w t id None h = h
+learned_floors w t id (Some v) h = h
+
+closed_floors : (w : World) (s : ℕ) (o : Option Entry) → Floors w.senders w.commits → Floors (close_effect_of w s o).senders (close_effect_of w s o).commits
+closed_floors w s None h = h
+closed_floors w s (Some e) h = h
+
+left_floors : (w : World) (c : ℕ) (o : Option ℕ) → Floors w.senders w.commits → Floors (leave_effect w c o).senders (leave_effect w c o).commits
+left_floors w c None h = h
+left_floors w c (Some s) h = closed_floors w s (entry_at w s) h
+
+handed_floors : (w : World) (s : ℕ) (o : Option Item) → Floors w.senders w.commits → Floors (take_effect w s o).senders (take_effect w s o).commits
+handed_floors w s None h = h
+handed_floors w s (Some item) h = h
+
+decided_floors : (past : List Answer) (w : World) (c : ℕ) → Reached past w → move_refusal w (Decides c) ≡ None → Floors w.senders w.commits → Floors (decide_effect w c).senders (decide_effect w c).commits
+decided_floors past w c r n h d =
+    let fl = in_flight w c (checked w (Decides c) n).1.1.0 in
+    let s = (connection_at w c).sender in let f = undecided_at w c in
+    let is : (speaker w c).flight ≡ Some f = fl.is ∙ ap Some (sym fl.at) in
+    let own = ((r.inv.serves s).flying f is).sender in let new : CommitRow = row f.txn (greatest f.given) in
+    let y : SenderState = record (speaker w c) { floor = greatest f.given; flight = None } in
+    at_set_within (λ (z : SenderState). z.floor ≡ floor_after d zero_stamp (w.commits ++ new ∷ [])) w.senders s d y new_sender (within_senders w.senders s f is)
+    (λ e. sym (own_row d w.commits new (own ∙ sym e)))
+    (λ ne. h d ∙ sym (other_row d w.commits new (λ e. ne (sym e ∙ own))))
+
+happens_floors : (past : List Answer) (w : World) (e : Move) → Reached past w → move_refusal w e ≡ None → Floors w.senders w.commits → Floors (move_effect w e).senders (move_effect w e).commits
+happens_floors past w (AddsTopic clock) r n h = h
+happens_floors past w Opens r n h = λ d. at_push (λ (z : SenderState). z.floor ≡ floor_after d zero_stamp w.commits) w.senders d new_sender new_sender (λ e k. k) (h d)
+happens_floors past w (Commits c sends) r n h = flown_floors w c sends h
+happens_floors past w (Subscribes c t) r n h = h
+happens_floors past w (Unsubscribes c s) r n h = closed_floors w s (entry_at w s) h
+happens_floors past w (Disconnects c) r n h = h
+happens_floors past w (Errs c) r n h = h
+happens_floors past w (Lost c) r n h = h
+happens_floors past w (Leaves c) r n h = left_floors w c (oldest_live c 0 w.subscriptions) h
+happens_floors past w (Proposes c t memory) r n h = proposed_floors w c t (proposal_fault w c t memory) h
+happens_floors past w (Decides c) r n h = decided_floors past w c r n h
+happens_floors past w (Withdraws c) r n h = floor_kept w.senders w.commits (connection_at w c).sender _ refl h
+happens_floors past w (Cancels c t) r n h = cancelled_floors w c t (find_leftover t (speaker w c).leftovers) h
+happens_floors past w (Learns t id) r n h = learned_floors w t id (find_verdict id w.verdicts) h
+happens_floors past w (Releases t) r n h = h
+happens_floors past w (Turns t) r n h = h
+happens_floors past w (Takes s) r n h = handed_floors w s _ h
+
+run_floors : (es : List Move) (past : List Answer) (w : World) → Reached past w → Floors w.senders w.commits → Floors (run es w).senders (run es w).commits
+run_floors [] past w r h = h
+run_floors (e ∷ es) past w r h =
+    run_floors es (answer_to w e ∷ past) (world_after w e) (step_reached past w e r)
+    (by_refusal (λ v o. Floors v.senders v.commits) w e (λ why. h) (λ n. happens_floors past w e r n h))
+
+pub floors : (r : Run) → Floors (final_world r).senders (final_world r).commits
+floors r = run_floors r.events [] (start r.capacity r.log_limit r.clocks) (start_reached r.capacity r.log_limit r.clocks) (λ s. refl)

@@ -1,0 +1,181 @@
+-- What a run's topics hold where the core looks for it: parts that are to be cancelled or proposed, and subscriptions' entries.
+use Rattle.std.proofs.Common.{◌≡◌, ℕ, ◌<◌, Bool, true, false, cond, ◌⊎◌, inl, inr, List, [], ◌∷◌, length, Option, Some, None, refl, sym, ap, subst, ◌∙◌, arith}
+use Rattle.std.specs.Option.{is_some}
+use Rattle.mcast_txn.specs.Transaction.{TopicPart}
+use Rattle.mcast_txn.specs.Ids.{same_id}
+use Rattle.mcast_txn.specs.Lists.{In}
+use Rattle.mcast_txn.specs.declared.id.Topic.{Topic}
+use Rattle.mcast_txn.specs.declared.id.TxnId.{TxnId}
+use Rattle.mcast_txn.specs.declared.draft.sent_message.SentMessage.{SentMessage}
+use Rattle.mcast_txn.specs.declared.stamp.Stamp.{Stamp}
+use Rattle.mcast_txn.proofs.Orders.{id_equal, id_same}
+use Rattle.mcast_txn.proofs.Members.{any_found}
+use Rattle.mcast_group.specs.declared.fault.ProposeFault.{ProposeFault}
+use Rattle.mcast_group.specs.declared.fault.CancelFault.{CancelFault}
+use Rattle.mcast_group.specs.declared.fault.SubFault.{SubFault}
+use Rattle.mcast_txn.specs.Checks.{first_refusal}
+use Rattle.mcast_txn.specs.Span.{Item}
+use Rattle.mcast_group.specs.Machine.{TopicState, Pending, Entry, find_pending, is_pending, cancel_fault_of, due_part, find_entry}
+use Rattle.mcast_group.proofs.Parts.{Waits, finds_part}
+use Rattle.delivery.specs.declared.refusal.Refusal.{Refusal}
+use Rattle.delivery.specs.Machine.World.{World, Leftover, Subscription, topic_at, connection_at, speaker, subscription_at, start}
+use Rattle.delivery.specs.Machine.Moves.{Move, Answer, world_after, answer_to, move_refusal, objections, or_else, or_out_of_memory, move_answer, undecided_at, find_leftover, oldest_live, commit_answer, proposal_fault, propose_answer, cancel_objection, cancel_refusal, cancel_answer, release_answer, take_answer, leave_answer}
+use Rattle.delivery.specs.Machine.Moves.Move.{AddsTopic, Opens, Commits, Subscribes, Unsubscribes, Disconnects, Errs, Lost, Leaves, Proposes, Decides, Withdraws, Cancels, Learns, Releases, Turns, Takes}
+use Rattle.delivery.specs.Machine.Moves.Answer.{Refused, Failed}
+use Rattle.delivery.specs.Machine.Runs.{answers_from}
+use Rattle.delivery.specs.Theorem.Laws
+use Rattle.delivery.specs.Theorem.Laws.{Run, answers_of, final_world}
+use Rattle.delivery.proofs.Machine.Invariant.{topic_in, Owned}
+use Rattle.delivery.proofs.Machine.ProposeStep.{not_given}
+use Rattle.delivery.proofs.Machine.SenderSteps.{leftover_found}
+use Rattle.delivery.proofs.Machine.SubscriptionSteps.{found_entry, finds_entry}
+use Rattle.delivery.proofs.Machine.InvariantIsKept.{Reached, by_refusal, asks_of, Asks, step_reached}
+use Rattle.delivery.proofs.Theorem.AcceptedIsDue.{reached, start_reached}
+use Rattle.delivery.proofs.Theorem.StepLaws.{no_answer, outcome_case}
+
+-- ---- a ticket that is to be cancelled
+
+else_cases : (a b : Option Refusal) (why : Refusal) → or_else a b ≡ Some why → (a ≡ Some why) ⊎ (b ≡ Some why)
+else_cases None b why e = inr e
+else_cases (Some x) b why e = inl e
+
+-- no test that stands before a cancelling speaks of what is pending
+not_checked : (a b c : Bool) → first_refusal ((a, Refusal.NoConn) ∷ (b, Refusal.Gone) ∷ (c, Refusal.NotNamed) ∷ []) ≡ Some Refusal.NotPending → Prim.⊥
+not_checked true b c e = cc
+not_checked false true c e = cc
+not_checked false false true e = cc
+not_checked false false false e = cc
+
+found_case : (p : Pending) (b : Bool) → cancel_refusal (cond b (Some CancelFault.Decided) None) ≡ Some Refusal.NotPending → Prim.⊥
+found_case p true e = cc
+found_case p false e = cc
+
+waits_here : (id : TxnId) (ps : List Pending) → Waits id ps → cancel_refusal (cancel_fault_of (find_pending id ps)) ≡ Some Refusal.NotPending → Prim.⊥
+waits_here id ps h e =
+    let f = finds_part id ps h.part h.stands h.is in
+    found_case f.part (is_some f.part.learnt) (ap (λ (o : Option Pending). cancel_refusal (cancel_fault_of o)) (sym f.found) ∙ e)
+
+is_waiting : (past : List Answer) (w : World) (c : ℕ) (t : Topic) → Reached past w → (o : Option Leftover) → find_leftover t (speaker w c).leftovers ≡ o → cancel_objection w t o ≡ Some Refusal.NotPending → Prim.⊥
+is_waiting past w c t h None f e = cc
+is_waiting past w c t h (Some k) f e =
+    let g = leftover_found t (speaker w c).leftovers k f in
+    waits_here k.id (topic_at w t).pending (subst (λ u. Waits k.id (topic_in w.topics u).pending) g.topic ((h.inv.serves (connection_at w c).sender).left k g.stands).waits) e
+
+pub cancel_finds_its_part : Laws.CancelFindsItsPart
+cancel_finds_its_part r c t e =
+    let w = final_world r in
+    elim (else_cases (first_refusal (objections w (Cancels c t))) (cancel_objection w t (find_leftover t (speaker w c).leftovers)) Refusal.NotPending
+    (outcome_case w (Cancels c t) Refusal.NotPending (move_refusal w (Cancels c t)) (no_answer w (Cancels c t) Refusal.NotPending) e)) [
+      | inl k ↦ not_checked _ _ _ k
+      | inr k ↦ is_waiting (answers_of r) w c t (reached r) (find_leftover t (speaker w c).leftovers) refl k
+    ]
+
+-- ---- a proposal
+
+-- the undecided transaction has no part at a topic that gave it no ticket
+not_waiting : (past : List Answer) (w : World) (c : ℕ) (t : Topic) → Reached past w → Asks w c t → is_pending (undecided_at w c).txn.id (topic_at w t).pending ≡ true → Prim.⊥
+not_waiting past w c t h a e =
+    let f = undecided_at w c in let s = (connection_at w c).sender in
+    let p = any_found (λ (q : Pending). same_id q.part.id f.txn.id) (topic_at w t).pending e in
+    let tied = h.inv.tied t in let k = tied.ticketed p.it p.stands in
+    let g = (h.inv.serves s).flying f (a.flying.is ∙ ap Some (sym a.flying.at)) in
+    let own : k.ticket.txn.id ≡ f.txn.id = ap (λ (z : TopicPart). z.id) k.part_is ∙ id_equal p.it.part.id f.txn.id p.passes in
+    let given = g.given_all k.ticket k.stands (g.same k.ticket k.stands (id_same k.ticket.txn.id f.txn.id own)) in
+    let here : k.ticket.stamp.topic ≡ t = ap (λ (z : Stamp). z.topic) k.stamp_is ∙ (tied.sound.own p.it p.stands ∙ tied.topic) in
+    not_given t f.given a.unheard k.ticket.stamp given (ap (λ (z : Topic). z.0) (sym here))
+
+fault_case : (b d e : Bool) → (b ≡ true → Prim.⊥) → first_refusal ((b, ProposeFault.Twice) ∷ (d, ProposeFault.ClockFull) ∷ (e, ProposeFault.LogFull) ∷ []) ≡ Some ProposeFault.Twice → Prim.⊥
+fault_case true d e n k = n refl
+fault_case false true e n k = cc
+fault_case false false true n k = cc
+fault_case false false false n k = cc
+
+memory_case : (memory : Bool) (o : Option ProposeFault) → or_out_of_memory memory o ≡ Some ProposeFault.Twice → o ≡ Some ProposeFault.Twice
+memory_case true None e = cc
+memory_case false None e = cc
+memory_case memory (Some fault) e = e
+
+propose_once : (w : World) (c : ℕ) (t : Topic) (id : TxnId) (o : Option ProposeFault) → (o ≡ Some ProposeFault.Twice → Prim.⊥) → propose_answer w c t o ≡ Failed id ProposeFault.Twice → Prim.⊥
+propose_once w c t id None n e = cc
+propose_once w c t id (Some fault) n e = let d : fault ≡ ProposeFault.Twice = cc in n (ap Some d)
+
+flying_once : (w : World) (c : ℕ) (sends : List SentMessage) (id : TxnId) (why : ProposeFault) → commit_answer w c sends ≡ Failed id why → Prim.⊥
+flying_once w c [] id why e = cc
+flying_once w c (first ∷ others) id why e = cc
+
+cancel_once : (t : Topic) (o : Option Leftover) (id : TxnId) (why : ProposeFault) → cancel_answer t o ≡ Failed id why → Prim.⊥
+cancel_once t None id why e = cc
+cancel_once t (Some k) id why e = cc
+
+leave_once : (w : World) (c : ℕ) (o : Option ℕ) (id : TxnId) (why : ProposeFault) → leave_answer w c o ≡ Failed id why → Prim.⊥
+leave_once w c None id why e = cc
+leave_once w c (Some s) id why e = cc
+
+release_once : (t : Topic) (o : Option Pending) (id : TxnId) (why : ProposeFault) → release_answer t o ≡ Failed id why → Prim.⊥
+release_once t None id why e = cc
+release_once t (Some p) id why e = cc
+
+take_once : (w : World) (s : ℕ) (o : Option Item) (id : TxnId) (why : ProposeFault) → take_answer w s o ≡ Failed id why → Prim.⊥
+take_once w s None id why e = cc
+take_once w s (Some item) id why e = cc
+
+answer_once : (past : List Answer) (w : World) (e : Move) (id : TxnId) → Reached past w → move_refusal w e ≡ None → move_answer w e ≡ Failed id ProposeFault.Twice → Prim.⊥
+answer_once past w (AddsTopic clock) id h n e = cc
+answer_once past w Opens id h n e = cc
+answer_once past w (Commits c sends) id h n e = flying_once w c sends id ProposeFault.Twice e
+answer_once past w (Subscribes c t) id h n e = cc
+answer_once past w (Unsubscribes c s) id h n e = cc
+answer_once past w (Disconnects c) id h n e = cc
+answer_once past w (Errs c) id h n e = cc
+answer_once past w (Lost c) id h n e = cc
+answer_once past w (Leaves c) id h n e = leave_once w c (oldest_live c 0 w.subscriptions) id ProposeFault.Twice e
+answer_once past w (Proposes c t memory) id h n e =
+    propose_once w c t id (proposal_fault w c t memory)
+    (λ k. fault_case (is_pending (undecided_at w c).txn.id (topic_at w t).pending) _ _ (not_waiting past w c t h (asks_of w c t memory n)) (memory_case memory _ k)) e
+answer_once past w (Decides c) id h n e = cc
+answer_once past w (Withdraws c) id h n e = cc
+answer_once past w (Cancels c t) id h n e = cancel_once t (find_leftover t (speaker w c).leftovers) id ProposeFault.Twice e
+answer_once past w (Learns t i) id h n e = cc
+answer_once past w (Releases t) id h n e = release_once t (due_part (topic_at w t)) id ProposeFault.Twice e
+answer_once past w (Turns t) id h n e = cc
+answer_once past w (Takes s) id h n e = take_once w s _ id ProposeFault.Twice e
+
+outcome_once : (past : List Answer) (w : World) (e : Move) (id : TxnId) → Reached past w → answer_to w e ≡ Failed id ProposeFault.Twice → Prim.⊥
+outcome_once past w e id h =
+    by_refusal (λ v o. o ≡ Failed id ProposeFault.Twice → Prim.⊥) w e (λ why k. by why k) (λ n k. answer_once past w e id h n k)
+  where
+    by : (why : Refusal) → Refused why ≡ Failed id ProposeFault.Twice → Prim.⊥
+    by why k = cc
+
+run_once : (es : List Move) (past : List Answer) (w : World) → Reached past w → ((id : TxnId) → In (Failed id ProposeFault.Twice) past → Prim.⊥) → (id : TxnId) → In (Failed id ProposeFault.Twice) (answers_from es w past) → Prim.⊥
+run_once [] past w h old = old
+run_once (e ∷ es) past w h old =
+    run_once es (answer_to w e ∷ past) (world_after w e) (step_reached past w e h)
+    (λ id i. elim i [ inl k ↦ outcome_once past w e id h k | inr k ↦ old id k ])
+
+pub none_is_pending_twice : Laws.NoneIsPendingTwice
+none_is_pending_twice r = run_once r.events [] (start r.capacity r.log_limit r.clocks) (start_reached r.capacity r.log_limit r.clocks) (λ id i. i)
+
+-- ---- subscriptions
+
+fresh_case : (subs : List Subscription) (t : Topic) (x : TopicState) → ((e : Entry) → In e x.subscriptions → Owned subs t e.number e.from) → (o : Option Entry) → find_entry (length subs) x.subscriptions ≡ o → is_some o ≡ false
+fresh_case subs t x own None f = refl
+fresh_case subs t x own (Some e) f =
+    let k = found_entry (length subs) x.subscriptions e f in
+    absurd (let l : e.number < length subs = (own e k.stands).there in let n : e.number ≡ length subs = k.is in omega arith)
+
+pub numbers_are_free : Laws.NumbersAreFree
+numbers_are_free r t =
+    let w = final_world r in let x = topic_at w t in
+    ap (λ (b : Bool). cond b (Some SubFault.SubInUse) None)
+    (fresh_case w.subscriptions t x ((reached r).inv.subscribes.owned t) (find_entry (length w.subscriptions) x.subscriptions) refl)
+
+pub entries_are_there : Laws.EntriesAreThere
+entries_are_there r s l unclosed =
+    let w = final_world r in let x = topic_at w (subscription_at w s).topic in
+    let h = (reached r).inv.subscribes.live s l unclosed in
+    let f = finds_entry s x.subscriptions h.entry h.stands h.number in
+    ap (λ (o : Option Entry). cond (is_some o) None (Some (record {}))) f.found
+
+pub entries_are_owned : Laws.EntriesAreOwned
+entries_are_owned r t e i = let h = (reached r).inv.subscribes.owned t e i in (h.there, h.topic, h.closed, h.from_is)

@@ -1,0 +1,286 @@
+-- A settled topic's log leaves no row out.
+use Rattle.std.proofs.Common.{◌≡◌, ℕ, ◌+◌, ◌≤◌, Bool, false, inl, inr, List, [], ◌∷◌, set, Option, Some, None, refl, sym, ap, subst, ◌∙◌, arith}
+use Rattle.std.proofs.lemmas.Bool.{true≢false}
+use Rattle.mcast_txn.specs.Transaction.{TopicPart, topics_of}
+use Rattle.mcast_txn.specs.Agreed.{Transaction, CommitRow}
+use Rattle.mcast_txn.specs.Ids.{same_id}
+use Rattle.mcast_txn.specs.Lists.{In}
+use Rattle.mcast_txn.specs.TopicSet.{names}
+use Rattle.mcast_txn.specs.Ballot.{Decision}
+use Rattle.mcast_txn.specs.declared.id.Topic.{Topic}
+use Rattle.mcast_txn.specs.declared.id.TxnId.{TxnId}
+use Rattle.mcast_txn.specs.declared.draft.sent_message.SentMessage.{SentMessage}
+use Rattle.mcast_txn.specs.declared.stamp.Stamp.{Stamp}
+use Rattle.mcast_txn.proofs.Orders.{id_equal}
+use Rattle.mcast_txn.proofs.Members.{In-map_cases, at_set}
+use Rattle.mcast_group.specs.Machine.{TopicState, Pending, Entry, with_stamp, after_learn, after_cancel, after_release, after_turn, decided_stamp}
+use Rattle.mcast_group.proofs.Parts.{Waits, In-insert_cases, told_how, others, not_true, some_same}
+use Rattle.mcast_group.proofs.Turning.{release_keeps, turn_keeps}
+use Rattle.delivery.specs.Machine.World.{World, Undecided, SenderState, new_sender, connection_at, speaker}
+use Rattle.delivery.specs.Machine.Moves.{Answer, next_txn, commit_effect, has_room}
+use Rattle.delivery.specs.Machine.Moves.Answer.{Begun, Ticket, Withdrawn, Cancelled, Turned}
+use Rattle.delivery.specs.Machine.Runs.{txn_of_id}
+use Rattle.delivery.specs.Theorem.Settled.{AllResolved, IsSettled}
+use Rattle.delivery.proofs.Machine.Invariant.{row, topic_in, sender_in, Holds}
+use Rattle.delivery.proofs.Machine.TopicSteps.{at_topic_from}
+use Rattle.delivery.proofs.Machine.ProposeStep.{New, heard, cons_one, topic_after, sender_after, flight_after}
+use Rattle.delivery.proofs.Machine.InvariantIsKept.{tickets, FewerFlights, same_flights}
+
+-- nothing is pending at t, and no undecided transaction names it
+pub record Calm (topics : List TopicState) (senders : List SenderState) (t : Topic) : Type 0 where
+  pub none : (p : Pending) → In p (topic_in topics t).pending → Prim.⊥
+  pub still : (s : ℕ) (f : Undecided) → (sender_in senders s).flight ≡ Some f → names t (topics_of f.txn.sends) ≡ false
+
+-- the run beside the core that it leads to
+pub record Settling (past : List Answer) (topics : List TopicState) (senders : List SenderState) : Type 0 where
+  pub gone : (t : Topic) (p : Pending) (id : TxnId) → In p (topic_in topics t).pending → In (Cancelled id t) past → same_id p.part.id id ≡ false
+  pub flew : (s : ℕ) (f : Undecided) → (sender_in senders s).flight ≡ Some f → In (Begun f.txn) past
+  pub ticket_flew : (a : CommitRow) → In a (tickets past) → In (Begun a.txn) past
+  pub withdrawn_old : (id : TxnId) (c : ℕ) → In (Withdrawn id c) past → id.seq ≤ (sender_in senders id.sender.0).seq
+  pub cancelled_old : (id : TxnId) (t : Topic) → In (Cancelled id t) past → id.seq ≤ (sender_in senders id.sender.0).seq
+  pub not_withdrawn : (s : ℕ) (f : Undecided) (id : TxnId) (c : ℕ) → (sender_in senders s).flight ≡ Some f → In (Withdrawn id c) past → same_id f.txn.id id ≡ false
+  pub not_cancelled : (s : ℕ) (f : Undecided) (id : TxnId) (t : Topic) → (sender_in senders s).flight ≡ Some f → In (Cancelled id t) past → same_id f.txn.id id ≡ false
+  pub calm : (t : Topic) → IsSettled t past → Calm topics senders t
+
+-- ---- parts that only go
+
+abbrev pub Gone_to : List Pending → List Pending → Type 0
+Gone_to ps qs = (q : Pending) → In q qs → Waits q.part.id ps
+
+pub Gone-same : (ps : List Pending) → Gone_to ps ps
+Gone-same ps q i = record { part = q; stands = i; is = refl }
+
+Gone-then : (ps qs rs : List Pending) → Gone_to ps qs → Gone_to qs rs → Gone_to ps rs
+Gone-then ps qs rs a b r i = let k = b r i in let m = a k.part k.stands in record { part = m.part; stands = m.stands; is = m.is ∙ k.is }
+
+pub Gone-learned : (id : TxnId) (stamp : Stamp) (x : TopicState) → Gone_to x.pending (after_learn id stamp x).pending
+Gone-learned id stamp x q i = let m = In-map_cases (with_stamp id stamp) q x.pending i in
+    record { part = m.from; stands = m.stands; is = ap (λ (z : TopicPart). z.id) (sym (told_how id stamp m.from).part) ∙ ap (λ (z : Pending). z.part.id) m.is }
+
+pub Gone-without : (id : TxnId) (x : TopicState) → Gone_to x.pending (after_cancel id x).pending
+Gone-without id x q i = record { part = q; stands = (others id q x.pending i).stands; is = refl }
+
+pub Gone-release : (has_room : Entry → Bool) (x : TopicState) → Gone_to x.pending (after_release has_room x).pending
+Gone-release has_room x = release_keeps (λ y. Gone_to x.pending y.pending) has_room x (Gone-same x.pending) (λ p e. Gone-without p.part.id x)
+
+pub Gone-turned : (has_room : Entry → Bool) (find : TxnId → Option Decision) (x : TopicState) → Gone_to x.pending (after_turn has_room find x).pending
+Gone-turned has_room find x =
+    turn_keeps (λ y. Gone_to x.pending y.pending) has_room find
+    (λ y id v f e g. Gone-then x.pending y.pending (after_learn id (decided_stamp v) y).pending g (Gone-learned id (decided_stamp v) y))
+    (λ y p e g. Gone-then x.pending y.pending (after_cancel p.part.id y).pending g (Gone-without p.part.id y))
+    x (Gone-same x.pending)
+
+-- from one core to another: seqs rise, flights may end, parts may go
+pub record Fewer (topics : List TopicState) (senders : List SenderState) (new_topics : List TopicState) (new_senders : List SenderState) : Type 0 where
+  pub seqs : (s : ℕ) → (sender_in senders s).seq ≤ (sender_in new_senders s).seq
+  pub flights : FewerFlights senders new_senders
+  pub parts : (t : Topic) → Gone_to (topic_in topics t).pending (topic_in new_topics t).pending
+
+pub Fewer-same : (topics : List TopicState) (senders : List SenderState) → Fewer topics senders topics senders
+Fewer-same topics senders = record { seqs = λ s. omega arith; flights = same_flights senders; parts = λ t. Gone-same (topic_in topics t).pending }
+
+pub Fewer-topic : (topics : List TopicState) (senders : List SenderState) (t : Topic) (y : TopicState) → Gone_to (topic_in topics t).pending y.pending → Fewer topics senders (set topics t.0 y) senders
+Fewer-topic topics senders t y g = record {
+  seqs = λ s. omega arith;
+  flights = same_flights senders;
+  parts = λ u. at_topic_from (λ v z. Gone_to (topic_in topics v).pending z.pending) topics t u y (λ o. g) (Gone-same (topic_in topics u).pending);
+}
+
+pub Fewer-sender : (topics : List TopicState) (senders : List SenderState) (s : ℕ) (x : SenderState) → (sender_in senders s).seq ≤ x.seq → FewerFlights senders (set senders s x) → Fewer topics senders topics (set senders s x)
+Fewer-sender topics senders s x l few = record {
+  seqs = λ d. at_set (λ (z : SenderState). (sender_in senders d).seq ≤ z.seq) senders s d x new_sender
+      (λ e. subst (λ v. (sender_in senders v).seq ≤ x.seq) (sym e) l) (omega arith);
+  flights = few;
+  parts = λ t. Gone-same (topic_in topics t).pending;
+}
+
+pub Fewer-then : (a b c : List TopicState) (x y z : List SenderState) → Fewer a x b y → Fewer b y c z → Fewer a x c z
+Fewer-then a b c x y z f g = record {
+  seqs = λ s. let m = f.seqs s in let n = g.seqs s in omega arith;
+  flights = λ s h e. let k = g.flights s h e in let l = f.flights s k.0 k.1 in (l.0, l.1, l.2 ∙ k.2);
+  parts = λ t. Gone-then (topic_in a t).pending (topic_in b t).pending (topic_in c t).pending (f.parts t) (g.parts t);
+}
+
+pub Settling-fewer : (past : List Answer) (topics : List TopicState) (senders : List SenderState) (new_topics : List TopicState) (new_senders : List SenderState) → Fewer topics senders new_topics new_senders → Settling past topics senders → Settling past new_topics new_senders
+Settling-fewer past topics senders nt ns f h = record {
+  gone = λ t q id i k. let p = f.parts t q i in subst (λ z. same_id z id ≡ false) p.is (h.gone t p.part id p.stands k);
+  flew = λ s g e. let k = f.flights s g e in subst (λ z. In (Begun z) past) k.2 (h.flew s k.0 k.1);
+  ticket_flew = h.ticket_flew;
+  withdrawn_old = λ id c k. let a = h.withdrawn_old id c k in let b = f.seqs id.sender.0 in omega arith;
+  cancelled_old = λ id t k. let a = h.cancelled_old id t k in let b = f.seqs id.sender.0 in omega arith;
+  not_withdrawn = λ s g id c e i. let k = f.flights s g e in subst (λ (z : Transaction). same_id z.id id ≡ false) k.2 (h.not_withdrawn s k.0 id c k.1 i);
+  not_cancelled = λ s g id t e i. let k = f.flights s g e in subst (λ (z : Transaction). same_id z.id id ≡ false) k.2 (h.not_cancelled s k.0 id t k.1 i);
+  calm = λ t e. let k = h.calm t e in record {
+    none = λ q i. let p = f.parts t q i in k.none p.part p.stands;
+    still = λ s g d. let l = f.flights s g d in subst (λ (z : Transaction). names t (topics_of z.sends) ≡ false) l.2 (k.still s l.0 l.1);
+  };
+}
+
+-- ---- one more outcome
+
+-- an outcome that makes nothing, gives no ticket, and withdraws and cancels nothing
+pub record Quiet (o : Answer) : Type 0 where
+  pub flying : (txn : Transaction) → o ≡ Begun txn → Prim.⊥
+  pub tickets : (past : List Answer) → tickets (o ∷ past) ≡ tickets past
+  pub withdrawn : (id : TxnId) (c : ℕ) → o ≡ Withdrawn id c → Prim.⊥
+  pub cancelled : (id : TxnId) (t : Topic) → o ≡ Cancelled id t → Prim.⊥
+  pub settled : (t : Topic) (past : List Answer) → IsSettled t (o ∷ past) → IsSettled t past
+
+pub note_quiet : (past : List Answer) (topics : List TopicState) (senders : List SenderState) (o : Answer) → Quiet o → Settling past topics senders → Settling (o ∷ past) topics senders
+note_quiet past topics senders o q h = record {
+  gone = λ t p id i k. elim k [ inl e ↦ absurd (q.cancelled id t e) | inr j ↦ h.gone t p id i j ];
+  flew = λ s f e. inr (h.flew s f e);
+  ticket_flew = λ a k. inr (h.ticket_flew a (subst (λ z. In a z) (q.tickets past) k));
+  withdrawn_old = λ id c k. elim k [ inl e ↦ absurd (q.withdrawn id c e) | inr j ↦ h.withdrawn_old id c j ];
+  cancelled_old = λ id t k. elim k [ inl e ↦ absurd (q.cancelled id t e) | inr j ↦ h.cancelled_old id t j ];
+  not_withdrawn = λ s f id c e k. elim k [ inl d ↦ absurd (q.withdrawn id c d) | inr j ↦ h.not_withdrawn s f id c e j ];
+  not_cancelled = λ s f id t e k. elim k [ inl d ↦ absurd (q.cancelled id t d) | inr j ↦ h.not_cancelled s f id t e j ];
+  calm = λ t e. h.calm t (q.settled t past e);
+}
+
+pub note_withdrawn : (past : List Answer) (topics : List TopicState) (senders : List SenderState) (id : TxnId) (c : ℕ) → id.seq ≤ (sender_in senders id.sender.0).seq → ((s : ℕ) (f : Undecided) → (sender_in senders s).flight ≡ Some f → same_id f.txn.id id ≡ false) → Settling past topics senders → Settling (Withdrawn id c ∷ past) topics senders
+note_withdrawn past topics senders id c old apart h = record {
+  gone = λ t p i j k. elim k [ inl e ↦ cc | inr l ↦ h.gone t p i j l ];
+  flew = λ s f e. inr (h.flew s f e);
+  ticket_flew = λ a k. inr (h.ticket_flew a k);
+  withdrawn_old = λ i d k. elim k [
+    | inl e ↦ (let n : id ≡ i = cc in subst (λ (z : TxnId). z.seq ≤ (sender_in senders z.sender.0).seq) n old)
+    | inr j ↦ h.withdrawn_old i d j
+  ];
+  cancelled_old = λ i t k. elim k [ inl e ↦ absurd (cc) | inr j ↦ h.cancelled_old i t j ];
+  not_withdrawn = λ s f i d e k. elim k [
+    | inl n ↦ (let m : id ≡ i = cc in subst (λ z. same_id f.txn.id z ≡ false) m (apart s f e))
+    | inr j ↦ h.not_withdrawn s f i d e j
+  ];
+  not_cancelled = λ s f i t e k. elim k [ inl n ↦ cc | inr j ↦ h.not_cancelled s f i t e j ];
+  calm = λ t e. h.calm t e.1;
+}
+
+pub note_cancelled : (past : List Answer) (topics : List TopicState) (senders : List SenderState) (id : TxnId) (u : Topic) → id.seq ≤ (sender_in senders id.sender.0).seq → ((s : ℕ) (f : Undecided) → (sender_in senders s).flight ≡ Some f → same_id f.txn.id id ≡ false) → ((p : Pending) → In p (topic_in topics u).pending → same_id p.part.id id ≡ false) → Settling past topics senders → Settling (Cancelled id u ∷ past) topics senders
+note_cancelled past topics senders id u old apart none h = record {
+  gone = λ t p i j k. elim k [
+    | inl e ↦ (let n : id ≡ i = cc in let m : u ≡ t = cc in
+        subst (λ z. same_id p.part.id z ≡ false) n (none p (subst (λ z. In p (topic_in topics z).pending) (sym m) j)))
+    | inr l ↦ h.gone t p i j l
+  ];
+  flew = λ s f e. inr (h.flew s f e);
+  ticket_flew = λ a k. inr (h.ticket_flew a k);
+  withdrawn_old = λ i d k. elim k [ inl e ↦ absurd (cc) | inr j ↦ h.withdrawn_old i d j ];
+  cancelled_old = λ i t k. elim k [
+    | inl e ↦ (let n : id ≡ i = cc in subst (λ (z : TxnId). z.seq ≤ (sender_in senders z.sender.0).seq) n old)
+    | inr j ↦ h.cancelled_old i t j
+  ];
+  not_withdrawn = λ s f i d e k. elim k [ inl n ↦ cc | inr j ↦ h.not_withdrawn s f i d e j ];
+  not_cancelled = λ s f i t e k. elim k [
+    | inl n ↦ (let m : id ≡ i = cc in subst (λ z. same_id f.txn.id z ≡ false) m (apart s f e))
+    | inr j ↦ h.not_cancelled s f i t e j
+  ];
+  calm = λ t e. h.calm t e.1;
+}
+
+pub note_turned : (past : List Answer) (topics : List TopicState) (senders : List SenderState) (u : Topic) (count : ℕ) → (AllResolved u past → Calm topics senders u) → Settling past topics senders → Settling (Turned u count ∷ past) topics senders
+note_turned past topics senders u count now h = record {
+  gone = λ t p i j k. elim k [ inl e ↦ cc | inr l ↦ h.gone t p i j l ];
+  flew = λ s f e. inr (h.flew s f e);
+  ticket_flew = λ a k. inr (h.ticket_flew a k);
+  withdrawn_old = λ i d k. elim k [ inl e ↦ absurd (cc) | inr j ↦ h.withdrawn_old i d j ];
+  cancelled_old = λ i t k. elim k [ inl e ↦ absurd (cc) | inr j ↦ h.cancelled_old i t j ];
+  not_withdrawn = λ s f i d e k. elim k [ inl n ↦ cc | inr j ↦ h.not_withdrawn s f i d e j ];
+  not_cancelled = λ s f i t e k. elim k [ inl n ↦ cc | inr j ↦ h.not_cancelled s f i t e j ];
+  calm = λ t e. elim e [
+    | inl r ↦ subst (λ z. Calm topics senders z) r.0 (now (subst (λ z. AllResolved z past) (sym r.0) r.1))
+    | inr k ↦ h.calm t k
+  ];
+}
+
+-- ---- a transaction is made
+
+pub flying_settling : (past : List Answer) (w : World) (c : ℕ) (first : SentMessage) (others : List SentMessage) → Holds (tickets past) w → Settling past w.topics w.senders → Settling (Begun (next_txn w c (first ∷ others)) ∷ past) w.topics (commit_effect w c (first ∷ others)).senders
+flying_settling past w c first others inv h = record {
+  gone = λ t p id i k. elim k [ inl e ↦ cc | inr j ↦ h.gone t p id i j ];
+  flew = λ d f. moved (λ (z : SenderState). z.flight ≡ Some f → In (Begun f.txn) (Begun txn ∷ past)) d
+      (λ k. inl (ap Begun (ap (λ (z : Undecided). z.txn) (some_same new_flight f k)))) (λ k. inr (h.flew d f k));
+  ticket_flew = λ a k. inr (h.ticket_flew a k);
+  withdrawn_old = λ id d k. elim k [ inl e ↦ absurd (cc) | inr j ↦ older id (h.withdrawn_old id d j) ];
+  cancelled_old = λ id t k. elim k [ inl e ↦ absurd (cc) | inr j ↦ older id (h.cancelled_old id t j) ];
+  not_withdrawn = λ d f id n. moved (λ (z : SenderState). z.flight ≡ Some f → In (Withdrawn id n) (Begun txn ∷ past) → same_id f.txn.id id ≡ false) d
+      (λ k i. elim i [ inl e ↦ cc | inr j ↦ subst (λ (z : Undecided). same_id z.txn.id id ≡ false) (some_same new_flight f k) (newer id (h.withdrawn_old id n j)) ])
+      (λ k i. elim i [ inl e ↦ cc | inr j ↦ h.not_withdrawn d f id n k j ]);
+  not_cancelled = λ d f id t. moved (λ (z : SenderState). z.flight ≡ Some f → In (Cancelled id t) (Begun txn ∷ past) → same_id f.txn.id id ≡ false) d
+      (λ k i. elim i [ inl e ↦ cc | inr j ↦ subst (λ (z : Undecided). same_id z.txn.id id ≡ false) (some_same new_flight f k) (newer id (h.cancelled_old id t j)) ])
+      (λ k i. elim i [ inl e ↦ cc | inr j ↦ h.not_cancelled d f id t k j ]);
+  calm = λ t e. let k = h.calm t e.1 in record {
+    none = k.none;
+    still = λ d f. moved (λ (z : SenderState). z.flight ≡ Some f → names t (topics_of f.txn.sends) ≡ false) d
+        (λ n. subst (λ (z : Undecided). names t (topics_of z.txn.sends) ≡ false) (some_same new_flight f n) e.0) (k.still d f);
+  };
+}
+  where
+    sender : ℕ
+    sender = (connection_at w c).sender
+
+    txn : Transaction
+    txn = next_txn w c (first ∷ others)
+
+    new_flight : Undecided
+    new_flight = record { txn = next_txn w c (first ∷ others); given = []; mark = None }
+
+    moved : (P : SenderState → Type 0) (d : ℕ) → P (record (speaker w c) { seq = (speaker w c).seq + 1; flight = Some (record { txn = next_txn w c (first ∷ others); given = []; mark = None }) }) → P (sender_in w.senders d) → P (sender_in (commit_effect w c (first ∷ others)).senders d)
+    moved P d a b = at_set P w.senders (connection_at w c).sender d _ new_sender (λ e. a) b
+
+    older : (id : TxnId) → id.seq ≤ (sender_in w.senders id.sender.0).seq → id.seq ≤ (sender_in (commit_effect w c (first ∷ others)).senders id.sender.0).seq
+    older id o = at_set (λ (z : SenderState). id.seq ≤ z.seq) w.senders (connection_at w c).sender id.sender.0 _ new_sender
+        (λ e. let k : id.seq ≤ (speaker w c).seq = subst (λ v. id.seq ≤ (sender_in w.senders v).seq) e o in omega arith) o
+
+    newer : (id : TxnId) → id.seq ≤ (sender_in w.senders id.sender.0).seq → same_id (next_txn w c (first ∷ others)).id id ≡ false
+    newer id o = not_true (same_id (next_txn w c (first ∷ others)).id id) refl (λ s.
+        let d = id_equal (next_txn w c (first ∷ others)).id id s in
+        let m : (speaker w c).seq + 1 ≡ id.seq = ap (λ (z : TxnId). z.seq) d in
+        let n : (connection_at w c).sender ≡ id.sender.0 = ap (λ (z : TxnId). z.sender.0) d in
+        let k : id.seq ≤ (speaker w c).seq = subst (λ v. id.seq ≤ (sender_in w.senders v).seq) (sym n) o in
+        omega arith)
+
+-- ---- a ticket
+
+pub ticket_settling : (past : List Answer) (w : World) (s : ℕ) (t : Topic) (f : Undecided) → Holds (tickets past) w → New w s t f → txn_of_id f.txn.id past ≡ f.txn → Settling past w.topics w.senders → Settling (Ticket f.txn.id (heard w s t f).stamp ∷ past) (set w.topics t.0 (topic_after w s t f)) (set w.senders s (sender_after w s t f))
+ticket_settling past w s t f inv new is h = record {
+  gone = λ u q id i k. elim k [
+    | inl e ↦ cc
+    | inr j ↦
+        at (λ v z. (p : Pending) → In p z.pending → In (Cancelled id v) past → same_id p.part.id id ≡ false) u
+        (λ o p l m. elim (In-insert_cases p _ (topic_in w.topics t).pending l) [
+          | inl e ↦ subst (λ (z : Pending). same_id z.part.id id ≡ false) e (h.not_cancelled s f id t new.flight m)
+          | inr n ↦ h.gone t p id n m
+        ])
+        (λ p l m. h.gone u p id l m) q i j
+  ];
+  flew = λ d y. kept (λ (z : SenderState). z.flight ≡ Some y → In (Begun y.txn) (Ticket f.txn.id (heard w s t f).stamp ∷ past)) d
+      (λ n k. inr (subst (λ (z : Undecided). In (Begun z.txn) past) (some_same (flight_after w s t f) y k) (h.flew s f new.flight)))
+      (λ k. inr (h.flew d y k));
+  ticket_flew = cons_one (λ (a : CommitRow). In (Begun a.txn) (Ticket f.txn.id (heard w s t f).stamp ∷ past)) (tickets past) (row (txn_of_id f.txn.id past) (heard w s t f).stamp)
+      (λ a k. inr (h.ticket_flew a k)) (inr (subst (λ z. In (Begun z) past) (sym is) (h.flew s f new.flight)));
+  withdrawn_old = λ id c k. elim k [ inl e ↦ absurd (cc) | inr j ↦ kept (λ (z : SenderState). id.seq ≤ z.seq) id.sender.0 (λ e. subst (λ v. id.seq ≤ (sender_in w.senders v).seq) e (h.withdrawn_old id c j)) (h.withdrawn_old id c j) ];
+  cancelled_old = λ id u k. elim k [ inl e ↦ absurd (cc) | inr j ↦ kept (λ (z : SenderState). id.seq ≤ z.seq) id.sender.0 (λ e. subst (λ v. id.seq ≤ (sender_in w.senders v).seq) e (h.cancelled_old id u j)) (h.cancelled_old id u j) ];
+  not_withdrawn = λ d y id c. kept_flight (λ z. In (Withdrawn id c) (Ticket f.txn.id (heard w s t f).stamp ∷ past) → same_id z.id id ≡ false) d y
+      (λ k. elim k [ inl e ↦ cc | inr j ↦ h.not_withdrawn s f id c new.flight j ])
+      (λ e k. elim k [ inl n ↦ cc | inr j ↦ h.not_withdrawn d y id c e j ]);
+  not_cancelled = λ d y id u. kept_flight (λ z. In (Cancelled id u) (Ticket f.txn.id (heard w s t f).stamp ∷ past) → same_id z.id id ≡ false) d y
+      (λ k. elim k [ inl e ↦ cc | inr j ↦ h.not_cancelled s f id u new.flight j ])
+      (λ e k. elim k [ inl n ↦ cc | inr j ↦ h.not_cancelled d y id u e j ]);
+  calm = λ u e. let k = h.calm u e in record {
+    none = at (λ v z. (v ≡ u) → (q : Pending) → In q z.pending → Prim.⊥) u
+        (λ o d q i. true≢false (sym new.named ∙ subst (λ v. names v (topics_of f.txn.sends) ≡ false) (sym d) (k.still s f new.flight)))
+        (λ d. k.none) refl;
+    still = λ d y. kept_flight (λ z. names u (topics_of z.sends) ≡ false) d y (k.still s f new.flight) (k.still d y);
+  };
+}
+  where
+    at : (P : Topic → TopicState → Type 0) (u : Topic) → (P t (topic_in w.topics t) → P t (topic_after w s t f)) → P u (topic_in w.topics u) → P u (topic_in (set w.topics t.0 (topic_after w s t f)) u)
+    at P u a b = at_topic_from P w.topics t u (topic_after w s t f) a b
+
+    kept : (P : SenderState → Type 0) (d : ℕ) → (d ≡ s → P (sender_after w s t f)) → P (sender_in w.senders d) → P (sender_in (set w.senders s (sender_after w s t f)) d)
+    kept P d a b = at_set P w.senders s d (sender_after w s t f) new_sender a b
+
+    kept_flight : (P : Transaction → Type 0) (d : ℕ) (y : Undecided) → P f.txn → ((sender_in w.senders d).flight ≡ Some y → P y.txn) → (sender_in (set w.senders s (sender_after w s t f)) d).flight ≡ Some y → P y.txn
+    kept_flight P d y a b = at_set (λ (z : SenderState). z.flight ≡ Some y → P y.txn) w.senders s d (sender_after w s t f) new_sender
+        (λ n k. subst (λ (z : Undecided). P z.txn) (some_same (flight_after w s t f) y k) a) b

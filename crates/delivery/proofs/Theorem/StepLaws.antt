@@ -1,0 +1,332 @@
+-- What holds of each step.
+use Rattle.std.proofs.Common.{◌≡◌, ◌≢◌, ℕ, ◌+◌, ◌<◌, ◌==◌, max, Bool, true, false, cond, ◌⊎◌, inl, inr, List, [], ◌∷◌, ◌++◌, map, length, set, Option, Some, None, refl, sym, ap, subst, ◌∙◌, ltb}
+use Rattle.std.specs.Option.{is_some}
+use Rattle.std.proofs.lemmas.Bool.{true≢false, false≢true}
+use Rattle.mcast_txn.specs.Transaction.{topics_of}
+use Rattle.mcast_txn.specs.Lists.{In}
+use Rattle.mcast_txn.specs.TopicSet.{names}
+use Rattle.mcast_txn.specs.Ballot.{Decision}
+use Rattle.mcast_txn.specs.declared.id.Topic.{Topic}
+use Rattle.mcast_txn.specs.declared.id.TxnId.{TxnId}
+use Rattle.mcast_txn.specs.declared.draft.sent_message.SentMessage.{SentMessage}
+use Rattle.mcast_txn.specs.declared.stamp.Stamp.{Stamp}
+use Rattle.mcast_txn.proofs.Members.{at_set, at_set_within}
+use Rattle.mcast_group.specs.declared.fault.ProposeFault.{ProposeFault}
+use Rattle.mcast_group.specs.declared.fault.LearnFault.{LearnFault}
+use Rattle.mcast_group.specs.declared.fault.CancelFault.{CancelFault}
+use Rattle.mcast_txn.specs.Checks.{first_refusal}
+use Rattle.mcast_txn.specs.Span.{Item}
+use Rattle.mcast_group.specs.Machine.{TopicState, Pending, Entry, new_topic, find_entry, find_pending, cancel_fault_of, learn_fault, entry_after, due_part, after_release_if, after_release, item_of}
+use Rattle.mcast_group.proofs.Parts.{found_part, some_same, none_some}
+use Rattle.mcast_group.proofs.Numbers.{delivered_number}
+use Rattle.delivery.specs.declared.refusal.Refusal.{Refusal}
+use Rattle.delivery.specs.Machine.World.{World, Leftover, topic_at, speaker, connection_at, subscription_at, entry_at, start}
+use Rattle.delivery.specs.Machine.Moves.{Move, Answer, world_after, answer_to, move_refusal, objections, topic_objection, or_else, move_effect, move_answer, undecided_at, find_leftover, find_verdict, oldest_live, commit_effect, commit_answer, proposal_fault, propose_effect, propose_answer, cancel_effect, cancel_objection, cancel_refusal, cancel_answer, learn_effect, learn_objection, learn_refusal, release_answer, has_room, take_effect, take_answer, leave_effect, leave_answer, close_effect_of}
+use Rattle.delivery.specs.Machine.Moves.Move.{AddsTopic, Opens, Commits, Subscribes, Unsubscribes, Disconnects, Errs, Lost, Leaves, Proposes, Decides, Withdraws, Cancels, Learns, Releases, Turns, Takes}
+use Rattle.delivery.specs.Machine.Moves.Answer.{Refused, Ticket}
+use Rattle.delivery.specs.Machine.Runs.{answers_from}
+use Rattle.delivery.specs.Theorem.Laws
+use Rattle.delivery.specs.Theorem.Laws.{Run, answers_of, final_world, move_topic, live_topic, is_odd, IsGiven}
+use Rattle.delivery.proofs.Machine.Invariant.{topic_in, Inv, Holds, Committed}
+use Rattle.delivery.proofs.Machine.TopicSteps.{same_topic}
+use Rattle.delivery.proofs.Machine.SenderSteps.{leftover_found}
+use Rattle.delivery.proofs.Machine.SubscriptionSteps.{at_old}
+use Rattle.delivery.proofs.Machine.InvariantIsKept.{Reached, tickets, by_refusal, checked, asks_of, Asks, step_reached, false_not}
+use Rattle.delivery.proofs.Theorem.AcceptedIsDue.{reached, start_reached}
+use Rattle.delivery.proofs.Machine.VerdictsFit.{learn_fault_is}
+
+-- ---- an answer is no refusal
+
+no_flying : (w : World) (c : ℕ) (sends : List SentMessage) (why : Refusal) → commit_answer w c sends ≡ Refused why → Prim.⊥
+no_flying w c [] why e = cc
+no_flying w c (first ∷ others) why e = cc
+
+no_propose : (w : World) (c : ℕ) (t : Topic) (o : Option ProposeFault) (why : Refusal) → propose_answer w c t o ≡ Refused why → Prim.⊥
+no_propose w c t None why e = cc
+no_propose w c t (Some fault) why e = cc
+
+no_cancel : (t : Topic) (o : Option Leftover) (why : Refusal) → cancel_answer t o ≡ Refused why → Prim.⊥
+no_cancel t None why e = cc
+no_cancel t (Some k) why e = cc
+
+no_leave : (w : World) (c : ℕ) (o : Option ℕ) (why : Refusal) → leave_answer w c o ≡ Refused why → Prim.⊥
+no_leave w c None why e = cc
+no_leave w c (Some s) why e = cc
+
+no_release : (t : Topic) (o : Option Pending) (why : Refusal) → release_answer t o ≡ Refused why → Prim.⊥
+no_release t None why e = cc
+no_release t (Some p) why e = cc
+
+no_take : (w : World) (s : ℕ) (o : Option Item) (why : Refusal) → take_answer w s o ≡ Refused why → Prim.⊥
+no_take w s None why e = cc
+no_take w s (Some item) why e = cc
+
+pub no_answer : (w : World) (e : Move) (why : Refusal) → move_answer w e ≡ Refused why → Prim.⊥
+no_answer w (AddsTopic clock) why e = cc
+no_answer w Opens why e = cc
+no_answer w (Commits c sends) why e = no_flying w c sends why e
+no_answer w (Subscribes c t) why e = cc
+no_answer w (Unsubscribes c s) why e = cc
+no_answer w (Disconnects c) why e = cc
+no_answer w (Errs c) why e = cc
+no_answer w (Lost c) why e = cc
+no_answer w (Leaves c) why e = no_leave w c (oldest_live c 0 w.subscriptions) why e
+no_answer w (Proposes c t memory) why e = no_propose w c t (proposal_fault w c t memory) why e
+no_answer w (Decides c) why e = cc
+no_answer w (Withdraws c) why e = cc
+no_answer w (Cancels c t) why e = no_cancel t (find_leftover t (speaker w c).leftovers) why e
+no_answer w (Learns t id) why e = cc
+no_answer w (Releases t) why e = no_release t (due_part (topic_at w t)) why e
+no_answer w (Turns t) why e = cc
+no_answer w (Takes s) why e = no_take w s _ why e
+
+pub refusals_change_nothing : Laws.RefusalsChangeNothing
+refusals_change_nothing w e why =
+    by_refusal (λ v o. o ≡ Refused why → v ≡ w) w e (λ other k. refl) (λ n k. absurd (no_answer w e why k))
+
+-- ---- other topics
+
+untouched : (topics : List TopicState) (t u : Topic) (y : TopicState) → (Some t ≡ Some u → Prim.⊥) → topic_in (set topics t.0 y) u ≡ topic_in topics u
+untouched topics t u y ne =
+    at_set (λ z. z ≡ topic_in topics u) topics t.0 u.0 y (new_topic u 0 0) (λ e. absurd (ne (ap Some (sym (same_topic u t e))))) refl
+
+flown_topics : (w : World) (c : ℕ) (sends : List SentMessage) → (commit_effect w c sends).topics ≡ w.topics
+flown_topics w c [] = refl
+flown_topics w c (first ∷ others) = refl
+
+closed_untouched : (w : World) (s : ℕ) (u : Topic) (o : Option Entry) → (Some (subscription_at w s).topic ≡ Some u → Prim.⊥) → topic_at (close_effect_of w s o) u ≡ topic_at w u
+closed_untouched w s u None ne = refl
+closed_untouched w s u (Some e) ne = untouched w.topics (subscription_at w s).topic u _ ne
+
+left_untouched : (w : World) (c : ℕ) (u : Topic) (o : Option ℕ) → (live_topic w o ≡ Some u → Prim.⊥) → topic_at (leave_effect w c o) u ≡ topic_at w u
+left_untouched w c u None ne = refl
+left_untouched w c u (Some s) ne = closed_untouched w s u (entry_at w s) ne
+
+proposed_untouched : (w : World) (c : ℕ) (t u : Topic) (o : Option ProposeFault) → (Some t ≡ Some u → Prim.⊥) → topic_at (propose_effect w c t o) u ≡ topic_at w u
+proposed_untouched w c t u None ne = untouched w.topics t u _ ne
+proposed_untouched w c t u (Some fault) ne = refl
+
+cancelled_untouched : (w : World) (c : ℕ) (t u : Topic) (o : Option Leftover) → (Some t ≡ Some u → Prim.⊥) → topic_at (cancel_effect w c t o) u ≡ topic_at w u
+cancelled_untouched w c t u None ne = refl
+cancelled_untouched w c t u (Some k) ne = untouched w.topics t u _ ne
+
+learned_untouched : (w : World) (t u : Topic) (id : TxnId) (o : Option Decision) → (Some t ≡ Some u → Prim.⊥) → topic_at (learn_effect w t id o) u ≡ topic_at w u
+learned_untouched w t u id None ne = refl
+learned_untouched w t u id (Some v) ne = untouched w.topics t u _ ne
+
+handed_topics : (w : World) (s : ℕ) (o : Option Item) → (take_effect w s o).topics ≡ w.topics
+handed_topics w s None = refl
+handed_topics w s (Some item) = refl
+
+effect_untouched : (w : World) (e : Move) (u : Topic) → u.0 < length w.topics → move_topic w e ≢ Some u → topic_at (move_effect w e) u ≡ topic_at w u
+effect_untouched w (AddsTopic clock) u l ne = at_old (λ z. z ≡ topic_at w u) w.topics u.0 _ (new_topic u 0 0) l refl
+effect_untouched w Opens u l ne = refl
+effect_untouched w (Commits c sends) u l ne = ap (λ z. topic_in z u) (flown_topics w c sends)
+effect_untouched w (Subscribes c t) u l ne = untouched w.topics t u _ ne
+effect_untouched w (Unsubscribes c s) u l ne = closed_untouched w s u (entry_at w s) ne
+effect_untouched w (Disconnects c) u l ne = refl
+effect_untouched w (Errs c) u l ne = refl
+effect_untouched w (Lost c) u l ne = refl
+effect_untouched w (Leaves c) u l ne = left_untouched w c u (oldest_live c 0 w.subscriptions) ne
+effect_untouched w (Proposes c t memory) u l ne = proposed_untouched w c t u (proposal_fault w c t memory) ne
+effect_untouched w (Decides c) u l ne = refl
+effect_untouched w (Withdraws c) u l ne = refl
+effect_untouched w (Cancels c t) u l ne = cancelled_untouched w c t u (find_leftover t (speaker w c).leftovers) ne
+effect_untouched w (Learns t id) u l ne = learned_untouched w t u id (find_verdict id w.verdicts) ne
+effect_untouched w (Releases t) u l ne = untouched w.topics t u _ ne
+effect_untouched w (Turns t) u l ne = untouched w.topics t u _ ne
+effect_untouched w (Takes s) u l ne = ap (λ z. topic_in z u) (handed_topics w s _)
+
+pub others_untouched : Laws.OthersUntouched
+others_untouched w e u l ne = by_refusal (λ v o. topic_at v u ≡ topic_at w u) w e (λ why. refl) (λ n. effect_untouched w e u l ne)
+
+-- ---- tickets
+
+abbrev IsOwn : World → Move → TxnId → Stamp → Type 0
+IsOwn w e id ticket =
+    (c : ℕ) × (t : Topic) × (memory : Bool) × (e ≡ Proposes c t memory) × (id ≡ (undecided_at w c).txn.id)
+    × (names t (topics_of (undecided_at w c).txn.sends) ≡ true)
+    × (ticket ≡ record { n = max (topic_at w t).clock (speaker w c).floor.n + 1; topic = t })
+
+ticket_case : (w : World) (c : ℕ) (t : Topic) (memory : Bool) (o : Option ProposeFault) (id : TxnId) (ticket : Stamp) → Asks w c t → propose_answer w c t o ≡ Ticket id ticket → IsOwn w (Proposes c t memory) id ticket
+ticket_case w c t memory None id ticket a e = (c, t, memory, refl, (cc), a.named, cc)
+ticket_case w c t memory (Some fault) id ticket a e = cc
+
+no_ticket_flying : (w : World) (c : ℕ) (sends : List SentMessage) (id : TxnId) (ticket : Stamp) → commit_answer w c sends ≡ Ticket id ticket → Prim.⊥
+no_ticket_flying w c [] id ticket e = cc
+no_ticket_flying w c (first ∷ others) id ticket e = cc
+
+no_ticket_cancel : (t : Topic) (o : Option Leftover) (id : TxnId) (ticket : Stamp) → cancel_answer t o ≡ Ticket id ticket → Prim.⊥
+no_ticket_cancel t None id ticket e = cc
+no_ticket_cancel t (Some k) id ticket e = cc
+
+no_ticket_leave : (w : World) (c : ℕ) (o : Option ℕ) (id : TxnId) (ticket : Stamp) → leave_answer w c o ≡ Ticket id ticket → Prim.⊥
+no_ticket_leave w c None id ticket e = cc
+no_ticket_leave w c (Some s) id ticket e = cc
+
+no_ticket_release : (t : Topic) (o : Option Pending) (id : TxnId) (ticket : Stamp) → release_answer t o ≡ Ticket id ticket → Prim.⊥
+no_ticket_release t None id ticket e = cc
+no_ticket_release t (Some p) id ticket e = cc
+
+no_ticket_take : (w : World) (s : ℕ) (o : Option Item) (id : TxnId) (ticket : Stamp) → take_answer w s o ≡ Ticket id ticket → Prim.⊥
+no_ticket_take w s None id ticket e = cc
+no_ticket_take w s (Some item) id ticket e = cc
+
+answer_ticket : (w : World) (e : Move) (id : TxnId) (ticket : Stamp) → move_refusal w e ≡ None → move_answer w e ≡ Ticket id ticket → IsOwn w e id ticket
+answer_ticket w (AddsTopic clock) id ticket n e = cc
+answer_ticket w Opens id ticket n e = cc
+answer_ticket w (Commits c sends) id ticket n e = absurd (no_ticket_flying w c sends id ticket e)
+answer_ticket w (Subscribes c t) id ticket n e = cc
+answer_ticket w (Unsubscribes c s) id ticket n e = cc
+answer_ticket w (Disconnects c) id ticket n e = cc
+answer_ticket w (Errs c) id ticket n e = cc
+answer_ticket w (Lost c) id ticket n e = cc
+answer_ticket w (Leaves c) id ticket n e = absurd (no_ticket_leave w c (oldest_live c 0 w.subscriptions) id ticket e)
+answer_ticket w (Proposes c t memory) id ticket n e = ticket_case w c t memory (proposal_fault w c t memory) id ticket (asks_of w c t memory n) e
+answer_ticket w (Decides c) id ticket n e = cc
+answer_ticket w (Withdraws c) id ticket n e = cc
+answer_ticket w (Cancels c t) id ticket n e = absurd (no_ticket_cancel t (find_leftover t (speaker w c).leftovers) id ticket e)
+answer_ticket w (Learns t i) id ticket n e = cc
+answer_ticket w (Releases t) id ticket n e = absurd (no_ticket_release t (due_part (topic_at w t)) id ticket e)
+answer_ticket w (Turns t) id ticket n e = cc
+answer_ticket w (Takes s) id ticket n e = absurd (no_ticket_take w s _ id ticket e)
+
+pub ticket_is_own : Laws.TicketIsOwn
+ticket_is_own w e id ticket =
+    by_refusal (λ v o. o ≡ Ticket id ticket → IsOwn w e id ticket) w e (λ why k. absurd (by why k)) (λ n k. answer_ticket w e id ticket n k)
+  where
+    by : (why : Refusal) → Refused why ≡ Ticket id ticket → Prim.⊥
+    by why k = cc
+
+-- ---- what never comes
+
+abbrev AllUsual : List (Bool × Refusal) → Type 0
+AllUsual [] = Unit {0}
+AllUsual (c ∷ cs) = (is_odd c.1 ≡ false) × AllUsual cs
+
+usual_case : (b : Bool) (f why : Refusal) (rest : Option Refusal) → is_odd f ≡ false → (rest ≡ Some why → is_odd why ≡ false) → cond b (Some f) rest ≡ Some why → is_odd why ≡ false
+usual_case true f why rest h ih e = subst (λ z. is_odd z ≡ false) (some_same f why e) h
+usual_case false f why rest h ih e = ih e
+
+usual_first : (cs : List (Bool × Refusal)) (why : Refusal) → AllUsual cs → first_refusal cs ≡ Some why → is_odd why ≡ false
+usual_first [] why h e = none_some why e
+usual_first (c ∷ cs) why h e = usual_case c.0 c.1 why (first_refusal cs) h.0 (λ k. usual_first cs why h.1 k) e
+
+usual_checks : (w : World) (e : Move) → AllUsual (objections w e)
+usual_checks w (AddsTopic clock) = tt
+usual_checks w Opens = tt
+usual_checks w (Commits c sends) = (refl, (refl, (refl, (refl, (refl, tt)))))
+usual_checks w (Subscribes c t) = (refl, (refl, (refl, (refl, tt))))
+usual_checks w (Unsubscribes c s) = (refl, (refl, (refl, (refl, tt))))
+usual_checks w (Disconnects c) = (refl, (refl, (refl, tt)))
+usual_checks w (Errs c) = (refl, (refl, (refl, tt)))
+usual_checks w (Lost c) = (refl, (refl, (refl, tt)))
+usual_checks w (Leaves c) = (refl, (refl, (refl, (refl, tt))))
+usual_checks w (Proposes c t memory) = (refl, (refl, (refl, (refl, (refl, (refl, tt))))))
+usual_checks w (Decides c) = (refl, (refl, (refl, (refl, (refl, tt)))))
+usual_checks w (Withdraws c) = (refl, (refl, (refl, (refl, tt))))
+usual_checks w (Cancels c t) = (refl, (refl, (refl, tt)))
+usual_checks w (Learns t id) = (refl, tt)
+usual_checks w (Releases t) = (refl, (refl, tt))
+usual_checks w (Turns t) = (refl, tt)
+usual_checks w (Takes s) = (refl, (refl, (refl, tt)))
+
+usual_learn : (why : Refusal) (o : Option LearnFault) → (o ≡ None) ⊎ (o ≡ Some LearnFault.NotPending) → learn_refusal o ≡ Some why → is_odd why ≡ false
+usual_learn why o (inl n) e = none_some why (sym (ap learn_refusal n) ∙ e)
+usual_learn why o (inr n) e = subst (λ z. is_odd z ≡ false) (some_same Refusal.NotPending why (sym (ap learn_refusal n) ∙ e)) refl
+
+learning_usual : (past : List Answer) (w : World) (t : Topic) (id : TxnId) (why : Refusal) → Reached past w → (o : Option Decision) → find_verdict id w.verdicts ≡ o → learn_objection w t id o ≡ Some why → is_odd why ≡ false
+learning_usual past w t id why h None f e = subst (λ z. is_odd z ≡ false) (some_same Refusal.NotDecided why e) refl
+learning_usual past w t id why h (Some v) f e = usual_learn why (learn_fault id v (topic_at w t)) (learn_fault_is (tickets past) w t id v h.inv f) e
+
+-- a leftover part hasn't learnt
+cancel_usual : (past : List Answer) (w : World) (t : Topic) (k : Leftover) (why : Refusal) → Reached past w → ((p : Pending) → In p (topic_in w.topics t).pending → p.part.id ≡ k.id → is_some p.learnt ≡ false) → (o : Option Pending) → find_pending k.id (topic_in w.topics t).pending ≡ o → cancel_refusal (cancel_fault_of o) ≡ Some why → is_odd why ≡ false
+cancel_usual past w t k why h un None f e = subst (λ z. is_odd z ≡ false) (some_same Refusal.NotPending why e) refl
+cancel_usual past w t k why h un (Some p) f e =
+    let g = found_part k.id (topic_in w.topics t).pending p f in
+    none_some why (sym (ap (λ (b : Bool). cancel_refusal (cond b (Some CancelFault.Decided) None)) (un p g.stands g.is)) ∙ e)
+
+unlearnt : (past : List Answer) (w : World) (t : Topic) (s : ℕ) (k : Leftover) → Reached past w → In k (Rattle.delivery.proofs.Machine.Invariant.sender_in w.senders s).leftovers → (p : Pending) → In p (topic_in w.topics t).pending → p.part.id ≡ k.id → (o : Option Stamp) → p.learnt ≡ o → is_some o ≡ false
+unlearnt past w t s k h i p j e None d = refl
+unlearnt past w t s k h i p j e (Some stamp) d =
+    let c = (h.inv.tied t).decided p j stamp d in
+    absurd (((h.inv.serves s).left k i).uncommitted c.row c.stands (Rattle.mcast_txn.proofs.Orders.id_same c.row.txn.id k.id (c.id_is ∙ e)))
+
+cancelling_usual : (past : List Answer) (w : World) (c : ℕ) (t : Topic) (why : Refusal) → Reached past w → (o : Option Leftover) → find_leftover t (speaker w c).leftovers ≡ o → cancel_objection w t o ≡ Some why → is_odd why ≡ false
+cancelling_usual past w c t why h None f e = subst (λ z. is_odd z ≡ false) (some_same Refusal.NotNamed why e) refl
+cancelling_usual past w c t why h (Some k) f e =
+    let g = leftover_found t (speaker w c).leftovers k f in
+    cancel_usual past w t k why h (λ p i d. unlearnt past w t (connection_at w c).sender k h g.stands p i d p.learnt refl)
+    (find_pending k.id (topic_in w.topics t).pending) refl e
+
+topic_usual : (past : List Answer) (w : World) (e : Move) (why : Refusal) → Reached past w → topic_objection w e ≡ Some why → is_odd why ≡ false
+topic_usual past w (Cancels c t) why h e = cancelling_usual past w c t why h (find_leftover t (speaker w c).leftovers) refl e
+topic_usual past w (Learns t id) why h e = learning_usual past w t id why h (find_verdict id w.verdicts) refl e
+topic_usual past w e why h k = none_some why k
+
+else_usual : (a b : Option Refusal) (why : Refusal) → (a ≡ Some why → is_odd why ≡ false) → (b ≡ Some why → is_odd why ≡ false) → or_else a b ≡ Some why → is_odd why ≡ false
+else_usual None b why f g e = g e
+else_usual (Some x) b why f g e = f e
+
+refusal_usual : (past : List Answer) (w : World) (e : Move) (why : Refusal) → Reached past w → move_refusal w e ≡ Some why → is_odd why ≡ false
+refusal_usual past w e why h =
+    else_usual (first_refusal (objections w e)) (topic_objection w e) why (usual_first (objections w e) why (usual_checks w e)) (topic_usual past w e why h)
+
+pub outcome_case : (w : World) (e : Move) (why : Refusal) (o : Option Refusal) → (move_answer w e ≡ Refused why → Prim.⊥) → elim o [ None ↦ move_answer w e | Some other ↦ Refused other ] ≡ Refused why → o ≡ Some why
+outcome_case w e why None never k = absurd (never k)
+outcome_case w e why (Some other) never k = let d : other ≡ why = cc in ap Some d
+
+outcome_usual : (past : List Answer) (w : World) (e : Move) (why : Refusal) → Reached past w → answer_to w e ≡ Refused why → is_odd why ≡ false
+outcome_usual past w e why h k = refusal_usual past w e why h (outcome_case w e why (move_refusal w e) (no_answer w e why) k)
+
+odd_run : (es : List Move) (past : List Answer) (w : World) → Reached past w → ((why : Refusal) → In (Refused why) past → is_odd why ≡ false) → (why : Refusal) → In (Refused why) (answers_from es w past) → is_odd why ≡ false
+odd_run [] past w h old = old
+odd_run (e ∷ es) past w h old =
+    odd_run es (answer_to w e ∷ past) (world_after w e) (step_reached past w e h)
+    (λ why i. elim i [ inl k ↦ outcome_usual past w e why h k | inr k ↦ old why k ])
+
+pub odd_never_comes : Laws.OddNeverComes
+odd_never_comes r = odd_run r.events [] (start r.capacity r.log_limit r.clocks) (start_reached r.capacity r.log_limit r.clocks) (λ why i. absurd i)
+
+pub found_is_learnt : Laws.FoundIsLearnt
+found_is_learnt r t id v e = learn_fault_is (tickets (answers_of r)) (final_world r) t id v (reached r).inv e
+
+-- ---- lag
+
+given_case : (w : World) (frontier : Stamp) (p : Pending) (number : ℕ) (from : Stamp) (accepted : List Item) (b : Bool) → let before : Entry = record { number = number; from = from; to = None; accepted = accepted } in has_room w before ≡ b → IsGiven w frontier p before (cond b (record before { accepted = accepted ++ item_of p ∷ [] }) (record before { to = Some frontier }))
+given_case w frontier p number from accepted true e = record { number = refl; room = λ k. (refl, refl); full = λ k. absurd (true≢false (sym e ∙ k)) }
+given_case w frontier p number from accepted false e = record { number = refl; room = λ k. absurd (true≢false (sym k ∙ e)); full = λ k. (refl, refl) }
+
+given_of : (w : World) (frontier : Stamp) (p : Pending) (number : ℕ) (from : Stamp) (to : Option Stamp) (accepted : List Item) → to ≡ None → let before : Entry = record { number = number; from = from; to = to; accepted = accepted } in IsGiven w frontier p before (entry_after (has_room w) frontier (item_of p) before)
+given_of w frontier p number from None accepted e = given_case w frontier p number from accepted (has_room w (record { number = number; from = from; to = None; accepted = accepted })) refl
+given_of w frontier p number from (Some end) accepted e = none_some end (sym e)
+
+happens_when : (w : World) (e : Move) → move_refusal w e ≡ None → world_after w e ≡ move_effect w e
+happens_when w e n = ap (λ (o : Option Refusal). pick o) n
+  where
+    pick : Option Refusal → World
+    pick o = elim o [ None ↦ move_effect w e | Some why ↦ w ]
+
+stepped_case : (step : Entry → Entry) (b : Bool) (x e : Entry) (o p : Option Entry) → (o ≡ Some e → p ≡ Some (step e)) → cond b (Some x) o ≡ Some e → cond b (Some (step x)) p ≡ Some (step e)
+stepped_case step true x e o p ih k = ap (λ z. Some (step z)) (some_same x e k)
+stepped_case step false x e o p ih k = ih k
+
+-- where each subscription makes a step that keeps its number, the one of a number is what it was after its step
+find_stepped : (n : ℕ) (step : Entry → Entry) → ((e : Entry) → (step e).number ≡ e.number) → (es : List Entry) (e : Entry) → find_entry n es ≡ Some e → find_entry n (map step es) ≡ Some (step e)
+find_stepped n step number [] e k = none_some e k
+find_stepped n step number (x ∷ es) e k =
+    subst (λ (a : ℕ). cond (a == n) (Some (step x)) (find_entry n (map step es)) ≡ Some (step e)) (sym (number x))
+    (stepped_case step (x.number == n) x e (find_entry n es) (find_entry n (map step es)) (find_stepped n step number es e) k)
+
+pub lags_where_full : Laws.LagsWhereFull
+lags_where_full w t p number before n due found unended =
+    let x = topic_at w t in let later = entry_after (has_room w) x.frontier (item_of p) before in
+    let room = Rattle.std.proofs.lemmas.Bool.ltb-true t.0 (length w.topics) (false_not (ltb t.0 (length w.topics)) (checked w (Releases t) n).0) in (
+      later,
+      subst (λ (v : World). find_entry number (topic_at v t).subscriptions ≡ Some later) (sym (happens_when w (Releases t) n))
+          (at_set_within (λ (z : TopicState). find_entry number z.subscriptions ≡ Some later) w.topics t.0 t.0 (after_release (has_room w) x) (new_topic t 0 0) room
+          (λ k. subst (λ (o : Option Pending). find_entry number (after_release_if (has_room w) x o).subscriptions ≡ Some later) (sym due)
+          (find_stepped number (entry_after (has_room w) x.frontier (item_of p)) (delivered_number (has_room w) x.frontier (item_of p)) x.subscriptions before found))
+          (λ ne. absurd (ne refl))),
+      given_of w x.frontier p before.number before.from before.to before.accepted unended,
+    )

@@ -1,0 +1,32 @@
+-- Each topic of a run is sound and undrained, and a settled topic's frontier is at least each stamp that names it.
+use Rattle.std.proofs.Common.{◌≡◌, false, ◌∙◌, ap, subst}
+use Rattle.mcast_txn.specs.Stamp.{stamp_lt}
+use Rattle.mcast_txn.specs.Agreed.{CommitRow}
+use Rattle.mcast_txn.specs.Lists.{In}
+use Rattle.mcast_txn.specs.declared.id.Topic.{Topic}
+use Rattle.mcast_txn.specs.Span.{last_stamp}
+use Rattle.mcast_group.specs.Sound.{IsSound}
+use Rattle.delivery.specs.Theorem.Due.{log_row}
+use Rattle.delivery.specs.Machine.World.{topic_at}
+use Rattle.delivery.specs.Machine.Observed.{log_at, frontier_at}
+use Rattle.delivery.specs.Theorem.Laws
+use Rattle.delivery.specs.Theorem.Laws.{Run, answers_of, final_world}
+use Rattle.delivery.proofs.Theorem.AcceptedIsDue.{reached}
+use Rattle.delivery.proofs.Theorem.SettledLeavesNoneOut.{settled_in_log}
+
+is_sound : (r : Run) (t : Topic) → IsSound (topic_at (final_world r) t)
+is_sound r t = ((reached r).inv.tied t).sound
+
+frontier_is_last : (r : Run) (t : Topic) → (topic_at (final_world r) t).frontier ≡ frontier_at (final_world r) t
+frontier_is_last r t =
+    let k = (reached r).inv.tied t in k.sound.frontier ∙ ap (λ b. last_stamp b (topic_at (final_world r) t).held) k.undrained
+
+pub topics_are_sound : Laws.TopicsAreSound
+topics_are_sound r t = (is_sound r t, ((reached r).inv.tied t).undrained, frontier_is_last r t)
+
+settled_at_most : (r : Run) (t : Topic) (row : CommitRow) → In (log_row row) (log_at (final_world r) t) → stamp_lt (frontier_at (final_world r) t) row.stamp ≡ false
+settled_at_most r t row i = subst (λ f. stamp_lt f row.stamp ≡ false) (frontier_is_last r t) ((is_sound r t).past (log_row row) i)
+
+pub settled_leaves_none_out : Laws.SettledLeavesNoneOut
+settled_leaves_none_out r t row settled i n =
+    let l = settled_in_log r t row settled i n in (l, settled_at_most r t row l)

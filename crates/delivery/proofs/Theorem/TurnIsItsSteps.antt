@@ -1,0 +1,207 @@
+-- A turn is its learns and its releases, one by one, and what its topic's log gets of it.
+use Rattle.std.proofs.Common.{◌≡◌, ℕ, zero, suc, ◌-◌, ◌<◌, Bool, true, not, inl, inr, List, [], ◌∷◌, ◌++◌, map, length, set, Option, Some, None, refl, sym, ap, ◌∙◌, arith}
+use Rattle.std.specs.Option.{is_some}
+use Rattle.std.proofs.lemmas.Bool.{lt-ltb, le-ltb, ltb-true}
+use Rattle.std.proofs.lemmas.List.{length-set, get_or_past, get_or-set_same, set-get_or, set-set}
+use Rattle.mcast_txn.specs.Ballot.{Decision}
+use Rattle.mcast_txn.specs.declared.id.Topic.{Topic}
+use Rattle.mcast_txn.specs.declared.id.TxnId.{TxnId}
+use Rattle.mcast_group.specs.declared.fault.LearnFault.{LearnFault}
+use Rattle.mcast_txn.specs.Checks.{first_refusal}
+use Rattle.mcast_txn.specs.Span.{LogRow}
+use Rattle.mcast_group.specs.Machine.{TopicState, Pending, Entry, row_of, new_topic, learn_fault, after_learn, with_stamp, after_try, after_tries, due_part, after_release_if, after_release, after_releases, after_turn, decided_stamp}
+use Rattle.mcast_group.proofs.Parts.{map_length}
+use Rattle.delivery.specs.declared.refusal.Refusal.{Refusal}
+use Rattle.delivery.specs.Machine.World.{World, topic_at, with_topic}
+use Rattle.delivery.specs.Machine.Observed.{log_at}
+use Rattle.delivery.specs.Machine.Moves.{Move, world_after, move_effect, or_else, is_topic, learn_refusal, learn_objection, learn_effect, verdict_in, has_room, move_answer, release_answer}
+use Rattle.delivery.specs.Machine.Moves.Move.{Learns, Releases, Turns}
+use Rattle.delivery.specs.Machine.Moves.Answer.{Released, Turned}
+use Rattle.delivery.specs.Machine.Runs.{run}
+use Rattle.delivery.specs.Theorem.Laws
+use Rattle.delivery.proofs.Theorem.PlainDue.{append_again}
+use Rattle.delivery.proofs.Machine.InvariantIsKept.{by_refusal, checked, false_not}
+use Rattle.delivery.proofs.Theorem.SpansAsAnswered.{within}
+
+-- the world after a step: the new one, or the old one where it is refused
+abbrev stepped : World → World → Option Refusal → World
+stepped old new o = elim o [ None ↦ new | Some why ↦ old ]
+
+-- ---- a topic that is written
+
+twice : (w : World) (t : Topic) (x y : TopicState) → with_topic (with_topic w t x) t y ≡ with_topic w t y
+twice w t x y = ap (λ (z : List TopicState). record w { topics = z }) (set-set w.topics t.0 x y)
+
+unwritten : (w : World) (t : Topic) → with_topic w t (topic_at w t) ≡ w
+unwritten w t = ap (λ (z : List TopicState). record w { topics = z }) (set-get_or w.topics t.0 (new_topic t 0 0))
+
+is_read : (w : World) (t : Topic) (x : TopicState) → t.0 < length w.topics → topic_at (with_topic w t x) t ≡ x
+is_read w t x room = get_or-set_same w.topics t.0 x (new_topic t 0 0) room
+
+is_there : (w : World) (t : Topic) (x : TopicState) → t.0 < length w.topics → is_topic (with_topic w t x) t ≡ true
+is_there w t x room = lt-ltb t.0 (length (set w.topics t.0 x)) (let n = length-set w.topics t.0 x in omega arith)
+
+-- ---- a learning
+
+fault_case : (w : World) (t : Topic) (id : TxnId) (v : Decision) (x : TopicState) (o : Option LearnFault) → let u = with_topic w t x in stepped u (with_topic u t (after_learn id (decided_stamp v) x)) (learn_refusal o) ≡ with_topic w t (elim o [ None ↦ after_learn id (decided_stamp v) x | Some fault ↦ x ])
+fault_case w t id v x None = twice w t x (after_learn id (decided_stamp v) x)
+fault_case w t id v x (Some fault) = refl
+
+learn_case : (w : World) (t : Topic) (id : TxnId) (x : TopicState) (o : Option Decision) → t.0 < length w.topics → let u = with_topic w t x in stepped u (learn_effect u t id o) (learn_objection u t id o) ≡ with_topic w t (after_try id o x)
+learn_case w t id x None room = refl
+learn_case w t id x (Some v) room =
+    let u = with_topic w t x in
+    ap (λ (z : TopicState). stepped u (with_topic u t (after_learn id (decided_stamp v) z)) (learn_refusal (learn_fault id v z))) (is_read w t x room)
+    ∙ fault_case w t id v x (learn_fault id v x)
+
+learn_step : (w : World) (t : Topic) (id : TxnId) (x : TopicState) → t.0 < length w.topics → world_after (with_topic w t x) (Learns t id) ≡ with_topic w t (after_try id (verdict_in w id) x)
+learn_step w t id x room =
+    let u = with_topic w t x in
+    ap (λ (b : Bool). stepped u (move_effect u (Learns t id)) (or_else (first_refusal ((not b, Refusal.NotNamed) ∷ [])) (learn_objection u t id (verdict_in w id)))) (is_there w t x room)
+    ∙ learn_case w t id x (verdict_in w id) room
+
+learn_steps : (w : World) (t : Topic) (ps : List Pending) (x : TopicState) → t.0 < length w.topics → run (map (λ p. Learns t p.part.id) ps) (with_topic w t x) ≡ with_topic w t (after_tries (verdict_in w) ps x)
+learn_steps w t [] x room = refl
+learn_steps w t (p ∷ ps) x room =
+    ap (run (map (λ q. Learns t q.part.id) ps)) (learn_step w t p.part.id x room)
+    ∙ learn_steps w t ps (after_try p.part.id (verdict_in w p.part.id) x) room
+
+-- ---- a release
+
+due_case : (w : World) (t : Topic) (x : TopicState) (o : Option Pending) → let u = with_topic w t x in let y = after_release_if (has_room w) x o in stepped u (with_topic u t y) (or_else (first_refusal ((not (is_some o), Refusal.NothingDue) ∷ [])) None) ≡ with_topic w t y
+due_case w t x None = refl
+due_case w t x (Some p) = twice w t x (after_release_if (has_room w) x (Some p))
+
+release_step : (w : World) (t : Topic) (x : TopicState) → t.0 < length w.topics → world_after (with_topic w t x) (Releases t) ≡ with_topic w t (after_release (has_room w) x)
+release_step w t x room =
+    let u = with_topic w t x in
+    ap (λ (b : Bool). stepped u (move_effect u (Releases t)) (or_else (first_refusal ((not b, Refusal.NotNamed) ∷ (not (is_some (due_part (topic_at u t))), Refusal.NothingDue) ∷ [])) None)) (is_there w t x room)
+    ∙ (ap (λ (z : TopicState). stepped u (with_topic u t (after_release (has_room w) z)) (or_else (first_refusal ((not (is_some (due_part z)), Refusal.NothingDue) ∷ [])) None)) (is_read w t x room)
+    ∙ due_case w t x (due_part x))
+
+release_steps : (w : World) (t : Topic) (ps : List Pending) (x : TopicState) → t.0 < length w.topics → run (map (λ p. Releases t) ps) (with_topic w t x) ≡ with_topic w t (after_releases (has_room w) (length ps) x)
+release_steps w t [] x room = refl
+release_steps w t (p ∷ ps) x room =
+    ap (run (map (λ q. Releases t) ps)) (release_step w t x room)
+    ∙ release_steps w t ps (after_release (has_room w) x) room
+
+-- ---- the whole turn
+
+tried_length : (id : TxnId) (o : Option Decision) (x : TopicState) → length (after_try id o x).pending ≡ length x.pending
+tried_length id None x = refl
+tried_length id (Some v) x = by (learn_fault id v x)
+  where
+    by : (o : Option LearnFault) → let y : TopicState = elim o [ None ↦ after_learn id (decided_stamp v) x | Some fault ↦ x ] in length y.pending ≡ length x.pending
+    by None = map_length (with_stamp id (decided_stamp v)) x.pending
+    by (Some fault) = refl
+
+all_length : (find : TxnId → Option Decision) (ps : List Pending) (x : TopicState) → length (after_tries find ps x).pending ≡ length x.pending
+all_length find [] x = refl
+all_length find (p ∷ ps) x = all_length find ps (after_try p.part.id (find p.part.id) x) ∙ tried_length p.part.id (find p.part.id) x
+
+run_append : (es fs : List Move) (w : World) → run (es ++ fs) w ≡ run fs (run es w)
+run_append [] fs w = refl
+run_append (e ∷ es) fs w = run_append es fs (world_after w e)
+
+abbrev steps_of : Topic → List Pending → List Move
+steps_of t ps = map (λ p. Learns t p.part.id) ps ++ map (λ p. Releases t) ps
+
+turn_within : (w : World) (t : Topic) → t.0 < length w.topics → with_topic w t (after_turn (has_room w) (verdict_in w) (topic_at w t)) ≡ run (steps_of t (topic_at w t).pending) w
+turn_within w t room =
+    let x = topic_at w t in let y = after_tries (verdict_in w) x.pending x in
+    let learns = map (λ (p : Pending). Learns t p.part.id) x.pending in let releases = map (λ (p : Pending). Releases t) x.pending in
+    ap (λ (k : ℕ). with_topic w t (after_releases (has_room w) k y)) (all_length (verdict_in w) x.pending x)
+    ∙ (sym (release_steps w t x.pending y room)
+    ∙ (ap (run releases) (sym (learn_steps w t x.pending x room))
+    ∙ (ap (λ (v : World). run releases (run learns v)) (unwritten w t) ∙ sym (run_append learns releases w))))
+
+turn_when : (w : World) (t : Topic) (b : Bool) → is_topic w t ≡ b → world_after w (Turns t) ≡ stepped w (move_effect w (Turns t)) (or_else (first_refusal ((not b, Refusal.NotNamed) ∷ [])) None)
+turn_when w t b e = ap (λ (z : Bool). stepped w (move_effect w (Turns t)) (or_else (first_refusal ((not z, Refusal.NotNamed) ∷ [])) None)) e
+
+pub turn_is_its_steps : Laws.TurnIsItsSteps
+turn_is_its_steps w t = elim (within t.0 (length w.topics)) [
+  | inl l ↦ turn_when w t true (lt-ltb t.0 (length w.topics) l) ∙ turn_within w t l
+  | inr l ↦ turn_when w t _ (le-ltb t.0 (length w.topics) l)
+      ∙ ap (λ (x : TopicState). run (steps_of t x.pending) w) (sym (get_or_past w.topics t.0 (new_topic t 0 0) l))
+]
+
+-- ---- the log
+
+-- y's log is x's with more rows behind
+record Longer (x y : TopicState) : Type 0 where
+  rows : List LogRow
+  is : y.held ≡ x.held ++ rows
+
+append_nothing : (xs : List LogRow) → xs ≡ xs ++ []
+append_nothing [] = refl
+append_nothing (x ∷ xs) = ap (λ z. x ∷ z) (append_nothing xs)
+
+Longer-same : (x y : TopicState) → y.held ≡ x.held → Longer x y
+Longer-same x y e = record { rows = []; is = e ∙ append_nothing x.held }
+
+Longer-then : (x y z : TopicState) → Longer x y → Longer y z → Longer x z
+Longer-then x y z a b = record {
+  rows = a.rows ++ b.rows;
+  is = b.is ∙ (ap (λ (rows : List LogRow). rows ++ b.rows) a.is ∙ append_again x.held a.rows b.rows);
+}
+
+released_longer : (accepts : Entry → Bool) (x : TopicState) (o : Option Pending) → Longer x (after_release_if accepts x o)
+released_longer accepts x None = Longer-same x x refl
+released_longer accepts x (Some p) = record { rows = row_of p ∷ []; is = refl }
+
+times_longer : (accepts : Entry → Bool) (k : ℕ) (x : TopicState) → Longer x (after_releases accepts k x)
+times_longer accepts zero x = Longer-same x x refl
+times_longer accepts (suc k) x =
+    let y = after_release accepts x in Longer-then x y (after_releases accepts k y) (released_longer accepts x (due_part x)) (times_longer accepts k y)
+
+tried_held : (id : TxnId) (o : Option Decision) (x : TopicState) → (after_try id o x).held ≡ x.held
+tried_held id None x = refl
+tried_held id (Some v) x = by (learn_fault id v x)
+  where
+    by : (o : Option LearnFault) → let y : TopicState = elim o [ None ↦ after_learn id (decided_stamp v) x | Some fault ↦ x ] in y.held ≡ x.held
+    by None = refl
+    by (Some fault) = refl
+
+all_held : (find : TxnId → Option Decision) (ps : List Pending) (x : TopicState) → (after_tries find ps x).held ≡ x.held
+all_held find [] x = refl
+all_held find (p ∷ ps) x = all_held find ps (after_try p.part.id (find p.part.id) x) ∙ tried_held p.part.id (find p.part.id) x
+
+turned_longer : (accepts : Entry → Bool) (find : TxnId → Option Decision) (x : TopicState) → Longer x (after_turn accepts find x)
+turned_longer accepts find x =
+    let y = after_tries find x.pending x in
+    Longer-then x y (after_turn accepts find x) (Longer-same x y (all_held find x.pending x)) (times_longer accepts (length y.pending) y)
+
+more_rows : (xs ys : List LogRow) → length (xs ++ ys) - length xs ≡ length ys
+more_rows [] ys = omega arith
+more_rows (x ∷ xs) ys = let h : length (xs ++ ys) - length xs ≡ length ys = more_rows xs ys in omega arith
+
+counts_rows : (x y : TopicState) (h : Longer x y) → length h.rows ≡ length y.held - length x.held
+counts_rows x y h = sym (ap (λ (rows : List LogRow). length rows - length x.held) h.is ∙ more_rows x.held h.rows)
+
+-- the log of a topic that is there, as it is written
+log_written : (w : World) (t : Topic) (x : TopicState) → is_topic w t ≡ true → log_at (with_topic w t x) t ≡ x.held
+log_written w t x e = ap (λ (z : TopicState). z.held) (is_read w t x (ltb-true t.0 (length w.topics) e))
+
+released_case : (w : World) (t u : Topic) (id : TxnId) (o : Option Pending) → is_topic w t ≡ true → release_answer t o ≡ Released u id → (u ≡ t) × (row : LogRow) × (row.id ≡ id) × (log_at (with_topic w t (after_release_if (has_room w) (topic_at w t) o)) t ≡ log_at w t ++ row ∷ [])
+released_case w t u id None room e = cc
+released_case w t u id (Some p) room e =
+    let a : u ≡ t = cc in let b : p.part.id ≡ id = cc in
+    (a, row_of p, b, log_written w t (after_release_if (has_room w) (topic_at w t) (Some p)) room)
+
+pub released_is_logged : Laws.ReleasedIsLogged
+released_is_logged w t u id =
+    by_refusal (λ v o. o ≡ Released u id → (u ≡ t) × (row : LogRow) × (row.id ≡ id) × (log_at v t ≡ log_at w t ++ row ∷ [])) w (Releases t)
+    (λ why e. cc)
+    (λ n e. released_case w t u id (due_part (topic_at w t)) (false_not (is_topic w t) (checked w (Releases t) n).0) e)
+
+turned_here : (w : World) (t u : Topic) (count : ℕ) → is_topic w t ≡ true → move_answer w (Turns t) ≡ Turned u count → (u ≡ t) × (rows : List LogRow) × (length rows ≡ count) × (log_at (move_effect w (Turns t)) t ≡ log_at w t ++ rows)
+turned_here w t u count room e =
+    let x = topic_at w t in let y = after_turn (has_room w) (verdict_in w) x in let h = turned_longer (has_room w) (verdict_in w) x in
+    let a : u ≡ t = cc in let b : length y.held - length x.held ≡ count = cc in
+    (a, h.rows, counts_rows x y h ∙ b, log_written w t y room ∙ h.is)
+
+pub turned_is_logged : Laws.TurnedIsLogged
+turned_is_logged w t u count =
+    by_refusal (λ v o. o ≡ Turned u count → (u ≡ t) × (rows : List LogRow) × (length rows ≡ count) × (log_at v t ≡ log_at w t ++ rows)) w (Turns t)
+    (λ why e. cc)
+    (λ n e. turned_here w t u count (false_not (is_topic w t) (checked w (Turns t) n).0) e)

@@ -1,0 +1,5 @@
+-- The ordering machine: what the core holds of topics, senders, connections and subscriptions, and its moves.
+pub mod World
+pub mod Observed
+pub mod Moves
+pub mod Runs

@@ -1,0 +1,459 @@
+-- The core's events so far as they touch topics and transactions: what each refuses, what it does, and what it answers.
+use Rattle.std.specs.Prelude.{ℕ, zero, suc, ◌-◌, ◌+◌, ◌==◌, nat_lt, Bool, not, ◌&&◌, ◌||◌, List, [], ◌∷◌, ◌++◌, map, length, Option, Some, None, if◌then◌else◌}
+use Rattle.std.specs.List.{list_any, list_all}
+use Rattle.std.specs.Option.{is_some}
+use Rattle.mcast_txn.specs.declared.id.Topic.{Topic}
+use Rattle.mcast_txn.specs.declared.id.TxnId.{TxnId}
+use Rattle.mcast_txn.specs.declared.draft.sent_message.SentMessage.{SentMessage}
+use Rattle.mcast_txn.specs.declared.stamp.Stamp.{Stamp}
+use Rattle.mcast_txn.specs.Stamp.{zero_stamp, greatest}
+use Rattle.mcast_txn.specs.Part.{part_at}
+use Rattle.mcast_txn.specs.Transaction.{topics_of}
+use Rattle.mcast_txn.specs.Agreed.{Transaction}
+use Rattle.mcast_txn.specs.Ids.{same_id}
+use Rattle.mcast_txn.specs.TopicSet.{names}
+use Rattle.mcast_txn.specs.Ballot.{Decision}
+use Rattle.mcast_group.specs.declared.fault.ProposeFault.{ProposeFault}
+use Rattle.mcast_group.specs.declared.fault.LearnFault.{LearnFault}
+use Rattle.mcast_group.specs.declared.fault.CancelFault.{CancelFault}
+use Rattle.mcast_txn.specs.Checks.{first_refusal}
+use Rattle.mcast_txn.specs.Span.{Item}
+use Rattle.mcast_group.specs.Machine.{Entry, Pending, new_topic, last_number, next_number, propose_fault, after_propose, learn_fault, after_learn, cancel_fault, after_cancel, due_part, after_release, after_turn, turn_count, after_subscribe, end_of, after_unsubscribe, decided_stamp}
+use Rattle.delivery.specs.declared.refusal.Refusal.{Refusal}
+use Rattle.delivery.specs.Machine.World.{World, Undecided, Leftover, Subscription, Standing, is_reading, is_gone, topic_at, new_sender, connection_at, speaker, subscription_at, entry_at, with_topic, with_sender, with_standing, with_subscription}
+use Rattle.delivery.specs.Machine.Observed.{accepted_at, end_at}
+
+-- what may be asked of the core; a run is a list of these
+pub data Move : Type 0 where
+  -- a topic is added, with this opening clock
+  AddsTopic : (clock : ℕ) → Move
+  -- a connection is opened; a sender of its own comes with it
+  Opens : Move
+  -- a frame that commits these SENDs
+  Commits : (c : ℕ) (sends : List SentMessage) → Move
+  -- SUBSCRIBE to t; UNSUBSCRIBE of s; DISCONNECT; a frame with a fault, which an ERROR answers
+  Subscribes : (c : ℕ) (t : Topic) → Move
+  Unsubscribes : (c s : ℕ) → Move
+  Disconnects : (c : ℕ) → Move
+  Errs : (c : ℕ) → Move
+  -- the connection is lost; the next step of its leaving
+  Lost : (c : ℕ) → Move
+  Leaves : (c : ℕ) → Move
+  -- the undecided transaction is proposed at t, with memory for its part or without
+  Proposes : (c : ℕ) (t : Topic) (memory : Bool) → Move
+  Decides : (c : ℕ) → Move
+  Withdraws : (c : ℕ) → Move
+  Cancels : (c : ℕ) (t : Topic) → Move
+  Learns : (t : Topic) (id : TxnId) → Move
+  Releases : (t : Topic) → Move
+  Turns : (t : Topic) → Move
+  Takes : (s : ℕ) → Move
+
+-- what came of an event, with all that a reader of the run needs
+pub data Answer : Type 0 where
+  Refused : (why : Refusal) → Answer
+  Done : Answer
+  -- a connection was opened: its number
+  Opened : (c : ℕ) → Answer
+  -- a transaction was made: it is in flight
+  Begun : (txn : Transaction) → Answer
+  Subscribed : (s c : ℕ) (t : Topic) (from : Stamp) → Answer
+  Unsubscribed : (s : ℕ) (to : Stamp) → Answer
+  -- the connection is leaving: by itself, or by an ERROR; it is gone
+  Leaving : (c : ℕ) → Answer
+  Error : (c : ℕ) → Answer
+  Gone : (c : ℕ) → Answer
+  -- a topic gave a ticket; it refused, and the transaction is marked
+  Ticket : (id : TxnId) (ticket : Stamp) → Answer
+  Failed : (id : TxnId) (why : ProposeFault) → Answer
+  -- the transaction was decided; it was withdrawn, and its connection is leaving by an ERROR
+  Decided : (id : TxnId) (stamp : Stamp) → Answer
+  Withdrawn : (id : TxnId) (c : ℕ) → Answer
+  Cancelled : (id : TxnId) (t : Topic) → Answer
+  Learnt : (id : TxnId) (t : Topic) → Answer
+  -- the transaction's part was released at t; so many parts were
+  Released : (t : Topic) (id : TxnId) → Answer
+  Turned : (t : Topic) (count : ℕ) → Answer
+  Handed : (s : ℕ) (item : Item) → Answer
+
+-- ---- tests
+
+-- there is no such connection, or it is gone
+abbrev pub needs_connection : World → ℕ → List (Bool × Refusal)
+needs_connection w c =
+    (not (nat_lt c (length w.connections)), Refusal.NoConn) ∷ (is_gone (connection_at w c).standing, Refusal.Gone) ∷ []
+
+-- so too where it is leaving or has an undecided transaction: no frame is read
+abbrev pub needs_idle : World → ℕ → List (Bool × Refusal)
+needs_idle w c =
+    needs_connection w c ++ (not (is_reading (connection_at w c).standing) || is_some (speaker w c).flight, Refusal.Busy) ∷ []
+
+-- there is a topic of this number
+abbrev pub is_topic : World → Topic → Bool
+is_topic w t = nat_lt t.0 (length w.topics)
+
+-- what stands for a flight that there isn't
+abbrev pub no_undecided : Undecided
+no_undecided = record {
+  txn = record { id = record { sender = record { 0 = 0 }; seq = 0 }; sends = [] };
+  given = [];
+  mark = None;
+}
+
+-- the flight, if there is one
+abbrev pub undecided_or_none : Option Undecided → Undecided
+undecided_or_none None = no_undecided
+undecided_or_none (Some f) = f
+
+-- the undecided transaction of the connection's sender
+abbrev pub undecided_at : World → ℕ → Undecided
+undecided_at w c = undecided_or_none (speaker w c).flight
+
+-- the topic gave one of these tickets
+abbrev pub has_ticket : Topic → List Stamp → Bool
+has_ticket t tickets = list_any (λ a. a.topic.0 == t.0) tickets
+
+-- a ticket among others that rise by topic
+abbrev pub insert_ticket : Stamp → List Stamp → List Stamp
+insert_ticket a [] = a ∷ []
+insert_ticket a (b ∷ bs) = if nat_lt a.topic.0 b.topic.0 then a ∷ b ∷ bs else b ∷ insert_ticket a bs
+
+-- each named topic gave a ticket
+abbrev pub is_complete : Undecided → Bool
+is_complete f = list_all (λ t. has_ticket t f.given) (topics_of f.txn.sends)
+
+-- the first uncancelled ticket of t
+abbrev pub find_leftover : Topic → List Leftover → Option Leftover
+find_leftover t [] = None
+find_leftover t (k ∷ ks) = if k.ticket.topic.0 == t.0 then Some k else find_leftover t ks
+
+-- these without the first of t
+abbrev pub drop_leftover : Topic → List Leftover → List Leftover
+drop_leftover t [] = []
+drop_leftover t (k ∷ ks) = if k.ticket.topic.0 == t.0 then ks else k ∷ drop_leftover t ks
+
+-- the verdict of this transaction, if it was decided
+abbrev pub find_verdict : TxnId → List Decision → Option Decision
+find_verdict id [] = None
+find_verdict id (v ∷ vs) = if same_id v.id id then Some v else find_verdict id vs
+
+-- s is a subscription of c that isn't closed
+abbrev pub is_live : ℕ → Subscription → Bool
+is_live c x = x.connection == c && not (is_some x.closed)
+
+-- the number of the oldest subscription of c that isn't closed, where the first has number i
+abbrev pub oldest_live : ℕ → ℕ → List Subscription → Option ℕ
+oldest_live c i [] = None
+oldest_live c i (x ∷ xs) = if is_live c x then Some i else oldest_live c (i + 1) xs
+
+-- ---- the topics' own refusals
+
+-- why a verdict isn't learnt, as the core tells it
+abbrev pub refusal_of_learn : LearnFault → Refusal
+refusal_of_learn LearnFault.NotPending = Refusal.NotPending
+refusal_of_learn LearnFault.Foreign = Refusal.Foreign
+refusal_of_learn LearnFault.Clash = Refusal.Clash
+
+-- the same where there is a fault
+abbrev pub learn_refusal : Option LearnFault → Option Refusal
+learn_refusal None = None
+learn_refusal (Some fault) = Some (refusal_of_learn fault)
+
+-- why a part isn't taken out, as the core tells it
+abbrev pub refusal_of_cancel : CancelFault → Refusal
+refusal_of_cancel CancelFault.NotPending = Refusal.NotPending
+refusal_of_cancel CancelFault.Decided = Refusal.Decided
+
+-- the same where there is a fault
+abbrev pub cancel_refusal : Option CancelFault → Option Refusal
+cancel_refusal None = None
+cancel_refusal (Some fault) = Some (refusal_of_cancel fault)
+
+-- the first refusal, or else what comes after
+abbrev pub or_else : Option Refusal → Option Refusal → Option Refusal
+or_else None after = after
+or_else (Some why) after = Some why
+
+-- what stands against learning the verdict that was found at t
+abbrev pub learn_objection : World → Topic → TxnId → Option Decision → Option Refusal
+learn_objection w t id None = Some Refusal.NotDecided
+learn_objection w t id (Some v) = learn_refusal (learn_fault id v (topic_at w t))
+
+-- what stands against cancelling the ticket that was found for t
+abbrev pub cancel_objection : World → Topic → Option Leftover → Option Refusal
+cancel_objection w t None = Some Refusal.NotNamed
+cancel_objection w t (Some k) = cancel_refusal (cancel_fault k.id (topic_at w t))
+
+-- ---- what is refused
+
+-- what stands against the event, in this order: where the first holds it is refused
+abbrev pub objections : World → Move → List (Bool × Refusal)
+objections w (AddsTopic clock) = []
+objections w Opens = []
+objections w (Commits c sends) =
+    needs_idle w c
+    ++ (not (list_all (λ send. is_topic w send.topic) sends), Refusal.NotNamed)
+    ∷ (nat_lt 0 (length sends) && not (nat_lt (speaker w c).seq last_number), Refusal.SeqFull) ∷ []
+objections w (Subscribes c t) = needs_idle w c ++ (not (is_topic w t), Refusal.NotNamed) ∷ []
+objections w (Unsubscribes c s) =
+    needs_idle w c ++ (not (nat_lt s (length w.subscriptions) && is_live c (subscription_at w s)), Refusal.NoSub) ∷ []
+objections w (Disconnects c) = needs_idle w c
+objections w (Errs c) = needs_idle w c
+objections w (Lost c) = needs_connection w c ++ (not (is_reading (connection_at w c).standing), Refusal.Busy) ∷ []
+objections w (Leaves c) =
+    needs_connection w c
+    ++ (is_reading (connection_at w c).standing, Refusal.NotLeaving)
+    ∷ (
+      not (is_some (oldest_live c 0 w.subscriptions))
+          && (is_some (speaker w c).flight || nat_lt 0 (length (speaker w c).leftovers)),
+      Refusal.Busy,
+    ) ∷ []
+objections w (Proposes c t memory) =
+    needs_connection w c
+    ++ (not (is_some (speaker w c).flight), Refusal.NoFlight)
+    ∷ (is_some (undecided_at w c).mark, Refusal.Marked)
+    ∷ (not (is_topic w t && names t (topics_of (undecided_at w c).txn.sends)), Refusal.NotNamed)
+    ∷ (has_ticket t (undecided_at w c).given, Refusal.Twice) ∷ []
+objections w (Decides c) =
+    needs_connection w c
+    ++ (not (is_some (speaker w c).flight), Refusal.NoFlight)
+    ∷ (is_some (undecided_at w c).mark, Refusal.Marked)
+    ∷ (not (is_complete (undecided_at w c)), Refusal.Incomplete) ∷ []
+objections w (Withdraws c) =
+    needs_connection w c
+    ++ (not (is_some (speaker w c).flight), Refusal.NoFlight)
+    ∷ (not (is_some (undecided_at w c).mark), Refusal.NotMarked) ∷ []
+objections w (Cancels c t) = needs_connection w c ++ (not (is_topic w t), Refusal.NotNamed) ∷ []
+objections w (Learns t id) = (not (is_topic w t), Refusal.NotNamed) ∷ []
+objections w (Releases t) =
+    (not (is_topic w t), Refusal.NotNamed) ∷ (not (is_some (due_part (topic_at w t))), Refusal.NothingDue) ∷ []
+objections w (Turns t) = (not (is_topic w t), Refusal.NotNamed) ∷ []
+objections w (Takes s) =
+    (not (nat_lt s (length w.subscriptions)), Refusal.NoSub)
+    ∷ (is_some (subscription_at w s).closed || not (is_reading (connection_at w (subscription_at w s).connection).standing), Refusal.Gone)
+    ∷ (not (nat_lt (subscription_at w s).taken (length (accepted_at w s))) && not (is_some (end_at w s)), Refusal.NothingDue) ∷ []
+
+-- what the topic refuses of it then
+abbrev pub topic_objection : World → Move → Option Refusal
+topic_objection w (Cancels c t) = cancel_objection w t (find_leftover t (speaker w c).leftovers)
+topic_objection w (Learns t id) = learn_objection w t id (find_verdict id w.verdicts)
+topic_objection w e = None
+
+-- why the event has no effect
+abbrev pub move_refusal : World → Move → Option Refusal
+move_refusal w e = or_else (first_refusal (objections w e)) (topic_objection w e)
+
+-- ---- what is done
+
+-- the transaction that these SENDs make
+abbrev pub next_txn : World → ℕ → List SentMessage → Transaction
+next_txn w c sends = record {
+  id = record { sender = record { 0 = (connection_at w c).sender }; seq = (speaker w c).seq + 1 };
+  sends = sends;
+}
+
+-- the transaction is in flight under the next seq; of no SENDs there is none
+abbrev pub commit_effect : World → ℕ → List SentMessage → World
+commit_effect w c [] = w
+commit_effect w c (first ∷ others) =
+    with_sender w (connection_at w c).sender (record (speaker w c) {
+      seq = (speaker w c).seq + 1;
+      flight = Some (record { txn = next_txn w c (first ∷ others); given = []; mark = None });
+    })
+
+-- a subscription of c to t, after those that there are; its topic gives it the items that it releases from now on
+abbrev pub subscribe_effect : World → ℕ → Topic → World
+subscribe_effect w c t =
+    let x = topic_at w t in
+    record (with_topic w t (after_subscribe (length w.subscriptions) x)) {
+      subscriptions = w.subscriptions ++ record { connection = c; topic = t; from = x.frontier; taken = 0; closed = None } ∷ [];
+    }
+
+-- the same for the entry that was found, if one was
+abbrev pub close_effect_of : World → ℕ → Option Entry → World
+close_effect_of w s None = w
+close_effect_of w s (Some e) =
+    let x = subscription_at w s in
+    with_subscription (with_topic w x.topic (after_unsubscribe s (topic_at w x.topic))) s
+    (record x { closed = Some (end_of (topic_at w x.topic).frontier e) })
+
+-- the subscription is closed: what its entry leaves is kept, and the entry is dropped
+abbrev pub close_effect : World → ℕ → World
+close_effect w s = close_effect_of w s (entry_at w s)
+
+-- the next step of leaving: this subscription is closed; where there is none, the connection is gone
+abbrev pub leave_effect : World → ℕ → Option ℕ → World
+leave_effect w c None = with_standing w c Standing.Gone
+leave_effect w c (Some s) = close_effect w s
+
+-- the core where this connection is leaving
+abbrev pub with_leaving : World → ℕ → World
+with_leaving w c = with_standing w c Standing.Leaving
+
+-- the fault, or else want of memory
+abbrev pub or_out_of_memory : Bool → Option ProposeFault → Option ProposeFault
+or_out_of_memory memory None = if memory then None else Some ProposeFault.NoMemory
+or_out_of_memory memory (Some fault) = Some fault
+
+-- why the topic gives no ticket; want of memory, where nothing else stands against it
+abbrev pub proposal_fault : World → ℕ → Topic → Bool → Option ProposeFault
+proposal_fault w c t memory =
+    or_out_of_memory memory (propose_fault (speaker w c).floor (part_at (undecided_at w c).txn.id (undecided_at w c).txn.sends t) (topic_at w t))
+
+-- the ticket that the topic gives next
+abbrev pub next_ticket : World → ℕ → Topic → Stamp
+next_ticket w c t = record { n = next_number (speaker w c).floor (topic_at w t); topic = t }
+
+-- the core with this undecided transaction of the connection's sender
+abbrev pub with_undecided : World → ℕ → Undecided → World
+with_undecided w c f = with_sender w (connection_at w c).sender (record (speaker w c) { flight = Some f })
+
+-- the part is pending at t and its ticket is the flight's, or the flight is marked
+abbrev pub propose_effect : World → ℕ → Topic → Option ProposeFault → World
+propose_effect w c t None =
+    let f = undecided_at w c in
+    with_undecided (with_topic w t (after_propose (speaker w c).floor (part_at f.txn.id f.txn.sends t) (topic_at w t))) c
+    (record f { given = insert_ticket (next_ticket w c t) f.given })
+propose_effect w c t (Some fault) = with_undecided w c (record (undecided_at w c) { mark = Some fault })
+
+-- the stamp is the greatest ticket and the sender's floor; the verdict and the row of the commit list are kept
+abbrev pub decide_effect : World → ℕ → World
+decide_effect w c =
+    let f = undecided_at w c in
+    record (with_sender w (connection_at w c).sender (record (speaker w c) { floor = greatest f.given; flight = None })) {
+      commits = w.commits ++ record { txn = f.txn; stamp = greatest f.given } ∷ [];
+      verdicts = w.verdicts ++ record { id = f.txn.id; rows = f.given } ∷ [];
+    }
+
+-- a ticket of this transaction, to be cancelled
+abbrev pub leftover : TxnId → Stamp → Leftover
+leftover id ticket = record { id = id; ticket = ticket }
+
+-- the flight ends and its tickets are left over; the connection is leaving
+abbrev pub withdraw_effect : World → ℕ → World
+withdraw_effect w c =
+    let f = undecided_at w c in
+    with_leaving (with_sender w (connection_at w c).sender (record (speaker w c) {
+      flight = None;
+      leftovers = (speaker w c).leftovers ++ map (leftover f.txn.id) f.given;
+    })) c
+
+-- the part is taken out of t, and its ticket needs no cancelling any more
+abbrev pub cancel_effect : World → ℕ → Topic → Option Leftover → World
+cancel_effect w c t None = w
+cancel_effect w c t (Some k) =
+    with_sender (with_topic w t (after_cancel k.id (topic_at w t))) (connection_at w c).sender
+    (record (speaker w c) { leftovers = drop_leftover t (speaker w c).leftovers })
+
+-- t learns the verdict that was found
+abbrev pub learn_effect : World → Topic → TxnId → Option Decision → World
+learn_effect w t id None = w
+learn_effect w t id (Some v) = with_topic w t (after_learn id (decided_stamp v) (topic_at w t))
+
+-- the queue takes one more item: fewer than its capacity weren't handed on
+abbrev pub has_room : World → Entry → Bool
+has_room w e = nat_lt (length e.accepted - (subscription_at w e.number).taken) w.capacity
+
+-- the verdict of this transaction in the core's table
+abbrev pub verdict_in : World → TxnId → Option Decision
+verdict_in w id = find_verdict id w.verdicts
+
+-- the item of this number in a queue, from 0
+abbrev pub item_number : ℕ → List Item → Option Item
+item_number n [] = None
+item_number zero (i ∷ items) = Some i
+item_number (suc n) (i ∷ items) = item_number n items
+
+-- the next item is handed on; where there is none, the subscription has lagged, and its connection is leaving
+abbrev pub take_effect : World → ℕ → Option Item → World
+take_effect w s None = with_leaving w (subscription_at w s).connection
+take_effect w s (Some item) = with_subscription w s (record (subscription_at w s) { taken = (subscription_at w s).taken + 1 })
+
+-- what the event does where it isn't refused
+abbrev pub move_effect : World → Move → World
+move_effect w (AddsTopic clock) = record w { topics = w.topics ++ new_topic (record { 0 = length w.topics }) w.log_limit clock ∷ [] }
+move_effect w Opens = record w {
+  senders = w.senders ++ new_sender ∷ [];
+  connections = w.connections ++ record { sender = length w.senders; standing = Standing.Open } ∷ [];
+}
+move_effect w (Commits c sends) = commit_effect w c sends
+move_effect w (Subscribes c t) = subscribe_effect w c t
+move_effect w (Unsubscribes c s) = close_effect w s
+move_effect w (Disconnects c) = with_leaving w c
+move_effect w (Errs c) = with_leaving w c
+move_effect w (Lost c) = with_leaving w c
+move_effect w (Leaves c) = leave_effect w c (oldest_live c 0 w.subscriptions)
+move_effect w (Proposes c t memory) = propose_effect w c t (proposal_fault w c t memory)
+move_effect w (Decides c) = decide_effect w c
+move_effect w (Withdraws c) = withdraw_effect w c
+move_effect w (Cancels c t) = cancel_effect w c t (find_leftover t (speaker w c).leftovers)
+move_effect w (Learns t id) = learn_effect w t id (find_verdict id w.verdicts)
+move_effect w (Releases t) = with_topic w t (after_release (has_room w) (topic_at w t))
+move_effect w (Turns t) = with_topic w t (after_turn (has_room w) (verdict_in w) (topic_at w t))
+move_effect w (Takes s) = take_effect w s (item_number (subscription_at w s).taken (accepted_at w s))
+
+-- ---- what is answered
+
+-- the transaction that these SENDs make; of none there is none
+abbrev pub commit_answer : World → ℕ → List SentMessage → Answer
+commit_answer w c [] = Done
+commit_answer w c (first ∷ others) = Begun (next_txn w c (first ∷ others))
+
+-- where the subscription's span would end now
+abbrev pub end_now : World → ℕ → Stamp
+end_now w s = elim (entry_at w s) [ None ↦ zero_stamp | Some e ↦ (end_of (topic_at w (subscription_at w s).topic).frontier e).to ]
+
+-- the subscription that is closed, and where; where there is none, the connection is gone
+abbrev pub leave_answer : World → ℕ → Option ℕ → Answer
+leave_answer w c None = Gone c
+leave_answer w c (Some s) = Unsubscribed s (end_now w s)
+
+-- the ticket, or why there is none
+abbrev pub propose_answer : World → ℕ → Topic → Option ProposeFault → Answer
+propose_answer w c t None = Ticket (undecided_at w c).txn.id (next_ticket w c t)
+propose_answer w c t (Some fault) = Failed (undecided_at w c).txn.id fault
+
+-- whose part was taken out
+abbrev pub cancel_answer : Topic → Option Leftover → Answer
+cancel_answer t None = Done
+cancel_answer t (Some k) = Cancelled k.id t
+
+-- which part is released; where none is due, the event is refused before
+abbrev pub release_answer : Topic → Option Pending → Answer
+release_answer t None = Done
+release_answer t (Some p) = Released t p.part.id
+
+-- the item that is handed on; where there is none, an ERROR tells that the subscription has lagged
+abbrev pub take_answer : World → ℕ → Option Item → Answer
+take_answer w s None = Error (subscription_at w s).connection
+take_answer w s (Some item) = Handed s item
+
+-- what the event answers where it isn't refused
+abbrev pub move_answer : World → Move → Answer
+move_answer w (AddsTopic clock) = Done
+move_answer w Opens = Opened (length w.connections)
+move_answer w (Commits c sends) = commit_answer w c sends
+move_answer w (Subscribes c t) = Subscribed (length w.subscriptions) c t (topic_at w t).frontier
+move_answer w (Unsubscribes c s) = Unsubscribed s (end_now w s)
+move_answer w (Disconnects c) = Leaving c
+move_answer w (Errs c) = Error c
+move_answer w (Lost c) = Leaving c
+move_answer w (Leaves c) = leave_answer w c (oldest_live c 0 w.subscriptions)
+move_answer w (Proposes c t memory) = propose_answer w c t (proposal_fault w c t memory)
+move_answer w (Decides c) = Decided (undecided_at w c).txn.id (greatest (undecided_at w c).given)
+move_answer w (Withdraws c) = Withdrawn (undecided_at w c).txn.id c
+move_answer w (Cancels c t) = cancel_answer t (find_leftover t (speaker w c).leftovers)
+move_answer w (Learns t id) = Learnt id t
+move_answer w (Releases t) = release_answer t (due_part (topic_at w t))
+move_answer w (Turns t) = Turned t (turn_count (has_room w) (verdict_in w) (topic_at w t))
+move_answer w (Takes s) = take_answer w s (item_number (subscription_at w s).taken (accepted_at w s))
+
+-- ---- a step
+
+-- the core after an event
+abbrev pub world_after : World → Move → World
+world_after w e = elim (move_refusal w e) [ None ↦ move_effect w e | Some why ↦ w ]
+
+-- what comes of an event
+abbrev pub answer_to : World → Move → Answer
+answer_to w e = elim (move_refusal w e) [ None ↦ move_answer w e | Some why ↦ Refused why ]
