@@ -1,4 +1,5 @@
 -- What was handed on is a prefix of what was accepted.
+use Rattle.std.specs.Prelude.{slice_get}
 use Rattle.std.proofs.Common.{◌≡◌, ◌≢◌, ℕ, ◌+◌, ◌<◌, ◌≤◌, ◌==◌, Bool, true, false, cond, not, List, [], ◌∷◌, ◌++◌, map, length, set, Option, Some, None, refl, sym, ap, subst, ◌∙◌, arith, ltb}
 use Rattle.std.specs.List.{filter}
 use Rattle.std.proofs.lemmas.Bool.{eqb-true, eq-eqb, ltb-true}
@@ -16,7 +17,7 @@ use Rattle.mcast_group.proofs.Parts.{some_same, none_some, not_true}
 use Rattle.mcast_group.proofs.Queues.{More, More-same}
 use Rattle.delivery.specs.Machine.World.{World, Leftover, Subscription, no_subscription, topic_at, speaker, subscription_at, entry_at, start, with_topic}
 use Rattle.delivery.specs.Machine.Observed.{entry_items, accepted_at}
-use Rattle.delivery.specs.Machine.Moves.{Move, Answer, world_after, answer_to, move_refusal, move_effect, move_answer, find_leftover, find_verdict, verdict_in, oldest_live, commit_effect, commit_answer, proposal_fault, propose_effect, propose_answer, cancel_effect, cancel_answer, learn_effect, release_answer, has_room, take_effect, item_number, undecided_at, take_answer, leave_effect, leave_answer, close_effect, close_effect_of}
+use Rattle.delivery.specs.Machine.Moves.{Move, Answer, world_after, answer_to, move_refusal, move_effect, move_answer, find_leftover, find_verdict, verdict_in, oldest_live, commit_effect, commit_answer, proposal_fault, propose_effect, propose_answer, cancel_effect, cancel_answer, learn_effect, release_answer, has_room, take_effect, undecided_at, take_answer, leave_effect, leave_answer, close_effect, close_effect_of}
 use Rattle.delivery.specs.Machine.Moves.Move.{AddsTopic, Opens, Commits, Subscribes, Unsubscribes, Disconnects, Errs, Lost, Leaves, Proposes, Decides, Withdraws, Cancels, Learns, Releases, Turns, Takes}
 use Rattle.delivery.specs.Machine.Moves.Answer.{Refused, Done, Learnt, Handed}
 use Rattle.delivery.specs.Machine.Runs.{run, answers_from, delivered_items}
@@ -61,10 +62,10 @@ entries_more x y en n =
 
 -- ---- the run beside the queues
 
-pub record IsTaken (take_effect accepted : List Item) (taken : ℕ) : Type 0 where
+pub record IsTaken (given accepted : List Item) (taken : ℕ) : Type 0 where
   pub rest : List Item
-  pub is : accepted ≡ take_effect ++ rest
-  pub count : taken ≡ length take_effect
+  pub is : accepted ≡ given ++ rest
+  pub count : taken ≡ length given
 
 pub record Handing (past : List Answer) (w : World) : Type 0 where
   pub held : (s : ℕ) → s < length w.subscriptions → IsTaken (delivered_items s past) (accepted_at w s) (subscription_at w s).taken
@@ -80,10 +81,10 @@ append_again : (xs ys zs : List Item) → (xs ++ ys) ++ zs ≡ xs ++ (ys ++ zs)
 append_again [] ys zs = refl
 append_again (x ∷ xs) ys zs = ap (λ z. x ∷ z) (append_again xs ys zs)
 
-IsTaken-more : (take_effect xs ys : List Item) (m n : ℕ) → More xs ys → n ≡ m → IsTaken take_effect xs m → IsTaken take_effect ys n
-IsTaken-more take_effect xs ys m n g e h = record {
+IsTaken-more : (given xs ys : List Item) (m n : ℕ) → More xs ys → n ≡ m → IsTaken given xs m → IsTaken given ys n
+IsTaken-more given xs ys m n g e h = record {
   rest = h.rest ++ g.more;
-  is = g.is ∙ (ap (λ z. z ++ g.more) h.is ∙ append_again take_effect h.rest g.more);
+  is = g.is ∙ (ap (λ z. z ++ g.more) h.is ∙ append_again given h.rest g.more);
   count = e ∙ h.count;
 }
 
@@ -184,7 +185,7 @@ begun_handing past w c t h =
 
 -- ---- an item is handed on
 
-next_of : (xs rest : List Item) (i : Item) → item_number (length xs) (xs ++ rest) ≡ Some i → (others : List Item) × (rest ≡ i ∷ others)
+next_of : (xs rest : List Item) (i : Item) → slice_get (xs ++ rest) (length xs) ≡ Some i → (others : List Item) × (rest ≡ i ∷ others)
 next_of [] [] i e = none_some i e
 next_of [] (r ∷ rest) i e = (rest, ap (λ z. z ∷ rest) (some_same r i e))
 next_of (x ∷ xs) rest i e = next_of xs rest i e
@@ -193,13 +194,13 @@ pub length_push : (xs : List Item) (i : Item) → length xs + 1 ≡ length (xs +
 length_push [] i = refl
 length_push (x ∷ xs) i = let m = length_push xs i in omega arith
 
-taken_next : (take_effect accepted : List Item) (n : ℕ) (i : Item) → IsTaken take_effect accepted n → item_number n accepted ≡ Some i → IsTaken (take_effect ++ i ∷ []) accepted (n + 1)
-taken_next take_effect accepted n i h e =
-    let k = next_of take_effect h.rest i (subst (λ z. item_number z (take_effect ++ h.rest) ≡ Some i) h.count (subst (λ z. item_number n z ≡ Some i) h.is e)) in
+taken_next : (given accepted : List Item) (n : ℕ) (i : Item) → IsTaken given accepted n → slice_get accepted n ≡ Some i → IsTaken (given ++ i ∷ []) accepted (n + 1)
+taken_next given accepted n i h e =
+    let k = next_of given h.rest i (subst (λ z. slice_get (given ++ h.rest) z ≡ Some i) h.count (subst (λ z. slice_get z n ≡ Some i) h.is e)) in
     record {
       rest = k.0;
-      is = h.is ∙ (ap (λ z. take_effect ++ z) k.1 ∙ sym (append_again take_effect (i ∷ []) k.0));
-      count = ap (λ (z : ℕ). z + 1) h.count ∙ length_push take_effect i;
+      is = h.is ∙ (ap (λ z. given ++ z) k.1 ∙ sym (append_again given (i ∷ []) k.0));
+      count = ap (λ (z : ℕ). z + 1) h.count ∙ length_push given i;
     }
 
 handed_other : (s r : ℕ) (i : Item) (past : List Answer) → r ≢ s → delivered_items s (Handed r i ∷ past) ≡ delivered_items s past
@@ -208,7 +209,7 @@ handed_other s r i past ne = ap (λ (b : Bool). cond b (delivered_items s past +
 handed_same : (s : ℕ) (i : Item) (past : List Answer) → delivered_items s (Handed s i ∷ past) ≡ delivered_items s past ++ i ∷ []
 handed_same s i past = ap (λ (b : Bool). cond b (delivered_items s past ++ i ∷ []) (delivered_items s past)) (eq-eqb s s refl)
 
-handed_handing : (past : List Answer) (w : World) (s : ℕ) → s < length w.subscriptions → Handing past w → (o : Option Item) → item_number (subscription_at w s).taken (accepted_at w s) ≡ o → Handing (take_answer w s o ∷ past) (take_effect w s o)
+handed_handing : (past : List Answer) (w : World) (s : ℕ) → s < length w.subscriptions → Handing past w → (o : Option Item) → slice_get (accepted_at w s) (subscription_at w s).taken ≡ o → Handing (take_answer w s o ∷ past) (take_effect w s o)
 handed_handing past w s l h None e = record { held = h.held; fresh = h.fresh }
 handed_handing past w s l h (Some i) e =
     let v = take_effect w s (Some i) in record {

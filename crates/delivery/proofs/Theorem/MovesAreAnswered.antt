@@ -1,4 +1,5 @@
 -- Each event is answered by an outcome of its own.
+use Rattle.std.specs.Prelude.{slice_get}
 use Rattle.std.proofs.Common.{◌≡◌, ℕ, zero, suc, ◌+◌, ◌<◌, ◌≤◌, Bool, true, false, cond, not, ◌&&◌, List, [], ◌∷◌, length, Option, Some, None, refl, sym, subst, ◌⊎◌, inl, inr, arith, ltb}
 use Rattle.std.specs.Option.{is_some}
 use Rattle.std.proofs.lemmas.Bool.{true≢false, and_parts, ltb-true}
@@ -15,7 +16,7 @@ use Rattle.mcast_group.specs.Machine.{Pending, due_part, propose_fault}
 use Rattle.mcast_group.proofs.Parts.{none_some, some_same, not_true}
 use Rattle.delivery.specs.Machine.World.{World, Leftover, Subscription, subscription_at, speaker, topic_at}
 use Rattle.delivery.specs.Machine.Observed.{accepted_at, end_at}
-use Rattle.delivery.specs.Machine.Moves.{Move, move_answer, move_refusal, objections, cancel_objection, learn_objection, commit_answer, leave_answer, propose_answer, proposal_fault, or_out_of_memory, cancel_answer, release_answer, take_answer, item_number, find_leftover, find_verdict, oldest_live, is_live, undecided_at}
+use Rattle.delivery.specs.Machine.Moves.{Move, move_answer, move_refusal, objections, cancel_objection, learn_objection, commit_answer, leave_answer, propose_answer, proposal_fault, or_out_of_memory, cancel_answer, release_answer, take_answer, find_leftover, find_verdict, oldest_live, is_live, undecided_at}
 use Rattle.delivery.specs.Machine.Moves.Move.{AddsTopic, Opens, Commits, Subscribes, Unsubscribes, Disconnects, Errs, Lost, Leaves, Proposes, Decides, Withdraws, Cancels, Learns, Releases, Turns, Takes}
 use Rattle.delivery.specs.Theorem.Answers.{IsAnswer, IsOldest, MovesAreAnswered}
 use Rattle.delivery.proofs.Machine.Invariant.{sub_in}
@@ -103,12 +104,12 @@ release_is w t None e n = absurd (true≢false n)
 release_is w t (Some p) e n = (refl, p, e, refl)
 
 -- where there's no item of this number the list is no longer
-item_past : (n : ℕ) (items : List Item) → item_number n items ≡ None → length items ≤ n
+item_past : (n : ℕ) (items : List Item) → slice_get items n ≡ None → length items ≤ n
 item_past n [] e = omega arith
 item_past zero (i ∷ items) e = none_some i (sym e)
 item_past (suc n) (i ∷ items) e = let m : length items ≤ n = item_past n items e in omega arith
 
-item_there : (n : ℕ) (items : List Item) → item_number n items ≡ None → ltb n (length items) ≡ false
+item_there : (n : ℕ) (items : List Item) → slice_get items n ≡ None → ltb n (length items) ≡ false
 item_there n items e =
     let m : length items ≤ n = item_past n items e in
     not_true (ltb n (length items)) refl (λ l. let k : n < length items = ltb-true n (length items) l in omega arith)
@@ -118,7 +119,7 @@ or_end false true e k = refl
 or_end false false e k = absurd (true≢false k)
 or_end true c e k = absurd (true≢false e)
 
-take_is : (w : World) (s : ℕ) (o : Option Item) → item_number (subscription_at w s).taken (accepted_at w s) ≡ o → (not (ltb (subscription_at w s).taken (length (accepted_at w s))) && not (is_some (end_at w s))) ≡ false → IsAnswer w (Takes s) (take_answer w s o)
+take_is : (w : World) (s : ℕ) (o : Option Item) → slice_get (accepted_at w s) (subscription_at w s).taken ≡ o → (not (ltb (subscription_at w s).taken (length (accepted_at w s))) && not (is_some (end_at w s))) ≡ false → IsAnswer w (Takes s) (take_answer w s o)
 take_is w s None e n =
     inr (s, refl, refl, or_end (ltb (subscription_at w s).taken (length (accepted_at w s))) (is_some (end_at w s)) (item_there (subscription_at w s).taken (accepted_at w s) e) n, e)
 take_is w s (Some item) e n = (refl, e)
@@ -146,7 +147,7 @@ answer_is w (Learns t id) n =
 answer_is w (Releases t) n = release_is w t (due_part (topic_at w t)) refl (checked w (Releases t) n).1.0
 answer_is w (Turns t) n = refl
 answer_is w (Takes s) n =
-    take_is w s (item_number (subscription_at w s).taken (accepted_at w s)) refl (checked w (Takes s) n).1.1.0
+    take_is w s (slice_get (accepted_at w s) (subscription_at w s).taken) refl (checked w (Takes s) n).1.1.0
 
 pub events_are_answered : MovesAreAnswered
 events_are_answered w e = by_refusal (λ v o. IsAnswer w e o) w e (λ why. tt) (λ n. answer_is w e n)

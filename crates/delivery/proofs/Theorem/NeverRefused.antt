@@ -1,4 +1,6 @@
 -- What a run's topics hold where the core looks for it: parts that are to be cancelled or proposed, and subscriptions' entries.
+use Rattle.std.specs.Option.{option_or}
+use Rattle.std.specs.Option.{option_map}
 use Rattle.std.proofs.Common.{◌≡◌, ℕ, ◌<◌, Bool, true, false, cond, ◌⊎◌, inl, inr, List, [], ◌∷◌, length, Option, Some, None, refl, sym, ap, subst, ◌∙◌, arith}
 use Rattle.std.specs.Option.{is_some}
 use Rattle.mcast_txn.specs.Transaction.{TopicPart}
@@ -19,7 +21,7 @@ use Rattle.mcast_group.specs.Machine.{TopicState, Pending, Entry, find_pending, 
 use Rattle.mcast_group.proofs.Parts.{Waits, finds_part}
 use Rattle.delivery.specs.declared.refusal.Refusal.{Refusal}
 use Rattle.delivery.specs.Machine.World.{World, Leftover, Subscription, topic_at, connection_at, speaker, subscription_at, start}
-use Rattle.delivery.specs.Machine.Moves.{Move, Answer, world_after, answer_to, move_refusal, objections, or_else, or_out_of_memory, move_answer, undecided_at, find_leftover, oldest_live, commit_answer, proposal_fault, propose_answer, cancel_objection, cancel_refusal, cancel_answer, release_answer, take_answer, leave_answer}
+use Rattle.delivery.specs.Machine.Moves.{Move, Answer, world_after, answer_to, move_refusal, objections, or_out_of_memory, move_answer, undecided_at, find_leftover, oldest_live, commit_answer, proposal_fault, propose_answer, cancel_objection, refusal_of_cancel, cancel_answer, release_answer, take_answer, leave_answer}
 use Rattle.delivery.specs.Machine.Moves.Move.{AddsTopic, Opens, Commits, Subscribes, Unsubscribes, Disconnects, Errs, Lost, Leaves, Proposes, Decides, Withdraws, Cancels, Learns, Releases, Turns, Takes}
 use Rattle.delivery.specs.Machine.Moves.Answer.{Refused, Failed}
 use Rattle.delivery.specs.Machine.Runs.{answers_from}
@@ -35,7 +37,7 @@ use Rattle.delivery.proofs.Theorem.StepLaws.{no_answer, outcome_case}
 
 -- ---- a ticket that is to be cancelled
 
-else_cases : (a b : Option Refusal) (why : Refusal) → or_else a b ≡ Some why → (a ≡ Some why) ⊎ (b ≡ Some why)
+else_cases : (a b : Option Refusal) (why : Refusal) → option_or a b ≡ Some why → (a ≡ Some why) ⊎ (b ≡ Some why)
 else_cases None b why e = inr e
 else_cases (Some x) b why e = inl e
 
@@ -46,14 +48,14 @@ not_checked false true c e = cc
 not_checked false false true e = cc
 not_checked false false false e = cc
 
-found_case : (p : Pending) (b : Bool) → cancel_refusal (cond b (Some CancelFault.Decided) None) ≡ Some Refusal.NotPending → Prim.⊥
+found_case : (p : Pending) (b : Bool) → option_map refusal_of_cancel (cond b (Some CancelFault.Decided) None) ≡ Some Refusal.NotPending → Prim.⊥
 found_case p true e = cc
 found_case p false e = cc
 
-waits_here : (id : TxnId) (ps : List Pending) → Waits id ps → cancel_refusal (cancel_fault_of (find_pending id ps)) ≡ Some Refusal.NotPending → Prim.⊥
+waits_here : (id : TxnId) (ps : List Pending) → Waits id ps → option_map refusal_of_cancel (cancel_fault_of (find_pending id ps)) ≡ Some Refusal.NotPending → Prim.⊥
 waits_here id ps h e =
     let f = finds_part id ps h.part h.stands h.is in
-    found_case f.part (is_some f.part.learnt) (ap (λ (o : Option Pending). cancel_refusal (cancel_fault_of o)) (sym f.found) ∙ e)
+    found_case f.part (is_some f.part.learnt) (ap (λ (o : Option Pending). option_map refusal_of_cancel (cancel_fault_of o)) (sym f.found) ∙ e)
 
 is_waiting : (past : List Answer) (w : World) (c : ℕ) (t : Topic) → Reached past w → (o : Option Leftover) → find_leftover t (speaker w c).leftovers ≡ o → cancel_objection w t o ≡ Some Refusal.NotPending → Prim.⊥
 is_waiting past w c t h None f e = cc

@@ -60,12 +60,12 @@ Gone-learned id stamp x q i = let m = In-map_cases (with_stamp id stamp) q x.pen
 pub Gone-without : (id : TxnId) (x : TopicState) → Gone_to x.pending (after_cancel id x).pending
 Gone-without id x q i = record { part = q; stands = (others id q x.pending i).stands; is = refl }
 
-pub Gone-release : (has_room : Entry → Bool) (x : TopicState) → Gone_to x.pending (after_release has_room x).pending
-Gone-release has_room x = release_keeps (λ y. Gone_to x.pending y.pending) has_room x (Gone-same x.pending) (λ p e. Gone-without p.part.id x)
+pub Gone-release : (takes : Entry → Bool) (x : TopicState) → Gone_to x.pending (after_release takes x).pending
+Gone-release takes x = release_keeps (λ y. Gone_to x.pending y.pending) takes x (Gone-same x.pending) (λ p e. Gone-without p.part.id x)
 
-pub Gone-turned : (has_room : Entry → Bool) (find : TxnId → Option Decision) (x : TopicState) → Gone_to x.pending (after_turn has_room find x).pending
-Gone-turned has_room find x =
-    turn_keeps (λ y. Gone_to x.pending y.pending) has_room find
+pub Gone-turned : (takes : Entry → Bool) (find : TxnId → Option Decision) (x : TopicState) → Gone_to x.pending (after_turn takes find x).pending
+Gone-turned takes find x =
+    turn_keeps (λ y. Gone_to x.pending y.pending) takes find
     (λ y id v f e g. Gone-then x.pending y.pending (after_learn id (decided_stamp v) y).pending g (Gone-learned id (decided_stamp v) y))
     (λ y p e g. Gone-then x.pending y.pending (after_cancel p.part.id y).pending g (Gone-without p.part.id y))
     x (Gone-same x.pending)

@@ -1,4 +1,6 @@
 -- What holds of each step.
+use Rattle.std.specs.Option.{option_or}
+use Rattle.std.specs.Option.{option_map}
 use Rattle.std.proofs.Common.{◌≡◌, ◌≢◌, ℕ, ◌+◌, ◌<◌, ◌==◌, max, Bool, true, false, cond, ◌⊎◌, inl, inr, List, [], ◌∷◌, ◌++◌, map, length, set, Option, Some, None, refl, sym, ap, subst, ◌∙◌, ltb}
 use Rattle.std.specs.Option.{is_some}
 use Rattle.std.proofs.lemmas.Bool.{true≢false, false≢true}
@@ -21,7 +23,7 @@ use Rattle.mcast_group.proofs.Parts.{found_part, some_same, none_some}
 use Rattle.mcast_group.proofs.Numbers.{delivered_number}
 use Rattle.delivery.specs.declared.refusal.Refusal.{Refusal}
 use Rattle.delivery.specs.Machine.World.{World, Leftover, topic_at, speaker, connection_at, subscription_at, entry_at, start}
-use Rattle.delivery.specs.Machine.Moves.{Move, Answer, world_after, answer_to, move_refusal, objections, topic_objection, or_else, move_effect, move_answer, undecided_at, find_leftover, find_verdict, oldest_live, commit_effect, commit_answer, proposal_fault, propose_effect, propose_answer, cancel_effect, cancel_objection, cancel_refusal, cancel_answer, learn_effect, learn_objection, learn_refusal, release_answer, has_room, take_effect, take_answer, leave_effect, leave_answer, close_effect_of}
+use Rattle.delivery.specs.Machine.Moves.{Move, Answer, world_after, answer_to, move_refusal, objections, topic_objection, move_effect, move_answer, undecided_at, find_leftover, find_verdict, oldest_live, commit_effect, commit_answer, proposal_fault, propose_effect, propose_answer, cancel_effect, cancel_objection, refusal_of_cancel, cancel_answer, learn_effect, learn_objection, refusal_of_learn, release_answer, has_room, take_effect, take_answer, leave_effect, leave_answer, close_effect_of}
 use Rattle.delivery.specs.Machine.Moves.Move.{AddsTopic, Opens, Commits, Subscribes, Unsubscribes, Disconnects, Errs, Lost, Leaves, Proposes, Decides, Withdraws, Cancels, Learns, Releases, Turns, Takes}
 use Rattle.delivery.specs.Machine.Moves.Answer.{Refused, Ticket}
 use Rattle.delivery.specs.Machine.Runs.{answers_from}
@@ -231,20 +233,20 @@ usual_checks w (Releases t) = (refl, (refl, tt))
 usual_checks w (Turns t) = (refl, tt)
 usual_checks w (Takes s) = (refl, (refl, (refl, tt)))
 
-usual_learn : (why : Refusal) (o : Option LearnFault) → (o ≡ None) ⊎ (o ≡ Some LearnFault.NotPending) → learn_refusal o ≡ Some why → is_odd why ≡ false
-usual_learn why o (inl n) e = none_some why (sym (ap learn_refusal n) ∙ e)
-usual_learn why o (inr n) e = subst (λ z. is_odd z ≡ false) (some_same Refusal.NotPending why (sym (ap learn_refusal n) ∙ e)) refl
+usual_learn : (why : Refusal) (o : Option LearnFault) → (o ≡ None) ⊎ (o ≡ Some LearnFault.NotPending) → option_map refusal_of_learn o ≡ Some why → is_odd why ≡ false
+usual_learn why o (inl n) e = none_some why (sym (ap (option_map refusal_of_learn) n) ∙ e)
+usual_learn why o (inr n) e = subst (λ z. is_odd z ≡ false) (some_same Refusal.NotPending why (sym (ap (option_map refusal_of_learn) n) ∙ e)) refl
 
 learning_usual : (past : List Answer) (w : World) (t : Topic) (id : TxnId) (why : Refusal) → Reached past w → (o : Option Decision) → find_verdict id w.verdicts ≡ o → learn_objection w t id o ≡ Some why → is_odd why ≡ false
 learning_usual past w t id why h None f e = subst (λ z. is_odd z ≡ false) (some_same Refusal.NotDecided why e) refl
 learning_usual past w t id why h (Some v) f e = usual_learn why (learn_fault id v (topic_at w t)) (learn_fault_is (tickets past) w t id v h.inv f) e
 
 -- a leftover part hasn't learnt
-cancel_usual : (past : List Answer) (w : World) (t : Topic) (k : Leftover) (why : Refusal) → Reached past w → ((p : Pending) → In p (topic_in w.topics t).pending → p.part.id ≡ k.id → is_some p.learnt ≡ false) → (o : Option Pending) → find_pending k.id (topic_in w.topics t).pending ≡ o → cancel_refusal (cancel_fault_of o) ≡ Some why → is_odd why ≡ false
+cancel_usual : (past : List Answer) (w : World) (t : Topic) (k : Leftover) (why : Refusal) → Reached past w → ((p : Pending) → In p (topic_in w.topics t).pending → p.part.id ≡ k.id → is_some p.learnt ≡ false) → (o : Option Pending) → find_pending k.id (topic_in w.topics t).pending ≡ o → option_map refusal_of_cancel (cancel_fault_of o) ≡ Some why → is_odd why ≡ false
 cancel_usual past w t k why h un None f e = subst (λ z. is_odd z ≡ false) (some_same Refusal.NotPending why e) refl
 cancel_usual past w t k why h un (Some p) f e =
     let g = found_part k.id (topic_in w.topics t).pending p f in
-    none_some why (sym (ap (λ (b : Bool). cancel_refusal (cond b (Some CancelFault.Decided) None)) (un p g.stands g.is)) ∙ e)
+    none_some why (sym (ap (λ (b : Bool). option_map refusal_of_cancel (cond b (Some CancelFault.Decided) None)) (un p g.stands g.is)) ∙ e)
 
 unlearnt : (past : List Answer) (w : World) (t : Topic) (s : ℕ) (k : Leftover) → Reached past w → In k (Rattle.delivery.proofs.Machine.Invariant.sender_in w.senders s).leftovers → (p : Pending) → In p (topic_in w.topics t).pending → p.part.id ≡ k.id → (o : Option Stamp) → p.learnt ≡ o → is_some o ≡ false
 unlearnt past w t s k h i p j e None d = refl
@@ -264,7 +266,7 @@ topic_usual past w (Cancels c t) why h e = cancelling_usual past w c t why h (fi
 topic_usual past w (Learns t id) why h e = learning_usual past w t id why h (find_verdict id w.verdicts) refl e
 topic_usual past w e why h k = none_some why k
 
-else_usual : (a b : Option Refusal) (why : Refusal) → (a ≡ Some why → is_odd why ≡ false) → (b ≡ Some why → is_odd why ≡ false) → or_else a b ≡ Some why → is_odd why ≡ false
+else_usual : (a b : Option Refusal) (why : Refusal) → (a ≡ Some why → is_odd why ≡ false) → (b ≡ Some why → is_odd why ≡ false) → option_or a b ≡ Some why → is_odd why ≡ false
 else_usual None b why f g e = g e
 else_usual (Some x) b why f g e = f e
 

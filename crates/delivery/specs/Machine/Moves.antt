@@ -1,7 +1,8 @@
--- The core's events so far as they touch topics and transactions: what each refuses, what it does, and what it answers.
-use Rattle.std.specs.Prelude.{ℕ, zero, suc, ◌-◌, ◌+◌, ◌==◌, nat_lt, Bool, not, ◌&&◌, ◌||◌, List, [], ◌∷◌, ◌++◌, map, length, Option, Some, None, if◌then◌else◌}
+-- The core's events so far as they touch topics and transactions: what each refuses, what it does, and what
+-- it answers.
+use Rattle.std.specs.Prelude.{ℕ, zero, suc, ◌-◌, ◌+◌, ◌==◌, nat_lt, Bool, not, ◌&&◌, ◌||◌, List, [], ◌∷◌, ◌++◌, map, length, find, slice_get, Option, Some, None, if◌then◌else◌}
 use Rattle.std.specs.List.{list_any, list_all}
-use Rattle.std.specs.Option.{is_some}
+use Rattle.std.specs.Option.{is_some, option_map, option_or}
 use Rattle.mcast_txn.specs.declared.id.Topic.{Topic}
 use Rattle.mcast_txn.specs.declared.id.TxnId.{TxnId}
 use Rattle.mcast_txn.specs.declared.draft.sent_message.SentMessage.{SentMessage}
@@ -81,12 +82,14 @@ pub data Answer : Type 0 where
 -- there is no such connection, or it is gone
 abbrev pub needs_connection : World → ℕ → List (Bool × Refusal)
 needs_connection w c =
-    (not (nat_lt c (length w.connections)), Refusal.NoConn) ∷ (is_gone (connection_at w c).standing, Refusal.Gone) ∷ []
+    (not (nat_lt c (length w.connections)), Refusal.NoConn)
+    ∷ (is_gone (connection_at w c).standing, Refusal.Gone) ∷ []
 
 -- so too where it is leaving or has an undecided transaction: no frame is read
 abbrev pub needs_idle : World → ℕ → List (Bool × Refusal)
 needs_idle w c =
-    needs_connection w c ++ (not (is_reading (connection_at w c).standing) || is_some (speaker w c).flight, Refusal.Busy) ∷ []
+    needs_connection w c
+    ++ (not (is_reading (connection_at w c).standing) || is_some (speaker w c).flight, Refusal.Busy) ∷ []
 
 -- there is a topic of this number
 abbrev pub is_topic : World → Topic → Bool
@@ -124,8 +127,7 @@ is_complete f = list_all (λ t. has_ticket t f.given) (topics_of f.txn.sends)
 
 -- the first uncancelled ticket of t
 abbrev pub find_leftover : Topic → List Leftover → Option Leftover
-find_leftover t [] = None
-find_leftover t (k ∷ ks) = if k.ticket.topic.0 == t.0 then Some k else find_leftover t ks
+find_leftover t leftovers = find (λ k. k.ticket.topic.0 == t.0) leftovers
 
 -- these without the first of t
 abbrev pub drop_leftover : Topic → List Leftover → List Leftover
@@ -134,8 +136,7 @@ drop_leftover t (k ∷ ks) = if k.ticket.topic.0 == t.0 then ks else k ∷ drop_
 
 -- the verdict of this transaction, if it was decided
 abbrev pub find_verdict : TxnId → List Decision → Option Decision
-find_verdict id [] = None
-find_verdict id (v ∷ vs) = if same_id v.id id then Some v else find_verdict id vs
+find_verdict id verdicts = find (λ v. same_id v.id id) verdicts
 
 -- s is a subscription of c that isn't closed
 abbrev pub is_live : ℕ → Subscription → Bool
@@ -154,35 +155,20 @@ refusal_of_learn LearnFault.NotPending = Refusal.NotPending
 refusal_of_learn LearnFault.Foreign = Refusal.Foreign
 refusal_of_learn LearnFault.Clash = Refusal.Clash
 
--- the same where there is a fault
-abbrev pub learn_refusal : Option LearnFault → Option Refusal
-learn_refusal None = None
-learn_refusal (Some fault) = Some (refusal_of_learn fault)
-
 -- why a part isn't taken out, as the core tells it
 abbrev pub refusal_of_cancel : CancelFault → Refusal
 refusal_of_cancel CancelFault.NotPending = Refusal.NotPending
 refusal_of_cancel CancelFault.Decided = Refusal.Decided
 
--- the same where there is a fault
-abbrev pub cancel_refusal : Option CancelFault → Option Refusal
-cancel_refusal None = None
-cancel_refusal (Some fault) = Some (refusal_of_cancel fault)
-
--- the first refusal, or else what comes after
-abbrev pub or_else : Option Refusal → Option Refusal → Option Refusal
-or_else None after = after
-or_else (Some why) after = Some why
-
 -- what stands against learning the verdict that was found at t
 abbrev pub learn_objection : World → Topic → TxnId → Option Decision → Option Refusal
 learn_objection w t id None = Some Refusal.NotDecided
-learn_objection w t id (Some v) = learn_refusal (learn_fault id v (topic_at w t))
+learn_objection w t id (Some v) = option_map refusal_of_learn (learn_fault id v (topic_at w t))
 
 -- what stands against cancelling the ticket that was found for t
 abbrev pub cancel_objection : World → Topic → Option Leftover → Option Refusal
 cancel_objection w t None = Some Refusal.NotNamed
-cancel_objection w t (Some k) = cancel_refusal (cancel_fault k.id (topic_at w t))
+cancel_objection w t (Some k) = option_map refusal_of_cancel (cancel_fault k.id (topic_at w t))
 
 -- ---- what is refused
 
@@ -196,10 +182,12 @@ objections w (Commits c sends) =
     ∷ (nat_lt 0 (length sends) && not (nat_lt (speaker w c).seq last_number), Refusal.SeqFull) ∷ []
 objections w (Subscribes c t) = needs_idle w c ++ (not (is_topic w t), Refusal.NotNamed) ∷ []
 objections w (Unsubscribes c s) =
-    needs_idle w c ++ (not (nat_lt s (length w.subscriptions) && is_live c (subscription_at w s)), Refusal.NoSub) ∷ []
+    needs_idle w c
+    ++ (not (nat_lt s (length w.subscriptions) && is_live c (subscription_at w s)), Refusal.NoSub) ∷ []
 objections w (Disconnects c) = needs_idle w c
 objections w (Errs c) = needs_idle w c
-objections w (Lost c) = needs_connection w c ++ (not (is_reading (connection_at w c).standing), Refusal.Busy) ∷ []
+objections w (Lost c) = needs_connection w c
+    ++ (not (is_reading (connection_at w c).standing), Refusal.Busy) ∷ []
 objections w (Leaves c) =
     needs_connection w c
     ++ (is_reading (connection_at w c).standing, Refusal.NotLeaving)
@@ -226,12 +214,15 @@ objections w (Withdraws c) =
 objections w (Cancels c t) = needs_connection w c ++ (not (is_topic w t), Refusal.NotNamed) ∷ []
 objections w (Learns t id) = (not (is_topic w t), Refusal.NotNamed) ∷ []
 objections w (Releases t) =
-    (not (is_topic w t), Refusal.NotNamed) ∷ (not (is_some (due_part (topic_at w t))), Refusal.NothingDue) ∷ []
+    (not (is_topic w t), Refusal.NotNamed) ∷ (not (is_some (due_part (topic_at w t))), Refusal.NothingDue)
+    ∷ []
 objections w (Turns t) = (not (is_topic w t), Refusal.NotNamed) ∷ []
 objections w (Takes s) =
     (not (nat_lt s (length w.subscriptions)), Refusal.NoSub)
-    ∷ (is_some (subscription_at w s).closed || not (is_reading (connection_at w (subscription_at w s).connection).standing), Refusal.Gone)
-    ∷ (not (nat_lt (subscription_at w s).taken (length (accepted_at w s))) && not (is_some (end_at w s)), Refusal.NothingDue) ∷ []
+    ∷ (is_some (subscription_at w s).closed
+    || not (is_reading (connection_at w (subscription_at w s).connection).standing), Refusal.Gone)
+    ∷ (not (nat_lt (subscription_at w s).taken (length (accepted_at w s)))
+    && not (is_some (end_at w s)), Refusal.NothingDue) ∷ []
 
 -- what the topic refuses of it then
 abbrev pub topic_objection : World → Move → Option Refusal
@@ -241,7 +232,7 @@ topic_objection w e = None
 
 -- why the event has no effect
 abbrev pub move_refusal : World → Move → Option Refusal
-move_refusal w e = or_else (first_refusal (objections w e)) (topic_objection w e)
+move_refusal w e = option_or (first_refusal (objections w e)) (topic_objection w e)
 
 -- ---- what is done
 
@@ -261,12 +252,14 @@ commit_effect w c (first ∷ others) =
       flight = Some (record { txn = next_txn w c (first ∷ others); given = []; mark = None });
     })
 
--- a subscription of c to t, after those that there are; its topic gives it the items that it releases from now on
+-- a subscription of c to t, after those that there are; its topic gives it the items that it releases from
+-- now on
 abbrev pub subscribe_effect : World → ℕ → Topic → World
 subscribe_effect w c t =
     let x = topic_at w t in
     record (with_topic w t (after_subscribe (length w.subscriptions) x)) {
-      subscriptions = w.subscriptions ++ record { connection = c; topic = t; from = x.frontier; taken = 0; closed = None } ∷ [];
+      subscriptions = w.subscriptions
+      ++ record { connection = c; topic = t; from = x.frontier; taken = 0; closed = None } ∷ [];
     }
 
 -- the same for the entry that was found, if one was
@@ -298,7 +291,8 @@ or_out_of_memory memory (Some fault) = Some fault
 -- why the topic gives no ticket; want of memory, where nothing else stands against it
 abbrev pub proposal_fault : World → ℕ → Topic → Bool → Option ProposeFault
 proposal_fault w c t memory =
-    or_out_of_memory memory (propose_fault (speaker w c).floor (part_at (undecided_at w c).txn.id (undecided_at w c).txn.sends t) (topic_at w t))
+    let f = undecided_at w c in
+    or_out_of_memory memory (propose_fault (speaker w c).floor (part_at f.txn.id f.txn.sends t) (topic_at w t))
 
 -- the ticket that the topic gives next
 abbrev pub next_ticket : World → ℕ → Topic → Stamp
@@ -312,11 +306,13 @@ with_undecided w c f = with_sender w (connection_at w c).sender (record (speaker
 abbrev pub propose_effect : World → ℕ → Topic → Option ProposeFault → World
 propose_effect w c t None =
     let f = undecided_at w c in
-    with_undecided (with_topic w t (after_propose (speaker w c).floor (part_at f.txn.id f.txn.sends t) (topic_at w t))) c
+    with_undecided
+    (with_topic w t (after_propose (speaker w c).floor (part_at f.txn.id f.txn.sends t) (topic_at w t))) c
     (record f { given = insert_ticket (next_ticket w c t) f.given })
 propose_effect w c t (Some fault) = with_undecided w c (record (undecided_at w c) { mark = Some fault })
 
--- the stamp is the greatest ticket and the sender's floor; the verdict and the row of the commit list are kept
+-- the stamp is the greatest ticket and the sender's floor; the verdict and the row of the commit list are
+-- kept
 abbrev pub decide_effect : World → ℕ → World
 decide_effect w c =
     let f = undecided_at w c in
@@ -358,20 +354,16 @@ has_room w e = nat_lt (length e.accepted - (subscription_at w e.number).taken) w
 abbrev pub verdict_in : World → TxnId → Option Decision
 verdict_in w id = find_verdict id w.verdicts
 
--- the item of this number in a queue, from 0
-abbrev pub item_number : ℕ → List Item → Option Item
-item_number n [] = None
-item_number zero (i ∷ items) = Some i
-item_number (suc n) (i ∷ items) = item_number n items
-
 -- the next item is handed on; where there is none, the subscription has lagged, and its connection is leaving
 abbrev pub take_effect : World → ℕ → Option Item → World
 take_effect w s None = with_leaving w (subscription_at w s).connection
-take_effect w s (Some item) = with_subscription w s (record (subscription_at w s) { taken = (subscription_at w s).taken + 1 })
+take_effect w s (Some item) =
+    with_subscription w s (record (subscription_at w s) { taken = (subscription_at w s).taken + 1 })
 
 -- what the event does where it isn't refused
 abbrev pub move_effect : World → Move → World
-move_effect w (AddsTopic clock) = record w { topics = w.topics ++ new_topic (record { 0 = length w.topics }) w.log_limit clock ∷ [] }
+move_effect w (AddsTopic clock) = record w { topics = w.topics
+    ++ new_topic (record { 0 = length w.topics }) w.log_limit clock ∷ [] }
 move_effect w Opens = record w {
   senders = w.senders ++ new_sender ∷ [];
   connections = w.connections ++ record { sender = length w.senders; standing = Standing.Open } ∷ [];
@@ -390,7 +382,7 @@ move_effect w (Cancels c t) = cancel_effect w c t (find_leftover t (speaker w c)
 move_effect w (Learns t id) = learn_effect w t id (find_verdict id w.verdicts)
 move_effect w (Releases t) = with_topic w t (after_release (has_room w) (topic_at w t))
 move_effect w (Turns t) = with_topic w t (after_turn (has_room w) (verdict_in w) (topic_at w t))
-move_effect w (Takes s) = take_effect w s (item_number (subscription_at w s).taken (accepted_at w s))
+move_effect w (Takes s) = take_effect w s (slice_get (accepted_at w s) (subscription_at w s).taken)
 
 -- ---- what is answered
 
@@ -401,7 +393,8 @@ commit_answer w c (first ∷ others) = Begun (next_txn w c (first ∷ others))
 
 -- where the subscription's span would end now
 abbrev pub end_now : World → ℕ → Stamp
-end_now w s = elim (entry_at w s) [ None ↦ zero_stamp | Some e ↦ (end_of (topic_at w (subscription_at w s).topic).frontier e).to ]
+end_now w s = elim (entry_at w s) [ None ↦ zero_stamp
+    | Some e ↦ (end_of (topic_at w (subscription_at w s).topic).frontier e).to ]
 
 -- the subscription that is closed, and where; where there is none, the connection is gone
 abbrev pub leave_answer : World → ℕ → Option ℕ → Answer
@@ -446,7 +439,7 @@ move_answer w (Cancels c t) = cancel_answer t (find_leftover t (speaker w c).lef
 move_answer w (Learns t id) = Learnt id t
 move_answer w (Releases t) = release_answer t (due_part (topic_at w t))
 move_answer w (Turns t) = Turned t (turn_count (has_room w) (verdict_in w) (topic_at w t))
-move_answer w (Takes s) = take_answer w s (item_number (subscription_at w s).taken (accepted_at w s))
+move_answer w (Takes s) = take_answer w s (slice_get (accepted_at w s) (subscription_at w s).taken)
 
 -- ---- a step
 

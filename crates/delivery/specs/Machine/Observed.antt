@@ -1,4 +1,5 @@
--- What a claim reads of the core after a run: a topic's log and frontier, and a subscription's queue and span.
+-- What a claim reads of the core after a run: a topic's log and frontier, and a subscription's queue and
+-- span.
 use Rattle.std.specs.Prelude.{ℕ, List, [], Option, Some, None}
 use Rattle.mcast_txn.specs.declared.id.Topic.{Topic}
 use Rattle.mcast_txn.specs.declared.stamp.Stamp.{Stamp}
@@ -27,7 +28,8 @@ entry_to (Some e) = e.to
 
 -- what the subscription's queue has accepted, taken or not
 abbrev pub accepted_at : World → ℕ → List Item
-accepted_at w s = elim (subscription_at w s).closed [ None ↦ entry_items (entry_at w s) | Some end ↦ end.accepted ]
+accepted_at w s = elim (subscription_at w s).closed [ None ↦ entry_items (entry_at w s)
+    | Some end ↦ end.accepted ]
 
 -- where the subscription's span ends, if it does
 abbrev pub end_at : World → ℕ → Option Stamp
@@ -35,4 +37,5 @@ end_at w s = elim (subscription_at w s).closed [ None ↦ entry_to (entry_at w s
 
 -- the subscription's topic, where its span begins, and where it ends if it does
 abbrev pub span_at : World → ℕ → Span
-span_at w s = record { topic = (subscription_at w s).topic; from = (subscription_at w s).from; to = end_at w s }
+span_at w s =
+    record { topic = (subscription_at w s).topic; from = (subscription_at w s).from; to = end_at w s }

@@ -1,4 +1,5 @@
--- A run: a list of events, what came of each, and what a reader takes from that list. It has the newest first.
+-- A run: a list of events, what came of each, and what a reader takes from that list. It has the newest
+-- first.
 use Rattle.std.specs.Prelude.{◌≡◌, ℕ, ◌+◌, ◌==◌, List, [], ◌∷◌, ◌++◌, if◌then◌else◌}
 use Rattle.mcast_txn.specs.declared.id.Topic.{Topic}
 use Rattle.mcast_txn.specs.declared.id.TxnId.{TxnId}
@@ -30,19 +31,22 @@ txn_of_id id (o ∷ before) = txn_of_id id before
 -- the commit list: one row for each transaction that was decided, in that order
 abbrev pub commits_of : List Answer → List CommitRow
 commits_of [] = []
-commits_of (Decided id stamp ∷ before) = commits_of before ++ record { txn = txn_of_id id before; stamp = stamp } ∷ []
+commits_of (Decided id stamp ∷ before) = commits_of before
+    ++ record { txn = txn_of_id id before; stamp = stamp } ∷ []
 commits_of (o ∷ before) = commits_of before
 
 -- the tickets that this transaction was given
 abbrev pub tickets_of : TxnId → List Answer → List Stamp
 tickets_of id [] = []
-tickets_of id (Ticket i ticket ∷ before) = if same_id i id then ticket ∷ tickets_of id before else tickets_of id before
+tickets_of id (Ticket i ticket ∷ before) = if same_id i id
+    then ticket ∷ tickets_of id before else tickets_of id before
 tickets_of id (o ∷ before) = tickets_of id before
 
 -- the items that this subscription was handed, in order
 abbrev pub delivered_items : ℕ → List Answer → List Item
 delivered_items s [] = []
-delivered_items s (Handed r item ∷ before) = if r == s then delivered_items s before ++ item ∷ [] else delivered_items s before
+delivered_items s (Handed r item ∷ before) = if r == s
+    then delivered_items s before ++ item ∷ [] else delivered_items s before
 delivered_items s (o ∷ before) = delivered_items s before
 
 -- how many transactions this sender has made

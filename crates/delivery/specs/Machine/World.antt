@@ -9,7 +9,8 @@ use Rattle.mcast_txn.specs.Ballot.{Decision}
 use Rattle.mcast_group.specs.declared.fault.ProposeFault.{ProposeFault}
 use Rattle.mcast_group.specs.Machine.{TopicState, Entry, EntryEnd, new_topic, find_entry}
 
--- a sender's undecided transaction: the tickets that it was given, by rising topic, and why a topic refused it, if one did (then it is marked)
+-- a sender's undecided transaction: the tickets that it was given, by rising topic, and why a topic refused
+-- it, if one did (then it is marked)
 pub record Undecided : Type 0 where
   pub txn : Transaction
   pub given : List Stamp
@@ -20,7 +21,8 @@ pub record Leftover : Type 0 where
   pub id : TxnId
   pub ticket : Stamp
 
--- a sender: the number of its transactions so far, its last stamp, its undecided transaction, and what it has to cancel
+-- a sender: the number of its transactions so far, its last stamp, its undecided transaction, and what it
+-- has to cancel
 pub record SenderState : Type 0 where
   pub seq : ℕ
   pub floor : Stamp
@@ -50,7 +52,8 @@ pub record Connection : Type 0 where
   pub sender : ℕ
   pub standing : Standing
 
--- a subscription: whose it is, where its span begins, how many of its items were handed on, and what it left if it was closed
+-- a subscription: whose it is, where its span begins, how many of its items were handed on, and what it
+-- left if it was closed
 pub record Subscription : Type 0 where
   pub connection : ℕ
   pub topic : Topic
@@ -72,7 +75,8 @@ pub record World : Type 0 where
 -- topics with these opening clocks, numbered from i
 abbrev pub new_topics : ℕ → ℕ → List ℕ → List TopicState
 new_topics i log_limit [] = []
-new_topics i log_limit (clock ∷ clocks) = new_topic (record { 0 = i }) log_limit clock ∷ new_topics (i + 1) log_limit clocks
+new_topics i log_limit (clock ∷ clocks) = new_topic (record { 0 = i }) log_limit clock
+    ∷ new_topics (i + 1) log_limit clocks
 
 -- topics with these opening clocks, and nobody there
 abbrev pub start : ℕ → ℕ → List ℕ → World
@@ -115,7 +119,8 @@ speaker w c = sender_at w (connection_at w c).sender
 
 -- what stands for a subscription that there never was
 abbrev pub no_subscription : Subscription
-no_subscription = record { connection = 0; topic = record { 0 = 0 }; from = zero_stamp; taken = 0; closed = None }
+no_subscription =
+    record { connection = 0; topic = record { 0 = 0 }; from = zero_stamp; taken = 0; closed = None }
 
 -- the subscription of this number; beyond the last, none
 abbrev pub subscription_at : World → ℕ → Subscription

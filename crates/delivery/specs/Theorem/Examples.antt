@@ -250,7 +250,8 @@ pub record WorkedRows : Type 0 where
   pub loss_queues : queue loss 0 ∷ queue loss 1 ∷ [] ≡ [] ∷ loss_at_a ∷ []
   pub loss_spans : span_at (final_world loss) 0 ∷ span_at (final_world loss) 1 ∷ []
       ≡ span 0 zero_stamp (Some zero_stamp) ∷ span 0 zero_stamp None ∷ []
-  pub loss_delivered : delivered_items 0 (answers_of loss) ∷ delivered_items 1 (answers_of loss) ∷ [] ≡ [] ∷ loss_at_a ∷ []
+  pub loss_delivered : delivered_items 0 (answers_of loss) ∷ delivered_items 1 (answers_of loss) ∷ [] ≡ []
+      ∷ loss_at_a ∷ []
   pub loss_left : left loss 0 ≡ Some (record { to = zero_stamp; accepted = []; cause = Asked })
   -- the item is accepted, the span ends with its stamp, and nothing was delivered
   pub disconnect_answers : answers_in_order disconnect

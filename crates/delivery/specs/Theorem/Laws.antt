@@ -1,4 +1,5 @@
--- What is claimed of every run, over all capacities, log limits, opening clocks and lists of events, and of each step.
+-- What is claimed of every run, over all capacities, log limits, opening clocks and lists of events, and of
+-- each step.
 use Rattle.std.specs.Prelude.{◌≡◌, ◌≢◌, ℕ, ◌<◌, ◌+◌, ◌-◌, ◌++◌, nat_lt, max, Bool, true, false, Option, Some, None, ◌⊎◌, List, [], ◌∷◌, map, filter, length}
 use Rattle.std.specs.Prelude.{not, ◌&&◌, take}
 use Rattle.std.specs.List.{list_any}
@@ -28,7 +29,8 @@ use Rattle.delivery.specs.Machine.Runs.{run, answers_from, commits_of, tickets_o
 use Rattle.delivery.specs.Machine.Runs.{released_at}
 use Rattle.delivery.specs.Theorem.Settled.{IsSettled, SilentAfterClose}
 
--- a run: how many items a queue holds, how many rows a topic holds, the topics' opening clocks, and the events
+-- a run: how many items a queue holds, how many rows a topic holds, the topics' opening clocks, and the
+-- events
 pub record Run : Type 0 where
   pub capacity : ℕ
   pub log_limit : ℕ
@@ -47,12 +49,14 @@ final_world r = run r.events (start r.capacity r.log_limit r.clocks)
 abbrev pub CommitsAreKept : Type 0
 CommitsAreKept = (r : Run) → (final_world r).commits ≡ commits_of (answers_of r)
 
--- what a subscription's queue has accepted, taken or not, is what is due to it: whole parts, each once, in the agreed order
+-- what a subscription's queue has accepted, taken or not, is what is due to it: whole parts, each once, in
+-- the agreed order
 abbrev pub AcceptedIsDue : Type 0
 AcceptedIsDue =
     (r : Run) (s : ℕ) → s < length (final_world r).subscriptions
     → accepted_at (final_world r) s
-    ≡ due (commits_of (answers_of r)) (span_at (final_world r) s) (frontier_at (final_world r) (subscription_at (final_world r) s).topic)
+    ≡ due (commits_of (answers_of r)) (span_at (final_world r) s)
+    (frontier_at (final_world r) (subscription_at (final_world r) s).topic)
 
 -- a transaction's seq counts those that its sender has made
 abbrev pub SeqsCount : Type 0
@@ -83,14 +87,16 @@ shared_marks items others = filter (λ p. list_any (λ i. same_id i.id p.id) oth
 abbrev pub SharedInOneOrder : Type 0
 SharedInOneOrder =
     (r : Run) (s q : ℕ) → s < length (final_world r).subscriptions → q < length (final_world r).subscriptions
-    → shared_marks (accepted_at (final_world r) s) (accepted_at (final_world r) q) ≡ shared_marks (accepted_at (final_world r) q) (accepted_at (final_world r) s)
+    → shared_marks (accepted_at (final_world r) s) (accepted_at (final_world r) q)
+    ≡ shared_marks (accepted_at (final_world r) q) (accepted_at (final_world r) s)
 
 -- a committed transaction that names a settled topic stands in its log, at most at its frontier
 abbrev pub SettledLeavesNoneOut : Type 0
 SettledLeavesNoneOut =
     (r : Run) (t : Topic) (row : CommitRow) → IsSettled t (answers_of r) → In row (commits_of (answers_of r))
     → names t (topics_of row.txn.sends) ≡ true
-    → In (log_row row) (log_at (final_world r) t) × (stamp_lt (frontier_at (final_world r) t) row.stamp ≡ false)
+    → In (log_row row) (log_at (final_world r) t)
+    × (stamp_lt (frontier_at (final_world r) t) row.stamp ≡ false)
 
 -- a topic's log is whole: nothing was drained of it, its rows rise, and its frontier is the stamp of the last
 abbrev pub TopicsAreSound : Type 0
@@ -128,7 +134,8 @@ agreed_rows t commits = map log_row (filter (λ row. names t (topics_of row.txn.
 abbrev pub LogIsOfAnswers : Type 0
 LogIsOfAnswers =
     (r : Run) (t : Topic)
-    → log_at (final_world r) t ≡ take (released_at t (answers_of r)) (agreed_rows t (commits_of (answers_of r)))
+    → log_at (final_world r) t
+    ≡ take (released_at t (answers_of r)) (agreed_rows t (commits_of (answers_of r)))
 
 -- nothing is handed on of a subscription that was unsubscribed, or whose connection closed
 abbrev pub ClosedIsSilent : Type 0
@@ -137,32 +144,39 @@ ClosedIsSilent = (r : Run) → SilentAfterClose (answers_of r)
 -- a transaction's stamp is the greatest of its tickets
 abbrev pub StampIsGreatest : Type 0
 StampIsGreatest =
-    (r : Run) (id : TxnId) (stamp : Stamp) → In (Decided id stamp) (answers_of r) → stamp ≡ greatest (tickets_of id (answers_of r))
+    (r : Run) (id : TxnId) (stamp : Stamp) → In (Decided id stamp) (answers_of r)
+    → stamp ≡ greatest (tickets_of id (answers_of r))
 
 -- ---- of each step
 
 -- a refused event changes nothing
 abbrev pub RefusalsChangeNothing : Type 0
-RefusalsChangeNothing = (w : World) (e : Move) (why : Refusal) → answer_to w e ≡ Refused why → world_after w e ≡ w
+RefusalsChangeNothing = (w : World) (e : Move) (why : Refusal) → answer_to w e ≡ Refused why
+    → world_after w e ≡ w
 
--- a turn is its learns, one for each part that was pending, in their order, and then as many releases: those that find nothing are refused
+-- a turn is its learns, one for each part that was pending, in their order, and then as many releases:
+-- those that find nothing are refused
 abbrev pub TurnIsItsSteps : Type 0
 TurnIsItsSteps =
     (w : World) (t : Topic)
     → world_after w (Turns t)
-    ≡ run (map (λ p. Learns t p.part.id) (topic_at w t).pending ++ map (λ p. Releases t) (topic_at w t).pending) w
+    ≡ run (map (λ p. Learns t p.part.id) (topic_at w t).pending
+    ++ map (λ p. Releases t) (topic_at w t).pending) w
 
--- a release that isn't refused adds one row to its topic's log: that of the transaction which its outcome names
+-- a release that isn't refused adds one row to its topic's log: that of the transaction which its outcome
+-- names
 abbrev pub ReleasedIsLogged : Type 0
 ReleasedIsLogged =
     (w : World) (t u : Topic) (id : TxnId) → answer_to w (Releases t) ≡ Released u id
-    → (u ≡ t) × (row : LogRow) × (row.id ≡ id) × (log_at (world_after w (Releases t)) t ≡ log_at w t ++ row ∷ [])
+    → (u ≡ t) × (row : LogRow) × (row.id ≡ id)
+    × (log_at (world_after w (Releases t)) t ≡ log_at w t ++ row ∷ [])
 
 -- a turn adds as many rows to its topic's log as its outcome says
 abbrev pub TurnedIsLogged : Type 0
 TurnedIsLogged =
     (w : World) (t u : Topic) (count : ℕ) → answer_to w (Turns t) ≡ Turned u count
-    → (u ≡ t) × (rows : List LogRow) × (length rows ≡ count) × (log_at (world_after w (Turns t)) t ≡ log_at w t ++ rows)
+    → (u ≡ t) × (rows : List LogRow) × (length rows ≡ count)
+    × (log_at (world_after w (Turns t)) t ≡ log_at w t ++ rows)
 
 -- the topic of this subscription, if there is one
 abbrev pub live_topic : World → Option ℕ → Option Topic
@@ -184,7 +198,8 @@ move_topic w e = None
 -- an event changes no other topic than its own
 abbrev pub OthersUntouched : Type 0
 OthersUntouched =
-    (w : World) (e : Move) (u : Topic) → u.0 < length w.topics → move_topic w e ≢ Some u → topic_at (world_after w e) u ≡ topic_at w u
+    (w : World) (e : Move) (u : Topic) → u.0 < length w.topics → move_topic w e ≢ Some u
+    → topic_at (world_after w e) u ≡ topic_at w u
 
 -- a ticket comes from a named topic alone, one above its clock and its sender's floor
 abbrev pub TicketIsOwn : Type 0
@@ -194,7 +209,8 @@ TicketIsOwn =
     × (names t (topics_of (undecided_at w c).txn.sends) ≡ true)
     × (ticket ≡ record { n = max (topic_at w t).clock (speaker w c).floor.n + 1; topic = t })
 
--- a verdict isn't the part's or clashes, or a part that has learnt its stamp is to be cancelled: what no run meets
+-- a verdict isn't the part's or clashes, or a part that has learnt its stamp is to be cancelled: what no
+-- run meets
 abbrev pub is_odd : Refusal → Bool
 is_odd Refusal.Foreign = true
 is_odd Refusal.Clash = true
@@ -209,11 +225,13 @@ OddNeverComes = (r : Run) (why : Refusal) → In (Refused why) (answers_of r) �
 abbrev pub FoundIsLearnt : Type 0
 FoundIsLearnt =
     (r : Run) (t : Topic) (id : TxnId) (v : Decision) → verdict_in (final_world r) id ≡ Some v
-    → (learn_fault id v (topic_at (final_world r) t) ≡ None) ⊎ (learn_fault id v (topic_at (final_world r) t) ≡ Some LearnFault.NotPending)
+    → (learn_fault id v (topic_at (final_world r) t) ≡ None)
+    ⊎ (learn_fault id v (topic_at (final_world r) t) ≡ Some LearnFault.NotPending)
 
 -- a ticket that is to be cancelled has its part pending
 abbrev pub CancelFindsItsPart : Type 0
-CancelFindsItsPart = (r : Run) (c : ℕ) (t : Topic) → answer_to (final_world r) (Cancels c t) ≢ Refused Refusal.NotPending
+CancelFindsItsPart = (r : Run) (c : ℕ) (t : Topic)
+    → answer_to (final_world r) (Cancels c t) ≢ Refused Refusal.NotPending
 
 -- no topic refuses a part because its transaction is pending there
 abbrev pub NoneIsPendingTwice : Type 0
@@ -221,38 +239,46 @@ NoneIsPendingTwice = (r : Run) (id : TxnId) → In (Failed id ProposeFault.Twice
 
 -- the number that the next subscription gets is free at each topic
 abbrev pub NumbersAreFree : Type 0
-NumbersAreFree = (r : Run) (t : Topic) → subscribe_fault (length (final_world r).subscriptions) (topic_at (final_world r) t) ≡ None
+NumbersAreFree = (r : Run) (t : Topic)
+    → subscribe_fault (length (final_world r).subscriptions) (topic_at (final_world r) t) ≡ None
 
 -- a subscription that isn't closed has its entry at its topic
 abbrev pub EntriesAreThere : Type 0
 EntriesAreThere =
-    (r : Run) (s : ℕ) → s < length (final_world r).subscriptions → (subscription_at (final_world r) s).closed ≡ None
+    (r : Run) (s : ℕ) → s < length (final_world r).subscriptions
+    → (subscription_at (final_world r) s).closed ≡ None
     → unsubscribe_fault s (topic_at (final_world r) (subscription_at (final_world r) s).topic) ≡ None
 
 -- an entry of a topic is that of a subscription to it that isn't closed, with its beginning
 abbrev pub EntriesAreOwned : Type 0
 EntriesAreOwned =
     (r : Run) (t : Topic) (e : Entry) → In e (topic_at (final_world r) t).subscriptions
-    → (e.number < length (final_world r).subscriptions) × ((subscription_at (final_world r) e.number).topic ≡ t)
-    × ((subscription_at (final_world r) e.number).closed ≡ None) × ((subscription_at (final_world r) e.number).from ≡ e.from)
+    → (e.number < length (final_world r).subscriptions)
+    × ((subscription_at (final_world r) e.number).topic ≡ t)
+    × ((subscription_at (final_world r) e.number).closed ≡ None)
+    × ((subscription_at (final_world r) e.number).from ≡ e.from)
 
 -- no transaction is both withdrawn and decided
 abbrev pub WithdrawnIsUndecided : Type 0
 WithdrawnIsUndecided =
-    (r : Run) (id : TxnId) (c : ℕ) (stamp : Stamp) → In (Withdrawn id c) (answers_of r) → In (Decided id stamp) (answers_of r) → Prim.⊥
+    (r : Run) (id : TxnId) (c : ℕ) (stamp : Stamp) → In (Withdrawn id c) (answers_of r)
+    → In (Decided id stamp) (answers_of r) → Prim.⊥
 
--- an open subscription as a release of p leaves it: where fewer items than its capacity weren't handed on it has one more, and else it has ended before it
-pub record IsGiven (w : World) (frontier : Stamp) (p : Pending) (before final_world : Entry) : Type 0 where
-  pub number : final_world.number ≡ before.number
+-- an open subscription as a release of p leaves it: where fewer items than its capacity weren't handed on
+-- it has one more, and else it has ended before it
+pub record IsGiven (w : World) (frontier : Stamp) (p : Pending) (before later : Entry) : Type 0 where
+  pub number : later.number ≡ before.number
   pub room : nat_lt (length before.accepted - (subscription_at w before.number).taken) w.capacity ≡ true
-      → (final_world.to ≡ None) × (final_world.accepted ≡ before.accepted ++ item_of p ∷ [])
+      → (later.to ≡ None) × (later.accepted ≡ before.accepted ++ item_of p ∷ [])
   pub full : nat_lt (length before.accepted - (subscription_at w before.number).taken) w.capacity ≡ false
-      → (final_world.to ≡ Some frontier) × (final_world.accepted ≡ before.accepted)
+      → (later.to ≡ Some frontier) × (later.accepted ≡ before.accepted)
 
--- a release gives the open subscription of this number the item where its queue has room, and lags it where it is full
+-- a release gives the open subscription of this number the item where its queue has room, and lags it where
+-- it is full
 abbrev pub LagsWhereFull : Type 0
 LagsWhereFull =
     (w : World) (t : Topic) (p : Pending) (n : ℕ) (before : Entry) → move_refusal w (Releases t) ≡ None
-    → due_part (topic_at w t) ≡ Some p → find_entry n (topic_at w t).subscriptions ≡ Some before → before.to ≡ None
+    → due_part (topic_at w t) ≡ Some p → find_entry n (topic_at w t).subscriptions ≡ Some before
+    → before.to ≡ None
     → (later : Entry) × (find_entry n (topic_at (world_after w (Releases t)) t).subscriptions ≡ Some later)
     × IsGiven w (topic_at w t).frontier p before later

@@ -20,13 +20,15 @@ IsResolved t run txn =
 
 -- so is each transaction that names t
 abbrev pub AllResolved : Topic → List Answer → Type 0
-AllResolved t run = (txn : Transaction) → In (Begun txn) run → names t (topics_of txn.sends) ≡ true → IsResolved t run txn
+AllResolved t run = (txn : Transaction) → In (Begun txn) run → names t (topics_of txn.sends) ≡ true
+    → IsResolved t run txn
 
 -- the transaction of this id names t
 abbrev pub is_at : Topic → TxnId → List Answer → Bool
 is_at t id run = names t (topics_of (txn_of_id id run).sends)
 
--- each transaction that names t is resolved, and a turn of t stands after the last of these outcomes, where there is any
+-- each transaction that names t is resolved, and a turn of t stands after the last of these outcomes, where
+-- there is any
 abbrev pub IsSettled : Topic → List Answer → Type 0
 IsSettled t [] = Unit {0}
 IsSettled t (Begun txn ∷ before) = (names t (topics_of txn.sends) ≡ false) × IsSettled t before
@@ -47,7 +49,8 @@ Closes c o = Prim.⊥
 abbrev pub IsSilent : ℕ → List Answer → Type 0
 IsSilent s run =
     ((to : Stamp) × In (Unsubscribed s to) run)
-    ⊎ ((c : ℕ) × (t : Topic) × (from : Stamp) × (o : Answer) × In (Subscribed s c t from) run × In o run × Closes c o)
+    ⊎ ((c : ℕ) × (t : Topic) × (from : Stamp) × (o : Answer) × In (Subscribed s c t from) run × In o run
+    × Closes c o)
 
 -- nothing is handed on of a subscription that was silent before
 abbrev pub SilentAfterClose : List Answer → Type 0

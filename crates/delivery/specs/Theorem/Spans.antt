@@ -16,7 +16,8 @@ use Rattle.delivery.specs.Theorem.Laws.{Run, final_world}
 abbrev pub SpansEndAtFrontier : Type 0
 SpansEndAtFrontier =
     (r : Run) (e : Move) (s : ℕ) (to : Stamp) → answer_to (final_world r) e ≡ Unsubscribed s to
-    → end_at (final_world r) s ≡ None → to ≡ frontier_at (final_world r) (subscription_at (final_world r) s).topic
+    → end_at (final_world r) s ≡ None → to
+    ≡ frontier_at (final_world r) (subscription_at (final_world r) s).topic
 
 -- a log got rows, one for which a queue had no room, and others: the end is the last stamp before that row;
 -- where rows 2, 3 and 4 come after row 1 and the queue has room for 2 alone, it is row 2's stamp
@@ -31,7 +32,8 @@ pub record EndsBeforeRow (before later : List LogRow) (end : Stamp) : Type 0 whe
 abbrev pub LagsEndBeforeRow : Type 0
 LagsEndBeforeRow =
     (r : Run) (e : Move) (s : ℕ) (end : Stamp) → end_at (final_world r) s ≡ None
-    → end_at (world_after (final_world r) e) s ≡ Some end → (answer_to (final_world r) e ≡ Unsubscribed s end → Prim.⊥)
+    → end_at (world_after (final_world r) e) s ≡ Some end
+    → (answer_to (final_world r) e ≡ Unsubscribed s end → Prim.⊥)
     → let t = (subscription_at (final_world r) s).topic in
     EndsBeforeRow (log_at (final_world r) t) (log_at (world_after (final_world r) e) t) end
 
@@ -39,7 +41,8 @@ LagsEndBeforeRow =
 abbrev pub QueuesGrow : Type 0
 QueuesGrow =
     (r : Run) (e : Move) (s : ℕ) → s < length (final_world r).subscriptions
-    → (more : List Item) × (accepted_at (world_after (final_world r) e) s ≡ accepted_at (final_world r) s ++ more)
+    → (more : List Item) × (accepted_at (world_after (final_world r) e) s ≡ accepted_at (final_world r) s
+    ++ more)
 
 -- why a subscription is closed: it has lagged where its span had an end before, and else it was asked to end
 abbrev pub cause_of : Option Stamp → Cause
@@ -51,7 +54,11 @@ abbrev pub ClosedAsAnswered : Type 0
 ClosedAsAnswered =
     (r : Run) (e : Move) (s : ℕ) (to : Stamp) → answer_to (final_world r) e ≡ Unsubscribed s to
     → (subscription_at (world_after (final_world r) e) s).closed
-    ≡ Some (record { to = to; accepted = accepted_at (final_world r) s; cause = cause_of (end_at (final_world r) s) })
+    ≡ Some (record {
+      to = to;
+      accepted = accepted_at (final_world r) s;
+      cause = cause_of (end_at (final_world r) s);
+    })
 
 -- only an event that answers a subscription's end closes it
 abbrev pub ClosesAreAnswered : Type 0
