@@ -7,7 +7,7 @@ use Rattle.stomp_frame.specs.declared.raw_frame.RawFrame.{RawFrame}
 use Rattle.stomp_frame.specs.Checks.{IsOpen}
 use Rattle.stomp_frame.specs.Grammar.{Leaves, Stream}
 use Rattle.stomp_frame.specs.Reader.{Unread}
-use Rattle.stomp_frame.specs.Parser.{Open, frame_at, line_at, after_eols}
+use Rattle.stomp_frame.specs.Inner.Parser.{Open, frame_at, line_at, after_eols}
 use Rattle.stomp_frame.specs.Headers.{IsPair}
 use Rattle.stomp_frame.specs.ServerFrames.{error_frame}
 use Rattle.stomp_frame.specs.Writing.{spelled, IsWritable, IsWithin}
@@ -16,7 +16,7 @@ use Rattle.stomp_frame.proofs.Written.{spelled_first}
 use Rattle.broker_server.specs.Relay.{standard, IsRelayed}
 use Rattle.broker_server.specs.RelayFaults.{relay_fault}
 use Rattle.broker_server.specs.declared.relay_fault.RelayFault.TheVariants.{UnknownDestination}
-use Rattle.broker_server.specs.Steps.{reading}
+use Rattle.broker_server.specs.Inner.Steps.{reading}
 use Rattle.broker_server.proofs.NextLemmas.{is_ascii, is_text}
 
 -- ---- two SENDs to `A`, with the bodies `hi` and `a`, NULL, `b`

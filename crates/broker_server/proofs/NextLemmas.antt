@@ -23,7 +23,7 @@ use Rattle.broker_server.specs.declared.next.Next.{Next}
 use Rattle.broker_server.specs.declared.next.Next.TheVariants.{End}
 use Rattle.broker_server.specs.RelayFaults.{relay_fault, relay_fault_title}
 use Rattle.broker_server.specs.Relay.{check_error, error_at_end}
-use Rattle.broker_server.specs.Steps.{reading, next_of_fault, IsNextOfFrame, IsNext}
+use Rattle.broker_server.specs.Inner.Steps.{reading, next_of_fault, IsNextOfFrame, IsNext}
 
 -- ---- the text of an error can be written
 

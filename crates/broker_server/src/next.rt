@@ -3,7 +3,7 @@
 ghost use Rattle.std.specs.Prelude.{◌≡◌, ◌≢◌, IfOk, false};
 ghost use Rattle.std.specs.Option.{option_map};
 ghost use Rattle.stomp_frame.specs.declared.server_frame.ServerFrame.TheVariants.{Error};
-ghost use Rattle.broker_server.specs.Steps.{reading, next_of_fault, IsNextOfFrame, IsNext};
+ghost use Rattle.broker_server.specs.Inner.Steps.{reading, next_of_fault, IsNextOfFrame, IsNext};
 
 use crate::relay_fault::RelayFault;
 use std::alloc::Global;

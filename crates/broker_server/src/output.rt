@@ -5,7 +5,7 @@ ghost use Rattle.std.specs.Io.KnownBytes.{Appends};
 ghost use Rattle.std.specs.Option.{option_map, option_map_or};
 ghost use Rattle.stomp_frame.specs.Writing.{spelled};
 ghost use Rattle.stomp_frame.specs.ServerFrames.{rendered, IsRenderable};
-ghost use Rattle.broker_server.specs.Steps.{Heard, Sends};
+ghost use Rattle.broker_server.specs.Inner.Steps.{Heard, Sends};
 
 use crate::counting::Counting;
 use crate::program_fault::ProgramFault;

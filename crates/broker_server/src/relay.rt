@@ -6,7 +6,7 @@ ghost use Rattle.std.specs.Io.KnownBytes.{Appends};
 ghost use Rattle.broker_server.specs.Counts.{plus, max_reads, Fails, FailsNot, RunsOut};
 ghost use Rattle.broker_server.specs.Relay.{input_limit, too_long, IsAnswered};
 ghost use Rattle.broker_server.specs.Runs.{Relays, HasCause};
-ghost use Rattle.broker_server.specs.Steps.{reading, Heard, IsGathered};
+ghost use Rattle.broker_server.specs.Inner.Steps.{reading, Heard, IsGathered};
 
 use crate::counting::Counting;
 use crate::next::Next;

@@ -12,10 +12,10 @@ use Rattle.mcast_txn.specs.declared.stamp.Stamp.{Stamp}
 use Rattle.mcast_txn.specs.declared.ballot.ticket.Ticket.{Ticket}
 use Rattle.mcast_txn.specs.Ballot.{BallotState, put_answer, slot_answer, ticket_rows}
 use Rattle.mcast_txn.specs.Ids.{same_id}
-use Rattle.mcast_txn.specs.SlotIndex.{IsIndexOf, HasNone, free_slot}
+use Rattle.mcast_txn.specs.Inner.SlotIndex.{IsIndexOf, HasNone, free_slot}
 use Rattle.mcast_txn.specs.Slots.{slot_at, with_slot, free_slots}
 use Rattle.mcast_txn.specs.Lists.{RisesBy}
-use Rattle.mcast_txn.specs.TicketSlots.{ticket_slots, HasRoom}
+use Rattle.mcast_txn.specs.Inner.TicketSlots.{ticket_slots, HasRoom}
 use Rattle.mcast_txn.proofs.Rising.{rises_alike, rises-map}
 use Rattle.mcast_txn.proofs.RowLemmas.{all_given}
 use Rattle.mcast_txn.proofs.SlotLemmas.{slot_at-index, slot_at-none, with_slot-set, same_keys, any-map}

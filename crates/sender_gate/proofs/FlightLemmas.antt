@@ -17,7 +17,7 @@ use Rattle.mcast_txn.specs.Transaction.{TopicPart, topics_of}
 use Rattle.mcast_txn.proofs.StampLemmas.{lt_trans}
 use Rattle.sender_gate.specs.declared.fault.GateFault.TheVariants.{BelowFloor}
 use Rattle.sender_gate.specs.Gate.{over_floor}
-use Rattle.sender_gate.specs.Flights.{IsFlying}
+use Rattle.sender_gate.specs.Inner.Flights.{IsFlying}
 
 -- the number is at most the floor's, or above it
 pub too_low : (floor : Stamp) (ticket : Ticket) → ticket.n ≤ floor.n → Err BelowFloor ≡ over_floor floor ticket (Ok tt)

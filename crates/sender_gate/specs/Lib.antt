@@ -1,3 +1,3 @@
 pub mod Faults
-pub mod Flights
 pub mod Gate
+pub mod Inner

@@ -9,7 +9,7 @@ ghost use Rattle.mcast_txn.specs.Part.{data_of};
 ghost use Rattle.mcast_txn.specs.Slots.{held_at, with_slot};
 ghost use Rattle.mcast_txn.specs.Stamp.{greatest, stamp_lt};
 ghost use Rattle.sender_gate.specs.declared.fault.GateFault.TheVariants.{Incomplete};
-ghost use Rattle.sender_gate.specs.Flights.{IsFlying};
+ghost use Rattle.sender_gate.specs.Inner.Flights.{IsFlying};
 ghost use Rattle.sender_gate.specs.Gate.{flight_answer, gate_after, ballot_of};
 
 use crate::fault::GateFault;
@@ -29,7 +29,7 @@ pub struct Flying {
 }
 
 impl Model for Flying {
-    ghost use Rattle.sender_gate.specs.Flights.{IsFlying};
+    ghost use Rattle.sender_gate.specs.Inner.Flights.{IsFlying};
     ghost use Rattle.sender_gate.specs.Gate.{FlightState};
 
     ghost Value = { FlightState };

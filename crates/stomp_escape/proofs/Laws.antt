@@ -8,7 +8,7 @@ use Rattle.std.proofs.lemmas.List.{append-nil}
 use Rattle.stomp_escape.specs.declared.fault.EscapeFault.{EscapeFault}
 use Rattle.stomp_escape.specs.declared.fault.EscapeFault.TheVariants.{Undefined, Cut, NoMemory}
 use Rattle.stomp_escape.specs.Escape.{letter_of, escaped_octet, escaped, Spells, IsFirstFault, IsSpelled, IsFaulty, IsUnbroken, Gives}
-use Rattle.stomp_escape.specs.Unescaping.{octet_of, before, unescaped_from, unescaped}
+use Rattle.stomp_escape.specs.Inner.Unescaping.{octet_of, before, unescaped_from, unescaped}
 use Rattle.stomp_escape.proofs.Steps.{with_front, plain_at, escape_at, undefined_at, cut_at, nothing_at}
 
 pub Spells-escaped : (v : List ℕ) → Spells (escaped v) v

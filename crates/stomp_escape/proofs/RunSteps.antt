@@ -2,7 +2,7 @@
 use Rattle.std.proofs.Common.{◌≡◌, ℕ, ◌+◌, ◌<◌, ◌≤◌, List, [], ◌∷◌, ◌++◌, length, drop, get_or, Some, Result, Ok, sym, ap, ◌∙◌, append_assoc, arith}
 use Rattle.std.proofs.lemmas.List.{append-nil}
 use Rattle.stomp_escape.specs.declared.fault.EscapeFault.{EscapeFault}
-use Rattle.stomp_escape.specs.Unescaping.{octet_of, unescaped_from}
+use Rattle.stomp_escape.specs.Inner.Unescaping.{octet_of, unescaped_from}
 use Rattle.stomp_escape.proofs.Steps.{with_front, goes_plain, goes_escape, ends}
 use Rattle.stomp_escape.proofs.Runs.{run, run_more, run_none, run_rest}
 

@@ -4,7 +4,7 @@ use Rattle.std.proofs.lemmas.Bool.{eq-eqb, ne_eqb}
 use Rattle.std.proofs.lemmas.List.{append-nil, drop_more, nil_from_length, length-drop}
 use Rattle.stomp_escape.specs.declared.fault.EscapeFault.{EscapeFault}
 use Rattle.stomp_escape.specs.declared.fault.EscapeFault.TheVariants.{Undefined, Cut}
-use Rattle.stomp_escape.specs.Unescaping.{octet_of, before, unescaped_from}
+use Rattle.stomp_escape.specs.Inner.Unescaping.{octet_of, before, unescaped_from}
 
 -- what was read before, and what is still read
 abbrev pub with_front : List ℕ → Result (List ℕ) EscapeFault → Result (List ℕ) EscapeFault

@@ -1,3 +1,3 @@
 pub mod Escape
 pub mod Fault
-pub mod Unescaping
+pub mod Inner

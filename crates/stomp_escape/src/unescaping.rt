@@ -4,7 +4,7 @@ ghost use Rattle.std.specs.Prelude.{◌≡◌, ◌⊎◌, ℕ, List, IfOk, IfErr
 ghost use Rattle.stomp_escape.specs.declared.fault.EscapeFault.{EscapeFault};
 ghost use Rattle.stomp_escape.specs.declared.fault.EscapeFault.TheVariants.{NoMemory};
 ghost use Rattle.stomp_escape.specs.Escape.{Spells, IsFirstFault, Gives};
-ghost use Rattle.stomp_escape.specs.Unescaping.{octet_of, unescaped};
+ghost use Rattle.stomp_escape.specs.Inner.Unescaping.{octet_of, unescaped};
 
 use crate::fault::EscapeFault;
 use crate::octets::Octets;

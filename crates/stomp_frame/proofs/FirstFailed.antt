@@ -14,7 +14,7 @@ use Rattle.stomp_frame.specs.Headers.{Header}
 use Rattle.stomp_frame.specs.Commands.{has_escapes}
 use Rattle.stomp_frame.specs.ContentLength.{length_of, content_length}
 use Rattle.stomp_frame.specs.Checks.{Stage, AtCommand, AtHeader, AtBody, HasLine, IsEndless, HasNoCrOrNull, IsNameless, HasBadEscape, IsCounted, IsEndlessBody, FailsCheck, checks_of, IsFirstFailed, IsAtFault}
-use Rattle.stomp_frame.specs.Parser.{without_cr, after_eols, frame_at}
+use Rattle.stomp_frame.specs.Inner.Parser.{without_cr, after_eols, frame_at}
 use Rattle.stomp_frame.proofs.Cuts.{Without}
 use Rattle.stomp_frame.proofs.Failing.{FailsAsLine, Passes, FailsAsCommand, FailsAsHeader, FailsAsBody, IsFaulty}
 use Rattle.stomp_frame.proofs.AtFault as at_fault

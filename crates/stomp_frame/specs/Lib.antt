@@ -8,8 +8,8 @@ pub mod Laws
 pub mod Faults
 pub mod Reader
 pub mod Pieces
-pub mod Parser
 pub mod Writing
 pub mod ServerFrames
 pub mod Cases
 pub mod ClientFrames
+pub mod Inner

@@ -4,7 +4,7 @@ ghost use Rattle.std.specs.Prelude.{◌≡◌, ◌<◌, ◌+◌, length, slice_i
 ghost use Rattle.std.specs.List.{list_any};
 ghost use Rattle.std.specs.Option.{option_map};
 ghost use Rattle.std.specs.Str.{is_utf8};
-ghost use Rattle.stomp_frame.specs.Parser.{Returns, cut, without_cr, checked, line_at, after_eols};
+ghost use Rattle.stomp_frame.specs.Inner.Parser.{Returns, cut, without_cr, checked, line_at, after_eols};
 
 use crate::fault::{Check, Stop};
 use crate::limits::Limits;
@@ -40,7 +40,7 @@ fn has_cr_or_null(content: &[u8]) -> bool
     memchr2(b'\r', 0, content).is_some()
 }
 
-#[tactic(auto, unfolding(crate::specs::Parser::checked))]
+#[tactic(auto, unfolding(crate::specs::Inner::Parser::checked))]
 fn check<'a>(limits: &Limits, content: &'a [u8]) -> Result<&'a [u8], Stop>
     ensures { Returns (λ x. x.now) result (checked limits.now content.now) }
 {
@@ -57,7 +57,7 @@ fn check<'a>(limits: &Limits, content: &'a [u8]) -> Result<&'a [u8], Stop>
 }
 
 /// The content of the line at the front, and what stands behind it.
-#[tactic(auto, unfolding(crate::specs::Parser::line_at))]
+#[tactic(auto, unfolding(crate::specs::Inner::Parser::line_at))]
 pub(crate) fn take_line<'a>(limits: &Limits, text: &'a [u8]) -> Result<(&'a [u8], &'a [u8]), Stop>
     ensures { Returns (λ x. (x.0.now, x.1.now)) result (line_at limits.now text.now) }
 {

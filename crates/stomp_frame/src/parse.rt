@@ -1,7 +1,7 @@
 //! Reading a frame's parts from the front of a text.
 
 ghost use Rattle.std.specs.Prelude.{◌≡◌, ◌≤◌, length, drop, IfOk};
-ghost use Rattle.stomp_frame.specs.Parser.{Returns, after_eols, command_of, field_of, header_of, headers_at, counted_at, uncounted_at, body_at, frame_at};
+ghost use Rattle.stomp_frame.specs.Inner.Parser.{Returns, after_eols, command_of, field_of, header_of, headers_at, counted_at, uncounted_at, body_at, frame_at};
 
 use crate::command::Command;
 use crate::content_length::length_in;
@@ -13,7 +13,7 @@ use crate::raw_frame::RawFrame;
 use std::alloc::Global;
 use stomp_escape::{EscapeFault, Octets, unescape};
 
-#[tactic(auto, unfolding(crate::specs::Parser::command_of))]
+#[tactic(auto, unfolding(crate::specs::Inner::Parser::command_of))]
 fn parse_command(line: &[u8]) -> Result<Command, Stop>
     ensures { Returns (λ x. x) result (command_of line.now) }
 {
@@ -23,7 +23,7 @@ fn parse_command(line: &[u8]) -> Result<Command, Stop>
     }
 }
 
-#[tactic(auto, unfolding(crate::specs::Parser::field_of))]
+#[tactic(auto, unfolding(crate::specs::Inner::Parser::field_of))]
 fn parse_field(alloc: Global, escapes: bool, text: &[u8]) -> Result<Octets, Stop>
     ensures { Returns (λ x. x) result (field_of escapes text.now) }
 {
@@ -38,7 +38,7 @@ fn parse_field(alloc: Global, escapes: bool, text: &[u8]) -> Result<Octets, Stop
     }
 }
 
-#[tactic(auto, unfolding(crate::specs::Parser::header_of))]
+#[tactic(auto, unfolding(crate::specs::Inner::Parser::header_of))]
 fn parse_header(alloc: Global, escapes: bool, line: &[u8]) -> Result<(Octets, Octets), Stop>
     ensures { Returns (λ x. x) result (header_of escapes line.now) }
 {
@@ -83,7 +83,7 @@ fn parse_headers<'a>(
     }
 }
 
-#[tactic(auto, unfolding(crate::specs::Parser::counted_at))]
+#[tactic(auto, unfolding(crate::specs::Inner::Parser::counted_at))]
 fn take_counted(n: usize, text: &[u8]) -> Result<(&[u8], &[u8]), Stop>
     ensures { Returns (λ x. (x.0.now, x.1.now)) result (counted_at n text.now) }
 {
@@ -96,7 +96,7 @@ fn take_counted(n: usize, text: &[u8]) -> Result<(&[u8], &[u8]), Stop>
     Ok((&text[..n], &text[n + 1..]))
 }
 
-#[tactic(auto, unfolding(crate::specs::Parser::uncounted_at))]
+#[tactic(auto, unfolding(crate::specs::Inner::Parser::uncounted_at))]
 fn take_uncounted<'a>(limits: &Limits, text: &'a [u8]) -> Result<(&'a [u8], &'a [u8]), Stop>
     ensures { Returns (λ x. (x.0.now, x.1.now)) result (uncounted_at limits.now text.now) }
 {
@@ -116,7 +116,7 @@ fn take_uncounted<'a>(limits: &Limits, text: &'a [u8]) -> Result<(&'a [u8], &'a 
     }
 }
 
-#[tactic(auto, unfolding(crate::specs::Parser::body_at))]
+#[tactic(auto, unfolding(crate::specs::Inner::Parser::body_at))]
 fn parse_body<'a>(
     limits: &Limits,
     headers: &Headers,
@@ -138,7 +138,7 @@ fn parse_body<'a>(
     }
 }
 
-#[tactic(auto, unfolding(crate::specs::Parser::frame_at))]
+#[tactic(auto, unfolding(crate::specs::Inner::Parser::frame_at))]
 fn parse_frame<'a>(
     alloc: Global,
     limits: &Limits,

@@ -9,9 +9,9 @@ use Rattle.indexmap.specs.IndexMap.{insert_entry, set_value_at}
 use Rattle.indexmap.specs.IndexSet.{insert_key}
 use Rattle.mcast_txn.specs.declared.draft.sent_message.SentMessage.{SentMessage}
 use Rattle.stomp_session.specs.Names.{is_known, place_of, with_name}
-use Rattle.stomp_session.specs.Stored.{octets_of, entries_of}
+use Rattle.stomp_session.specs.Inner.Stored.{octets_of, entries_of}
 use Rattle.stomp_session.specs.Refusals.{is_open, sends_in}
-use Rattle.stomp_session.specs.Effects.{place_of_id, entries_without, with_send}
+use Rattle.stomp_session.specs.Inner.Effects.{place_of_id, entries_without, with_send}
 
 abbrev pub Key : Type 0
 Key = Vec ℕ Global

@@ -20,7 +20,7 @@ use Rattle.stomp_session.specs.Frames.{topic_of, id_of, transaction_of, is_subsc
 use Rattle.stomp_session.specs.Open.{Held, subscriptions_left, transactions_left, is_connected, is_ended, phase_of, held_after}
 use Rattle.stomp_session.specs.Refusals.{is_closed, is_new, is_open, is_full, has_other_ack, has_unknown_destination, open_tests, tests_by}
 use Rattle.stomp_session.specs.FirstRefusal.{Test, first_fault}
-use Rattle.stomp_session.specs.Effects.{entries_without, with_send, effect, refusal_by}
+use Rattle.stomp_session.specs.Inner.Effects.{entries_without, with_send, effect, refusal_by}
 use Rattle.stomp_session.proofs.LeftOpen.{opened, opened-quiet, opened-open, opened-close, opened-send, list_any-push}
 
 abbrev opens_subscription : RawFrame → Bool

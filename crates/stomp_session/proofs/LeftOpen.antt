@@ -7,7 +7,7 @@ use Rattle.std.specs.Str.{bytes_eq}
 use Rattle.stomp_frame.specs.declared.raw_frame.RawFrame.{RawFrame}
 use Rattle.mcast_txn.specs.declared.draft.sent_message.SentMessage.{SentMessage}
 use Rattle.stomp_session.specs.Refusals.{is_open}
-use Rattle.stomp_session.specs.Effects.{entries_without, with_send}
+use Rattle.stomp_session.specs.Inner.Effects.{entries_without, with_send}
 
 or_none : (a : Bool) → (a || false) ≡ a
 or_none true = refl

@@ -9,7 +9,7 @@ use Rattle.stomp_session.specs.declared.action.Step.{Step}
 use Rattle.stomp_session.specs.declared.judged.Judged.{Judged}
 use Rattle.stomp_session.specs.Open.{Held, held_after, StandsFor}
 use Rattle.stomp_session.specs.Answers.{Accepts, action_by}
-use Rattle.stomp_session.specs.Effects.{action_of, effect, refusal_by, AcceptsAs, JudgesAs}
+use Rattle.stomp_session.specs.Inner.Effects.{action_of, effect, refusal_by, AcceptsAs, JudgesAs}
 use Rattle.stomp_session.specs.Frames.{id_of}
 use Rattle.stomp_session.proofs.History.{Follows, connect-follows, stomp-follows}
 

@@ -1,5 +1,4 @@
 pub mod Names
-pub mod Stored
 pub mod Frames
 pub mod Open
 pub mod Versions
@@ -7,5 +6,4 @@ pub mod Faults
 pub mod FirstRefusal
 pub mod Refusals
 pub mod Answers
-pub mod Effects
-pub mod Sound
+pub mod Inner

@@ -4,7 +4,7 @@ ghost use Rattle.std.specs.Prelude.{◌≡◌, codes, Some, IfSome, IsSome};
 ghost use Rattle.stomp_frame.specs.Headers.{IsText, first_of};
 ghost use Rattle.stomp_frame.specs.Receipts.{asked_receipt, receipt_of};
 ghost use Rattle.stomp_session.specs.Answers.{AreTexts};
-ghost use Rattle.stomp_session.specs.Effects.{HasItsId, action_of};
+ghost use Rattle.stomp_session.specs.Inner.Effects.{HasItsId, action_of};
 ghost use Rattle.stomp_session.specs.Frames.{id_of};
 
 use crate::action::{Action, Step};

@@ -20,7 +20,7 @@ pub struct Names {
 
 impl Model for Names {
     ghost use Rattle.std.specs.Prelude.{ℕ, List, ◌≤◌, ◌^◌, length};
-    ghost use Rattle.stomp_session.specs.Stored.{octets_of};
+    ghost use Rattle.stomp_session.specs.Inner.Stored.{octets_of};
 
     ghost Value = { List (List ℕ) };
 

@@ -3,7 +3,7 @@
 ghost use Rattle.std.specs.Prelude.{◌≡◌, false, [], ◌∷◌, ◌++◌, is_some, OnOk};
 ghost use Rattle.std.specs.Map.{lookup};
 ghost use Rattle.std.specs.Str.{bytes_eq};
-ghost use Rattle.stomp_session.specs.Effects.{entries_without};
+ghost use Rattle.stomp_session.specs.Inner.Effects.{entries_without};
 ghost use Rattle.stomp_session.specs.Refusals.{is_open, is_full};
 
 use indexmap::IndexMap;
@@ -24,7 +24,7 @@ pub(crate) struct Opened<T> {
 
 impl<T> Model for Opened<T> {
     ghost use Rattle.std.specs.Prelude.{ℕ, List};
-    ghost use Rattle.stomp_session.specs.Stored.{entries_of};
+    ghost use Rattle.stomp_session.specs.Inner.Stored.{entries_of};
 
     ghost Value = { List (List ℕ × T) };
 

@@ -12,7 +12,7 @@ ghost use Rattle.stomp_session.specs.Open.{after_close, held_after, StandsFor};
 ghost use Rattle.stomp_session.specs.FirstRefusal.{first_fault};
 ghost use Rattle.stomp_session.specs.Refusals.{is_closed, is_new, has_other_ack};
 ghost use Rattle.stomp_session.specs.Answers.{Accepts, AreTexts, Refuses};
-ghost use Rattle.stomp_session.specs.Effects.{AcceptsAs, Handles, IsRouteOf, RefusesAs, refusal_by};
+ghost use Rattle.stomp_session.specs.Inner.Effects.{AcceptsAs, Handles, IsRouteOf, RefusesAs, refusal_by};
 
 use crate::action::{Action, Step};
 use crate::fault::SessionFault;
@@ -43,7 +43,7 @@ pub struct Session {
 
 impl Model for Session {
     ghost use Rattle.stomp_session.specs.Open.{Held};
-    ghost use Rattle.stomp_session.specs.Sound.{IsSound};
+    ghost use Rattle.stomp_session.specs.Inner.Sound.{IsSound};
 
     ghost Value = { Held };
 

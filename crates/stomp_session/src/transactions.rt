@@ -3,7 +3,7 @@
 ghost use Rattle.std.specs.Prelude.{◌≡◌, ◌<◌, ℕ, List, true, false, not, [], ◌∷◌, ◌++◌, length, Some, IfOk, IfErr, OnOk};
 ghost use Rattle.stomp_session.specs.FirstRefusal.{first_fault};
 ghost use Rattle.stomp_session.specs.Refusals.{is_open, is_full_of_sends, sends_in};
-ghost use Rattle.stomp_session.specs.Effects.{place_of_id, with_send};
+ghost use Rattle.stomp_session.specs.Inner.Effects.{place_of_id, with_send};
 ghost use Rattle.stomp_session.specs.declared.fault.SessionFault.TheVariants.{NoSuchTxn, TooManySends};
 
 use crate::fault::SessionFault;

@@ -21,7 +21,7 @@ pub struct Verdict {
 
 impl Model for Verdict {
     ghost use Rattle.mcast_txn.specs.Ballot.{Decision};
-    ghost use Rattle.mcast_txn.specs.Decided.{IsDecided};
+    ghost use Rattle.mcast_txn.specs.Inner.Decided.{IsDecided};
 
     ghost Value = { Decision };
 

@@ -1,7 +1,7 @@
 //! A SEND as a draft stores it.
 
 ghost use Rattle.std.specs.Prelude.{◌≡◌, IfOk, IfErr};
-ghost use Rattle.mcast_txn.specs.Entries.{message_of};
+ghost use Rattle.mcast_txn.specs.Inner.Entries.{message_of};
 
 use crate::id::Topic;
 use crate::parts::PartMessage;

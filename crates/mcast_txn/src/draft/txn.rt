@@ -28,8 +28,8 @@ pub struct Txn {
 impl Model for Txn {
     ghost use Rattle.std.specs.Prelude.{List};
     ghost use Rattle.mcast_txn.specs.declared.draft.sent_message.SentMessage.{SentMessage};
-    ghost use Rattle.mcast_txn.specs.Entries.{messages_of};
-    ghost use Rattle.mcast_txn.specs.Sealed.{IsSealed};
+    ghost use Rattle.mcast_txn.specs.Inner.Entries.{messages_of};
+    ghost use Rattle.mcast_txn.specs.Inner.Sealed.{IsSealed};
 
     ghost Value = { List SentMessage };
 

@@ -2,7 +2,7 @@
 
 ghost use Rattle.std.specs.Prelude.{◌≡◌, ◌≢◌, IfOk, IfNone, IfSome, map};
 ghost use Rattle.mcast_txn.specs.declared.id.Topic.{Topic};
-ghost use Rattle.mcast_txn.specs.SlotIndex.{IsIndexOf, HasNone, free_slot};
+ghost use Rattle.mcast_txn.specs.Inner.SlotIndex.{IsIndexOf, HasNone, free_slot};
 ghost use Rattle.mcast_txn.specs.Lists.{RisesBy};
 
 use crate::id::Topic;

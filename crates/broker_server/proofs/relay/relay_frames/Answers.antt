@@ -4,7 +4,7 @@ use Rattle.stomp_frame.specs.declared.raw_frame.RawFrame.{RawFrame}
 use Rattle.stomp_frame.specs.Writing.{spelled}
 use Rattle.stomp_frame.specs.ServerFrames.{rendered}
 use Rattle.broker_server.specs.declared.next.Next.{Next}
-use Rattle.broker_server.specs.Steps.{Sends, IsNext}
+use Rattle.broker_server.specs.Inner.Steps.{Sends, IsNext}
 use Rattle.broker_server.proofs.SoFarLemmas.{answers, ended, goes_on, so_far_more}
 use Rattle.broker_server.proofs.relay.relay_frames.Goals as goal
 

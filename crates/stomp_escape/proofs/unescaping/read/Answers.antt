@@ -1,5 +1,5 @@
 use Rattle.std.proofs.Common.{arith, sym, ap, ◌∙◌, ◌++◌, ◌∷◌, [], List, ℕ}
-use Rattle.stomp_escape.specs.Unescaping.{unescaped}
+use Rattle.stomp_escape.specs.Inner.Unescaping.{unescaped}
 use Rattle.stomp_escape.proofs.Steps.{ends_undefined, ends_cut}
 use Rattle.stomp_escape.proofs.RunSteps.{run_goes_plain, run_goes_escape, run_ends}
 use Rattle.stomp_escape.proofs.Runs.{run}

@@ -1,5 +1,5 @@
 use Rattle.std.proofs.Common.{length, ◌-◌, ◌≡◌, ◌≤◌, ◌++◌, take, drop}
-use Rattle.stomp_escape.specs.Unescaping.{unescaped_from, unescaped}
+use Rattle.stomp_escape.specs.Inner.Unescaping.{unescaped_from, unescaped}
 use Rattle.stomp_escape.proofs.Steps.{with_front}
 use Rattle.stomp_escape.proofs.unescaping.read.Given as goal
 

@@ -1,5 +1,5 @@
 use Rattle.std.proofs.Common.{◌≡◌, ◌≤◌, ◌-◌, length, drop}
-use Rattle.stomp_frame.specs.Parser.{after_eols}
+use Rattle.stomp_frame.specs.Inner.Parser.{after_eols}
 use Rattle.stomp_frame.proofs.lines.skip_eols.Given as goal
 
 abbrev pub invariant-loop-at : goal.invariant-loop-at

@@ -1,6 +1,6 @@
 use Rattle.std.proofs.Common.{◌-◌, sym}
 use Rattle.std.proofs.lemmas.Result.{err_from_is_err_and}
-use Rattle.stomp_frame.specs.Parser.{headers_at}
+use Rattle.stomp_frame.specs.Inner.Parser.{headers_at}
 use Rattle.stomp_frame.proofs.Loop.{goes_on, line_fails, header_fails, ends, too_many}
 use Rattle.stomp_frame.proofs.Pairs.{line_text, header_pair}
 use Rattle.stomp_frame.proofs.parse.parse_headers.Goals as goal

@@ -1,5 +1,5 @@
 use Rattle.std.proofs.Common.{◌≡◌, ◌-◌}
-use Rattle.stomp_frame.specs.Parser.{headers_at}
+use Rattle.stomp_frame.specs.Inner.Parser.{headers_at}
 use Rattle.stomp_frame.proofs.Loop.{with_front}
 use Rattle.stomp_frame.proofs.parse.parse_headers.Given as goal
 

@@ -4,7 +4,7 @@ use Rattle.stomp_frame.specs.Reader.{Answers}
 use Rattle.std.proofs.lemmas.Result.{IfOk-weaker}
 use Rattle.stomp_frame.specs.declared.fault.FrameFault.TheVariants.{BadEnd, NoMemory}
 use Rattle.broker_server.specs.declared.next.Next.{Next}
-use Rattle.broker_server.specs.Steps.{next_of_fault}
+use Rattle.broker_server.specs.Inner.Steps.{next_of_fault}
 use Rattle.broker_server.proofs.NextLemmas.{next_of_open, next_of_failed}
 use Rattle.broker_server.proofs.next.Next.read.Goals as goal
 

@@ -1,5 +1,5 @@
 use Rattle.std.proofs.Common.{◌≡◌, map, take}
-use Rattle.mcast_txn.specs.SlotIndex.{free_slot}
+use Rattle.mcast_txn.specs.Inner.SlotIndex.{free_slot}
 use Rattle.mcast_txn.proofs.parts.slot.free_slots.Given as goal
 
 -- a slot for each of the topics that were looked at

@@ -1,6 +1,6 @@
 use Rattle.std.proofs.Common.{◌≡◌, ◌∙◌, false}
 use Rattle.stomp_session.specs.Refusals.{is_open}
-use Rattle.stomp_session.specs.Stored.{entries_of}
+use Rattle.stomp_session.specs.Inner.Stored.{entries_of}
 use Rattle.stomp_session.proofs.Entries.{entries_of-insert}
 use Rattle.stomp_session.proofs.opened.Opened.open.Goals as goal
 

@@ -1,4 +1,4 @@
-use Rattle.mcast_txn.specs.Entries.{messages_of}
+use Rattle.mcast_txn.specs.Inner.Entries.{messages_of}
 use Rattle.mcast_txn.proofs.EntryLemmas.{no_sends}
 use Rattle.mcast_txn.proofs.TopicLemmas.{some_topics}
 use Rattle.mcast_txn.proofs.draft.txn.Txn.topics.Goals as goal

@@ -1,0 +1,4 @@
+-- These modules only serve proofs: no public contract cites them, and nobody need believe them.
+pub mod Effects
+pub mod Sound
+pub mod Stored
