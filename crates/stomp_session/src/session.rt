@@ -2,7 +2,7 @@
 
 ghost use Rattle.std.specs.Prelude.{◌≡◌, ◌∷◌, [], ◌++◌, codes, List, Some, None, IfSome, IfOk, IfErr, OnOk, OnErr};
 ghost use Rattle.stomp_frame.specs.declared.command.Command.TheVariants as commands;
-ghost use Rattle.stomp_frame.specs.declared.frame.RawFrame.{RawFrame as Frame};
+ghost use Rattle.stomp_frame.specs.declared.raw_frame.RawFrame.{RawFrame as Frame};
 ghost use Rattle.stomp_frame.specs.ClientFrames.{raw_of};
 ghost use Rattle.stomp_frame.specs.Headers.{IsText, first_of};
 ghost use Rattle.stomp_session.specs.declared.phase.Phase.TheVariants as phases;

@@ -1,5 +1,5 @@
 use Rattle.std.proofs.Common.{◌≡◌, ◌≢◌, Ok, Option, [], subst}
-use Rattle.stomp_frame.specs.declared.frame.RawFrame.{RawFrame}
+use Rattle.stomp_frame.specs.declared.raw_frame.RawFrame.{RawFrame}
 use Rattle.stomp_frame.specs.Reader.{Answers}
 use Rattle.std.proofs.lemmas.Result.{IfOk-weaker}
 use Rattle.stomp_frame.specs.declared.fault.FrameFault.TheVariants.{BadEnd, NoMemory}
