@@ -6,7 +6,7 @@ use Rattle.std.specs.List.{AllByRecursion, flat_map}
 use Rattle.stomp_escape.specs.declared.fault.EscapeFault.{EscapeFault}
 use Rattle.stomp_escape.specs.declared.fault.EscapeFault.TheVariants.{Undefined, Cut, NoMemory}
 
--- The letter behind the backslash in an octet's escape (STOMP 1.2, "Value Encoding"):
+-- The letter after the backslash in an octet's escape (STOMP 1.2, "Value Encoding"):
 -- r for CR (13), n for LF (10), c for colon (58), and backslash (92) for itself.
 abbrev pub letter_of : ℕ → Option ℕ
 letter_of b =
@@ -16,11 +16,11 @@ letter_of b =
     else if b == 92 then Some 92
     else None
 
--- an octet as it is written: its escape, where it has one, or else itself
+-- An octet as it is written: its escape, where it has one, or else itself.
 abbrev pub escaped_octet : ℕ → List ℕ
 escaped_octet b = option_map_or (λ c. 92 ∷ c ∷ []) (letter_of b) (b ∷ [])
 
--- a text as it is written: each octet that has an escape is replaced by it, as `a:b` by `a\cb`
+-- A text as it is written: each octet that has an escape is replaced by it, as `a:b` by `a\cb`.
 abbrev pub escaped : List ℕ → List ℕ
 escaped v = flat_map escaped_octet v
 
@@ -29,20 +29,20 @@ escaped v = flat_map escaped_octet v
 abbrev pub IsUnbroken : List ℕ → Type 0
 IsUnbroken text = AllByRecursion (λ b. (b ≢ 13) × (b ≢ 10) × (b ≢ 58)) text
 
--- new is old with a front of text behind it: none of it, some, or all
+-- new is old with a prefix of text after it: none of it, some, or all.
 abbrev pub AppendsFront : List ℕ → List ℕ → List ℕ → Type 0
 AppendsFront text old new = (front rest : List ℕ) × (text ≡ front ++ rest) × (new ≡ old ++ front)
 
--- Text spells v: each octet of v stands there by its escape or, unless it is a backslash, as itself
+-- Text spells v: each octet of v is written by its escape or, unless it is a backslash, as itself
 -- (STOMP 1.2, "Value Encoding"). So `a\cb` spells `a:b`, and a raw `a:b` does too: whether a raw colon,
--- CR or LF may stand in a place is for the grammar of frames to say.
+-- CR or LF is allowed in a place is for the grammar of frames to say.
 abbrev pub Spells : List ℕ → List ℕ → Type 0
 Spells text [] = text ≡ []
 Spells text (b ∷ v) =
     (rest : List ℕ) × Spells rest v × ((text ≡ escaped_octet b ++ rest) ⊎ ((b ≢ 92) × (text ≡ b ∷ rest)))
 
 -- The first fault of text from the left, where all before it is spelled: at this place a backslash with
--- no letter of an escape behind it ("undefined escape sequences such as \t MUST be treated as a fatal
+-- no letter of an escape after it ("undefined escape sequences such as \t MUST be treated as a fatal
 -- protocol error"; STOMP 1.2, "Value Encoding"), or a backslash that is last. So `ab\x\` has Undefined 2,
 -- and `a\` has Cut. Being out of memory is no fault of a text.
 abbrev pub IsFirstFault : List ℕ → EscapeFault → Type 0
@@ -52,11 +52,11 @@ IsFirstFault text (Undefined at) =
 IsFirstFault text Cut = (v front : List ℕ) × Spells front v × (text ≡ front ++ 92 ∷ [])
 IsFirstFault text NoMemory = ⊥
 
--- text spells some value
+-- Text spells some value.
 abbrev pub IsSpelled : List ℕ → Type 0
 IsSpelled text = (v : List ℕ) × Spells text v
 
--- text has a first fault
+-- Text has a first fault.
 abbrev pub IsFaulty : List ℕ → Type 0
 IsFaulty text = (e : EscapeFault) × IsFirstFault text e
 

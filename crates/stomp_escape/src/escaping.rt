@@ -7,7 +7,7 @@ use crate::no_memory::NoMemory;
 use crate::octets::Octets;
 use std::alloc::Global;
 
-// The letter of the octet's escape, where it has one.
+/// The letter of the octet's escape, if it has one.
 fn letter_for(octet: u8) -> Option<u8>
     ensures { result ≡ letter_of octet }
 {
@@ -21,8 +21,8 @@ fn letter_for(octet: u8) -> Option<u8>
 }
 
 /// Appends the escaped text: each CR as `\r`, LF as `\n`, colon as `\c` and backslash as `\\`, and
-/// every other octet as itself (STOMP 1.2, "Value Encoding"). After `NoMemory` a front of the
-/// escaped text may stand behind what was there.
+/// every other octet as itself (STOMP 1.2, "Value Encoding"). After `NoMemory` a prefix of
+/// the escaped text may have been appended.
 pub fn escape_into(text: &[u8], out: &mut Octets) -> Result<(), NoMemory>
     ensures ok { OnOk result (out.new ≡ out.old ++ escaped text.now) }
     ensures err { OnErr result (AppendsFront (escaped text.now) out.old out.new) }

@@ -28,7 +28,7 @@ impl Octets {
         }
     }
 
-    /// An empty list, made with room for so many octets so that adding them copies nothing again.
+    /// An empty list, made with room for `capacity` octets, so that adding them copies nothing again.
     /// The room changes the cost alone, and no contract speaks of it.
     pub fn with_capacity(alloc: Global, capacity: usize) -> Result<Octets, NoMemory>
         ensures { IfOk result (λ o. o ≡ []) }
@@ -72,8 +72,8 @@ impl Octets {
         self.bytes.as_slice()
     }
 
-    /// Keeps the first so many octets, or all where there are no more, and lets the others go. It
-    /// takes no memory.
+    /// Keeps the first `len` octets, or all where there are no more, and drops the others. It takes
+    /// no memory.
     pub fn truncate(&mut self, len: usize)
         ensures { self.new ≡ take len self.old }
     {

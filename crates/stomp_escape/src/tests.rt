@@ -20,31 +20,35 @@ const FAULTY: [(&[u8], EscapeFault, u32); 7] = [
     (b"\\\\\\R", EscapeFault::Undefined(2), 1),
 ];
 
+/// Whether the octets are these.
+fn is(octets: &Octets, want: &[u8]) -> bool {
+    octets.as_slice() == want
+}
+
+/// Values, and the texts that they are written as.
+const ESCAPED: [(&[u8], &[u8]); 5] = [
+    (ESCAPED_OCTETS, FOUR_ESCAPES),
+    (b"a:\\\n", b"a\\c\\\\\\n"),
+    (b"", b""),
+    (b"plain", b"plain"),
+    (b"\0\t\x7f\xc3\xa9\xff", b"\0\t\x7f\xc3\xa9\xff"),
+];
+
 #[test]
-fn the_four_escapes(rt: HostRuntime) -> Result<(), Fail> {
+fn escapes_there_and_back(rt: HostRuntime) -> Result<(), Fail> {
     let alloc = rt.alloc();
-    assert_eq!(rt; escape(alloc, ESCAPED_OCTETS)?.as_slice(), FOUR_ESCAPES);
-    assert_eq!(rt; unescape(alloc, FOUR_ESCAPES)?.as_slice(), ESCAPED_OCTETS);
-    assert_eq!(rt;
-        escape(alloc, b"a:\\\n")?.as_slice(),
-        b"a\\c\\\\\\n".as_slice()
-    );
-    assert_eq!(rt;
-        unescape(alloc, b"a\\c\\\\\\n")?.as_slice(),
-        b"a:\\\n".as_slice()
-    );
+    for (value, text) in ESCAPED {
+        assert!(rt; is(&escape(alloc, value)?, text));
+        assert!(rt; is(&unescape(alloc, text)?, value));
+    }
     Ok(())
 }
 
+/// A raw colon, CR or LF is read as itself.
 #[test]
-fn other_octets_stand_for_themselves(rt: HostRuntime) -> Result<(), Fail> {
-    let alloc = rt.alloc();
-    for text in [b"".as_slice(), b"plain", b"\0\t\x7f\xc3\xa9\xff"] {
-        assert_eq!(rt; escape(alloc, text)?.as_slice(), text);
-        assert_eq!(rt; unescape(alloc, text)?.as_slice(), text);
-    }
+fn raw_octets(rt: HostRuntime) -> Result<(), Fail> {
     for text in [b":".as_slice(), b"a:b", b"\r\n"] {
-        assert_eq!(rt; unescape(alloc, text)?.as_slice(), text);
+        assert!(rt; is(&unescape(rt.alloc(), text)?, text));
     }
     Ok(())
 }
@@ -58,18 +62,15 @@ fn all_octets_come_back(rt: HostRuntime) -> Result<(), Fail> {
     }
     let text = escape(alloc, value.as_slice())?;
     assert_eq!(rt; text.len(), 260);
-    assert_eq!(rt;
-        unescape(alloc, text.as_slice())?.as_slice(),
-        value.as_slice()
-    );
+    assert!(rt; is(&unescape(alloc, text.as_slice())?, value.as_slice()));
     Ok(())
 }
 
 #[test]
-fn the_first_fault_is_told(rt: HostRuntime) {
+fn the_first_fault_is_returned(rt: HostRuntime) {
     for (text, fault, number) in FAULTY {
-        let told = unescape(rt.alloc(), text).err();
-        assert_eq!(rt; told, Some(fault));
+        let found = unescape(rt.alloc(), text).err();
+        assert_eq!(rt; found, Some(fault));
         assert_eq!(rt; fault.number(), number);
     }
     assert_eq!(rt; EscapeFault::NoMemory.number(), 3);
@@ -83,15 +84,14 @@ fn octets_grow(rt: HostRuntime) -> Result<(), Fail> {
     octets.push(b'k')?;
     octets.extend(b"=")?;
     escape_into(b"a:b", &mut octets)?;
-    assert_eq!(rt; octets.as_slice(), b"k=a\\cb".as_slice());
+    assert!(rt; is(&octets, b"k=a\\cb"));
     assert_eq!(rt; octets.len(), 6);
     let copy = Octets::from_slice(alloc, octets.as_slice())?;
-    assert_eq!(rt; copy.as_slice(), octets.as_slice());
-    assert!(rt; !copy.is_empty());
+    assert!(rt; is(&copy, octets.as_slice()) && !copy.is_empty());
     octets.truncate(9);
     assert_eq!(rt; octets.len(), 6);
     octets.truncate(2);
-    assert_eq!(rt; octets.as_slice(), b"k=".as_slice());
+    assert!(rt; is(&octets, b"k="));
     Ok(())
 }
 
@@ -137,9 +137,9 @@ fn memory_is_enough_for_long_escapes(rt: HostRuntime) -> Result<(), Fail> {
     let text = repeated(alloc, FOUR_ESCAPES, 1024)?;
     assert_eq!(rt; (value.len(), text.len()), (4096, 8192));
     let escaped = escape(alloc, value.as_slice())?;
-    assert!(rt; escaped.as_slice() == text.as_slice());
+    assert!(rt; is(&escaped, text.as_slice()));
     let unescaped = unescape(alloc, text.as_slice())?;
-    assert!(rt; unescaped.as_slice() == value.as_slice());
+    assert!(rt; is(&unescaped, value.as_slice()));
     Ok(())
 }
 
@@ -148,18 +148,18 @@ fn memory_is_enough_for_long_escapes(rt: HostRuntime) -> Result<(), Fail> {
 fn out_of_memory_changes_no_answer(rt: HostRuntime) {
     let alloc = rt.alloc();
     if let Ok(text) = escape(alloc, ESCAPED_OCTETS) {
-        assert_eq!(rt; text.as_slice(), FOUR_ESCAPES);
+        assert!(rt; is(&text, FOUR_ESCAPES));
     }
     match unescape(alloc, FOUR_ESCAPES) {
-        Ok(value) => assert_eq!(rt; value.as_slice(), ESCAPED_OCTETS),
+        Ok(value) => assert!(rt; is(&value, ESCAPED_OCTETS)),
         Err(fault) => assert_eq!(rt; fault, EscapeFault::NoMemory),
     }
     for (text, fault, _) in FAULTY {
-        let told = unescape(alloc, text).err();
-        assert!(rt; told == Some(fault) || told == Some(EscapeFault::NoMemory));
+        let found = unescape(alloc, text).err();
+        assert!(rt; found == Some(fault) || found == Some(EscapeFault::NoMemory));
     }
     if let Ok(copy) = Octets::from_slice(alloc, FOUR_ESCAPES) {
-        assert_eq!(rt; copy.as_slice(), FOUR_ESCAPES);
+        assert!(rt; is(&copy, FOUR_ESCAPES));
     }
 }
 

@@ -10,7 +10,7 @@ use crate::fault::EscapeFault;
 use crate::octets::Octets;
 use std::alloc::Global;
 
-// The octet whose escape has this letter, where there is one.
+/// The octet whose escape has this letter, if there is one.
 fn octet_for(letter: u8) -> Option<u8>
     ensures { result ≡ octet_of letter }
 {
@@ -23,12 +23,12 @@ fn octet_for(letter: u8) -> Option<u8>
     }
 }
 
-// The one reading from left to right, by which the proof of `unescape` goes.
+/// Reads the text from left to right, up to its first fault.
 fn read(alloc: Global, text: &[u8]) -> Result<Octets, EscapeFault>
     ensures { Gives result (unescaped text.now) }
 {
     let mut out = Octets::with_capacity(alloc, text.len())?;
-    // The octets from `start` up to `at` stand for themselves, and wait to be copied at once.
+    // The octets from `start` up to `at` are read as themselves, and wait to be copied at once.
     let mut start = 0;
     let mut at = 0;
     while at < text.len() {
@@ -50,7 +50,7 @@ fn read(alloc: Global, text: &[u8]) -> Result<Octets, EscapeFault>
     Ok(out)
 }
 
-/// The octets that the text spells: each escape read as the octet that it stands for, and every
+/// The octets that the text spells: each escape is read as its octet, and every
 /// other octet as itself (STOMP 1.2, "Value Encoding"). The answer is `Undefined` or `Cut` exactly
 /// where that is the text's first fault from the left, unless memory runs out.
 pub fn unescape(alloc: Global, text: &[u8]) -> Result<Octets, EscapeFault>

@@ -20,3 +20,4 @@ pub mod Names
 pub mod Digits
 pub mod Messages
 pub mod Places
+pub mod Examples

@@ -22,8 +22,8 @@ kept_back =
     codes "destination" ∷ codes "transaction" ∷ codes "receipt" ∷ codes "content-length"
     ∷ codes "subscription" ∷ codes "message-id" ∷ codes "ack" ∷ []
 
--- A message's id: the number of its stamp, the topic of its stamp, and its index in its transaction (own).
--- So the second SEND of a transaction with the stamp (7, 3) has `7.3.1`.
+-- A message's id: the number of its stamp, the topic of its stamp, and its index in its transaction (own). So
+-- the second SEND of a transaction with the stamp (7, 3) has `7.3.1`.
 abbrev pub message_id : ℕ → ℕ → ℕ → List ℕ
 message_id n topic index = decimal n ++ codes "." ++ decimal topic ++ codes "." ++ decimal index
 

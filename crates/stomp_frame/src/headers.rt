@@ -30,6 +30,7 @@ impl Model for Headers {
     ghost invariant = { λ h. AllByRecursion IsPair h.pairs.items };
 }
 
+/// Whether there is a NULL among the octets.
 fn has_null(octets: &[u8]) -> bool
     ensures { result ≡ list_any (λ b. b == 0) octets.now }
 {
@@ -74,7 +75,7 @@ impl Headers {
         !name.is_empty() && is_text(name) && is_text(value)
     }
 
-    /// Puts a header at the end. `is_pair` tells which may be put.
+    /// Puts a header at the end, which `is_pair` must hold of.
     pub fn push(&mut self, name: Octets, value: Octets) -> Result<(), NoMemory>
         requires { IsPair (name, value) }
         ensures ok { OnOk result (self.new ≡ self.old ++ (name, value) ∷ []) }
@@ -84,7 +85,7 @@ impl Headers {
         Ok(())
     }
 
-    /// The name and the value of the header at place `i`, from 0.
+    /// The name and the value of the header at index `i`, from 0.
     pub fn pair(&self, i: usize) -> (&[u8], &[u8])
         requires { i < length self.now }
         ensures value { slice_get self.now i ≡ Some (result.0.now, result.1.now) }
@@ -106,22 +107,22 @@ impl Headers {
             .map(|pair| pair.1.as_slice())
     }
 
-    // The place of the first header of this name, from 0.
-    fn place(&self, name: &[u8]) -> Option<usize>
+    /// The index of the first header of this name, from 0.
+    fn index_of(&self, name: &[u8]) -> Option<usize>
         ensures { result ≡ position (λ h. bytes_eq h.0 name.now) self.now }
     {
         self.pairs.iter().position(|pair| pair.0.as_slice() == name)
     }
 
-    /// Takes out the first header of this name, and gives its value, or `None` where there is none
+    /// Takes out the first header of this name, and returns its value, or `None` where there is none
     /// (STOMP 1.2, "Repeated Header Entries"). It takes no memory.
     pub fn take(&mut self, name: &[u8]) -> Option<Octets>
         ensures value { result ≡ first_of name.now self.old }
         ensures rest { self.new ≡ without_first name.now self.old }
         ensures text { IfSome result (λ v. IsText v) }
     {
-        let place = self.place(name)?;
-        let (_name, value) = self.pairs.remove(place);
+        let index = self.index_of(name)?;
+        let (_name, value) = self.pairs.remove(index);
         Some(value)
     }
 }

@@ -10,7 +10,7 @@ use crate::fault::{Check, Stop};
 use crate::limits::Limits;
 use memchr::{memchr, memchr2};
 
-/// What stands before the first of these octets, and what stands after it.
+/// What comes before the first such octet, and what comes after it.
 pub(crate) fn split_at_first(octet: u8, text: &[u8]) -> Option<(&[u8], &[u8])>
     ensures { option_map (λ p. (p.0.now, p.1.now)) result ≡ cut octet text.now }
 {
@@ -18,6 +18,7 @@ pub(crate) fn split_at_first(octet: u8, text: &[u8]) -> Option<(&[u8], &[u8])>
     Some((&text[..at], &text[at + 1..]))
 }
 
+/// The line without one CR at its end.
 fn without_cr(line: &[u8]) -> &[u8]
     ensures { result.now ≡ without_cr line.now }
 {
@@ -40,6 +41,7 @@ fn has_cr_or_null(content: &[u8]) -> bool
     memchr2(b'\r', 0, content).is_some()
 }
 
+/// The content of a line, if it passes the checks of any line.
 #[tactic(auto, unfolding(crate::specs::Inner::Parser::checked))]
 fn check<'a>(limits: &Limits, content: &'a [u8]) -> Result<&'a [u8], Stop>
     ensures { Returns (λ x. x.now) result (checked limits.now content.now) }
@@ -56,7 +58,7 @@ fn check<'a>(limits: &Limits, content: &'a [u8]) -> Result<&'a [u8], Stop>
     Ok(content)
 }
 
-/// The content of the line at the front, and what stands behind it.
+/// The content of the line at the front, and what comes after it.
 #[tactic(auto, unfolding(crate::specs::Inner::Parser::line_at))]
 pub(crate) fn take_line<'a>(limits: &Limits, text: &'a [u8]) -> Result<(&'a [u8], &'a [u8]), Stop>
     ensures { Returns (λ x. (x.0.now, x.1.now)) result (line_at limits.now text.now) }
@@ -70,6 +72,7 @@ pub(crate) fn take_line<'a>(limits: &Limits, text: &'a [u8]) -> Result<(&'a [u8]
     }
 }
 
+/// Whether there is a CR LF at this place.
 fn is_crlf(text: &[u8], at: usize) -> bool
     requires { at < length text.now }
     ensures { result ≡ (slice_index text.now at == 13 && slice_index text.now (at + 1) == 10) }
@@ -77,7 +80,7 @@ fn is_crlf(text: &[u8], at: usize) -> bool
     text[at] == b'\r' && at + 1 < text.len() && text[at + 1] == b'\n'
 }
 
-/// What stands behind the end-of-lines at the front.
+/// What comes after the end-of-lines at the front.
 pub(crate) fn skip_eols(text: &[u8]) -> &[u8]
     ensures { result.now ≡ after_eols text.now }
 {

@@ -13,6 +13,7 @@ use crate::raw_frame::RawFrame;
 use std::alloc::Global;
 use stomp_escape::{EscapeFault, Octets, unescape};
 
+/// The command that a line is.
 #[tactic(auto, unfolding(crate::specs::Inner::Parser::command_of))]
 fn parse_command(line: &[u8]) -> Result<Command, Stop>
     ensures { Returns (λ x. x) result (command_of line.now) }
@@ -23,6 +24,7 @@ fn parse_command(line: &[u8]) -> Result<Command, Stop>
     }
 }
 
+/// The name or the value that a text is.
 #[tactic(auto, unfolding(crate::specs::Inner::Parser::field_of))]
 fn parse_field(alloc: Global, escapes: bool, text: &[u8]) -> Result<Octets, Stop>
     ensures { Returns (λ x. x) result (field_of escapes text.now) }
@@ -38,6 +40,7 @@ fn parse_field(alloc: Global, escapes: bool, text: &[u8]) -> Result<Octets, Stop
     }
 }
 
+/// The name and the value of a header's line.
 #[tactic(auto, unfolding(crate::specs::Inner::Parser::header_of))]
 fn parse_header(alloc: Global, escapes: bool, line: &[u8]) -> Result<(Octets, Octets), Stop>
     ensures { Returns (λ x. x) result (header_of escapes line.now) }
@@ -55,6 +58,7 @@ fn parse_header(alloc: Global, escapes: bool, line: &[u8]) -> Result<(Octets, Oc
     }
 }
 
+/// The headers up to the empty line, and what comes after that.
 fn parse_headers<'a>(
     alloc: Global,
     limits: &Limits,
@@ -83,6 +87,7 @@ fn parse_headers<'a>(
     }
 }
 
+/// A body of n octets, and what comes after its NULL.
 #[tactic(auto, unfolding(crate::specs::Inner::Parser::counted_at))]
 fn take_counted(n: usize, text: &[u8]) -> Result<(&[u8], &[u8]), Stop>
     ensures { Returns (λ x. (x.0.now, x.1.now)) result (counted_at n text.now) }
@@ -96,6 +101,7 @@ fn take_counted(n: usize, text: &[u8]) -> Result<(&[u8], &[u8]), Stop>
     Ok((&text[..n], &text[n + 1..]))
 }
 
+/// A body up to the first NULL, and what comes after that.
 #[tactic(auto, unfolding(crate::specs::Inner::Parser::uncounted_at))]
 fn take_uncounted<'a>(limits: &Limits, text: &'a [u8]) -> Result<(&'a [u8], &'a [u8]), Stop>
     ensures { Returns (λ x. (x.0.now, x.1.now)) result (uncounted_at limits.now text.now) }
@@ -116,6 +122,7 @@ fn take_uncounted<'a>(limits: &Limits, text: &'a [u8]) -> Result<(&'a [u8], &'a 
     }
 }
 
+/// The body, of the length that the headers say, and what comes after its NULL.
 #[tactic(auto, unfolding(crate::specs::Inner::Parser::body_at))]
 fn parse_body<'a>(
     limits: &Limits,
@@ -138,6 +145,7 @@ fn parse_body<'a>(
     }
 }
 
+/// The first frame of the text, and what comes after it.
 #[tactic(auto, unfolding(crate::specs::Inner::Parser::frame_at))]
 fn parse_frame<'a>(
     alloc: Global,
@@ -161,7 +169,7 @@ fn parse_frame<'a>(
     ))
 }
 
-/// Where the text goes on behind the end-of-lines that stand at this place.
+/// Where the end-of-lines that begin at this place end.
 pub(crate) fn eols_from(text: &[u8], start: usize) -> usize
     requires { start ≤ length text.now }
     ensures within { result ≤ length text.now }
@@ -170,7 +178,7 @@ pub(crate) fn eols_from(text: &[u8], start: usize) -> usize
     text.len() - skip_eols(&text[start..]).len()
 }
 
-/// The first frame of the text from this place on, and the place behind it.
+/// The first frame of the text from this place on, and where it ends.
 pub(crate) fn frame_from(
     alloc: Global,
     limits: &Limits,

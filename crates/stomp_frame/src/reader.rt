@@ -14,7 +14,7 @@ use std::marker::Model;
 use stomp_escape::NoMemory;
 
 /// Reads the frames of a stream from its front. It is seen as its limits, the text that it was fed and hasn't read,
-/// and the fault that it answered.
+/// and the fault that it returned.
 #[derive(Drop)]
 pub struct FrameReader {
     limits: Limits,
@@ -48,7 +48,7 @@ impl FrameReader {
         }
     }
 
-    /// Puts a piece at the text's end, or drops it once a fault was answered.
+    /// Puts a piece at the text's end, or drops it once a fault was returned.
     pub fn feed(&mut self, piece: &[u8]) -> Result<(), NoMemory>
         ensures ok { OnOk result (self.new ≡ fed self.old piece.now) }
         ensures err { OnErr result (self.new ≡ self.old) }
@@ -61,7 +61,7 @@ impl FrameReader {
         Ok(())
     }
 
-    // Reads on, where no fault was answered.
+    /// Reads on, where no fault was returned.
     fn read_next(&mut self, alloc: Global) -> Result<Option<RawFrame>, FrameFault>
         ensures answer { (result ≢ Err FrameFault.NoMemory) → ReadsNext self.old result self.new }
         ensures no_memory { result ≡ Err FrameFault.NoMemory → self.new ≡ self.old }
@@ -83,12 +83,12 @@ impl FrameReader {
         }
     }
 
-    /// The first frame of the text, `None` where more is due, or the fault of what stands there.
-    /// After a fault but `NoMemory` (11) each call answers it again; after 11 the reader is as it was.
+    /// The first frame of the text, `None` where more is due, or the fault of its rest.
+    /// After a fault but `NoMemory` (11) each call returns it again; after 11 the reader is as it was.
     pub fn next(&mut self, alloc: Global) -> Result<Option<RawFrame>, FrameFault>
         ensures answer { (result ≢ Err FrameFault.NoMemory) → Answers self.old result self.new }
         ensures no_memory { result ≡ Err FrameFault.NoMemory → self.new ≡ self.old }
-        // No other answer stands for this text, unless memory runs out.
+        // There is no other answer for this text, unless memory runs out.
         ensures only { (r : Result (Option RawFrame) FrameFault) (new : Unread) → Answers self.old r new
             → (result ≡ Err FrameFault.NoMemory) ⊎ ((result ≡ r) × (self.new ≡ new)) }
         ensures again { IfSome self.old.answered (λ k. Answers self.old result self.new) }
@@ -99,7 +99,7 @@ impl FrameReader {
         }
     }
 
-    /// Whether nothing is unread: after a `next` that answered `None`, whether the stream ends behind its last frame.
+    /// Whether nothing is unread: after a `next` that returned `None`, whether the stream ends after its last frame.
     pub fn clean(&self) -> bool
         ensures { IsTrue result ↔ (self.now.text ≡ []) }
     {

@@ -33,7 +33,7 @@ pub enum ServerFrame {
         /// The body of the SEND.
         body: Octets,
     },
-    /// What tells that a client's frame has had its effect (STOMP 1.2, "RECEIPT").
+    /// The report that a client's frame has had its effect (STOMP 1.2, "RECEIPT").
     Receipt {
         /// The receipt that the frame asked for.
         id: Octets,

@@ -15,6 +15,7 @@ use stomp_escape::{NoMemory, Octets};
 /// Octets of the longest message-id: numbers of 20, 10 and 10 digits, and two dots.
 const LONGEST_ID: usize = 42;
 
+/// Puts a copy of the name and the value at the end.
 fn put(alloc: Global, headers: &mut Headers, name: &[u8], value: &[u8]) -> Result<(), NoMemory>
     requires { IsPair (name.now, value.now) }
     ensures { OnOk result (headers.new ≡ headers.old ++ (name.now, value.now) ∷ []) }
@@ -24,6 +25,7 @@ fn put(alloc: Global, headers: &mut Headers, name: &[u8], value: &[u8]) -> Resul
     headers.push(name, value)
 }
 
+/// Puts the header where there is a value.
 fn put_optional(
     alloc: Global,
     headers: &mut Headers,
@@ -40,6 +42,7 @@ fn put_optional(
     }
 }
 
+/// Whether a MESSAGE doesn't pass on this header of its SEND.
 fn is_kept_back(name: &[u8]) -> bool
     ensures { result ≡ list_any (λ kept. bytes_eq name.now kept) kept_back }
 {
@@ -52,6 +55,7 @@ fn is_kept_back(name: &[u8]) -> bool
         || name == b"ack".as_slice()
 }
 
+/// Whether this header is kept back, or another of its name was put.
 fn is_passed_over(headers: &Headers, name: &[u8]) -> bool
     ensures { result ≡ list_any (λ seen. bytes_eq name.now seen)
         (map (λ h. h.0) headers.now ++ kept_back) }
@@ -59,6 +63,7 @@ fn is_passed_over(headers: &Headers, name: &[u8]) -> bool
     is_kept_back(name) || headers.first(name).is_some()
 }
 
+/// Puts the first entry of each header of the SEND that isn't kept back.
 fn put_first_entries(alloc: Global, headers: &mut Headers, sent: &Headers) -> Result<(), NoMemory>
     requires { AllByRecursion (λ h. IsTrue (list_any (λ kept. bytes_eq h.0 kept) kept_back))
         headers.old }
@@ -88,7 +93,7 @@ pub(crate) fn message_id(alloc: Global, n: u64, topic: u32, index: u32) -> Resul
     Ok(id)
 }
 
-/// The headers of the MESSAGE of a SEND that has these headers, and a body of so many octets.
+/// The headers of the MESSAGE of a SEND that has these headers, and a body of this length.
 pub(crate) fn message_headers(
     alloc: Global,
     subscription: &[u8],

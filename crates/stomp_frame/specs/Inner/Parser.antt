@@ -38,12 +38,12 @@ abbrev pub Returns : {X Y : Type 0} → (X → Y) → Result X Stop → Result Y
 Returns view (Ok x) read = read ≡ Ok (view x)
 Returns view (Err e) read = Stops e read
 
--- what stands before the first of these octets, and what stands after it
+-- what comes before the first such octet, and what comes after it
 abbrev pub cut : ℕ → List ℕ → Option (List ℕ × List ℕ)
 cut b [] = None
 cut b (x ∷ text) = if x == b then Some ([], text) else option_map (λ p. (x ∷ p.0, p.1)) (cut b text)
 
--- less one CR that stands last
+-- without one CR at its end
 abbrev pub without_cr : List ℕ → List ℕ
 without_cr line = if slice_index line (length line - 1) == 13 then take (length line - 1) line else line
 
@@ -54,7 +54,7 @@ checked limits content =
     else if list_any (λ b. b == 13 || b == 0) content then Err (Fault BadLine)
     else if is_utf8 content then Ok content else Err (Fault BadText)
 
--- A line is judged once its LF is there, or once two octets more than a content may have stand without one.
+-- A line is judged once its LF is there, or once two octets more than a content may have are there without one.
 unfoldable pub line_at : Limits → List ℕ → Result (List ℕ × List ℕ) Halt
 line_at limits text =
     option_map_or (λ p. checked limits (without_cr p.0) >>= λ content. Ok (content, p.1)) (cut 10 text)

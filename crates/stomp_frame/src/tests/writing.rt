@@ -8,6 +8,11 @@ use stomp_escape::{NoMemory, Octets};
 
 type Pairs<'a> = &'a [(&'a [u8], &'a [u8])];
 
+/// Whether the octets are these.
+fn is(octets: &Octets, want: &[u8]) -> bool {
+    octets.as_slice() == want
+}
+
 /// What is written of the MESSAGE for the subscription `s`.
 fn message(
     alloc: Global,
@@ -48,81 +53,74 @@ fn error(
     Ok(out)
 }
 
+/// A SEND's stamp and index, headers and body, and its MESSAGE for the subscription `s`.
+type Message = (
+    (u64, u32, u32),
+    Pairs<'static>,
+    &'static [u8],
+    &'static [u8],
+);
+
+/// A NULL in the body; headers that are kept back or repeated; escapes; a message-id of the greatest numbers; two
+/// destinations, or none.
+const MESSAGES: [Message; 5] = [
+    (
+        (1, 0, 0),
+        &[(b"destination", b"A"), (b"content-length", b"3")],
+        b"a\0b",
+        b"MESSAGE\nsubscription:s\nmessage-id:1.0.0\ndestination:A\ncontent-length:3\n\na\0b\0",
+    ),
+    (
+        (1, 0, 0),
+        &[
+            (b"destination", b"A"),
+            (b"content-type", b"text/plain"),
+            (b"receipt", b"q"),
+            (b"x", b"1"),
+            (b"x", b"2"),
+        ],
+        b"hi",
+        b"MESSAGE\nsubscription:s\nmessage-id:1.0.0\ndestination:A\ncontent-length:2\ncontent-type:text/plain\nx:1\n\nhi\0",
+    ),
+    (
+        (1, 0, 0),
+        &[(b"destination", b"A"), (b"k", b"a:\\\n")],
+        b"",
+        b"MESSAGE\nsubscription:s\nmessage-id:1.0.0\ndestination:A\ncontent-length:0\nk:a\\c\\\\\\n\n\n\0",
+    ),
+    (
+        (18_446_744_073_709_551_615, 4_294_967_295, 63),
+        &[
+            (b"ack", b"1"),
+            (b"message-id", b"2"),
+            (b"transaction", b"3"),
+            (b"subscription", b"4"),
+            (b"content-length", b"2"),
+        ],
+        b"hi",
+        b"MESSAGE\nsubscription:s\nmessage-id:18446744073709551615.4294967295.63\ncontent-length:2\n\nhi\0",
+    ),
+    (
+        (10, 2, 1),
+        &[
+            (b"b", b"1"),
+            (b"destination", b"A"),
+            (b"a", b""),
+            (b"destination", b"B"),
+            (b"b", b"2"),
+            (b"a", b"x"),
+        ],
+        b"0123456789",
+        b"MESSAGE\nsubscription:s\nmessage-id:10.2.1\ndestination:A\ncontent-length:10\nb:1\na:\n\n0123456789\0",
+    ),
+];
+
 #[test]
 fn messages(rt: HostRuntime) -> Result<(), Fail> {
-    let alloc = rt.alloc();
-    assert_eq!(rt;
-        message(
-            alloc,
-            (1, 0, 0),
-            &[(b"destination", b"A"), (b"content-length", b"3")],
-            b"a\0b"
-        )?
-        .as_slice(),
-        b"MESSAGE\nsubscription:s\nmessage-id:1.0.0\ndestination:A\ncontent-length:3\n\na\0b\0".as_slice()
-    );
-    assert_eq!(rt;
-        message(
-            alloc,
-            (1, 0, 0),
-            &[
-                (b"destination", b"A"),
-                (b"content-type", b"text/plain"),
-                (b"receipt", b"q"),
-                (b"x", b"1"),
-                (b"x", b"2"),
-            ],
-            b"hi",
-        )?
-        .as_slice(),
-        b"MESSAGE\nsubscription:s\nmessage-id:1.0.0\ndestination:A\ncontent-length:2\ncontent-type:text/plain\nx:1\n\nhi\0".as_slice()
-    );
-    assert_eq!(rt;
-        message(
-            alloc,
-            (1, 0, 0),
-            &[(b"destination", b"A"), (b"k", b"a:\\\n")],
-            b""
-        )?
-        .as_slice(),
-        b"MESSAGE\nsubscription:s\nmessage-id:1.0.0\ndestination:A\ncontent-length:0\nk:a\\c\\\\\\n\n\n\0".as_slice()
-    );
-    Ok(())
-}
-
-/// A message-id of the greatest numbers, two destinations or none, and headers that stay behind.
-#[test]
-fn messages_of_odd_headers(rt: HostRuntime) -> Result<(), Fail> {
-    let alloc = rt.alloc();
-    let own: Pairs = &[
-        (b"ack", b"1"),
-        (b"message-id", b"2"),
-        (b"transaction", b"3"),
-        (b"subscription", b"4"),
-        (b"content-length", b"2"),
-    ];
-    assert_eq!(rt;
-        message(
-            alloc,
-            (18_446_744_073_709_551_615, 4_294_967_295, 63),
-            own,
-            b"hi"
-        )?
-        .as_slice(),
-        b"MESSAGE\nsubscription:s\nmessage-id:18446744073709551615.4294967295.63\ncontent-length:2\n\nhi\0".as_slice()
-    );
-    let twice: Pairs = &[
-        (b"b", b"1"),
-        (b"destination", b"A"),
-        (b"a", b""),
-        (b"destination", b"B"),
-        (b"b", b"2"),
-        (b"a", b"x"),
-    ];
-    assert_eq!(rt;
-        message(alloc, (10, 2, 1), twice, b"0123456789")?.as_slice(),
-        b"MESSAGE\nsubscription:s\nmessage-id:10.2.1\ndestination:A\ncontent-length:10\nb:1\na:\n\n0123456789\0".as_slice()
-    );
+    for (stamp, pairs, body, want) in MESSAGES {
+        let out = message(rt.alloc(), stamp, pairs, body)?;
+        assert!(rt; is(&out, want), "{stamp:?}");
+    }
     Ok(())
 }
 
@@ -149,9 +147,20 @@ fn errors(rt: HostRuntime) -> Result<(), Fail> {
             b"ERROR\nmessage:62 NoVersion\nreceipt-id:\nversion:1.2\ncontent-length:0\n\n\0",
         ),
     ] {
-        assert_eq!(rt; error(alloc, title, asked, version)?.as_slice(), want);
+        let out = error(alloc, title, asked, version)?;
+        assert!(rt; is(&out, want));
     }
     Ok(())
+}
+
+/// What is written of a RECEIPT.
+fn receipt(alloc: Global, id: &[u8]) -> Result<Octets, NoMemory> {
+    let frame = ServerFrame::Receipt {
+        id: text(alloc, id)?,
+    };
+    let mut out = Octets::new(alloc);
+    write_frame(&render(alloc, &frame)?, &mut out)?;
+    Ok(out)
 }
 
 #[test]
@@ -159,19 +168,8 @@ fn connected_and_receipts(rt: HostRuntime) -> Result<(), Fail> {
     let alloc = rt.alloc();
     let mut out = Octets::new(alloc);
     write_frame(&render(alloc, &ServerFrame::Connected)?, &mut out)?;
-    assert_eq!(rt;
-        out.as_slice(),
-        b"CONNECTED\nversion:1.2\nheart-beat:0,0\n\n\0".as_slice()
-    );
-    let receipt = ServerFrame::Receipt {
-        id: text(alloc, b"r:1")?,
-    };
-    let mut out = Octets::new(alloc);
-    write_frame(&render(alloc, &receipt)?, &mut out)?;
-    assert_eq!(rt;
-        out.as_slice(),
-        b"RECEIPT\nreceipt-id:r\\c1\n\n\0".as_slice()
-    );
+    assert!(rt; is(&out, b"CONNECTED\nversion:1.2\nheart-beat:0,0\n\n\0"));
+    assert!(rt; is(&receipt(alloc, b"r:1")?, b"RECEIPT\nreceipt-id:r\\c1\n\n\0"));
     Ok(())
 }
 
@@ -241,7 +239,7 @@ fn two_headers(rt: HostRuntime) -> Result<(), Fail> {
     Ok(())
 }
 
-/// A frame goes behind what is there, with no escapes under CONNECT.
+/// A frame is appended to what is there, with no escapes under CONNECT.
 #[test]
 fn frames_are_appended(rt: HostRuntime) -> Result<(), Fail> {
     let alloc = rt.alloc();
@@ -260,9 +258,11 @@ fn frames_are_appended(rt: HostRuntime) -> Result<(), Fail> {
         assert!(rt; writable(&frame));
         write_frame(&frame, &mut out)?;
     }
-    assert_eq!(rt;
-        out.as_slice(),
-        b"BEGIN\na\\cb:\\r\\n\\c\\\\\n\n\0CONNECTED\nversion:1.2\nserver:a:b\\n\n\n\0".as_slice()
+    assert!(rt;
+        is(
+            &out,
+            b"BEGIN\na\\cb:\\r\\n\\c\\\\\n\n\0CONNECTED\nversion:1.2\nserver:a:b\\n\n\n\0"
+        )
     );
     Ok(())
 }
@@ -315,8 +315,8 @@ fn written(alloc: Global, frame: &RawFrame) -> Result<Octets, Fail> {
 fn each_command_is_read_and_written_again(rt: HostRuntime) -> Result<(), Fail> {
     for (command, text) in FRAMES {
         let frame = read(rt.alloc(), text)?;
-        assert_eq!(rt; frame.command, command);
-        assert_eq!(rt; written(rt.alloc(), &frame)?.as_slice(), text);
+        assert!(rt; frame.command == command, "{command:?}");
+        assert!(rt; is(&written(rt.alloc(), &frame)?, text), "{command:?}");
     }
     Ok(())
 }
@@ -333,18 +333,19 @@ fn out_of_memory_leaves_nothing(rt: HostRuntime) {
         assert!(rt; writable(&frame));
         let before = out.len();
         let whole = write_frame(&frame, &mut out).is_ok();
-        let written = &out.as_slice()[before..];
         let want = if whole {
             b"BEGIN\na:\\c\nbc:d\\n\n\n\0".as_slice()
         } else {
             b""
         };
-        assert_eq!(rt; written, want);
+        assert!(rt; &out.as_slice()[before..] == want);
     }
     if let Ok(out) = message(alloc, (1, 0, 0), &[(b"x", b"1"), (b"x", b"2")], b"hi") {
-        assert_eq!(rt;
-            out.as_slice(),
-            b"MESSAGE\nsubscription:s\nmessage-id:1.0.0\ncontent-length:2\nx:1\n\nhi\0".as_slice()
+        assert!(rt;
+            is(
+                &out,
+                b"MESSAGE\nsubscription:s\nmessage-id:1.0.0\ncontent-length:2\nx:1\n\nhi\0"
+            )
         );
     }
 }
