@@ -30,7 +30,8 @@ pub fn run_words<R: Read, W: Write>(
     ensures usage { IfOk words (λ words. relay_name (map string_bytes words.items) ≡ None
         → (result ≡ usage_end) × (reader.new ≡ reader.old) × (writer.new ≡ writer.old)) }
     // The end is that of what a run of the relay returns, to the name that is asked for.
-    ensures relayed { IfOk words (λ words. IfSome (relay_name (map string_bytes words.items)) (λ name.
+    ensures relayed { IfOk words (λ words.
+        IfSome (relay_name (map string_bytes words.items)) (λ name.
         (answer : Result ℕ ProgramFault) × (result ≡ end_of answer)
         × IsRun R.remaining W.contents name reader.old reader.new writer.old writer.new answer)) }
 {
