@@ -21,13 +21,13 @@ abbrev pub usage_end : Ended
 usage_end = record { status = 1; message = Some messages.Usage }
 
 -- the end of a program whose run returned this: its status and no line, or the fault's status and line
-abbrev pub end_of : Result ℕ ProgramFault → Ended
-end_of (Ok status) = record { status = status; message = None }
-end_of (Err fault) = record { status = fault_status fault; message = Some (messages.Fault fault) }
+abbrev pub ending_of : Result ℕ ProgramFault → Ended
+ending_of (Ok status) = record { status = status; message = None }
+ending_of (Err fault) = record { status = fault_status fault; message = Some (messages.Fault fault) }
 
 -- The end after words that could not be read: that of NoMemory if memory ran out, and else that of wrong
 -- words.
 abbrev pub IsUnreadEnd : Error → Ended → Type 0
 IsUnreadEnd error ended =
-    (error_kind error ≡ OutOfMemory → ended ≡ end_of (Err NoMemory))
+    (error_kind error ≡ OutOfMemory → ended ≡ ending_of (Err NoMemory))
     × (error_kind error ≢ OutOfMemory → ended ≡ usage_end)

@@ -1,7 +1,7 @@
 //! How a program ends.
 
 ghost use Rattle.std.specs.Prelude.{◌≡◌};
-ghost use Rattle.broker_server.specs.Ended.{usage_end, end_of};
+ghost use Rattle.broker_server.specs.Ended.{usage_end, ending_of};
 
 use crate::message::Message;
 use crate::program_fault::ProgramFault;
@@ -28,7 +28,7 @@ impl Ended {
 
     /// The end of a program whose run returned this.
     pub(crate) fn by(answer: Result<u8, ProgramFault>) -> Ended
-        ensures { result ≡ end_of answer }
+        ensures { result ≡ ending_of answer }
     {
         match answer {
             Ok(status) => Ended {

@@ -1,7 +1,7 @@
 //! A program, from the words on its command line to its end.
 
 ghost use Rattle.std.specs.Prelude.{◌≡◌, ℕ, None, Result, IfErr, IfOk, IfSome, map, string_bytes};
-ghost use Rattle.broker_server.specs.Ended.{end_of, usage_end, IsUnreadEnd};
+ghost use Rattle.broker_server.specs.Ended.{ending_of, usage_end, IsUnreadEnd};
 ghost use Rattle.broker_server.specs.Programs.{relay_name};
 ghost use Rattle.broker_server.specs.Runs.{IsRun};
 
@@ -32,7 +32,7 @@ pub fn run_words<R: Read, W: Write>(
     // The end is that of what a run of the relay returns, to the name that is asked for.
     ensures relayed { IfOk words (λ words.
         IfSome (relay_name (map string_bytes words.items)) (λ name.
-        (answer : Result ℕ ProgramFault) × (result ≡ end_of answer)
+        (answer : Result ℕ ProgramFault) × (result ≡ ending_of answer)
         × IsRun R.remaining W.contents name reader.old reader.new writer.old writer.new answer)) }
 {
     let words = match words {

@@ -21,7 +21,8 @@ abbrev pub commit : List SentMessage → Action
 commit [] = actions.Nothing
 commit (send ∷ sends) = actions.Commit (send ∷ sends)
 
--- What the connection has to do for the frame. A SEND outside a transaction is one of its own (STOMP 1.2, "SEND").
+-- What the connection has to do for the frame. A SEND outside a transaction is one of its own (STOMP 1.2,
+-- "SEND").
 abbrev pub action_by : Command → Held → RawFrame → Action
 action_by commands.Connect s f = actions.Connected
 action_by commands.Stomp s f = actions.Connected
@@ -46,7 +47,8 @@ IsTextIn (actions.Subscribe id topic) = IsText id
 IsTextIn (actions.Unsubscribe id) = IsText id
 IsTextIn _ = Unit {0}
 
--- What is handed out is text, so that a server's frame can be written with it: the receipt, and the action's id.
+-- What is handed out is text, so that a server's frame can be written with it: the receipt, and the
+-- action's id.
 pub record AreTexts (step : Step) : Type 0 where
   pub receipt : IfSome step.receipt IsText
   pub action : IsTextIn step.action
@@ -56,8 +58,8 @@ abbrev pub has_sends : List SentMessage → Bool
 has_sends [] = false
 has_sends (send ∷ sends) = true
 
--- Whether a frame of this command takes memory: a SUBSCRIBE, a BEGIN and a SEND do, and a COMMIT whose transaction has
--- SENDs. A CONNECT never does, nor does a COMMIT of no SENDs.
+-- Whether a frame of this command takes memory: a SUBSCRIBE, a BEGIN and a SEND do, and a COMMIT whose
+-- transaction has SENDs. A CONNECT never does, nor does a COMMIT of no SENDs.
 abbrev pub takes_memory : Command → Held → RawFrame → Bool
 takes_memory commands.Subscribe s f = true
 takes_memory commands.Begin s f = true
@@ -68,4 +70,5 @@ takes_memory _ s f = false
 -- The frame is refused by its first refusal; or there is none, and it takes memory and there was none.
 abbrev pub Refuses : Held → RawFrame → SessionFault → Type 0
 Refuses s f fault =
-    (refusal s f ≡ Some fault) ⊎ ((refusal s f ≡ None) × (fault ≡ NoMemory) × (takes_memory f.command s f ≡ true))
+    (refusal s f ≡ Some fault) ⊎ ((refusal s f ≡ None) × (fault ≡ NoMemory)
+    × (takes_memory f.command s f ≡ true))

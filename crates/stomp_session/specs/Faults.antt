@@ -21,18 +21,18 @@ number_of NoMemory = 72
 number_of Closed = 73
 
 -- the message of its ERROR frame
-abbrev pub title_of : SessionFault → List ℕ
-title_of NotConnected = codes "60 NotConnected"
-title_of AlreadyConnected = codes "61 AlreadyConnected"
-title_of NoVersion = codes "62 NoVersion"
-title_of SubIdInUse = codes "63 SubIdInUse"
-title_of NoSuchSub = codes "64 NoSuchSub"
-title_of TxnInUse = codes "65 TxnInUse"
-title_of NoSuchTxn = codes "66 NoSuchTxn"
-title_of UnknownDestination = codes "67 UnknownDestination"
-title_of AckMode = codes "68 AckMode"
-title_of TooManySubs = codes "69 TooManySubs"
-title_of TooManyTxns = codes "70 TooManyTxns"
-title_of TooManySends = codes "71 TooManySends"
-title_of NoMemory = codes "72 NoMemory"
-title_of Closed = codes "73 Closed"
+abbrev pub session_title : SessionFault → List ℕ
+session_title NotConnected = codes "60 NotConnected"
+session_title AlreadyConnected = codes "61 AlreadyConnected"
+session_title NoVersion = codes "62 NoVersion"
+session_title SubIdInUse = codes "63 SubIdInUse"
+session_title NoSuchSub = codes "64 NoSuchSub"
+session_title TxnInUse = codes "65 TxnInUse"
+session_title NoSuchTxn = codes "66 NoSuchTxn"
+session_title UnknownDestination = codes "67 UnknownDestination"
+session_title AckMode = codes "68 AckMode"
+session_title TooManySubs = codes "69 TooManySubs"
+session_title TooManyTxns = codes "70 TooManyTxns"
+session_title TooManySends = codes "71 TooManySends"
+session_title NoMemory = codes "72 NoMemory"
+session_title Closed = codes "73 Closed"

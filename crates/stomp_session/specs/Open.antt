@@ -1,5 +1,5 @@
--- What is open after a list of accepted frames, as the list itself says (STOMP 1.2, "SUBSCRIBE", "UNSUBSCRIBE",
--- "BEGIN", "COMMIT", "ABORT", "DISCONNECT").
+-- What is open after a list of accepted frames, as the list itself says (STOMP 1.2, "SUBSCRIBE",
+-- "UNSUBSCRIBE", "BEGIN", "COMMIT", "ABORT", "DISCONNECT").
 use Rattle.std.specs.Prelude.{◌≡◌, ℕ, Bool, not, ◌&&◌, List, [], ◌∷◌, filter, map, if◌then◌else◌}
 use Rattle.std.specs.List.{list_any}
 use Rattle.stomp_frame.specs.declared.raw_frame.RawFrame.{RawFrame}
@@ -10,8 +10,8 @@ use Rattle.stomp_session.specs.declared.phase.Phase.{Phase}
 use Rattle.stomp_session.specs.declared.phase.Phase.TheVariants.{New, Connected, Closed}
 use Rattle.stomp_session.specs.Frames.{topic_of, id_of, transaction_of, is_subscribe, is_begin, is_disconnect, names_subscription, names_transaction, is_send_in, send_of}
 
--- The subscriptions that SUBSCRIBEs of these frames left open, with their topics, in order: of each subscription the
--- last frame that names it is a SUBSCRIBE.
+-- The subscriptions that SUBSCRIBEs of these frames left open, with their topics, in order: of each
+-- subscription the last frame that names it is a SUBSCRIBE.
 abbrev pub subscriptions_left : List (List ℕ) → List RawFrame → List (List ℕ × Topic)
 subscriptions_left names [] = []
 subscriptions_left names (f ∷ after) =
@@ -19,8 +19,8 @@ subscriptions_left names (f ∷ after) =
     then (id_of f, topic_of names f) ∷ subscriptions_left names after
     else subscriptions_left names after
 
--- The transactions that BEGINs of these frames left open, each with the SENDs after its BEGIN that name it, in order:
--- of each transaction the last frame that names it, SENDs aside, is a BEGIN.
+-- The transactions that BEGINs of these frames left open, each with the SENDs after its BEGIN that name it,
+-- in order: of each transaction the last frame that names it, SENDs aside, is a BEGIN.
 abbrev pub transactions_left : List (List ℕ) → List RawFrame → List (List ℕ × List SentMessage)
 transactions_left names [] = []
 transactions_left names (f ∷ after) =

@@ -1,5 +1,5 @@
--- What a session refuses, and in which order (STOMP 1.2, "Client Frames"; the limits and the order are this server's
--- own).
+-- What a session refuses, and in which order (STOMP 1.2, "Client Frames"; the limits and the order are this
+-- server's own).
 use Rattle.std.specs.Prelude.{ℕ, Bool, true, false, not, nat_lt, List, [], ◌∷◌, codes, length, Option}
 use Rattle.std.specs.List.{list_any}
 use Rattle.std.specs.Map.{lookup}

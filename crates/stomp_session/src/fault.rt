@@ -1,7 +1,7 @@
 //! Why a session refuses a frame.
 
 ghost use Rattle.std.specs.Prelude.{◌≡◌};
-ghost use Rattle.stomp_session.specs.Faults.{number_of, title_of};
+ghost use Rattle.stomp_session.specs.Faults.{number_of, session_title};
 ghost use Rattle.stomp_session.specs.declared.fault.SessionFault.TheVariants as faults;
 
 use stomp_frame::NoMemory;
@@ -80,7 +80,7 @@ impl SessionFault {
 
     /// Its number, a space and its name, as in the message of an ERROR frame.
     pub fn title(self) -> &'static [u8]
-        ensures { result.now ≡ title_of self }
+        ensures { result.now ≡ session_title self }
     {
         match self {
             SessionFault::NotConnected => b"60 NotConnected".as_slice(),

@@ -43,13 +43,13 @@ pub struct Session {
 
 impl Model for Session {
     ghost use Rattle.stomp_session.specs.Open.{Held};
-    ghost use Rattle.stomp_session.specs.Inner.Sound.{IsSound};
+    ghost use Rattle.stomp_session.specs.Inner.Sound.{IsSoundSession};
 
     ghost Value = { Held };
 
     ghost view = { λ s. record { names = s.names.value; phase = s.phase; subscriptions = s.subscriptions; transactions = s.transactions } };
 
-    ghost invariant = { λ s. IsSound s.phase s.subscriptions s.transactions };
+    ghost invariant = { λ s. IsSoundSession s.phase s.subscriptions s.transactions };
 }
 
 /// Whether the frame has an ack of another mode than auto.

@@ -219,10 +219,16 @@ objections w (Releases t) =
 objections w (Turns t) = (not (is_topic w t), Refusal.NotNamed) ∷ []
 objections w (Takes s) =
     (not (nat_lt s (length w.subscriptions)), Refusal.NoSub)
-    ∷ (is_some (subscription_at w s).closed
-    || not (is_reading (connection_at w (subscription_at w s).connection).standing), Refusal.Gone)
-    ∷ (not (nat_lt (subscription_at w s).taken (length (accepted_at w s)))
-    && not (is_some (end_at w s)), Refusal.NothingDue) ∷ []
+    ∷ (
+      is_some (subscription_at w s).closed
+          || not (is_reading (connection_at w (subscription_at w s).connection).standing),
+      Refusal.Gone,
+    )
+    ∷ (
+      not (nat_lt (subscription_at w s).taken (length (accepted_at w s)))
+          && not (is_some (end_at w s)),
+      Refusal.NothingDue,
+    ) ∷ []
 
 -- what the topic refuses of it then
 abbrev pub topic_objection : World → Move → Option Refusal
@@ -259,7 +265,7 @@ subscribe_effect w c t =
     let x = topic_at w t in
     record (with_topic w t (after_subscribe (length w.subscriptions) x)) {
       subscriptions = w.subscriptions
-      ++ record { connection = c; topic = t; from = x.frontier; taken = 0; closed = None } ∷ [];
+          ++ record { connection = c; topic = t; from = x.frontier; taken = 0; closed = None } ∷ [];
     }
 
 -- the same for the entry that was found, if one was
@@ -292,7 +298,8 @@ or_out_of_memory memory (Some fault) = Some fault
 abbrev pub proposal_fault : World → ℕ → Topic → Bool → Option ProposeFault
 proposal_fault w c t memory =
     let f = undecided_at w c in
-    or_out_of_memory memory (propose_fault (speaker w c).floor (part_at f.txn.id f.txn.sends t) (topic_at w t))
+    or_out_of_memory memory
+    (propose_fault (speaker w c).floor (part_at f.txn.id f.txn.sends t) (topic_at w t))
 
 -- the ticket that the topic gives next
 abbrev pub next_ticket : World → ℕ → Topic → Stamp
@@ -316,7 +323,8 @@ propose_effect w c t (Some fault) = with_undecided w c (record (undecided_at w c
 abbrev pub decide_effect : World → ℕ → World
 decide_effect w c =
     let f = undecided_at w c in
-    record (with_sender w (connection_at w c).sender (record (speaker w c) { floor = greatest f.given; flight = None })) {
+    record
+    (with_sender w (connection_at w c).sender (record (speaker w c) { floor = greatest f.given; flight = None })) {
       commits = w.commits ++ record { txn = f.txn; stamp = greatest f.given } ∷ [];
       verdicts = w.verdicts ++ record { id = f.txn.id; rows = f.given } ∷ [];
     }
@@ -362,8 +370,10 @@ take_effect w s (Some item) =
 
 -- what the event does where it isn't refused
 abbrev pub move_effect : World → Move → World
-move_effect w (AddsTopic clock) = record w { topics = w.topics
-    ++ new_topic (record { 0 = length w.topics }) w.log_limit clock ∷ [] }
+move_effect w (AddsTopic clock) = record w {
+  topics = w.topics
+      ++ new_topic (record { 0 = length w.topics }) w.log_limit clock ∷ [];
+}
 move_effect w Opens = record w {
   senders = w.senders ++ new_sender ∷ [];
   connections = w.connections ++ record { sender = length w.senders; standing = Standing.Open } ∷ [];
@@ -393,8 +403,10 @@ commit_answer w c (first ∷ others) = Begun (next_txn w c (first ∷ others))
 
 -- where the subscription's span would end now
 abbrev pub end_now : World → ℕ → Stamp
-end_now w s = elim (entry_at w s) [ None ↦ zero_stamp
-    | Some e ↦ (end_of (topic_at w (subscription_at w s).topic).frontier e).to ]
+end_now w s = elim (entry_at w s) [
+  | None ↦ zero_stamp
+  | Some e ↦ (end_of (topic_at w (subscription_at w s).topic).frontier e).to
+]
 
 -- the subscription that is closed, and where; where there is none, the connection is gone
 abbrev pub leave_answer : World → ℕ → Option ℕ → Answer

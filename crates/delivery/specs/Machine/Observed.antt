@@ -28,8 +28,10 @@ entry_to (Some e) = e.to
 
 -- what the subscription's queue has accepted, taken or not
 abbrev pub accepted_at : World → ℕ → List Item
-accepted_at w s = elim (subscription_at w s).closed [ None ↦ entry_items (entry_at w s)
-    | Some end ↦ end.accepted ]
+accepted_at w s = elim (subscription_at w s).closed [
+  | None ↦ entry_items (entry_at w s)
+  | Some end ↦ end.accepted
+]
 
 -- where the subscription's span ends, if it does
 abbrev pub end_at : World → ℕ → Option Stamp

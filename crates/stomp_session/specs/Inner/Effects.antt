@@ -32,7 +32,8 @@ entries_without id [] = []
 entries_without id (o ∷ them) = if bytes_eq id o.0 then them else o ∷ entries_without id them
 
 -- with one more SEND in this transaction
-abbrev pub with_send : List ℕ → SentMessage → List (List ℕ × List SentMessage) → List (List ℕ × List SentMessage)
+abbrev pub with_send : List ℕ → SentMessage → List (List ℕ × List SentMessage)
+    → List (List ℕ × List SentMessage)
 with_send x send [] = []
 with_send x send (o ∷ them) =
     if bytes_eq x o.0 then (o.0, o.1 ++ send ∷ []) ∷ them else o ∷ with_send x send them

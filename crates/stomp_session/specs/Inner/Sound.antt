@@ -6,7 +6,7 @@ use Rattle.stomp_session.specs.declared.phase.Phase.{Phase}
 use Rattle.stomp_session.specs.declared.phase.Phase.TheVariants.{Closed}
 
 -- a closed one holds nothing open
-pub record IsSound
+pub record IsSoundSession
     (phase : Phase)
     (subscriptions : List (List ℕ × Topic))
     (transactions : List (List ℕ × List SentMessage))
