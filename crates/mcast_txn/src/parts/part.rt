@@ -8,7 +8,6 @@ use crate::draft::TopicSet;
 use crate::flight::Flight;
 use crate::id::{Topic, TxnId};
 use crate::parts::PartSends;
-use crate::stamp::Stamp;
 use std::alloc::Global;
 use std::sync::Arc;
 use stomp_frame::NoMemory;
@@ -24,13 +23,6 @@ pub struct Part {
     /// The transaction's own flight.
     pub flight: Arc<Flight>,
     pub ghost own: { flight_id (arc_value flight) ≡ id },
-}
-
-/// A part that its topic has let go, and the stamp of its transaction.
-#[derive(Drop)]
-pub struct Released {
-    pub part: Arc<Part>,
-    pub stamp: Stamp,
 }
 
 impl Part {

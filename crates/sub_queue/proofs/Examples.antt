@@ -1,0 +1,54 @@
+-- Worked rows: each is computed from the definitions.
+use Rattle.std.specs.Prelude.{◌≡◌, ℕ, true, false, [], ◌∷◌, Some, None}
+use Rattle.std.proofs.Common.{refl}
+use Rattle.mcast_txn.specs.declared.stamp.Stamp.{Stamp}
+use Rattle.mcast_txn.specs.Span.{Item}
+use Rattle.sub_queue.specs.Shown.{Shown, IsAboveLast, after_push, has_room, untaken}
+use Rattle.sub_queue.specs.VecQueue.{VecQueue, after_take, next_index, shown_of}
+
+abbrev stamp : ℕ → Stamp
+stamp n = record { n = n; topic = record { 0 = 0 } }
+
+abbrev item : ℕ → Item
+item n = record { id = record { sender = record { 0 = 0 }; seq = n }; stamp = stamp n; sends = [] }
+
+-- two items at capacity 2, of which this many were taken
+abbrev two : ℕ → VecQueue
+two taken = record { accepted = item 1 ∷ item 2 ∷ []; capacity = 2; taken = taken; spare = 0 }
+
+-- two items of an outlet of which nobody knows how many were taken
+abbrev two_unknown : Shown
+two_unknown = record { accepted = item 1 ∷ item 2 ∷ []; room = record { capacity = 2; taken = None } }
+
+no_room_where_full : has_room (shown_of (two 0)) ≡ false
+no_room_where_full = refl
+
+room_after_a_take : has_room (shown_of (after_take (two 0))) ≡ true
+room_after_a_take = refl
+
+first_is_next : next_index (two 0) ≡ Some 0
+first_is_next = refl
+
+second_is_next_after_a_take : next_index (after_take (two 0)) ≡ Some 1
+second_is_next_after_a_take = refl
+
+none_is_next_after_two : next_index (two 2) ≡ None
+none_is_next_after_two = refl
+
+nothing_is_taken_twice : after_take (two 2) ≡ two 2
+nothing_is_taken_twice = refl
+
+one_is_untaken : untaken (shown_of (two 1)) ≡ 1
+one_is_untaken = refl
+
+all_may_be_untaken : untaken two_unknown ≡ 2
+all_may_be_untaken = refl
+
+pushed_at_the_end : (after_push (item 3) two_unknown).accepted ≡ item 1 ∷ item 2 ∷ item 3 ∷ []
+pushed_at_the_end = refl
+
+three_is_above_two : IsAboveLast two_unknown.accepted (stamp 3)
+three_is_above_two = refl
+
+all_are_above_none : IsAboveLast [] (stamp 0)
+all_are_above_none = tt

@@ -1,0 +1,44 @@
+-- What an outlet shows. Worked rows are in proofs/Examples.antt.
+use Rattle.std.specs.Prelude.{◌≡◌, ℕ, ◌-◌, ◌≤◌, nat_lt, Bool, true, List, [], ◌∷◌, ◌++◌, length}
+use Rattle.std.specs.Prelude.{Option, Some, None, IfSome}
+use Rattle.std.specs.List.{last_or}
+use Rattle.mcast_txn.specs.declared.stamp.Stamp.{Stamp}
+use Rattle.mcast_txn.specs.Stamp.{stamp_lt}
+use Rattle.mcast_txn.specs.Span.{Item}
+
+-- How many items an outlet has room for.
+-- capacity: at most this many are untaken.
+-- taken: how many were taken, where that is known.
+pub record Room : Type 0 where
+  pub capacity : ℕ
+  pub taken : Option ℕ
+
+-- the items that an outlet accepted, in order, and its room
+pub record Shown : Type 0 where
+  pub accepted : List Item
+  pub room : Room
+
+-- one more item at the end
+abbrev pub after_push : Item → Shown → Shown
+after_push item s = record s { accepted = s.accepted ++ item ∷ [] }
+
+-- the stamp is above that of the last item, if there is one
+abbrev pub IsAboveLast : List Item → Stamp → Type 0
+IsAboveLast items stamp = IfSome (last_or None items) (λ item. stamp_lt item.stamp stamp ≡ true)
+
+-- how many items are known to be taken
+abbrev pub known_taken : Option ℕ → ℕ
+known_taken None = 0
+known_taken (Some n) = n
+
+-- how many items aren't known to be taken: of 5 items of which 3 were taken, 2
+abbrev pub untaken : Shown → ℕ
+untaken s = length s.accepted - known_taken s.room.taken
+
+-- fewer items than the capacity are untaken
+abbrev pub has_room : Shown → Bool
+has_room s = nat_lt (untaken s) s.room.capacity
+
+-- as many items as the capacity are untaken
+abbrev pub IsFull : Shown → Type 0
+IsFull s = s.room.capacity ≤ untaken s
