@@ -1,4 +1,4 @@
--- The core's events so far as they touch topics and transactions: what each refuses, what it does, and what
+-- The core's moves so far as they touch topics and transactions: what each refuses, what it does, and what
 -- it answers.
 use Rattle.std.specs.Prelude.{ℕ, zero, suc, ◌-◌, ◌+◌, ◌==◌, nat_lt, Bool, not, ◌&&◌, ◌||◌, List, [], ◌∷◌, ◌++◌, map, length, find, slice_get, Option, Some, None, if◌then◌else◌}
 use Rattle.std.specs.List.{list_any, list_all}
@@ -50,7 +50,7 @@ pub data Move : Type 0 where
   Turns : (t : Topic) → Move
   Takes : (s : ℕ) → Move
 
--- what came of an event, with all that a reader of the run needs
+-- what a move is answered, with all that a reader of the run needs
 pub data Answer : Type 0 where
   Refused : (why : Refusal) → Answer
   Done : Answer
@@ -72,7 +72,7 @@ pub data Answer : Type 0 where
   Withdrawn : (id : TxnId) (c : ℕ) → Answer
   Cancelled : (id : TxnId) (t : Topic) → Answer
   Learnt : (id : TxnId) (t : Topic) → Answer
-  -- the transaction's part was released at t; so many parts were
+  -- the transaction's part was released at t; count parts were
   Released : (t : Topic) (id : TxnId) → Answer
   Turned : (t : Topic) (count : ℕ) → Answer
   Handed : (s : ℕ) (item : Item) → Answer
