@@ -10,7 +10,7 @@ use Rattle.mcast_txn.specs.Span.{Item}
 use Rattle.mcast_group.specs.Machine.{TopicState, Entry, after_propose, after_cancel, after_learn, after_release, after_turn, after_unsubscribe, decided_stamp}
 use Rattle.mcast_group.proofs.Turning.{release_keeps, turn_keeps}
 use Rattle.delivery.specs.Machine.World.{World, Leftover, topic_at, speaker, subscription_at, entry_at}
-use Rattle.delivery.specs.Machine.Moves.{Move, world_after, move_effect, find_leftover, find_verdict, verdict_in, oldest_live, commit_effect, proposal_fault, propose_effect, cancel_effect, learn_effect, take_effect, undecided_at, leave_effect, close_effect_of, has_room}
+use Rattle.delivery.specs.Machine.Moves.{Move, world_after, move_effect, find_leftover, find_verdict, verdict_in, oldest_live, commit_effect, proposal_fault, propose_effect, cancel_effect, learn_effect, take_effect, undecided_at, leave_effect, close_effect_of, queue_has_room}
 use Rattle.delivery.specs.Machine.Moves.Move.{AddsTopic, Opens, Commits, Subscribes, Unsubscribes, Disconnects, Errs, Lost, Leaves, Proposes, Decides, Withdraws, Cancels, Learns, Releases, Turns, Takes}
 use Rattle.delivery.proofs.Machine.Invariant.{topic_in}
 use Rattle.delivery.proofs.Machine.TopicSteps.{at_topic_from}
@@ -75,11 +75,11 @@ grow_effect w (Withdraws c) u = omega arith
 grow_effect w (Cancels c t) u = grow_cancelled w c t (find_leftover t (speaker w c).leftovers) u
 grow_effect w (Learns t id) u = grow_learned w t id (find_verdict id w.verdicts) u
 grow_effect w (Releases t) u =
-    grow_topic w.topics t (after_release (has_room w) (topic_at w t))
-    (release_keeps (λ z. (topic_at w t).clock ≤ z.clock) (has_room w) (topic_at w t) (omega arith) (λ p e. omega arith)) u
+    grow_topic w.topics t (after_release (queue_has_room w) (topic_at w t))
+    (release_keeps (λ z. (topic_at w t).clock ≤ z.clock) (queue_has_room w) (topic_at w t) (omega arith) (λ p e. omega arith)) u
 grow_effect w (Turns t) u =
-    grow_topic w.topics t (after_turn (has_room w) (verdict_in w) (topic_at w t))
-    (turn_keeps (λ z. (topic_at w t).clock ≤ z.clock) (has_room w) (verdict_in w) (λ x id v f n k. omega arith) (λ x p e k. k) (topic_at w t) (omega arith)) u
+    grow_topic w.topics t (after_turn (queue_has_room w) (verdict_in w) (topic_at w t))
+    (turn_keeps (λ z. (topic_at w t).clock ≤ z.clock) (queue_has_room w) (verdict_in w) (λ x id v f n k. omega arith) (λ x p e k. k) (topic_at w t) (omega arith)) u
 grow_effect w (Takes s) u = grow_handed w s _ u
 
 pub clock_grows : (w : World) (e : Move) (u : Topic) → (topic_at w u).clock ≤ (topic_at (world_after w e) u).clock

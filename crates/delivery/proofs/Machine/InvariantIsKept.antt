@@ -25,7 +25,7 @@ use Rattle.mcast_group.specs.Machine.{Pending, Entry, propose_checks, propose_fa
 use Rattle.mcast_group.proofs.Parts.{some_same, none_some, not_true}
 use Rattle.delivery.specs.declared.refusal.Refusal.{Refusal}
 use Rattle.delivery.specs.Machine.World.{World, Undecided, Leftover, SenderState, topic_at, new_sender, connection_at, speaker, entry_at}
-use Rattle.delivery.specs.Machine.Moves.{Move, Answer, world_after, answer_to, move_refusal, move_effect, move_answer, undecided_at, undecided_or_none, find_leftover, find_verdict, verdict_in, oldest_live, has_ticket, next_txn, next_ticket, commit_effect, commit_answer, proposal_fault, propose_effect, propose_answer, decide_effect, withdraw_effect, cancel_effect, cancel_answer, learn_effect, learn_objection, release_answer, has_room, take_effect, take_answer, leave_effect, leave_answer, close_effect, close_effect_of, or_out_of_memory, refusal_of_learn, is_topic, objections, topic_objection}
+use Rattle.delivery.specs.Machine.Moves.{Move, Answer, world_after, answer_to, move_refusal, move_effect, move_answer, undecided_at, undecided_or_none, find_leftover, find_verdict, verdict_in, oldest_live, has_ticket, next_txn, next_ticket, commit_effect, commit_answer, proposal_fault, propose_effect, propose_answer, decide_effect, withdraw_effect, cancel_effect, cancel_answer, learn_effect, learn_objection, release_answer, queue_has_room, take_effect, take_answer, leave_effect, leave_answer, close_effect, close_effect_of, or_out_of_memory, refusal_of_learn, is_topic, objections, topic_objection}
 use Rattle.delivery.specs.Machine.Moves.Move.{AddsTopic, Opens, Commits, Subscribes, Unsubscribes, Disconnects, Errs, Lost, Leaves, Proposes, Decides, Withdraws, Cancels, Learns, Releases, Turns, Takes}
 use Rattle.delivery.specs.Machine.Moves.Answer.{Refused, Begun, Ticket}
 use Rattle.delivery.specs.Machine.Runs.{txn_of_id, commits_of}
@@ -352,14 +352,14 @@ happens_reached past w (Withdraws c) h e = withdrawn_reached past w c h e
 happens_reached past w (Cancels c t) h e = cancelled_case past w c t h (find_leftover t (speaker w c).leftovers) refl
 happens_reached past w (Learns t id) h e = unspoken past (move_effect w (Learns t id)) _ refl (λ id. refl) refl (learned_reached past w t id h e)
 happens_reached past w (Releases t) h e = released_unspoken past (move_effect w (Releases t)) t (due_part (topic_at w t)) (record {
-  inv = topic_step (tickets past) w t (after_release (has_room w) (topic_at w t)) h.inv
-      (Keeps-release (tickets past) w.commits t (has_room w) (topic_at w t) h.inv.consistent (h.inv.tied t));
+  inv = topic_step (tickets past) w t (after_release (queue_has_room w) (topic_at w t)) h.inv
+      (Keeps-release (tickets past) w.commits t (queue_has_room w) (topic_at w t) h.inv.consistent (h.inv.tied t));
   flights = h.flights;
   commits = h.commits;
 })
 happens_reached past w (Turns t) h e = record {
-  inv = topic_step (tickets past) w t (after_turn (has_room w) (verdict_in w) (topic_at w t)) h.inv
-      (Keeps-turned (tickets past) w.commits t (has_room w) (verdict_in w) (topic_at w t) h.inv.consistent (finds (tickets past) w h.inv) (h.inv.tied t));
+  inv = topic_step (tickets past) w t (after_turn (queue_has_room w) (verdict_in w) (topic_at w t)) h.inv
+      (Keeps-turned (tickets past) w.commits t (queue_has_room w) (verdict_in w) (topic_at w t) h.inv.consistent (finds (tickets past) w h.inv) (h.inv.tied t));
   flights = h.flights;
   commits = h.commits;
 }

@@ -10,7 +10,7 @@ use Rattle.mcast_group.specs.Machine.{TopicState, Pending, Entry, find_entry, en
 use Rattle.mcast_group.proofs.Parts.{none_some}
 use Rattle.delivery.specs.Machine.World.{World, subscription_at}
 use Rattle.delivery.specs.Machine.Observed.{entry_items, entry_to}
-use Rattle.delivery.specs.Machine.Moves.{has_room, verdict_in}
+use Rattle.delivery.specs.Machine.Moves.{queue_has_room, verdict_in}
 use Rattle.delivery.proofs.Theorem.HandedIsPrefix.{length_push}
 
 -- from one end and queue to the next: an end stays and its queue with it, the queue keeps its bound, and it is full where it ends
@@ -54,7 +54,7 @@ minus_le m n k l h = omega arith
 abbrev entry_of : ℕ → Stamp → Option Stamp → List Item → Entry
 entry_of number from to accepted = record { number = number; from = from; to = to; accepted = accepted }
 
-given_moves : (w : World) (frontier : Stamp) (item : Item) (number : ℕ) (from : Stamp) (accepted : List Item) (b : Bool) → let before = entry_of number from None accepted in has_room w before ≡ b → let later = cond b (record before { accepted = accepted ++ item ∷ [] }) (record before { to = Some frontier }) in Moves (subscription_at w number).taken w.capacity None accepted later.to later.accepted
+given_moves : (w : World) (frontier : Stamp) (item : Item) (number : ℕ) (from : Stamp) (accepted : List Item) (b : Bool) → let before = entry_of number from None accepted in queue_has_room w before ≡ b → let later = cond b (record before { accepted = accepted ++ item ∷ [] }) (record before { to = Some frontier }) in Moves (subscription_at w number).taken w.capacity None accepted later.to later.accepted
 given_moves w frontier item number from accepted true e =
     let n = (subscription_at w number).taken in let p = length_push accepted item in
     let l = minus_lt (length accepted) n w.capacity (ltb-true (length accepted - n) w.capacity e) in record {
@@ -73,17 +73,17 @@ given_moves w frontier item number from accepted false e =
       full = λ o s k m. minus_le (length accepted) n w.capacity (λ l. true≢false (sym (lt-ltb (length accepted - n) w.capacity l) ∙ e)) m;
     }
 
-delivered_case : (w : World) (frontier : Stamp) (item : Item) (number : ℕ) (from : Stamp) (to : Option Stamp) (accepted : List Item) → let later = entry_after (has_room w) frontier item (entry_of number from to accepted) in Moves (subscription_at w number).taken w.capacity to accepted later.to later.accepted
-delivered_case w frontier item number from None accepted = given_moves w frontier item number from accepted (has_room w (entry_of number from None accepted)) refl
+delivered_case : (w : World) (frontier : Stamp) (item : Item) (number : ℕ) (from : Stamp) (to : Option Stamp) (accepted : List Item) → let later = entry_after (queue_has_room w) frontier item (entry_of number from to accepted) in Moves (subscription_at w number).taken w.capacity to accepted later.to later.accepted
+delivered_case w frontier item number from None accepted = given_moves w frontier item number from accepted (queue_has_room w (entry_of number from None accepted)) refl
 delivered_case w frontier item number from (Some end) accepted = Moves-same (subscription_at w number).taken w.capacity (Some end) accepted
 
 number_given : (b : Bool) (e f : Entry) → e.number ≡ f.number → (cond b e f).number ≡ f.number
 number_given true e f d = d
 number_given false e f d = refl
 
-number_case : (w : World) (frontier : Stamp) (item : Item) (number : ℕ) (from : Stamp) (to : Option Stamp) (accepted : List Item) → (entry_after (has_room w) frontier item (entry_of number from to accepted)).number ≡ number
+number_case : (w : World) (frontier : Stamp) (item : Item) (number : ℕ) (from : Stamp) (to : Option Stamp) (accepted : List Item) → (entry_after (queue_has_room w) frontier item (entry_of number from to accepted)).number ≡ number
 number_case w frontier item number from None accepted =
-    number_given (has_room w (entry_of number from None accepted)) (entry_of number from None (accepted ++ item ∷ [])) (entry_of number from (Some frontier) accepted) refl
+    number_given (queue_has_room w (entry_of number from None accepted)) (entry_of number from None (accepted ++ item ∷ [])) (entry_of number from (Some frontier) accepted) refl
 number_case w frontier item number from (Some end) accepted = refl
 
 -- ---- a topic
@@ -121,22 +121,22 @@ Goes-then w x y z a b = record {
       (subst (λ n. Moves (subscription_at w n).taken w.capacity f.to f.accepted g.to g.accepted) (a.number e) (b.moves f));
 }
 
-released_goes : (w : World) (x : TopicState) (o : Option Pending) → Goes w x (after_release_if (has_room w) x o)
+released_goes : (w : World) (x : TopicState) (o : Option Pending) → Goes w x (after_release_if (queue_has_room w) x o)
 released_goes w x None = Goes-same w x x refl
 released_goes w x (Some p) = record {
-  step = entry_after (has_room w) x.frontier (item_of p);
+  step = entry_after (queue_has_room w) x.frontier (item_of p);
   are = refl;
   number = λ e. number_case w x.frontier (item_of p) e.number e.from e.to e.accepted;
   moves = λ e. delivered_case w x.frontier (item_of p) e.number e.from e.to e.accepted;
 }
 
-pub release_goes : (w : World) (x : TopicState) → Goes w x (after_release (has_room w) x)
+pub release_goes : (w : World) (x : TopicState) → Goes w x (after_release (queue_has_room w) x)
 release_goes w x = released_goes w x (due_part x)
 
-times_go : (w : World) (k : ℕ) (x : TopicState) → Goes w x (after_releases (has_room w) k x)
+times_go : (w : World) (k : ℕ) (x : TopicState) → Goes w x (after_releases (queue_has_room w) k x)
 times_go w zero x = Goes-same w x x refl
 times_go w (suc k) x =
-    Goes-then w x (after_release (has_room w) x) (after_releases (has_room w) k (after_release (has_room w) x)) (release_goes w x) (times_go w k (after_release (has_room w) x))
+    Goes-then w x (after_release (queue_has_room w) x) (after_releases (queue_has_room w) k (after_release (queue_has_room w) x)) (release_goes w x) (times_go w k (after_release (queue_has_room w) x))
 
 tried_case : (id : TxnId) (v : Decision) (x : TopicState) (o : Option LearnFault) → let y : TopicState = elim o [ None ↦ after_learn id (decided_stamp v) x | Some fault ↦ x ] in y.subscriptions ≡ x.subscriptions
 tried_case id v x None = refl
@@ -150,10 +150,10 @@ all_tried : (find : TxnId → Option Decision) (ps : List Pending) (x : TopicSta
 all_tried find [] x = refl
 all_tried find (p ∷ ps) x = all_tried find ps (after_try p.part.id (find p.part.id) x) ∙ tried_subscriptions p.part.id (find p.part.id) x
 
-pub turned_goes : (w : World) (x : TopicState) → Goes w x (after_turn (has_room w) (verdict_in w) x)
+pub turned_goes : (w : World) (x : TopicState) → Goes w x (after_turn (queue_has_room w) (verdict_in w) x)
 turned_goes w x =
     let y = after_tries (verdict_in w) x.pending x in
-    Goes-then w x y (after_releases (has_room w) (length y.pending) y) (Goes-same w x y (all_tried (verdict_in w) x.pending x)) (times_go w (length y.pending) y)
+    Goes-then w x y (after_releases (queue_has_room w) (length y.pending) y) (Goes-same w x y (all_tried (verdict_in w) x.pending x)) (times_go w (length y.pending) y)
 
 -- ---- one entry of it
 

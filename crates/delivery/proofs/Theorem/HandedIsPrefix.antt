@@ -17,7 +17,7 @@ use Rattle.mcast_group.proofs.Parts.{some_same, none_some, not_true}
 use Rattle.mcast_group.proofs.Queues.{More, More-same}
 use Rattle.delivery.specs.Machine.World.{World, Leftover, Subscription, no_subscription, topic_at, speaker, subscription_at, entry_at, start, with_topic}
 use Rattle.delivery.specs.Machine.Observed.{entry_items, accepted_at}
-use Rattle.delivery.specs.Machine.Moves.{Move, Answer, world_after, answer_to, move_refusal, move_effect, move_answer, find_leftover, find_verdict, verdict_in, oldest_live, commit_effect, commit_answer, proposal_fault, propose_effect, propose_answer, cancel_effect, cancel_answer, learn_effect, release_answer, has_room, take_effect, undecided_at, take_answer, leave_effect, leave_answer, close_effect, close_effect_of}
+use Rattle.delivery.specs.Machine.Moves.{Move, Answer, world_after, answer_to, move_refusal, move_effect, move_answer, find_leftover, find_verdict, verdict_in, oldest_live, commit_effect, commit_answer, proposal_fault, propose_effect, propose_answer, cancel_effect, cancel_answer, learn_effect, release_answer, queue_has_room, take_effect, undecided_at, take_answer, leave_effect, leave_answer, close_effect, close_effect_of}
 use Rattle.delivery.specs.Machine.Moves.Move.{AddsTopic, Opens, Commits, Subscribes, Unsubscribes, Disconnects, Errs, Lost, Leaves, Proposes, Decides, Withdraws, Cancels, Learns, Releases, Turns, Takes}
 use Rattle.delivery.specs.Machine.Moves.Answer.{Refused, Done, Learnt, Handed}
 use Rattle.delivery.specs.Machine.Runs.{run, answers_from, delivered_items}
@@ -283,10 +283,10 @@ happens_handing past w (Cancels c t) r h e = cancelled_handing past w c t (find_
 happens_handing past w (Learns t id) r h e = learned_handing past w t id (find_verdict id w.verdicts) h
 happens_handing past w (Releases t) r h e = told past (move_effect w (Releases t)) (move_answer w (Releases t)) (λ n. released_handed n t (due_part (topic_at w t)) past)
     (grown past w (move_effect w (Releases t)) (Grows-topic w t _ (entries_more (topic_in w.topics t) _
-    (Keeps-release (tickets past) w.commits t (has_room w) (topic_at w t) r.inv.consistent (r.inv.tied t)).entries)) h)
+    (Keeps-release (tickets past) w.commits t (queue_has_room w) (topic_at w t) r.inv.consistent (r.inv.tied t)).entries)) h)
 happens_handing past w (Turns t) r h e = told past (move_effect w (Turns t)) (move_answer w (Turns t)) (λ n. refl)
     (grown past w (move_effect w (Turns t)) (Grows-topic w t _ (entries_more (topic_in w.topics t) _
-    (Keeps-turned (tickets past) w.commits t (has_room w) (verdict_in w) (topic_at w t) r.inv.consistent (finds (tickets past) w r.inv) (r.inv.tied t)).entries)) h)
+    (Keeps-turned (tickets past) w.commits t (queue_has_room w) (verdict_in w) (topic_at w t) r.inv.consistent (finds (tickets past) w r.inv) (r.inv.tied t)).entries)) h)
 happens_handing past w (Takes s) r h e =
     handed_handing past w s (ltb-true s (length w.subscriptions) (false_not (ltb s (length w.subscriptions)) (checked w (Takes s) e).0)) h _ refl
 

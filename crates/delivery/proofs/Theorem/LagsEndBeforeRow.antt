@@ -12,7 +12,7 @@ use Rattle.mcast_group.proofs.Queues.{delivered_number}
 use Rattle.mcast_group.proofs.Turning.{release_keeps, turn_keeps}
 use Rattle.delivery.specs.Machine.World.{World, topic_at, subscription_at, entry_at, with_topic}
 use Rattle.delivery.specs.Machine.Observed.{entry_to, end_at, log_at}
-use Rattle.delivery.specs.Machine.Moves.{Move, world_after, move_effect, has_room, verdict_in}
+use Rattle.delivery.specs.Machine.Moves.{Move, world_after, move_effect, queue_has_room, verdict_in}
 use Rattle.delivery.specs.Machine.Moves.Move.{Releases, Turns}
 use Rattle.delivery.specs.Theorem.Laws.{final_world}
 use Rattle.delivery.specs.Theorem.Spans
@@ -127,7 +127,7 @@ lags_end_before_row r e s end none some lag =
     elim (ends_are_told r e s end none some) [
       | inl d ↦ absurd (lag d)
       | inr (inl d, full) ↦ subst (λ z. end_at (world_after w z) s ≡ Some end → EndsBeforeRow (log_at w t) (log_at (world_after w z) t) end) (sym d)
-          (step_lags w (Releases t) s end (after_release (has_room w) x) refl (release_lags (has_room w) x f) none) some
+          (step_lags w (Releases t) s end (after_release (queue_has_room w) x) refl (release_lags (queue_has_room w) x f) none) some
       | inr (inr d, full) ↦ subst (λ z. end_at (world_after w z) s ≡ Some end → EndsBeforeRow (log_at w t) (log_at (world_after w z) t) end) (sym d)
-          (step_lags w (Turns t) s end (after_turn (has_room w) (verdict_in w) x) refl (turned_lags (has_room w) (verdict_in w) x f) none) some
+          (step_lags w (Turns t) s end (after_turn (queue_has_room w) (verdict_in w) x) refl (turned_lags (queue_has_room w) (verdict_in w) x f) none) some
     ]

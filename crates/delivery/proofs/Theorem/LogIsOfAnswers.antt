@@ -25,7 +25,7 @@ use Rattle.mcast_group.proofs.Turns.{turn_grows}
 use Rattle.delivery.specs.Theorem.Due.{log_row}
 use Rattle.delivery.specs.Machine.World.{World, Leftover, start, topic_at, speaker, subscription_at, entry_at, with_topic}
 use Rattle.delivery.specs.Machine.Observed.{log_at, frontier_at}
-use Rattle.delivery.specs.Machine.Moves.{Move, Answer, world_after, answer_to, move_refusal, move_effect, move_answer, is_topic, find_leftover, find_verdict, verdict_in, oldest_live, commit_effect, commit_answer, proposal_fault, propose_effect, propose_answer, cancel_effect, cancel_answer, learn_effect, release_answer, has_room, take_effect, undecided_at, take_answer, leave_effect, leave_answer, close_effect_of}
+use Rattle.delivery.specs.Machine.Moves.{Move, Answer, world_after, answer_to, move_refusal, move_effect, move_answer, is_topic, find_leftover, find_verdict, verdict_in, oldest_live, commit_effect, commit_answer, proposal_fault, propose_effect, propose_answer, cancel_effect, cancel_answer, learn_effect, release_answer, queue_has_room, take_effect, undecided_at, take_answer, leave_effect, leave_answer, close_effect_of}
 use Rattle.delivery.specs.Machine.Moves.Move.{AddsTopic, Opens, Commits, Subscribes, Unsubscribes, Disconnects, Errs, Lost, Leaves, Proposes, Decides, Withdraws, Cancels, Learns, Releases, Turns, Takes}
 use Rattle.delivery.specs.Machine.Moves.Answer.{Done, Learnt}
 use Rattle.delivery.specs.Machine.Runs.{run, answers_from, commits_of, released_at}
@@ -132,15 +132,15 @@ learned_counts : (t : Topic) (past : List Answer) (w : World) (u : Topic) (id : 
 learned_counts t past w u id None h = h
 learned_counts t past w u id (Some v) h = beside t past w u (after_learn id (decided_stamp v) (topic_at w u)) refl h
 
-released_counts : (t : Topic) (past : List Answer) (w : World) (u : Topic) → is_topic w u ≡ true → (o : Option Pending) → Counts t past w → Counts t (release_answer u o ∷ past) (with_topic w u (after_release_if (has_room w) (topic_at w u) o))
+released_counts : (t : Topic) (past : List Answer) (w : World) (u : Topic) → is_topic w u ≡ true → (o : Option Pending) → Counts t past w → Counts t (release_answer u o ∷ past) (with_topic w u (after_release_if (queue_has_room w) (topic_at w u) o))
 released_counts t past w u room None h = beside t past w u (topic_at w u) refl h
 released_counts t past w u room (Some p) h =
-    written t past w u (after_release_if (has_room w) (topic_at w u) (Some p)) 1 (ltb-true u.0 (length w.topics) room) (length-append (log_at w u) (row_of p ∷ [])) h
+    written t past w u (after_release_if (queue_has_room w) (topic_at w u) (Some p)) 1 (ltb-true u.0 (length w.topics) room) (length-append (log_at w u) (row_of p ∷ [])) h
 
 turned_counts : (t : Topic) (past : List Answer) (w : World) (u : Topic) → is_topic w u ≡ true → Counts t past w → Counts t (move_answer w (Turns u) ∷ past) (move_effect w (Turns u))
 turned_counts t past w u room h =
-    let x = topic_at w u in let y = after_turn (has_room w) (verdict_in w) x in
-    let l : length x.held ≤ length y.held = turn_grows (has_room w) (verdict_in w) x in
+    let x = topic_at w u in let y = after_turn (queue_has_room w) (verdict_in w) x in
+    let l : length x.held ≤ length y.held = turn_grows (queue_has_room w) (verdict_in w) x in
     written t past w u y (length y.held - length x.held) (ltb-true u.0 (length w.topics) room) (omega arith) h
 
 taken_counts : (t : Topic) (past : List Answer) (w : World) (q : ℕ) (o : Option Item) → Counts t past w → Counts t (take_answer w q o ∷ past) (take_effect w q o)

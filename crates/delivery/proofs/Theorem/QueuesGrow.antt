@@ -12,7 +12,7 @@ use Rattle.mcast_group.specs.Machine.{TopicState, find_entry, after_propose, aft
 use Rattle.mcast_group.proofs.Queues.{More, More-same}
 use Rattle.delivery.specs.Machine.World.{World, Leftover, Subscription, no_subscription, topic_at, speaker, subscription_at, entry_at, with_topic}
 use Rattle.delivery.specs.Machine.Observed.{entry_items, accepted_at}
-use Rattle.delivery.specs.Machine.Moves.{Move, Answer, move_effect, find_leftover, find_verdict, verdict_in, oldest_live, commit_effect, proposal_fault, propose_effect, cancel_effect, learn_effect, has_room, take_effect, undecided_at, leave_effect}
+use Rattle.delivery.specs.Machine.Moves.{Move, Answer, move_effect, find_leftover, find_verdict, verdict_in, oldest_live, commit_effect, proposal_fault, propose_effect, cancel_effect, learn_effect, queue_has_room, take_effect, undecided_at, leave_effect}
 use Rattle.delivery.specs.Machine.Moves.Move.{AddsTopic, Opens, Commits, Subscribes, Unsubscribes, Disconnects, Errs, Lost, Leaves, Proposes, Decides, Withdraws, Cancels, Learns, Releases, Turns, Takes}
 use Rattle.delivery.specs.Theorem.Laws.{answers_of, final_world}
 use Rattle.delivery.specs.Theorem.Spans
@@ -97,10 +97,10 @@ effect_grow past w (Decides c) r = Grow-same w
 effect_grow past w (Withdraws c) r = Grow-same w
 effect_grow past w (Cancels c t) r = cancelled_grow w c t (find_leftover t (speaker w c).leftovers)
 effect_grow past w (Learns t id) r = learned_grow w t id (find_verdict id w.verdicts)
-effect_grow past w (Releases t) r = Grow-topic w t (after_release (has_room w) (topic_at w t)) (entries_more (topic_in w.topics t) (after_release (has_room w) (topic_at w t))
-    (Keeps-release (tickets past) w.commits t (has_room w) (topic_at w t) r.inv.consistent (r.inv.tied t)).entries)
-effect_grow past w (Turns t) r = Grow-topic w t (after_turn (has_room w) (verdict_in w) (topic_at w t)) (entries_more (topic_in w.topics t) (after_turn (has_room w) (verdict_in w) (topic_at w t))
-    (Keeps-turned (tickets past) w.commits t (has_room w) (verdict_in w) (topic_at w t) r.inv.consistent (finds (tickets past) w r.inv) (r.inv.tied t)).entries)
+effect_grow past w (Releases t) r = Grow-topic w t (after_release (queue_has_room w) (topic_at w t)) (entries_more (topic_in w.topics t) (after_release (queue_has_room w) (topic_at w t))
+    (Keeps-release (tickets past) w.commits t (queue_has_room w) (topic_at w t) r.inv.consistent (r.inv.tied t)).entries)
+effect_grow past w (Turns t) r = Grow-topic w t (after_turn (queue_has_room w) (verdict_in w) (topic_at w t)) (entries_more (topic_in w.topics t) (after_turn (queue_has_room w) (verdict_in w) (topic_at w t))
+    (Keeps-turned (tickets past) w.commits t (queue_has_room w) (verdict_in w) (topic_at w t) r.inv.consistent (finds (tickets past) w r.inv) (r.inv.tied t)).entries)
 effect_grow past w (Takes s) r = taken_grow w s _
 
 pub queues_grow : Spans.QueuesGrow

@@ -22,7 +22,7 @@ use Rattle.delivery.specs.declared.refusal.Refusal.{Refusal}
 use Rattle.delivery.specs.Theorem.Due.{log_row}
 use Rattle.delivery.specs.Machine.World.{World, Undecided, Leftover, SenderState, new_sender, topic_at, connection_at, speaker, subscription_at, entry_at, start, new_topics}
 use Rattle.delivery.specs.Machine.Observed.{log_at}
-use Rattle.delivery.specs.Machine.Moves.{Move, Answer, world_after, answer_to, move_refusal, move_effect, move_answer, undecided_at, find_leftover, find_verdict, verdict_in, oldest_live, commit_effect, commit_answer, proposal_fault, propose_effect, propose_answer, withdraw_effect, cancel_effect, cancel_answer, learn_effect, release_answer, has_room, take_effect, take_answer, leave_effect, leave_answer, close_effect, close_effect_of}
+use Rattle.delivery.specs.Machine.Moves.{Move, Answer, world_after, answer_to, move_refusal, move_effect, move_answer, undecided_at, find_leftover, find_verdict, verdict_in, oldest_live, commit_effect, commit_answer, proposal_fault, propose_effect, propose_answer, withdraw_effect, cancel_effect, cancel_answer, learn_effect, release_answer, queue_has_room, take_effect, take_answer, leave_effect, leave_answer, close_effect, close_effect_of}
 use Rattle.delivery.specs.Machine.Moves.Move.{AddsTopic, Opens, Commits, Subscribes, Unsubscribes, Disconnects, Errs, Lost, Leaves, Proposes, Decides, Withdraws, Cancels, Learns, Releases, Turns, Takes}
 use Rattle.delivery.specs.Machine.Moves.Answer.{Refused, Done, Opened, Subscribed, Unsubscribed, Leaving, Error, Gone, Failed, Decided, Learnt, Handed}
 use Rattle.delivery.specs.Machine.Runs.{run, answers_from, commits_of}
@@ -111,20 +111,20 @@ flights_still past w t h l all s f e = not_true (names t (topics_of f.txn.sends)
       | inr d ↦ true≢false (sym (id_itself f.txn.id) ∙ l.not_withdrawn s f f.txn.id d.0.0 e d.0.1)
     ])
 
-turn_settling : (past : List Answer) (w : World) (t : Topic) → Reached past w → Settling past w.topics w.senders → Settling (move_answer w (Turns t) ∷ past) (set w.topics t.0 (after_turn (has_room w) (verdict_in w) (topic_at w t))) w.senders
+turn_settling : (past : List Answer) (w : World) (t : Topic) → Reached past w → Settling past w.topics w.senders → Settling (move_answer w (Turns t) ∷ past) (set w.topics t.0 (after_turn (queue_has_room w) (verdict_in w) (topic_at w t))) w.senders
 turn_settling past w t h l =
-    let y = after_turn (has_room w) (verdict_in w) (topic_at w t) in
-    note_turned past (set w.topics t.0 y) w.senders t (turn_count (has_room w) (verdict_in w) (topic_at w t))
+    let y = after_turn (queue_has_room w) (verdict_in w) (topic_at w t) in
+    note_turned past (set w.topics t.0 y) w.senders t (turn_count (queue_has_room w) (verdict_in w) (topic_at w t))
     (λ all. record {
       none = at_set_same (λ (z : TopicState). (p : Pending) → In p z.pending → Prim.⊥) w.topics t.0 y (new_topic t 0 0)
-          (λ p i. subst (λ z. In p z) (turn_none (has_room w) (verdict_in w) (topic_in w.topics t) (h.inv.tied t).sound
+          (λ p i. subst (λ z. In p z) (turn_none (queue_has_room w) (verdict_in w) (topic_in w.topics t) (h.inv.tied t).sound
           (found_one_row (tickets past) w t h.inv)
           (fits (tickets past) w t h.inv (pending_committed past w t h l all))) i)
           (λ p i. i);
       still = flights_still past w t h l all;
     })
     (Settling-fewer past w.topics w.senders (set w.topics t.0 y) w.senders
-    (Fewer-topic w.topics w.senders t y (Gone-turned (has_room w) (verdict_in w) (topic_at w t))) l)
+    (Fewer-topic w.topics w.senders t y (Gone-turned (queue_has_room w) (verdict_in w) (topic_at w t))) l)
 
 -- ---- each event
 
@@ -231,7 +231,7 @@ happens_settling past w (Learns t id) h l e =
     fewer_quiet past w (move_effect w (Learns t id)) (Learnt id t) (quiet_learnt id t) (learned_fewer w t id (find_verdict id w.verdicts)) l
 happens_settling past w (Releases t) h l e =
     fewer_quiet past w (move_effect w (Releases t)) (move_answer w (Releases t)) (quiet_released t (due_part (topic_at w t)))
-    (Fewer-topic w.topics w.senders t _ (Gone-release (has_room w) (topic_at w t))) l
+    (Fewer-topic w.topics w.senders t _ (Gone-release (queue_has_room w) (topic_at w t))) l
 happens_settling past w (Turns t) h l e = turn_settling past w t h l
 happens_settling past w (Takes s) h l e = handed_settling past w s _ l
 

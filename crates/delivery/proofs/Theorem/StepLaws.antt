@@ -23,7 +23,7 @@ use Rattle.mcast_group.proofs.Parts.{found_part, some_same, none_some}
 use Rattle.mcast_group.proofs.Numbers.{delivered_number}
 use Rattle.delivery.specs.declared.refusal.Refusal.{Refusal}
 use Rattle.delivery.specs.Machine.World.{World, Leftover, topic_at, speaker, connection_at, subscription_at, entry_at, start}
-use Rattle.delivery.specs.Machine.Moves.{Move, Answer, world_after, answer_to, move_refusal, objections, topic_objection, move_effect, move_answer, undecided_at, find_leftover, find_verdict, oldest_live, commit_effect, commit_answer, proposal_fault, propose_effect, propose_answer, cancel_effect, cancel_objection, refusal_of_cancel, cancel_answer, learn_effect, learn_objection, refusal_of_learn, release_answer, has_room, take_effect, take_answer, leave_effect, leave_answer, close_effect_of}
+use Rattle.delivery.specs.Machine.Moves.{Move, Answer, world_after, answer_to, move_refusal, objections, topic_objection, move_effect, move_answer, undecided_at, find_leftover, find_verdict, oldest_live, commit_effect, commit_answer, proposal_fault, propose_effect, propose_answer, cancel_effect, cancel_objection, refusal_of_cancel, cancel_answer, learn_effect, learn_objection, refusal_of_learn, release_answer, queue_has_room, take_effect, take_answer, leave_effect, leave_answer, close_effect_of}
 use Rattle.delivery.specs.Machine.Moves.Move.{AddsTopic, Opens, Commits, Subscribes, Unsubscribes, Disconnects, Errs, Lost, Leaves, Proposes, Decides, Withdraws, Cancels, Learns, Releases, Turns, Takes}
 use Rattle.delivery.specs.Machine.Moves.Answer.{Refused, Ticket}
 use Rattle.delivery.specs.Machine.Runs.{answers_from}
@@ -295,12 +295,12 @@ found_is_learnt r t id v e = learn_fault_is (tickets (answers_of r)) (final_worl
 
 -- ---- lag
 
-given_case : (w : World) (frontier : Stamp) (p : Pending) (number : ℕ) (from : Stamp) (accepted : List Item) (b : Bool) → let before : Entry = record { number = number; from = from; to = None; accepted = accepted } in has_room w before ≡ b → IsGiven w frontier p before (cond b (record before { accepted = accepted ++ item_of p ∷ [] }) (record before { to = Some frontier }))
+given_case : (w : World) (frontier : Stamp) (p : Pending) (number : ℕ) (from : Stamp) (accepted : List Item) (b : Bool) → let before : Entry = record { number = number; from = from; to = None; accepted = accepted } in queue_has_room w before ≡ b → IsGiven w frontier p before (cond b (record before { accepted = accepted ++ item_of p ∷ [] }) (record before { to = Some frontier }))
 given_case w frontier p number from accepted true e = record { number = refl; room = λ k. (refl, refl); full = λ k. absurd (true≢false (sym e ∙ k)) }
 given_case w frontier p number from accepted false e = record { number = refl; room = λ k. absurd (true≢false (sym k ∙ e)); full = λ k. (refl, refl) }
 
-given_of : (w : World) (frontier : Stamp) (p : Pending) (number : ℕ) (from : Stamp) (to : Option Stamp) (accepted : List Item) → to ≡ None → let before : Entry = record { number = number; from = from; to = to; accepted = accepted } in IsGiven w frontier p before (entry_after (has_room w) frontier (item_of p) before)
-given_of w frontier p number from None accepted e = given_case w frontier p number from accepted (has_room w (record { number = number; from = from; to = None; accepted = accepted })) refl
+given_of : (w : World) (frontier : Stamp) (p : Pending) (number : ℕ) (from : Stamp) (to : Option Stamp) (accepted : List Item) → to ≡ None → let before : Entry = record { number = number; from = from; to = to; accepted = accepted } in IsGiven w frontier p before (entry_after (queue_has_room w) frontier (item_of p) before)
+given_of w frontier p number from None accepted e = given_case w frontier p number from accepted (queue_has_room w (record { number = number; from = from; to = None; accepted = accepted })) refl
 given_of w frontier p number from (Some end) accepted e = none_some end (sym e)
 
 happens_when : (w : World) (e : Move) → move_refusal w e ≡ None → world_after w e ≡ move_effect w e
@@ -322,13 +322,13 @@ find_stepped n step number (x ∷ es) e k =
 
 pub lags_where_full : Laws.LagsWhereFull
 lags_where_full w t p number before n due found unended =
-    let x = topic_at w t in let later = entry_after (has_room w) x.frontier (item_of p) before in
+    let x = topic_at w t in let later = entry_after (queue_has_room w) x.frontier (item_of p) before in
     let room = Rattle.std.proofs.lemmas.Bool.ltb-true t.0 (length w.topics) (false_not (ltb t.0 (length w.topics)) (checked w (Releases t) n).0) in (
       later,
       subst (λ (v : World). find_entry number (topic_at v t).subscriptions ≡ Some later) (sym (happens_when w (Releases t) n))
-          (at_set_within (λ (z : TopicState). find_entry number z.subscriptions ≡ Some later) w.topics t.0 t.0 (after_release (has_room w) x) (new_topic t 0 0) room
-          (λ k. subst (λ (o : Option Pending). find_entry number (after_release_if (has_room w) x o).subscriptions ≡ Some later) (sym due)
-          (find_stepped number (entry_after (has_room w) x.frontier (item_of p)) (delivered_number (has_room w) x.frontier (item_of p)) x.subscriptions before found))
+          (at_set_within (λ (z : TopicState). find_entry number z.subscriptions ≡ Some later) w.topics t.0 t.0 (after_release (queue_has_room w) x) (new_topic t 0 0) room
+          (λ k. subst (λ (o : Option Pending). find_entry number (after_release_if (queue_has_room w) x o).subscriptions ≡ Some later) (sym due)
+          (find_stepped number (entry_after (queue_has_room w) x.frontier (item_of p)) (delivered_number (queue_has_room w) x.frontier (item_of p)) x.subscriptions before found))
           (λ ne. absurd (ne refl))),
       given_of w x.frontier p before.number before.from before.to before.accepted unended,
     )

@@ -16,7 +16,7 @@ use Rattle.mcast_group.proofs.Parts.{map_length}
 use Rattle.delivery.specs.declared.refusal.Refusal.{Refusal}
 use Rattle.delivery.specs.Machine.World.{World, topic_at, with_topic}
 use Rattle.delivery.specs.Machine.Observed.{log_at}
-use Rattle.delivery.specs.Machine.Moves.{Move, world_after, move_effect, is_topic, refusal_of_learn, learn_objection, learn_effect, verdict_in, has_room, move_answer, release_answer}
+use Rattle.delivery.specs.Machine.Moves.{Move, world_after, move_effect, is_topic, refusal_of_learn, learn_objection, learn_effect, verdict_in, queue_has_room, move_answer, release_answer}
 use Rattle.delivery.specs.Machine.Moves.Move.{Learns, Releases, Turns}
 use Rattle.delivery.specs.Machine.Moves.Answer.{Released, Turned}
 use Rattle.delivery.specs.Machine.Runs.{run}
@@ -70,22 +70,22 @@ learn_steps w t (p ∷ ps) x room =
 
 -- ---- a release
 
-due_case : (w : World) (t : Topic) (x : TopicState) (o : Option Pending) → let u = with_topic w t x in let y = after_release_if (has_room w) x o in stepped u (with_topic u t y) (option_or (first_refusal ((not (is_some o), Refusal.NothingDue) ∷ [])) None) ≡ with_topic w t y
+due_case : (w : World) (t : Topic) (x : TopicState) (o : Option Pending) → let u = with_topic w t x in let y = after_release_if (queue_has_room w) x o in stepped u (with_topic u t y) (option_or (first_refusal ((not (is_some o), Refusal.NothingDue) ∷ [])) None) ≡ with_topic w t y
 due_case w t x None = refl
-due_case w t x (Some p) = twice w t x (after_release_if (has_room w) x (Some p))
+due_case w t x (Some p) = twice w t x (after_release_if (queue_has_room w) x (Some p))
 
-release_step : (w : World) (t : Topic) (x : TopicState) → t.0 < length w.topics → world_after (with_topic w t x) (Releases t) ≡ with_topic w t (after_release (has_room w) x)
+release_step : (w : World) (t : Topic) (x : TopicState) → t.0 < length w.topics → world_after (with_topic w t x) (Releases t) ≡ with_topic w t (after_release (queue_has_room w) x)
 release_step w t x room =
     let u = with_topic w t x in
     ap (λ (b : Bool). stepped u (move_effect u (Releases t)) (option_or (first_refusal ((not b, Refusal.NotNamed) ∷ (not (is_some (due_part (topic_at u t))), Refusal.NothingDue) ∷ [])) None)) (is_there w t x room)
-    ∙ (ap (λ (z : TopicState). stepped u (with_topic u t (after_release (has_room w) z)) (option_or (first_refusal ((not (is_some (due_part z)), Refusal.NothingDue) ∷ [])) None)) (is_read w t x room)
+    ∙ (ap (λ (z : TopicState). stepped u (with_topic u t (after_release (queue_has_room w) z)) (option_or (first_refusal ((not (is_some (due_part z)), Refusal.NothingDue) ∷ [])) None)) (is_read w t x room)
     ∙ due_case w t x (due_part x))
 
-release_steps : (w : World) (t : Topic) (ps : List Pending) (x : TopicState) → t.0 < length w.topics → run (map (λ p. Releases t) ps) (with_topic w t x) ≡ with_topic w t (after_releases (has_room w) (length ps) x)
+release_steps : (w : World) (t : Topic) (ps : List Pending) (x : TopicState) → t.0 < length w.topics → run (map (λ p. Releases t) ps) (with_topic w t x) ≡ with_topic w t (after_releases (queue_has_room w) (length ps) x)
 release_steps w t [] x room = refl
 release_steps w t (p ∷ ps) x room =
     ap (run (map (λ q. Releases t) ps)) (release_step w t x room)
-    ∙ release_steps w t ps (after_release (has_room w) x) room
+    ∙ release_steps w t ps (after_release (queue_has_room w) x) room
 
 -- ---- the whole turn
 
@@ -108,11 +108,11 @@ run_append (e ∷ es) fs w = run_append es fs (world_after w e)
 abbrev steps_of : Topic → List Pending → List Move
 steps_of t ps = map (λ p. Learns t p.part.id) ps ++ map (λ p. Releases t) ps
 
-turn_within : (w : World) (t : Topic) → t.0 < length w.topics → with_topic w t (after_turn (has_room w) (verdict_in w) (topic_at w t)) ≡ run (steps_of t (topic_at w t).pending) w
+turn_within : (w : World) (t : Topic) → t.0 < length w.topics → with_topic w t (after_turn (queue_has_room w) (verdict_in w) (topic_at w t)) ≡ run (steps_of t (topic_at w t).pending) w
 turn_within w t room =
     let x = topic_at w t in let y = after_tries (verdict_in w) x.pending x in
     let learns = map (λ (p : Pending). Learns t p.part.id) x.pending in let releases = map (λ (p : Pending). Releases t) x.pending in
-    ap (λ (k : ℕ). with_topic w t (after_releases (has_room w) k y)) (all_length (verdict_in w) x.pending x)
+    ap (λ (k : ℕ). with_topic w t (after_releases (queue_has_room w) k y)) (all_length (verdict_in w) x.pending x)
     ∙ (sym (release_steps w t x.pending y room)
     ∙ (ap (run releases) (sym (learn_steps w t x.pending x room))
     ∙ (ap (λ (v : World). run releases (run learns v)) (unwritten w t) ∙ sym (run_append learns releases w))))
@@ -184,11 +184,11 @@ counts_rows x y h = sym (ap (λ (rows : List LogRow). length rows - length x.hel
 log_written : (w : World) (t : Topic) (x : TopicState) → is_topic w t ≡ true → log_at (with_topic w t x) t ≡ x.held
 log_written w t x e = ap (λ (z : TopicState). z.held) (is_read w t x (ltb-true t.0 (length w.topics) e))
 
-released_case : (w : World) (t u : Topic) (id : TxnId) (o : Option Pending) → is_topic w t ≡ true → release_answer t o ≡ Released u id → (u ≡ t) × (row : LogRow) × (row.id ≡ id) × (log_at (with_topic w t (after_release_if (has_room w) (topic_at w t) o)) t ≡ log_at w t ++ row ∷ [])
+released_case : (w : World) (t u : Topic) (id : TxnId) (o : Option Pending) → is_topic w t ≡ true → release_answer t o ≡ Released u id → (u ≡ t) × (row : LogRow) × (row.id ≡ id) × (log_at (with_topic w t (after_release_if (queue_has_room w) (topic_at w t) o)) t ≡ log_at w t ++ row ∷ [])
 released_case w t u id None room e = cc
 released_case w t u id (Some p) room e =
     let a : u ≡ t = cc in let b : p.part.id ≡ id = cc in
-    (a, row_of p, b, log_written w t (after_release_if (has_room w) (topic_at w t) (Some p)) room)
+    (a, row_of p, b, log_written w t (after_release_if (queue_has_room w) (topic_at w t) (Some p)) room)
 
 pub released_is_logged : Laws.ReleasedIsLogged
 released_is_logged w t u id =
@@ -198,7 +198,7 @@ released_is_logged w t u id =
 
 turned_here : (w : World) (t u : Topic) (count : ℕ) → is_topic w t ≡ true → move_answer w (Turns t) ≡ Turned u count → (u ≡ t) × (rows : List LogRow) × (length rows ≡ count) × (log_at (move_effect w (Turns t)) t ≡ log_at w t ++ rows)
 turned_here w t u count room e =
-    let x = topic_at w t in let y = after_turn (has_room w) (verdict_in w) x in let h = turned_longer (has_room w) (verdict_in w) x in
+    let x = topic_at w t in let y = after_turn (queue_has_room w) (verdict_in w) x in let h = turned_longer (queue_has_room w) (verdict_in w) x in
     let a : u ≡ t = cc in let b : length y.held - length x.held ≡ count = cc in
     (a, h.rows, counts_rows x y h ∙ b, log_written w t y room ∙ h.is)
 

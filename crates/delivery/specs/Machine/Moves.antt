@@ -355,8 +355,8 @@ learn_effect w t id None = w
 learn_effect w t id (Some v) = with_topic w t (after_learn id (decided_stamp v) (topic_at w t))
 
 -- the queue takes one more item: fewer than its capacity weren't handed on
-abbrev pub has_room : World → Entry → Bool
-has_room w e = nat_lt (length e.accepted - (subscription_at w e.number).taken) w.capacity
+abbrev pub queue_has_room : World → Entry → Bool
+queue_has_room w e = nat_lt (length e.accepted - (subscription_at w e.number).taken) w.capacity
 
 -- the verdict of this transaction in the core's table
 abbrev pub verdict_in : World → TxnId → Option Decision
@@ -390,8 +390,8 @@ move_effect w (Decides c) = decide_effect w c
 move_effect w (Withdraws c) = withdraw_effect w c
 move_effect w (Cancels c t) = cancel_effect w c t (find_leftover t (speaker w c).leftovers)
 move_effect w (Learns t id) = learn_effect w t id (find_verdict id w.verdicts)
-move_effect w (Releases t) = with_topic w t (after_release (has_room w) (topic_at w t))
-move_effect w (Turns t) = with_topic w t (after_turn (has_room w) (verdict_in w) (topic_at w t))
+move_effect w (Releases t) = with_topic w t (after_release (queue_has_room w) (topic_at w t))
+move_effect w (Turns t) = with_topic w t (after_turn (queue_has_room w) (verdict_in w) (topic_at w t))
 move_effect w (Takes s) = take_effect w s (slice_get (accepted_at w s) (subscription_at w s).taken)
 
 -- ---- what is answered
@@ -450,7 +450,7 @@ move_answer w (Withdraws c) = Withdrawn (undecided_at w c).txn.id c
 move_answer w (Cancels c t) = cancel_answer t (find_leftover t (speaker w c).leftovers)
 move_answer w (Learns t id) = Learnt id t
 move_answer w (Releases t) = release_answer t (due_part (topic_at w t))
-move_answer w (Turns t) = Turned t (turn_count (has_room w) (verdict_in w) (topic_at w t))
+move_answer w (Turns t) = Turned t (turn_count (queue_has_room w) (verdict_in w) (topic_at w t))
 move_answer w (Takes s) = take_answer w s (slice_get (accepted_at w s) (subscription_at w s).taken)
 
 -- ---- a step
