@@ -25,7 +25,7 @@ pub enum GateFault {
     #[error("54 BelowFloor: propose with the flight's floor")]
     BelowFloor,
     /// 55: there was no memory; gate and transaction are as they were.
-    #[error("55 NoMemory: there was no memory for the transaction")]
+    #[error("55 NoMemory: out of memory for the transaction; send it again, or a smaller one")]
     NoMemory,
 }
 

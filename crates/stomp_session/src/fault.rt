@@ -48,7 +48,7 @@ pub enum SessionFault {
     TooManySends,
     /// 72: there was no memory for a SUBSCRIBE, a BEGIN, a SEND, or a COMMIT of a transaction with SENDs; the frame had no
     /// effect, and the session is closed.
-    #[error("72 NoMemory: there was no memory for the frame; connect again")]
+    #[error("72 NoMemory: out of memory for the frame; connect again")]
     NoMemory,
     /// 73: the session is closed.
     #[error("73 Closed: the session has ended; connect again")]
