@@ -74,35 +74,69 @@ fn at_each_limit(rt: HostRuntime) -> Result<(), Fail> {
     Ok(())
 }
 
+/// What a frame has one too many of.
+#[derive(Clone, Copy)]
+enum Excess {
+    /// The octets of a line that ends.
+    Line,
+    /// The octets of a line that doesn't end.
+    OpenLine,
+    Headers,
+    /// The octets of a body up to NULL.
+    Body,
+    /// The octets that the content-length says.
+    Length,
+}
+
+/// Appends `len` letters.
+fn put_letters(len: usize, out: &mut Vec<u8>) -> Result<(), AllocError> {
+    for _ in 0..len {
+        out.push(b'a')?;
+    }
+    Ok(())
+}
+
+/// Appends the front of a frame up to what is too much.
+fn put_excess(alloc: Global, excess: Excess, out: &mut Vec<u8>) -> Result<(), AllocError> {
+    out.extend_from_slice(b"SEND\n")?;
+    match excess {
+        Excess::Line => {
+            out.push(b'a')?;
+            put_long_line(out)
+        }
+        Excess::OpenLine => put_letters(4098, out),
+        Excess::Headers => put_headers(alloc, 65, out),
+        Excess::Body => {
+            out.push(b'\n')?;
+            put_letters(BODY + 1, out)
+        }
+        Excess::Length => out.extend_from_slice(b"content-length:1048577\n\n"),
+    }
+}
+
+/// Whether a whole frame is relayed, and then this excess is answered by this ERROR.
+fn refuses(alloc: Global, excess: Excess, error: &[u8]) -> Result<bool, AllocError> {
+    let mut input = Vec::from_slice(alloc, HELLO)?;
+    put_excess(alloc, excess, &mut input)?;
+    let mut output = Vec::from_slice(alloc, HELLO_MESSAGE)?;
+    output.extend_from_slice(error)?;
+    relays(alloc, input.as_slice(), output.as_slice(), 2)
+}
+
 /// A frame one past a limit is 8, 9 or 10. The messages before it are written.
 #[test]
 fn past_each_limit(rt: HostRuntime) -> Result<(), Fail> {
-    let alloc = rt.alloc();
-    let mut line = Vec::from_slice(alloc, b"SEND\ndestination:A\na")?;
-    put_long_line(&mut line)?;
-    let mut endless = Vec::from_slice(alloc, b"SEND\n")?;
-    endless.resize(5 + 4098, b'a')?;
-    let mut headers = Vec::from_slice(alloc, b"SEND\n")?;
-    put_headers(alloc, 65, &mut headers)?;
-    let mut body = Vec::from_slice(alloc, b"SEND\ndestination:A\n\n")?;
-    body.resize(20 + BODY + 1, b'a')?;
-    let counted = b"SEND\ndestination:A\ncontent-length:1048577\n\n".as_slice();
-    for (frame, title) in [
-        (line.as_slice(), "8 LineTooLong"),
-        (endless.as_slice(), "8 LineTooLong"),
-        (headers.as_slice(), "9 TooManyHeaders"),
-        (body.as_slice(), "10 BodyTooLong"),
-        (counted, "10 BodyTooLong"),
+    let line = b"ERROR\nmessage:8 LineTooLong\ncontent-length:0\n\n\0".as_slice();
+    let headers = b"ERROR\nmessage:9 TooManyHeaders\ncontent-length:0\n\n\0".as_slice();
+    let body = b"ERROR\nmessage:10 BodyTooLong\ncontent-length:0\n\n\0".as_slice();
+    for (excess, error) in [
+        (Excess::Line, line),
+        (Excess::OpenLine, line),
+        (Excess::Headers, headers),
+        (Excess::Body, body),
+        (Excess::Length, body),
     ] {
-        let mut input = Vec::from_slice(alloc, HELLO)?;
-        input.extend_from_slice(frame)?;
-        let mut output = Vec::from_slice(alloc, HELLO_MESSAGE)?;
-        let error = format!(in alloc; "ERROR\nmessage:{title}\ncontent-length:0\n\n\0")?;
-        output.extend_from_slice(error.as_bytes())?;
-        assert!(rt;
-            relays(alloc, input.as_slice(), output.as_slice(), 2)?,
-            "{title}"
-        );
+        assert!(rt; refuses(rt.alloc(), excess, error)?);
     }
     Ok(())
 }
