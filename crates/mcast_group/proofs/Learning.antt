@@ -202,7 +202,8 @@ each_held (t ∷ ts) g =
 
 pub turn_holds : (may : Shown → Bool → Type 0) (finds : TopicPart → Option Decision → Type 0) (g new : GroupState) → Turns may finds g new → length g.topic.held ≤ length new.topic.held
 turn_holds may finds g new t =
-    let a : length (after_tries t.0 g.topic.pending g.topic).held ≡ length g.topic.held = ap (λ (z : List LogRow). length z) (tried_all_held t.0 g.topic.pending g.topic) in
-    let b = each_held t.2.0 (group_after_tries t.0 g) in
-    let c : length new.topic.held ≡ length (group_after_releases t.2.0 (group_after_tries t.0 g)).topic.held = ap (λ (z : GroupState). length z.topic.held) t.2.3 in
+    let r = t.releases in
+    let a : length (after_tries t.find g.topic.pending g.topic).held ≡ length g.topic.held = ap (λ (z : List LogRow). length z) (tried_all_held t.find g.topic.pending g.topic) in
+    let b = each_held r.0 (group_after_tries t.find g) in
+    let c : length new.topic.held ≡ length (group_after_releases r.0 (group_after_tries t.find g)).topic.held = ap (λ (z : GroupState). length z.topic.held) r.3 in
     omega arith

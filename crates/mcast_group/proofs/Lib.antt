@@ -13,5 +13,6 @@ pub mod Learning
 pub mod Subscribing
 pub mod Entering
 pub mod Counting
+pub mod TurnEmpties
 pub mod Turns
 pub mod Rows

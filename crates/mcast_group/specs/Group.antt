@@ -1,5 +1,5 @@
 -- What a topic's group shows, and what its calls answer.
-use Rattle.std.specs.Prelude.{◌≡◌, ℕ, ◌==◌, Bool, List, [], ◌∷◌, ◌++◌, length, Option, Some, None, Result, Ok, Err, if◌then◌else◌}
+use Rattle.std.specs.Prelude.{◌≡◌, ℕ, ◌==◌, Bool, List, [], ◌∷◌, ◌++◌, length, Option, Some, None, Result, Ok, Err, IfSome, if◌then◌else◌}
 use Rattle.std.specs.List.{position}
 use Rattle.mcast_txn.specs.declared.id.Topic.{Topic}
 use Rattle.mcast_txn.specs.declared.id.TxnId.{TxnId}
@@ -13,7 +13,9 @@ use Rattle.sub_queue.specs.Shown.{Shown, Room}
 use Rattle.mcast_group.specs.declared.cause.Cause.{Cause}
 use Rattle.mcast_group.specs.declared.fault.ProposeFault.{ProposeFault}
 use Rattle.mcast_group.specs.declared.fault.SubFault.{SubFault}
+use Rattle.mcast_group.specs.Fitting.{Fits}
 use Rattle.mcast_group.specs.Machine.{TopicState, Pending, Entry, propose_fault, insert_pending, decided_stamp}
+use Rattle.mcast_group.specs.Machine.{HasOneRowEach}
 use Rattle.mcast_group.specs.Machine.{learn_fault, after_try, after_tries, due_part, after_release, entry_after}
 use Rattle.mcast_group.specs.Machine.{find_entry, end_of, after_subscribe, after_unsubscribe}
 
@@ -97,6 +99,10 @@ group_after_tries find g = record g { topic = after_tries find g.topic.pending g
 abbrev pub AreFound : (TopicPart → Option Decision → Type 0) → (TxnId → Option Decision) → List Pending → Type 0
 AreFound finds find ps = (p : Pending) → In p ps → finds p.part (find p.part.id)
 
+-- something may be found, and where it is a verdict, that has one row for a topic
+abbrev pub MayBeFound : (TopicPart → Option Decision → Type 0) → TopicPart → Option Decision → Type 0
+MayBeFound finds part found = finds part found × IfSome found HasOneRowEach
+
 -- a part tries to learn something that may be found for it
 abbrev pub Tries : (TopicPart → Option Decision → Type 0) → Pending → GroupState → GroupState → Type 0
 Tries finds p g new =
@@ -107,11 +113,16 @@ abbrev pub TriesAll : (TopicPart → Option Decision → Type 0) → GroupState 
 TriesAll finds g new =
     (find : TxnId → Option Decision) × AreFound finds find g.topic.pending × (new ≡ group_after_tries find g)
 
--- a turn: what may be found for each pending part, and some answers that the outlets may give
-abbrev pub Turns : (Shown → Bool → Type 0) → (TopicPart → Option Decision → Type 0) → GroupState → GroupState → Type 0
-Turns may finds g new =
-    (find : TxnId → Option Decision) × AreFound finds find g.topic.pending
-    × ReleasesAll may (group_after_tries find g) new
+-- A turn.
+-- find, found: what it finds for each pending part, which may be found for it.
+-- releases: each part tries to learn that, and then what is due is released, with some answers of the outlets.
+-- none_pending: where the verdicts that were found fit the topic as it was, no part is pending after it.
+pub record Turns (may : Shown → Bool → Type 0) (finds : TopicPart → Option Decision → Type 0)
+    (g new : GroupState) : Type 0 where
+  pub find : TxnId → Option Decision
+  pub found : AreFound finds find g.topic.pending
+  pub releases : ReleasesAll may (group_after_tries find g) new
+  pub none_pending : Fits find g.topic → new.topic.pending ≡ []
 
 -- The part at this index may learn this stamp.
 -- is: the stamp is that of a verdict.

@@ -4,17 +4,19 @@ ghost use Rattle.std.specs.Prelude.{◌≡◌, ℕ, ◌+◌, ◌-◌, ◌<◌, �
 ghost use Rattle.std.specs.Arc.{arc_value};
 ghost use Rattle.std.specs.Option.{option_map};
 ghost use Rattle.mcast_txn.specs.Part.{data_of};
-ghost use Rattle.mcast_group.specs.Group.{CanLearn, GroupState, Releases, ReleasesAll, Tries, TriesAll, Turns, AreFound, group_after_release, result_of, after_enter, propose_refusal, Leaves, sub_refusal, group_after_subscribe, group_after_unsubscribe};
+ghost use Rattle.mcast_group.specs.Group.{CanLearn, MayBeFound, GroupState, Releases, ReleasesAll, Tries, TriesAll, Turns, AreFound, group_after_release, result_of, after_enter, propose_refusal, Leaves, sub_refusal, group_after_subscribe, group_after_unsubscribe};
 ghost use Rattle.mcast_txn.specs.declared.id.TxnId.{TxnId};
 ghost use Rattle.mcast_txn.specs.Ballot.{Decision};
 ghost use Rattle.mcast_group.specs.Counted.{takes_of};
 ghost use Rattle.mcast_group.specs.Copies.{AreOf, HaveCopies};
+ghost use Rattle.mcast_group.specs.Fitting.{Fits};
 ghost use Rattle.mcast_group.specs.Kept.{entry_of};
 ghost use Rattle.mcast_group.specs.Machine.{Pending, cancel_fault, after_cancel, after_turn, decided_stamp, due_part, key, learn_fault, after_learn, new_topic, insert_pending, next_number, propose_fault, after_propose, subscribe_fault, unsubscribe_fault};
 
 use crate::copies::{Copies, add_to_each};
 use crate::ended::Ended;
 use crate::fault::{CancelFault, LearnFault, NoSub, ProposeFault, SubFault};
+use crate::law::has_one_row_each;
 use crate::pending::{PendingPart, least_index, index_for, index_of, index_to_learn};
 use crate::row::Row;
 use crate::subscription::{Subscription, give_all, index_of_sub, reserve_each};
@@ -300,7 +302,7 @@ impl<Q: Outlet + Drop> Group<Q> {
 
     // Learns once for each pending part, by rising id, the verdict that is found, if it isn't refused.
     fn try_all<V: Verdicts>(&mut self, verdicts: &V)
-        ensures { TriesAll (V.finds verdicts.now) self.old self.new }
+        ensures { TriesAll (MayBeFound (V.finds verdicts.now)) self.old self.new }
     {
         for index in 0..self.pending.len() {
             self.try_to_learn(index, verdicts);
@@ -310,13 +312,14 @@ impl<Q: Outlet + Drop> Group<Q> {
     // Learns for the part at a index the verdict that is found, if it isn't refused.
     fn try_to_learn<V: Verdicts>(&mut self, index: usize, verdicts: &V)
         requires { index < length self.old.topic.pending }
-        ensures { (d : Pending) → Tries (V.finds verdicts.now) (slice_index_or self.old.topic.pending index d) self.old self.new }
+        ensures { (d : Pending) → Tries (MayBeFound (V.finds verdicts.now)) (slice_index_or self.old.topic.pending index d) self.old self.new }
     {
         let part = self.pending[index].part();
         let id = part.id;
         let Some(found) = verdicts.find(part) else {
             return;
         };
+        has_one_row_each(found.verdict);
         let Ok(at) = index_to_learn(&self.pending, id, found.verdict) else {
             return;
         };
@@ -354,7 +357,8 @@ impl Group<VecOutlet> {
     /// `turn` where each outlet counts what was taken: the machine's own, with what was found.
     pub fn turn_counted<V: Verdicts>(&mut self, verdicts: &V) -> u64
         ensures turned { (find : TxnId → Option Decision) × AreFound (V.finds verdicts.now) find self.old.topic.pending
-            × (self.new ≡ record self.old { topic = after_turn (takes_of self.old) find self.old.topic }) }
+            × (self.new ≡ record self.old { topic = after_turn (takes_of self.old) find self.old.topic })
+            × (Fits find self.old.topic → self.new.topic.pending ≡ []) }
         ensures count { result ≡ length self.new.topic.held - length self.old.topic.held }
     {
         let _ = &self.subscriptions;

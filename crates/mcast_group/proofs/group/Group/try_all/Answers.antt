@@ -2,7 +2,7 @@ use Rattle.std.proofs.Common.{◌≡◌, ◌<◌, ◌++◌, ◌∷◌, [], ℕ, 
 use Rattle.std.proofs.lemmas.List.{length_push}
 use Rattle.mcast_txn.specs.Transaction.{TopicPart}
 use Rattle.mcast_group.specs.Sound.{RisesById}
-use Rattle.mcast_group.specs.Group.{GroupState}
+use Rattle.mcast_group.specs.Group.{GroupState, MayBeFound}
 use Rattle.mcast_group.specs.Machine.{TopicState, after_try}
 use Rattle.mcast_group.proofs.Turns.{some_part}
 use Rattle.mcast_group.proofs.Learning.{parts, parts_length, part_at, same_parts, tried_each, tried_push, found_push, all_tried}
@@ -34,7 +34,7 @@ loop-index-preserved g c =
       found = inv.found ++ t.0 ∷ [];
       many = length_push inv.found t.0 ∙ ap (λ (k : ℕ). k + 1) inv.many;
       same = ap (λ (z : GroupState). parts z.topic.pending) t.2 ∙ (same_parts (get_or x.pending i some_part).part.id t.0 x ∙ inv.same);
-      each = found_push (g.V.Verdicts.finds c.args.verdicts.now) inv.found t.0 old.pending i some_part inv.many within inv.each (subst (λ (z : TopicPart). g.V.Verdicts.finds c.args.verdicts.now z t.0) here t.1);
+      each = found_push (MayBeFound (g.V.Verdicts.finds c.args.verdicts.now)) inv.found t.0 old.pending i some_part inv.many within inv.each (subst (λ (z : TopicPart). MayBeFound (g.V.Verdicts.finds c.args.verdicts.now) z t.0) here t.1);
       is = t.2
           ∙ (ap (λ (z : GroupState). record { topic = after_try (get_or x.pending i some_part).part.id t.0 z.topic; rooms = z.rooms }) inv.is
           ∙ ap (λ (z : TopicState). record { topic = z; rooms = c.args.self.now.rooms })
@@ -48,5 +48,5 @@ returns g c =
     let n = c.self.inside.pending.ok.0 in
     let l = ap (λ (z : GroupState). length z.topic.pending) c.self.view_is in
     let e = inv.many in
-    all_tried (g.V.Verdicts.finds c.args.verdicts.now) inv.found old c.loop-index.self
+    all_tried (MayBeFound (g.V.Verdicts.finds c.args.verdicts.now)) inv.found old c.loop-index.self
     (subst (λ (z : GroupState). RisesById z.topic.pending) c.self.view_is c.self.invariant.sound.by_id) (omega arith) inv.each inv.is

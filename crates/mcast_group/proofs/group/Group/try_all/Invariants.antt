@@ -1,5 +1,6 @@
 use Rattle.std.proofs.Common.{◌≡◌, List, Option, length}
 use Rattle.mcast_txn.specs.Ballot.{Decision}
+use Rattle.mcast_group.specs.Group.{MayBeFound}
 use Rattle.mcast_group.proofs.Learning.{FoundEach, parts, tried_each}
 use Rattle.mcast_group.proofs.group.Group.try_all.Given as goal
 
@@ -9,6 +10,6 @@ invariant-loop-index g l = record {
   found : List (Option Decision);
   many : length found ≡ l.index;
   same : parts l.self.topic.pending ≡ parts l.fn.self.topic.pending;
-  each : FoundEach (g.V.Verdicts.finds l.verdicts) found l.fn.self.topic.pending;
+  each : FoundEach (MayBeFound (g.V.Verdicts.finds l.verdicts)) found l.fn.self.topic.pending;
   is : l.self ≡ record { topic = tried_each found l.fn.self.topic.pending l.fn.self.topic; rooms = l.fn.self.rooms };
 }

@@ -1,8 +1,8 @@
-use Rattle.std.proofs.Common.{◌≡◌, ◌<◌, ℕ, length, get_or, Some, None, ap, subst, ◌∙◌}
+use Rattle.std.proofs.Common.{◌≡◌, ◌<◌, ℕ, length, get_or, Option, Some, None, IfSome, ap, sym, subst, ◌∙◌}
 use Rattle.std.specs.Option.{option_map}
 use Rattle.mcast_txn.specs.Transaction.{TopicPart}
-use Rattle.mcast_group.specs.Group.{CanLearn, GroupState, Tries}
-use Rattle.mcast_group.specs.Machine.{Pending, learn_fault, after_learn}
+use Rattle.mcast_group.specs.Group.{CanLearn, GroupState, MayBeFound, Tries}
+use Rattle.mcast_group.specs.Machine.{HasOneRowEach, Pending, learn_fault, after_learn}
 use Rattle.mcast_group.specs.declared.verdicts.Found.{Found}
 use Rattle.mcast_txn.specs.declared.id.TxnId.{TxnId}
 use Rattle.std.proofs.lemmas.List.{get_or_default}
@@ -14,14 +14,15 @@ ap-lt l e = rw e l
 
 pub returns-in_default-index_to_learn : goal.returns-in_default-index_to_learn
 returns-in_default-index_to_learn g c = λ d.
-    let V = g.V.Verdicts.finds c.args.verdicts.now in
+    let V = MayBeFound (g.V.Verdicts.finds c.args.verdicts.now) in
     let s = c.self.inside in
     let p = c.index.result.now in
     let v = c.in-Some.found.verdict.now in
     let within : c.args.index < length s.pending.items = ap-lt c.requires (ap (λ (z : GroupState). length z.topic.pending) c.self.view_is) in
     let at : p ≡ get_or c.args.self.now.topic.pending c.args.index d =
     c.index.ensures ∙ (get_or_default s.pending.items c.args.index p d within ∙ ap (λ (z : GroupState). get_or z.topic.pending c.args.index d) c.self.view_is) in
-    let finds : V p.part (option_map (λ (f : Found). f.verdict.now) c.find.result) = subst (λ (z : TopicPart). V z (option_map (λ (f : Found). f.verdict.now) c.find.result)) c.part-part.ensures c.find.ensures in
+    let finds : V p.part (option_map (λ (f : Found). f.verdict.now) c.find.result) = subst (λ (z : TopicPart). V z (option_map (λ (f : Found). f.verdict.now) c.find.result)) c.part-part.ensures
+        (c.find.ensures, subst (λ (o : Option Found). IfSome (option_map (λ (f : Found). f.verdict.now) o) HasOneRowEach) (sym c.in-Some.is) c.has_one_row_each.ensures) in
     let is : option_map (λ (f : Found). f.verdict.now) c.find.result ≡ Some v = ap (option_map (λ (f : Found). f.verdict.now)) c.in-Some.is in
     let id : c.part-part.result.now.id ≡ p.part.id = ap (λ (z : TopicPart). z.id) c.part-part.ensures in
     let fault = rw c.deref.ensures.value at c.in_default-index_to_learn.ensures.fault in
@@ -39,14 +40,15 @@ store-requires g c =
 
 pub returns : goal.returns
 returns g c = λ d.
-    let V = g.V.Verdicts.finds c.args.verdicts.now in
+    let V = MayBeFound (g.V.Verdicts.finds c.args.verdicts.now) in
     let s = c.self.inside in
     let p = c.index.result.now in
     let v = c.in-Some.found.verdict.now in
     let within : c.args.index < length s.pending.items = ap-lt c.requires (ap (λ (z : GroupState). length z.topic.pending) c.self.view_is) in
     let at : p ≡ get_or c.args.self.now.topic.pending c.args.index d =
     c.index.ensures ∙ (get_or_default s.pending.items c.args.index p d within ∙ ap (λ (z : GroupState). get_or z.topic.pending c.args.index d) c.self.view_is) in
-    let finds : V p.part (option_map (λ (f : Found). f.verdict.now) c.find.result) = subst (λ (z : TopicPart). V z (option_map (λ (f : Found). f.verdict.now) c.find.result)) c.part-part.ensures c.find.ensures in
+    let finds : V p.part (option_map (λ (f : Found). f.verdict.now) c.find.result) = subst (λ (z : TopicPart). V z (option_map (λ (f : Found). f.verdict.now) c.find.result)) c.part-part.ensures
+        (c.find.ensures, subst (λ (o : Option Found). IfSome (option_map (λ (f : Found). f.verdict.now) o) HasOneRowEach) (sym c.in-Some.is) c.has_one_row_each.ensures) in
     let is : option_map (λ (f : Found). f.verdict.now) c.find.result ≡ Some v = ap (option_map (λ (f : Found). f.verdict.now)) c.in-Some.is in
     let id : c.part-part.result.now.id ≡ p.part.id = ap (λ (z : TopicPart). z.id) c.part-part.ensures in
     let learns = rw c.deref.ensures.value at c.in-Ok.ensures.learns in
