@@ -27,10 +27,12 @@ counted s b = b ≡ has_room s
 -- a release to outlets that count is the machine's, with this function
 abbrev pub CountedReleases : Type 0
 CountedReleases =
-    (g new : GroupState) → NumbersDiffer g.topic.subscriptions → Releases counted g new → new ≡ group_after_release (takes_of g) g
+    (g new : GroupState) → NumbersDiffer g.topic.subscriptions → Releases counted g new
+    → new ≡ group_after_release (takes_of g) g
 
 -- and so is a turn
 abbrev pub CountedTurns : Type 0
 CountedTurns =
-    (find : TxnId → Option Decision) (g new : GroupState) → NumbersDiffer g.topic.subscriptions → ReleasesAll counted (group_after_tries find g) new
+    (find : TxnId → Option Decision) (g new : GroupState) → NumbersDiffer g.topic.subscriptions
+    → ReleasesAll counted (group_after_tries find g) new
     → new ≡ record g { topic = after_turn (takes_of g) find g.topic }

@@ -1,4 +1,4 @@
--- What a group keeps.
+-- What a group keeps. It only serves proofs.
 use Rattle.std.specs.Prelude.{◌≡◌, ℕ, ◌+◌, ◌<◌, ◌≤◌, Bool, List, [], ◌∷◌, map, length, None}
 use Rattle.mcast_txn.specs.declared.stamp.Stamp.{Stamp}
 use Rattle.mcast_txn.specs.Lists.{In}
@@ -19,8 +19,14 @@ entry_of shown s = record { number = s.number; from = s.from; to = s.to; accepte
 abbrev pub room_of : {Q : Type 0} → (Q → Shown) → Subscription Q → Room
 room_of shown s = (shown s.outlet).room
 
--- the topic is sound; its log has room for a row of each pending part; subscriptions' numbers differ; the outlet of each open one has room for each pending part, and each pending part has a copy for each of them
-pub record IsKept {Q : Type 0} (spare : Q → ℕ) (x : TopicState) (capacity : ℕ) (copies : List (List TopicPart)) (subs : List (Subscription Q)) : Type 0 where
+-- What a group keeps.
+-- sound: the topic is sound.
+-- room: its log has room for a row of each pending part.
+-- differ: the subscriptions' numbers differ.
+-- spares: the outlet of each open subscription has spare for each pending part.
+-- copied: each pending part has a copy for each subscription.
+pub record IsKept {Q : Type 0} (spare : Q → ℕ) (x : TopicState) (capacity : ℕ)
+    (copies : List (List TopicPart)) (subs : List (Subscription Q)) : Type 0 where
   pub sound : IsSound x
   pub room : length x.held + length x.pending ≤ capacity
   pub differ : NumbersDiffer x.subscriptions
@@ -28,18 +34,21 @@ pub record IsKept {Q : Type 0} (spare : Q → ℕ) (x : TopicState) (capacity : 
   pub copied : HaveCopies (length subs) x.pending copies
 
 -- a subscription that is open has spare for an item of this stamp, which is above what it accepted
-pub record IsReady {Q : Type 0} (shown : Q → Shown) (spare : Q → ℕ) (stamp : Stamp) (s : Subscription Q) : Type 0 where
+pub record IsReady {Q : Type 0} (shown : Q → Shown) (spare : Q → ℕ) (stamp : Stamp)
+    (s : Subscription Q) : Type 0 where
   pub room : s.to ≡ None → 0 < spare s.outlet
   pub above : s.to ≡ None → IsAboveLast (shown s.outlet).accepted stamp
 
 -- these answers may come of the first of these subscriptions
-abbrev pub MayGive : {Q : Type 0} → (Q → Shown) → (Shown → Bool → Type 0) → List Bool → List (Subscription Q) → Type 0
+abbrev pub MayGive : {Q : Type 0} → (Q → Shown) → (Shown → Bool → Type 0) → List Bool → List (Subscription Q)
+    → Type 0
 MayGive shown may [] subs = Unit {0}
 MayGive shown may (b ∷ bs) [] = Prim.⊥
 MayGive shown may (b ∷ bs) (s ∷ subs) = (s.to ≡ None → may (shown s.outlet) b) × MayGive shown may bs subs
 
 -- an item was given to each, and each answered
-pub record Gave {Q : Type 0} (shown : Q → Shown) (may : Shown → Bool → Type 0) (frontier : Stamp) (item : Item) (old new : List (Subscription Q)) : Type 0 where
+pub record Gave {Q : Type 0} (shown : Q → Shown) (may : Shown → Bool → Type 0) (frontier : Stamp) (item : Item)
+    (old new : List (Subscription Q)) : Type 0 where
   pub answers : List Bool
   pub many : length answers ≡ length old
   pub answered : MayGive shown may answers old

@@ -40,7 +40,8 @@ impl Copies {
     {
         self.parts.pop()
     }
-    // So many copies of a part.
+
+    // `many` copies of a part.
     pub(crate) fn of(alloc: Global, part: &PendingPart, many: usize) -> Result<Copies, NoMemory>
         ensures many { IfOk result (λ copies. many ≤ length copies) }
         ensures of { IfOk result (λ copies. AreOf part.now.part copies) }

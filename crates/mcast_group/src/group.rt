@@ -17,7 +17,7 @@ use crate::copies::{Copies, add_to_each};
 use crate::ended::Ended;
 use crate::fault::{CancelFault, LearnFault, NoSub, ProposeFault, SubFault};
 use crate::law::has_one_row_each;
-use crate::pending::{PendingPart, least_index, index_for, index_of, index_to_learn};
+use crate::pending::{PendingPart, index_for, index_of, index_to_learn, least_index};
 use crate::row::Row;
 use crate::subscription::{Subscription, give_all, index_of_sub, reserve_each};
 use crate::verdicts::Verdicts;
@@ -327,7 +327,7 @@ impl<Q: Outlet + Drop> Group<Q> {
         self.store(id, at, stamp);
     }
 
-    // Writes a stamp that was judged.
+    // Writes a stamp that isn't refused.
     fn store(&mut self, id: TxnId, index: usize, stamp: Stamp)
         requires { CanLearn id index stamp self.old.topic }
         ensures { self.new ≡ record self.old { topic = after_learn id stamp self.old.topic } }

@@ -1,4 +1,4 @@
-//! Subscriptions of a topic.
+//! A subscription of a topic.
 
 ghost use Rattle.std.specs.Prelude.{◌≡◌, ℕ, ◌+◌, ◌<◌, ◌≤◌, ◌==◌, length, map, slice_index_or, None, OnOk};
 ghost use Rattle.std.specs.List.{position};
@@ -29,7 +29,7 @@ pub(crate) struct Subscription<Q> {
 impl<Q: Outlet + Drop> Subscription<Q> {
     ghost use Rattle.mcast_group.specs.Kept.{entry_of, room_of};
 
-    // What it leaves where the frontier is this.
+    // What it leaves at this frontier.
     pub(crate) fn end(self, frontier: Stamp) -> Ended<Q>
         ensures outlet { result.outlet ≡ self.outlet }
         ensures to { result.to ≡ (end_of frontier (entry_of Q.shown self)).to }
@@ -49,7 +49,7 @@ impl<Q: Outlet + Drop> Subscription<Q> {
         }
     }
 
-    // Makes room for so many items in an open outlet.
+    // Makes room for `more` items in an open outlet.
     fn reserve(&mut self, more: usize) -> Result<(), NoMemory>
         ensures entry { entry_of Q.shown self.new ≡ entry_of Q.shown self.old }
         ensures room { room_of Q.shown self.new ≡ room_of Q.shown self.old }
@@ -119,7 +119,7 @@ pub(crate) fn give_all<Q: Outlet + Drop>(
     }
 }
 
-// Makes room for so many items in the outlet of each open subscription; no spare falls.
+// Makes room for `more` items in the outlet of each open subscription; no spare falls.
 pub(crate) fn reserve_each<Q: Outlet + Drop>(
     subs: &mut [Subscription<Q>],
     more: usize,

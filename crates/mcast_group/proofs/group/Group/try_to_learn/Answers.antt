@@ -22,7 +22,7 @@ returns-in_default-index_to_learn g c = λ d.
     let at : p ≡ get_or c.args.self.now.topic.pending c.args.index d =
     c.index.ensures ∙ (get_or_default s.pending.items c.args.index p d within ∙ ap (λ (z : GroupState). get_or z.topic.pending c.args.index d) c.self.view_is) in
     let finds : V p.part (option_map (λ (f : Found). f.verdict.now) c.find.result) = subst (λ (z : TopicPart). V z (option_map (λ (f : Found). f.verdict.now) c.find.result)) c.part-part.ensures
-        (c.find.ensures, subst (λ (o : Option Found). IfSome (option_map (λ (f : Found). f.verdict.now) o) HasOneRowEach) (sym c.in-Some.is) c.has_one_row_each.ensures) in
+    (c.find.ensures, subst (λ (o : Option Found). IfSome (option_map (λ (f : Found). f.verdict.now) o) HasOneRowEach) (sym c.in-Some.is) c.has_one_row_each.ensures) in
     let is : option_map (λ (f : Found). f.verdict.now) c.find.result ≡ Some v = ap (option_map (λ (f : Found). f.verdict.now)) c.in-Some.is in
     let id : c.part-part.result.now.id ≡ p.part.id = ap (λ (z : TopicPart). z.id) c.part-part.ensures in
     let fault = rw c.deref.ensures.value at c.in_default-index_to_learn.ensures.fault in
@@ -48,7 +48,7 @@ returns g c = λ d.
     let at : p ≡ get_or c.args.self.now.topic.pending c.args.index d =
     c.index.ensures ∙ (get_or_default s.pending.items c.args.index p d within ∙ ap (λ (z : GroupState). get_or z.topic.pending c.args.index d) c.self.view_is) in
     let finds : V p.part (option_map (λ (f : Found). f.verdict.now) c.find.result) = subst (λ (z : TopicPart). V z (option_map (λ (f : Found). f.verdict.now) c.find.result)) c.part-part.ensures
-        (c.find.ensures, subst (λ (o : Option Found). IfSome (option_map (λ (f : Found). f.verdict.now) o) HasOneRowEach) (sym c.in-Some.is) c.has_one_row_each.ensures) in
+    (c.find.ensures, subst (λ (o : Option Found). IfSome (option_map (λ (f : Found). f.verdict.now) o) HasOneRowEach) (sym c.in-Some.is) c.has_one_row_each.ensures) in
     let is : option_map (λ (f : Found). f.verdict.now) c.find.result ≡ Some v = ap (option_map (λ (f : Found). f.verdict.now)) c.in-Some.is in
     let id : c.part-part.result.now.id ≡ p.part.id = ap (λ (z : TopicPart). z.id) c.part-part.ensures in
     let learns = rw c.deref.ensures.value at c.in-Ok.ensures.learns in
