@@ -6,5 +6,13 @@ pub mod Keeping
 pub mod Turning
 pub mod Allowed
 pub mod Groups
+pub mod Giving
+pub mod Copying
+pub mod Releasing
+pub mod Learning
+pub mod Subscribing
+pub mod Entering
+pub mod Counting
+pub mod TurnEmpties
 pub mod Turns
 pub mod Rows

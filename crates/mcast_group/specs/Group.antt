@@ -1,31 +1,192 @@
--- What a topic's group stores, and what its calls answer.
-use Rattle.std.specs.Prelude.{ℕ, ◌+◌, ◌≤◌, List, [], length, Option, Some, None, Result, Ok, Err}
+-- What a topic's group shows, and what its calls answer.
+use Rattle.std.specs.Prelude.{◌≡◌, ℕ, ◌==◌, Bool, List, [], ◌∷◌, ◌++◌, length, Option, Some, None, Result, Ok, Err, IfSome, if◌then◌else◌}
+use Rattle.std.specs.List.{position}
 use Rattle.mcast_txn.specs.declared.id.Topic.{Topic}
+use Rattle.mcast_txn.specs.declared.id.TxnId.{TxnId}
 use Rattle.mcast_txn.specs.declared.stamp.Stamp.{Stamp}
-use Rattle.mcast_txn.specs.Stamp.{zero_stamp}
+use Rattle.mcast_txn.specs.Ballot.{Decision}
+use Rattle.mcast_txn.specs.Ids.{same_id}
+use Rattle.mcast_txn.specs.Lists.{In}
+use Rattle.mcast_txn.specs.Span.{LogRow, Item}
 use Rattle.mcast_txn.specs.Transaction.{TopicPart}
+use Rattle.sub_queue.specs.Shown.{Shown, Room}
+use Rattle.mcast_group.specs.declared.cause.Cause.{Cause}
 use Rattle.mcast_group.specs.declared.fault.ProposeFault.{ProposeFault}
-use Rattle.mcast_txn.specs.Span.{LogRow}
-use Rattle.mcast_group.specs.Sound.{IsSound}
-use Rattle.mcast_group.specs.Machine.{TopicState, Pending, propose_fault}
+use Rattle.mcast_group.specs.declared.fault.SubFault.{SubFault}
+use Rattle.mcast_group.specs.Fitting.{Fits}
+use Rattle.mcast_group.specs.Machine.{TopicState, Pending, Entry, propose_fault, insert_pending, decided_stamp}
+use Rattle.mcast_group.specs.Machine.{HasOneRowEach}
+use Rattle.mcast_group.specs.Machine.{learn_fault, after_try, after_tries, due_part, after_release, entry_after}
+use Rattle.mcast_group.specs.Machine.{find_entry, end_of, after_subscribe, after_unsubscribe}
 
--- a topic without subscriptions, of whose rows none was drained
-abbrev pub group_state : Topic → ℕ → ℕ → List Pending → List LogRow → Stamp → TopicState
-group_state topic clock log_limit pending rows frontier = record {
+-- a topic, and for each of its subscriptions, in their order, the room that its outlet shows
+pub record GroupState : Type 0 where
+  pub topic : TopicState
+  pub rooms : List Room
+
+-- a topic, field by field
+abbrev pub topic_state : Topic → ℕ → ℕ → List Pending → Stamp → List LogRow → Stamp → List Entry → TopicState
+topic_state topic clock log_limit pending base rows frontier subscriptions = record {
   topic = topic;
   clock = clock;
   log_limit = log_limit;
   pending = pending;
-  base = zero_stamp;
+  base = base;
   held = rows;
   frontier = frontier;
-  subscriptions = [];
+  subscriptions = subscriptions;
 }
 
--- the topic is sound, and its log has room for a row of each pending part
-pub record IsGroup (x : TopicState) (capacity : ℕ) : Type 0 where
-  pub sound : IsSound x
-  pub room : length x.held + length x.pending ≤ capacity
+-- what a subscription's outlet shows
+abbrev pub shows : Entry → Room → Shown
+shows e room = record { accepted = e.accepted; room = room }
+
+-- ---- release
+
+-- each open subscription's outlet may answer a push as `takes` says
+abbrev pub MayAnswer : (Shown → Bool → Type 0) → (Entry → Bool) → List Entry → List Room → Type 0
+MayAnswer may takes [] rooms = Unit {0}
+MayAnswer may takes (e ∷ es) [] = Prim.⊥
+MayAnswer may takes (e ∷ es) (r ∷ rooms) =
+    (e.to ≡ None → may (shows e r) (takes e)) × MayAnswer may takes es rooms
+
+-- the same of a whole group
+abbrev pub Answers : (Shown → Bool → Type 0) → (Entry → Bool) → GroupState → Type 0
+Answers may takes g = MayAnswer may takes g.topic.subscriptions g.rooms
+
+-- each entry after an item was due to it, where its outlet answered as the list says
+abbrev pub entries_after : Stamp → Item → List Bool → List Entry → List Entry
+entries_after frontier item [] es = es
+entries_after frontier item (b ∷ bs) [] = []
+entries_after frontier item (b ∷ bs) (e ∷ es) =
+    entry_after (λ _. b) frontier item e ∷ entries_after frontier item bs es
+
+-- the release of a group
+abbrev pub group_after_release : (Entry → Bool) → GroupState → GroupState
+group_after_release takes g = record g { topic = after_release takes g.topic }
+
+-- A release: the machine's, with some answers that the outlets may give.
+abbrev pub Releases : (Shown → Bool → Type 0) → GroupState → GroupState → Type 0
+Releases may g new =
+    (takes : Entry → Bool) × ((p : Pending) → due_part g.topic ≡ Some p → Answers may takes g)
+    × (new ≡ group_after_release takes g)
+
+-- one release for each of these answers
+abbrev pub group_after_releases : List (Entry → Bool) → GroupState → GroupState
+group_after_releases [] g = g
+group_after_releases (takes ∷ more) g = group_after_releases more (group_after_release takes g)
+
+-- each of these answers may be given at its release
+abbrev pub AnswersEach : (Shown → Bool → Type 0) → List (Entry → Bool) → GroupState → Type 0
+AnswersEach may [] g = Unit {0}
+AnswersEach may (takes ∷ more) g =
+    ((p : Pending) → due_part g.topic ≡ Some p → Answers may takes g)
+    × AnswersEach may more (group_after_release takes g)
+
+-- As many releases as parts are pending, each with some answers that the outlets may give.
+abbrev pub ReleasesAll : (Shown → Bool → Type 0) → GroupState → GroupState → Type 0
+ReleasesAll may g new =
+    (answers : List (Entry → Bool)) × (length answers ≡ length g.topic.pending) × AnswersEach may answers g
+    × (new ≡ group_after_releases answers g)
+
+-- ---- turn
+
+-- a group after each pending part tried to learn what was found for it
+abbrev pub group_after_tries : (TxnId → Option Decision) → GroupState → GroupState
+group_after_tries find g = record g { topic = after_tries find g.topic.pending g.topic }
+
+-- what `find` gives for each of these parts may be found for it
+abbrev pub AreFound : (TopicPart → Option Decision → Type 0) → (TxnId → Option Decision) → List Pending → Type 0
+AreFound finds find ps = (p : Pending) → In p ps → finds p.part (find p.part.id)
+
+-- something may be found, and where it is a verdict, that has one row for a topic
+abbrev pub MayBeFound : (TopicPart → Option Decision → Type 0) → TopicPart → Option Decision → Type 0
+MayBeFound finds part found = finds part found × IfSome found HasOneRowEach
+
+-- a part tries to learn something that may be found for it
+abbrev pub Tries : (TopicPart → Option Decision → Type 0) → Pending → GroupState → GroupState → Type 0
+Tries finds p g new =
+    (found : Option Decision) × finds p.part found × (new ≡ record g { topic = after_try p.part.id found g.topic })
+
+-- each pending part tries to learn something that may be found for it
+abbrev pub TriesAll : (TopicPart → Option Decision → Type 0) → GroupState → GroupState → Type 0
+TriesAll finds g new =
+    (find : TxnId → Option Decision) × AreFound finds find g.topic.pending × (new ≡ group_after_tries find g)
+
+-- A turn.
+-- find, found: what it finds for each pending part, which may be found for it.
+-- releases: each part tries to learn that, and then what is due is released, with some answers of the outlets.
+-- none_pending: where the verdicts that were found fit the topic as it was, no part is pending after it.
+pub record Turns (may : Shown → Bool → Type 0) (finds : TopicPart → Option Decision → Type 0)
+    (g new : GroupState) : Type 0 where
+  pub find : TxnId → Option Decision
+  pub found : AreFound finds find g.topic.pending
+  pub releases : ReleasesAll may (group_after_tries find g) new
+  pub none_pending : Fits find g.topic → new.topic.pending ≡ []
+
+-- The part at this index may learn this stamp.
+-- is: the stamp is that of a verdict.
+-- allowed: the verdict isn't refused.
+-- at: the transaction's part has this index.
+pub record CanLearn (id : TxnId) (index : ℕ) (stamp : Stamp) (x : TopicState) : Type 0 where
+  pub verdict : Decision
+  pub is : stamp ≡ decided_stamp verdict
+  pub allowed : learn_fault id verdict x ≡ None
+  pub at : position (λ (p : Pending). same_id p.part.id id) x.pending ≡ Some index
+
+-- ---- subscriptions
+
+-- the room of the subscription of this number
+abbrev pub room_at : ℕ → List Entry → List Room → Option Room
+room_at number [] rooms = None
+room_at number (e ∷ es) [] = None
+room_at number (e ∷ es) (r ∷ rooms) = if number == e.number then Some r else room_at number es rooms
+
+-- a new subscription, whose outlet shows this room
+abbrev pub group_after_subscribe : ℕ → Room → GroupState → GroupState
+group_after_subscribe number room g =
+    record { topic = after_subscribe number g.topic; rooms = g.rooms ++ room ∷ [] }
+
+-- why a subscription is refused: its number is in use, or else out of memory
+abbrev pub sub_refusal : Option SubFault → SubFault
+sub_refusal None = SubFault.NoMemory
+sub_refusal (Some fault) = fault
+
+-- the rooms but that of this number
+abbrev pub rooms_without : ℕ → List Entry → List Room → List Room
+rooms_without number [] rooms = rooms
+rooms_without number (e ∷ es) [] = []
+rooms_without number (e ∷ es) (r ∷ rooms) =
+    if e.number == number then rooms else r ∷ rooms_without number es rooms
+
+-- the subscription of this number is dropped
+abbrev pub group_after_unsubscribe : ℕ → GroupState → GroupState
+group_after_unsubscribe number g = record {
+  topic = after_unsubscribe number g.topic;
+  rooms = rooms_without number g.topic.subscriptions g.rooms;
+}
+
+-- What the subscription of this number leaves.
+-- found, roomed: it has this entry and this room.
+-- shows_it: its outlet shows what it showed.
+-- end, why: its end and its cause are the machine's.
+pub record Leaves (number : ℕ) (g : GroupState) (shown : Shown) (to : Stamp) (cause : Cause) : Type 0 where
+  pub entry : Entry
+  pub room : Room
+  pub found : find_entry number g.topic.subscriptions ≡ Some entry
+  pub roomed : room_at number g.topic.subscriptions g.rooms ≡ Some room
+  pub shows_it : shown ≡ shows entry room
+  pub end : to ≡ (end_of g.topic.frontier entry).to
+  pub why : cause ≡ (end_of g.topic.frontier entry).cause
+
+-- ---- propose
+
+-- a part is pending with this number, which is now the clock's
+abbrev pub after_enter : ℕ → TopicPart → TopicState → TopicState
+after_enter n part x = record x {
+  clock = n;
+  pending = insert_pending (record { part = part; number = n; learnt = None }) x.pending;
+}
 
 -- a call is refused where there is a fault
 abbrev pub result_of : {F : Type 0} → Option F → Result Unit F

@@ -2,5 +2,8 @@ pub mod Machine
 pub mod Sound
 pub mod Fitting
 pub mod Group
+pub mod Copies
+pub mod Kept
+pub mod Counted
 pub mod Laws
 pub mod Faults

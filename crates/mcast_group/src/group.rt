@@ -1,125 +1,199 @@
 //! A topic of the multicast.
 
-ghost use Rattle.std.specs.Prelude.{◌≡◌, Bool, ◌+◌, ◌<◌, ◌≤◌, List, [], length, slice_get, slice_index_or, vec_capacity, Some, None, IfOk, IfErr, OnOk, OnErr};
+ghost use Rattle.std.specs.Prelude.{◌≡◌, ℕ, ◌+◌, ◌-◌, ◌<◌, ◌≤◌, Bool, [], List, length, slice_get, slice_index_or, Option, Some, None, OnOk, OnErr, IfOk, IfErr, vec_len, vec_capacity};
 ghost use Rattle.std.specs.Arc.{arc_value};
 ghost use Rattle.std.specs.Option.{option_map};
 ghost use Rattle.mcast_txn.specs.Part.{data_of};
+ghost use Rattle.mcast_group.specs.Group.{CanLearn, MayBeFound, GroupState, Releases, ReleasesAll, Tries, TriesAll, Turns, AreFound, group_after_release, result_of, after_enter, propose_refusal, Leaves, sub_refusal, group_after_subscribe, group_after_unsubscribe};
+ghost use Rattle.mcast_txn.specs.declared.id.TxnId.{TxnId};
 ghost use Rattle.mcast_txn.specs.Ballot.{Decision};
-ghost use Rattle.mcast_group.specs.Fitting.{Fits, FoundHaveOneRowEach};
-ghost use Rattle.mcast_group.specs.Group.{result_of, propose_refusal};
-ghost use Rattle.mcast_group.specs.Machine.{Entry, HasOneRowEach, Pending, cancel_fault, after_cancel, decided_stamp, due_part, insert_pending, key, learn_fault, after_learn, new_topic, next_number, propose_fault, after_propose, after_release, after_releases, after_try, after_tries, turn_count, after_turn};
+ghost use Rattle.mcast_group.specs.Counted.{takes_of};
+ghost use Rattle.mcast_group.specs.Copies.{AreOf, HaveCopies};
+ghost use Rattle.mcast_group.specs.Fitting.{Fits};
+ghost use Rattle.mcast_group.specs.Kept.{entry_of};
+ghost use Rattle.mcast_group.specs.Machine.{Pending, cancel_fault, after_cancel, after_turn, decided_stamp, due_part, key, learn_fault, after_learn, new_topic, insert_pending, next_number, propose_fault, after_propose, subscribe_fault, unsubscribe_fault};
 
-use crate::fault::{CancelFault, LearnFault, ProposeFault};
+use crate::copies::{Copies, add_to_each};
+use crate::ended::Ended;
+use crate::fault::{CancelFault, LearnFault, NoSub, ProposeFault, SubFault};
 use crate::law::has_one_row_each;
 use crate::pending::{PendingPart, index_for, index_of, index_to_learn, least_index};
 use crate::row::Row;
+use crate::subscription::{Subscription, give_all, index_of_sub, reserve_each};
 use crate::verdicts::Verdicts;
 use mcast_txn::{NoMemory, Part, Stamp, Ticket, Topic, TxnId, Verdict};
 use std::alloc::Global;
 use std::marker::Model;
 use std::sync::Arc;
+use sub_queue::{Outlet, VecOutlet};
 
-/// A topic of the multicast, without subscriptions: its clock, its pending parts, and the rows that it released. In
-/// contracts it is a topic of `specs/Machine.antt` of whose rows none was drained. It has no queues, so its clauses
-/// hold whatever queues would take (`takes`).
+/// A topic of the multicast: its clock, its pending parts, the rows that it released, and its subscriptions. In
+/// contracts it is a topic of `specs/Machine.antt`, and for each subscription the room that its outlet shows.
 #[derive(Drop)]
-pub struct Group {
+pub struct Group<Q: Outlet + Drop> {
+    alloc: Global,
     topic: Topic,
     clock: u64,
     log_limit: usize,
     /// By rising id.
     pending: Vec<PendingPart>,
+    /// For each pending part, in their order, a copy for each subscription.
+    copies: Vec<Copies>,
+    /// The stamp of the last row that was drained.
+    base: Stamp,
     /// With room for a row of each pending part.
     rows: Vec<Row>,
     frontier: Stamp,
+    subscriptions: Vec<Subscription<Q>>,
 }
 
-impl Model for Group {
-    ghost use Rattle.std.specs.Prelude.{vec_capacity};
-    ghost use Rattle.mcast_group.specs.Group.{IsGroup, group_state};
-    ghost use Rattle.mcast_group.specs.Machine.{TopicState};
+impl<Q: Outlet + Drop> Model for Group<Q> {
+    ghost use Rattle.std.specs.Prelude.{map, vec_capacity};
+    ghost use Rattle.mcast_group.specs.Group.{GroupState, topic_state};
+    ghost use Rattle.mcast_group.specs.Kept.{IsKept, entry_of, room_of};
 
-    ghost Value = { TopicState };
+    ghost Value = { GroupState };
 
-    ghost view = { λ g. group_state g.topic g.clock g.log_limit g.pending.items g.rows.items g.frontier };
+    ghost view = { λ g. record {
+      topic = topic_state g.topic g.clock g.log_limit g.pending.items g.base g.rows.items g.frontier
+          (map (entry_of Q.shown) g.subscriptions.items);
+      rooms = map (room_of Q.shown) g.subscriptions.items;
+    } };
 
-    ghost invariant = { λ g. IsGroup
-        (group_state g.topic g.clock g.log_limit g.pending.items g.rows.items g.frontier)
-        (vec_capacity g.rows) };
+    ghost invariant = { λ g. IsKept Q.spare
+        (topic_state g.topic g.clock g.log_limit g.pending.items g.base g.rows.items g.frontier
+        (map (entry_of Q.shown) g.subscriptions.items))
+        (vec_capacity g.rows) g.copies.items g.subscriptions.items };
 }
 
-impl Group {
+impl<Q: Outlet + Drop> Group<Q> {
     /// An empty topic with this clock, of at most `log_limit` parts and rows, taken together. It takes no memory.
-    pub fn new(alloc: Global, topic: Topic, clock: u64, log_limit: usize) -> Group
-        ensures { result ≡ new_topic topic log_limit clock }
+    pub fn new(alloc: Global, topic: Topic, clock: u64, log_limit: usize) -> Group<Q>
+        ensures { result ≡ record { topic = new_topic topic log_limit clock; rooms = [] } }
     {
         Group {
+            alloc,
             topic,
             clock,
             log_limit,
             pending: Vec::new(alloc),
+            copies: Vec::new(alloc),
+            base: Stamp::ZERO,
             rows: Vec::new(alloc),
             frontier: Stamp::ZERO,
+            subscriptions: Vec::new(alloc),
         }
     }
 
     /// The topic.
     pub fn topic(&self) -> Topic
-        ensures { result ≡ self.now.topic }
+        ensures { result ≡ self.now.topic.topic }
     {
         self.topic
     }
 
     /// The clock: no number above it was given or learnt.
     pub fn clock(&self) -> u64
-        ensures { result ≡ self.now.clock }
+        ensures { result ≡ self.now.topic.clock }
     {
         self.clock
     }
 
     /// The stamp of the last row, or zero where there is none.
     pub fn frontier(&self) -> Stamp
-        ensures { result ≡ self.now.frontier }
+        ensures { result ≡ self.now.topic.frontier }
     {
         self.frontier
     }
 
     /// How many parts are pending.
     pub fn pending_len(&self) -> usize
-        ensures { result ≡ length self.now.pending }
+        ensures { result ≡ length self.now.topic.pending }
     {
         self.pending.len()
     }
 
     /// How many rows the log has.
     pub fn held_len(&self) -> usize
-        ensures { result ≡ length self.now.held }
+        ensures { result ≡ length self.now.topic.held }
     {
         self.rows.len()
     }
 
     /// The row at index `i` of the log, from 0, or `None` past its end.
     pub fn held(&self, i: usize) -> Option<&Row>
-        ensures { option_map (λ row. row.now) result ≡ slice_get self.now.held i }
+        ensures { option_map (λ row. row.now) result ≡ slice_get self.now.topic.held i }
     {
         self.rows.get(i)
     }
 
+    /// Releases the part that is due, if one is: that of least key, once it has learnt its stamp. Each open
+    /// subscription gets it as one item, or lags. It takes no memory.
+    pub fn release(&mut self, needs: &Q::Needs) -> Option<(TxnId, Stamp)>
+        ensures due { result ≡ option_map (λ p. (p.part.id, key p)) (due_part self.old.topic) }
+        ensures released { Releases Q.may_accept self.old self.new }
+    {
+        let index = least_index(&self.pending)?;
+        if !self.pending[index].is_learnt() {
+            return None;
+        }
+        let part = self.pending.remove(index);
+        let mut copies = self.copies.remove(index);
+        give_all(
+            &mut self.subscriptions,
+            needs,
+            self.frontier,
+            &part,
+            &mut copies,
+        );
+        let row = part.into_row();
+        let (id, stamp) = (row.id, row.stamp);
+        self.rows.push_reserved(row);
+        self.frontier = stamp;
+        Some((id, stamp))
+    }
+
+    /// Gives the transaction's part its stamp by its verdict, with no memory; the same verdict again changes nothing.
+    /// Refused, in this order: 43 where no part of the transaction is pending, 44 where the verdict is another
+    /// transaction's or has another number for this topic, 45 where another stamp was learnt or another part has
+    /// this one; the topic is then as it was.
+    pub fn learn(&mut self, id: TxnId, verdict: &Verdict) -> Result<(), LearnFault>
+        ensures answer { result ≡ result_of (learn_fault id verdict.now self.old.topic) }
+        ensures ok { OnOk result (self.new ≡ record self.old { topic = after_learn id (decided_stamp verdict.now) self.old.topic }) }
+        ensures err { OnErr result (self.new ≡ self.old) }
+    {
+        let index = index_to_learn(&self.pending, id, verdict)?;
+        self.store(id, index, verdict.stamp());
+        Ok(())
+    }
+
+    /// Learns once for each pending part, by rising id, the verdict that is found, if it isn't refused; then
+    /// releases until nothing is due. Returns how many parts it released. It takes no memory.
+    pub fn turn<V: Verdicts>(&mut self, needs: &Q::Needs, verdicts: &V) -> u64
+        ensures turned { Turns Q.may_accept (V.finds verdicts.now) self.old self.new }
+        ensures count { result ≡ length self.new.topic.held - length self.old.topic.held }
+    {
+        let held = self.rows.len();
+        self.try_all(verdicts);
+        self.release_all(needs);
+        (self.rows.len() - held) as u64
+    }
+
     /// Enters a part of this topic, and gives its ticket, whose number is one above the clock and the floor's. It
     /// makes the room that the other calls need. Refused, in this order: 49 where a part of the transaction is
-    /// pending, 40 where no number is left, 41 where the log is at its limit, 42 out of memory; the topic is
+    /// pending, 40 where no number is left, 41 where the log is at its limit, 42 out of memory; what shows is
     /// then as it was.
     pub fn propose(&mut self, floor: Stamp, part: Arc<Part>) -> Result<Ticket, ProposeFault>
-        requires { (arc_value part).topic ≡ self.old.topic }
-        ensures allowed { OnOk result (propose_fault floor (data_of (arc_value part)) self.old ≡ None) }
+        requires { (arc_value part).topic ≡ self.old.topic.topic }
+        ensures allowed { OnOk result (propose_fault floor (data_of (arc_value part)) self.old.topic ≡ None) }
         ensures ticket { IfOk result (λ ticket. ticket ≡ record {
           id = (arc_value part).id;
-          topic = self.old.topic;
-          n = next_number floor self.old;
+          topic = self.old.topic.topic;
+          n = next_number floor self.old.topic;
         }) }
-        ensures ok { OnOk result (self.new ≡ after_propose floor (data_of (arc_value part)) self.old) }
+        ensures ok { OnOk result (self.new ≡ record self.old { topic = after_propose floor (data_of (arc_value part)) self.old.topic }) }
         ensures fault { IfErr result
-            (λ fault. fault ≡ propose_refusal floor (data_of (arc_value part)) self.old) }
+            (λ fault. fault ≡ propose_refusal floor (data_of (arc_value part)) self.old.topic) }
         ensures err { OnErr result (self.new ≡ self.old) }
     {
         let id = part.id;
@@ -134,10 +208,9 @@ impl Group {
             return Err(ProposeFault::LogFull);
         }
         let n = last + 1;
-        let Ok(()) = enter(&mut self.pending, &mut self.rows, part, n) else {
+        let Ok(()) = self.enter(part, n) else {
             return Err(ProposeFault::NoMemory);
         };
-        self.clock = n;
         Ok(Ticket {
             id,
             topic: self.topic,
@@ -145,27 +218,27 @@ impl Group {
         })
     }
 
-    /// Gives the transaction's part its stamp by its verdict, with no memory; the same verdict again changes nothing.
-    /// Refused, in this order: 43 where no part of the transaction is pending, 44 where the verdict is another
-    /// transaction's or has another number for this topic, 45 where another stamp was learnt or another part has
-    /// this one; the topic is then as it was.
-    pub fn learn(&mut self, id: TxnId, verdict: &Verdict) -> Result<(), LearnFault>
-        ensures answer { result ≡ result_of (learn_fault id verdict.now self.old) }
-        ensures ok { OnOk result (self.new ≡ after_learn id (decided_stamp verdict.now) self.old) }
+    // Puts a part among the pending ones, with all that its release will need.
+    fn enter(&mut self, part: Arc<Part>, n: u64) -> Result<(), NoMemory>
+        requires own { (arc_value part).topic ≡ self.old.topic.topic }
+        requires may { (floor : Stamp) × (n ≡ next_number floor self.old.topic) × (propose_fault floor (data_of (arc_value part)) self.old.topic ≡ None) }
+        ensures ok { OnOk result (self.new ≡ record self.old { topic = after_enter n (data_of (arc_value part)) self.old.topic }) }
         ensures err { OnErr result (self.new ≡ self.old) }
     {
-        let index = index_to_learn(&self.pending, id, verdict)?;
-        let stamp = verdict.stamp();
-        self.pending[index].learn(stamp);
-        self.clock = self.clock.max(stamp.n);
+        let entry = PendingPart::new(part, n)?;
+        let made = Copies::of(self.alloc, &entry, self.subscriptions.len())?;
+        self.rows.reserve(self.pending.len() + 1)?;
+        reserve_each(&mut self.subscriptions, self.pending.len() + 1)?;
+        put(&mut self.pending, &mut self.copies, entry, made)?;
+        self.clock = n;
         Ok(())
     }
 
     /// Takes the transaction's part out, with no memory. Refused, in this order: 43 where no part of the transaction
     /// is pending, 46 where it has learnt its stamp; the topic is then as it was.
     pub fn cancel(&mut self, id: TxnId) -> Result<(), CancelFault>
-        ensures answer { result ≡ result_of (cancel_fault id self.old) }
-        ensures ok { OnOk result (self.new ≡ after_cancel id self.old) }
+        ensures answer { result ≡ result_of (cancel_fault id self.old.topic) }
+        ensures ok { OnOk result (self.new ≡ record self.old { topic = after_cancel id self.old.topic }) }
         ensures err { OnErr result (self.new ≡ self.old) }
     {
         let Some(index) = index_of(&self.pending, id) else {
@@ -175,92 +248,162 @@ impl Group {
             return Err(CancelFault::Decided);
         }
         self.pending.remove(index);
+        self.copies.remove(index);
         Ok(())
     }
 
-    /// Releases the part that is due, if one is: that of least key, once it has learnt its stamp. It takes no
-    /// memory.
-    pub fn release(&mut self) -> Option<(TxnId, Stamp)>
-        ensures due { result ≡ option_map (λ p. (p.part.id, key p)) (due_part self.old) }
-        ensures released { (takes : Entry → Bool) → self.new ≡ after_release takes self.old }
+    /// Begins a subscription of this number after the frontier, which it answers. The outlet has accepted nothing
+    /// yet. Refused, in this order: 47 where the number is in use, 42 out of memory; the topic is then as it
+    /// was, and the outlet is returned.
+    pub fn subscribe(&mut self, number: u64, outlet: Q) -> Result<Stamp, (SubFault, Q)>
+        requires { (Q.shown outlet).accepted ≡ [] }
+        ensures from { IfOk result (λ from. from ≡ self.old.topic.frontier) }
+        ensures allowed { OnOk result (subscribe_fault number self.old.topic ≡ None) }
+        ensures ok { OnOk result (self.new ≡ group_after_subscribe number (Q.shown outlet).room self.old) }
+        ensures fault { IfErr result (λ e. e.0 ≡ sub_refusal (subscribe_fault number self.old.topic)) }
+        ensures back { IfErr result (λ e. Q.shown e.1 ≡ Q.shown outlet) }
+        ensures err { OnErr result (self.new ≡ self.old) }
     {
-        let index = least_index(&self.pending)?;
-        if !self.pending[index].is_learnt() {
-            return None;
+        if index_of_sub(&self.subscriptions, number).is_some() {
+            return Err((SubFault::SubInUse, outlet));
         }
-        let row = self.pending.remove(index).into_row();
-        let (id, stamp) = (row.id, row.stamp);
-        self.rows.push_reserved(row);
-        self.frontier = stamp;
-        Some((id, stamp))
+        let mut sub = Subscription {
+            number,
+            from: self.frontier,
+            to: None,
+            outlet,
+        };
+        let Ok(()) = make_room(
+            &mut self.subscriptions,
+            &mut sub,
+            &mut self.copies,
+            &self.pending,
+        ) else {
+            return Err((SubFault::NoMemory, sub.outlet));
+        };
+        self.subscriptions.push_reserved(sub);
+        Ok(self.frontier)
     }
 
-    /// Learns once for each pending part, by rising id, the verdict that is found, if it isn't refused; then
-    /// releases until nothing is due. Returns how many parts it released. Where the verdicts that are found fit the
-    /// topic as it was, no part is pending after it. It takes no memory.
-    pub fn turn<V: Verdicts>(&mut self, verdicts: &V) -> u64
-        ensures turned { (takes : Entry → Bool) → self.new ≡ after_turn takes (V.found verdicts.now) self.old }
-        ensures count { (takes : Entry → Bool) → result ≡ turn_count takes (V.found verdicts.now) self.old }
-        ensures none_pending { Fits (V.found verdicts.now) self.old → self.new.pending ≡ [] }
+    /// Ends the subscription of this number, with no memory, and returns what it leaves. Refused by 48 where there
+    /// is none; the topic is then as it was.
+    pub fn unsubscribe(&mut self, number: u64) -> Result<Ended<Q>, NoSub>
+        ensures left { IfOk result (λ left. Leaves number self.old (Q.shown left.outlet) left.to left.cause) }
+        ensures ok { OnOk result (self.new ≡ group_after_unsubscribe number self.old) }
+        ensures fault { IfErr result (λ fault. unsubscribe_fault number self.old.topic ≡ Some fault) }
+        ensures err { OnErr result (self.new ≡ self.old) }
     {
-        let held = self.rows.len();
-        self.try_all(verdicts);
-        self.release_all();
-        (self.held_len() - held) as u64
+        let Some(index) = index_of_sub(&self.subscriptions, number) else {
+            return Err(NoSub);
+        };
+        let sub = self.subscriptions.remove(index);
+        Ok(sub.end(self.frontier))
     }
 
     // Learns once for each pending part, by rising id, the verdict that is found, if it isn't refused.
     fn try_all<V: Verdicts>(&mut self, verdicts: &V)
-        ensures tried { self.new ≡ after_tries (V.found verdicts.now) self.old.pending self.old }
-        ensures one_row { FoundHaveOneRowEach (V.found verdicts.now) self.old.pending }
+        ensures { TriesAll (MayBeFound (V.finds verdicts.now)) self.old self.new }
     {
-        for index in 0..self.pending_len() {
+        for index in 0..self.pending.len() {
             self.try_to_learn(index, verdicts);
         }
     }
 
-    // Learns for the part at an index the verdict that is found, if it isn't refused.
+    // Learns for the part at a index the verdict that is found, if it isn't refused.
     fn try_to_learn<V: Verdicts>(&mut self, index: usize, verdicts: &V)
-        requires { index < length self.old.pending }
-        ensures tried { (d : Pending) → let id = (slice_index_or self.old.pending index d).part.id in
-            self.new ≡ after_try id (V.found verdicts.now id) self.old }
-        ensures one_row { (d : Pending) (v : Decision)
-            → V.found verdicts.now (slice_index_or self.old.pending index d).part.id ≡ Some v → HasOneRowEach v }
+        requires { index < length self.old.topic.pending }
+        ensures { (d : Pending) → Tries (MayBeFound (V.finds verdicts.now)) (slice_index_or self.old.topic.pending index d) self.old self.new }
     {
         let part = self.pending[index].part();
         let id = part.id;
-        if let Some(found) = verdicts.find(part) {
-            has_one_row_each(found.verdict);
-            let _ = self.learn(id, found.verdict);
-        }
+        let Some(found) = verdicts.find(part) else {
+            return;
+        };
+        has_one_row_each(found.verdict);
+        let Ok(at) = index_to_learn(&self.pending, id, found.verdict) else {
+            return;
+        };
+        let stamp = found.verdict.stamp();
+        self.store(id, at, stamp);
+    }
+
+    // Writes a stamp that isn't refused.
+    fn store(&mut self, id: TxnId, index: usize, stamp: Stamp)
+        requires { CanLearn id index stamp self.old.topic }
+        ensures { self.new ≡ record self.old { topic = after_learn id stamp self.old.topic } }
+    {
+        self.pending[index].learn(stamp);
+        self.clock = self.clock.max(stamp.n);
     }
 
     // Releases until nothing is due.
-    fn release_all(&mut self)
-        ensures { (takes : Entry → Bool)
-            → self.new ≡ after_releases takes (length self.old.pending) self.old }
+    fn release_all(&mut self, needs: &Q::Needs)
+        ensures { ReleasesAll Q.may_accept self.old self.new }
     {
-        while self.release().is_some() {}
+        while self.release(needs).is_some() {}
     }
 }
 
-// Puts a part among the pending ones, with room in the log for a row of each.
-fn enter(
-    pending: &mut Vec<PendingPart>,
-    rows: &mut Vec<Row>,
-    part: Arc<Part>,
-    number: u64,
+impl Group<VecOutlet> {
+    /// `release` where each outlet counts what was taken: the machine's own.
+    pub fn release_counted(&mut self) -> Option<(TxnId, Stamp)>
+        ensures due { result ≡ option_map (λ p. (p.part.id, key p)) (due_part self.old.topic) }
+        ensures released { self.new ≡ group_after_release (takes_of self.old) self.old }
+    {
+        let _ = &self.subscriptions;
+        self.release(&())
+    }
+
+    /// `turn` where each outlet counts what was taken: the machine's own, with what was found.
+    pub fn turn_counted<V: Verdicts>(&mut self, verdicts: &V) -> u64
+        ensures turned { (find : TxnId → Option Decision) × AreFound (V.finds verdicts.now) find self.old.topic.pending
+            × (self.new ≡ record self.old { topic = after_turn (takes_of self.old) find self.old.topic })
+            × (Fits find self.old.topic → self.new.topic.pending ≡ []) }
+        ensures count { result ≡ length self.new.topic.held - length self.old.topic.held }
+    {
+        let _ = &self.subscriptions;
+        self.turn(&(), verdicts)
+    }
+}
+
+// Makes room for a subscription: among the others, in its outlet, and a copy of each pending part for it.
+fn make_room<Q: Outlet + Drop>(
+    subs: &mut Vec<Subscription<Q>>,
+    sub: &mut Subscription<Q>,
+    copies: &mut Vec<Copies>,
+    pending: &[PendingPart],
 ) -> Result<(), NoMemory>
-    requires { length rows.old.items + length pending.old.items ≤ vec_capacity rows.old }
-    ensures ok { OnOk result (pending.new.items ≡ insert_pending
-        (record { part = data_of (arc_value part); number = number; learnt = None }) pending.old.items) }
-    ensures err { OnErr result (pending.new.items ≡ pending.old.items) }
-    ensures rows { rows.new.items ≡ rows.old.items }
-    ensures room { length rows.new.items + length pending.new.items ≤ vec_capacity rows.new }
+    requires { length copies.old.items ≡ length pending.now }
+    ensures subs { subs.new.items ≡ subs.old.items }
+    ensures entry { entry_of Q.shown sub.new ≡ entry_of Q.shown sub.old }
+    ensures shown { Q.shown sub.new.outlet ≡ Q.shown sub.old.outlet }
+    ensures room { OnOk result (vec_len subs.new < vec_capacity subs.new) }
+    ensures spare { OnOk result (sub.new.to ≡ None → length pending.now ≤ Q.spare sub.new.outlet) }
+    ensures more { OnOk result ((n : ℕ) → HaveCopies n pending.now copies.old.items → HaveCopies (n + 1) pending.now copies.new.items) }
+    ensures kept { (n : ℕ) → HaveCopies n pending.now copies.old.items → HaveCopies n pending.now copies.new.items }
 {
-    let entry = PendingPart::new(part, number)?;
-    rows.reserve(pending.len() + 1)?;
+    subs.reserve(1)?;
+    sub.outlet.reserve(pending.len())?;
+    add_to_each(copies, pending)?;
+    Ok(())
+}
+
+// Puts a part and its copies at its index.
+fn put(
+    pending: &mut Vec<PendingPart>,
+    copies: &mut Vec<Copies>,
+    entry: PendingPart,
+    made: Copies,
+) -> Result<(), NoMemory>
+    requires { length copies.old.items ≡ length pending.old.items }
+    ensures ok { OnOk result (pending.new.items ≡ insert_pending entry pending.old.items) }
+    ensures copies { OnOk result ((n : ℕ) → HaveCopies n pending.old.items copies.old.items → n ≤ length made → AreOf entry.part made → HaveCopies n pending.new.items copies.new.items) }
+    ensures err { OnErr result (pending.new.items ≡ pending.old.items) }
+    ensures kept { OnErr result (copies.new.items ≡ copies.old.items) }
+{
+    copies.reserve(1)?;
     let index = index_for(pending, entry.id());
     pending.insert(index, entry)?;
+    copies.insert(index, made)?;
     Ok(())
 }

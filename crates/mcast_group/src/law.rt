@@ -1,5 +1,6 @@
 //! Laws: functions that do nothing, whose contracts are theorems about one topic.
 
+ghost use Rattle.mcast_group.specs.Counted.{CountedReleases, CountedTurns};
 ghost use Rattle.mcast_group.specs.Laws.{KeepsSound, TurnLeavesNone, TurnLeavesNothingDue};
 ghost use Rattle.mcast_group.specs.Machine.{HasOneRowEach};
 
@@ -23,3 +24,10 @@ pub(crate) fn has_one_row_each(verdict: &Verdict)
 {
     let _ = verdict.rows();
 }
+
+/// A release to outlets that count what was taken, as vectors do, is the machine's, with the answer as a function of
+/// what each shows; and so is a turn.
+pub fn counts()
+    ensures releases { CountedReleases }
+    ensures turns { CountedTurns }
+{}

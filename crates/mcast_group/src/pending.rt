@@ -68,6 +68,13 @@ impl PendingPart {
         &self.part
     }
 
+    // The part, shared once more.
+    pub(crate) fn share(&self) -> Result<Arc<Part>, NoMemory>
+        ensures { IfOk result (λ part. data_of (arc_value part) ≡ self.now.part) }
+    {
+        Ok(self.part.clone()?)
+    }
+
     // Its ticket as a stamp.
     fn ticket_stamp(&self) -> Stamp
         ensures { result ≡ ticket_stamp self.now }

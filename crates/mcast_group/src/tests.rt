@@ -4,22 +4,23 @@ ghost use Rattle.std.specs.Prelude.{◌≡◌, Some, None, if◌then◌else◌, 
 ghost use Rattle.std.specs.Arc.{arc_value};
 ghost use Rattle.mcast_txn.specs.Ids.{same_id};
 
-use crate::{Found, Group, NoSub, ProposeFault, SubFault, Verdicts};
+use crate::{Cause, Found, Group, NoSub, ProposeFault, SubFault, Verdicts};
 use mcast_txn::{
     Ballot, Draft, Flight, Headers, Octets, Part, Sender, Stamp, Ticket, Topic, Txn, TxnId, Verdict,
 };
 use std::alloc::Global;
 use std::sync::Arc;
+use sub_queue::VecOutlet;
 
 /// Two verdicts, of which the first is looked at first.
 #[derive(Drop)]
 struct Pair(Box<Verdict>, Box<Verdict>);
 
 impl Verdicts for Pair {
-    ghost found = { λ pair id. if same_id pair.0.value.id id then Some pair.0.value
-        else (if same_id pair.1.value.id id then Some pair.1.value else None) };
+    ghost finds = { λ pair part found. found ≡ (if same_id pair.0.value.id part.id then Some pair.0.value
+        else (if same_id pair.1.value.id part.id then Some pair.1.value else None)) };
 
-    fn find(&self, part: &Part) -> Option<Found<'_>> {
+    fn find<'a>(&'a self, part: &'a Part) -> Option<Found<'a>> {
         if self.0.id() == part.id {
             return Some(Found { verdict: &self.0 });
         }
@@ -74,7 +75,7 @@ fn part_of(alloc: Global, id: TxnId, topics: &[u32], topic: Topic) -> Option<Arc
 /// Proposes a transaction to these topics, with the floor (n, 0).
 fn propose(
     alloc: Global,
-    group: &mut Group,
+    group: &mut Group<VecOutlet>,
     id: TxnId,
     topics: &[u32],
     n: u64,
@@ -111,6 +112,9 @@ enum Call {
     Learn(u64, &'static [(u32, u64)]),
     Cancel(u64),
     Release,
+    /// Subscribe by this number, with a queue of this capacity.
+    Subscribe(u64, usize),
+    Unsubscribe(u64),
 }
 
 /// What a call answered.
@@ -122,12 +126,16 @@ enum Answer {
     Released(u64, u64, u32),
     Done,
     Nothing,
+    /// A subscription begins after the stamp of this number.
+    From(u64),
+    /// A subscription ended with the stamp of this number, for this cause, and its queue has accepted so many items.
+    Left(u64, Cause, usize),
     /// The fault of this number.
     Fault(u32),
 }
 
-use Answer::{Done, Fault, Nothing, Released};
-use Call::{Cancel, Learn, Propose, Release};
+use Answer::{Done, Fault, From, Left, Nothing, Released};
+use Call::{Cancel, Learn, Propose, Release, Subscribe, Unsubscribe};
 
 /// What a proposal answered.
 fn proposed(answer: Result<Ticket, ProposeFault>) -> Answer {
@@ -138,7 +146,12 @@ fn proposed(answer: Result<Ticket, ProposeFault>) -> Answer {
 }
 
 /// What the topic answers to a verdict of these topics and numbers.
-fn learnt(alloc: Global, group: &mut Group, id: TxnId, rows: &[(u32, u64)]) -> Option<Answer> {
+fn learnt(
+    alloc: Global,
+    group: &mut Group<VecOutlet>,
+    id: TxnId,
+    rows: &[(u32, u64)],
+) -> Option<Answer> {
     let verdict = verdict_of(alloc, id, rows)?;
     Some(match group.learn(id, &verdict) {
         Ok(()) => Done,
@@ -147,7 +160,7 @@ fn learnt(alloc: Global, group: &mut Group, id: TxnId, rows: &[(u32, u64)]) -> O
 }
 
 /// What the topic answers to a cancel.
-fn cancelled(group: &mut Group, id: TxnId) -> Answer {
+fn cancelled(group: &mut Group<VecOutlet>, id: TxnId) -> Answer {
     match group.cancel(id) {
         Ok(()) => Done,
         Err(fault) => Fault(fault.number()),
@@ -155,25 +168,43 @@ fn cancelled(group: &mut Group, id: TxnId) -> Answer {
 }
 
 /// What a release answers.
-fn released(group: &mut Group) -> Answer {
-    match group.release() {
+fn released(group: &mut Group<VecOutlet>) -> Answer {
+    match group.release_counted() {
         Some((id, stamp)) => Released(id.seq, stamp.n, stamp.topic.0),
         None => Nothing,
     }
 }
 
+/// What the topic answers to a subscription.
+fn subscribed(alloc: Global, group: &mut Group<VecOutlet>, number: u64, capacity: usize) -> Answer {
+    match group.subscribe(number, VecOutlet::new(alloc, capacity)) {
+        Ok(from) => From(from.n),
+        Err((fault, _outlet)) => Fault(fault.number()),
+    }
+}
+
+/// What the topic answers to an end.
+fn unsubscribed(group: &mut Group<VecOutlet>, number: u64) -> Answer {
+    match group.unsubscribe(number) {
+        Ok(left) => Left(left.to.n, left.cause, left.outlet.pushed()),
+        Err(fault) => Fault(fault.number()),
+    }
+}
+
 /// What the topic answers to a call; nothing where memory ran out before it.
-fn reply(alloc: Global, group: &mut Group, call: Call) -> Option<Answer> {
+fn reply(alloc: Global, group: &mut Group<VecOutlet>, call: Call) -> Option<Answer> {
     match call {
         Propose(seq, topics, n) => Some(proposed(propose(alloc, group, id(seq), topics, n)?)),
         Learn(seq, rows) => learnt(alloc, group, id(seq), rows),
         Cancel(seq) => Some(cancelled(group, id(seq))),
         Release => Some(released(group)),
+        Subscribe(number, capacity) => Some(subscribed(alloc, group, number, capacity)),
+        Unsubscribe(number) => Some(unsubscribed(group, number)),
     }
 }
 
 /// Whether the topic answers each of these calls as is written beside it.
-fn answers(alloc: Global, group: &mut Group, rows: &[(Call, Answer)]) -> bool {
+fn answers(alloc: Global, group: &mut Group<VecOutlet>, rows: &[(Call, Answer)]) -> bool {
     for &(call, wanted) in rows {
         if reply(alloc, group, call) != Some(wanted) {
             return false;
@@ -183,7 +214,7 @@ fn answers(alloc: Global, group: &mut Group, rows: &[(Call, Answer)]) -> bool {
 }
 
 /// Whether the log's row at an index is that of this transaction, with this stamp and these topics.
-fn is_row(group: &Group, i: usize, seq: u64, at: Stamp, topics: &[Topic]) -> bool {
+fn is_row(group: &Group<VecOutlet>, i: usize, seq: u64, at: Stamp, topics: &[Topic]) -> bool {
     match group.held(i) {
         Some(row) => row.id == id(seq) && row.stamp == at && row.topics.as_slice() == topics,
         None => false,
@@ -273,6 +304,52 @@ fn no_number_is_left(rt: HostRuntime) {
     assert!(rt; answers(alloc, &mut group, &LAST_NUMBER));
 }
 
+/// Topic 0 with three rows and a queue of two items, of which none was taken, and one that begins after the first row.
+const LAG: [(Call, Answer); 15] = [
+    (Subscribe(7, 2), From(0)),
+    (Subscribe(7, 2), Fault(47)),
+    (Propose(1, &[0], 0), Answer::Ticket(1)),
+    (Learn(1, &[(0, 1)]), Done),
+    (Release, Released(1, 1, 0)),
+    (Subscribe(8, 2), From(1)),
+    (Propose(2, &[0], 0), Answer::Ticket(2)),
+    (Learn(2, &[(0, 2)]), Done),
+    (Release, Released(2, 2, 0)),
+    (Propose(3, &[0], 0), Answer::Ticket(3)),
+    (Learn(3, &[(0, 3)]), Done),
+    (Release, Released(3, 3, 0)),
+    (Unsubscribe(7), Left(2, Cause::Lag, 2)),
+    (Unsubscribe(7), Fault(48)),
+    (Unsubscribe(8), Left(3, Cause::Asked, 2)),
+];
+
+#[test]
+fn a_full_queue_lags(rt: HostRuntime) {
+    let alloc = rt.alloc();
+    let mut group = Group::new(alloc, Topic(0), 0, 8);
+    assert!(rt; answers(alloc, &mut group, &LAG));
+    assert_eq!(rt; group.held_len(), 3);
+}
+
+/// A subscription that begins while two parts are pending gets both.
+const BEGINS_LATE: [(Call, Answer); 8] = [
+    (Propose(1, &[0], 0), Answer::Ticket(1)),
+    (Propose(2, &[0], 0), Answer::Ticket(2)),
+    (Subscribe(5, 8), From(0)),
+    (Learn(1, &[(0, 1)]), Done),
+    (Learn(2, &[(0, 2)]), Done),
+    (Release, Released(1, 1, 0)),
+    (Release, Released(2, 2, 0)),
+    (Unsubscribe(5), Left(2, Cause::Asked, 2)),
+];
+
+#[test]
+fn pending_parts_go_to_a_new_subscription(rt: HostRuntime) {
+    let alloc = rt.alloc();
+    let mut group = Group::new(alloc, Topic(0), 0, 8);
+    assert!(rt; answers(alloc, &mut group, &BEGINS_LATE));
+}
+
 /// The numbers of the faults, by their names in docs/FAULTS.md.
 #[test]
 fn faults_have_their_numbers(rt: HostRuntime) {
@@ -292,13 +369,13 @@ const THREE: [(Call, Answer); 3] = [
 /// How many parts a turn releases that finds two verdicts of these topics and numbers.
 fn turned(
     alloc: Global,
-    group: &mut Group,
+    group: &mut Group<VecOutlet>,
     first: (u64, &[(u32, u64)]),
     second: (u64, &[(u32, u64)]),
 ) -> Option<u64> {
     let first = verdict_of(alloc, id(first.0), first.1)?;
     let second = verdict_of(alloc, id(second.0), second.1)?;
-    Some(group.turn(&Pair(first, second)))
+    Some(group.turn_counted(&Pair(first, second)))
 }
 
 /// The first turn learns the second and the third part; the other turn meets a foreign verdict, and learns the first.

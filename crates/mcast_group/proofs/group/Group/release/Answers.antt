@@ -1,50 +1,120 @@
-use Rattle.std.proofs.Common.{◌≡◌, ◌+◌, ◌<◌, ◌++◌, ◌∷◌, [], ℕ, Bool, true, length, Some, sym, ap, subst, ◌∙◌}
-use Rattle.std.specs.Option.{is_some}
-use Rattle.std.proofs.lemmas.List.{get_or_default}
-use Rattle.std.proofs.lemmas.List.Edits.{length-remove}
-use Rattle.mcast_group.specs.Group.{IsGroup, group_state}
+use Rattle.std.proofs.Common.{◌≡◌, ◌<◌, ◌≤◌, ◌+◌, ◌++◌, ◌∷◌, [], ℕ, List, map, length, get_or, Some, refl, sym, ap, subst, ◌∙◌, arith}
+use Rattle.std.specs.Option.{option_map}
+use Rattle.std.specs.Vec.{vec_capacity, with_items}
+use Rattle.std.proofs.lemmas.List.{with_items_is}
 use Rattle.mcast_txn.specs.Span.{LogRow}
-use Rattle.mcast_group.specs.Machine.{Entry, Pending, due_part, least_part, after_release, after_release_of}
+use Rattle.mcast_group.specs.declared.subscription.Subscription.{Subscription}
+use Rattle.mcast_group.specs.Group.{GroupState, Releases, topic_state}
+use Rattle.mcast_group.specs.Kept.{Gave, IsKept, entry_of, room_of}
+use Rattle.mcast_group.specs.Machine.{Pending, due_part, item_of, key, after_release_of}
 use Rattle.mcast_group.proofs.Indices.{without_at}
-use Rattle.mcast_group.proofs.Groups.{due_here, release_is, released_state, group_released}
+use Rattle.mcast_group.proofs.Groups.{released_state}
+use Rattle.mcast_group.proofs.Parts.{map_length}
+use Rattle.mcast_group.proofs.Releasing.{Taken, taken, copies_at, copies_length, due_found, kept_released, none_learnt, none_pending, none_released, ready, some_released}
+use Rattle.mcast_group.proofs.group.Group.release.Given as given
 use Rattle.mcast_group.proofs.group.Group.release.Goals as goal
 
--- the part that was taken out was due
-due : (c : goal.After-stamp-2-1) → due_part (group_state c.self.inside.topic c.self.inside.clock c.self.inside.log_limit c.self.inside.pending.items c.self.inside.rows.items c.self.inside.frontier) ≡ Some c.remove.result
-due c =
+pub returns-in_err-index-clause-released : goal.returns-in_err-index-clause-released
+returns-in_err-index-clause-released g c =
     let s = c.self.inside in
-    let p = c.remove.result in
-    let q = c.index.result.now in
-    let within : c.in_ok-index.index < length s.pending.items = rw c.deref.ensures.value at c.in_ok-index.ensures.0 in
-    let low : least_part s.pending.items ≡ Some p = (rw c.deref.ensures.value at c.in_ok-index.ensures.1) p ∙ ap Some (sym c.remove.ensures.value) in
-    let same : q ≡ p = c.index.ensures ∙ (get_or_default s.pending.items c.in_ok-index.index q p within ∙ sym c.remove.ensures.value) in
-    let done : is_some p.learnt ≡ true = ap (λ (z : Pending). is_some z.learnt) (sym same) ∙ (sym c.is_learnt.ensures ∙ c.if-not-is_learnt.false) in
-    due_here (group_state s.topic s.clock s.log_limit s.pending.items s.rows.items s.frontier) p low done
+    let x = topic_state s.topic s.clock s.log_limit s.pending.items s.base s.rows.items s.frontier (map (entry_of g.Q.Outlet.shown) s.subscriptions.items) in
+    let none = none_pending x (sym c.deref.ensures.value ∙ c.in_err-index.ensures) in
+    none_released g.Q.Outlet.may_accept c.args.self.now (subst (λ (z : GroupState). due_part z.topic ≡ _) c.self.view_is none)
 
--- it went to the log
-moved : (c : goal.After-stamp-2-1) (takes : Entry → Bool) → group_state c.self.inside.topic c.self.inside.clock c.self.inside.log_limit c.remove.new.self.items c.push_reserved.new.self.items c.row.inside.stamp ≡ after_release_of takes c.remove.result (group_state c.self.inside.topic c.self.inside.clock c.self.inside.log_limit c.self.inside.pending.items c.self.inside.rows.items c.self.inside.frontier)
-moved c takes =
+pub returns-then-not-is_learnt-clause-released : goal.returns-then-not-is_learnt-clause-released
+returns-then-not-is_learnt-clause-released g c =
     let s = c.self.inside in
-    let p = c.remove.result in
+    let x = topic_state s.topic s.clock s.log_limit s.pending.items s.base s.rows.items s.frontier (map (entry_of g.Q.Outlet.shown) s.subscriptions.items) in
+    let none = none_learnt x c.in_ok-index.index c.index.result.now (rw c.deref.ensures.value at c.in_ok-index.ensures.1) c.index.ensures (sym c.is_learnt.ensures ∙ c.if-not-is_learnt.true) in
+    none_released g.Q.Outlet.may_accept c.args.self.now (subst (λ (z : GroupState). due_part z.topic ≡ _) c.self.view_is none)
+
+pub remove-copies-requires : goal.remove-copies-requires
+remove-copies-requires g c =
+    let s = c.self.inside in
     let within : c.in_ok-index.index < length s.pending.items = rw c.deref.ensures.value at c.in_ok-index.ensures.0 in
+    let many = copies_length (length s.subscriptions.items) s.pending.items s.copies.items c.self.invariant.copied in
+    let l : s.copies.len ≡ length s.copies.items = s.copies.ok.0 in
+    omega arith
+
+pub give_all-requires-clause-ready : goal.give_all-requires-clause-ready
+give_all-requires-clause-ready g c =
+    let s = c.self.inside in
+    let x = topic_state s.topic s.clock s.log_limit s.pending.items s.base s.rows.items s.frontier (map (entry_of g.Q.Outlet.shown) s.subscriptions.items) in
+    let within : c.in_ok-index.index < length s.pending.items = rw c.deref.ensures.value at c.in_ok-index.ensures.0 in
+    let due = due_found x c.in_ok-index.index c.index.result.now c.remove-part.result (rw c.deref.ensures.value at c.in_ok-index.ensures.1) within c.index.ensures c.remove-part.ensures.value (sym c.is_learnt.ensures ∙ c.if-not-is_learnt.false) in
+    rw c.deref_mut.ensures.value (ready g.Q.Outlet.shown g.Q.Outlet.spare x (vec_capacity s.rows) s.copies.items s.subscriptions.items c.self.invariant refl c.remove-part.result due)
+
+pub give_all-requires-clause-copies : goal.give_all-requires-clause-copies
+give_all-requires-clause-copies g c =
+    let s = c.self.inside in
+    let within : c.in_ok-index.index < length s.pending.items = rw c.deref.ensures.value at c.in_ok-index.ensures.0 in
+    (copies_at (length s.subscriptions.items) s.pending.items s.copies.items c.in_ok-index.index c.remove-part.result c.remove-copies.result c.self.invariant.copied within c.remove-part.ensures.value c.remove-copies.ensures.value).1
+
+pub give_all-requires-clause-many : goal.give_all-requires-clause-many
+give_all-requires-clause-many g c =
+    let s = c.self.inside in
+    let within : c.in_ok-index.index < length s.pending.items = rw c.deref.ensures.value at c.in_ok-index.ensures.0 in
+    rw c.deref_mut.ensures.value (copies_at (length s.subscriptions.items) s.pending.items s.copies.items c.in_ok-index.index c.remove-part.result c.remove-copies.result c.self.invariant.copied within c.remove-part.ensures.value c.remove-copies.ensures.value).0
+
+-- the part that was taken out was due
+due : (g : given.Over) (c : goal.After-drop-copies-inside g) → due_part (topic_state c.self.inside.topic c.self.inside.clock c.self.inside.log_limit c.self.inside.pending.items c.self.inside.base c.self.inside.rows.items c.self.inside.frontier (map (entry_of g.Q.Outlet.shown) c.self.inside.subscriptions.items)) ≡ Some c.remove-part.result
+due g c =
+    let s = c.self.inside in
+    let x = topic_state s.topic s.clock s.log_limit s.pending.items s.base s.rows.items s.frontier (map (entry_of g.Q.Outlet.shown) s.subscriptions.items) in
+    let within : c.in_ok-index.index < length s.pending.items = rw c.deref.ensures.value at c.in_ok-index.ensures.0 in
+    due_found x c.in_ok-index.index c.index.result.now c.remove-part.result (rw c.deref.ensures.value at c.in_ok-index.ensures.1) within c.index.ensures c.remove-part.ensures.value (sym c.is_learnt.ensures ∙ c.if-not-is_learnt.false)
+
+-- each subscription got its item, and nothing else changed
+gave : (g : given.Over) (c : goal.After-drop-copies-inside g) → Gave g.Q.Outlet.shown g.Q.Outlet.may_accept c.self.inside.frontier (item_of c.remove-part.result) c.self.inside.subscriptions.items c.give_all.new.subs
+gave g c = subst (λ (zs : List (Subscription g.row.Q.Denot)). Gave g.Q.Outlet.shown g.Q.Outlet.may_accept c.self.inside.frontier (item_of c.remove-part.result) zs c.give_all.new.subs) c.deref_mut.ensures.value c.give_all.ensures.gave
+
+many : (g : given.Over) (c : goal.After-drop-copies-inside g) → length c.give_all.new.subs ≡ length c.self.inside.subscriptions.items
+many g c =
+    sym (map_length (room_of g.Q.Outlet.shown) c.give_all.new.subs) ∙ (ap (λ (rs : List _). length rs) (gave g c).rooms ∙ map_length (room_of g.Q.Outlet.shown) c.self.inside.subscriptions.items)
+
+after : (g : given.Over) (c : goal.After-drop-copies-inside g) → (with_items c.self.inside.subscriptions c.give_all.new.subs).items ≡ c.give_all.new.subs
+after g c = with_items_is c.self.inside.subscriptions c.give_all.new.subs (many g c ∙ sym c.self.inside.subscriptions.ok.0)
+
+took : (g : given.Over) (c : goal.After-drop-copies-inside g) → Taken g.Q.Outlet.may_accept c.self.inside.frontier (item_of c.remove-part.result) (map (entry_of g.Q.Outlet.shown) c.self.inside.subscriptions.items) (map (entry_of g.Q.Outlet.shown) c.give_all.new.subs) (map (room_of g.Q.Outlet.shown) c.self.inside.subscriptions.items)
+took g c = taken g.Q.Outlet.shown g.Q.Outlet.may_accept c.self.inside.frontier (item_of c.remove-part.result) c.self.inside.subscriptions.items c.give_all.new.subs c.self.invariant.differ (gave g c)
+
+gone : (g : given.Over) (c : goal.After-drop-copies-inside g) → c.in_ok-index.index < length c.self.inside.pending.items
+gone g c = rw c.deref.ensures.value at c.in_ok-index.ensures.0
+
+-- the machine's release
+moved : (g : given.Over) (c : goal.After-drop-copies-inside g) → topic_state c.self.inside.topic c.self.inside.clock c.self.inside.log_limit c.remove-part.new.self.items c.self.inside.base c.push_reserved.new.self.items c.row.inside.stamp (map (entry_of g.Q.Outlet.shown) c.give_all.new.subs) ≡ after_release_of (took g c).takes c.remove-part.result (topic_state c.self.inside.topic c.self.inside.clock c.self.inside.log_limit c.self.inside.pending.items c.self.inside.base c.self.inside.rows.items c.self.inside.frontier (map (entry_of g.Q.Outlet.shown) c.self.inside.subscriptions.items))
+moved g c =
+    let s = c.self.inside in
+    let p = c.remove-part.result in
     let row = c.row.view_is ∙ c.into_row-row.ensures in
-    released_state s.topic s.clock s.log_limit s.pending.items s.rows.items s.frontier takes p _ _ _
-    (c.remove.ensures.items ∙ sym (without_at s.pending.items c.in_ok-index.index p c.self.invariant.sound.by_id within (sym c.remove.ensures.value)))
+    released_state s.topic s.clock s.log_limit s.pending.items s.base s.rows.items s.frontier (map (entry_of g.Q.Outlet.shown) s.subscriptions.items) (took g c).takes p _ _ _ _
+    (c.remove-part.ensures.items ∙ sym (without_at s.pending.items c.in_ok-index.index p c.self.invariant.sound.by_id (gone g c) (sym c.remove-part.ensures.value)))
     (c.push_reserved.ensures.items ∙ ap (λ (r : LogRow). s.rows.items ++ r ∷ []) c.into_row-row.ensures)
     (ap (λ (r : LogRow). r.stamp) row)
+    (took g c).is
 
 pub invariant_of-self : goal.invariant_of-self
-invariant_of-self c =
+invariant_of-self g c =
     let s = c.self.inside in
-    let y = group_state s.topic s.clock s.log_limit c.remove.new.self.items c.push_reserved.new.self.items c.row.inside.stamp in
-    let within : c.in_ok-index.index < length s.pending.items = rw c.deref.ensures.value at c.in_ok-index.ensures.0 in
-    let fewer : length c.remove.new.self.items + 1 ≡ length s.pending.items =
-    ap (λ (z : _). length z + 1) c.remove.ensures.items ∙ length-remove s.pending.items c.in_ok-index.index within in
-    subst (λ (n : ℕ). IsGroup y n) (sym c.push_reserved.ensures.capacity)
-    (group_released (λ e. true) c.remove.result (group_state s.topic s.clock s.log_limit s.pending.items s.rows.items s.frontier) y _ (moved c (λ e. true)) c.self.invariant (due c) fewer)
+    let x = topic_state s.topic s.clock s.log_limit s.pending.items s.base s.rows.items s.frontier (map (entry_of g.Q.Outlet.shown) s.subscriptions.items) in
+    let y = λ (zs : List (Subscription g.row.Q.Denot)). topic_state s.topic s.clock s.log_limit c.remove-part.new.self.items s.base c.push_reserved.new.self.items c.row.inside.stamp (map (entry_of g.Q.Outlet.shown) zs) in
+    let left : (k : ℕ) (d : Subscription g.row.Q.Denot) → k < length s.subscriptions.items → g.Q.Outlet.spare (get_or s.subscriptions.items k d).outlet ≤ g.Q.Outlet.spare (get_or c.give_all.new.subs k d).outlet + 1 =
+    rw c.deref_mut.ensures.value at c.give_all.ensures.spare in
+    let kept = kept_released g.Q.Outlet.shown g.Q.Outlet.spare x (vec_capacity s.rows) s.copies.items s.subscriptions.items c.self.invariant refl (took g c).takes c.remove-part.result c.in_ok-index.index (y c.give_all.new.subs) c.give_all.new.subs (due g c) (gone g c) (moved g c) c.remove-part.ensures.items refl (many g c) left in
+    subst (λ (zs : List (Subscription g.row.Q.Denot)). IsKept g.Q.Outlet.spare (y zs) (vec_capacity c.push_reserved.new.self) c.remove-copies.new.self.items zs) (sym (after g c))
+    (rw (c.push_reserved.ensures.capacity, c.remove-copies.ensures.items) kept)
+
+pub returns-clause-due : goal.returns-clause-due
+returns-clause-due g c =
+    let row = c.row.view_is ∙ c.into_row-row.ensures in
+    ap (λ (r : LogRow). Some (r.id, r.stamp)) row ∙ (sym (ap (option_map (λ (p : Pending). (p.part.id, key p))) (due g c)) ∙ ap (λ (z : GroupState). option_map (λ (p : Pending). (p.part.id, key p)) (due_part z.topic)) c.self.view_is)
 
 pub returns-clause-released : goal.returns-clause-released
-returns-clause-released c = λ takes.
+returns-clause-released g c =
     let s = c.self.inside in
-    let x = group_state s.topic s.clock s.log_limit s.pending.items s.rows.items s.frontier in
-    moved c takes ∙ (sym (release_is takes x c.remove.result (due c)) ∙ ap (after_release takes) c.self.view_is)
+    let shown = g.Q.Outlet.shown in
+    let x = topic_state s.topic s.clock s.log_limit s.pending.items s.base s.rows.items s.frontier (map (entry_of shown) s.subscriptions.items) in
+    let y = λ (zs : List (Subscription g.row.Q.Denot)). topic_state s.topic s.clock s.log_limit c.remove-part.new.self.items s.base c.push_reserved.new.self.items c.row.inside.stamp (map (entry_of shown) zs) in
+    let done = some_released g.Q.Outlet.may_accept x (y c.give_all.new.subs) (map (room_of shown) s.subscriptions.items) (map (room_of shown) c.give_all.new.subs) c.remove-part.result (map (entry_of shown) c.give_all.new.subs) (due g c) (took g c) (moved g c) (gave g c).rooms in
+    subst (λ (zs : List (Subscription g.row.Q.Denot)). Releases g.Q.Outlet.may_accept c.args.self.now (record { topic = y zs; rooms = map (room_of shown) zs })) (sym (after g c))
+    (subst (λ (z : GroupState). Releases g.Q.Outlet.may_accept z (record { topic = y c.give_all.new.subs; rooms = map (room_of shown) c.give_all.new.subs })) c.self.view_is done)

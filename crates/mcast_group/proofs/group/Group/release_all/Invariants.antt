@@ -1,14 +1,16 @@
-use Rattle.std.proofs.Common.{◌≡◌, ◌≤◌, ℕ, Bool, length}
-use Rattle.mcast_group.specs.Machine.{Entry, after_releases}
+use Rattle.std.proofs.Common.{◌≡◌, ◌+◌, ◌≤◌, Bool, List, length}
+use Rattle.mcast_group.specs.Group.{AnswersEach, group_after_releases}
+use Rattle.mcast_group.specs.Machine.{Entry}
 use Rattle.mcast_group.proofs.group.Group.release_all.Given as goal
 
--- so many releases are enough
+-- so many parts were released, with an answer for each
 abbrev pub invariant-loop : goal.invariant-loop
-invariant-loop l = record {
-  steps : ℕ;
-  enough : length l.self.pending ≤ steps;
-  rest : (takes : Entry → Bool) → after_releases takes steps l.self ≡ after_releases takes (length l.fn.self.pending) l.fn.self;
+invariant-loop g l = record {
+  answers : List (Entry → Bool);
+  many : length answers + length l.self.topic.pending ≤ length l.fn.self.topic.pending;
+  may : AnswersEach g.Q.Outlet.may_accept answers l.fn.self;
+  is : l.self ≡ group_after_releases answers l.fn.self;
 }
 
 abbrev pub decreases-loop : goal.decreases-loop
-decreases-loop l = length l.self.pending
+decreases-loop g l = length l.self.topic.pending

@@ -1,38 +1,52 @@
-use Rattle.std.proofs.Common.{◌<◌, ◌≤◌, length, get_or, ap, ◌∙◌, refl, arith}
-use Rattle.mcast_group.specs.Machine.{TopicState, after_try, after_tries}
-use Rattle.mcast_group.proofs.Turns.{some_part, ids, ids_length, tried_is, same_ids, learn_step, learn_end, one_row_all, one_row_step, one_row_end}
+use Rattle.std.proofs.Common.{◌≡◌, ◌<◌, ◌++◌, ◌∷◌, [], ℕ, ◌+◌, length, get_or, refl, sym, ap, subst, ◌∙◌, arith}
+use Rattle.std.proofs.lemmas.List.{length_push}
+use Rattle.mcast_txn.specs.Transaction.{TopicPart}
+use Rattle.mcast_group.specs.Sound.{RisesById}
+use Rattle.mcast_group.specs.Group.{GroupState, MayBeFound}
+use Rattle.mcast_group.specs.Machine.{TopicState, after_try}
+use Rattle.mcast_group.proofs.Turns.{some_part}
+use Rattle.mcast_group.proofs.Learning.{parts, parts_length, part_at, same_parts, tried_each, tried_push, found_push, all_tried}
 use Rattle.mcast_group.proofs.group.Group.try_all.Goals as goal
 
 pub loop-index-init : goal.loop-index-init
-loop-index-init g c = record {
-  same = refl;
-  rest = tried_is (g.V.Verdicts.found c.args.verdicts.now) c.args.self.now.pending c.args.self.now;
-  one_row = one_row_all (g.V.Verdicts.found c.args.verdicts.now) c.args.self.now.pending;
-}
+loop-index-init g c = record { found = []; many = refl; same = refl; each = tt; is = refl }
+
+pub try_to_learn-requires : goal.try_to_learn-requires
+try_to_learn-requires g c =
+    let all = parts_length c.loop-index.self.topic.pending c.args.self.now.topic.pending c.loop-index.invariant.same in
+    let l = ap (λ (z : GroupState). length z.topic.pending) c.self.view_is in
+    let n = c.self.inside.pending.ok.0 in
+    omega arith
 
 pub loop-index-preserved : goal.loop-index-preserved
 loop-index-preserved g c =
-    let find = g.V.Verdicts.found c.args.verdicts.now in
-    let x = c.loop-index.self in
-    let e = c.try_to_learn.ensures.tried some_part in
-    let id = (get_or x.pending c.loop-index.index some_part).part.id in
-    let same = ap (λ (w : TopicState). ids w.pending) {y = after_try id (find id) x} e ∙ same_ids id (find id) x in
-    let all = ids_length x c.args.self.now c.loop-index.invariant.same in
-    let within : c.loop-index.index < length x.pending = omega arith in
+    let inv = c.loop-index.invariant in
+    let i = c.loop-index.index in
+    let old = c.args.self.now.topic in
+    let x = c.loop-index.self.topic in
+    let t = c.try_to_learn.ensures some_part in
+    let all = parts_length x.pending old.pending inv.same in
+    let n = c.self.inside.pending.ok.0 in
+    let l = ap (λ (z : GroupState). length z.topic.pending) c.self.view_is in
+    let within : i < length old.pending = omega arith in
+    let here : (get_or x.pending i some_part).part ≡ (get_or old.pending i some_part).part = part_at x.pending old.pending i some_part inv.same in
     record {
-      same = same ∙ c.loop-index.invariant.same;
-      rest = learn_step find x c.try_to_learn.new.self (after_tries find c.args.self.now.pending c.args.self.now) c.loop-index.index some_part within e c.loop-index.invariant.rest;
-      one_row = λ rest. c.loop-index.invariant.one_row
-          (one_row_step find x c.try_to_learn.new.self c.loop-index.index some_part within same (c.try_to_learn.ensures.one_row some_part) rest);
+      found = inv.found ++ t.0 ∷ [];
+      many = length_push inv.found t.0 ∙ ap (λ (k : ℕ). k + 1) inv.many;
+      same = ap (λ (z : GroupState). parts z.topic.pending) t.2 ∙ (same_parts (get_or x.pending i some_part).part.id t.0 x ∙ inv.same);
+      each = found_push (MayBeFound (g.V.Verdicts.finds c.args.verdicts.now)) inv.found t.0 old.pending i some_part inv.many within inv.each (subst (λ (z : TopicPart). MayBeFound (g.V.Verdicts.finds c.args.verdicts.now) z t.0) here t.1);
+      is = t.2
+          ∙ (ap (λ (z : GroupState). record { topic = after_try (get_or x.pending i some_part).part.id t.0 z.topic; rooms = z.rooms }) inv.is
+          ∙ ap (λ (z : TopicState). record { topic = z; rooms = c.args.self.now.rooms })
+          (ap (λ (z : TopicPart). after_try z.id t.0 (tried_each inv.found old.pending old)) here ∙ sym (tried_push inv.found t.0 old.pending i some_part old inv.many within)));
     }
 
 pub returns : goal.returns
 returns g c =
-    let find = g.V.Verdicts.found c.args.verdicts.now in
-    let x = c.loop-index.self in
-    let all = ids_length x c.args.self.now c.loop-index.invariant.same in
-    let past : length x.pending ≤ c.loop-index.index = omega arith in
-    record {
-      tried = learn_end find x (after_tries find c.args.self.now.pending c.args.self.now) c.loop-index.index past c.loop-index.invariant.rest;
-      one_row = c.loop-index.invariant.one_row (one_row_end find x c.loop-index.index past);
-    }
+    let inv = c.loop-index.invariant in
+    let old = c.args.self.now in
+    let n = c.self.inside.pending.ok.0 in
+    let l = ap (λ (z : GroupState). length z.topic.pending) c.self.view_is in
+    let e = inv.many in
+    all_tried (MayBeFound (g.V.Verdicts.finds c.args.verdicts.now)) inv.found old c.loop-index.self
+    (subst (λ (z : GroupState). RisesById z.topic.pending) c.self.view_is c.self.invariant.sound.by_id) (omega arith) inv.each inv.is

@@ -1,15 +1,15 @@
-use Rattle.std.proofs.Common.{◌≡◌, drop}
-use Rattle.mcast_group.specs.Machine.{after_tries}
-use Rattle.mcast_group.specs.Fitting.{FoundHaveOneRowEach}
-use Rattle.mcast_group.proofs.Turns.{OneRowEach, ids, tried_ids}
+use Rattle.std.proofs.Common.{◌≡◌, List, Option, length}
+use Rattle.mcast_txn.specs.Ballot.{Decision}
+use Rattle.mcast_group.specs.Group.{MayBeFound}
+use Rattle.mcast_group.proofs.Learning.{FoundEach, parts, tried_each}
 use Rattle.mcast_group.proofs.group.Group.try_all.Given as goal
 
--- the transactions keep their places, and the rest of them is still to learn; where the verdicts of the rest have one row for a topic, all have
+-- so many parts were tried, by what was found for each
 abbrev pub invariant-loop-index : goal.invariant-loop-index
 invariant-loop-index g l = record {
-  same : ids l.self.pending ≡ ids l.fn.self.pending;
-  rest : tried_ids (g.V.Verdicts.found l.verdicts) (drop l.index (ids l.self.pending)) l.self
-      ≡ after_tries (g.V.Verdicts.found l.verdicts) l.fn.self.pending l.fn.self;
-  one_row : OneRowEach (g.V.Verdicts.found l.verdicts) (drop l.index (ids l.self.pending))
-      → FoundHaveOneRowEach (g.V.Verdicts.found l.verdicts) l.fn.self.pending;
+  found : List (Option Decision);
+  many : length found ≡ l.index;
+  same : parts l.self.topic.pending ≡ parts l.fn.self.topic.pending;
+  each : FoundEach (MayBeFound (g.V.Verdicts.finds l.verdicts)) found l.fn.self.topic.pending;
+  is : l.self ≡ record { topic = tried_each found l.fn.self.topic.pending l.fn.self.topic; rooms = l.fn.self.rooms };
 }

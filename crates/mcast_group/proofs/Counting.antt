@@ -1,0 +1,124 @@
+-- Outlets that count.
+use Rattle.std.proofs.Common.{◌≡◌, ◌≢◌, ℕ, ◌==◌, Bool, true, false, cond, inl, inr, List, [], ◌∷◌, map, length, Option, Some, None, refl, sym, ap, subst, ◌∙◌, arith}
+use Rattle.std.proofs.lemmas.Bool.Decides.{nat_tests}
+use Rattle.mcast_txn.specs.declared.id.TxnId.{TxnId}
+use Rattle.mcast_txn.specs.declared.stamp.Stamp.{Stamp}
+use Rattle.mcast_txn.specs.Lists.{In}
+use Rattle.mcast_txn.specs.Ballot.{Decision}
+use Rattle.mcast_txn.specs.Span.{Item}
+use Rattle.sub_queue.specs.Shown.{Room, has_room}
+use Rattle.mcast_group.specs.Machine.{TopicState, Entry, Pending, entry_after, due_part, item_of, after_release, after_release_of, after_release_if, after_releases, after_try, after_tries, learn_fault, after_learn, decided_stamp}
+use Rattle.mcast_group.specs.declared.fault.LearnFault.{LearnFault}
+use Rattle.mcast_group.specs.Group.{GroupState, AnswersEach, MayAnswer, group_after_releases, group_after_release, room_at, shows, group_after_tries}
+use Rattle.mcast_group.specs.Sound.{NumbersDiffer}
+use Rattle.mcast_group.specs.Counted.{CountedReleases, CountedTurns, counted, takes_in, takes_of, takes_with}
+use Rattle.mcast_group.proofs.Queues.{delivered_number}
+use Rattle.mcast_group.proofs.Releasing.{differ_same}
+
+-- ---- two answers that agree where they are asked
+
+same_answer : (t u : Entry → Bool) (f : Stamp) (i : Item) (e : Entry) → (e.to ≡ None → t e ≡ u e) → entry_after t f i e ≡ entry_after u f i e
+same_answer t u f i e h = go e.to refl
+  where
+    closed : (v : Entry → Bool) (end : Stamp) → e.to ≡ Some end → entry_after v f i e ≡ e
+    closed v end k = rw k refl
+
+    go : (o : Option Stamp) → e.to ≡ o → entry_after t f i e ≡ entry_after u f i e
+    go None k = ap (λ (b : Bool). entry_after (λ _. b) f i e) (h k)
+    go (Some end) k = closed t end k ∙ sym (closed u end k)
+
+same_all : (t u : Entry → Bool) (f : Stamp) (i : Item) (es : List Entry) → ((e : Entry) → In e es → e.to ≡ None → t e ≡ u e) → map (entry_after t f i) es ≡ map (entry_after u f i) es
+same_all t u f i [] h = refl
+same_all t u f i (e ∷ es) h =
+    let a = same_answer t u f i e (h e (inl refl)) in
+    let b = same_all t u f i es (λ x k. h x (inr k)) in
+    rw (a, b) refl
+
+pub release_same : (t u : Entry → Bool) (x : TopicState) → ((p : Pending) → due_part x ≡ Some p → (e : Entry) → In e x.subscriptions → e.to ≡ None → t e ≡ u e) → after_release t x ≡ after_release u x
+release_same t u x h = go (due_part x) refl
+  where
+    go : (o : Option Pending) → due_part x ≡ o → after_release_if t x o ≡ after_release_if u x o
+    go None k = refl
+    go (Some p) k =
+        let s = same_all t u x.frontier (item_of p) x.subscriptions (h p k) in
+        ap (λ (es : List Entry). record (after_release_of t p x) { subscriptions = es }) s
+
+-- ---- the answer of those that count
+
+number_is : (n : ℕ) → (n == n) ≡ true
+number_is n = grind (arith, nat_tests)
+
+number_not : (n m : ℕ) → n ≢ m → (n == m) ≡ false
+number_not n m h = grind (arith, nat_tests)
+
+pub counts_so : (t : Entry → Bool) (es : List Entry) (rooms : List Room) → NumbersDiffer es → MayAnswer counted t es rooms → (e : Entry) → In e es → e.to ≡ None → t e ≡ takes_with es rooms e
+counts_so t [] rooms h a e k o = absurd k
+counts_so t (d ∷ es) [] h a e k o = absurd a
+counts_so t (d ∷ es) (r ∷ rooms) h a e (inl k) o =
+    let m : (e.number == d.number) ≡ true = subst (λ (z : Entry). (z.number == d.number) ≡ true) k (number_is d.number) in
+    subst (λ (z : Entry). t z ≡ has_room (shows z r)) k (a.0 (subst (λ (z : Entry). z.to ≡ None) (sym k) o)) ∙ sym (here e m)
+  where
+    here : (e : Entry) → (e.number == d.number) ≡ true → takes_with (d ∷ es) (r ∷ rooms) e ≡ has_room (shows e r)
+    here e m = ap (λ (b : Bool). takes_in (cond b (Some r) (room_at e.number es rooms)) e) m
+counts_so t (d ∷ es) (r ∷ rooms) h a e (inr k) o =
+    let m : (e.number == d.number) ≡ false = number_not e.number d.number (h.0 e k) in
+    counts_so t es rooms h.1 a.1 e k o ∙ sym (later e m)
+  where
+    later : (e : Entry) → (e.number == d.number) ≡ false → takes_with (d ∷ es) (r ∷ rooms) e ≡ takes_with es rooms e
+    later e m = ap (λ (b : Bool). takes_in (cond b (Some r) (room_at e.number es rooms)) e) m
+
+pub counted_releases : CountedReleases
+counted_releases g new h r =
+    r.2 ∙ ap (λ (x : TopicState). record { topic = x; rooms = g.rooms }) (release_same r.0 (takes_of g) g.topic (λ p k. counts_so r.0 g.topic.subscriptions g.rooms h (r.1 p k)))
+
+-- ---- a turn
+
+-- the subscriptions have these numbers
+room_same : (n : ℕ) (es : List Entry) (rooms : List Room) (t : Entry → Bool) (f : Stamp) (i : Item) → room_at n (map (entry_after t f i) es) rooms ≡ room_at n es rooms
+room_same n [] rooms t f i = refl
+room_same n (e ∷ es) [] t f i = refl
+room_same n (e ∷ es) (r ∷ rooms) t f i =
+    let k = delivered_number t f i e in let ih = room_same n es rooms t f i in rw (k, ih) refl
+
+differ_given : (t : Entry → Bool) (f : Stamp) (i : Item) (es : List Entry) → NumbersDiffer es → NumbersDiffer (map (entry_after t f i) es)
+differ_given t f i es h = differ_same (entry_after t f i) (delivered_number t f i) es h
+
+differ_released : (t : Entry → Bool) (x : TopicState) → NumbersDiffer x.subscriptions → NumbersDiffer (after_release t x).subscriptions
+differ_released t x h = go (due_part x)
+  where
+    go : (o : Option Pending) → NumbersDiffer (after_release_if t x o).subscriptions
+    go None = h
+    go (Some p) = differ_given t x.frontier (item_of p) x.subscriptions h
+
+room_released : (n : ℕ) (rooms : List Room) (t : Entry → Bool) (x : TopicState) → room_at n (after_release t x).subscriptions rooms ≡ room_at n x.subscriptions rooms
+room_released n rooms t x = go (due_part x)
+  where
+    go : (o : Option Pending) → room_at n (after_release_if t x o).subscriptions rooms ≡ room_at n x.subscriptions rooms
+    go None = refl
+    go (Some p) = room_same n x.subscriptions rooms t x.frontier (item_of p)
+
+pub counted_times : (u : Entry → Bool) (ts : List (Entry → Bool)) (g : GroupState) → NumbersDiffer g.topic.subscriptions → ((e : Entry) → takes_of g e ≡ u e) → AnswersEach counted ts g → group_after_releases ts g ≡ record { topic = after_releases u (length ts) g.topic; rooms = g.rooms }
+counted_times u [] g h k a = refl
+counted_times u (t ∷ ts) g h k a =
+    let same : after_release t g.topic ≡ after_release u g.topic = release_same t u g.topic (λ p d e i o. counts_so t g.topic.subscriptions g.rooms h (a.0 p d) e i o ∙ k e) in
+    counted_times u ts (group_after_release t g) (differ_released t g.topic h) (λ e. ap (λ (o : Option Room). takes_in o e) (room_released e.number g.rooms t g.topic) ∙ k e) a.1
+    ∙ ap (λ (x : TopicState). record { topic = after_releases u (length ts) x; rooms = g.rooms }) same
+
+tried_subs : (id : TxnId) (o : Option Decision) (x : TopicState) → (after_try id o x).subscriptions ≡ x.subscriptions
+tried_subs id None x = refl
+tried_subs id (Some v) x = go (learn_fault id v x)
+  where
+    go : (o : Option LearnFault) → let y : TopicState = elim o [ None ↦ after_learn id (decided_stamp v) x | Some fault ↦ x ] in y.subscriptions ≡ x.subscriptions
+    go None = refl
+    go (Some fault) = refl
+
+pub tried_all_subs : (find : TxnId → Option Decision) (ps : List Pending) (x : TopicState) → (after_tries find ps x).subscriptions ≡ x.subscriptions
+tried_all_subs find [] x = refl
+tried_all_subs find (p ∷ ps) x = tried_all_subs find ps (after_try p.part.id (find p.part.id) x) ∙ tried_subs p.part.id (find p.part.id) x
+
+pub counted_turns : CountedTurns
+counted_turns find g new h r =
+    let y = group_after_tries find g in
+    let subs = tried_all_subs find g.topic.pending g.topic in
+    let same = counted_times (takes_of g) r.0 y (subst NumbersDiffer (sym subs) h) (λ e. ap (λ (es : List Entry). takes_in (room_at e.number es g.rooms) e) subs) r.2 in
+    r.3 ∙ (same ∙ ap (λ (n : ℕ). record { topic = after_releases (takes_of g) n y.topic; rooms = g.rooms }) r.1)

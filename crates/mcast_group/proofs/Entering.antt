@@ -1,0 +1,86 @@
+-- A part that is after_enter.
+use Rattle.std.proofs.Common.{◌≡◌, ℕ, ◌+◌, ◌<◌, ◌≤◌, Bool, true, false, cond, List, [], ◌∷◌, map, length, get_or, None, refl, sym, ap, subst, ◌∙◌, arith}
+use Rattle.mcast_txn.specs.declared.stamp.Stamp.{Stamp}
+use Rattle.std.specs.List.{remove}
+use Rattle.std.proofs.lemmas.List.Edits.{length-remove}
+use Rattle.mcast_txn.specs.declared.id.TxnId.{TxnId}
+use Rattle.mcast_txn.specs.Transaction.{TopicPart}
+use Rattle.mcast_txn.proofs.Members.{In-get_or}
+use Rattle.sub_queue.specs.Shown.{Shown}
+use Rattle.mcast_group.specs.declared.subscription.Subscription.{Subscription}
+use Rattle.mcast_group.specs.Sound.{IsSound}
+use Rattle.mcast_group.specs.Machine.{TopicState, Entry, Pending, insert_pending, next_number, propose_fault, after_cancel}
+use Rattle.mcast_txn.specs.Ids.{id_lt}
+use Rattle.mcast_group.specs.Group.{after_enter}
+use Rattle.mcast_group.specs.Copies.{HaveCopies}
+use Rattle.mcast_group.specs.Kept.{IsKept, entry_of}
+use Rattle.mcast_group.proofs.Parts.{map_length}
+use Rattle.mcast_group.proofs.Allowed.{keeps_sound}
+use Rattle.mcast_group.proofs.Releasing.{placed_at, map_within, copies_remove}
+
+inserted_case : (p q : Pending) (qs : List Pending) (b : Bool) → length (insert_pending p qs) ≡ length qs + 1 → length (cond b (p ∷ q ∷ qs) (q ∷ insert_pending p qs)) ≡ length (q ∷ qs) + 1
+inserted_case p q qs true e = omega arith
+inserted_case p q qs false e = omega arith
+
+pub inserted : (p : Pending) (ps : List Pending) → length (insert_pending p ps) ≡ length ps + 1
+inserted p [] = refl
+inserted p (q ∷ qs) = inserted_case p q qs (id_lt p.part.id q.part.id) (inserted p qs)
+
+pub same_many : {Q : Type 0} (shown : Q → Shown) (old new : List (Subscription Q)) → map (entry_of shown) new ≡ map (entry_of shown) old → length new ≡ length old
+same_many shown old new e = sym (map_length (entry_of shown) new) ∙ (ap (λ (es : List Entry). length es) e ∙ map_length (entry_of shown) old)
+
+-- a subscription is open where it was
+was_open : {Q : Type 0} (shown : Q → Shown) (old new : List (Subscription Q)) (k : ℕ) (d : Subscription Q) → k < length old → k < length new → map (entry_of shown) new ≡ map (entry_of shown) old → (get_or new k d).to ≡ (get_or old k d).to
+was_open shown old new k d l m e =
+    let a = map_within (entry_of shown) new k (entry_of shown d) d m in
+    let b = map_within (entry_of shown) old k (entry_of shown d) d l in
+    ap (λ (z : Entry). z.to) (sym a ∙ (ap (λ (es : List Entry). get_or es k (entry_of shown d)) e ∙ b))
+
+-- spares and capacities have grown, and nothing else
+pub kept_grown : {Q : Type 0} (shown : Q → Shown) (spare : Q → ℕ) (x : TopicState) (capacity after : ℕ) (copies : List (List TopicPart)) (old new : List (Subscription Q)) → IsKept spare x capacity copies old → capacity ≤ after → map (entry_of shown) new ≡ map (entry_of shown) old → ((k : ℕ) (d : Subscription Q) → k < length old → spare (get_or old k d).outlet ≤ spare (get_or new k d).outlet) → IsKept spare x after copies new
+kept_grown shown spare x capacity after copies old new h l e grown = record {
+  sound = h.sound;
+  room = let r : length x.held + length x.pending ≤ capacity = h.room in omega arith;
+  differ = h.differ;
+  spares = λ s stands n.
+      let w = placed_at s new stands in
+      let m = same_many shown old new e in
+      let i : w.place < length new = w.within in
+      let j : w.place < length old = omega arith in
+      let was : (get_or old w.place s).to ≡ None = sym (was_open shown old new w.place s j i e) ∙ (ap (λ (z : Subscription _). z.to) (w.is s) ∙ n) in
+      let a : length x.pending ≤ spare (get_or old w.place s).outlet = h.spares (get_or old w.place s) (In-get_or old w.place s j) was in
+      let b : spare (get_or old w.place s).outlet ≤ spare s.outlet = subst (λ (z : Subscription _). spare (get_or old w.place s).outlet ≤ spare z.outlet) (w.is s) (grown w.place s j) in
+      omega arith;
+  copied = subst (λ (n : ℕ). HaveCopies n x.pending copies) (sym (same_many shown old new e)) h.copied;
+}
+
+pub kept_entered : {Q : Type 0} (shown : Q → Shown) (spare : Q → ℕ) (x y : TopicState) (capacity after n : ℕ) (copies more : List (List TopicPart)) (old new : List (Subscription Q)) (floor : Stamp) (part : TopicPart) → IsKept spare x capacity copies old → part.topic ≡ x.topic → n ≡ next_number floor x → propose_fault floor part x ≡ None → y ≡ after_enter n part x → length x.held + (length x.pending + 1) ≤ after → map (entry_of shown) new ≡ map (entry_of shown) old → ((k : ℕ) (d : Subscription Q) → k < length old → (get_or new k d).to ≡ None → length x.pending + 1 ≤ spare (get_or new k d).outlet) → HaveCopies (length old) y.pending more → IsKept spare y after more new
+kept_entered shown spare x y capacity after n copies more old new floor part h own next none e room same left copied =
+    let many : length y.pending ≡ length x.pending + 1 = ap (λ (z : TopicState). length z.pending) e ∙ inserted _ x.pending in
+    let held : length y.held ≡ length x.held = ap (λ (z : TopicState). length z.held) e in
+    record {
+      sound = subst IsSound (sym (e ∙ ap (λ (k : ℕ). after_enter k part x) next)) (keeps_sound.proposes floor part x h.sound own none);
+      room = omega arith;
+      differ = rw e h.differ;
+      spares = λ s stands o.
+          let w = placed_at s new stands in
+          let m = same_many shown old new same in
+          let i : w.place < length new = w.within in
+          let j : w.place < length old = omega arith in
+          let a : length x.pending + 1 ≤ spare s.outlet = subst (λ (z : Subscription _). z.to ≡ None → length x.pending + 1 ≤ spare z.outlet) (w.is s) (left w.place s j) o in
+          omega arith;
+      copied = subst (λ (k : ℕ). HaveCopies k y.pending more) (sym (same_many shown old new same)) copied;
+    }
+
+-- a part that is taken out
+pub kept_cancelled : {Q : Type 0} (spare : Q → ℕ) (x y : TopicState) (capacity : ℕ) (copies : List (List TopicPart)) (subs : List (Subscription Q)) (id : TxnId) (i : ℕ) → IsKept spare x capacity copies subs → y ≡ after_cancel id x → y.pending ≡ remove x.pending i → i < length x.pending → IsKept spare y capacity (remove copies i) subs
+kept_cancelled spare x y capacity copies subs id i h e gone l =
+    let fewer : length y.pending + 1 ≡ length x.pending = ap (λ (z : List Pending). length z + 1) gone ∙ length-remove x.pending i l in
+    let held : length y.held ≡ length x.held = ap (λ (z : TopicState). length z.held) e in
+    record {
+      sound = subst IsSound (sym e) (keeps_sound.cancels id x h.sound);
+      room = let r : length x.held + length x.pending ≤ capacity = h.room in omega arith;
+      differ = rw e h.differ;
+      spares = λ s k n. let r : length x.pending ≤ spare s.outlet = h.spares s k n in omega arith;
+      copied = rw gone (copies_remove (length subs) x.pending copies i h.copied);
+    }

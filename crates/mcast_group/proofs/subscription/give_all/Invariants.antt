@@ -1,0 +1,22 @@
+use Rattle.std.proofs.Common.{◌≡◌, ℕ, ◌+◌, ◌<◌, ◌≤◌, List, length, Bool, slice_index_or, map}
+use Rattle.mcast_group.specs.declared.subscription.Subscription.{Subscription}
+use Rattle.mcast_group.specs.Machine.{item_of}
+use Rattle.mcast_group.specs.Group.{entries_after}
+use Rattle.mcast_group.specs.Copies.{AreOf}
+use Rattle.mcast_group.specs.Kept.{MayGive, entry_of, room_of}
+use Rattle.mcast_group.proofs.subscription.give_all.Given as goal
+
+abbrev pub invariant-loop-sub : goal.invariant-loop-sub
+invariant-loop-sub g l =
+    let shown = g.Q.Outlet.shown in
+    record {
+      answers : List Bool;
+      many : length answers ≡ l.sub-index;
+      answered : MayGive shown g.Q.Outlet.may_accept answers l.fn.subs;
+      entries : map (entry_of shown) l.subs ≡ entries_after l.frontier (item_of l.part) answers (map (entry_of shown) l.fn.subs);
+      rooms : map (room_of shown) l.subs ≡ map (room_of shown) l.fn.subs;
+      rest : (k : ℕ) (d : Subscription g.row.Q.Denot) → l.sub-index ≤ k → slice_index_or l.subs k d ≡ slice_index_or l.fn.subs k d;
+      spare : (k : ℕ) (d : Subscription g.row.Q.Denot) → k < length l.fn.subs → g.Q.Outlet.spare (slice_index_or l.fn.subs k d).outlet ≤ g.Q.Outlet.spare (slice_index_or l.subs k d).outlet + 1;
+      copies : AreOf l.part.part l.copies;
+      enough : length l.fn.subs ≤ length l.copies + l.sub-index;
+    }

@@ -1,0 +1,79 @@
+//! Copies of a pending part, one for each subscription.
+
+ghost use Rattle.std.specs.Prelude.{◌≡◌, ℕ, ◌+◌, ◌≤◌, ◌<◌, List, [], ◌∷◌, ◌++◌, length, IfSome, IfNone, OnOk, OnErr, IfOk};
+ghost use Rattle.std.specs.Arc.{arc_value};
+ghost use Rattle.mcast_txn.specs.Lists.{In};
+ghost use Rattle.mcast_txn.specs.Part.{data_of};
+ghost use Rattle.mcast_txn.specs.Transaction.{TopicPart};
+ghost use Rattle.mcast_group.specs.Copies.{AreOf, HaveCopies};
+
+use crate::pending::PendingPart;
+use mcast_txn::{NoMemory, Part};
+use std::alloc::Global;
+use std::marker::Model;
+use std::sync::Arc;
+
+/// Copies of a pending part: shared once more for each subscription, so that a release takes no memory.
+#[derive(Drop)]
+pub(crate) struct Copies {
+    parts: Vec<Arc<Part>>,
+}
+
+impl Model for Copies {
+    ghost use Rattle.std.specs.Prelude.{List, map};
+    ghost use Rattle.std.specs.Arc.{arc_value};
+    ghost use Rattle.mcast_txn.specs.Part.{data_of};
+    ghost use Rattle.mcast_txn.specs.Transaction.{TopicPart};
+
+    ghost Value = { List TopicPart };
+
+    ghost view = { λ c. map (λ part. data_of (arc_value part)) c.parts.items };
+}
+
+impl Copies {
+    // Takes one out.
+    pub(crate) fn take(&mut self) -> Option<Arc<Part>>
+        ensures none { IfNone result (length self.old ≡ 0) }
+        ensures is { IfSome result (λ part. In (data_of (arc_value part)) self.old) }
+        ensures rest { (c : TopicPart) → In c self.new → In c self.old }
+        ensures many { length self.old ≤ length self.new + 1 }
+    {
+        self.parts.pop()
+    }
+
+    // `many` copies of a part.
+    pub(crate) fn of(alloc: Global, part: &PendingPart, many: usize) -> Result<Copies, NoMemory>
+        ensures many { IfOk result (λ copies. many ≤ length copies) }
+        ensures of { IfOk result (λ copies. AreOf part.now.part copies) }
+    {
+        let mut copies = Copies {
+            parts: Vec::new(alloc),
+        };
+        for _ in 0..many {
+            copies.add(part)?;
+        }
+        Ok(copies)
+    }
+
+    // One copy more.
+    pub(crate) fn add(&mut self, part: &PendingPart) -> Result<(), NoMemory>
+        ensures ok { OnOk result (self.new ≡ self.old ++ part.now.part ∷ []) }
+        ensures err { OnErr result (self.new ≡ self.old) }
+    {
+        let copy = part.share()?;
+        self.parts.push(copy)?;
+        Ok(())
+    }
+}
+
+// One copy more of each part; where there was no memory, each has as many as it had, or one more.
+pub(crate) fn add_to_each(copies: &mut [Copies], pending: &[PendingPart]) -> Result<(), NoMemory>
+    requires { length copies.old ≡ length pending.now }
+    ensures ok { OnOk result ((n : ℕ) → HaveCopies n pending.now copies.old → HaveCopies (n + 1) pending.now copies.new) }
+    ensures kept { (n : ℕ) → HaveCopies n pending.now copies.old → HaveCopies n pending.now copies.new }
+{
+    for i in 0..pending.len() {
+        copies[i].add(&pending[i])?;
+    }
+    Ok(())
+}
