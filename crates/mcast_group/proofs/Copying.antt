@@ -5,7 +5,7 @@ use Rattle.std.specs.List.{insert}
 use Rattle.mcast_txn.specs.Transaction.{TopicPart}
 use Rattle.mcast_txn.proofs.Members.{In-push_cases}
 use Rattle.mcast_group.specs.Machine.{Pending}
-use Rattle.mcast_group.specs.Copies.{AreOf, HaveCopies}
+use Rattle.mcast_group.specs.Inner.Copies.{AreOf, HaveCopies}
 
 -- the first i have one copy more
 abbrev pub HaveMore : ℕ → ℕ → List Pending → List (List TopicPart) → Type 0

@@ -12,8 +12,8 @@ use Rattle.mcast_group.specs.Sound.{IsSound}
 use Rattle.mcast_group.specs.Machine.{TopicState, Entry, Pending, insert_pending, next_number, propose_fault, after_cancel}
 use Rattle.mcast_txn.specs.Ids.{id_lt}
 use Rattle.mcast_group.specs.Group.{after_enter}
-use Rattle.mcast_group.specs.Copies.{HaveCopies}
-use Rattle.mcast_group.specs.Kept.{IsKept, entry_of}
+use Rattle.mcast_group.specs.Inner.Copies.{HaveCopies}
+use Rattle.mcast_group.specs.Inner.GroupInvariant.{IsKept, entry_of}
 use Rattle.mcast_group.proofs.Parts.{map_length}
 use Rattle.mcast_group.proofs.Allowed.{keeps_sound}
 use Rattle.mcast_group.proofs.Releasing.{placed_at, map_within, copies_remove}

@@ -16,7 +16,7 @@ use Rattle.sub_queue.specs.Shown.{Shown, after_push}
 use Rattle.mcast_group.specs.declared.subscription.Subscription.{Subscription}
 use Rattle.mcast_group.specs.Machine.{Entry, Pending, entry_after, item_of, key}
 use Rattle.mcast_group.specs.Group.{entries_after}
-use Rattle.mcast_group.specs.Kept.{MayGive, entry_of}
+use Rattle.mcast_group.specs.Inner.GroupInvariant.{MayGive, entry_of}
 
 -- ---- one more is given
 

@@ -16,8 +16,8 @@ use Rattle.mcast_group.specs.declared.subscription.Subscription.{Subscription}
 use Rattle.mcast_group.specs.Sound.{IsSound, RisesById}
 use Rattle.mcast_group.specs.Machine.{TopicState, Pending, Entry, decided_stamp, learn_fault, after_learn, with_stamp, after_try, after_tries, due_part, after_release, after_release_if, row_of}
 use Rattle.mcast_group.specs.Group.{AreFound, CanLearn, GroupState, Tries, TriesAll, Turns, group_after_releases, group_after_release, group_after_tries}
-use Rattle.mcast_group.specs.Copies.{HaveCopies}
-use Rattle.mcast_group.specs.Kept.{IsKept}
+use Rattle.mcast_group.specs.Inner.Copies.{HaveCopies}
+use Rattle.mcast_group.specs.Inner.GroupInvariant.{IsKept}
 use Rattle.mcast_group.proofs.Parts.{map_length, told_how}
 use Rattle.mcast_group.proofs.Keeping.{learns_is, Sound-learned}
 

@@ -18,8 +18,8 @@ use Rattle.mcast_group.specs.Sound.{IsSound}
 use Rattle.mcast_group.specs.Machine.{TopicState, Entry, Pending, entry_after, due_part, item_of, key, least_part, after_release, after_release_of, row_of}
 use Rattle.mcast_group.specs.Group.{GroupState, Answers, AnswersEach, ReleasesAll, group_after_releases, MayAnswer, Releases, entries_after, group_after_release}
 use Rattle.mcast_group.specs.Sound.{NumbersDiffer}
-use Rattle.mcast_group.specs.Copies.{AreOf, HaveCopies}
-use Rattle.mcast_group.specs.Kept.{Gave, IsKept, IsReady, MayGive, entry_of, room_of}
+use Rattle.mcast_group.specs.Inner.Copies.{AreOf, HaveCopies}
+use Rattle.mcast_group.specs.Inner.GroupInvariant.{Gave, IsKept, IsReady, MayGive, entry_of, room_of}
 use Rattle.mcast_group.proofs.Queues.{delivered_number}
 use Rattle.mcast_group.proofs.Groups.{due_here, release_is, release_none}
 use Rattle.mcast_group.proofs.Parts.{due_is, map_length}

@@ -20,8 +20,8 @@ use Rattle.mcast_group.specs.declared.fault.SubFault.TheVariants.{SubInUse}
 use Rattle.mcast_group.specs.Machine.{TopicState, Entry, Pending, find_entry, subscribe_fault, after_subscribe, after_unsubscribe, unsubscribe_fault}
 use Rattle.mcast_group.specs.Group.{topic_state, room_at, rooms_without}
 use Rattle.mcast_group.specs.Sound.{NumbersDiffer}
-use Rattle.mcast_group.specs.Copies.{HaveCopies}
-use Rattle.mcast_group.specs.Kept.{IsKept, entry_of, room_of}
+use Rattle.mcast_group.specs.Inner.Copies.{HaveCopies}
+use Rattle.mcast_group.specs.Inner.GroupInvariant.{IsKept, entry_of, room_of}
 use Rattle.mcast_group.proofs.Indices.{none_at, some_at}
 use Rattle.mcast_group.proofs.Allowed.{keeps_sound}
 

@@ -2,8 +2,7 @@ pub mod Machine
 pub mod Sound
 pub mod Fitting
 pub mod Group
-pub mod Copies
-pub mod Kept
 pub mod Counted
 pub mod Laws
 pub mod Faults
+pub mod Inner

@@ -5,7 +5,7 @@ ghost use Rattle.std.specs.Arc.{arc_value};
 ghost use Rattle.mcast_txn.specs.Lists.{In};
 ghost use Rattle.mcast_txn.specs.Part.{data_of};
 ghost use Rattle.mcast_txn.specs.Transaction.{TopicPart};
-ghost use Rattle.mcast_group.specs.Copies.{AreOf, HaveCopies};
+ghost use Rattle.mcast_group.specs.Inner.Copies.{AreOf, HaveCopies};
 
 use crate::pending::PendingPart;
 use mcast_txn::{NoMemory, Part};

@@ -8,9 +8,9 @@ ghost use Rattle.mcast_group.specs.Group.{CanLearn, MayBeFound, GroupState, Rele
 ghost use Rattle.mcast_txn.specs.declared.id.TxnId.{TxnId};
 ghost use Rattle.mcast_txn.specs.Ballot.{Decision};
 ghost use Rattle.mcast_group.specs.Counted.{takes_of};
-ghost use Rattle.mcast_group.specs.Copies.{AreOf, HaveCopies};
+ghost use Rattle.mcast_group.specs.Inner.Copies.{AreOf, HaveCopies};
 ghost use Rattle.mcast_group.specs.Fitting.{Fits};
-ghost use Rattle.mcast_group.specs.Kept.{entry_of};
+ghost use Rattle.mcast_group.specs.Inner.GroupInvariant.{entry_of};
 ghost use Rattle.mcast_group.specs.Machine.{Pending, cancel_fault, after_cancel, after_turn, decided_stamp, due_part, key, learn_fault, after_learn, new_topic, insert_pending, next_number, propose_fault, after_propose, subscribe_fault, unsubscribe_fault};
 
 use crate::copies::{Copies, add_to_each};
@@ -50,7 +50,7 @@ pub struct Group<Q: Outlet + Drop> {
 impl<Q: Outlet + Drop> Model for Group<Q> {
     ghost use Rattle.std.specs.Prelude.{map, vec_capacity};
     ghost use Rattle.mcast_group.specs.Group.{GroupState, topic_state};
-    ghost use Rattle.mcast_group.specs.Kept.{IsKept, entry_of, room_of};
+    ghost use Rattle.mcast_group.specs.Inner.GroupInvariant.{IsKept, entry_of, room_of};
 
     ghost Value = { GroupState };
 

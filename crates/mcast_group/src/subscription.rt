@@ -5,8 +5,8 @@ ghost use Rattle.std.specs.List.{position};
 ghost use Rattle.mcast_txn.specs.Lists.{In};
 ghost use Rattle.mcast_txn.specs.Transaction.{TopicPart};
 ghost use Rattle.mcast_group.specs.Machine.{entry_after, end_of, item_of, key};
-ghost use Rattle.mcast_group.specs.Copies.{AreOf};
-ghost use Rattle.mcast_group.specs.Kept.{Gave, IsReady, entry_of, room_of};
+ghost use Rattle.mcast_group.specs.Inner.Copies.{AreOf};
+ghost use Rattle.mcast_group.specs.Inner.GroupInvariant.{Gave, IsReady, entry_of, room_of};
 ghost use Rattle.mcast_group.specs.declared.subscription.Subscription.{Subscription};
 
 use crate::cause::Cause;
@@ -27,7 +27,7 @@ pub(crate) struct Subscription<Q> {
 }
 
 impl<Q: Outlet + Drop> Subscription<Q> {
-    ghost use Rattle.mcast_group.specs.Kept.{entry_of, room_of};
+    ghost use Rattle.mcast_group.specs.Inner.GroupInvariant.{entry_of, room_of};
 
     // What it leaves at this frontier.
     pub(crate) fn end(self, frontier: Stamp) -> Ended<Q>

@@ -1,7 +1,7 @@
 use Rattle.std.proofs.Common.{◌≡◌, ◌≢◌, ℕ, ◌+◌, ◌≤◌, [], ◌∷◌, ◌++◌, length, None, refl, sym, ap, subst, ◌∙◌, arith, get_or-set_other}
 use Rattle.std.proofs.lemmas.List.{length_push}
 use Rattle.mcast_group.specs.declared.subscription.Subscription.{Subscription}
-use Rattle.mcast_group.specs.Kept.{entry_of, room_of}
+use Rattle.mcast_group.specs.Inner.GroupInvariant.{entry_of, room_of}
 use Rattle.mcast_group.specs.Machine.{item_of}
 use Rattle.mcast_group.proofs.Giving.{told_more, rooms_more, may_more, spare_more}
 use Rattle.mcast_group.proofs.subscription.give_all.Goals as goal

@@ -2,8 +2,8 @@ use Rattle.std.proofs.Common.{◌≡◌, ℕ, ◌+◌, ◌<◌, ◌≤◌, List,
 use Rattle.mcast_group.specs.declared.subscription.Subscription.{Subscription}
 use Rattle.mcast_group.specs.Machine.{item_of}
 use Rattle.mcast_group.specs.Group.{entries_after}
-use Rattle.mcast_group.specs.Copies.{AreOf}
-use Rattle.mcast_group.specs.Kept.{MayGive, entry_of, room_of}
+use Rattle.mcast_group.specs.Inner.Copies.{AreOf}
+use Rattle.mcast_group.specs.Inner.GroupInvariant.{MayGive, entry_of, room_of}
 use Rattle.mcast_group.proofs.subscription.give_all.Given as goal
 
 abbrev pub invariant-loop-sub : goal.invariant-loop-sub

@@ -1,6 +1,6 @@
 use Rattle.std.proofs.Common.{◌≡◌, map, length, sym, ap, ◌∙◌, arith}
 use Rattle.mcast_group.specs.Group.{GroupState, result_of, topic_state}
-use Rattle.mcast_group.specs.Kept.{entry_of, room_of}
+use Rattle.mcast_group.specs.Inner.GroupInvariant.{entry_of, room_of}
 use Rattle.mcast_group.specs.Machine.{TopicState, cancel_fault, cancel_fault_of, after_cancel}
 use Rattle.mcast_group.proofs.Indices.{found_at, none_found, part_at, without_found}
 use Rattle.mcast_group.proofs.Groups.{cancel_decided, cancel_none, cancelled_state}

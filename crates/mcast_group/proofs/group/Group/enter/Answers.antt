@@ -5,9 +5,9 @@ use Rattle.std.proofs.lemmas.List.{with_items_is}
 use Rattle.mcast_txn.specs.Part.{data_of}
 use Rattle.mcast_txn.specs.Span.{LogRow}
 use Rattle.mcast_group.specs.declared.subscription.Subscription.{Subscription}
-use Rattle.mcast_group.specs.Copies.{HaveCopies}
+use Rattle.mcast_group.specs.Inner.Copies.{HaveCopies}
 use Rattle.mcast_group.specs.Group.{GroupState, after_enter, topic_state}
-use Rattle.mcast_group.specs.Kept.{IsKept, entry_of}
+use Rattle.mcast_group.specs.Inner.GroupInvariant.{IsKept, entry_of}
 use Rattle.mcast_group.specs.Machine.{TopicState, Entry, Pending, insert_pending, next_number, propose_fault}
 use Rattle.mcast_group.proofs.Releasing.{copies_length}
 use Rattle.mcast_group.proofs.Entering.{kept_grown, kept_entered, same_many}

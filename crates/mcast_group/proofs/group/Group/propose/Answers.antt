@@ -2,7 +2,7 @@ use Rattle.std.proofs.Common.{◌≡◌, ℕ, ◌+◌, max, map, sym, ap, ◌∙
 use Rattle.std.specs.Arc.{arc_value}
 use Rattle.mcast_txn.specs.Part.{data_of}
 use Rattle.mcast_group.specs.Group.{GroupState, topic_state, or_no_memory, propose_refusal}
-use Rattle.mcast_group.specs.Kept.{entry_of}
+use Rattle.mcast_group.specs.Inner.GroupInvariant.{entry_of}
 use Rattle.mcast_group.specs.Machine.{next_number, propose_fault}
 use Rattle.mcast_group.proofs.Indices.{placed, not_placed}
 use Rattle.mcast_group.proofs.Groups.{fault_twice, fault_clock, fault_log, fault_none}

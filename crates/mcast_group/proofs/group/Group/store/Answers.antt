@@ -1,6 +1,6 @@
 use Rattle.std.proofs.Common.{◌≡◌, set, map, sym, ap, subst, ◌∙◌}
 use Rattle.mcast_group.specs.Group.{CanLearn, GroupState, topic_state}
-use Rattle.mcast_group.specs.Kept.{entry_of, room_of}
+use Rattle.mcast_group.specs.Inner.GroupInvariant.{entry_of, room_of}
 use Rattle.mcast_group.specs.Machine.{TopicState, after_learn}
 use Rattle.mcast_group.proofs.Indices.{told_found}
 use Rattle.mcast_group.proofs.Groups.{learned_state}

@@ -3,8 +3,8 @@ use Rattle.mcast_group.specs.Group.{GroupState, topic_state, sub_refusal}
 use Rattle.std.specs.Vec.{vec_capacity}
 use Rattle.mcast_txn.specs.Span.{Item}
 use Rattle.mcast_group.specs.declared.subscription.Subscription.{Subscription}
-use Rattle.mcast_group.specs.Copies.{HaveCopies}
-use Rattle.mcast_group.specs.Kept.{IsKept, entry_of}
+use Rattle.mcast_group.specs.Inner.Copies.{HaveCopies}
+use Rattle.mcast_group.specs.Inner.GroupInvariant.{IsKept, entry_of}
 use Rattle.mcast_group.specs.Machine.{Entry, subscribe_fault}
 use Rattle.mcast_group.proofs.Releasing.{copies_length}
 use Rattle.mcast_group.proofs.Subscribing.{in_use, not_in_use, kept_subscribed, subscribed_state}

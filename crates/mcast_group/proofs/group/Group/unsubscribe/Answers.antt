@@ -4,7 +4,7 @@ use Rattle.std.specs.Vec.{vec_capacity}
 use Rattle.sub_queue.specs.Shown.{Room}
 use Rattle.mcast_group.specs.declared.subscription.Subscription.{Subscription}
 use Rattle.mcast_group.specs.Group.{GroupState, Leaves, topic_state, group_after_unsubscribe}
-use Rattle.mcast_group.specs.Kept.{IsKept, entry_of, room_of}
+use Rattle.mcast_group.specs.Inner.GroupInvariant.{IsKept, entry_of, room_of}
 use Rattle.mcast_group.specs.Machine.{Entry, unsubscribe_fault}
 use Rattle.mcast_group.proofs.Subscribing.{ends_found, kept_unsubscribed, no_sub}
 use Rattle.mcast_group.proofs.group.Group.unsubscribe.Goals as goal

@@ -9,7 +9,7 @@ use Rattle.mcast_group.specs.declared.subscription.Subscription.{Subscription}
 use Rattle.mcast_group.specs.Sound.{IsSound, NumbersDiffer}
 use Rattle.mcast_group.specs.Machine.{TopicState, Entry}
 use Rattle.mcast_group.specs.Group.{entries_after}
-use Rattle.mcast_group.specs.Copies.{HaveCopies}
+use Rattle.mcast_group.specs.Inner.Copies.{HaveCopies}
 
 -- a subscription of the machine
 abbrev pub entry_of : {Q : Type 0} → (Q → Shown) → Subscription Q → Entry

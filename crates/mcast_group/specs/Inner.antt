@@ -1,0 +1,3 @@
+-- These modules only serve proofs: no public contract cites them, and nobody need believe them.
+pub mod Copies
+pub mod GroupInvariant
