@@ -1,0 +1,8 @@
+use Rattle.std.proofs.Common.{take}
+use Rattle.trace_audit.specs.Sorting.{IsSortingOf}
+use Rattle.trace_audit.specs.Trace.{rows_of}
+use Rattle.trace_audit.proofs.auditor.sorted_rows.Given as goal
+
+-- they are the rows of the lines before this one
+abbrev pub invariant-loop-row : goal.invariant-loop-row
+invariant-loop-row l = IsSortingOf l.rows.items (rows_of (take l.row-index l.logs))

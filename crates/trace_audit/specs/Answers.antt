@@ -1,0 +1,23 @@
+-- What an auditor's refusal says.
+use Rattle.std.specs.Prelude.{◌≡◌, Bool, true, false, List, Some}
+use Rattle.mcast_txn.specs.Span.{LogRow}
+use Rattle.trace_audit.specs.Explained.{IsExplainedBy}
+use Rattle.trace_audit.specs.Faults.{first_fault}
+use Rattle.trace_audit.specs.Trace.{Lines}
+use Rattle.trace_audit.specs.declared.fault.AuditFault.{AuditFault}
+use Rattle.trace_audit.specs.declared.fault.AuditFault.TheVariants as audit
+
+-- the fault says that memory ran out
+abbrev pub says_no_memory : AuditFault → Bool
+says_no_memory audit.NoMemory = true
+says_no_memory audit.TwoVerdicts = false
+says_no_memory audit.SameStamp = false
+says_no_memory audit.LogOrder = false
+says_no_memory audit.SenderOrder = false
+says_no_memory (audit.Hole t) = false
+says_no_memory (audit.QueueRow sub) = false
+
+-- the fault is the first that speaks against the trace, and no list explains it
+pub record Refuses (fault : AuditFault) (lines : Lines) : Type 0 where
+  pub first : first_fault lines ≡ Some fault
+  pub unexplained : (rows : List LogRow) → IsExplainedBy rows lines → Prim.⊥

@@ -1,0 +1,114 @@
+//! The auditor.
+
+ghost use Rattle.std.specs.Prelude.{◌≡◌, ◌≤◌, ◌↔◌, false, length, IsTrue, IfOk, IfErr, OnOk, None};
+ghost use Rattle.std.specs.List.{list_any, position};
+ghost use Rattle.mcast_txn.specs.Stamp.{same_stamp, stamp_lt};
+ghost use Rattle.trace_audit.specs.Answers.{Refuses, says_no_memory};
+ghost use Rattle.trace_audit.specs.Explained.{IsCompleteBy, IsExplainedBy};
+ghost use Rattle.trace_audit.specs.Faults.{first_fault};
+ghost use Rattle.trace_audit.specs.Sorting.{IsPlaceFor, IsSortingOf, put_row};
+ghost use Rattle.trace_audit.specs.Trace.{rows_of};
+
+use crate::agreed::{Agreed, AgreedRow};
+use crate::fault::AuditFault;
+use crate::row::LogRow;
+use crate::trace::Trace;
+use crate::{checks, marks};
+use mcast_txn::{NoMemory, Stamp, Topic};
+use std::alloc::Global;
+
+/// Judges a trace: the list of transactions that explains it, or the first fault, where none does. Takes time of the
+/// square of the rows.
+pub fn audit(alloc: Global, trace: &Trace) -> Result<Agreed, AuditFault>
+    ensures explained { IfOk result (λ agreed. IsExplainedBy agreed.rows.items trace.now) }
+    ensures complete { IfOk result
+        (λ agreed. IsTrue agreed.complete ↔ IsCompleteBy agreed.rows.items trace.now) }
+    ensures faultless { OnOk result (first_fault trace.now ≡ None) }
+    ensures refused { IfErr result
+        (λ fault. says_no_memory fault ≡ false → Refuses fault trace.now) }
+{
+    match find_fault(alloc, trace) {
+        Ok(None) => {}
+        Ok(Some(fault)) => return Err(fault),
+        Err(NoMemory) => return Err(AuditFault::NoMemory),
+    }
+    let Ok(rows) = sorted_rows(alloc, &trace.logs) else {
+        return Err(AuditFault::NoMemory);
+    };
+    let complete = checks::is_complete(&trace.logs);
+    Ok(Agreed { rows, complete })
+}
+
+// The first fault.
+fn find_fault(alloc: Global, trace: &Trace) -> Result<Option<AuditFault>, NoMemory>
+    ensures { IfOk result (λ fault. fault ≡ first_fault trace.now) }
+{
+    let logs = trace.logs.as_slice();
+    if checks::has_two_verdicts(logs) {
+        return Ok(Some(AuditFault::TwoVerdicts));
+    }
+    if checks::has_same_stamp(logs) {
+        return Ok(Some(AuditFault::SameStamp));
+    }
+    if checks::is_out_of_order(logs) {
+        return Ok(Some(AuditFault::LogOrder));
+    }
+    if checks::has_sender_disorder(logs) {
+        return Ok(Some(AuditFault::SenderOrder));
+    }
+    if let Some(topic) = checks::first_hole(logs) {
+        return Ok(Some(AuditFault::Hole(Topic(topic))));
+    }
+    match marks::first_astray(alloc, trace)? {
+        Some(sub) => Ok(Some(AuditFault::QueueRow(sub))),
+        None => Ok(None),
+    }
+}
+
+// The rows of all logs by rising stamp, one of each stamp.
+fn sorted_rows(alloc: Global, logs: &[LogRow]) -> Result<Vec<AgreedRow>, NoMemory>
+    ensures { IfOk result (λ rows. IsSortingOf rows.items (rows_of logs.now)) }
+{
+    let mut rows = Vec::new(alloc);
+    for row in logs {
+        put(&mut rows, row)?;
+    }
+    Ok(rows)
+}
+
+// Puts a row among others that rise, unless its stamp is there.
+fn put(rows: &mut Vec<AgreedRow>, row: &LogRow) -> Result<(), NoMemory>
+    ensures { OnOk result (rows.new.items ≡ put_row row.now.row rows.old.items) }
+{
+    if has_stamp(rows, row.stamp) {
+        return Ok(());
+    }
+    let index = index_for(rows, row.stamp);
+    rows.insert(index, row.agreed()?)?;
+    Ok(())
+}
+
+// Whether one of the rows has the stamp.
+fn has_stamp(rows: &[AgreedRow], stamp: Stamp) -> bool
+    ensures { result ≡ list_any (λ own. same_stamp own.stamp stamp) rows.now }
+{
+    rows.iter().any(|own| own.stamp == stamp)
+}
+
+// Where a row of this stamp goes among others that rise.
+fn index_for(rows: &[AgreedRow], stamp: Stamp) -> usize
+    ensures within { result ≤ length rows.now }
+    ensures index { IsPlaceFor stamp rows.now result }
+{
+    match first_above(rows, stamp) {
+        Some(index) => index,
+        None => rows.len(),
+    }
+}
+
+// The index of the first row above the stamp.
+fn first_above(rows: &[AgreedRow], stamp: Stamp) -> Option<usize>
+    ensures { result ≡ position (λ own. stamp_lt stamp own.stamp) rows.now }
+{
+    rows.iter().position(|own| stamp.is_before(own.stamp))
+}

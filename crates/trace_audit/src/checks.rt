@@ -1,0 +1,168 @@
+//! What may speak against logs, by a plain program that looks at each two rows.
+
+ghost use Rattle.std.specs.Prelude.{◌≡◌, map};
+ghost use Rattle.std.specs.List.{filter, list_all, list_any};
+ghost use Rattle.trace_audit.specs.Faults.{collide, differ, falls, has_row, holes, is_complete, is_hole, least, lesser, out_of_order, overtake, reaches, some_two};
+
+use crate::row::LogRow;
+use mcast_txn::{Stamp, Topic, TxnId};
+
+// Whether two rows of one transaction differ in stamp or topics.
+pub(crate) fn has_two_verdicts(logs: &[LogRow]) -> bool
+    ensures { result ≡ some_two differ logs.now }
+{
+    logs.iter().any(|a| differs_from_one(a, logs))
+}
+
+// Whether a row differs from one of these that is of its transaction.
+fn differs_from_one(a: &LogRow, logs: &[LogRow]) -> bool
+    ensures { result ≡ list_any (λ b. differ a.now.row b.row) logs.now }
+{
+    logs.iter().any(|b| differ(a, b))
+}
+
+// Whether two rows are of one transaction, and differ.
+fn differ(a: &LogRow, b: &LogRow) -> bool
+    ensures { result ≡ differ a.now.row b.now.row }
+{
+    a.id == b.id && !(a.stamp == b.stamp && a.topics == b.topics)
+}
+
+// Whether two transactions have one stamp.
+pub(crate) fn has_same_stamp(logs: &[LogRow]) -> bool
+    ensures { result ≡ some_two collide logs.now }
+{
+    logs.iter().any(|a| collides_with_one(a, logs))
+}
+
+// Whether another transaction's row has this row's stamp.
+fn collides_with_one(a: &LogRow, logs: &[LogRow]) -> bool
+    ensures { result ≡ list_any (λ b. collide a.now.row b.row) logs.now }
+{
+    logs.iter().any(|b| collide(a, b))
+}
+
+// Whether two rows are of two transactions, and have one stamp.
+fn collide(a: &LogRow, b: &LogRow) -> bool
+    ensures { result ≡ collide a.now.row b.now.row }
+{
+    a.id != b.id && a.stamp == b.stamp
+}
+
+// Whether a sender's seqs don't rise with its stamps.
+pub(crate) fn has_sender_disorder(logs: &[LogRow]) -> bool
+    ensures { result ≡ some_two overtake logs.now }
+{
+    logs.iter().any(|a| overtakes_one(a, logs))
+}
+
+// Whether a row has a seq that isn't below that of a later one of its sender.
+fn overtakes_one(a: &LogRow, logs: &[LogRow]) -> bool
+    ensures { result ≡ list_any (λ b. overtake a.now.row b.row) logs.now }
+{
+    logs.iter().any(|b| overtake(a, b))
+}
+
+// Whether the rows are of one sender, the first before the second, and its seq not below the other's.
+fn overtake(a: &LogRow, b: &LogRow) -> bool
+    ensures { result ≡ overtake a.now.row b.now.row }
+{
+    a.id.sender.0 == b.id.sender.0 && a.stamp.is_before(b.stamp) && a.id.seq >= b.id.seq
+}
+
+// Whether some log doesn't rise.
+pub(crate) fn is_out_of_order(logs: &[LogRow]) -> bool
+    ensures { result ≡ out_of_order logs.now }
+{
+    for index in 0..logs.len() {
+        if has_fall(&logs[index], &logs[index + 1..]) {
+            return true;
+        }
+    }
+    false
+}
+
+// Whether one of these later rows is of the row's log, and not above it.
+fn has_fall(row: &LogRow, later: &[LogRow]) -> bool
+    ensures { result ≡ list_any (λ y. falls row.now y) later.now }
+{
+    later.iter().any(|other| falls(row, other))
+}
+
+// Whether the later row is of the first one's log, and not above it.
+fn falls(a: &LogRow, b: &LogRow) -> bool
+    ensures { result ≡ falls a.now b.now }
+{
+    a.topic.0 == b.topic.0 && !a.stamp.is_before(b.stamp)
+}
+
+// Whether a topic's log has a row of the transaction.
+fn has_row(topic: Topic, id: TxnId, logs: &[LogRow]) -> bool
+    ensures { result ≡ has_row topic id logs.now }
+{
+    logs.iter()
+        .any(|row| row.topic.0 == topic.0 && row.id == id)
+}
+
+// Whether a topic's log has a row of this stamp or a later one.
+fn reaches(topic: Topic, stamp: Stamp, logs: &[LogRow]) -> bool
+    ensures { result ≡ reaches topic stamp logs.now }
+{
+    logs.iter().any(|row| row.topic.0 == topic.0 && !row.stamp.is_before(stamp))
+}
+
+// Whether a topic's log lacks the row, and goes on to its stamp or beyond.
+fn is_hole(logs: &[LogRow], row: &LogRow, topic: Topic) -> bool
+    ensures { result ≡ is_hole logs.now row.now.row topic }
+{
+    !has_row(topic, row.id, logs) && reaches(topic, row.stamp, logs)
+}
+
+// The least topic that has a hole.
+pub(crate) fn first_hole(logs: &[LogRow]) -> Option<u32>
+    ensures { result ≡ least (holes logs.now) }
+{
+    let mut best = None;
+    for row in logs {
+        best = lesser(best, hole_of(logs, row));
+    }
+    best
+}
+
+// The least of a row's topics that lacks it.
+fn hole_of(logs: &[LogRow], row: &LogRow) -> Option<u32>
+    ensures { result ≡ least (map (λ t. t.0) (filter (λ t. is_hole logs.now row.now.row t) row.now.row.topics)) }
+{
+    let mut best = None;
+    for &topic in &row.topics {
+        if is_hole(logs, row, topic) {
+            best = lesser(best, Some(topic.0));
+        }
+    }
+    best
+}
+
+// The smaller of two numbers, where there are two.
+fn lesser(a: Option<u32>, b: Option<u32>) -> Option<u32>
+    ensures { result ≡ lesser a b }
+{
+    match (a, b) {
+        (None, _) => b,
+        (Some(_), None) => a,
+        (Some(x), Some(y)) => { if y < x { b } else { a } }
+    }
+}
+
+// Whether each row is in the log of each of its topics.
+pub(crate) fn is_complete(logs: &[LogRow]) -> bool
+    ensures { result ≡ is_complete logs.now }
+{
+    logs.iter().all(|row| is_everywhere(row, logs))
+}
+
+// Whether a row is in the log of each of its topics.
+fn is_everywhere(row: &LogRow, logs: &[LogRow]) -> bool
+    ensures { result ≡ list_all (λ t. has_row t row.now.row.id logs.now) row.now.row.topics }
+{
+    row.topics.iter().all(|topic| has_row(*topic, row.id, logs))
+}

@@ -1,0 +1,21 @@
+//! Traces of a multicast's run, and their auditor.
+#![tactic(auto)]
+
+mod agreed;
+mod auditor;
+mod checks;
+mod fault;
+mod mark;
+mod marks;
+mod row;
+mod trace;
+
+pub use agreed::{Agreed, AgreedRow};
+pub use auditor::audit;
+pub use fault::{AddFault, AuditFault};
+pub use mcast_txn::{NoMemory, Sender, Stamp, Topic, TxnId};
+pub use row::{LogRow, QueueRow, SpanRow, TraceRow};
+pub use trace::Trace;
+
+#[cfg(test)]
+mod tests;

@@ -1,0 +1,116 @@
+//! Traces.
+
+ghost use Rattle.std.specs.Prelude.{◌≡◌, ◌&&◌, ◌==◌, ℕ, false, None, IfErr, OnOk, OnErr};
+ghost use Rattle.std.specs.List.{list_any};
+ghost use Rattle.mcast_txn.specs.TopicSet.{names};
+ghost use Rattle.trace_audit.specs.Trace.{no_lines, rise_after, fits, has_span};
+
+use crate::fault::AddFault;
+use crate::row::{LogRow, QueueRow, SpanRow, TraceRow};
+use mcast_txn::Topic;
+use std::alloc::Global;
+use std::marker::Model;
+
+/// What a run left: the rows of its topics' logs, and its subscriptions' spans and queues. In contracts it is these three
+/// lists, each in the order in which the rows were added.
+#[derive(Drop)]
+pub struct Trace {
+    pub(crate) logs: Vec<LogRow>,
+    pub(crate) spans: Vec<SpanRow>,
+    pub(crate) queues: Vec<QueueRow>,
+}
+
+impl Model for Trace {
+    ghost use Rattle.std.specs.Prelude.{◌≡◌, true};
+    ghost use Rattle.std.specs.List.{list_all};
+    ghost use Rattle.trace_audit.specs.Trace.{Lines, fits};
+
+    ghost Value = { Lines };
+
+    ghost view = { λ t. record { logs = t.logs.items; spans = t.spans.items; queues = t.queues.items } };
+
+    ghost invariant = { λ t. list_all (λ line. fits line) t.logs.items ≡ true };
+}
+
+impl Trace {
+    ghost use Rattle.trace_audit.specs.Rows.{is_misfit, says_misfit, with_row};
+
+    /// A trace without rows.
+    pub fn new(alloc: Global) -> Trace
+        ensures { result ≡ no_lines }
+    {
+        Trace {
+            logs: Vec::new(alloc),
+            spans: Vec::new(alloc),
+            queues: Vec::new(alloc),
+        }
+    }
+
+    /// Puts a row at the end of its log or queue, or opens its span.
+    pub fn add(&mut self, row: TraceRow) -> Result<(), AddFault>
+        ensures added { OnOk result (self.new ≡ with_row row self.old) }
+        ensures fits { OnOk result (is_misfit row self.old ≡ false) }
+        ensures fault { IfErr result (λ fault. is_misfit row self.old ≡ says_misfit fault) }
+        ensures kept { OnErr result (self.new ≡ self.old) }
+    {
+        if self.is_misfit(&row) {
+            return Err(AddFault::Misfit);
+        }
+        let added = match row {
+            TraceRow::Log(row) => self.logs.push(row).is_ok(),
+            TraceRow::Span(row) => self.spans.push(row).is_ok(),
+            TraceRow::Queue(row) => self.queues.push(row).is_ok(),
+        };
+        if added {
+            Ok(())
+        } else {
+            Err(AddFault::NoMemory)
+        }
+    }
+
+    // Whether a row doesn't fit.
+    fn is_misfit(&self, row: &TraceRow) -> bool
+        ensures { result ≡ is_misfit row.now self.now }
+    {
+        match row {
+            TraceRow::Log(row) => !fits(row),
+            TraceRow::Span(row) => self.has_span(row.sub),
+            TraceRow::Queue(row) => !self.has_span(row.sub),
+        }
+    }
+
+    // Whether a subscription has a span.
+    fn has_span(&self, sub: u64) -> bool
+        ensures { result ≡ has_span sub self.now.spans }
+    {
+        self.spans.iter().any(|line| line.sub == sub)
+    }
+}
+
+// Whether a log row's topics rise, and its log's own is one of them.
+fn fits(row: &LogRow) -> bool
+    ensures { result ≡ fits row.now }
+{
+    rise(&row.topics) && names(row.topic, &row.topics)
+}
+
+// Whether the topics rise strictly.
+fn rise(topics: &[Topic]) -> bool
+    ensures { result ≡ rise_after None topics.now }
+{
+    let mut last: Option<Topic> = None;
+    for &topic in topics {
+        if last.is_some_and(|last| last.0 >= topic.0) {
+            return false;
+        }
+        last = Some(topic);
+    }
+    true
+}
+
+// Whether a topic is one of these.
+pub(crate) fn names(topic: Topic, topics: &[Topic]) -> bool
+    ensures { result ≡ names topic topics.now }
+{
+    topics.iter().any(|other| other.0 == topic.0)
+}
