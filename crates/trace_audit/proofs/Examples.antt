@@ -8,9 +8,9 @@ use Rattle.mcast_txn.specs.Span.{LogRow}
 use Rattle.mcast_txn.specs.Stamp.{same_stamp, stamp_lt}
 use Rattle.std.specs.List.{list_any}
 use Rattle.trace_audit.specs.Explained.{IsExplainedBy, IsCompleteBy}
-use Rattle.trace_audit.specs.Faults.{first_fault, is_complete}
+use Rattle.trace_audit.specs.Faults.{audit_fault, is_whole}
 use Rattle.trace_audit.specs.Line.{LogLine}
-use Rattle.trace_audit.specs.Sorting.{IsSortingOf}
+use Rattle.trace_audit.specs.Inner.Sorting.{IsSortingOf}
 use Rattle.trace_audit.specs.Trace.{Lines, no_lines, rows_of}
 use Rattle.trace_audit.specs.declared.fault.AuditFault.TheVariants as audit
 use Rattle.trace_audit.specs.declared.row.SpanRow.{SpanRow}
@@ -51,7 +51,7 @@ crossing = of_logs (line 0 first ∷ line 0 second ∷ line 1 first ∷ line 1 s
 
 -- ---- explained traces
 
-crossing_has_no_fault : first_fault crossing ≡ None
+crossing_has_no_fault : audit_fault crossing ≡ None
 crossing_has_no_fault = refl
 
 at_first : (q : LogRow) → first ≡ q → list_any (λ (own : LogRow). same_stamp own.stamp q.stamp) (first ∷ second ∷ []) ≡ true
@@ -92,29 +92,29 @@ nothing_is_complete : IsCompleteBy [] no_lines
 nothing_is_complete = complete no_lines [] nothing_is_explained refl
 
 -- without the fourth row it is explained still, and not complete
-lacks_the_last : first_fault (of_logs (line 0 first ∷ line 0 second ∷ line 1 first ∷ [])) ≡ None
+lacks_the_last : audit_fault (of_logs (line 0 first ∷ line 0 second ∷ line 1 first ∷ [])) ≡ None
 lacks_the_last = refl
 
-lacks_the_last_row : is_complete (line 0 first ∷ line 0 second ∷ line 1 first ∷ []) ≡ false
+lacks_the_last_row : is_whole (line 0 first ∷ line 0 second ∷ line 1 first ∷ []) ≡ false
 lacks_the_last_row = refl
 
 -- ---- one trace for each fault
 
-two_verdicts : first_fault (of_logs (line 0 first ∷ line 0 second ∷ line 1 first ∷ line 1 (row 0 1 (stamp 1 1) both) ∷ []))
+two_verdicts : audit_fault (of_logs (line 0 first ∷ line 0 second ∷ line 1 first ∷ line 1 (row 0 1 (stamp 1 1) both) ∷ []))
     ≡ Some audit.TwoVerdicts
 two_verdicts = refl
 
-same_stamps : first_fault (of_logs (line 0 first ∷ line 1 (row 2 1 (stamp 2 0) both) ∷ [])) ≡ Some audit.SameStamp
+same_stamps : audit_fault (of_logs (line 0 first ∷ line 1 (row 2 1 (stamp 2 0) both) ∷ [])) ≡ Some audit.SameStamp
 same_stamps = refl
 
-log_order : first_fault (of_logs (line 0 second ∷ line 0 first ∷ [])) ≡ Some audit.LogOrder
+log_order : audit_fault (of_logs (line 0 second ∷ line 0 first ∷ [])) ≡ Some audit.LogOrder
 log_order = refl
 
-sender_order : first_fault (of_logs (line 0 first ∷ line 0 (row 1 0 (stamp 3 0) both) ∷ [])) ≡ Some audit.SenderOrder
+sender_order : audit_fault (of_logs (line 0 first ∷ line 0 (row 1 0 (stamp 3 0) both) ∷ [])) ≡ Some audit.SenderOrder
 sender_order = refl
 
 -- without the third row
-hole : first_fault (of_logs (line 0 first ∷ line 0 second ∷ line 1 second ∷ [])) ≡ Some (audit.Hole (topic 1))
+hole : audit_fault (of_logs (line 0 first ∷ line 0 second ∷ line 1 second ∷ [])) ≡ Some (audit.Hole (topic 1))
 hole = refl
 
 -- ---- queues
@@ -129,11 +129,11 @@ abbrev with_queue : List QueueRow → Lines
 with_queue queues = record crossing { spans = span ∷ []; queues = queues }
 
 -- the span begins after the first row's stamp
-queue_of_the_span : first_fault (with_queue (queued second ∷ [])) ≡ None
+queue_of_the_span : audit_fault (with_queue (queued second ∷ [])) ≡ None
 queue_of_the_span = refl
 
-queue_with_the_first : first_fault (with_queue (queued first ∷ queued second ∷ [])) ≡ Some (audit.QueueRow 7)
+queue_with_the_first : audit_fault (with_queue (queued first ∷ queued second ∷ [])) ≡ Some (audit.QueueRow 7)
 queue_with_the_first = refl
 
-queue_without_any : first_fault (with_queue []) ≡ Some (audit.QueueRow 7)
+queue_without_any : audit_fault (with_queue []) ≡ Some (audit.QueueRow 7)
 queue_without_any = refl

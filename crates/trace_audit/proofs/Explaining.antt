@@ -15,9 +15,9 @@ use Rattle.mcast_txn.proofs.Members.{In-append_left, In-map, In-map_cases, In-fi
 use Rattle.mcast_txn.proofs.Orders.{lt_irrefl, lt_asym, le_trans, same_topics, equal_stamps, id_equal}
 use Rattle.mcast_txn.proofs.Sorting.{Rises-filter, same_rising}
 use Rattle.trace_audit.specs.Explained.{SeqsRise, rows_at, IsExplainedBy}
-use Rattle.trace_audit.specs.Faults.{differ, collide, overtake, some_two, falls, out_of_order, has_row, reaches, is_hole, holes, same_mark, is_astray, astray, lesser, least, first_fault}
+use Rattle.trace_audit.specs.Faults.{differ, collide, overtake, some_two, falls, out_of_order, log_has_row, reaches, is_hole, holes, same_mark, is_astray, astray, lesser, least, audit_fault}
 use Rattle.trace_audit.specs.Line.{LogLine}
-use Rattle.trace_audit.specs.Sorting.{IsSortingOf}
+use Rattle.trace_audit.specs.Inner.Sorting.{IsSortingOf}
 use Rattle.trace_audit.specs.Trace.{Lines, rows_of, log_of, queue_of, marks_in, fits}
 use Rattle.std.specs.Option.{option_map, option_or}
 use Rattle.mcast_txn.specs.Checks.{first_refusal}
@@ -256,19 +256,19 @@ named_in t topics h =
     subst (λ (z : Topic). In z topics) (same_topics f.it t (eqb-true f.it.0 t.0 f.passes)) f.stands
 
 -- without two verdicts, a log that has a row of the transaction has this row
-pub row_in_log : (t : Topic) (q : LogRow) (logs : List LogLine) → some_two differ logs ≡ false → In q (rows_of logs) → has_row t q.id logs ≡ true → In q (log_of t logs)
+pub row_in_log : (t : Topic) (q : LogRow) (logs : List LogLine) → some_two differ logs ≡ false → In q (rows_of logs) → log_has_row t q.id logs ≡ true → In q (log_of t logs)
 row_in_log t q logs h i e =
     let f = any_found (λ (line : LogLine). line.topic.0 == t.0 && same_id line.row.id q.id) logs e in
     let p = and_parts (f.it.topic.0 == t.0) (same_id f.it.row.id q.id) f.passes in
     let same : f.it.row ≡ q = one_row logs f.it.row q h (In-map (λ (l : LogLine). l.row) f.it logs f.stands) i p.1 in
     subst (λ (z : LogRow). In z (log_of t logs)) same (in_log t f.it logs f.stands p.0)
 
-has_member : (t : Topic) (q : LogRow) (logs : List LogLine) → least (holes logs) ≡ None → log_of t logs ≢ [] → In q (rows_of logs) → names t q.topics ≡ true → stamp_lt (last_stamp zero_stamp (log_of t logs)) q.stamp ≡ false → has_row t q.id logs ≡ true
+has_member : (t : Topic) (q : LogRow) (logs : List LogLine) → least (holes logs) ≡ None → log_of t logs ≢ [] → In q (rows_of logs) → names t q.topics ≡ true → stamp_lt (last_stamp zero_stamp (log_of t logs)) q.stamp ≡ false → log_has_row t q.id logs ≡ true
 has_member t q logs h ne i n below =
     let m = In-map_cases (λ (l : LogLine). l.row) q logs i in
     let shut : is_hole logs m.from.row t ≡ false = no_hole logs m.from t h m.stands
     (subst (λ (z : LogRow). In t z.topics) (sym m.is) (named_in t q.topics n)) in
-    shut_test (has_row t q.id logs) (reaches t q.stamp logs)
+    shut_test (log_has_row t q.id logs) (reaches t q.stamp logs)
     (subst (λ (z : LogRow). is_hole logs z t ≡ false) m.is shut) (log_reaches t q.stamp logs ne below)
 
 abbrev pub kept_at : Topic → List LogLine → LogRow → Bool
@@ -342,7 +342,7 @@ pub record IsClean (lines : Lines) : Type 0 where
   pub holes : least (holes lines.logs) ≡ None
   pub queues : least (astray lines) ≡ None
 
-pub clean : (lines : Lines) → first_fault lines ≡ None → IsClean lines
+pub clean : (lines : Lines) → audit_fault lines ≡ None → IsClean lines
 clean lines e = go (some_two differ lines.logs) (some_two collide lines.logs) (out_of_order lines.logs) (some_two overtake lines.logs) (least (holes lines.logs)) (least (astray lines)) refl refl refl refl refl refl e
   where
     go : (a b c d : Bool) (h q : Option ℕ) → some_two differ lines.logs ≡ a → some_two collide lines.logs ≡ b → out_of_order lines.logs ≡ c → some_two overtake lines.logs ≡ d → least (holes lines.logs) ≡ h → least (astray lines) ≡ q → fault_by a b c d h q ≡ None → IsClean lines

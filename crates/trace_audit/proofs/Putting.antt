@@ -11,7 +11,7 @@ use Rattle.mcast_txn.specs.Stamp.{same_stamp, stamp_lt}
 use Rattle.mcast_txn.proofs.Members.{In-append_left, In-push, In-push_cases, any_found, any_from}
 use Rattle.mcast_txn.proofs.Sorting.{In-insert, In-insert_cases, Rises-insert}
 use Rattle.trace_audit.specs.Line.{LogLine}
-use Rattle.trace_audit.specs.Sorting.{IsSortingOf, put_row}
+use Rattle.trace_audit.specs.Inner.Sorting.{IsSortingOf, put_row}
 use Rattle.trace_audit.specs.Trace.{rows_of}
 use Rattle.trace_audit.proofs.Explaining.{none_at}
 

@@ -16,13 +16,13 @@ use Rattle.mcast_txn.proofs.Members.{In-map, In-map_cases, In-filter, any_found,
 use Rattle.mcast_txn.proofs.Orders.{lt_irrefl, lt_trans, le_trans, id_itself, id_same, id_turned}
 use Rattle.mcast_txn.proofs.Sorting.{Rises-filter, one_member}
 use Rattle.trace_audit.specs.Explained.{SeqsRise, IsExplainedBy, IsCompleteBy}
-use Rattle.trace_audit.specs.Faults.{differ, collide, overtake, some_two, falls, out_of_order, has_row, reaches, is_hole, holes, same_mark, is_astray, astray, least, first_fault, is_complete}
+use Rattle.trace_audit.specs.Faults.{differ, collide, overtake, some_two, falls, out_of_order, log_has_row, reaches, is_hole, holes, same_mark, is_astray, astray, least, audit_fault, is_whole}
 use Rattle.trace_audit.specs.Line.{LogLine}
 use Rattle.trace_audit.specs.Trace.{Lines, rows_of, log_of, queue_of, marks_in, fits}
 use Rattle.trace_audit.specs.declared.mark.Mark.{Mark}
 use Rattle.trace_audit.specs.declared.row.SpanRow.{SpanRow}
-use Rattle.trace_audit.specs.Answers.{Refuses}
-use Rattle.trace_audit.specs.Sorting.{IsSortingOf}
+use Rattle.trace_audit.specs.Answers.{IsRefusal}
+use Rattle.trace_audit.specs.Inner.Sorting.{IsSortingOf}
 use Rattle.trace_audit.specs.declared.fault.AuditFault.{AuditFault}
 use Rattle.trace_audit.proofs.Explaining.{IsClean, clean, explained, and_true, not_true, not_false, stamps_equal, log_member, in_log, at_topic, last_above, kept_at, named_in, row_in_log}
 
@@ -160,7 +160,7 @@ logs_rise lines rows ex t = go (log_of t lines.logs) refl
 -- ---- holes and queues
 
 -- a log that has the row has one of its transaction
-has_from : (t : Topic) (q : LogRow) (logs : List LogLine) → In q (log_of t logs) → has_row t q.id logs ≡ true
+has_from : (t : Topic) (q : LogRow) (logs : List LogLine) → In q (log_of t logs) → log_has_row t q.id logs ≡ true
 has_from t q logs i =
     let m = log_member t q logs i in
     any_from (λ (line : LogLine). line.topic.0 == t.0 && same_id line.row.id q.id) m.line logs m.stands
@@ -172,7 +172,7 @@ not_hole lines rows ex q t i n = refuted (is_hole lines.logs q t) go
   where
     go : is_hole lines.logs q t ≡ true → Prim.⊥
     go h =
-        let p = and_parts (not (has_row t q.id lines.logs)) (reaches t q.stamp lines.logs) h in
+        let p = and_parts (not (log_has_row t q.id lines.logs)) (reaches t q.stamp lines.logs) h in
         let f = any_found (λ (line : LogLine). line.topic.0 == t.0 && not (stamp_lt line.row.stamp q.stamp)) lines.logs p.1 in
         let r = and_parts (f.it.topic.0 == t.0) (not (stamp_lt f.it.row.stamp q.stamp)) f.passes in
         let in_t = in_log t f.it lines.logs f.stands r.0 in
@@ -183,7 +183,7 @@ not_hole lines rows ex q t i n = refuted (is_hole lines.logs q t) go
         (and_true (names t q.topics) (up_to (Some (last_stamp zero_stamp (log_of t lines.logs))) q.stamp) n
         (not_true (stamp_lt (last_stamp zero_stamp (log_of t lines.logs)) q.stamp) below)) in
         let there = subst (In q) (sym (ex.logs t ne)) kept in
-        true≢false (sym (has_from t q lines.logs there) ∙ not_false (has_row t q.id lines.logs) p.0)
+        true≢false (sym (has_from t q lines.logs there) ∙ not_false (log_has_row t q.id lines.logs) p.0)
 
 flat_none : {X Y : Type 0} (f : X → List Y) (xs : List X) → ((x : X) → In x xs → f x ≡ []) → flat_map f xs ≡ []
 flat_none f [] h = refl
@@ -229,7 +229,7 @@ unrefuted lines rows ex = record {
 }
 
 -- no fault is found of a trace that is explained
-pub faultless : (lines : Lines) (rows : List LogRow) → IsExplainedBy rows lines → first_fault lines ≡ None
+pub faultless : (lines : Lines) (rows : List LogRow) → IsExplainedBy rows lines → audit_fault lines ≡ None
 faultless lines rows ex =
     let c = unrefuted lines rows ex in
     rw (c.verdicts, c.stamps, c.order, c.senders, c.holes, c.queues) refl
@@ -240,19 +240,19 @@ all_true : {X : Type 0} (p : X → Bool) (xs : List X) → ((x : X) → In x xs 
 all_true p [] h = refl
 all_true p (x ∷ xs) h = and_true (p x) (list_all p xs) (h x (inl refl)) (all_true p xs (λ y k. h y (inr k)))
 
-pub complete : (lines : Lines) (rows : List LogRow) → IsExplainedBy rows lines → is_complete lines.logs ≡ true → IsCompleteBy rows lines
+pub complete : (lines : Lines) (rows : List LogRow) → IsExplainedBy rows lines → is_whole lines.logs ≡ true → IsCompleteBy rows lines
 complete lines rows ex h q t i n =
     let j = ex.of_logs q i in
     let m = In-map_cases (λ (l : LogLine). l.row) q lines.logs j in
-    let k = all_at (λ (l : LogLine). list_all (λ (u : Topic). has_row u l.row.id lines.logs) l.row.topics) m.from lines.logs h m.stands in
-    let there = all_at (λ (u : Topic). has_row u m.from.row.id lines.logs) t m.from.row.topics k
+    let k = all_at (λ (l : LogLine). list_all (λ (u : Topic). log_has_row u l.row.id lines.logs) l.row.topics) m.from lines.logs h m.stands in
+    let there = all_at (λ (u : Topic). log_has_row u m.from.row.id lines.logs) t m.from.row.topics k
     (subst (λ (z : LogRow). In t z.topics) (sym m.is) (named_in t q.topics n)) in
-    row_in_log t q lines.logs (unrefuted lines rows ex).verdicts j (subst (λ (z : LogRow). has_row t z.id lines.logs ≡ true) m.is there)
+    row_in_log t q lines.logs (unrefuted lines rows ex).verdicts j (subst (λ (z : LogRow). log_has_row t z.id lines.logs ≡ true) m.is there)
 
-pub completed : (lines : Lines) (rows : List LogRow) → IsExplainedBy rows lines → IsCompleteBy rows lines → is_complete lines.logs ≡ true
+pub completed : (lines : Lines) (rows : List LogRow) → IsExplainedBy rows lines → IsCompleteBy rows lines → is_whole lines.logs ≡ true
 completed lines rows ex h =
-    all_true (λ (l : LogLine). list_all (λ (u : Topic). has_row u l.row.id lines.logs) l.row.topics) lines.logs
-    (λ l i. all_true (λ (u : Topic). has_row u l.row.id lines.logs) l.row.topics
+    all_true (λ (l : LogLine). list_all (λ (u : Topic). log_has_row u l.row.id lines.logs) l.row.topics) lines.logs
+    (λ l i. all_true (λ (u : Topic). log_has_row u l.row.id lines.logs) l.row.topics
     (λ u k. has_from u l.row lines.logs
     (h l.row u (ex.all l.row (In-map (λ (z : LogLine). z.row) l lines.logs i)) (named_by u l.row.topics k))))
 
@@ -261,13 +261,13 @@ completed lines rows ex h =
 none_is : (f : AuditFault) → None ≡ Some f → Prim.⊥
 none_is f e = cc
 
-pub refuses : (lines : Lines) (fault : AuditFault) → first_fault lines ≡ Some fault → Refuses fault lines
+pub refuses : (lines : Lines) (fault : AuditFault) → audit_fault lines ≡ Some fault → IsRefusal fault lines
 refuses lines fault e = record {
   first = e;
   unexplained = λ rows ex. none_is fault (sym (faultless lines rows ex) ∙ e);
 }
 
-pub explains : (lines : Lines) (logs : List LogLine) (rows : List LogRow) → logs ≡ lines.logs → list_all (λ (line : LogLine). fits line) logs ≡ true → first_fault lines ≡ None → IsSortingOf rows (rows_of logs) → IsExplainedBy rows lines
+pub explains : (lines : Lines) (logs : List LogLine) (rows : List LogRow) → logs ≡ lines.logs → list_all (λ (line : LogLine). fits line) logs ≡ true → audit_fault lines ≡ None → IsSortingOf rows (rows_of logs) → IsExplainedBy rows lines
 explains lines logs rows same fit none sorting =
     explained lines rows (subst (λ (z : List LogLine). list_all (λ (line : LogLine). fits line) z ≡ true) same fit) (clean lines none)
     (subst (λ (z : List LogLine). IsSortingOf rows (rows_of z)) same sorting)

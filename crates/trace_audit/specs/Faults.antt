@@ -48,8 +48,8 @@ out_of_order [] = false
 out_of_order (x ∷ xs) = list_any (λ y. falls x y) xs || out_of_order xs
 
 -- the log of t has a row of the transaction
-abbrev pub has_row : Topic → TxnId → List LogLine → Bool
-has_row t id logs = list_any (λ line. line.topic.0 == t.0 && same_id line.row.id id) logs
+abbrev pub log_has_row : Topic → TxnId → List LogLine → Bool
+log_has_row t id logs = list_any (λ line. line.topic.0 == t.0 && same_id line.row.id id) logs
 
 -- the log of t has a row of this stamp or a later one
 abbrev pub reaches : Topic → Stamp → List LogLine → Bool
@@ -57,7 +57,7 @@ reaches t stamp logs = list_any (λ line. line.topic.0 == t.0 && not (stamp_lt l
 
 -- the log of t goes on to the row's stamp or beyond, and lacks the row
 abbrev pub is_hole : List LogLine → LogRow → Topic → Bool
-is_hole logs row t = not (has_row t row.id logs) && reaches t row.stamp logs
+is_hole logs row t = not (log_has_row t row.id logs) && reaches t row.stamp logs
 
 -- the topics, by their numbers, whose logs lack a row that names them and that they go beyond
 abbrev pub holes : List LogLine → List ℕ
@@ -95,8 +95,8 @@ abbrev pub queue_fault : Lines → Option AuditFault
 queue_fault lines = option_map (λ n. audit.QueueRow n) (least (astray lines))
 
 -- the first that speaks against the trace
-abbrev pub first_fault : Lines → Option AuditFault
-first_fault lines =
+abbrev pub audit_fault : Lines → Option AuditFault
+audit_fault lines =
     option_or (first_refusal (
     (some_two differ lines.logs, audit.TwoVerdicts)
     ∷ (some_two collide lines.logs, audit.SameStamp)
@@ -106,8 +106,8 @@ first_fault lines =
     (option_or (hole_fault lines.logs) (queue_fault lines))
 
 -- each row of a log is in the log of each of its topics
-abbrev pub is_complete : List LogLine → Bool
-is_complete logs = list_all (λ line. list_all (λ t. has_row t line.row.id logs) line.row.topics) logs
+abbrev pub is_whole : List LogLine → Bool
+is_whole logs = list_all (λ line. list_all (λ t. log_has_row t line.row.id logs) line.row.topics) logs
 
 -- ---- numbers (own)
 

@@ -3,5 +3,5 @@ pub mod Explained
 pub mod Faults
 pub mod Line
 pub mod Rows
-pub mod Sorting
 pub mod Trace
+pub mod Inner

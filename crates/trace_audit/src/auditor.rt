@@ -3,10 +3,10 @@
 ghost use Rattle.std.specs.Prelude.{◌≡◌, ◌≤◌, ◌↔◌, false, length, IsTrue, IfOk, IfErr, OnOk, None};
 ghost use Rattle.std.specs.List.{list_any, position};
 ghost use Rattle.mcast_txn.specs.Stamp.{same_stamp, stamp_lt};
-ghost use Rattle.trace_audit.specs.Answers.{Refuses, says_no_memory};
+ghost use Rattle.trace_audit.specs.Answers.{IsRefusal, says_no_memory};
 ghost use Rattle.trace_audit.specs.Explained.{IsCompleteBy, IsExplainedBy};
-ghost use Rattle.trace_audit.specs.Faults.{first_fault};
-ghost use Rattle.trace_audit.specs.Sorting.{IsPlaceFor, IsSortingOf, put_row};
+ghost use Rattle.trace_audit.specs.Faults.{audit_fault};
+ghost use Rattle.trace_audit.specs.Inner.Sorting.{IsPlaceFor, IsSortingOf, put_row};
 ghost use Rattle.trace_audit.specs.Trace.{rows_of};
 
 use crate::agreed::{Agreed, AgreedRow};
@@ -23,9 +23,9 @@ pub fn audit(alloc: Global, trace: &Trace) -> Result<Agreed, AuditFault>
     ensures explained { IfOk result (λ agreed. IsExplainedBy agreed.rows.items trace.now) }
     ensures complete { IfOk result
         (λ agreed. IsTrue agreed.complete ↔ IsCompleteBy agreed.rows.items trace.now) }
-    ensures faultless { OnOk result (first_fault trace.now ≡ None) }
+    ensures faultless { OnOk result (audit_fault trace.now ≡ None) }
     ensures refused { IfErr result
-        (λ fault. says_no_memory fault ≡ false → Refuses fault trace.now) }
+        (λ fault. says_no_memory fault ≡ false → IsRefusal fault trace.now) }
 {
     match find_fault(alloc, trace) {
         Ok(None) => {}
@@ -35,13 +35,13 @@ pub fn audit(alloc: Global, trace: &Trace) -> Result<Agreed, AuditFault>
     let Ok(rows) = sorted_rows(alloc, &trace.logs) else {
         return Err(AuditFault::NoMemory);
     };
-    let complete = checks::is_complete(&trace.logs);
+    let complete = checks::is_whole(&trace.logs);
     Ok(Agreed { rows, complete })
 }
 
 // The first fault.
 fn find_fault(alloc: Global, trace: &Trace) -> Result<Option<AuditFault>, NoMemory>
-    ensures { IfOk result (λ fault. fault ≡ first_fault trace.now) }
+    ensures { IfOk result (λ fault. fault ≡ audit_fault trace.now) }
 {
     let logs = trace.logs.as_slice();
     if checks::has_two_verdicts(logs) {

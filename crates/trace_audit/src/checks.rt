@@ -2,7 +2,7 @@
 
 ghost use Rattle.std.specs.Prelude.{◌≡◌, map};
 ghost use Rattle.std.specs.List.{filter, list_all, list_any};
-ghost use Rattle.trace_audit.specs.Faults.{collide, differ, falls, has_row, holes, is_complete, is_hole, least, lesser, out_of_order, overtake, reaches, some_two};
+ghost use Rattle.trace_audit.specs.Faults.{collide, differ, falls, log_has_row, holes, is_whole, is_hole, least, lesser, out_of_order, overtake, reaches, some_two};
 
 use crate::row::LogRow;
 use mcast_txn::{Stamp, Topic, TxnId};
@@ -97,8 +97,8 @@ fn falls(a: &LogRow, b: &LogRow) -> bool
 }
 
 // Whether a topic's log has a row of the transaction.
-fn has_row(topic: Topic, id: TxnId, logs: &[LogRow]) -> bool
-    ensures { result ≡ has_row topic id logs.now }
+fn log_has_row(topic: Topic, id: TxnId, logs: &[LogRow]) -> bool
+    ensures { result ≡ log_has_row topic id logs.now }
 {
     logs.iter()
         .any(|row| row.topic.0 == topic.0 && row.id == id)
@@ -115,7 +115,7 @@ fn reaches(topic: Topic, stamp: Stamp, logs: &[LogRow]) -> bool
 fn is_hole(logs: &[LogRow], row: &LogRow, topic: Topic) -> bool
     ensures { result ≡ is_hole logs.now row.now.row topic }
 {
-    !has_row(topic, row.id, logs) && reaches(topic, row.stamp, logs)
+    !log_has_row(topic, row.id, logs) && reaches(topic, row.stamp, logs)
 }
 
 // The least topic that has a hole.
@@ -154,15 +154,17 @@ fn lesser(a: Option<u32>, b: Option<u32>) -> Option<u32>
 }
 
 // Whether each row is in the log of each of its topics.
-pub(crate) fn is_complete(logs: &[LogRow]) -> bool
-    ensures { result ≡ is_complete logs.now }
+pub(crate) fn is_whole(logs: &[LogRow]) -> bool
+    ensures { result ≡ is_whole logs.now }
 {
     logs.iter().all(|row| is_everywhere(row, logs))
 }
 
 // Whether a row is in the log of each of its topics.
 fn is_everywhere(row: &LogRow, logs: &[LogRow]) -> bool
-    ensures { result ≡ list_all (λ t. has_row t row.now.row.id logs.now) row.now.row.topics }
+    ensures { result ≡ list_all (λ t. log_has_row t row.now.row.id logs.now) row.now.row.topics }
 {
-    row.topics.iter().all(|topic| has_row(*topic, row.id, logs))
+    row.topics
+        .iter()
+        .all(|topic| log_has_row(*topic, row.id, logs))
 }

@@ -1,6 +1,6 @@
 use Rattle.std.proofs.Common.{◌+◌, List, take, sym, subst}
 use Rattle.mcast_txn.specs.Span.{LogRow}
-use Rattle.trace_audit.specs.Sorting.{IsSortingOf, put_row}
+use Rattle.trace_audit.specs.Inner.Sorting.{IsSortingOf, put_row}
 use Rattle.trace_audit.specs.Trace.{rows_of}
 use Rattle.trace_audit.proofs.Putting.{one_line, put_sorted}
 use Rattle.trace_audit.proofs.auditor.sorted_rows.Goals as goal

@@ -1,5 +1,5 @@
 use Rattle.std.proofs.Common.{take}
-use Rattle.trace_audit.specs.Sorting.{IsSortingOf}
+use Rattle.trace_audit.specs.Inner.Sorting.{IsSortingOf}
 use Rattle.trace_audit.specs.Trace.{rows_of}
 use Rattle.trace_audit.proofs.auditor.sorted_rows.Given as goal
 
