@@ -4,6 +4,7 @@ use Rattle.std.specs.List.{list_any, position, remove, filter}
 use Rattle.std.specs.Option.{is_some}
 use Rattle.std.proofs.lemmas.Bool.{true≢false, false≢true}
 use Rattle.std.proofs.lemmas.Bool.Decides.{nat_tests}
+use Rattle.std.proofs.lemmas.Bool.{true≢false}
 use Rattle.std.proofs.lemmas.List.{length_push, map-append}
 use Rattle.std.proofs.lemmas.List.Edits.{length-remove}
 use Rattle.mcast_group.proofs.Copying.{fewer}
@@ -15,6 +16,8 @@ use Rattle.mcast_txn.specs.Span.{LogRow}
 use Rattle.mcast_txn.specs.declared.id.Topic.{Topic}
 use Rattle.mcast_txn.proofs.Members.{In-push_cases, In-filter_cases}
 use Rattle.sub_queue.specs.Shown.{Shown, Room}
+use Rattle.mcast_group.specs.declared.state.SubState.{SubState}
+use Rattle.mcast_group.specs.Machine.{state_of_entry}
 use Rattle.mcast_group.specs.declared.subscription.Subscription.{Subscription}
 use Rattle.mcast_group.specs.declared.fault.SubFault.TheVariants.{SubInUse}
 use Rattle.mcast_group.specs.Machine.{TopicState, Entry, Pending, find_entry, subscribe_fault, after_subscribe, after_unsubscribe, unsubscribe_fault}
@@ -178,3 +181,17 @@ pub no_sub : {Q : Type 0} (shown : Q → Shown) (x : TopicState) (n : ℕ) (subs
 no_sub {Q = Q} shown x n subs e p =
     let a : is_some (find_entry n x.subscriptions) ≡ false = ap (λ (es : List Entry). is_some (find_entry n es)) e ∙ (entry_any shown n subs ∙ none_at (λ (z : Subscription Q). z.number == n) subs p) in
     rw a refl
+
+-- ---- what is asked of one
+
+option_none : {X : Type 0} (o : Option X) → is_some o ≡ false → o ≡ None
+option_none None h = refl
+option_none (Some x) h = absurd (true≢false h)
+
+-- where no subscription has the number, no entry has
+pub no_entry : {Q : Type 0} (shown : Q → Shown) (n : ℕ) (subs : List (Subscription Q)) → position (λ (z : Subscription Q). z.number == n) subs ≡ None → find_entry n (map (entry_of shown) subs) ≡ None
+no_entry {Q = Q} shown n subs p = option_none (find_entry n (map (entry_of shown) subs)) (entry_any shown n subs ∙ none_at (λ (z : Subscription Q). z.number == n) subs p)
+
+-- a subscription with an end has lagged there
+pub lag_state : (e : Entry) (end : Stamp) → e.to ≡ Some end → SubState.Lag end ≡ state_of_entry e
+lag_state e end h = rw h refl

@@ -142,6 +142,17 @@ room_at number [] rooms = None
 room_at number (e ∷ es) [] = None
 room_at number (e ∷ es) (r ∷ rooms) = if number == e.number then Some r else room_at number es rooms
 
+-- what an outlet shows that has this entry and this room, if there are both
+abbrev pub shown_with : Option Entry → Option Room → Option Shown
+shown_with None room = None
+shown_with (Some e) None = None
+shown_with (Some e) (Some room) = Some (shows e room)
+
+-- what the outlet of the subscription of this number shows, if there is one
+abbrev pub shown_at : ℕ → GroupState → Option Shown
+shown_at number g =
+    shown_with (find_entry number g.topic.subscriptions) (room_at number g.topic.subscriptions g.rooms)
+
 -- a new subscription, whose outlet shows this room
 abbrev pub group_after_subscribe : ℕ → Room → GroupState → GroupState
 group_after_subscribe number room g =

@@ -4,14 +4,14 @@ ghost use Rattle.std.specs.Prelude.{◌≡◌, ℕ, ◌+◌, ◌-◌, ◌<◌, �
 ghost use Rattle.std.specs.Arc.{arc_value};
 ghost use Rattle.std.specs.Option.{option_map};
 ghost use Rattle.mcast_txn.specs.Part.{data_of};
-ghost use Rattle.mcast_group.specs.Group.{CanLearn, MayBeFound, GroupState, Releases, ReleasesAll, Tries, TriesAll, Turns, AreFound, group_after_release, result_of, after_enter, propose_refusal, Leaves, sub_refusal, group_after_subscribe, group_after_unsubscribe};
+ghost use Rattle.mcast_group.specs.Group.{CanLearn, MayBeFound, GroupState, Releases, ReleasesAll, Tries, TriesAll, Turns, AreFound, group_after_release, result_of, after_enter, propose_refusal, Leaves, shown_at, sub_refusal, group_after_subscribe, group_after_unsubscribe};
 ghost use Rattle.mcast_txn.specs.declared.id.TxnId.{TxnId};
 ghost use Rattle.mcast_txn.specs.Ballot.{Decision};
 ghost use Rattle.mcast_group.specs.Counted.{takes_of};
 ghost use Rattle.mcast_group.specs.Inner.Copies.{AreOf, HaveCopies};
 ghost use Rattle.mcast_group.specs.Fitting.{Fits};
 ghost use Rattle.mcast_group.specs.Inner.GroupInvariant.{entry_of};
-ghost use Rattle.mcast_group.specs.Machine.{Pending, cancel_fault, after_cancel, after_turn, decided_stamp, due_part, key, learn_fault, after_learn, new_topic, insert_pending, next_number, propose_fault, after_propose, subscribe_fault, unsubscribe_fault};
+ghost use Rattle.mcast_group.specs.Machine.{Pending, cancel_fault, after_cancel, after_turn, decided_stamp, due_part, key, learn_fault, after_learn, new_topic, insert_pending, next_number, propose_fault, after_propose, state_of, subscribe_fault, unsubscribe_fault};
 
 use crate::copies::{Copies, add_to_each};
 use crate::ended::Ended;
@@ -19,6 +19,7 @@ use crate::fault::{CancelFault, LearnFault, NoSub, ProposeFault, SubFault};
 use crate::law::has_one_row_each;
 use crate::pending::{PendingPart, index_for, index_of, index_to_learn, least_index};
 use crate::row::Row;
+use crate::state::SubState;
 use crate::subscription::{Subscription, give_all, index_of_sub, reserve_each};
 use crate::verdicts::Verdicts;
 use mcast_txn::{NoMemory, Part, Stamp, Ticket, Topic, TxnId, Verdict};
@@ -298,6 +299,26 @@ impl<Q: Outlet + Drop> Group<Q> {
         };
         let sub = self.subscriptions.remove(index);
         Ok(sub.end(self.frontier))
+    }
+
+    /// Whether the subscription of this number is open or has lagged, if there is one.
+    pub fn state(&self, number: u64) -> Option<SubState>
+        ensures { result ≡ state_of number self.now.topic }
+    {
+        let Some(index) = index_of_sub(&self.subscriptions, number) else {
+            return None;
+        };
+        Some(self.subscriptions[index].state())
+    }
+
+    /// The outlet of the subscription of this number, if there is one.
+    pub fn outlet(&self, number: u64) -> Option<&Q>
+        ensures { option_map (λ outlet. Q.shown outlet.now) result ≡ shown_at number self.now }
+    {
+        let Some(index) = index_of_sub(&self.subscriptions, number) else {
+            return None;
+        };
+        Some(&self.subscriptions[index].outlet)
     }
 
     // Learns once for each pending part, by rising id, the verdict that is found, if it isn't refused.

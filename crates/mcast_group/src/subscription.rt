@@ -4,7 +4,7 @@ ghost use Rattle.std.specs.Prelude.{◌≡◌, ℕ, ◌+◌, ◌<◌, ◌≤◌,
 ghost use Rattle.std.specs.List.{position};
 ghost use Rattle.mcast_txn.specs.Lists.{In};
 ghost use Rattle.mcast_txn.specs.Transaction.{TopicPart};
-ghost use Rattle.mcast_group.specs.Machine.{entry_after, end_of, item_of, key};
+ghost use Rattle.mcast_group.specs.Machine.{entry_after, end_of, item_of, key, state_of_entry};
 ghost use Rattle.mcast_group.specs.Inner.Copies.{AreOf};
 ghost use Rattle.mcast_group.specs.Inner.GroupInvariant.{Gave, IsReady, entry_of, room_of};
 ghost use Rattle.mcast_group.specs.declared.subscription.Subscription.{Subscription};
@@ -13,6 +13,7 @@ use crate::cause::Cause;
 use crate::copies::Copies;
 use crate::ended::Ended;
 use crate::pending::PendingPart;
+use crate::state::SubState;
 use mcast_txn::{NoMemory, Released, Stamp};
 use sub_queue::Outlet;
 
@@ -46,6 +47,16 @@ impl<Q: Outlet + Drop> Subscription<Q> {
                 outlet: self.outlet,
                 cause: Cause::Lag,
             },
+        }
+    }
+
+    // Whether it is open or has lagged.
+    pub(crate) fn state(&self) -> SubState
+        ensures { result ≡ state_of_entry (entry_of Q.shown self.now) }
+    {
+        match self.to {
+            None => SubState::Open,
+            Some(to) => SubState::Lag(to),
         }
     }
 
