@@ -59,6 +59,7 @@ fn part(
     Ok(part)
 }
 
+/// What a queue of the topic gets of a row.
 fn item(alloc: Global, topic: Topic, row: CommitRow) -> Result<QueueItem, NoMemory>
     ensures { IfOk result (λ item. item ≡ item_at topic row) }
 {
@@ -70,18 +71,21 @@ fn item(alloc: Global, topic: Topic, row: CommitRow) -> Result<QueueItem, NoMemo
     })
 }
 
+/// Whether a SEND is to the topic.
 fn has_send(topic: Topic, sends: &[SentMessage]) -> bool
     ensures { result ≡ list_any (λ send. send.topic.0 == topic.0) sends.now }
 {
     sends.iter().any(|send| send.topic.0 == topic.0)
 }
 
+/// Whether a transaction of these SENDs names the topic.
 fn names(topic: Topic, sends: &[SentMessage]) -> bool
     ensures { result ≡ names topic (topics_of sends.now) }
 {
     has_send(topic, sends)
 }
 
+/// Whether a stamp is at most the end, if there is one.
 fn is_up_to(to: Option<Stamp>, stamp: Stamp) -> bool
     ensures { result ≡ up_to to stamp }
 {
@@ -91,12 +95,14 @@ fn is_up_to(to: Option<Stamp>, stamp: Stamp) -> bool
     }
 }
 
+/// Whether a stamp lies in a span: above its beginning, and up to its end.
 fn is_within(from: Stamp, to: Option<Stamp>, stamp: Stamp) -> bool
     ensures { result ≡ in_span from to stamp }
 {
     from.is_before(stamp) && is_up_to(to, stamp)
 }
 
+/// Whether a row is due to a subscription with this topic and span, up to the frontier.
 fn is_due(topic: Topic, from: Stamp, to: Option<Stamp>, frontier: Stamp, row: &CommitRow) -> bool
     ensures { result ≡ is_due (record { topic = topic; from = from; to = to }) frontier row.now }
 {

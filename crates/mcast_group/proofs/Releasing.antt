@@ -16,7 +16,7 @@ use Rattle.sub_queue.specs.Shown.{Shown, Room, IsAboveLast}
 use Rattle.mcast_group.specs.declared.subscription.Subscription.{Subscription}
 use Rattle.mcast_group.specs.Sound.{IsSound}
 use Rattle.mcast_group.specs.Machine.{TopicState, Entry, Pending, entry_after, due_part, item_of, key, least_part, after_release, after_release_of, row_of}
-use Rattle.mcast_group.specs.Group.{GroupState, Answers, AnswersEach, ReleasesAll, group_after_releases, MayAnswer, Releases, entries_after, group_after_release}
+use Rattle.mcast_group.specs.Group.{GroupState, OutletsAnswer, AnswersEach, ReleasesAll, group_after_releases, MayAnswer, Releases, entries_after, group_after_release}
 use Rattle.mcast_group.specs.Sound.{NumbersDiffer}
 use Rattle.mcast_group.specs.Inner.Copies.{AreOf, HaveCopies}
 use Rattle.mcast_group.specs.Inner.GroupInvariant.{Gave, IsKept, IsReady, MayGive, entry_of, room_of}
@@ -249,7 +249,7 @@ pub each_push : (ts : List (Entry → Bool)) (t : Entry → Bool) (g : GroupStat
 each_push [] t g = refl
 each_push (u ∷ ts) t g = each_push ts t (group_after_release u g)
 
-pub answers_push : (may : Shown → Bool → Type 0) (ts : List (Entry → Bool)) (t : Entry → Bool) (g : GroupState) → AnswersEach may ts g → ((p : Pending) → due_part (group_after_releases ts g).topic ≡ Some p → Answers may t (group_after_releases ts g)) → AnswersEach may (ts ++ t ∷ []) g
+pub answers_push : (may : Shown → Bool → Type 0) (ts : List (Entry → Bool)) (t : Entry → Bool) (g : GroupState) → AnswersEach may ts g → ((p : Pending) → due_part (group_after_releases ts g).topic ≡ Some p → OutletsAnswer may t (group_after_releases ts g)) → AnswersEach may (ts ++ t ∷ []) g
 answers_push may [] t g h k = (k, tt)
 answers_push may (u ∷ ts) t g h k = (h.0, answers_push may ts t (group_after_release u g) h.1 k)
 

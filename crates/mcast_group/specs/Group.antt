@@ -51,8 +51,8 @@ MayAnswer may takes (e ∷ es) (r ∷ rooms) =
     (e.to ≡ None → may (shows e r) (takes e)) × MayAnswer may takes es rooms
 
 -- the same of a whole group
-abbrev pub Answers : (Shown → Bool → Type 0) → (Entry → Bool) → GroupState → Type 0
-Answers may takes g = MayAnswer may takes g.topic.subscriptions g.rooms
+abbrev pub OutletsAnswer : (Shown → Bool → Type 0) → (Entry → Bool) → GroupState → Type 0
+OutletsAnswer may takes g = MayAnswer may takes g.topic.subscriptions g.rooms
 
 -- each entry after an item was due to it, where its outlet answered as the list says
 abbrev pub entries_after : Stamp → Item → List Bool → List Entry → List Entry
@@ -68,7 +68,7 @@ group_after_release takes g = record g { topic = after_release takes g.topic }
 -- A release: the machine's, with some answers that the outlets may give.
 abbrev pub Releases : (Shown → Bool → Type 0) → GroupState → GroupState → Type 0
 Releases may g new =
-    (takes : Entry → Bool) × ((p : Pending) → due_part g.topic ≡ Some p → Answers may takes g)
+    (takes : Entry → Bool) × ((p : Pending) → due_part g.topic ≡ Some p → OutletsAnswer may takes g)
     × (new ≡ group_after_release takes g)
 
 -- one release for each of these answers
@@ -80,7 +80,7 @@ group_after_releases (takes ∷ more) g = group_after_releases more (group_after
 abbrev pub AnswersEach : (Shown → Bool → Type 0) → List (Entry → Bool) → GroupState → Type 0
 AnswersEach may [] g = Unit {0}
 AnswersEach may (takes ∷ more) g =
-    ((p : Pending) → due_part g.topic ≡ Some p → Answers may takes g)
+    ((p : Pending) → due_part g.topic ≡ Some p → OutletsAnswer may takes g)
     × AnswersEach may more (group_after_release takes g)
 
 -- As many releases as parts are pending, each with some answers that the outlets may give.
@@ -181,7 +181,7 @@ group_after_unsubscribe number g = record {
 -- found, roomed: it has this entry and this room.
 -- shows_it: its outlet shows what it showed.
 -- end, why: its end and its cause are the machine's.
-pub record Leaves (number : ℕ) (g : GroupState) (shown : Shown) (to : Stamp) (cause : Cause) : Type 0 where
+pub record HasLeft (number : ℕ) (g : GroupState) (shown : Shown) (to : Stamp) (cause : Cause) : Type 0 where
   pub entry : Entry
   pub room : Room
   pub found : find_entry number g.topic.subscriptions ≡ Some entry

@@ -4,7 +4,7 @@ ghost use Rattle.std.specs.Prelude.{◌≡◌, ℕ, ◌+◌, ◌-◌, ◌<◌, �
 ghost use Rattle.std.specs.Arc.{arc_value};
 ghost use Rattle.std.specs.Option.{option_map};
 ghost use Rattle.mcast_txn.specs.Part.{data_of};
-ghost use Rattle.mcast_group.specs.Group.{CanLearn, MayBeFound, GroupState, Releases, ReleasesAll, Tries, TriesAll, Turns, AreFound, group_after_release, result_of, after_enter, propose_refusal, Leaves, shown_at, sub_refusal, group_after_subscribe, group_after_unsubscribe};
+ghost use Rattle.mcast_group.specs.Group.{CanLearn, MayBeFound, GroupState, Releases, ReleasesAll, Tries, TriesAll, Turns, AreFound, group_after_release, result_of, after_enter, propose_refusal, HasLeft, shown_at, sub_refusal, group_after_subscribe, group_after_unsubscribe};
 ghost use Rattle.mcast_txn.specs.declared.id.TxnId.{TxnId};
 ghost use Rattle.mcast_txn.specs.Ballot.{Decision};
 ghost use Rattle.mcast_group.specs.Counted.{takes_of};
@@ -289,7 +289,7 @@ impl<Q: Outlet + Drop> Group<Q> {
     /// Ends the subscription of this number, with no memory, and returns what it leaves. Refused by 48 where there
     /// is none; the topic is then as it was.
     pub fn unsubscribe(&mut self, number: u64) -> Result<Ended<Q>, NoSub>
-        ensures left { IfOk result (λ left. Leaves number self.old (Q.shown left.outlet) left.to left.cause) }
+        ensures left { IfOk result (λ left. HasLeft number self.old (Q.shown left.outlet) left.to left.cause) }
         ensures ok { OnOk result (self.new ≡ group_after_unsubscribe number self.old) }
         ensures fault { IfErr result (λ fault. unsubscribe_fault number self.old.topic ≡ Some fault) }
         ensures err { OnErr result (self.new ≡ self.old) }

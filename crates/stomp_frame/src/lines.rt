@@ -35,6 +35,7 @@ pub(crate) fn is_utf8(octets: &[u8]) -> bool
     str::from_utf8(octets).is_ok()
 }
 
+/// Whether a carriage return or a NULL is among the octets.
 fn has_cr_or_null(content: &[u8]) -> bool
     ensures { result ≡ list_any (λ b. b == 13 || b == 0) content.now }
 {

@@ -21,8 +21,8 @@ impl Model for Released {
     ghost Value = { Item };
 
     ghost view = { λ r. record {
-        id = (data_of (arc_value r.part)).id;
-        stamp = r.stamp;
-        sends = (data_of (arc_value r.part)).sends;
+      id = (data_of (arc_value r.part)).id;
+      stamp = r.stamp;
+      sends = (data_of (arc_value r.part)).sends;
     } };
 }

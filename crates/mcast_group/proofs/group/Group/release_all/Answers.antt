@@ -1,6 +1,6 @@
 use Rattle.std.proofs.Common.{◌≡◌, ◌-◌, ◌++◌, ◌∷◌, [], length, Some, refl, sym, ap, subst, ◌∙◌, arith}
 use Rattle.std.proofs.lemmas.List.{length_push}
-use Rattle.mcast_group.specs.Group.{GroupState, Answers, group_after_release}
+use Rattle.mcast_group.specs.Group.{GroupState, OutletsAnswer, group_after_release}
 use Rattle.mcast_group.specs.Machine.{Pending, due_part}
 use Rattle.mcast_group.proofs.Turns.{some_due, none_due, release_less}
 use Rattle.mcast_group.proofs.Releasing.{answers_push, each_push, released_all}
@@ -26,7 +26,7 @@ loop-preserved g c =
     record {
       answers = inv.answers ++ r.0 ∷ [];
       many = omega arith;
-      may = answers_push g.Q.Outlet.may_accept inv.answers r.0 c.args.self.now inv.may (subst (λ (z : GroupState). (p : Pending) → due_part z.topic ≡ Some p → Answers g.Q.Outlet.may_accept r.0 z) inv.is r.1);
+      may = answers_push g.Q.Outlet.may_accept inv.answers r.0 c.args.self.now inv.may (subst (λ (z : GroupState). (p : Pending) → due_part z.topic ≡ Some p → OutletsAnswer g.Q.Outlet.may_accept r.0 z) inv.is r.1);
       is = r.2 ∙ (ap (group_after_release r.0) inv.is ∙ sym (each_push inv.answers r.0 c.args.self.now));
     }
 

@@ -3,7 +3,7 @@ use Rattle.std.specs.List.{filter}
 use Rattle.std.specs.Vec.{vec_capacity}
 use Rattle.sub_queue.specs.Shown.{Room}
 use Rattle.mcast_group.specs.declared.subscription.Subscription.{Subscription}
-use Rattle.mcast_group.specs.Group.{GroupState, Leaves, topic_state, group_after_unsubscribe}
+use Rattle.mcast_group.specs.Group.{GroupState, HasLeft, topic_state, group_after_unsubscribe}
 use Rattle.mcast_group.specs.Inner.GroupInvariant.{IsKept, entry_of, room_of}
 use Rattle.mcast_group.specs.Machine.{Entry, unsubscribe_fault}
 use Rattle.mcast_group.proofs.Subscribing.{ends_found, kept_unsubscribed, no_sub}
@@ -41,7 +41,7 @@ returns-clause-left g c =
     let es : map (entry_of shown) c.remove-sub.new.self.items ≡ filter (λ (e : Entry). not (e.number == c.args.number)) (map (entry_of shown) subs) = ap (map (entry_of shown)) c.remove-sub.ensures.items ∙ sym (ends.1.left c.self.invariant.differ) in
     let sub = c.remove-sub.result in
     let v : get_or subs c.in-Some.index sub ≡ sub = sym c.remove-sub.ensures.value in
-    subst (λ (z : GroupState). Leaves c.args.number z (shown c.end.result.outlet) c.end.result.to c.end.result.cause) c.self.view_is (record {
+    subst (λ (z : GroupState). HasLeft c.args.number z (shown c.end.result.outlet) c.end.result.to c.end.result.cause) c.self.view_is (record {
       entry = entry_of shown sub;
       room = room_of shown sub;
       found = ends.1.found ∙ ap (λ (z : Subscription g.row.Q.Denot). Some (entry_of shown z)) v;
