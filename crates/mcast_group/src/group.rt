@@ -330,7 +330,7 @@ impl<Q: Outlet + Drop> Group<Q> {
         }
     }
 
-    // Learns for the part at a index the verdict that is found, if it isn't refused.
+    // Learns for the part at an index the verdict that is found, if it isn't refused.
     fn try_to_learn<V: Verdicts>(&mut self, index: usize, verdicts: &V)
         requires { index < length self.old.topic.pending }
         ensures { (d : Pending) → Tries (MayBeFound (V.finds verdicts.now)) (slice_index_or self.old.topic.pending index d) self.old self.new }
