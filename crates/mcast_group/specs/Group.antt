@@ -96,7 +96,8 @@ abbrev pub group_after_tries : (TxnId → Option Decision) → GroupState → Gr
 group_after_tries find g = record g { topic = after_tries find g.topic.pending g.topic }
 
 -- what `find` gives for each of these parts may be found for it
-abbrev pub AreFound : (TopicPart → Option Decision → Type 0) → (TxnId → Option Decision) → List Pending → Type 0
+abbrev pub AreFound : (TopicPart → Option Decision → Type 0) → (TxnId → Option Decision) → List Pending
+    → Type 0
 AreFound finds find ps = (p : Pending) → In p ps → finds p.part (find p.part.id)
 
 -- something may be found, and where it is a verdict, that has one row for a topic
@@ -106,7 +107,8 @@ MayBeFound finds part found = finds part found × IfSome found HasOneRowEach
 -- a part tries to learn something that may be found for it
 abbrev pub Tries : (TopicPart → Option Decision → Type 0) → Pending → GroupState → GroupState → Type 0
 Tries finds p g new =
-    (found : Option Decision) × finds p.part found × (new ≡ record g { topic = after_try p.part.id found g.topic })
+    (found : Option Decision) × finds p.part found
+    × (new ≡ record g { topic = after_try p.part.id found g.topic })
 
 -- each pending part tries to learn something that may be found for it
 abbrev pub TriesAll : (TopicPart → Option Decision → Type 0) → GroupState → GroupState → Type 0

@@ -68,7 +68,8 @@ is_in_no_transaction s f =
 -- a SEND in a transaction that is full
 abbrev pub is_in_full_transaction : Held → RawFrame → Bool
 is_in_full_transaction s f =
-    option_map_or (λ x. is_full_of_sends (sends_in x s.transactions)) (first_of (codes "transaction") f.headers) false
+    option_map_or (λ x. is_full_of_sends (sends_in x s.transactions))
+    (first_of (codes "transaction") f.headers) false
 
 -- the tests of each frame, in their order, after those of every frame
 abbrev pub tests_by : Command → Held → RawFrame → List Test

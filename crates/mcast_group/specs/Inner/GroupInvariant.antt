@@ -13,7 +13,8 @@ use Rattle.mcast_group.specs.Inner.Copies.{HaveCopies}
 
 -- a subscription of the machine
 abbrev pub entry_of : {Q : Type 0} → (Q → Shown) → Subscription Q → Entry
-entry_of shown s = record { number = s.number; from = s.from; to = s.to; accepted = (shown s.outlet).accepted }
+entry_of shown s =
+    record { number = s.number; from = s.from; to = s.to; accepted = (shown s.outlet).accepted }
 
 -- the room that its outlet shows
 abbrev pub room_of : {Q : Type 0} → (Q → Shown) → Subscription Q → Room
@@ -47,8 +48,8 @@ MayGive shown may (b ∷ bs) [] = Prim.⊥
 MayGive shown may (b ∷ bs) (s ∷ subs) = (s.to ≡ None → may (shown s.outlet) b) × MayGive shown may bs subs
 
 -- an item was given to each, and each answered
-pub record Gave {Q : Type 0} (shown : Q → Shown) (may : Shown → Bool → Type 0) (frontier : Stamp) (item : Item)
-    (old new : List (Subscription Q)) : Type 0 where
+pub record Gave {Q : Type 0} (shown : Q → Shown) (may : Shown → Bool → Type 0) (frontier : Stamp)
+    (item : Item) (old new : List (Subscription Q)) : Type 0 where
   pub answers : List Bool
   pub many : length answers ≡ length old
   pub answered : MayGive shown may answers old
