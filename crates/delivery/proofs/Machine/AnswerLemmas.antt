@@ -67,6 +67,7 @@ In-ticket_case a i ticket past ih (inl d) =
     inl (ap (λ z. Ticket z ticket) (sym (made_id i past)) ∙ ap (λ (z : CommitRow). Ticket z.txn.id z.stamp) d)
 In-ticket_case a i ticket past ih (inr k) = inr (ih k)
 
+-- each of the past's tickets was answered as its transaction's
 pub In-ticket : (a : CommitRow) (past : List Answer) → In a (tickets past) → In (Ticket a.txn.id a.stamp) past
 In-ticket a [] k = absurd k
 In-ticket a (Ticket i ticket ∷ past) k = In-ticket_case a i ticket past (In-ticket a past) k
@@ -94,11 +95,13 @@ behind : {X : Type 0} (x y : X) (xs : List X) → (y ≡ x → Prim.⊥) → In 
 behind x y xs ne (inl e) = absurd (ne e)
 behind x y xs ne (inr k) = k
 
+-- a transaction that was decided is in the commit list, with its stamp
 pub commit_of : (id : TxnId) (stamp : Stamp) (past : List Answer) → In (Decided id stamp) past → CommitOf id stamp (commits_of past)
 commit_of id stamp [] k = absurd k
 commit_of id stamp (Decided i s ∷ past) k = decided_case id i stamp s past (commit_of id stamp past) k
 commit_of id stamp (o ∷ past) k = commit_of id stamp past (behind (Decided id stamp) _ past (λ e. cc) k)
 
+-- a decided transaction's stamp is the greatest of its tickets
 pub stamp_is_greatest : Laws.StampIsGreatest
 stamp_is_greatest r id stamp k =
     let h = reached r in let past = answers_of r in

@@ -82,5 +82,6 @@ grow_effect w (Turns t) u =
     (turn_keeps (λ z. (topic_at w t).clock ≤ z.clock) (queue_has_room w) (verdict_in w) (λ x id v f n k. omega arith) (λ x p e k. k) (topic_at w t) (omega arith)) u
 grow_effect w (Takes s) u = grow_handed w s _ u
 
+-- no event lowers a topic's clock
 pub clock_grows : (w : World) (e : Move) (u : Topic) → (topic_at w u).clock ≤ (topic_at (world_after w e) u).clock
 clock_grows w e u = by_refusal (λ v o. (topic_at w u).clock ≤ (topic_at v u).clock) w e (λ why. omega arith) (λ n. grow_effect w e u)

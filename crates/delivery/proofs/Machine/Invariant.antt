@@ -25,6 +25,7 @@ row txn stamp = record { txn = txn; stamp = stamp }
 
 -- ---- tickets and the commit list
 
+-- a ticket has one transaction; a committed row is its greatest ticket, and a sender's rows rise
 pub record Consistent (ts cs : List CommitRow) : Type 0 where
   pub one_txn : (a b : CommitRow) → In a ts → In b ts → a.stamp ≡ b.stamp → a.txn ≡ b.txn
   pub one_id : (a b : CommitRow) → In a ts → In b ts → same_id a.txn.id b.txn.id ≡ true → a.txn ≡ b.txn
@@ -47,18 +48,21 @@ pub record Ticketed (ts : List CommitRow) (part : TopicPart) (n : ℕ) : Type 0 
   pub stamp_is : ticket.stamp ≡ record { n = n; topic = part.topic }
   pub named : names part.topic (topics_of ticket.txn.sends) ≡ true
 
+-- the commit list has a row of this id and stamp
 pub record Committed (cs : List CommitRow) (id : TxnId) (stamp : Stamp) : Type 0 where
   pub row : CommitRow
   pub stands : In row cs
   pub id_is : row.txn.id ≡ id
   pub stamp_is : row.stamp ≡ stamp
 
+-- the log row is that of a committed transaction that names t
 pub record Logged (cs : List CommitRow) (t : Topic) (l : LogRow) : Type 0 where
   pub row : CommitRow
   pub stands : In row cs
   pub is : log_row row ≡ l
   pub named : names t (topics_of row.txn.sends) ≡ true
 
+-- the item is the part at t of a committed transaction that names t
 pub record Itemed (cs : List CommitRow) (t : Topic) (i : Item) : Type 0 where
   pub row : CommitRow
   pub stands : In row cs
@@ -77,6 +81,7 @@ pub record Tied (ts cs : List CommitRow) (t : Topic) (x : TopicState) : Type 0 w
   pub undrained : x.base ≡ zero_stamp
   pub sound : IsSound x
 
+-- the topic of this number in a list; beyond its end, an empty one
 abbrev pub topic_in : List TopicState → Topic → TopicState
 topic_in topics t = get_or topics t.0 (new_topic t 0 0)
 
@@ -113,6 +118,7 @@ pub record IsLeft (cs : List CommitRow) (topics : List TopicState) (s seq : ℕ)
   pub uncommitted : Uncommitted cs k.id
   pub waits : Waits k.id (topic_in topics k.ticket.topic).pending
 
+-- sender s: its seq, its floor, its undecided transaction and its leftover tickets, beside the commit list
 pub record Serves (ts cs : List CommitRow) (topics : List TopicState) (s : ℕ) (x : SenderState) : Type 0 where
   pub used : (a : CommitRow) → In a ts → a.txn.id.sender.0 ≡ s → a.txn.id.seq ≤ x.seq
   pub floored : (r : CommitRow) → In r cs → r.txn.id.sender.0 ≡ s → stamp_lt x.floor r.stamp ≡ false
@@ -121,11 +127,13 @@ pub record Serves (ts cs : List CommitRow) (topics : List TopicState) (s : ℕ) 
   pub left_older : (k : Leftover) (f : Undecided) → In k x.leftovers → x.flight ≡ Some f → k.id.seq < f.txn.id.seq
   pub left_apart : LeftApart x.leftovers
 
+-- the sender of this number in a list; beyond its end, a new one
 abbrev pub sender_in : List SenderState → ℕ → SenderState
 sender_in senders s = get_or senders s new_sender
 
 -- ---- verdicts
 
+-- the verdict is a committed transaction's: its stamp, one row for each topic, and all its tickets
 pub record Voted (ts cs : List CommitRow) (v : Decision) : Type 0 where
   pub row : CommitRow
   pub stands : In row cs
@@ -134,6 +142,7 @@ pub record Voted (ts cs : List CommitRow) (v : Decision) : Type 0 where
   pub one_row : HasOneRowEach v
   pub all : (a : CommitRow) → In a ts → a.txn ≡ row.txn → In a.stamp v.rows
 
+-- there is a verdict of this row's transaction
 pub record HasVote (vs : List Decision) (r : CommitRow) : Type 0 where
   pub verdict : Decision
   pub stands : In verdict vs
@@ -141,6 +150,7 @@ pub record HasVote (vs : List Decision) (r : CommitRow) : Type 0 where
 
 -- ---- subscriptions
 
+-- the subscription of this number in a list; beyond its end, an empty one
 abbrev pub sub_in : List Subscription → ℕ → Subscription
 sub_in subs s = get_or subs s no_subscription
 
@@ -163,6 +173,7 @@ pub record IsClosed (cs : List CommitRow) (from : Stamp) (end : EntryEnd) (t : T
   pub queue : IsQueueOf x.base x.frontier x.held from (Some end.to) end.accepted
   pub items : (i : Item) → In i end.accepted → Itemed cs t i
 
+-- open subscriptions are the topics' entries, and what a closed one left is as its span says
 pub record Subscribes (cs : List CommitRow) (topics : List TopicState) (subs : List Subscription) : Type 0 where
   pub live : (s : ℕ) → s < length subs → (sub_in subs s).closed ≡ None → HasEntry s (sub_in subs s).from (topic_in topics (sub_in subs s).topic)
   pub owned : (t : Topic) (e : Entry) → In e (topic_in topics t).subscriptions → Owned subs t e.number e.from
@@ -171,6 +182,7 @@ pub record Subscribes (cs : List CommitRow) (topics : List TopicState) (subs : L
 
 -- ---- all together
 
+-- the invariant: each topic, sender, verdict, committed row and subscription is as said above
 pub record Inv (ts cs : List CommitRow) (vs : List Decision) (topics : List TopicState) (senders : List SenderState) (subs : List Subscription) : Type 0 where
   pub consistent : Consistent ts cs
   pub tied : (t : Topic) → Tied ts cs t (topic_in topics t)

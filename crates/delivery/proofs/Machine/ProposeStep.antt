@@ -25,10 +25,12 @@ use Rattle.delivery.proofs.Machine.TopicSteps.{flies_uncommitted, Entries-same, 
 
 -- ---- lists with one more at the head
 
+-- what holds of each item of a list, and of one more, holds of each of all
 pub cons_one : {X : Type 0} (P : X → Type 0) (xs : List X) (v : X) → ((x : X) → In x xs → P x) → P v → (x : X) → In x (v ∷ xs) → P x
 cons_one P xs v h k x (inl e) = subst P e k
 cons_one P xs v h k x (inr i) = h x i
 
+-- the same of each two items
 pub cons_two : {X : Type 0} (P : X → X → Type 0) (xs : List X) (v : X) → ((x y : X) → In x xs → In y xs → P x y) → ((x : X) → In x xs → P x v) → ((x : X) → In x xs → P v x) → P v v → (x y : X) → In x (v ∷ xs) → In y (v ∷ xs) → P x y
 cons_two P xs v old left right new x y i j =
     cons_one (λ (z : _). P z y) xs v
@@ -55,6 +57,7 @@ insert_put g a b bs false ih (inl e) = inr (ih (inl e))
 insert_put g a b bs false ih (inr (inl e)) = inl e
 insert_put g a b bs false ih (inr (inr h)) = inr (ih (inr h))
 
+-- the ticket that is inserted, and each that was there, is among the tickets after it
 pub In-ticket : (g a : Stamp) (bs : List Stamp) → (a ≡ g) ⊎ In g bs → In g (insert_ticket a bs)
 In-ticket g a [] (inl e) = inl e
 In-ticket g a [] (inr h) = absurd h
@@ -69,6 +72,7 @@ pub OneEach-insert : (a : Stamp) (bs : List Stamp) → ((g : Stamp) → In g bs 
 OneEach-insert a [] ne h = ((λ g i. absurd i), tt)
 OneEach-insert a (b ∷ bs) ne h = one_case a b bs (ltb a.topic.0 b.topic.0) ne h (OneEach-insert a bs (λ g i. ne g (inr i)) h.1)
 
+-- each ticket is of another topic than one that gave none
 pub not_given : (t : Topic) (given : List Stamp) → has_ticket t given ≡ false → (g : Stamp) → In g given → t.0 ≢ g.topic.0
 not_given t given e g i d = true≢false (sym (any_from (λ (a : Stamp). a.topic.0 == t.0) g given i (eq-eqb g.topic.0 t.0 (sym d))) ∙ e)
 
@@ -83,21 +87,27 @@ pub record New (w : World) (s : ℕ) (t : Topic) (f : Undecided) : Type 0 where
   pub apart : is_pending f.txn.id (topic_in w.topics t).pending ≡ false
   pub limit : let x = topic_in w.topics t in length x.pending + length x.held < x.log_limit
 
+-- the number that t gives sender s next
 abbrev pub number : World → ℕ → Topic → ℕ
 number w s t = next_number (sender_in w.senders s).floor (topic_in w.topics t)
 
+-- the ticket that t gives sender s next
 abbrev pub ticket : World → ℕ → Topic → Stamp
 ticket w s t = record { n = number w s t; topic = t }
 
+-- that ticket as a row, with the flight's transaction
 abbrev pub heard : World → ℕ → Topic → Undecided → CommitRow
 heard w s t f = row f.txn (ticket w s t)
 
+-- topic t after it gave the ticket
 abbrev pub topic_after : World → ℕ → Topic → Undecided → TopicState
 topic_after w s t f = after_propose (sender_in w.senders s).floor (part_at f.txn.id f.txn.sends t) (topic_in w.topics t)
 
+-- the flight with the ticket
 abbrev pub flight_after : World → ℕ → Topic → Undecided → Undecided
 flight_after w s t f = record f { given = insert_ticket (ticket w s t) f.given }
 
+-- sender s with that flight
 abbrev pub sender_after : World → ℕ → Topic → Undecided → SenderState
 sender_after w s t f = record (sender_in w.senders s) { flight = Some (flight_after w s t f) }
 
@@ -173,6 +183,7 @@ waits_kept w s t f id u v =
     at_topic_from (λ y z. Waits id z.pending) w.topics t u (topic_after w s t f)
     (λ h. record { part = h.part; stands = In-insert h.part _ (topic_in w.topics t).pending (inr h.stands); is = h.is }) v
 
+-- a sender that has a flight is in the list
 pub within_senders : (senders : List SenderState) (s : ℕ) (f : Undecided) → (sender_in senders s).flight ≡ Some f → s < length senders
 within_senders senders s f e = elim (cases_lt s (length senders)) [
   | inl l ↦ l
@@ -272,6 +283,7 @@ Voted-more ts cs v a un h = record {
       (λ e. absurd (un h.row h.stands (id_same h.row.txn.id a.txn.id (ap (λ (z : Transaction). z.id) (sym e)))));
 }
 
+-- giving a ticket keeps the invariant
 pub enter_step : (ts : List CommitRow) (w : World) (s : ℕ) (t : Topic) (f : Undecided) → Holds ts w → New w s t f → Inv (heard w s t f ∷ ts) w.commits w.verdicts (set w.topics t.0 (topic_after w s t f)) (set w.senders s (sender_after w s t f)) w.subscriptions
 enter_step ts w s t f inv new =
     let a = heard w s t f in let topics = set w.topics t.0 (topic_after w s t f) in record {

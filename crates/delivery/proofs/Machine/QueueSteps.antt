@@ -21,6 +21,7 @@ pub record Moves (taken capacity : ℕ) (to : Option Stamp) (xs : List Item) (en
   pub bound : length xs ≤ taken + capacity → length ys ≤ taken + capacity
   pub full : to ≡ None → (s : Stamp) → end ≡ Some s → taken ≤ length xs → taken + capacity ≤ length ys
 
+-- Moves holds where the end and the queue stay
 pub Moves-same : (taken capacity : ℕ) (to : Option Stamp) (xs : List Item) → Moves taken capacity to xs to xs
 Moves-same taken capacity to xs = record {
   stays = λ s e. e;
@@ -103,6 +104,7 @@ map_map : {X : Type 0} (f g : X → X) (xs : List X) → map g (map f xs) ≡ ma
 map_map f g [] = refl
 map_map f g (x ∷ xs) = ap (λ z. g (f x) ∷ z) (map_map f g xs)
 
+-- Goes holds where the subscriptions stay
 pub Goes-same : (w : World) (x y : TopicState) → y.subscriptions ≡ x.subscriptions → Goes w x y
 Goes-same w x y e = record {
   step = λ z. z;
@@ -130,6 +132,7 @@ released_goes w x (Some p) = record {
   moves = λ e. delivered_case w x.frontier (item_of p) e.number e.from e.to e.accepted;
 }
 
+-- Goes holds of a release
 pub release_goes : (w : World) (x : TopicState) → Goes w x (after_release (queue_has_room w) x)
 release_goes w x = released_goes w x (due_part x)
 
@@ -150,6 +153,7 @@ all_tried : (find : TxnId → Option Decision) (ps : List Pending) (x : TopicSta
 all_tried find [] x = refl
 all_tried find (p ∷ ps) x = all_tried find ps (after_try p.part.id (find p.part.id) x) ∙ tried_subscriptions p.part.id (find p.part.id) x
 
+-- Goes holds of a turn
 pub turned_goes : (w : World) (x : TopicState) → Goes w x (after_turn (queue_has_room w) (verdict_in w) x)
 turned_goes w x =
     let y = after_tries (verdict_in w) x.pending x in
@@ -170,6 +174,7 @@ found_moves w n step number moves (e ∷ es) =
     (λ d. subst (λ k. Moves (subscription_at w k).taken w.capacity e.to e.accepted (step e).to (step e).accepted) (eqb-true e.number n d) (moves e))
     (found_moves w n step number moves es))
 
+-- where Goes holds, the entry of each number moves; one that isn't there has no end and no items
 pub entry_moves : (w : World) (x y : TopicState) → Goes w x y → (n : ℕ) → Moves (subscription_at w n).taken w.capacity (entry_to (find_entry n x.subscriptions)) (entry_items (find_entry n x.subscriptions)) (entry_to (find_entry n y.subscriptions)) (entry_items (find_entry n y.subscriptions))
 entry_moves w x y g n =
     subst (λ es. Moves (subscription_at w n).taken w.capacity (entry_to (find_entry n x.subscriptions)) (entry_items (find_entry n x.subscriptions)) (entry_to (find_entry n es)) (entry_items (find_entry n es))) (sym g.are)

@@ -55,10 +55,12 @@ turn_eq a b = by (a == b) (b == a) refl refl
     by false true e f = absurd (true≢false (sym (eq-eqb a b (sym (eqb-true b a f))) ∙ e))
     by false false e f = e ∙ sym f
 
+-- a topic set names the topic that was inserted into it
 pub names_inserted : (s : Topic) (us : List Topic) → names s (insert_topic s us) ≡ true
 names_inserted s [] = rw (eq-eqb s.0 s.0 refl) refl
 names_inserted s (u ∷ us) = topic_case s u us (ltb s.0 u.0) (s.0 == u.0) (turn_eq u.0 s.0) refl (names_inserted s us)
 
+-- sender s's transaction of this seq, which has no ticket yet
 abbrev pub new_flight : ℕ → ℕ → List SentMessage → Undecided
 new_flight s seq sends = record { txn = record { id = record { sender = record { 0 = s }; seq = seq }; sends = sends }; given = []; mark = None }
 
@@ -69,6 +71,7 @@ none_yet ts cs topics s x first others h a k e =
     let m : a.txn.id.seq ≡ x.seq + 1 = ap (λ (z : TxnId). z.seq) d in
     omega arith
 
+-- making a transaction keeps the invariant
 pub flown_step : (ts : List CommitRow) (w : World) (s : ℕ) (first : SentMessage) (others : List SentMessage) → Holds ts w → let x = sender_in w.senders s in Inv ts w.commits w.verdicts w.topics (set w.senders s (record x { seq = x.seq + 1; flight = Some (new_flight s (x.seq + 1) (first ∷ others)) })) w.subscriptions
 flown_step ts w s first others inv =
     let x = sender_in w.senders s in let h = inv.serves s in
@@ -134,6 +137,7 @@ marked_step ts w s f g inv e txn given =
 
 -- ---- a decision
 
+-- sender s's undecided transaction is f, and each topic that it names gave a ticket
 pub record Decides (w : World) (s : ℕ) (f : Undecided) : Type 0 where
   pub flight : (sender_in w.senders s).flight ≡ Some f
   pub complete : is_complete f ≡ true
@@ -338,6 +342,7 @@ decision_step ts w s f inv is dec =
       subscribes = Subscribes-commits w.commits w.topics w.subscriptions r inv.subscribes;
     }
 
+-- a decision keeps the invariant
 pub decide_step : (ts : List CommitRow) (w : World) (s : ℕ) (f : Undecided) → Holds ts w → Decides w s f → Inv ts (w.commits ++ row_by f ∷ []) (w.verdicts ++ verdict_by f ∷ []) w.topics (set w.senders s (decided_sender w s f)) w.subscriptions
 decide_step ts w s f inv is = decision_step ts w s f inv is (decision ts w s f inv is)
 
@@ -363,6 +368,7 @@ LeftApart-given id (g ∷ rest) h = (
   LeftApart-given id rest h.1,
 )
 
+-- a withdrawal keeps the invariant
 pub withdrawn_step : (ts : List CommitRow) (w : World) (s : ℕ) (f : Undecided) → Holds ts w → (sender_in w.senders s).flight ≡ Some f → let x = sender_in w.senders s in Inv ts w.commits w.verdicts w.topics (set w.senders s (record x { flight = None; leftovers = x.leftovers ++ map (leftover f.txn.id) f.given })) w.subscriptions
 withdrawn_step ts w s f inv e =
     let x = sender_in w.senders s in let h = inv.serves s in let g = h.flying f e in
@@ -401,6 +407,7 @@ take_case t k l ks true e ih d =
     record { stands = inl same; topic = subst (λ (z : Leftover). z.ticket.topic ≡ t) same (same_topic k.ticket.topic t (eqb-true k.ticket.topic.0 t.0 e)) }
 take_case t k l ks false e ih d = let h = ih d in record { stands = inr h.stands; topic = h.topic }
 
+-- a leftover ticket that is found is in the list, and is of this topic
 pub leftover_found : (t : Topic) (ks : List Leftover) (l : Leftover) → find_leftover t ks ≡ Some l → Taken t l ks
 leftover_found t [] l e = cc
 leftover_found t (k ∷ ks) l e = take_case t k l ks (k.ticket.topic.0 == t.0) refl (leftover_found t ks l) e
@@ -505,6 +512,7 @@ has_leftover [] s k i = absurd i
 has_leftover (z ∷ zs) zero k i = omega arith
 has_leftover (z ∷ zs) (suc s) k i = let l = has_leftover zs s k i in omega arith
 
+-- cancelling a ticket keeps the invariant
 pub cancel_step : (ts : List CommitRow) (w : World) (s : ℕ) (t : Topic) (k : Leftover) → Holds ts w → find_leftover t (sender_in w.senders s).leftovers ≡ Some k → let x = sender_in w.senders s in Inv ts w.commits w.verdicts (set w.topics t.0 (after_cancel k.id (topic_in w.topics t))) (set w.senders s (record x { leftovers = drop_leftover t x.leftovers })) w.subscriptions
 cancel_step ts w s t k inv e =
     let x = sender_in w.senders s in let found = leftover_found t x.leftovers k e in let h = (inv.serves s).left k found.stands in

@@ -22,9 +22,11 @@ use Rattle.delivery.proofs.Machine.InvariantIsKept.{Reached, by_refusal}
 use Rattle.delivery.proofs.Theorem.HandedIsPrefix.{items_by, find_kept, find_pushed, ended_same, open_items}
 use Rattle.delivery.proofs.Machine.QueueSteps.{Moves, Moves-same, Goes, Goes-same, release_goes, turned_goes, entry_moves}
 
+-- where a span ends: by what the closed subscription left, or by its entry
 abbrev pub end_by : Option EntryEnd → Option Entry → Option Stamp
 end_by closed entry = elim closed [ None ↦ entry_to entry | Some end ↦ Some end.to ]
 
+-- where the span of subscription s ends, among these topics
 abbrev pub end_in : List TopicState → ℕ → Subscription → Option Stamp
 end_in topics s x = end_by x.closed (find_entry s (topic_in topics x.topic).subscriptions)
 
@@ -82,6 +84,7 @@ moves_set w t y s h =
     (at_topic_from (λ u z. FoundMoves w s (find_entry s (topic_in w.topics u).subscriptions) (find_entry s z.subscriptions)) w.topics t x.topic y
     (λ o. h) (Moves-same x.taken w.capacity (entry_to (entry_at w s)) (entry_items (entry_at w s))))
 
+-- where Goes holds of a topic, the end and the queue of each subscription move
 pub moves_topic : (w : World) (t : Topic) (y : TopicState) → Goes w (topic_in w.topics t) y → (s : ℕ) → let x = subscription_at w s in Moves x.taken w.capacity (end_at w s) (accepted_at w s) (end_in (set w.topics t.0 y) s x) (items_in (set w.topics t.0 y) s x)
 moves_topic w t y g s = moves_set w t y s (entry_moves w (topic_in w.topics t) y g s)
 
@@ -130,6 +133,7 @@ none_case past w s t r l (Some entry) e =
     let own = subst (λ n. Owned w.subscriptions t n entry.from) f.is (r.inv.subscribes.owned t entry f.stands) in
     let k : s < length w.subscriptions = own.there in absurd (omega arith)
 
+-- a number that no subscription has yet has no end and no items at any topic
 pub none_there : (past : List Answer) (w : World) (s : ℕ) (t : Topic) → Reached past w → length w.subscriptions ≤ s → Empty (find_entry s (topic_in w.topics t).subscriptions)
 none_there past w s t r l = none_case past w s t r l (find_entry s (topic_in w.topics t).subscriptions) refl
 
@@ -243,5 +247,6 @@ effect_tells past w (Releases t) r = Tells-topic w t _ (release_goes w (topic_at
 effect_tells past w (Turns t) r = Tells-topic w t _ (turned_goes w (topic_at w t))
 effect_tells past w (Takes s) r = Tells-handed w s _
 
+-- each event leaves of every subscription its topic, its beginning, its end and its queue's bound
 pub step_tells : (past : List Answer) (w : World) (e : Move) → Reached past w → TellsOf w (world_after w e)
 step_tells past w e r = by_refusal (λ v o. TellsOf w v) w e (λ why. Tells-same w) (λ n. effect_tells past w e r)

@@ -26,19 +26,23 @@ at_push P [] (suc j) v d h k = k
 at_push P (x ∷ xs) zero v d h k = k
 at_push P (x ∷ xs) (suc j) v d h k = at_push P xs j v d (λ e. h (ap suc e)) k
 
+-- what is read after a push: the new item at the end, and elsewhere what was read before
 pub at_push_two : {X : Type 0} (P : X → Type 0) (xs : List X) (j : ℕ) (v d : X) → (j ≡ length xs → P v) → (j ≢ length xs → P (get_or xs j d)) → P (get_or (xs ++ v ∷ []) j d)
 at_push_two P [] zero v d h k = h refl
 at_push_two P [] (suc j) v d h k = k (omega arith)
 at_push_two P (x ∷ xs) zero v d h k = k (omega arith)
 at_push_two P (x ∷ xs) (suc j) v d h k = at_push_two P xs j v d (λ e. h (ap suc e)) (λ n. k (omega arith))
 
+-- before the end, what is read is the same after a push
 pub at_old : {X : Type 0} (P : X → Type 0) (xs : List X) (j : ℕ) (v d : X) → j < length xs → P (get_or xs j d) → P (get_or (xs ++ v ∷ []) j d)
 at_old P xs j v d l k = at_push P xs j v d (λ e. absurd (let m : j ≡ length xs = e in omega arith)) k
 
+-- at the end, what is read after a push is the new item
 pub at_end : {X : Type 0} (P : X → Type 0) (xs : List X) (v d : X) → P v → P (get_or (xs ++ v ∷ []) (length xs) d)
 at_end P [] v d h = h
 at_end P (x ∷ xs) v d h = at_end P xs v d h
 
+-- a push adds one to the length
 pub push_length : {X : Type 0} (xs : List X) (x : X) → length (xs ++ x ∷ []) ≡ suc (length xs)
 push_length [] x = refl
 push_length (y ∷ xs) x = ap suc (push_length xs x)
@@ -60,12 +64,15 @@ Tied-subs ts cs t x subs h sound old = record {
 
 -- ---- a subscription begins
 
+-- the subscription of c to t as it begins: from t's frontier, and nothing taken
 abbrev pub new_subscription : World → ℕ → Topic → Subscription
 new_subscription w c t = record { connection = c; topic = t; from = (topic_in w.topics t).frontier; taken = 0; closed = None }
 
+-- its entry at t
 abbrev pub new_entry : World → Topic → Entry
 new_entry w t = record { number = length w.subscriptions; from = (topic_in w.topics t).frontier; to = None; accepted = [] }
 
+-- t with that entry
 abbrev pub topic_with : World → Topic → TopicState
 topic_with w t = after_subscribe (length w.subscriptions) (topic_in w.topics t)
 
@@ -127,6 +134,7 @@ Subscribes-begun ts w c t inv room =
     moved s from u k = at_topic_from (λ y z. HasEntry s from z) w.topics t u (topic_with w t)
         (λ o. record { entry = o.entry; stands = In-append_left o.entry (topic_in w.topics t).subscriptions (new_entry w t ∷ []) o.stands; number = o.number; from_is = o.from_is }) k
 
+-- beginning a subscription keeps the invariant
 pub subscribe_step : (ts : List CommitRow) (w : World) (c : ℕ) (t : Topic) → Holds ts w → t.0 < length w.topics → Inv ts w.commits w.verdicts (set w.topics t.0 (topic_with w t)) w.senders (w.subscriptions ++ new_subscription w c t ∷ [])
 subscribe_step ts w c t inv room = record {
   consistent = inv.consistent;
@@ -151,10 +159,12 @@ find_case n x e es true k ih d =
     record { stands = inl same; is = ap (λ (z : Entry). z.number) (sym same) ∙ eqb-true x.number n k }
 find_case n x e es false k ih d = let h = ih d in record { stands = inr h.stands; is = h.is }
 
+-- an entry that is found is in the list, and has the number that was looked for
 pub found_entry : (n : ℕ) (es : List Entry) (e : Entry) → find_entry n es ≡ Some e → FoundEntry n es e
 found_entry n [] e d = cc
 found_entry n (x ∷ es) e d = find_case n x e es (x.number == n) refl (found_entry n es e) d
 
+-- an entry of this number is found
 pub record FindsEntry (n : ℕ) (es : List Entry) : Type 0 where
   pub entry : Entry
   pub found : find_entry n es ≡ Some entry
@@ -163,6 +173,7 @@ finds_case : (n : ℕ) (x : Entry) (es : List Entry) (b : Bool) → (b ≡ false
 finds_case n x es true ih e = record { entry = x; found = rw e refl }
 finds_case n x es false ih e = let h = ih refl in record { entry = h.entry; found = rw e h.found }
 
+-- where the list has an entry of this number, one is found
 pub finds_entry : (n : ℕ) (es : List Entry) (e : Entry) → In e es → e.number ≡ n → FindsEntry n es
 finds_entry n [] e i d = absurd i
 finds_entry n (x ∷ es) e (inl k) d =
@@ -172,6 +183,7 @@ finds_entry n (x ∷ es) e (inr k) d = finds_case n x es (x.number == n) (λ f. 
 abbrev pub topic_without : World → Topic → ℕ → TopicState
 topic_without w t s = after_unsubscribe s (topic_in w.topics t)
 
+-- the entry stays where subscription s is dropped
 abbrev pub kept_by : ℕ → Entry → Bool
 kept_by s e = not (e.number == s)
 
@@ -182,6 +194,7 @@ ended_items : (frontier : Stamp) (n : ℕ) (from : Stamp) (to : Option Stamp) (a
 ended_items frontier n from None accepted i k = k
 ended_items frontier n from (Some end) accepted i k = k
 
+-- writing one item leaves the length
 pub set_length : {X : Type 0} (xs : List X) (i : ℕ) (v : X) → length (set xs i v) ≡ length xs
 set_length [] i v = refl
 set_length (x ∷ xs) zero v = refl
@@ -253,6 +266,7 @@ Tied-unsubscribed ts w t s inv =
     Tied-subs ts w.commits t x (filter (kept_by s) x.subscriptions) h (Sound-unsubscribed s x h.sound)
     (λ e k i l. (e, (In-filter_cases (kept_by s) e x.subscriptions k).stands, l))
 
+-- closing a subscription keeps the invariant
 pub end_step : (ts : List CommitRow) (w : World) (s : ℕ) (e : Entry) → Holds ts w → find_entry s (topic_in w.topics (sub_in w.subscriptions s).topic).subscriptions ≡ Some e → let t = (sub_in w.subscriptions s).topic in Inv ts w.commits w.verdicts (set w.topics t.0 (topic_without w t s)) w.senders (set w.subscriptions s (subscription_after w s e))
 end_step ts w s e inv d =
     let t = (sub_in w.subscriptions s).topic in let f = found_entry s (topic_in w.topics t).subscriptions e d in record {
@@ -267,6 +281,7 @@ end_step ts w s e inv d =
 
 -- ---- an item is handed on
 
+-- subscription s with one more item taken
 abbrev pub taken_more : World → ℕ → Subscription
 taken_more w s = record (sub_in w.subscriptions s) { taken = (sub_in w.subscriptions s).taken + 1 }
 
@@ -276,6 +291,7 @@ at_taken P subs s r n h =
     at_set (λ (z : Subscription). P r z.topic z.from z.closed) subs s r (record (sub_in subs s) { taken = n }) no_subscription
     (λ e. subst (λ q. let x = sub_in subs q in P r x.topic x.from x.closed) e h) h
 
+-- taking an item keeps the invariant
 pub take_step : (ts : List CommitRow) (w : World) (s : ℕ) → Holds ts w → Inv ts w.commits w.verdicts w.topics w.senders (set w.subscriptions s (taken_more w s))
 take_step ts w s inv =
     let subs = w.subscriptions in let n = (sub_in subs s).taken + 1 in let more = set subs s (taken_more w s) in let h = inv.subscribes in record {
@@ -319,6 +335,7 @@ at_added P topics log_limit clock u h k =
     at_push (P u) topics u.0 (new_topic (record { 0 = length topics }) log_limit clock) (new_topic u 0 0)
     (λ e o. subst (λ z. P u (new_topic z log_limit clock)) (same_topic u (record { 0 = length topics }) e) (h o)) k
 
+-- adding a topic keeps the invariant
 pub added_step : (ts : List CommitRow) (w : World) (clock : ℕ) → Holds ts w → Inv ts w.commits w.verdicts (w.topics ++ new_topic (record { 0 = length w.topics }) w.log_limit clock ∷ []) w.senders w.subscriptions
 added_step ts w clock inv =
     let h = inv.subscribes in record {
@@ -340,6 +357,7 @@ added_step ts w clock inv =
       };
     }
 
+-- adding a sender keeps the invariant
 pub opened_step : (ts : List CommitRow) (w : World) → Holds ts w → Inv ts w.commits w.verdicts w.topics (w.senders ++ new_sender ∷ []) w.subscriptions
 opened_step ts w inv = record {
   consistent = inv.consistent;

@@ -32,6 +32,7 @@ one_row ts cs all r q h k e =
     let same = same_stamps r.stamp q.stamp a b in
     ap (λ (x : Transaction). row x r.stamp) e ∙ ap (row q.txn) same
 
+-- two committed rows of one id are the same row
 pub one_commit : (ts cs : List CommitRow) → Consistent ts cs → (r q : CommitRow) → In r cs → In q cs → r.txn.id ≡ q.txn.id → r ≡ q
 one_commit ts cs all r q h k e =
     one_row ts cs all r q h k (all.one_id r q (all.from_ticket r h) (all.from_ticket q k) (id_same r.txn.id q.txn.id e))
@@ -86,6 +87,7 @@ key_case ts cs p all t c (Some s) e =
     let txn = all.one_id t.ticket k.row t.stands (all.from_ticket k.row k.stands) (id_same t.ticket.txn.id k.row.txn.id ids) in
     subst (λ z. In (row z (key p)) ts) (sym txn) (subst (λ z. In (row k.row.txn z) ts) (k.stamp_is ∙ sym (key_learnt p s e)) (all.from_ticket k.row k.stands))
 
+-- the key of each part that is pending at t is a ticket of its own transaction
 pub key_ticket : (ts cs : List CommitRow) (t : Topic) (x : TopicState) (p : Pending) → Consistent ts cs → (h : Tied ts cs t x) → (i : In p x.pending) → In (row (h.ticketed p i).ticket.txn (key p)) ts
 key_ticket ts cs t x p all h i = key_case ts cs p all (h.ticketed p i) (h.decided p i) p.learnt refl
 
@@ -107,6 +109,7 @@ map_map : {X : Type 0} (f g : X → X) (xs : List X) → map g (map f xs) ≡ ma
 map_map f g [] = refl
 map_map f g (x ∷ xs) = ap (λ z. g (f x) ∷ z) (map_map f g xs)
 
+-- Entries holds where the subscriptions stay
 pub Entries-same : (x y : TopicState) → y.subscriptions ≡ x.subscriptions → Entries x y
 Entries-same x y e = record { step = λ z. z; are = e ∙ map_same x.subscriptions; number = λ z. refl; from = λ z. refl; grows = λ z. More-same z.accepted }
 
@@ -156,6 +159,7 @@ Tied-learned ts cs t x id v h l c = record {
   sound = Sound-learned id v x h.sound l;
 }
 
+-- Keeps holds of a topic that learns a committed stamp
 pub Keeps-learned : (ts cs : List CommitRow) (t : Topic) (x : TopicState) (id : TxnId) (v : Decision) → Tied ts cs t x → learn_fault id v x ≡ None → Committed cs v.id (decided_stamp v) → Keeps ts cs t x (after_learn id (decided_stamp v) x)
 Keeps-learned ts cs t x id v h e c = record {
   tied = Tied-learned ts cs t x id v h (learns_is id v x e) c;
@@ -216,6 +220,7 @@ Keeps-released ts cs t x takes p all h due = record {
   queues = λ from end accepted q. Queue-closed x.base x.frontier x.held from end accepted (row_of p) (item_of p) (next_of x p h.sound due.least.stands) q;
 }
 
+-- Keeps holds of a release
 pub Keeps-release : (ts cs : List CommitRow) (t : Topic) (takes : Entry → Bool) (x : TopicState) → Consistent ts cs → Tied ts cs t x → Keeps ts cs t x (after_release takes x)
 Keeps-release ts cs t takes x all h =
     release_keeps (Keeps ts cs t x) takes x (Keeps-same ts cs t x h) (λ p e. Keeps-released ts cs t x takes p all h (due_is x p e))
@@ -224,6 +229,7 @@ Keeps-release ts cs t takes x all h =
 abbrev pub Finds : List CommitRow → (TxnId → Option Decision) → Type 0
 Finds cs find = (id : TxnId) (v : Decision) → find id ≡ Some v → Committed cs v.id (decided_stamp v)
 
+-- Keeps holds of a turn
 pub Keeps-turned : (ts cs : List CommitRow) (t : Topic) (takes : Entry → Bool) (find : TxnId → Option Decision) (x : TopicState) → Consistent ts cs → Finds cs find → Tied ts cs t x → Keeps ts cs t x (after_turn takes find x)
 Keeps-turned ts cs t takes find x all finds h =
     turn_keeps (Keeps ts cs t x) takes find
@@ -233,6 +239,7 @@ Keeps-turned ts cs t takes find x all finds h =
 
 -- ---- in the world
 
+-- topics of one number are equal
 pub same_topic : (t u : Topic) → t.0 ≡ u.0 → t ≡ u
 same_topic t u e = ap (λ (n : ℕ). topic n) e
   where
@@ -250,6 +257,7 @@ at_topic_from P topics t u y h k =
     at_set (P u) topics t.0 u.0 y (new_topic u 0 0)
     (λ e. subst (λ z. P z y) (sym (same_topic u t e)) (h (subst (λ z. P z (topic_in topics z)) (same_topic u t e) k))) k
 
+-- an undecided transaction has no row in the commit list
 pub flies_uncommitted : (ts cs : List CommitRow) (topics : List TopicState) (s seq : ℕ) (floor : Stamp) (f : Undecided) → Flies ts cs topics s seq floor f → Uncommitted cs f.txn.id
 flies_uncommitted ts cs topics s seq floor f h r k e =
     let d = id_equal r.txn.id f.txn.id e in
@@ -308,6 +316,7 @@ one_step x y en h e f i j d =
     let b : n.from.number ≡ f.number = sym (en.number n.from) ∙ ap (λ (z : Entry). z.number) n.is in
     sym m.is ∙ (ap en.step (h m.from n.from m.stands n.stands (a ∙ (d ∙ sym b))) ∙ n.is)
 
+-- subscriptions agree with a topic whose entries only grow, and which keeps closed queues
 pub Subscribes-topic : (cs : List CommitRow) (topics : List TopicState) (subs : List Subscription) (t : Topic) (y : TopicState) → Entries (topic_in topics t) y → ((from end : Stamp) (accepted : List Item) → let x = topic_in topics t in IsQueueOf x.base x.frontier x.held from (Some end) accepted → IsQueueOf y.base y.frontier y.held from (Some end) accepted) → Subscribes cs topics subs → Subscribes cs (set topics t.0 y) subs
 Subscribes-topic cs topics subs t y en queues h = record {
   live = λ s l c. at_topic_from (λ u z. HasEntry s (sub_in subs s).from z) topics t (sub_in subs s).topic y

@@ -74,6 +74,7 @@ learn_found ts w t id v inv i e (Some p) f =
     let o = own_verdict ts w t p v inv k.stands i (e ∙ sym k.is) in
     inl (rw (o.own, o.alone) refl)
 
+-- a verdict that the core finds is learnt, or refused because nothing of it is pending
 pub learn_fault_is : (ts : List CommitRow) (w : World) (t : Topic) (id : TxnId) (v : Decision) → Holds ts w → verdict_in w id ≡ Some v → (learn_fault id v (topic_in w.topics t) ≡ None) ⊎ (learn_fault id v (topic_in w.topics t) ≡ Some LearnFault.NotPending)
 learn_fault_is ts w t id v inv e =
     let f = verdict_found id w.verdicts v e in
@@ -81,6 +82,7 @@ learn_fault_is ts w t id v inv e =
 
 -- ---- where each pending part is committed, the verdicts fit
 
+-- a verdict of this id is found
 pub record FindsVerdict (id : TxnId) (vs : List Decision) : Type 0 where
   pub verdict : Decision
   pub found : find_verdict id vs ≡ Some verdict
@@ -100,6 +102,7 @@ pub record HasCommit (cs : List CommitRow) (id : TxnId) : Type 0 where
   pub stands : In row cs
   pub id_is : row.txn.id ≡ id
 
+-- where each pending part's transaction is committed, what the core finds fits the topic
 pub fits : (ts : List CommitRow) (w : World) (t : Topic) → Holds ts w → ((p : Pending) → In p (topic_in w.topics t).pending → HasCommit w.commits p.part.id) → Fits (verdict_in w) (topic_in w.topics t)
 fits ts w t inv all = record {
   each = λ p i.

@@ -34,6 +34,7 @@ use Rattle.delivery.proofs.Machine.InvariantIsKept.{Reached, tickets, step_reach
 
 -- ---- the start
 
+-- what holds of each new topic holds of each that a run begins with
 pub at_new : (P : TopicState → Type 0) (i log_limit : ℕ) (clocks : List ℕ) (j : ℕ) (t : Topic) → t.0 ≡ i + j → ((limit clock : ℕ) → P (new_topic t limit clock)) → P (get_or (new_topics i log_limit clocks) j (new_topic t 0 0))
 at_new P i log_limit [] j t e h = h 0 0
 at_new P i log_limit (clock ∷ clocks) zero t e h = subst (λ z. P (new_topic z log_limit clock)) (named t i (e ∙ plain i)) (h log_limit clock)
@@ -61,6 +62,7 @@ Tied-start t log_limit clock = record {
   sound = Sound-new t log_limit clock;
 }
 
+-- Reached holds at the start of a run
 pub start_reached : (capacity log_limit : ℕ) (clocks : List ℕ) → Reached [] (start capacity log_limit clocks)
 start_reached capacity log_limit clocks = record {
   inv = record {
@@ -98,6 +100,7 @@ pub run_reached : (es : List Move) (past : List Answer) (w : World) → Reached 
 run_reached [] past w h = h
 run_reached (e ∷ es) past w h = run_reached es (answer_to w e ∷ past) (world_after w e) (step_reached past w e h)
 
+-- Reached holds after each run
 pub reached : (r : Run) → Reached (answers_of r) (final_world r)
 reached r = run_reached r.events [] (start r.capacity r.log_limit r.clocks) (start_reached r.capacity r.log_limit r.clocks)
 
@@ -106,6 +109,7 @@ reached r = run_reached r.events [] (start r.capacity r.log_limit r.clocks) (sta
 abbrev span : Topic → Stamp → Option Stamp → Span
 span t from to = record { topic = t; from = from; to = to }
 
+-- a committed row that is pending or in the log is in the log where it is at most at the frontier
 pub in_log : (ts : List CommitRow) (w : World) (t : Topic) (r : CommitRow) → Holds ts w → In r w.commits → stamp_lt (topic_in w.topics t).frontier r.stamp ≡ false → In (log_row r) (topic_in w.topics t).held ⊎ Waits r.txn.id (topic_in w.topics t).pending → In (log_row r) (topic_in w.topics t).held
 in_log ts w t r inv i f (inl l) = l
 in_log ts w t r inv i f (inr v) =
@@ -157,6 +161,7 @@ accepted_by closed entry = elim closed [ None ↦ entry_items entry | Some end �
 abbrev end_by : Option EntryEnd → Option Entry → Option Stamp
 end_by closed entry = elim closed [ None ↦ entry_to entry | Some end ↦ Some end.to ]
 
+-- the queue has accepted what its span says, and each item is a committed transaction's part
 pub record Queued (w : World) (t : Topic) (from : Stamp) (to : Option Stamp) (accepted : List Item) : Type 0 where
   pub queue : let x = topic_in w.topics t in IsQueueOf x.base x.frontier x.held from to accepted
   pub items : (i : Item) → In i accepted → Itemed w.commits t i
@@ -178,6 +183,7 @@ queued_case ts w s inv l None e =
 queued_case ts w s inv l (Some end) e =
     let k = inv.subscribes.closed s end e in record { queue = k.queue; items = k.items }
 
+-- what each subscription's queue has accepted is so
 pub queued : (ts : List CommitRow) (w : World) (s : ℕ) → Holds ts w → s < length w.subscriptions → Queued w (subscription_at w s).topic (subscription_at w s).from (end_at w s) (accepted_at w s)
 queued ts w s inv l = queued_case ts w s inv l (subscription_at w s).closed refl
 
@@ -186,6 +192,7 @@ pub frontier_is : (ts : List CommitRow) (w : World) (t : Topic) → Holds ts w �
 frontier_is ts w t inv =
     let k = inv.tied t in k.sound.frontier ∙ ap (λ z. last_stamp z (topic_in w.topics t).held) k.undrained
 
+-- what a subscription's queue has accepted is what is due to it
 pub accepted_is_due : Laws.AcceptedIsDue
 accepted_is_due r s l =
     let h = reached r in let w = final_world r in let t = (subscription_at w s).topic in
@@ -194,6 +201,7 @@ accepted_is_due r s l =
     ∙ (ap (due w.commits (span_at w s)) (frontier_is (tickets (answers_of r)) w t h.inv)
     ∙ ap (λ z. due z (span_at w s) (frontier_at w t)) (sym h.commits))
 
+-- the commit list is what the core kept of it
 pub commits_are_kept : Laws.CommitsAreKept
 commits_are_kept r = sym (reached r).commits
 
@@ -212,6 +220,7 @@ each_once_of ts cs (x ∷ xs) all sub up = (
 agreed_in : (cs : List CommitRow) (q : CommitRow) → In q (agreed cs) → In q cs
 agreed_in cs q k = In-sorted_cases stamp_of q cs k
 
+-- no id and no stamp is twice in the agreed sequence
 pub agreed_once : Laws.AgreedOnce
 agreed_once r =
     let h = reached r in
@@ -239,6 +248,7 @@ sender_order_of ts cs (x ∷ xs) all sub up = (
     ids : (a b : TxnId) → a.sender ≡ b.sender → a.seq ≡ b.seq → a ≡ b
     ids a b e d = ap (λ (z : Sender). id z a.seq) e ∙ ap (id b.sender) d
 
+-- each sender's transactions are in its order in the agreed sequence
 pub agreed_in_sender_order : Laws.AgreedInSenderOrder
 agreed_in_sender_order r =
     let h = reached r in
@@ -276,6 +286,7 @@ shared_to cs ts t u xs ys all hx hy p k =
 shared_rises : (xs ys : List Item) → Rises item_stamp xs → Rises place_stamp (shared_marks xs ys)
 shared_rises xs ys h = Rises-filter place_stamp (is_in ys) (map mark_of xs) (Rises-map item_stamp place_stamp mark_of xs (λ i. refl) h)
 
+-- two subscriptions have the transactions that they share in one order
 pub shared_in_one_order : Laws.SharedInOneOrder
 shared_in_one_order r s q l m =
     let h = reached r in let w = final_world r in

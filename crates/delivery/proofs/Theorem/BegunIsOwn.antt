@@ -70,6 +70,7 @@ answer_own w (Releases t) txn e = absurd (no_release t (due_part (topic_at w t))
 answer_own w (Turns t) txn e = cc
 answer_own w (Takes s) txn e = absurd (no_take w s _ txn e)
 
+-- a transaction that is made has its frame's SENDs, and its connection's sender
 pub flying_is_own : Reported.BegunIsOwn
 flying_is_own w e txn =
     by_refusal (λ v o. o ≡ Begun txn → IsOwn w e txn) w e (λ why k. absurd (by why k)) (λ n k. answer_own w e txn k)
@@ -157,5 +158,6 @@ run_speaks : (es : List Move) (w : World) → Speaks w → Speaks (run es w)
 run_speaks [] w h = h
 run_speaks (e ∷ es) w h = run_speaks es (world_after w e) (by_refusal (λ v o. Speaks v) w e (λ why. h) (λ n. effect_speaks w e h))
 
+-- each connection speaks for a sender of its own
 pub sender_is_own : Reported.SenderIsOwn
 sender_is_own r = (run_speaks r.events (start r.capacity r.log_limit r.clocks) (record { same = refl; own = λ c l. absurd (omega arith) })).own

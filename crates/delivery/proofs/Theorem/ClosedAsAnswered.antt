@@ -188,6 +188,7 @@ ended_open : (frontier : Stamp) (n : ℕ) (from : Stamp) (to : Option Stamp) (ac
 ended_open frontier n from None accepted e = refl
 ended_open frontier n from (Some end) accepted e = none_some end (sym e)
 
+-- a span that is open until its subscription is closed ends with its topic's frontier
 pub spans_end_at_frontier : Spans.SpansEndAtFrontier
 spans_end_at_frontier r e s to d none =
     let w = final_world r in let x = topic_at w (subscription_at w s).topic in let k = closes r e s to d in let entry = k.entry in
@@ -202,6 +203,7 @@ ended_is : (frontier : Stamp) (n : ℕ) (from : Stamp) (to : Option Stamp) (acce
 ended_is frontier n from None accepted = refl
 ended_is frontier n from (Some end) accepted = refl
 
+-- a closed subscription leaves the end that is answered, what its queue accepted, and the cause
 pub closed_as_told : Spans.ClosedAsAnswered
 closed_as_told r e s to d =
     let w = final_world r in let x = topic_at w (subscription_at w s).topic in let k = closes r e s to d in let entry = k.entry in let left = left_of w s entry in
@@ -210,12 +212,14 @@ closed_as_told r e s to d =
     ∙ (ap (λ z. left_as to z entry.to) (sym (items_are w s entry k.unclosed k.found))
     ∙ ap (λ z. left_as to (accepted_at w s) z) (sym (end_is w s entry k.unclosed k.found)))))
 
+-- only an event that answers a subscription's end closes it
 pub closes_are_told : Spans.ClosesAreAnswered
 closes_are_told r e s left none d = elim (closing r e s) [
   | inl k ↦ none_some left (sym none ∙ (sym k.0 ∙ d))
   | inr k ↦ k.told ∙ ap (λ (z : EntryEnd). Unsubscribed s z.to) (some_same (left_of (final_world r) s k.entry) left (sym k.left ∙ d))
 ]
 
+-- what a closed subscription left stays as it is
 pub closed_stays : Spans.ClosedStays
 closed_stays r e s left d = elim (closing r e s) [
   | inl k ↦ k.0 ∙ d

@@ -151,10 +151,12 @@ closing_shut past w s end r l n h =
     note_ended past v.connections v.subscriptions s end (closed_now w s l (entry_at w s) (no_entry past w s r l n))
     (Shutting-on past w.connections v.connections w.subscriptions v.subscriptions (Shuts-closed w s (entry_at w s)) h)
 
+-- an option that has no value is None
 pub none_of : (o : Option EntryEnd) → is_some o ≡ false → o ≡ None
 none_of None e = refl
 none_of (Some end) e = absurd (true≢false e)
 
+-- a bool that isn't true is false
 pub not_is : (b : Bool) → not b ≡ true → b ≡ false
 not_is true e = absurd (false≢true e)
 not_is false e = refl
@@ -172,6 +174,7 @@ oldest_case c i n x xs false d ih e =
     let h = ih e in let p : ℕ = h.place in let a : n ≡ i + 1 + p = h.is in let l : p < length xs = h.there in
     record { place = suc h.place; is = omega arith; there = omega arith; live = h.live }
 
+-- the subscription that is found is in the list, and isn't closed
 pub oldest_found : (c i n : ℕ) (xs : List Subscription) → oldest_live c i xs ≡ Some n → Oldest c i n xs
 oldest_found c i n [] e = none_some n e
 oldest_found c i n (x ∷ xs) e = oldest_case c i n x xs (is_live c x) refl (oldest_found c (i + 1) n xs) e
@@ -377,6 +380,7 @@ run_both : (es : List Move) (past : List Answer) (w : World) → Reached past w 
 run_both [] past w r h = h
 run_both (e ∷ es) past w r h = run_both es (answer_to w e ∷ past) (world_after w e) (step_reached past w e r) (step_both past w e r h)
 
+-- nothing is delivered of a subscription once it, or its connection, was closed
 pub closed_is_silent : Laws.ClosedIsSilent
 closed_is_silent r =
     (run_both r.events [] (start r.capacity r.log_limit r.clocks) (start_reached r.capacity r.log_limit r.clocks) (record {

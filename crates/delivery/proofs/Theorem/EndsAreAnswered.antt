@@ -165,6 +165,7 @@ happens_why : (r : Run) (e : Move) (s : ℕ) (end : Stamp) → s < length (final
 happens_why r e s end l =
     by_refusal (λ v o. New (final_world r) s end v → Why r e s end v o) (final_world r) e (λ why new. absurd (same_topics (final_world r) s end new)) (λ n new. effect_why r e s end n l new)
 
+-- a span gets its end as it is closed, or by a release or a turn that leaves its queue full
 pub ends_are_told : Reported.EndsAreAnswered
 ends_are_told r e s end none some =
     let w = final_world r in let h = reached r in elim (within s (length w.subscriptions)) [

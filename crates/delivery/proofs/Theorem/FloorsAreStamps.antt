@@ -113,5 +113,6 @@ run_floors (e ∷ es) past w r h =
     run_floors es (answer_to w e ∷ past) (world_after w e) (step_reached past w e r)
     (by_refusal (λ v o. Floors v.senders v.commits) w e (λ why. h) (λ n. happens_floors past w e r n h))
 
+-- after a run each sender's floor is the stamp of its last row in the commit list
 pub floors : (r : Run) → Floors (final_world r).senders (final_world r).commits
 floors r = run_floors r.events [] (start r.capacity r.log_limit r.clocks) (start_reached r.capacity r.log_limit r.clocks) (λ s. refl)

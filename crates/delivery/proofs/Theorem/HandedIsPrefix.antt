@@ -41,9 +41,11 @@ find_more n step number grows (e ∷ es) =
     subst (λ (k : ℕ). More (entry_items (cond (e.number == n) (Some e) (find_entry n es))) (entry_items (cond (k == n) (Some (step e)) (find_entry n (map step es))))) (sym (number e))
     (find_more_case (e.number == n) e (step e) (find_entry n es) (find_entry n (map step es)) (grows e) (find_more n step number grows es))
 
+-- what a queue has accepted: by what the closed subscription left, or by its entry
 abbrev pub items_by : Option EntryEnd → Option Entry → List Item
 items_by closed entry = elim closed [ None ↦ entry_items entry | Some end ↦ end.accepted ]
 
+-- a subscription's queue has more where its entry's has
 pub More-by : (closed : Option EntryEnd) (a b : Option Entry) → More (entry_items a) (entry_items b) → More (items_by closed a) (items_by closed b)
 More-by None a b h = h
 More-by (Some end) a b h = More-same end.accepted
@@ -55,6 +57,7 @@ More-topic w t y s x h =
     (at_topic_from (λ u z. More (entry_items (find_entry s (topic_in w.topics u).subscriptions)) (entry_items (find_entry s z.subscriptions))) w.topics t x.topic y
     (λ o. h) (More-same (entry_items (find_entry s (topic_in w.topics x.topic).subscriptions))))
 
+-- where a topic's entries have more, so has that of each number
 pub entries_more : (x y : TopicState) → Entries x y → (n : ℕ) → More (entry_items (find_entry n x.subscriptions)) (entry_items (find_entry n y.subscriptions))
 entries_more x y en n =
     subst (λ z. More (entry_items (find_entry n x.subscriptions)) (entry_items (find_entry n z))) (sym en.are)
@@ -62,11 +65,13 @@ entries_more x y en n =
 
 -- ---- the run beside the queues
 
+-- the first `taken` of the accepted items are those that were given
 pub record IsTaken (given accepted : List Item) (taken : ℕ) : Type 0 where
   pub rest : List Item
   pub is : accepted ≡ given ++ rest
   pub count : taken ≡ length given
 
+-- of each subscription the taken items of its queue were delivered, and nothing of any other number
 pub record Handing (past : List Answer) (w : World) : Type 0 where
   pub held : (s : ℕ) → s < length w.subscriptions → IsTaken (delivered_items s past) (accepted_at w s) (subscription_at w s).taken
   pub fresh : (s : ℕ) → length w.subscriptions ≤ s → delivered_items s past ≡ []
@@ -120,21 +125,26 @@ kept_case true s n e es ne d ih =
     ih ∙ ap (λ (c : Bool). cond c (Some e) (find_entry n es)) (sym k)
 kept_case false s n e es ne d ih = ap (λ z. cond (e.number == n) (Some e) z) ih
 
+-- dropping the entries of one number leaves the entry of another
 pub find_kept : (s n : ℕ) (es : List Entry) → n ≢ s → find_entry n (filter (λ z. not (z.number == s)) es) ≡ find_entry n es
 find_kept s n [] ne = refl
 find_kept s n (e ∷ es) ne = kept_case (e.number == s) s n e es ne refl (find_kept s n es ne)
 
+-- More holds of equal lists
 pub More-equal : (xs ys : List Item) → ys ≡ xs → More xs ys
 More-equal xs ys e = subst (λ z. More xs z) (sym e) (More-same xs)
 
+-- what an entry leaves has the items that it accepted
 pub ended_same : (frontier : Stamp) (n : ℕ) (from : Stamp) (to : Option Stamp) (accepted : List Item) → (end_of frontier (record { number = n; from = from; to = to; accepted = accepted })).accepted ≡ accepted
 ended_same frontier n from None accepted = refl
 ended_same frontier n from (Some end) accepted = refl
 
+-- what was accepted of a subscription that isn't closed is what its entry accepted
 pub open_items : (closed : Option EntryEnd) (entry : Option Entry) → closed ≡ None → items_by closed entry ≡ entry_items entry
 open_items None entry e = refl
 open_items (Some end) entry e = none_some end (sym e)
 
+-- closing a subscription leaves of each queue what it accepted
 pub closed_grows : (past : List Answer) (w : World) (s : ℕ) → Reached past w → (o : Option Entry) → entry_at w s ≡ o → Grows w (close_effect_of w s o)
 closed_grows past w s h None e = Grows-same w
 closed_grows past w s h (Some entry) e =
@@ -162,6 +172,7 @@ closed_grows past w s h (Some entry) e =
 push_case : (b : Bool) (n : ℕ) (e new : Entry) (o p : Option Entry) → p ≡ o → cond b (Some e) p ≡ cond b (Some e) o
 push_case b n e new o p f = ap (λ z. cond b (Some e) z) f
 
+-- an entry of another number at the end leaves the entry that is found
 pub find_pushed : (n : ℕ) (es : List Entry) (new : Entry) → new.number ≢ n → find_entry n (es ++ new ∷ []) ≡ find_entry n es
 find_pushed n [] new ne = ap (λ (c : Bool). cond c (Some new) None) (not_true (new.number == n) refl (λ e. ne (eqb-true new.number n e)))
 find_pushed n (e ∷ es) new ne = push_case (e.number == n) n e new (find_entry n es) (find_entry n (es ++ new ∷ [])) (find_pushed n es new ne)
@@ -190,6 +201,7 @@ next_of [] [] i e = none_some i e
 next_of [] (r ∷ rest) i e = (rest, ap (λ z. z ∷ rest) (some_same r i e))
 next_of (x ∷ xs) rest i e = next_of xs rest i e
 
+-- a push adds one to the length
 pub length_push : (xs : List Item) (i : Item) → length xs + 1 ≡ length (xs ++ i ∷ [])
 length_push [] i = refl
 length_push (x ∷ xs) i = let m = length_push xs i in omega arith
@@ -294,10 +306,12 @@ pub step_handing : (past : List Answer) (w : World) (e : Move) → Reached past 
 step_handing past w e r h =
     by_refusal (λ v o. Handing (o ∷ past) v) w e (λ why. told past w (Refused why) (λ n. refl) h) (λ n. happens_handing past w e r h n)
 
+-- Handing holds along a run
 pub run_handing : (es : List Move) (past : List Answer) (w : World) → Reached past w → Handing past w → Handing (answers_from es w past) (run es w)
 run_handing [] past w r h = h
 run_handing (e ∷ es) past w r h = run_handing es (answer_to w e ∷ past) (world_after w e) (step_reached past w e r) (step_handing past w e r h)
 
+-- what was delivered is a prefix of what was accepted
 pub handed_is_prefix : Laws.HandedIsPrefix
 handed_is_prefix r s l =
     let h = run_handing r.events [] (start r.capacity r.log_limit r.clocks) (start_reached r.capacity r.log_limit r.clocks)

@@ -121,6 +121,7 @@ step_lags w e s end y f h n =
     (λ why d. none_some end (sym n ∙ d))
     (λ k. subst (λ v. end_at v s ≡ Some end → EndsBeforeRow (log_at w t) (log_at v t) end) (sym f) (lag_at w s end y h n))
 
+-- a span that lags ends with the frontier before one of its topic's new rows
 pub lags_end_before_row : Spans.LagsEndBeforeRow
 lags_end_before_row r e s end none some lag =
     let w = final_world r in let t = (subscription_at w s).topic in let x = topic_at w t in let f = (topics_are_sound r t).2 in

@@ -67,6 +67,7 @@ log_is ts w t inv =
         let old = In-sorted_cases stamp_of r w.commits n.stands in
         subst (λ z. In z x.held) m.is (in_log ts w t r inv old (not-true (stamp_lt x.frontier r.stamp) a.1) ((inv.tied t).placed r old a.0))
 
+-- a topic's log is the agreed sequence restricted to it, up to its frontier
 pub log_is_agreed : Laws.LogIsAgreed
 log_is_agreed r t =
     let h = reached r in let w = final_world r in
@@ -175,6 +176,7 @@ run_counts t (e ∷ es) past w h =
 start_counts : (capacity log_limit : ℕ) (clocks : List ℕ) (t : Topic) → Counts t [] (start capacity log_limit clocks)
 start_counts capacity log_limit clocks t = at_new (λ (z : TopicState). length z.held ≡ 0) 0 log_limit clocks t.0 t (omega arith) (λ limit clock. refl)
 
+-- a topic's log has as many rows as its answers released
 pub log_counts_releases : Laws.LogCountsReleases
 log_counts_releases r t = run_counts t r.events [] (start r.capacity r.log_limit r.clocks) (start_counts r.capacity r.log_limit r.clocks t)
 
@@ -204,6 +206,7 @@ front : (p : CommitRow → Bool) (f : Stamp) (rows : List CommitRow) → Rises s
 front p f [] up = refl
 front p f (x ∷ xs) up = front_case p f x xs up.0 (front p f xs up.1) (p x) (stamp_lt f x.stamp) refl
 
+-- a topic's log is as many rows of the agreed sequence at it as were released, from the first
 pub log_is_of_outcomes : Laws.LogIsOfAnswers
 log_is_of_outcomes r t =
     let h = reached r in let w = final_world r in let f = frontier_at w t in let cs = commits_of (answers_of r) in

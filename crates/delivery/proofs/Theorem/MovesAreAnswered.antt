@@ -149,5 +149,6 @@ answer_is w (Turns t) n = refl
 answer_is w (Takes s) n =
     take_is w s (slice_get (accepted_at w s) (subscription_at w s).taken) refl (checked w (Takes s) n).1.1.0
 
+-- each event has an answer of its own, in any core
 pub events_are_answered : MovesAreAnswered
 events_are_answered w e = by_refusal (λ v o. IsAnswer w e o) w e (λ why. tt) (λ n. answer_is w e n)

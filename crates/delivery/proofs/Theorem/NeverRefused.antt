@@ -63,6 +63,7 @@ is_waiting past w c t h (Some k) f e =
     let g = leftover_found t (speaker w c).leftovers k f in
     waits_here k.id (topic_at w t).pending (subst (λ u. Waits k.id (topic_in w.topics u).pending) g.topic ((h.inv.serves (connection_at w c).sender).left k g.stands).waits) e
 
+-- no cancelling is refused because its part isn't pending
 pub cancel_finds_its_part : Laws.CancelFindsItsPart
 cancel_finds_its_part r c t e =
     let w = final_world r in
@@ -155,6 +156,7 @@ run_once (e ∷ es) past w h old =
     run_once es (answer_to w e ∷ past) (world_after w e) (step_reached past w e h)
     (λ id i. elim i [ inl k ↦ outcome_once past w e id h k | inr k ↦ old id k ])
 
+-- no proposal fails because its transaction is pending there
 pub none_is_pending_twice : Laws.NoneIsPendingTwice
 none_is_pending_twice r = run_once r.events [] (start r.capacity r.log_limit r.clocks) (start_reached r.capacity r.log_limit r.clocks) (λ id i. i)
 
@@ -166,12 +168,14 @@ fresh_case subs t x own (Some e) f =
     let k = found_entry (length subs) x.subscriptions e f in
     absurd (let l : e.number < length subs = (own e k.stands).there in let n : e.number ≡ length subs = k.is in omega arith)
 
+-- the next subscription's number is free at each topic
 pub numbers_are_free : Laws.NumbersAreFree
 numbers_are_free r t =
     let w = final_world r in let x = topic_at w t in
     ap (λ (b : Bool). cond b (Some SubFault.SubInUse) None)
     (fresh_case w.subscriptions t x ((reached r).inv.subscribes.owned t) (find_entry (length w.subscriptions) x.subscriptions) refl)
 
+-- a subscription that isn't closed has its entry at its topic
 pub entries_are_there : Laws.EntriesAreThere
 entries_are_there r s l unclosed =
     let w = final_world r in let x = topic_at w (subscription_at w s).topic in
@@ -179,5 +183,6 @@ entries_are_there r s l unclosed =
     let f = finds_entry s x.subscriptions h.entry h.stands h.number in
     ap (λ (o : Option Entry). cond (is_some o) None (Some (record {}))) f.found
 
+-- each entry of a topic is that of a subscription to it that isn't closed
 pub entries_are_owned : Laws.EntriesAreOwned
 entries_are_owned r t e i = let h = (reached r).inv.subscribes.owned t e i in (h.there, h.topic, h.closed, h.from_is)

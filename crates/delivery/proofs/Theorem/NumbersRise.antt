@@ -240,6 +240,7 @@ start_clock i log_limit [] j d = omega arith
 start_clock i log_limit (clock ∷ clocks) zero d = omega arith
 start_clock i log_limit (clock ∷ clocks) (suc j) d = start_clock (i + 1) log_limit clocks j d
 
+-- along a run the numbers that a topic gives rise, each above its opening clock
 pub rising_run : (r : Run) → Rising (answers_of r) (r.clocks ++ added_clocks r.events) (final_world r)
 rising_run r =
     run_rising r.events [] r.clocks (start r.capacity r.log_limit r.clocks) (start_reached r.capacity r.log_limit r.clocks) (record {

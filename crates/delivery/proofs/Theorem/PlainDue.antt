@@ -31,6 +31,7 @@ names_inserted : (t s : Topic) (us : List Topic) → names t (insert_topic s us)
 names_inserted t s [] = refl
 names_inserted t s (u ∷ us) = names_case t s u us (ltb s.0 u.0) (s.0 == u.0) refl (names_inserted t s us)
 
+-- one of the SENDs goes to t if and only if their topics name t
 pub names_any : (t : Topic) (sends : List SentMessage) → list_any (λ (s : SentMessage). s.topic.0 == t.0) sends ≡ names t (topics_of sends)
 names_any t [] = refl
 names_any t (s ∷ sends) = ap (λ (z : Bool). (s.topic.0 == t.0) || z) (names_any t sends) ∙ sym (names_inserted t s.topic (topics_of sends))
@@ -65,6 +66,7 @@ part_last t sends s =
     let k : 0 + length sends ≡ length sends = omega arith in
     part_last_from 0 t sends s ∙ ap (λ n. part_of t sends ++ last_part n t s) k
 
+-- appending is associative
 pub append_again : {X : Type 0} (xs ys zs : List X) → (xs ++ ys) ++ zs ≡ xs ++ (ys ++ zs)
 append_again [] ys zs = refl
 append_again (x ∷ xs) ys zs = ap (λ z. x ∷ z) (append_again xs ys zs)
@@ -75,6 +77,7 @@ part_taken t sends s done e =
     ap (λ z. z ++ done) (part_last t sends s ∙ ap (λ (b : Bool). part_of t sends ++ cond b (part_send (length sends) s ∷ []) []) e)
     ∙ append_again (part_of t sends) (part_send (length sends) s ∷ []) done
 
+-- a last SEND to another topic adds nothing to the part at t
 pub part_passed : (t : Topic) (sends : List SentMessage) (s : SentMessage) (done : List PartMessage) → (s.topic.0 == t.0) ≡ false → part_of t (sends ++ s ∷ []) ++ done ≡ part_of t sends ++ done
 part_passed t sends s done e =
     ap (λ z. z ++ done) (part_last t sends s ∙ ap (λ (b : Bool). part_of t sends ++ cond b (part_send (length sends) s ∷ []) []) e)
@@ -90,8 +93,10 @@ pub filter_last : {X Y : Type 0} (f : X → Y) (p : X → Bool) (xs : List X) (x
 filter_last f p [] x done = refl
 filter_last f p (y ∷ xs) x done = filter_case f p x y xs done (p y) (filter_last f p xs x done)
 
+-- a last item that passes is mapped, and added after the others
 pub filter_taken : {X Y : Type 0} (f : X → Y) (p : X → Bool) (xs : List X) (x : X) (done : List Y) → p x ≡ true → map f (filter p (xs ++ x ∷ [])) ++ done ≡ map f (filter p xs) ++ f x ∷ done
 filter_taken f p xs x done e = filter_last f p xs x done ∙ ap (λ (b : Bool). map f (filter p xs) ++ (map f (cond b (x ∷ []) []) ++ done)) e
 
+-- a last item that doesn't pass adds nothing
 pub filter_passed : {X Y : Type 0} (f : X → Y) (p : X → Bool) (xs : List X) (x : X) (done : List Y) → p x ≡ false → map f (filter p (xs ++ x ∷ [])) ++ done ≡ map f (filter p xs) ++ done
 filter_passed f p xs x done e = filter_last f p xs x done ∙ ap (λ (b : Bool). map f (filter p xs) ++ (map f (cond b (x ∷ []) []) ++ done)) e

@@ -103,6 +103,7 @@ effect_grow past w (Turns t) r = Grow-topic w t (after_turn (queue_has_room w) (
     (Keeps-turned (tickets past) w.commits t (queue_has_room w) (verdict_in w) (topic_at w t) r.inv.consistent (finds (tickets past) w r.inv) (r.inv.tied t)).entries)
 effect_grow past w (Takes s) r = taken_grow w s _
 
+-- what a queue has accepted stays, and more is added at its end alone
 pub queues_grow : Spans.QueuesGrow
 queues_grow r e s l =
     let h = by_refusal (λ v o. Grow (final_world r) v) (final_world r) e (λ why. Grow-same (final_world r)) (λ n. effect_grow (answers_of r) (final_world r) e (reached r)) s l in (h.more, h.is)

@@ -20,6 +20,7 @@ crossing_due = refl
 
 -- ---- two senders at two topics: four tickets
 
+-- two connections commit to A and B, and both topics give both a ticket; then these events
 abbrev pub four_tickets : List Move → Run
 four_tickets then = run_of (0 ∷ 0 ∷ []) (
     Opens ∷ Opens ∷ Commits 0 to_a_and_b ∷ Commits 1 to_a_and_b
@@ -72,6 +73,7 @@ three_sends_answers = refl
 
 -- ---- a span that ends: the second transaction comes after it
 
+-- a subscription is closed after the first of two transactions was released, and before the second is
 abbrev pub ends : Run
 ends = run_of (0 ∷ []) (
     Opens ∷ Opens ∷ Commits 0 (send 0 1 ∷ []) ∷ Proposes 0 (topic 0) true ∷ Decides 0 ∷ Subscribes 1 (topic 0) ∷ Turns (topic 0) ∷ Takes 0

@@ -156,6 +156,7 @@ run_numbering (e ∷ es) past w h =
     (by_refusal (λ v o. Numbering (o ∷ past) v.senders v.connections) w e (λ why. told past w.senders w.connections (Refused why) (λ s. refl) (λ k. k) h)
     (λ n. happens_numbering past w e h n))
 
+-- the seq of each transaction counts its sender's, from 1
 pub seqs_count : Laws.SeqsCount
 seqs_count r =
     (run_numbering r.events [] (start r.capacity r.log_limit r.clocks) (record {

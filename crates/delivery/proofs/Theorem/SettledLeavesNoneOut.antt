@@ -87,6 +87,7 @@ fewer_quiet past w v o q f h = note_quiet past v.topics v.senders o q (Settling-
 
 -- ---- a turn of a topic where all is resolved
 
+-- a transaction that was decided has a row in the core's commit list
 pub committed_of : (past : List Answer) (w : World) (id : TxnId) (stamp : Stamp) → Reached past w → In (Decided id stamp) past → HasCommit w.commits id
 committed_of past w id stamp h k =
     let c = commit_of id stamp past k in
@@ -235,6 +236,7 @@ happens_settling past w (Releases t) h l e =
 happens_settling past w (Turns t) h l e = turn_settling past w t h l
 happens_settling past w (Takes s) h l e = handed_settling past w s _ l
 
+-- each event keeps Settling
 pub step_settling : (past : List Answer) (w : World) (e : Move) → Reached past w → Settling past w.topics w.senders → Settling (answer_to w e ∷ past) (world_after w e).topics (world_after w e).senders
 step_settling past w e h l =
     by_refusal (λ v o. Settling (o ∷ past) v.topics v.senders) w e (λ why. note_quiet past w.topics w.senders (Refused why) (quiet_refused why) l)
@@ -242,6 +244,7 @@ step_settling past w e h l =
 
 -- ---- over a run
 
+-- Reached and Settling together
 pub record Both (past : List Answer) (w : World) : Type 0 where
   pub reached : Reached past w
   pub settling : Settling past w.topics w.senders
@@ -253,6 +256,7 @@ run_both (e ∷ es) past w h l = run_both es (answer_to w e ∷ past) (world_aft
 no_parts : (log_limit : ℕ) (clocks : List ℕ) (t : Topic) (p : Pending) → In p (topic_in (new_topics 0 log_limit clocks) t).pending → Prim.⊥
 no_parts log_limit clocks t = at_new (λ z. (p : Pending) → In p z.pending → Prim.⊥) 0 log_limit clocks t.0 t (omega arith) (λ limit clock p i. i)
 
+-- Settling holds at the start of a run
 pub start_settling : (log_limit : ℕ) (clocks : List ℕ) → Settling [] (new_topics 0 log_limit clocks) []
 start_settling log_limit clocks = record {
   gone = λ t p id i k. absurd k;
@@ -274,6 +278,7 @@ logged_of : (w : World) (t : Topic) (r : CommitRow) → Calm w.topics w.senders 
 logged_of w t r k (inl i) = i
 logged_of w t r k (inr v) = absurd (k.none v.part v.stands)
 
+-- a committed transaction that names a settled topic is in its log
 pub settled_in_log : (r : Run) (t : Topic) (row : CommitRow) → IsSettled t (answers_of r) → In row (commits_of (answers_of r)) → names t (topics_of row.txn.sends) ≡ true
     → In (log_row row) (log_at (final_world r) t)
 settled_in_log r t row settled i n =

@@ -44,25 +44,31 @@ pub record Settling (past : List Answer) (topics : List TopicState) (senders : L
 
 -- ---- parts that only go
 
+-- from ps to qs no transaction gets a part
 abbrev pub Gone_to : List Pending → List Pending → Type 0
 Gone_to ps qs = (q : Pending) → In q qs → Waits q.part.id ps
 
+-- no part is added where the parts stay
 pub Gone-same : (ps : List Pending) → Gone_to ps ps
 Gone-same ps q i = record { part = q; stands = i; is = refl }
 
 Gone-then : (ps qs rs : List Pending) → Gone_to ps qs → Gone_to qs rs → Gone_to ps rs
 Gone-then ps qs rs a b r i = let k = b r i in let m = a k.part k.stands in record { part = m.part; stands = m.stands; is = m.is ∙ k.is }
 
+-- no part is added as a stamp is learnt
 pub Gone-learned : (id : TxnId) (stamp : Stamp) (x : TopicState) → Gone_to x.pending (after_learn id stamp x).pending
 Gone-learned id stamp x q i = let m = In-map_cases (with_stamp id stamp) q x.pending i in
     record { part = m.from; stands = m.stands; is = ap (λ (z : TopicPart). z.id) (sym (told_how id stamp m.from).part) ∙ ap (λ (z : Pending). z.part.id) m.is }
 
+-- no part is added as one is cancelled
 pub Gone-without : (id : TxnId) (x : TopicState) → Gone_to x.pending (after_cancel id x).pending
 Gone-without id x q i = record { part = q; stands = (others id q x.pending i).stands; is = refl }
 
+-- no part is added at a release
 pub Gone-release : (takes : Entry → Bool) (x : TopicState) → Gone_to x.pending (after_release takes x).pending
 Gone-release takes x = release_keeps (λ y. Gone_to x.pending y.pending) takes x (Gone-same x.pending) (λ p e. Gone-without p.part.id x)
 
+-- no part is added at a turn
 pub Gone-turned : (takes : Entry → Bool) (find : TxnId → Option Decision) (x : TopicState) → Gone_to x.pending (after_turn takes find x).pending
 Gone-turned takes find x =
     turn_keeps (λ y. Gone_to x.pending y.pending) takes find
@@ -76,9 +82,11 @@ pub record Fewer (topics : List TopicState) (senders : List SenderState) (new_to
   pub flights : FewerFlights senders new_senders
   pub parts : (t : Topic) → Gone_to (topic_in topics t).pending (topic_in new_topics t).pending
 
+-- Fewer holds from a core to itself
 pub Fewer-same : (topics : List TopicState) (senders : List SenderState) → Fewer topics senders topics senders
 Fewer-same topics senders = record { seqs = λ s. omega arith; flights = same_flights senders; parts = λ t. Gone-same (topic_in topics t).pending }
 
+-- Fewer holds where one topic's parts change and none is added
 pub Fewer-topic : (topics : List TopicState) (senders : List SenderState) (t : Topic) (y : TopicState) → Gone_to (topic_in topics t).pending y.pending → Fewer topics senders (set topics t.0 y) senders
 Fewer-topic topics senders t y g = record {
   seqs = λ s. omega arith;
@@ -86,6 +94,7 @@ Fewer-topic topics senders t y g = record {
   parts = λ u. at_topic_from (λ v z. Gone_to (topic_in topics v).pending z.pending) topics t u y (λ o. g) (Gone-same (topic_in topics u).pending);
 }
 
+-- Fewer holds where one sender gets a seq as high and no other flight
 pub Fewer-sender : (topics : List TopicState) (senders : List SenderState) (s : ℕ) (x : SenderState) → (sender_in senders s).seq ≤ x.seq → FewerFlights senders (set senders s x) → Fewer topics senders topics (set senders s x)
 Fewer-sender topics senders s x l few = record {
   seqs = λ d. at_set (λ (z : SenderState). (sender_in senders d).seq ≤ z.seq) senders s d x new_sender
@@ -94,6 +103,7 @@ Fewer-sender topics senders s x l few = record {
   parts = λ t. Gone-same (topic_in topics t).pending;
 }
 
+-- Fewer is transitive
 pub Fewer-then : (a b c : List TopicState) (x y z : List SenderState) → Fewer a x b y → Fewer b y c z → Fewer a x c z
 Fewer-then a b c x y z f g = record {
   seqs = λ s. let m = f.seqs s in let n = g.seqs s in omega arith;
@@ -101,6 +111,7 @@ Fewer-then a b c x y z f g = record {
   parts = λ t. Gone-then (topic_in a t).pending (topic_in b t).pending (topic_in c t).pending (f.parts t) (g.parts t);
 }
 
+-- Settling stays where Fewer holds
 pub Settling-fewer : (past : List Answer) (topics : List TopicState) (senders : List SenderState) (new_topics : List TopicState) (new_senders : List SenderState) → Fewer topics senders new_topics new_senders → Settling past topics senders → Settling past new_topics new_senders
 Settling-fewer past topics senders nt ns f h = record {
   gone = λ t q id i k. let p = f.parts t q i in subst (λ z. same_id z id ≡ false) p.is (h.gone t p.part id p.stands k);
@@ -126,6 +137,7 @@ pub record Quiet (o : Answer) : Type 0 where
   pub cancelled : (id : TxnId) (t : Topic) → o ≡ Cancelled id t → Prim.⊥
   pub settled : (t : Topic) (past : List Answer) → IsSettled t (o ∷ past) → IsSettled t past
 
+-- Settling stays with one more quiet answer
 pub note_quiet : (past : List Answer) (topics : List TopicState) (senders : List SenderState) (o : Answer) → Quiet o → Settling past topics senders → Settling (o ∷ past) topics senders
 note_quiet past topics senders o q h = record {
   gone = λ t p id i k. elim k [ inl e ↦ absurd (q.cancelled id t e) | inr j ↦ h.gone t p id i j ];
@@ -138,6 +150,7 @@ note_quiet past topics senders o q h = record {
   calm = λ t e. h.calm t (q.settled t past e);
 }
 
+-- Settling stays with a withdrawal, where its id was used and has no flight any more
 pub note_withdrawn : (past : List Answer) (topics : List TopicState) (senders : List SenderState) (id : TxnId) (c : ℕ) → id.seq ≤ (sender_in senders id.sender.0).seq → ((s : ℕ) (f : Undecided) → (sender_in senders s).flight ≡ Some f → same_id f.txn.id id ≡ false) → Settling past topics senders → Settling (Withdrawn id c ∷ past) topics senders
 note_withdrawn past topics senders id c old apart h = record {
   gone = λ t p i j k. elim k [ inl e ↦ cc | inr l ↦ h.gone t p i j l ];
@@ -156,6 +169,7 @@ note_withdrawn past topics senders id c old apart h = record {
   calm = λ t e. h.calm t e.1;
 }
 
+-- Settling stays with a cancelling, where its id was used, has no flight and isn't pending there
 pub note_cancelled : (past : List Answer) (topics : List TopicState) (senders : List SenderState) (id : TxnId) (u : Topic) → id.seq ≤ (sender_in senders id.sender.0).seq → ((s : ℕ) (f : Undecided) → (sender_in senders s).flight ≡ Some f → same_id f.txn.id id ≡ false) → ((p : Pending) → In p (topic_in topics u).pending → same_id p.part.id id ≡ false) → Settling past topics senders → Settling (Cancelled id u ∷ past) topics senders
 note_cancelled past topics senders id u old apart none h = record {
   gone = λ t p i j k. elim k [
@@ -178,6 +192,7 @@ note_cancelled past topics senders id u old apart none h = record {
   calm = λ t e. h.calm t e.1;
 }
 
+-- Settling stays with a turn, where the topic is calm if all there is resolved
 pub note_turned : (past : List Answer) (topics : List TopicState) (senders : List SenderState) (u : Topic) (count : ℕ) → (AllResolved u past → Calm topics senders u) → Settling past topics senders → Settling (Turned u count ∷ past) topics senders
 note_turned past topics senders u count now h = record {
   gone = λ t p i j k. elim k [ inl e ↦ cc | inr l ↦ h.gone t p i j l ];
@@ -195,6 +210,7 @@ note_turned past topics senders u count now h = record {
 
 -- ---- a transaction is made
 
+-- making a transaction keeps Settling
 pub flying_settling : (past : List Answer) (w : World) (c : ℕ) (first : SentMessage) (others : List SentMessage) → Holds (tickets past) w → Settling past w.topics w.senders → Settling (Begun (next_txn w c (first ∷ others)) ∷ past) w.topics (commit_effect w c (first ∷ others)).senders
 flying_settling past w c first others inv h = record {
   gone = λ t p id i k. elim k [ inl e ↦ cc | inr j ↦ h.gone t p id i j ];
@@ -242,6 +258,7 @@ flying_settling past w c first others inv h = record {
 
 -- ---- a ticket
 
+-- giving a ticket keeps Settling
 pub ticket_settling : (past : List Answer) (w : World) (s : ℕ) (t : Topic) (f : Undecided) → Holds (tickets past) w → New w s t f → txn_of_id f.txn.id past ≡ f.txn → Settling past w.topics w.senders → Settling (Ticket f.txn.id (heard w s t f).stamp ∷ past) (set w.topics t.0 (topic_after w s t f)) (set w.senders s (sender_after w s t f))
 ticket_settling past w s t f inv new is h = record {
   gone = λ u q id i k. elim k [

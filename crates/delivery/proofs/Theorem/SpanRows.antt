@@ -34,6 +34,7 @@ three_due then = record {
 abbrev pub row : ℕ → LogRow
 row n = record { id = id 0 n; topics = topic 0 ∷ []; stamp = stamp n 0 }
 
+-- that transaction's item
 abbrev pub item : ℕ → Item
 item n = record { id = id 0 n; stamp = stamp n 0; sends = part 0 n ∷ [] }
 

@@ -95,6 +95,7 @@ answer_begun w (Releases u) s c t from e = absurd (release_untold u (due_part (t
 answer_begun w (Turns u) s c t from e = absurd (told_of _ _ e tt)
 answer_begun w (Takes r) s c t from e = absurd (take_untold w r _ (told_of _ _ e tt))
 
+-- subscription s is there, and has this topic and this beginning
 pub record Begins (w : World) (s : ℕ) (t : Topic) (from : Stamp) : Type 0 where
   pub there : s < length w.subscriptions
   pub topic : (subscription_at w s).topic ≡ t
@@ -135,6 +136,7 @@ ends_as_told past w q s to r l unclosed e =
     let a : q ≡ s = cc in let b : end_now w q ≡ to = cc in
     subst (λ n. end_at (close_effect w q) n ≡ Some to) a (closed_ends past w q r l unclosed ∙ ap Some b)
 
+-- the end that leaving answers is that of the subscription which it closes
 pub leave_ends : (past : List Answer) (w : World) (c s : ℕ) (to : Stamp) → Reached past w → (o : Option ℕ) → oldest_live c 0 w.subscriptions ≡ o → leave_answer w c o ≡ Unsubscribed s to → end_at (leave_effect w c o) s ≡ Some to
 leave_ends past w c s to r None f e = cc
 leave_ends past w c s to r (Some q) f e =
@@ -142,6 +144,7 @@ leave_ends past w c s to r (Some q) f e =
     ends_as_told past w q s to r (let l : p < length w.subscriptions = o.there in omega arith)
     (subst (λ n. is_some (subscription_at w n).closed ≡ false) (sym i) (live_open c (subscription_at w p) o.live)) e
 
+-- the end that an event answers is that of the subscription which it closes
 pub answer_ends : (past : List Answer) (w : World) (e : Move) (s : ℕ) (to : Stamp) → Reached past w → move_refusal w e ≡ None → move_answer w e ≡ Unsubscribed s to → end_at (move_effect w e) s ≡ Some to
 answer_ends past w (AddsTopic clock) s to r n e = absurd (told_of _ _ e tt)
 answer_ends past w Opens s to r n e = absurd (told_of _ _ e tt)
@@ -174,6 +177,7 @@ beyond [] j d l = refl
 beyond (x ∷ xs) zero d l = absurd (omega arith)
 beyond (x ∷ xs) (suc j) d l = beyond xs j d (omega arith)
 
+-- a number is below another, or it isn't
 pub within : (m n : ℕ) → (m < n) ⊎ (n ≤ m)
 within m n = elim (cases_order m n) [
   | inl d ↦ inr (omega arith)
@@ -188,6 +192,7 @@ end_there past w s end r e = elim (within s (length w.subscriptions)) [
   | inr l ↦ none_some end (sym (ap (end_in w.topics s) (beyond w.subscriptions s no_subscription l) ∙ (none_there past w s (record { 0 = 0 }) r l).0) ∙ e)
 ]
 
+-- after a run: spans begin and end as they were answered, and queues hold at most their capacity
 pub record Known (capacity : ℕ) (past : List Answer) (w : World) : Type 0 where
   pub same : w.capacity ≡ capacity
   pub bounded : (s : ℕ) → s < length w.subscriptions → length (accepted_at w s) ≤ (subscription_at w s).taken + w.capacity
@@ -221,6 +226,7 @@ run_known capacity [] past w r h = h
 run_known capacity (e ∷ es) past w r h =
     run_known capacity es (answer_to w e ∷ past) (world_after w e) (step_reached past w e r) (step_known capacity past w e r h)
 
+-- Known holds after each run
 pub known : (r : Run) → Known r.capacity (answers_of r) (final_world r)
 known r =
     run_known r.capacity r.events [] (start r.capacity r.log_limit r.clocks) (start_reached r.capacity r.log_limit r.clocks) (record {
@@ -230,27 +236,33 @@ known r =
       ended = λ s to i. absurd i;
     })
 
+-- a span has the topic and the beginning that SUBSCRIBE was answered
 pub spans_begin_as_told : Reported.SpansBeginAsAnswered
 spans_begin_as_told r s c t from i = let b = (known r).begun s c t from i in (b.there, b.topic, b.start)
 
+-- a span has the end that was answered
 pub spans_end_as_told : Reported.SpansEndAsAnswered
 spans_end_as_told r s to i = (known r).ended s to i
 
+-- a span begins at its topic's frontier
 pub spans_begin_at_frontier : Reported.SpansBeginAtFrontier
 spans_begin_at_frontier r e s c t from d =
     by_refusal (λ v o. o ≡ Subscribed s c t from → from ≡ (topic_at (final_world r) t).frontier) (final_world r) e (λ why k. absurd (told_of _ _ k tt))
     (λ n k. (answer_begun (final_world r) e s c t from k).start) d
     ∙ frontier_is (tickets (answers_of r)) (final_world r) t (reached r).inv
 
+-- an end that is there stays
 pub ends_stay : Reported.EndsStay
 ends_stay r e s end d =
     let h = reached r in ((step_tells (answers_of r) (final_world r) e h).each s (end_there (answers_of r) (final_world r) s end h d)).stays end d
 
+-- Handing holds after each run
 pub handing : (r : Run) → Handing (answers_of r) (final_world r)
 handing r =
     run_handing r.events [] (start r.capacity r.log_limit r.clocks) (start_reached r.capacity r.log_limit r.clocks)
     (record { held = λ n k. absurd (omega arith); fresh = λ n k. refl })
 
+-- of what a queue has accepted, no more than its capacity wasn't delivered
 pub queues_are_bounded : Reported.QueuesAreBounded
 queues_are_bounded r s l =
     let h = known r in let c = ((handing r).held s l).count in

@@ -332,6 +332,7 @@ run_accounted [] past w r h = h
 run_accounted (e ∷ es) past w r h =
     run_accounted es (answer_to w e ∷ past) (world_after w e) (step_reached past w e r) (step_accounted past w e r h)
 
+-- after a run each ticket is accounted for
 pub accounted : (r : Run) → Accounted (answers_of r) (final_world r).senders (final_world r).commits
 accounted r =
     run_accounted r.events [] (start r.capacity r.log_limit r.clocks) (start_reached r.capacity r.log_limit r.clocks) (record {

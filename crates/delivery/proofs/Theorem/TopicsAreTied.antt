@@ -168,6 +168,7 @@ has_ticket r t q i n =
 
 -- ---- all together
 
+-- each topic of a run is tied to the tickets that it gave
 pub topics_are_tied : Tied.TopicsAreTied
 topics_are_tied r t =
     let rise = rising_run r in record {
@@ -180,6 +181,7 @@ topics_are_tied r t =
       tickets = λ q i n. has_ticket r t q i n;
     }
 
+-- each sender's floor is the stamp of its last row, and below its undecided transaction's tickets
 pub senders_are_floored : Tied.SendersAreFloored
 senders_are_floored r s =
     let h = reached r in let w = final_world r in record {

@@ -120,6 +120,7 @@ turn_within w t room =
 turn_when : (w : World) (t : Topic) (b : Bool) → is_topic w t ≡ b → world_after w (Turns t) ≡ stepped w (move_effect w (Turns t)) (option_or (first_refusal ((not b, Refusal.NotNamed) ∷ [])) None)
 turn_when w t b e = ap (λ (z : Bool). stepped w (move_effect w (Turns t)) (option_or (first_refusal ((not z, Refusal.NotNamed) ∷ [])) None)) e
 
+-- a turn is a learn for each pending part, and then as many releases
 pub turn_is_its_steps : Laws.TurnIsItsSteps
 turn_is_its_steps w t = elim (within t.0 (length w.topics)) [
   | inl l ↦ turn_when w t true (lt-ltb t.0 (length w.topics) l) ∙ turn_within w t l
@@ -190,6 +191,7 @@ released_case w t u id (Some p) room e =
     let a : u ≡ t = cc in let b : p.part.id ≡ id = cc in
     (a, row_of p, b, log_written w t (after_release_if (queue_has_room w) (topic_at w t) (Some p)) room)
 
+-- a release adds to its topic's log the row of the transaction that it answers
 pub released_is_logged : Laws.ReleasedIsLogged
 released_is_logged w t u id =
     by_refusal (λ v o. o ≡ Released u id → (u ≡ t) × (row : LogRow) × (row.id ≡ id) × (log_at v t ≡ log_at w t ++ row ∷ [])) w (Releases t)
@@ -202,6 +204,7 @@ turned_here w t u count room e =
     let a : u ≡ t = cc in let b : length y.held - length x.held ≡ count = cc in
     (a, h.rows, counts_rows x y h ∙ b, log_written w t y room ∙ h.is)
 
+-- a turn adds as many rows to its topic's log as it answers
 pub turned_is_logged : Laws.TurnedIsLogged
 turned_is_logged w t u count =
     by_refusal (λ v o. o ≡ Turned u count → (u ≡ t) × (rows : List LogRow) × (length rows ≡ count) × (log_at v t ≡ log_at w t ++ rows)) w (Turns t)

@@ -116,6 +116,7 @@ run_apart [] past w h l old = old
 run_apart (e ∷ es) past w h l old =
     run_apart es (answer_to w e ∷ past) (world_after w e) (step_reached past w e h) (step_settling past w e h l) (step_apart past w (answer_to w e) h l (outcome_ends w e) old)
 
+-- no transaction is both withdrawn and decided
 pub withdrawn_is_undecided : Laws.WithdrawnIsUndecided
 withdrawn_is_undecided r =
     run_apart r.events [] (start r.capacity r.log_limit r.clocks) (start_reached r.capacity r.log_limit r.clocks) (start_settling r.log_limit r.clocks) (λ id c stamp i. absurd i)
