@@ -23,6 +23,7 @@ use Rattle.mcast_txn.proofs.SlotLemmas.{slot_at-index, slot_at-none, with_slot-s
 abbrev ticket_slot : Slot ℕ → Topic × Option ℕ
 ticket_slot slot = (slot.topic, slot.held)
 
+-- a bool whose negation is false is true
 pub was_true : (b : Bool) → false ≡ not b → b ≡ true
 was_true true h = refl
 was_true false h = absurd (false≢true h)
@@ -76,6 +77,7 @@ pub tickets_free : (topics : List Topic) → ticket_slots (map free_slot topics)
 tickets_free [] = refl
 tickets_free (t ∷ topics) = ap (λ rest. (t, None) ∷ rest) (tickets_free topics)
 
+-- a new ballot has room for a ticket of each of its topics
 pub room_free : (topics : List Topic) (rows : List Stamp) (capacity : ℕ) → RisesBy (λ t. t.0) topics → rows ≡ [] → capacity ≡ length topics → HasRoom (map free_slot topics) rows capacity
 room_free topics rows capacity rising empty exact = record {
   rising = rises-map (λ (slot : Slot ℕ). slot.topic.0) free_slot topics rising;
