@@ -11,6 +11,7 @@ use Rattle.stomp_escape.specs.Escape.{letter_of, escaped_octet, escaped, Spells,
 use Rattle.stomp_escape.specs.Inner.Unescaping.{octet_of, before, unescaped_from, unescaped}
 use Rattle.stomp_escape.proofs.Steps.{with_front, plain_at, escape_at, undefined_at, cut_at, nothing_at}
 
+-- An escaped text spells what was escaped.
 pub Spells-escaped : (v : List ℕ) → Spells (escaped v) v
 Spells-escaped [] = refl
 Spells-escaped (b ∷ v) = (escaped v, Spells-escaped v, inl refl)
@@ -78,6 +79,7 @@ Found-escape at c o t (Err (Undefined k)) l (v, front, d, rest, s, len, e, h) = 
 Found-escape at c o t (Err Cut) l (v, front, s, e) = (o ∷ v, 92 ∷ c ∷ front, (front, s, inl (rw l refl)), ap (λ (w : List ℕ). 92 ∷ c ∷ w) e)
 Found-escape at c o t (Err NoMemory) l f = f
 
+-- Reading any text gives the value that it spells, or its first fault.
 pub found : (text : List ℕ) (at : ℕ) → Found at text (unescaped_from at text)
 found [] at = rw (nothing_at at) refl
 found (b ∷ []) at =
@@ -95,6 +97,7 @@ found (b ∷ c ∷ t) at =
       | inr ne ↦ rw (plain_at at b (c ∷ t) ne) (Found-plain at b (c ∷ t) (unescaped_from (at + 1) (c ∷ t)) ne (found (c ∷ t) (at + 1)))
     ]
 
+-- A value that a call returned is spelled by the text.
 pub is_found : (text : List ℕ) (r : Result (List ℕ) EscapeFault) → Gives r (unescaped text) → IfOk r (λ v. Spells text v)
 is_found text (Ok v) g = subst (Found 0 text) g (found text 0)
 is_found text (Err e) g = tt
@@ -104,6 +107,7 @@ first_fault text (Undefined k) (v, front, c, rest, s, len, e, h) = (v, front, c,
 first_fault text Cut f = f
 first_fault text NoMemory f = f
 
+-- A fault that a call returned is the text's first, or out of memory.
 pub is_fault : (text : List ℕ) (r : Result (List ℕ) EscapeFault) → Gives r (unescaped text) → IfErr r (λ e. (e ≡ NoMemory) ⊎ IsFirstFault text e)
 is_fault text (Ok v) g = tt
 is_fault text (Err (Undefined k)) g = inr (first_fault text (Undefined k) (subst (Found 0 text) g (found text 0)))
@@ -113,6 +117,7 @@ is_fault text (Err NoMemory) g = inl refl
 octet_none : (c : ℕ) → ((b : ℕ) → letter_of b ≢ Some c) → octet_of c ≡ None
 octet_none c h = elim (option_cases (octet_of c)) [ inl (o, l) ↦ absurd (h o (octet-letter o c l)) | inr none ↦ none ]
 
+-- A text that has a first fault is read as that fault.
 pub fault_again : (text : List ℕ) (e : EscapeFault) → IsFirstFault text e → unescaped text ≡ Err e
 fault_again text (Undefined k) (v, front, c, rest, s, len, e, h) =
     let at : 0 + length front ≡ k = omega arith in
@@ -120,6 +125,7 @@ fault_again text (Undefined k) (v, front, c, rest, s, len, e, h) =
 fault_again text Cut (v, front, s, e) = ap unescaped e ∙ through v front (92 ∷ []) 0 s ∙ rw (cut_at (0 + length front) 92 refl) refl
 fault_again text NoMemory f = absurd f
 
+-- A text that spells a value is read as that value.
 pub read_again : (text v : List ℕ) → Spells text v → unescaped text ≡ Ok v
 read_again text v s =
     let whole = through v text [] 0 s in
@@ -147,11 +153,13 @@ spelled_or_fault text = by_reading text (unescaped text) (found text 0)
     by_reading text (Ok v) f = inl (v, f)
     by_reading text (Err e) f = inr (e, first_fault text e f)
 
+-- No text both spells a value and has a first fault.
 pub never_both : (text : List ℕ) → IsSpelled text → ¬ IsFaulty text
 never_both text (v, s) (e, f) =
     let same : Ok v ≡ Err e = sym (read_again text v s) ∙ fault_again text e f in
     cc
 
+-- A text has at most one first fault.
 pub fault-only : (text : List ℕ) (e f : EscapeFault) → IsFirstFault text e → IsFirstFault text f → e ≡ f
 fault-only text e f g h =
     let same : Err e ≡ Err f = sym (fault_again text e g) ∙ fault_again text f h in
@@ -184,6 +192,7 @@ escaped_octet-unbroken b =
       | inr none ↦ rw none (octet_unbroken b none, tt)
     ]
 
+-- An escaped text has no CR, LF or colon.
 pub escaped-unbroken : (v : List ℕ) → IsUnbroken (escaped v)
 escaped-unbroken [] = tt
 escaped-unbroken (b ∷ v) = unbroken-append (escaped_octet b) (escaped v) (escaped_octet-unbroken b) (escaped-unbroken v)
