@@ -23,6 +23,7 @@ is_key id k = bytes_eq id k.items
 abbrev pub same_key : Key → Key → Bool
 same_key x y = bytes_eq x.items y.items
 
+-- a name is known if and only if it is that of one of the keys
 pub is_known-octets_of : (name : List ℕ) (ks : List Key) → is_known name (octets_of ks) ≡ list_any (is_key name) ks
 is_known-octets_of name [] = refl
 is_known-octets_of name (k ∷ ks) = grind (arith, is_known-octets_of name ks)
@@ -35,13 +36,16 @@ if_append false ks k = octets_of-append ks
     octets_of-append [] = refl
     octets_of-append (x ∷ xs) = ap (λ ys. x.items ∷ ys) (octets_of-append xs)
 
+-- inserting a key adds its name, unless it is there already
 pub octets_of-insert_key : (ks : List Key) (k : Key) → octets_of (insert_key same_key ks k) ≡ with_name k.items (octets_of ks)
 octets_of-insert_key ks k = if_append (list_any (same_key k) ks) ks k ∙ ap (λ b. if b then octets_of ks else octets_of ks ++ k.items ∷ []) (sym (is_known-octets_of k.items ks))
 
+-- a name's place is that of its key
 pub place_of-octets_of : (name : List ℕ) (ks : List Key) → place_of name (octets_of ks) ≡ position_or_len (is_key name) ks
 place_of-octets_of name [] = refl
 place_of-octets_of name (k ∷ ks) = grind (arith, place_of-octets_of name ks)
 
+-- an id is open if and only if its key is found
 pub is_open-lookup : {X : Type 0} (id : List ℕ) (es : List (Key × X)) → is_open id (entries_of es) ≡ is_some (lookup (is_key id) es)
 is_open-lookup id [] = refl
 is_open-lookup id (e ∷ es) = by (bytes_eq id e.0.items) refl (is_open-lookup id es)
@@ -50,6 +54,7 @@ is_open-lookup id (e ∷ es) = by (bytes_eq id e.0.items) refl (is_open-lookup i
     by true t rest = rw t
     by false t rest = rw t rest
 
+-- removing a key's entry leaves the entries without that of its id
 pub entries_of-remove : {X : Type 0} (id : List ℕ) (es : List (Key × X)) → entries_of (remove_entry (is_key id) es) ≡ entries_without id (entries_of es)
 entries_of-remove id [] = refl
 entries_of-remove id (e ∷ es) = by (bytes_eq id e.0.items) refl (entries_of-remove id es)
@@ -58,6 +63,7 @@ entries_of-remove id (e ∷ es) = by (bytes_eq id e.0.items) refl (entries_of-re
     by true t rest = rw t
     by false t rest = rw t (ap (λ them. (e.0.items, e.1) ∷ them) rest)
 
+-- inserting a key that isn't open adds its entry at the end
 pub entries_of-insert : {X : Type 0} (es : List (Key × X)) (k : Key) (v : X) → is_open k.items (entries_of es) ≡ false → entries_of (insert_entry same_key es k v) ≡ entries_of es ++ (k.items, v) ∷ []
 entries_of-insert [] k v new = refl
 entries_of-insert (e ∷ es) k v new = by (bytes_eq k.items e.0.items) refl new (entries_of-insert es k v)
@@ -68,10 +74,12 @@ entries_of-insert (e ∷ es) k v new = by (bytes_eq k.items e.0.items) refl new 
     by true t none rest = absurd (true≢false none)
     by false t none rest = rw t (ap (λ them. (e.0.items, e.1) ∷ them) (rest none))
 
+-- an id is looked up among the entries as its key is in the map
 pub lookup-entries_of : {X : Type 0} (id : List ℕ) (es : List (Key × X)) → lookup (bytes_eq id) (entries_of es) ≡ lookup (is_key id) es
 lookup-entries_of id [] = refl
 lookup-entries_of id (e ∷ es) = ap (cond (bytes_eq id e.0.items) (Some e.1)) (lookup-entries_of id es)
 
+-- the SENDs of a transaction are what is found for its key
 pub sends_in-lookup : (id : List ℕ) (es : List (Key × List SentMessage)) (d : List SentMessage) → lookup (is_key id) es ≡ Some d → sends_in id (entries_of es) ≡ d
 sends_in-lookup id es d at = ap (λ o. unwrap_or o []) (lookup-entries_of id es ∙ at)
 
@@ -97,6 +105,7 @@ pub place_of_id-entries_of : {X : Type 0} (id : List ℕ) (es : List (Key × X))
 place_of_id-entries_of id [] = refl
 place_of_id-entries_of id (e ∷ es) = grind (arith, place_of_id-entries_of id es)
 
+-- a place that is found is the one that position_or_len gives
 pub position-Some : {X : Type 0} (p : X → Bool) (xs : List X) (i : ℕ) → position p xs ≡ Some i → i ≡ position_or_len p xs
 position-Some p xs i at = by (nat_lt (position_or_len p xs) (length xs)) at
   where

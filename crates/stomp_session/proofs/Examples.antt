@@ -61,6 +61,7 @@ pub refusals_in_order :
     × (refusal (held_after names (connect ∷ subscribe (codes "a") (codes "A") ∷ unsubscribe (codes "a") ∷ [])) (subscribe (codes "a") (codes "A")) ≡ None)
 refusals_in_order = (refl, refl, refl, refl)
 
+-- a version is an item of a list between commas, without the spaces round it
 pub versions : (has_version (codes "1.2") (codes "1.0, 1.2") ≡ true) × (has_version (codes "1.2") (codes " 1.2 ") ≡ true) × (has_version (codes "1.2") (codes "11.2") ≡ false) × (has_version (codes "1.2") [] ≡ false)
 versions = (refl, refl, refl, refl)
 

@@ -43,6 +43,7 @@ not_none true true e = absurd (true≢false (sym e))
 not_none true false e = refl
 not_none false b e = absurd (true≢false (sym e))
 
+-- a frame passes after a push if one did before, or the new one does
 pub list_any-push : (p : RawFrame → Bool) (frames : List RawFrame) (f : RawFrame) → list_any p (frames ++ f ∷ []) ≡ (list_any p frames || p f)
 list_any-push p frames f = list_any-append p frames (f ∷ []) ∙ ap (λ b. list_any p frames || b) (or_none (p f))
 

@@ -16,6 +16,7 @@ use Rattle.stomp_session.proofs.History.{Follows, connect-follows, stomp-follows
 abbrev pub Answered : Held → RawFrame → Step → Held → List RawFrame → Type 0
 Answered s f step new frames = Accepts (held_after s.names frames) f step × (new ≡ held_after new.names (frames ++ f ∷ []))
 
+-- a step that accepts a frame of this command answers as the list of the accepted frames says
 pub accepts : (command : Command) (s : Held) (f : RawFrame) (step : Step) (new : Held) → f.command ≡ command → AcceptsAs command s f step new → new.names ≡ s.names
     → ((frames : List RawFrame) → Follows s.names frames f command)
     → (frames : List RawFrame) → StandsFor s frames → Answered s f step new frames
