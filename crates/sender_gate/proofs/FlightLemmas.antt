@@ -23,6 +23,7 @@ use Rattle.sender_gate.specs.Inner.Flights.{IsFlying}
 pub too_low : (floor : Stamp) (ticket : Ticket) → ticket.n ≤ floor.n → Err BelowFloor ≡ over_floor floor ticket (Ok tt)
 too_low floor ticket h = grind (arith, nat_tests)
 
+-- a ticket above the floor isn't refused for it
 pub high_enough : (floor : Stamp) (ticket : Ticket) → floor.n < ticket.n → Ok tt ≡ over_floor floor ticket (Ok tt)
 high_enough floor ticket h = grind (arith, nat_tests)
 
