@@ -145,5 +145,6 @@ to_b = record { command = Send; headers = (codes "destination", codes "B") ∷ [
 pub is_unknown : relay_fault (codes "A") to_b ≡ Some UnknownDestination
 is_unknown = refl
 
+-- The relay to `B` doesn't refuse it.
 pub is_known : relay_fault (codes "B") to_b ≡ None
 is_known = refl

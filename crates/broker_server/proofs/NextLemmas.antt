@@ -31,6 +31,7 @@ from_not : (b : Bool) → not b ≡ true → b ≡ false
 from_not true e = absurd cc
 from_not false e = refl
 
+-- an octet from 1 to 127
 abbrev pub is_ascii : ℕ → Bool
 is_ascii b = not (eqb b 0) && ltb b 128
 
@@ -44,6 +45,7 @@ all_ascii (b ∷ text) e =
     let here : b ≢ 0 = eqb-false b 0 (from_not (eqb b 0) q.0) in
     ((here, others.0), elim [ zero ↦ ltb-true b 128 q.1 | suc i ↦ others.1 i ])
 
+-- octets from 1 to 127 are a text
 pub is_text : (text : List ℕ) → list_all is_ascii text ≡ true → IsText text
 is_text text e = let a = all_ascii text e in record { utf8 = IsUtf8-from_ascii text a.1; no_null = a.0 }
 
@@ -73,6 +75,7 @@ seen_text (Some r) t = t
 
 -- ---- what comes next
 
+-- after a frame that is refused comes the ERROR of its fault, with its receipt
 pub next_of_refused : (name : List ℕ) (n : ℕ) (f : RawFrame) (r : RelayFault) (title : List ℕ) (receipt : Option (Bor (List ℕ))) (error : ServerFrame) → Some r ≡ relay_fault name f → IfSome receipt (λ v. IsText v.now)
     → option_map (λ v. v.now) receipt ≡ receipt_of f → title ≡ relay_fault_title r → error ≡ Error title (option_map (λ v. v.now) receipt) false → IsNextOfFrame name n f (End (Some error))
 next_of_refused name n f r title receipt error h text e d is =
@@ -90,6 +93,7 @@ within : (rest : List ℕ) → rest ≢ [] → Some (check_error checks.BadEnd) 
 within [] h = absurd (h refl)
 within (b ∷ rest) h = refl
 
+-- where the input ends within a frame, the ERROR of BadEnd comes next
 pub next_of_open : (name : List ℕ) (n : ℕ) (old after new : Unread) (next : Next) → old ≡ reading old.text → Answers old (Ok None) after → after.text ≢ [] → next ≡ next_of_fault faults.BadEnd → IsNext name n old next new
 next_of_open name n old after new next fresh a some e =
     let read = subst (λ (u : Unread). Answers u (Ok None) after) fresh a in
@@ -97,6 +101,7 @@ next_of_open name n old after new next fresh a some e =
     let told = at_next name n old.text new faults.BadEnd next e (inr (read.0, read.1, inl (read.2, within read.0 left)), (fault_text faults.BadEnd, tt)) in
     subst (λ (u : Unread). IsNext name n u next new) (sym fresh) told
 
+-- where reading fails, the ERROR of its fault comes next
 pub next_of_failed : (name : List ℕ) (n : ℕ) (old after new : Unread) (fault : FrameFault) (next : Next) → old ≡ reading old.text → Answers old (Err fault) after → next ≡ next_of_fault fault → IsNext name n old next new
 next_of_failed name n old after new fault next fresh a e =
     let read = subst (λ (u : Unread). Answers u (Err fault) after) fresh a in
