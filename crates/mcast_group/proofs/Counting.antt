@@ -67,6 +67,7 @@ counts_so t (d ∷ es) (r ∷ rooms) h a e (inr k) o =
     later : (e : Entry) → (e.number == d.number) ≡ false → takes_with (d ∷ es) (r ∷ rooms) e ≡ takes_with es rooms e
     later e m = ap (λ (b : Bool). takes_in (cond b (Some r) (room_at e.number es rooms)) e) m
 
+-- a release to outlets that count is the machine's, with their answers
 pub counted_releases : CountedReleases
 counted_releases g new h r =
     r.2 ∙ ap (λ (x : TopicState). record { topic = x; rooms = g.rooms }) (release_same r.0 (takes_of g) g.topic (λ p k. counts_so r.0 g.topic.subscriptions g.rooms h (r.1 p k)))
@@ -116,6 +117,7 @@ pub tried_all_subs : (find : TxnId → Option Decision) (ps : List Pending) (x :
 tried_all_subs find [] x = refl
 tried_all_subs find (p ∷ ps) x = tried_all_subs find ps (after_try p.part.id (find p.part.id) x) ∙ tried_subs p.part.id (find p.part.id) x
 
+-- a turn with outlets that count is the machine's, with their answers
 pub counted_turns : CountedTurns
 counted_turns find g new h r =
     let y = group_after_tries find g in

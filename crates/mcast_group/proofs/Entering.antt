@@ -22,10 +22,12 @@ inserted_case : (p q : Pending) (qs : List Pending) (b : Bool) → length (inser
 inserted_case p q qs true e = omega arith
 inserted_case p q qs false e = omega arith
 
+-- an insertion adds one to the length
 pub inserted : (p : Pending) (ps : List Pending) → length (insert_pending p ps) ≡ length ps + 1
 inserted p [] = refl
 inserted p (q ∷ qs) = inserted_case p q qs (id_lt p.part.id q.part.id) (inserted p qs)
 
+-- there are as many subscriptions as there were, where their entries are the same
 pub same_many : {Q : Type 0} (shown : Q → Shown) (old new : List (Subscription Q)) → map (entry_of shown) new ≡ map (entry_of shown) old → length new ≡ length old
 same_many shown old new e = sym (map_length (entry_of shown) new) ∙ (ap (λ (es : List Entry). length es) e ∙ map_length (entry_of shown) old)
 
@@ -54,6 +56,7 @@ kept_grown shown spare x capacity after copies old new h l e grown = record {
   copied = subst (λ (n : ℕ). HaveCopies n x.pending copies) (sym (same_many shown old new e)) h.copied;
 }
 
+-- IsKept holds after a part has entered, with room, spares and copies for it
 pub kept_entered : {Q : Type 0} (shown : Q → Shown) (spare : Q → ℕ) (x y : TopicState) (capacity after n : ℕ) (copies more : List (List TopicPart)) (old new : List (Subscription Q)) (floor : Stamp) (part : TopicPart) → IsKept spare x capacity copies old → part.topic ≡ x.topic → n ≡ next_number floor x → propose_fault floor part x ≡ None → y ≡ after_enter n part x → length x.held + (length x.pending + 1) ≤ after → map (entry_of shown) new ≡ map (entry_of shown) old → ((k : ℕ) (d : Subscription Q) → k < length old → (get_or new k d).to ≡ None → length x.pending + 1 ≤ spare (get_or new k d).outlet) → HaveCopies (length old) y.pending more → IsKept spare y after more new
 kept_entered shown spare x y capacity after n copies more old new floor part h own next none e room same left copied =
     let many : length y.pending ≡ length x.pending + 1 = ap (λ (z : TopicState). length z.pending) e ∙ inserted _ x.pending in

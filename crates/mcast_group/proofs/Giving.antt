@@ -33,12 +33,14 @@ get_or-map f [] i d = refl
 get_or-map f (x ∷ xs) zero d = refl
 get_or-map f (x ∷ xs) (suc i) d = get_or-map f xs i d
 
+-- one more subscription is given the item, and its answer is added to the list
 pub told_more : {S : Type 0} (g : S → Entry) (f : Stamp) (item : Item) (bs : List Bool) (b : Bool) (i : ℕ) (subs old : List S) (new d : S) → length bs ≡ i → i < length old → map g subs ≡ entries_after f item bs (map g old) → get_or subs i d ≡ get_or old i d → g new ≡ entry_after (λ _. b) f item (g (get_or subs i d)) → map g (set subs i new) ≡ entries_after f item (bs ++ b ∷ []) (map g old)
 told_more g f item bs b i subs old new d e l h s n =
     let more = each_more f item bs b i (map g old) (g d) e (rw length-map l) in
     let last : g new ≡ entry_after (λ _. b) f item (get_or (map g old) i (g d)) = n ∙ ap (entry_after (λ _. b) f item) (ap g s ∙ sym (get_or-map g old i d)) in
     rw (map-set, h, last) (sym more)
 
+-- writing what is there already changes nothing
 pub set_same : {T : Type 0} (xs : List T) (i : ℕ) (d y : T) → y ≡ get_or xs i d → i < length xs → set xs i y ≡ xs
 set_same [] i d y e l = absurd (omega arith)
 set_same (x ∷ xs) zero d y e l = ap (λ (z : _). z ∷ xs) e
@@ -48,6 +50,7 @@ set_same (x ∷ xs) (suc i) d y e l = ap (λ (z : List _). x ∷ z) (set_same xs
 pub rooms_more : {S T : Type 0} (g : S → T) (i : ℕ) (subs old : List S) (new d : S) → i < length subs → map g subs ≡ map g old → g new ≡ g (get_or subs i d) → map g (set subs i new) ≡ map g old
 rooms_more g i subs old new d l h n = rw map-set (set_same (map g subs) i (g d) (g new) (n ∙ sym (get_or-map g subs i d)) (rw length-map l) ∙ h)
 
+-- one more answer that its outlet may give is added to those that may be given
 pub may_more : {Q : Type 0} (shown : Q → Shown) (may : Shown → Bool → Type 0) (bs : List Bool) (b : Bool) (i : ℕ) (subs : List (Subscription Q)) (d : Subscription Q) → length bs ≡ i → i < length subs → MayGive shown may bs subs → ((get_or subs i d).to ≡ None → may (shown (get_or subs i d).outlet) b) → MayGive shown may (bs ++ b ∷ []) subs
 may_more shown may [] b zero [] d e l h n = absurd (omega arith)
 may_more shown may [] b zero (s ∷ subs) d e l h n = (n, tt)
@@ -58,6 +61,7 @@ may_more shown may (a ∷ bs) b (suc i) (s ∷ subs) d e l h n = (h.0, may_more 
 
 -- ---- one subscription
 
+-- an option that has no value is None
 pub none_of : {T : Type 0} (o : Option T) → is_some o ≡ false → o ≡ None
 none_of None e = refl
 none_of (Some x) e = absurd (true≢false e)
@@ -71,15 +75,18 @@ module _ {Q : Type 0} (shown : Q → Shown) (f : Stamp) (p : Pending) (s new : S
 
 -- ---- a copy that is taken out
 
+-- an item that is popped was in the list
 pub popped_in : {S T : Type 0} (f : S → T) (old new : List S) (r : Option S) → old ≡ new ++ option_to_list r → IfSome r (λ x. In (f x) (map f old))
 popped_in f old new None e = tt
 popped_in f old new (Some x) e = rw e (subst (λ (zs : List _). In (f x) zs) (sym (map-append f new (x ∷ []))) (In-push (f x) (map f new)))
 
+-- what is left after a pop was in the list
 pub popped_rest : {S T : Type 0} (f : S → T) (old new : List S) (r : Option S) → old ≡ new ++ option_to_list r → (y : T) → In y (map f new) → In y (map f old)
 popped_rest f old new r e y k = rw e (subst (λ (zs : List _). In y zs) (sym (map-append f new (option_to_list r))) (In-append_left y (map f new) (map f (option_to_list r)) k))
 
 -- ---- what spares are left
 
+-- each spare shrank by at most one, after one more subscription is written too
 pub spare_more : {S : Type 0} (h : S → ℕ) (n i : ℕ) (subs old : List S) (new d : S) → i < length subs → n ≡ length old → n ≡ length subs → ((k : ℕ) (e : S) → k < n → h (get_or old k e) ≤ h (get_or subs k e) + 1) → h (get_or old i d) ≤ h new + 1 → (k : ℕ) (e : S) → k < n → h (get_or old k e) ≤ h (get_or (set subs i new) k e) + 1
 spare_more h n i subs old new d l a b all one k e m = go (k == i) refl
   where
@@ -107,6 +114,7 @@ at_each P subs i new k d l p h = go (k == i) refl
         let ne : k ≢ i = grind (arith, nat_tests) in
         subst P (sym (get_or-set_other subs i k new d ne)) (h ne)
 
+-- no spare shrank, after one more subscription is written too
 pub spare_kept : {S : Type 0} (h : S → ℕ) (n i : ℕ) (subs old : List S) (new d : S) → i < length subs → n ≡ length subs → ((k : ℕ) (e : S) → k < n → h (get_or old k e) ≤ h (get_or subs k e)) → h (get_or subs i d) ≤ h new → (k : ℕ) (e : S) → k < n → h (get_or old k e) ≤ h (get_or (set subs i new) k e)
 spare_kept h n i subs old new d l b all one k e m = go (k == i) refl
   where

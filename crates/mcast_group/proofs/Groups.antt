@@ -16,9 +16,11 @@ use Rattle.mcast_group.specs.Machine.{TopicState, Pending, Entry, key, insert_pe
 
 -- ---- what stands against a proposal
 
+-- a proposal is refused as Twice where its transaction is pending
 pub fault_twice : (floor : Stamp) (part : TopicPart) (x : TopicState) → is_pending part.id x.pending ≡ true → propose_fault floor part x ≡ Some Twice
 fault_twice floor part x e = rw e refl
 
+-- else it is refused as ClockFull where no number is left
 pub fault_clock : (floor : Stamp) (part : TopicPart) (x : TopicState) → is_pending part.id x.pending ≡ false → max x.clock floor.n ≡ last_number → propose_fault floor part x ≡ Some ClockFull
 fault_clock floor part x e f = rw (e, f) refl
 
@@ -28,28 +30,35 @@ lt_of a b l = grind (arith, nat_tests)
 ge_of : (a b : ℕ) → b ≤ a → nat_lt a b ≡ false
 ge_of a b l = grind (arith, nat_tests)
 
+-- else it is refused as LogFull where the log is at its limit
 pub fault_log : (floor : Stamp) (part : TopicPart) (x : TopicState) → is_pending part.id x.pending ≡ false → max x.clock floor.n < last_number → x.log_limit ≤ length x.pending + length x.held → propose_fault floor part x ≡ Some LogFull
 fault_log floor part x e l m = rw (e, lt_of _ _ l, ge_of _ _ m) refl
 
+-- else a proposal isn't refused
 pub fault_none : (floor : Stamp) (part : TopicPart) (x : TopicState) → is_pending part.id x.pending ≡ false → max x.clock floor.n < last_number → length x.pending + length x.held < x.log_limit → propose_fault floor part x ≡ None
 fault_none floor part x e l m = rw (e, lt_of _ _ l, lt_of _ _ m) refl
 
 -- ---- what stands against a verdict
 
+-- a verdict is refused as Foreign where it isn't the pending part's
 pub fault_foreign : (v : Decision) (ps : List Pending) (o : Option Pending) (p : Pending) → o ≡ Some p → is_foreign v p ≡ true → learn_fault_of v ps o ≡ Some Foreign
 fault_foreign v ps o p e f = rw (e, f) refl
 
+-- else it is refused as Clash where it clashes
 pub fault_clash : (v : Decision) (ps : List Pending) (o : Option Pending) (p : Pending) → o ≡ Some p → is_foreign v p ≡ false → clashes v p ps ≡ true → learn_fault_of v ps o ≡ Some Clash
 fault_clash v ps o p e f k = rw (e, f, k) refl
 
+-- else a verdict for a pending part isn't refused
 pub no_fault : (v : Decision) (ps : List Pending) (o : Option Pending) (p : Pending) → o ≡ Some p → is_foreign v p ≡ false → clashes v p ps ≡ false → learn_fault_of v ps o ≡ None
 no_fault v ps o p e f k = rw (e, f, k) refl
 
 -- ---- what stands against taking a part out
 
+-- cancelling a part that has learnt its stamp is refused as Decided
 pub cancel_decided : (id : TxnId) (x : TopicState) (p : Pending) → find_pending id x.pending ≡ Some p → is_some p.learnt ≡ true → cancel_fault id x ≡ Some Decided
 cancel_decided id x p e l = rw (e, l) refl
 
+-- cancelling a pending part that has learnt no stamp isn't refused
 pub cancel_none : (id : TxnId) (x : TopicState) (p : Pending) → find_pending id x.pending ≡ Some p → is_some p.learnt ≡ false → cancel_fault id x ≡ None
 cancel_none id x p e l = rw (e, l) refl
 
@@ -70,11 +79,14 @@ module _ (t : Topic) (clock limit : ℕ) (ps : List Pending) (base : Stamp) (row
 
 -- ---- releases
 
+-- the part of least key is due where it has learnt its stamp
 pub due_here : (x : TopicState) (p : Pending) → least_part x.pending ≡ Some p → is_some p.learnt ≡ true → due_part x ≡ Some p
 due_here x p e l = rw (e, l) refl
 
+-- a release is that of the part which is due
 pub release_is : (takes : Entry → Bool) (x : TopicState) (p : Pending) → due_part x ≡ Some p → after_release takes x ≡ after_release_of takes p x
 release_is takes x p e = ap (after_release_if takes x) e
 
+-- a release changes nothing where nothing is due
 pub release_none : (takes : Entry → Bool) (x : TopicState) → due_part x ≡ None → after_release takes x ≡ x
 release_none takes x e = ap (after_release_if takes x) e

@@ -21,6 +21,7 @@ use Rattle.mcast_group.proofs.Parts.{insert_length, insert_one, insert_two, Rise
 use Rattle.mcast_group.proofs.Numbers.{Numbers-push, Numbers-map, Numbers-filter, delivered_number}
 use Rattle.mcast_group.proofs.Queues.{Queue-delivered, Queue-new, Queue-drained, Next}
 
+-- a new topic is sound
 pub Sound-new : (t : Topic) (log_limit clock : ℕ) → IsSound (new_topic t log_limit clock)
 Sound-new t log_limit clock = record {
   rises = tt;
@@ -42,6 +43,7 @@ Sound-new t log_limit clock = record {
 
 -- ---- propose
 
+-- a proposal of a part that isn't pending keeps a topic sound, where the log has room
 pub Sound-proposed : (floor : Stamp) (part : TopicPart) (x : TopicState) → IsSound x → part.topic ≡ x.topic → is_pending part.id x.pending ≡ false → length x.pending + length x.held < x.log_limit → IsSound (after_propose floor part x)
 Sound-proposed floor part x h own new room =
     let n = next_number floor x in
@@ -136,6 +138,7 @@ learns_found id v x (Some p) f e =
     let k = found_part id x.pending p f in
     learns_checks id v x p k.stands k.is (is_foreign v p) (clashes v p x.pending) refl refl e
 
+-- a verdict that isn't refused is learnt as Learns says
 pub learns_is : (id : TxnId) (v : Decision) (x : TopicState) → learn_fault id v x ≡ None → Learns id v x
 learns_is id v x e = learns_found id v x (find_pending id x.pending) refl e
 
@@ -154,6 +157,7 @@ key_case p v None e again row =
 pub key_past : (id : TxnId) (v : Decision) (x : TopicState) (l : Learns id v x) → stamp_lt (decided_stamp v) (key l.part) ≡ false
 key_past id v x l = key_case l.part v l.part.learnt refl l.again l.row
 
+-- learning a verdict keeps a topic sound
 pub Sound-learned : (id : TxnId) (v : Decision) (x : TopicState) → IsSound x → Learns id v x → IsSound (after_learn id (decided_stamp v) x)
 Sound-learned id v x h l = record {
   rises = h.rises;
@@ -203,6 +207,7 @@ filter_le p (x ∷ xs) = by (p x) (filter_le p xs)
     by true l = omega arith
     by false l = omega arith
 
+-- cancelling keeps a topic sound
 pub Sound-cancelled : (id : TxnId) (x : TopicState) → IsSound x → IsSound (after_cancel id x)
 Sound-cancelled id x h = record {
   rises = h.rises;
@@ -236,6 +241,7 @@ filter_lt_case : {X : Type 0} (n : ℕ) (b : Bool) (x : X) (xs : List X) → len
 filter_lt_case n true x xs l = omega arith
 filter_lt_case n false x xs l = omega arith
 
+-- a filter that drops an item shortens the list
 pub filter_lt : {X : Type 0} (p : X → Bool) (x : X) (xs : List X) → In x xs → p x ≡ false → length (filter p xs) < length xs
 filter_lt p x [] h e = absurd h
 filter_lt p x (y ∷ ys) (inl k) e =
@@ -243,9 +249,11 @@ filter_lt p x (y ∷ ys) (inl k) e =
     let l = filter_le p ys in rw f (omega arith)
 filter_lt p x (y ∷ ys) (inr k) e = filter_lt_case (length ys) (p y) y (filter p ys) (filter_lt p x ys k e)
 
+-- the row and the item of a pending part of a sound topic are above its frontier
 pub next_of : (x : TopicState) (p : Pending) → IsSound x → In p x.pending → Next x.frontier x.held (row_of p) (item_of p)
 next_of x p h i = record { up = h.above p i; past = h.past; is = record { id = refl; stamp = refl } }
 
+-- releasing the part that is due keeps a topic sound
 pub Sound-released : (takes : Entry → Bool) (p : Pending) (x : TopicState) → IsSound x → Due p x → IsSound (after_release_of takes p x)
 Sound-released takes p x h due =
     let i = due.least.stands in
@@ -279,6 +287,7 @@ Sound-released takes p x h due =
 
 -- ---- subscriptions and the log
 
+-- beginning a subscription of a free number keeps a topic sound
 pub Sound-subscribed : (number : ℕ) (x : TopicState) → IsSound x → ((e : Entry) → In e x.subscriptions → e.number ≢ number) → IsSound (after_subscribe number x)
 Sound-subscribed number x h free = record {
   rises = h.rises;
@@ -299,6 +308,7 @@ Sound-subscribed number x h free = record {
   limit = h.limit;
 }
 
+-- ending a subscription keeps a topic sound
 pub Sound-unsubscribed : (number : ℕ) (x : TopicState) → IsSound x → IsSound (after_unsubscribe number x)
 Sound-unsubscribed number x h = record {
   rises = h.rises;
@@ -318,6 +328,7 @@ Sound-unsubscribed number x h = record {
   limit = h.limit;
 }
 
+-- draining the log keeps a topic sound
 pub Sound-drained : (x : TopicState) → IsSound x → IsSound (after_drain x)
 Sound-drained x h = record {
   rises = tt;

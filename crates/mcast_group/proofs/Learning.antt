@@ -29,6 +29,7 @@ copies_told id stamp n [] (c ∷ cs) h = h
 copies_told id stamp n (p ∷ ps) [] h = h
 copies_told id stamp n (p ∷ ps) (c ∷ cs) h = ((h.0.0, rw (told_how id stamp p).part h.0.1), copies_told id stamp n ps cs h.1)
 
+-- IsKept holds after a stamp is learnt
 pub kept_learned : {Q : Type 0} (spare : Q → ℕ) (x y : TopicState) (capacity : ℕ) (copies : List (List TopicPart)) (subs : List (Subscription Q)) (id : TxnId) (place : ℕ) (stamp : Stamp) → IsKept spare x capacity copies subs → CanLearn id place stamp x → y ≡ after_learn id stamp x → IsKept spare y capacity copies subs
 kept_learned spare x y capacity copies subs id place stamp h can e =
     let m = map_length (with_stamp id stamp) x.pending in
@@ -84,6 +85,7 @@ told_parts : (id : TxnId) (stamp : Stamp) (ps : List Pending) → parts (map (wi
 told_parts id stamp [] = refl
 told_parts id stamp (p ∷ ps) = let e = (told_how id stamp p).part in rw (e, told_parts id stamp ps) refl
 
+-- a try to learn leaves the parts, but for the stamps that they have learnt
 pub same_parts : (id : TxnId) (o : Option Decision) (x : TopicState) → parts (after_try id o x).pending ≡ parts x.pending
 same_parts id None x = refl
 same_parts id (Some v) x = go (learn_fault id v x)
@@ -92,6 +94,7 @@ same_parts id (Some v) x = go (learn_fault id v x)
     go None = told_parts id (decided_stamp v) x.pending
     go (Some fault) = refl
 
+-- pending lists of the same parts have the same part at each place
 pub part_at : (ps qs : List Pending) (i : ℕ) (d : Pending) → parts ps ≡ parts qs → (get_or ps i d).part ≡ (get_or qs i d).part
 part_at [] [] i d e = refl
 part_at [] (q ∷ qs) i d e = cc
@@ -99,9 +102,11 @@ part_at (p ∷ ps) [] i d e = cc
 part_at (p ∷ ps) (q ∷ qs) zero d e = cc
 part_at (p ∷ ps) (q ∷ qs) (suc i) d e = let k : parts ps ≡ parts qs = cc in part_at ps qs i d k
 
+-- pending lists of the same parts have the same length
 pub parts_length : (ps qs : List Pending) → parts ps ≡ parts qs → length ps ≡ length qs
 parts_length ps qs e = sym (map_length (λ (p : Pending). p.part) ps) ∙ (ap (λ (xs : List TopicPart). length xs) e ∙ map_length (λ (p : Pending). p.part) qs)
 
+-- one more part tries after those before it
 pub tried_push : (found : List (Option Decision)) (a : Option Decision) (ps : List Pending) (i : ℕ) (d : Pending) (x : TopicState) → length found ≡ i → i < length ps → tried_each (found ++ a ∷ []) ps x ≡ after_try (get_or ps i d).part.id a (tried_each found ps x)
 tried_push [] a [] i d x e l = absurd (omega arith)
 tried_push [] a (p ∷ ps) zero d x e l = refl
@@ -110,6 +115,7 @@ tried_push (b ∷ found) a [] i d x e l = absurd (omega arith)
 tried_push (b ∷ found) a (p ∷ ps) zero d x e l = absurd (omega arith)
 tried_push (b ∷ found) a (p ∷ ps) (suc i) d x e l = tried_push found a ps i d (after_try p.part.id b x) (omega arith) (omega arith)
 
+-- one more answer is found for its part, after those before it
 pub found_push : (finds : TopicPart → Option Decision → Type 0) (found : List (Option Decision)) (a : Option Decision) (ps : List Pending) (i : ℕ) (d : Pending) → length found ≡ i → i < length ps → FoundEach finds found ps → finds (get_or ps i d).part a → FoundEach finds (found ++ a ∷ []) ps
 found_push finds [] a [] i d e l h k = absurd (omega arith)
 found_push finds [] a (p ∷ ps) zero d e l h k = (k, tt)
@@ -164,6 +170,7 @@ each_all find (a ∷ found) [] x h = absurd h
 each_all find (a ∷ found) (p ∷ ps) x h =
     each_all find found ps (after_try p.part.id a x) h.1 ∙ ap (λ (o : Option Decision). after_tries find ps (after_try p.part.id o x)) (sym h.0)
 
+-- where each part in turn tried to learn what was found for it, TriesAll holds
 pub all_tried : (finds : TopicPart → Option Decision → Type 0) (found : List (Option Decision)) (g new : GroupState) → RisesById g.topic.pending → length found ≡ length g.topic.pending → FoundEach finds found g.topic.pending → new ≡ record g { topic = tried_each found g.topic.pending g.topic } → TriesAll finds g new
 all_tried finds found g new h l k e =
     let has = has_found found g.topic.pending h l in (
@@ -200,6 +207,7 @@ each_held (t ∷ ts) g =
     let b = each_held ts (group_after_release t g) in
     omega arith
 
+-- a group's turn takes no row from the log
 pub turn_holds : (may : Shown → Bool → Type 0) (finds : TopicPart → Option Decision → Type 0) (g new : GroupState) → Turns may finds g new → length g.topic.held ≤ length new.topic.held
 turn_holds may finds g new t =
     let r = t.releases in

@@ -50,6 +50,7 @@ number_by takes frontier item n from None accepted =
     let e : Entry = record { number = n; from = from; to = None; accepted = accepted } in number_case (takes e) e frontier item
 number_by takes frontier item n from (Some end) accepted = refl
 
+-- an entry keeps its number as an item is due to it
 pub delivered_number : (takes : Entry → Bool) (frontier : Stamp) (item : Item) (e : Entry) → (entry_after takes frontier item e).number ≡ e.number
 delivered_number takes frontier item e = number_by takes frontier item e.number e.from e.to e.accepted
 

@@ -93,6 +93,7 @@ delivered_of : (takes : Entry → Bool) (base frontier : Stamp) (held : List Log
 delivered_of takes base frontier held number from None accepted r i new h = delivered_open base frontier held number from accepted r i new h _
 delivered_of takes base frontier held number from (Some end) accepted r i new h = Queue-closed base frontier held from end accepted r i new h
 
+-- IsQueueOf holds of an entry after an item was due to it, with the item's row in the log
 pub Queue-delivered : (takes : Entry → Bool) (base frontier : Stamp) (held : List LogRow) (r : LogRow) (i : Item) (e : Entry) → Next frontier held r i → IsQueueOf base frontier held e.from e.to e.accepted → let d = entry_after takes frontier i e in IsQueueOf base r.stamp (held ++ r ∷ []) d.from d.to d.accepted
 Queue-delivered takes base frontier held r i e new h = delivered_of takes base frontier held e.number e.from e.to e.accepted r i new h
 
@@ -100,9 +101,11 @@ ended_of : (base frontier : Stamp) (held : List LogRow) (number : ℕ) (from : S
 ended_of base frontier held number from None accepted h = queue_ends base frontier held from accepted h
 ended_of base frontier held number from (Some end) accepted h = h
 
+-- IsQueueOf holds of what an entry leaves as it ends
 pub Queue-ended : (base frontier : Stamp) (held : List LogRow) (e : Entry) → IsQueueOf base frontier held e.from e.to e.accepted → IsQueueOf base frontier held e.from (Some (end_of frontier e).to) (end_of frontier e).accepted
 Queue-ended base frontier held e h = ended_of base frontier held e.number e.from e.to e.accepted h
 
+-- IsQueueOf holds of an empty queue whose span begins at the frontier
 pub Queue-new : (base frontier : Stamp) (held : List LogRow) → ((q : LogRow) → In q held → stamp_lt frontier q.stamp ≡ false) → IsQueueOf base frontier held frontier None []
 Queue-new base frontier held past = record {
   from_past = lt_irrefl frontier;
@@ -114,6 +117,7 @@ Queue-new base frontier held past = record {
   all_rows = λ q k s. absurd (true≢false (sym (and_parts (stamp_lt frontier q.stamp) true s).0 ∙ past q k));
 }
 
+-- IsQueueOf holds after the held rows were drained
 pub Queue-drained : (base frontier : Stamp) (held : List LogRow) (from : Stamp) (to : Option Stamp) (accepted : List Item) → IsQueueOf base frontier held from to accepted → IsQueueOf frontier frontier [] from to accepted
 Queue-drained base frontier held from to accepted h = record {
   from_past = h.from_past;
@@ -134,9 +138,11 @@ delivered_same takes frontier i number from None accepted = by (takes (entry num
     by false = (refl, refl)
 delivered_same takes frontier i number from (Some end) accepted = (refl, refl)
 
+-- an entry keeps its number as an item is due to it
 pub delivered_number : (takes : Entry → Bool) (frontier : Stamp) (i : Item) (e : Entry) → (entry_after takes frontier i e).number ≡ e.number
 delivered_number takes frontier i e = (delivered_same takes frontier i e.number e.from e.to e.accepted).0
 
+-- an entry keeps its beginning as an item is due to it
 pub delivered_from : (takes : Entry → Bool) (frontier : Stamp) (i : Item) (e : Entry) → (entry_after takes frontier i e).from ≡ e.from
 delivered_from takes frontier i e = (delivered_same takes frontier i e.number e.from e.to e.accepted).1
 
@@ -149,6 +155,7 @@ delivered_items takes frontier i number from None accepted j k = by (takes (entr
     by false k = inl k
 delivered_items takes frontier i number from (Some end) accepted j k = inl k
 
+-- what is in a queue after an item was due to it was there before, or is the item
 pub In-delivered_cases : (takes : Entry → Bool) (frontier : Stamp) (i : Item) (e : Entry) (j : Item) → In j (entry_after takes frontier i e).accepted → In j e.accepted ⊎ (i ≡ j)
 In-delivered_cases takes frontier i e j k = delivered_items takes frontier i e.number e.from e.to e.accepted j k
 
@@ -165,9 +172,11 @@ append_again : (xs ys zs : List Item) → (xs ++ ys) ++ zs ≡ xs ++ (ys ++ zs)
 append_again [] ys zs = refl
 append_again (x ∷ xs) ys zs = ap (λ z. x ∷ z) (append_again xs ys zs)
 
+-- More holds of a list and itself
 pub More-same : (xs : List Item) → More xs xs
 More-same xs = record { more = []; is = nothing_more xs }
 
+-- More is transitive
 pub More-then : (xs ys zs : List Item) → More xs ys → More ys zs → More xs zs
 More-then xs ys zs a b = record { more = a.more ++ b.more; is = b.is ∙ (ap (λ z. z ++ b.more) a.is ∙ append_again xs a.more b.more) }
 
@@ -179,5 +188,6 @@ delivered_more takes frontier i number from None accepted = by (takes (entry num
     by false = More-same accepted
 delivered_more takes frontier i number from (Some end) accepted = More-same accepted
 
+-- a queue has what it had, and maybe more, after an item was due to it
 pub More-delivered : (takes : Entry → Bool) (frontier : Stamp) (i : Item) (e : Entry) → More e.accepted (entry_after takes frontier i e).accepted
 More-delivered takes frontier i e = delivered_more takes frontier i e.number e.from e.to e.accepted

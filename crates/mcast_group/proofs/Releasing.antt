@@ -81,18 +81,21 @@ may_is shown may takes (b ∷ bs) (s ∷ subs) h a =
 
 -- ---- copies
 
+-- there are as many lists of copies as parts
 pub copies_length : (n : ℕ) (ps : List Pending) (cs : List (List TopicPart)) → HaveCopies n ps cs → length ps ≡ length cs
 copies_length n [] [] h = refl
 copies_length n [] (c ∷ cs) h = absurd h
 copies_length n (p ∷ ps) [] h = absurd h
 copies_length n (p ∷ ps) (c ∷ cs) h = let ih = copies_length n ps cs h.1 in omega arith
 
+-- the list of copies at a part's place has at least n, all of that part
 pub copies_at : (n : ℕ) (ps : List Pending) (cs : List (List TopicPart)) (i : ℕ) (p : Pending) (c : List TopicPart) → HaveCopies n ps cs → i < length ps → p ≡ get_or ps i p → c ≡ get_or cs i c → (n ≤ length c) × AreOf p.part c
 copies_at n [] cs i p c h l e k = absurd (omega arith)
 copies_at n (q ∷ ps) [] i p c h l e k = absurd h
 copies_at n (q ∷ ps) (b ∷ cs) zero p c h l e k = rw (e, k) h.0
 copies_at n (q ∷ ps) (b ∷ cs) (suc i) p c h l e k = copies_at n ps cs i p c h.1 (omega arith) e k
 
+-- a part and its copies are removed: each part has its copies
 pub copies_remove : (n : ℕ) (ps : List Pending) (cs : List (List TopicPart)) (i : ℕ) → HaveCopies n ps cs → HaveCopies n (remove ps i) (remove cs i)
 copies_remove n [] [] zero h = h
 copies_remove n [] [] (suc i) h = h
@@ -109,6 +112,7 @@ pub record Placed {X : Type 0} (x : X) (xs : List X) : Type 0 where
   pub within : place < length xs
   pub is : (d : X) → get_or xs place d ≡ x
 
+-- what is in a list is at a place of it
 pub placed_at : {X : Type 0} (x : X) (xs : List X) → In x xs → Placed x xs
 placed_at x [] h = absurd h
 placed_at x (y ∷ xs) (inl e) = record { place = 0; within = omega arith; is = λ d. e }
@@ -122,6 +126,7 @@ map_at f [] i d = refl
 map_at f (x ∷ xs) zero d = refl
 map_at f (x ∷ xs) (suc i) d = map_at f xs i d
 
+-- what is at a place of a mapped list is f of what is there in the list
 pub map_within : {X Y : Type 0} (f : X → Y) (xs : List X) (i : ℕ) (d : Y) (e : X) → i < length xs → get_or (map f xs) i d ≡ f (get_or xs i e)
 map_within f [] i d e l = absurd (omega arith)
 map_within f (x ∷ xs) zero d e l = refl
@@ -135,6 +140,7 @@ open_before takes f i e h = go e.to refl h
     go None k h = k
     go (Some end) k h = let m : (entry_after takes f i e).to ≡ e.to = rw k refl in sym m ∙ h
 
+-- numbers that differ do so after a map that keeps each number
 pub differ_same : (g : Entry → Entry) → ((e : Entry) → (g e).number ≡ e.number) → (es : List Entry) → NumbersDiffer es → NumbersDiffer (map g es)
 differ_same g k [] h = tt
 differ_same g k (e ∷ es) h =
@@ -201,6 +207,7 @@ pub record Taken (may : Shown → Bool → Type 0) (f : Stamp) (item : Item) (es
   pub answered : MayAnswer may takes es rooms
   pub is : new ≡ map (entry_after takes f item) es
 
+-- where an item was given to each subscription, the entries are the machine's, with these answers
 pub taken : {Q : Type 0} (shown : Q → Shown) (may : Shown → Bool → Type 0) (f : Stamp) (item : Item) (old new : List (Subscription Q)) → NumbersDiffer (map (entry_of shown) old) → Gave shown may f item old new → Taken may f item (map (entry_of shown) old) (map (entry_of shown) new) (map (room_of shown) old)
 taken shown may f item old new h gave =
     let es = map (entry_of shown) old in
@@ -217,12 +224,14 @@ nothing takes g e = ap (λ (x : TopicState). record { topic = x; rooms = g.rooms
 
 -- ---- what release answers
 
+-- where nothing is due, a release leaves the group
 pub none_released : (may : Shown → Bool → Type 0) (g : GroupState) → due_part g.topic ≡ None → Releases may g g
 none_released may g e = ((λ _. true), (λ p k. absurd (some_none p (sym k ∙ e))), nothing (λ _. true) g e)
   where
     some_none : (p : Pending) → Some p ≡ None → Prim.⊥
     some_none p k = cc
 
+-- where a part is due, giving its item to each entry is a release
 pub some_released : (may : Shown → Bool → Type 0) (x y : TopicState) (rooms after : List Room) (p : Pending) (es : List Entry) → due_part x ≡ Some p → (t : Taken may x.frontier (item_of p) x.subscriptions es rooms) → y ≡ after_release_of t.takes p x → after ≡ rooms → Releases may (record { topic = x; rooms = rooms }) (record { topic = y; rooms = after })
 some_released may x y rooms after p es due t e k = (
   t.takes,
@@ -237,18 +246,22 @@ due_found x place q p low l e k learnt =
     let same : q ≡ p = e ∙ (get_or_default x.pending place q p l ∙ sym k) in
     due_here x p (low p ∙ ap Some (sym k)) (subst (λ (z : Pending). is_some z.learnt ≡ true) same learnt)
 
+-- nothing is due where the part of least key has learnt no stamp
 pub none_learnt : (x : TopicState) (place : ℕ) (q : Pending) → ((d : Pending) → least_part x.pending ≡ Some (get_or x.pending place d)) → q ≡ get_or x.pending place q → is_some q.learnt ≡ false → due_part x ≡ None
 none_learnt x place q low e learnt = rw (low q, ← e, learnt) refl
 
+-- nothing is due where nothing is pending
 pub none_pending : (x : TopicState) → x.pending ≡ [] → due_part x ≡ None
 none_pending x e = rw e refl
 
 -- ---- one release after another
 
+-- one more release comes after those before it
 pub each_push : (ts : List (Entry → Bool)) (t : Entry → Bool) (g : GroupState) → group_after_releases (ts ++ t ∷ []) g ≡ group_after_release t (group_after_releases ts g)
 each_push [] t g = refl
 each_push (u ∷ ts) t g = each_push ts t (group_after_release u g)
 
+-- one more release's answers may be given, after those before it
 pub answers_push : (may : Shown → Bool → Type 0) (ts : List (Entry → Bool)) (t : Entry → Bool) (g : GroupState) → AnswersEach may ts g → ((p : Pending) → due_part (group_after_releases ts g).topic ≡ Some p → OutletsAnswer may t (group_after_releases ts g)) → AnswersEach may (ts ++ t ∷ []) g
 answers_push may [] t g h k = (k, tt)
 answers_push may (u ∷ ts) t g h k = (h.0, answers_push may ts t (group_after_release u g) h.1 k)
