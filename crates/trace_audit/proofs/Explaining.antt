@@ -36,16 +36,20 @@ none_at p x xs h i = go (p x) refl
     go false e = e
     go true e = absurd (true≢false (sym (any_from p x xs i e) ∙ h))
 
+-- where neither of two holds, each is false
 pub or_parts : (a b : Bool) → (a || b) ≡ false → (a ≡ false) × (b ≡ false)
 or_parts true b e = absurd (true≢false e)
 or_parts false b e = (refl, e)
 
+-- what is true and what is true are true together
 pub and_true : (a b : Bool) → a ≡ true → b ≡ true → (a && b) ≡ true
 and_true a b e f = rw (e, f) refl
 
+-- the negation of what is false is true
 pub not_true : (a : Bool) → a ≡ false → not a ≡ true
 not_true a e = rw e refl
 
+-- what has a true negation is false
 pub not_false : (a : Bool) → not a ≡ true → a ≡ false
 not_false true e = absurd (false≢true e)
 not_false false e = refl
@@ -80,6 +84,7 @@ none_two test logs a b h i j =
 
 -- ---- what is equal
 
+-- stamps that are the same are equal
 pub stamps_equal : (a b : Stamp) → same_stamp a b ≡ true → a ≡ b
 stamps_equal a b e =
     let p = and_parts (a.n == b.n) (a.topic.0 == b.topic.0) e in
@@ -139,6 +144,7 @@ seqs (x ∷ xs) logs h from up = (
 
 -- ---- logs
 
+-- the line is of the log of t
 abbrev pub at_topic : Topic → LogLine → Bool
 at_topic t line = line.topic.0 == t.0
 
@@ -149,12 +155,14 @@ pub record OfLine (t : Topic) (q : LogRow) (logs : List LogLine) : Type 0 where
   pub topic : line.topic.0 == t.0 ≡ true
   pub is : line.row ≡ q
 
+-- a row of a topic's log is that of a line of the topic
 pub log_member : (t : Topic) (q : LogRow) (logs : List LogLine) → In q (log_of t logs) → OfLine t q logs
 log_member t q logs i =
     let m = In-map_cases (λ (l : LogLine). l.row) q (filter (at_topic t) logs) i in
     let k = In-filter_cases (at_topic t) m.from logs m.stands in
     record { line = m.from; stands = k.stands; topic = k.passes; is = m.is }
 
+-- the row of a line of the topic is in the topic's log
 pub in_log : (t : Topic) (line : LogLine) (logs : List LogLine) → In line logs → line.topic.0 == t.0 ≡ true → In line.row (log_of t logs)
 in_log t line logs i e =
     In-map (λ (l : LogLine). l.row) line (filter (at_topic t) logs) (In-filter (at_topic t) line logs i e)
@@ -271,6 +279,7 @@ has_member t q logs h ne i n below =
     shut_test (log_has_row t q.id logs) (reaches t q.stamp logs)
     (subst (λ (z : LogRow). is_hole logs z t ≡ false) m.is shut) (log_reaches t q.stamp logs ne below)
 
+-- the row names t, and is at most the last stamp of t's log
 abbrev pub kept_at : Topic → List LogLine → LogRow → Bool
 kept_at t logs row = names t row.topics && up_to (Some (last_stamp zero_stamp (log_of t logs))) row.stamp
 
@@ -334,6 +343,7 @@ fault_by a b c d h q =
     option_or (first_refusal ((a, audit.TwoVerdicts) ∷ (b, audit.SameStamp) ∷ (c, audit.LogOrder) ∷ (d, audit.SenderOrder) ∷ []))
     (option_or (option_map (λ n. audit.Hole (record { 0 = n })) h) (option_map (λ n. audit.QueueRow n) q))
 
+-- no test of the trace holds
 pub record IsClean (lines : Lines) : Type 0 where
   pub verdicts : some_two differ lines.logs ≡ false
   pub stamps : some_two collide lines.logs ≡ false
@@ -342,6 +352,7 @@ pub record IsClean (lines : Lines) : Type 0 where
   pub holes : least (holes lines.logs) ≡ None
   pub queues : least (astray lines) ≡ None
 
+-- where nothing speaks against a trace, no test of it holds
 pub clean : (lines : Lines) → audit_fault lines ≡ None → IsClean lines
 clean lines e = go (some_two differ lines.logs) (some_two collide lines.logs) (out_of_order lines.logs) (some_two overtake lines.logs) (least (holes lines.logs)) (least (astray lines)) refl refl refl refl refl refl e
   where

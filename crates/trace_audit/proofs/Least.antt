@@ -44,5 +44,6 @@ one_more f best x xs =
     lesser_assoc best (least (f x)) (least (flat_map f xs))
     ∙ ap (lesser best) (sym (least_append (f x) (flat_map f xs)))
 
+-- the list from a place on is what is at the place, and then the list from the next
 pub rest_is : {X : Type 0} (xs : List X) (i : ℕ) (x : X) → i < length xs → x ≡ get_or xs i x → drop i xs ≡ x ∷ drop (i + 1) xs
 rest_is xs i x l e = drop_more xs i x l ∙ ap (λ (z : _). z ∷ drop (i + 1) xs) (sym e)

@@ -25,6 +25,7 @@ within : {X : Type 0} (p : X → Bool) (xs : List X) → position_or_len p xs �
 within p [] = omega arith
 within p (x ∷ xs) = within_case p x xs (p x) (within p xs)
 
+-- a place that is found is position_or_len's
 pub index_is : {X : Type 0} (p : X → Bool) (xs : List X) (i : ℕ) → position p xs ≡ Some i → i ≡ position_or_len p xs
 index_is p xs i e = go (ltb (position_or_len p xs) (length xs)) e
   where
@@ -32,6 +33,7 @@ index_is p xs i e = go (ltb (position_or_len p xs) (length xs)) e
     go true e = cc
     go false e = cc
 
+-- where no item passes, position_or_len is the length
 pub end_is : {X : Type 0} (p : X → Bool) (xs : List X) → position p xs ≡ None → length xs ≡ position_or_len p xs
 end_is p xs e = go (ltb (position_or_len p xs) (length xs)) refl e
   where
@@ -49,6 +51,7 @@ insert_here r [] = refl
 insert_here r (q ∷ qs) =
     insert_case q r qs (position_or_len (λ (z : LogRow). stamp_lt r.stamp z.stamp) qs) (stamp_lt r.stamp q.stamp) (insert_here r qs)
 
+-- a row put before the first of greater stamp is put where insert_by puts it
 pub insert_at : (s : Stamp) (r : LogRow) (xs : List LogRow) (i : ℕ) → i ≡ position_or_len (λ (q : LogRow). stamp_lt s q.stamp) xs → r.stamp ≡ s → take i xs ++ r ∷ drop i xs ≡ insert_by row_stamp r xs
 insert_at s r xs i e k =
     let here = e ∙ ap (λ (z : Stamp). position_or_len (λ (q : LogRow). stamp_lt z q.stamp) xs) (sym k) in
@@ -86,6 +89,7 @@ sorted_case rows all r false e s = record {
   ];
 }
 
+-- IsSortingOf holds after one more row is put among the sorted rows and added to all
 pub put_sorted : (rows all : List LogRow) (r : LogRow) → IsSortingOf rows all → IsSortingOf (put_row r rows) (all ++ r ∷ [])
 put_sorted rows all r s = sorted_case rows all r (list_any (is_at r.stamp) rows) refl s
 
@@ -96,5 +100,6 @@ one_line logs i d l e =
     ∙ (map-append (λ (z : LogLine). z.row) (take i logs) (get_or logs i d ∷ [])
     ∙ ap (λ (z : LogLine). rows_of (take i logs) ++ z.row ∷ []) (sym e))
 
+-- IsSortingOf holds of no rows
 pub sorting_none : IsSortingOf [] []
 sorting_none = record { rises = tt; of_all = λ q i. i; stamped = λ q i. absurd i }

@@ -240,6 +240,7 @@ all_true : {X : Type 0} (p : X → Bool) (xs : List X) → ((x : X) → In x xs 
 all_true p [] h = refl
 all_true p (x ∷ xs) h = and_true (p x) (list_all p xs) (h x (inl refl)) (all_true p xs (λ y k. h y (inr k)))
 
+-- where each row is in the log of each of its topics, what explains the trace is complete
 pub complete : (lines : Lines) (rows : List LogRow) → IsExplainedBy rows lines → is_whole lines.logs ≡ true → IsCompleteBy rows lines
 complete lines rows ex h q t i n =
     let j = ex.of_logs q i in
@@ -249,6 +250,7 @@ complete lines rows ex h q t i n =
     (subst (λ (z : LogRow). In t z.topics) (sym m.is) (named_in t q.topics n)) in
     row_in_log t q lines.logs (unrefuted lines rows ex).verdicts j (subst (λ (z : LogRow). log_has_row t z.id lines.logs ≡ true) m.is there)
 
+-- where what explains the trace is complete, each row is in the log of each of its topics
 pub completed : (lines : Lines) (rows : List LogRow) → IsExplainedBy rows lines → IsCompleteBy rows lines → is_whole lines.logs ≡ true
 completed lines rows ex h =
     all_true (λ (l : LogLine). list_all (λ (u : Topic). log_has_row u l.row.id lines.logs) l.row.topics) lines.logs
@@ -261,12 +263,14 @@ completed lines rows ex h =
 none_is : (f : AuditFault) → None ≡ Some f → Prim.⊥
 none_is f e = cc
 
+-- the first that speaks against a trace is its refusal: no list explains it
 pub refuses : (lines : Lines) (fault : AuditFault) → audit_fault lines ≡ Some fault → IsRefusal fault lines
 refuses lines fault e = record {
   first = e;
   unexplained = λ rows ex. none_is fault (sym (faultless lines rows ex) ∙ e);
 }
 
+-- where nothing speaks against a trace, its sorted rows explain it
 pub explains : (lines : Lines) (logs : List LogLine) (rows : List LogRow) → logs ≡ lines.logs → list_all (λ (line : LogLine). fits line) logs ≡ true → audit_fault lines ≡ None → IsSortingOf rows (rows_of logs) → IsExplainedBy rows lines
 explains lines logs rows same fit none sorting =
     explained lines rows (subst (λ (z : List LogLine). list_all (λ (line : LogLine). fits line) z ≡ true) same fit) (clean lines none)
