@@ -35,6 +35,7 @@ all_ascii (b ∷ text) e =
     reads b text lt h zero = lt
     reads b text lt h (suc i) = h i
 
+-- octets from 1 to 127 are a text
 pub ascii_text : (text : List ℕ) → list_all is_ascii text ≡ true → IsText text
 ascii_text text e = let a = all_ascii text e in record { utf8 = IsUtf8-from_ascii text a.1; no_null = a.0 }
 
@@ -67,6 +68,7 @@ more_digits n ds ten w =
 writes : (n : ℕ) → n < 2 ^ 64 → Writes n (decimal n)
 writes n lt = decimal_by_steps Writes one_digit more_digits n lt
 
+-- the digits of a number are a text
 pub decimal_text : (n : ℕ) → n < 2 ^ 64 → IsText (decimal n)
 decimal_text n lt = ascii_text (decimal n) (writes n lt).ascii
 
@@ -81,6 +83,7 @@ says n lt few =
 join : (xs ys : List ℕ) → list_all is_ascii xs ≡ true → list_all is_ascii ys ≡ true → list_all is_ascii (xs ++ ys) ≡ true
 join xs ys e f = list_all-append is_ascii xs ys ∙ rw (e, f) refl
 
+-- a message id is a text
 pub message_id_text : (n topic index : ℕ) → n < 2 ^ 64 → topic < 2 ^ 64 → index < 2 ^ 64 → IsText (message_id n topic index)
 message_id_text n topic index a b c =
     let one = join (decimal n) (codes ".") (writes n a).ascii refl in

@@ -214,9 +214,11 @@ faulty limits rest k (AtBody command hs, after, (last, empty, w), f) =
 
 -- ---- frames
 
+-- where reading fails at a check, what comes after the end-of-lines is at that fault
 pub frame_fault : (limits : Limits) (text : List ℕ) (k : Check) → frame_at limits text ≡ failing k → IsAtFault limits (after_eols text) k
 frame_fault limits text k e = first_failed limits (after_eols text) k (at_fault.frame_fault limits text k e)
 
+-- a rest that is at a fault is read as that failure
 pub frame_faulty : (limits : Limits) (rest : List ℕ) (k : Check) → IsAtFault limits rest k → frame_at limits rest ≡ failing k
 frame_faulty limits rest k f = at_fault.frame_faulty limits rest k (faulty limits rest k f)
 

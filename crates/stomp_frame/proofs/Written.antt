@@ -150,6 +150,7 @@ body_is true body (Some d) lt few h = digits_say d (length body) lt few h
 body_is false body None lt few h = rw h.0 tt
 body_is false body (Some d) lt few h = rw h.0 h.1
 
+-- what is written of a frame is a spelling of it
 pub spelled_is : (limits : Limits) (f : RawFrame) → IsWritable f → IsWithin limits f → IsSpelling limits (spelled f) f
 spelled_is limits f w i =
     record {
@@ -163,6 +164,7 @@ spelled_is limits f w i =
       body = (i.body.0, body_is (may_have_body f.command) f.body (content_length f.headers) i.body.1 i.digits w.sized);
     }
 
+-- what is written of a frame, with more after it, begins with the frame
 pub spelled_first : (limits : Limits) (f : RawFrame) (more : List ℕ) → IsWritable f → IsWithin limits f → BeginsWith limits (spelled f ++ more) f more
 spelled_first limits f more w i =
     record {
@@ -178,6 +180,7 @@ taken [] i h e = absurd cc
 taken (g ∷ hs) zero h e = ap (λ (x : Header). x ∷ []) (same_Some g h e)
 taken (g ∷ hs) (suc i) h e = let more : suc i + 1 ≡ suc (i + 1) = omega arith in rw more (ap (λ (xs : List Header). g ∷ xs) (taken hs i h e))
 
+-- one more header's line is written
 pub lines_more : (escapes : Bool) (hs : List Header) (i : ℕ) (h : Header) (before old : List ℕ) → slice_get hs i ≡ Some h → before ≡ old ++ header_lines escapes (take i hs)
     → before ++ (header_line escapes h ++ 10 ∷ []) ≡ old ++ header_lines escapes (take (i + 1) hs)
 lines_more escapes hs i h before old e b =

@@ -54,7 +54,8 @@ checked limits content =
     else if list_any (λ b. b == 13 || b == 0) content then Err (Fault BadLine)
     else if is_utf8 content then Ok content else Err (Fault BadText)
 
--- A line is judged once its LF is there, or once two octets more than a content may have are there without one.
+-- A line is judged once its LF is there, or once two octets more than a content may have are there without
+-- one.
 unfoldable pub line_at : Limits → List ℕ → Result (List ℕ × List ℕ) Halt
 line_at limits text =
     option_map_or (λ p. checked limits (without_cr p.0) >>= λ content. Ok (content, p.1)) (cut 10 text)
