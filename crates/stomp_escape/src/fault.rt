@@ -39,6 +39,7 @@ impl EscapeFault {
 impl From<NoMemory> for EscapeFault {
     ghost from_gives = { λ _ e. e ≡ escape_faults.NoMemory };
 
+    /// The fault where there is no memory.
     fn from(_e: NoMemory) -> EscapeFault {
         EscapeFault::NoMemory
     }

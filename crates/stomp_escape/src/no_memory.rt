@@ -9,12 +9,14 @@ use thiserror::Error;
 pub struct NoMemory;
 
 impl From<AllocError> for NoMemory {
+    /// An allocation was refused.
     fn from(_e: AllocError) -> NoMemory {
         NoMemory
     }
 }
 
 impl<T: Drop> From<AllocFailed<T>> for NoMemory {
+    /// An allocation for a value was refused; the value is dropped.
     fn from(_e: AllocFailed<T>) -> NoMemory {
         NoMemory
     }
