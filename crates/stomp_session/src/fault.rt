@@ -104,6 +104,7 @@ impl SessionFault {
 impl From<NoMemory> for SessionFault {
     ghost from_gives = { λ _ fault. fault ≡ faults.NoMemory };
 
+    /// The fault where there is no memory.
     fn from(_e: NoMemory) -> SessionFault {
         SessionFault::NoMemory
     }
