@@ -94,11 +94,13 @@ impl Outlet for VecOutlet {
 
     ghost may_accept = { λ s answer. answer ≡ has_room s };
 
+    /// Makes room for this number of items.
     fn reserve(&mut self, additional: usize) -> Result<(), NoMemory> {
         self.items.reserve(additional)?;
         Ok(())
     }
 
+    /// Puts the item at the end, or returns it where as many items as the capacity are untaken.
     fn push(&mut self, _needs: &(), item: Released) -> Result<(), Released> {
         if self.items.len() - self.taken >= self.capacity {
             return Err(item);
