@@ -24,8 +24,8 @@ pub record GateState : Type 0 where
   pub seq : ℕ
   pub floor : Stamp
 
--- a transaction on its way: its sender's floor, each of its topics with the number that it gave, and the parts that
--- weren't taken out
+-- a transaction on its way: its sender's floor, each of its topics with the number that it gave, and the
+-- parts that weren't taken out
 pub record FlightState : Type 0 where
   pub id : TxnId
   pub floor : Stamp

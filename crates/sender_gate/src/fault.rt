@@ -48,6 +48,7 @@ impl GateFault {
 impl From<BallotFault> for GateFault {
     ghost from_gives = { λ fault e. e ≡ gate_fault fault };
 
+    /// The gate's fault for a fault of its ballot.
     fn from(fault: BallotFault) -> GateFault {
         match fault {
             BallotFault::NotNamed => GateFault::NotNamed,
