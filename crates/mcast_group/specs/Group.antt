@@ -117,7 +117,8 @@ TriesAll finds g new =
 
 -- A turn.
 -- find, found: what it finds for each pending part, which may be found for it.
--- releases: each part tries to learn that, and then what is due is released, with some answers of the outlets.
+-- releases: each part tries to learn that, and then what is due is released, with some answers of the
+-- outlets.
 -- none_pending: where the verdicts that were found fit the topic as it was, no part is pending after it.
 pub record Turns (may : Shown → Bool → Type 0) (finds : TopicPart → Option Decision → Type 0)
     (g new : GroupState) : Type 0 where
