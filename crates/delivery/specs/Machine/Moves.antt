@@ -324,7 +324,10 @@ abbrev pub decide_effect : World → ℕ → World
 decide_effect w c =
     let f = undecided_at w c in
     record
-    (with_sender w (connection_at w c).sender (record (speaker w c) { floor = greatest f.given; flight = None })) {
+    (with_sender w (connection_at w c).sender (record (speaker w c) {
+      floor = greatest f.given;
+      flight = None;
+    })) {
       commits = w.commits ++ record { txn = f.txn; stamp = greatest f.given } ∷ [];
       verdicts = w.verdicts ++ record { id = f.txn.id; rows = f.given } ∷ [];
     }
