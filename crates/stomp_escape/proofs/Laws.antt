@@ -20,9 +20,11 @@ Spells-escaped (b ∷ v) = (escaped v, Spells-escaped v, inl refl)
 pub octet-letter : (b c : ℕ) → octet_of c ≡ Some b → letter_of b ≡ Some c
 octet-letter b c e = grind (arith, nat_tests)
 
+-- The letter of an octet's escape is read as that octet.
 pub letter-octet : (b c : ℕ) → letter_of b ≡ Some c → octet_of c ≡ Some b
 letter-octet b c e = grind (arith, nat_tests)
 
+-- An octet that has no escape isn't a backslash.
 pub no_letter : (b : ℕ) → letter_of b ≡ None → b ≢ 92
 no_letter b e same = grind (arith, nat_tests)
 
@@ -142,6 +144,7 @@ pub Spells-plain : (text : List ℕ) → AllByRecursion (λ (b : ℕ). b ≢ 92)
 Spells-plain [] all = refl
 Spells-plain (b ∷ text) all = (text, Spells-plain text all.1, inr (all.0, refl))
 
+-- A text without a backslash is read as itself.
 pub plain_unescaped : (text : List ℕ) → AllByRecursion (λ (b : ℕ). b ≢ 92) text → unescaped text ≡ Ok text
 plain_unescaped text all = read_again text text (Spells-plain text all)
 

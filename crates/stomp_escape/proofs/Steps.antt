@@ -11,6 +11,7 @@ abbrev pub with_front : List ℕ → Result (List ℕ) EscapeFault → Result (L
 with_front front (Ok v) = Ok (front ++ v)
 with_front front (Err e) = Err e
 
+-- An octet before what is read is the last of the front before it.
 pub with_front-before : (front : List ℕ) (b : ℕ) (r : Result (List ℕ) EscapeFault) → with_front front (before b r) ≡ with_front (front ++ b ∷ []) r
 with_front-before front b (Ok v) = ap (λ (w : List ℕ). Ok w) (simp append_assoc)
 with_front-before front b (Err e) = refl
