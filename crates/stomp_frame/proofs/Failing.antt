@@ -50,6 +50,7 @@ FailsAsBody limits headers text BodyTooLong = ((n : ℕ) × IsCounted headers n 
 FailsAsBody limits headers text BadEnd = (body : List ℕ) × (b : ℕ) × (more : List ℕ) × IsCounted headers (length body) × (length body ≤ limits.body) × (text ≡ body ++ b ∷ more) × (b ≢ 0)
 FailsAsBody limits headers text _ = ⊥
 
+-- the text fails check k, and no earlier one, at this stage
 abbrev pub FailsAt : Limits → Stage → List ℕ → Check → Type 0
 FailsAt limits AtCommand text k = FailsAsCommand limits text k
 FailsAt limits (AtHeader command headers) text k = FailsAsHeader limits (has_escapes command) (length headers) text k

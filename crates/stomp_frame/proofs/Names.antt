@@ -93,7 +93,7 @@ only_kept (h ∷ hs) q w = ap (λ b. bytes_eq q h.0 || b) (only_kept hs q w.1) �
     adds_none true b f = sym (f refl)
     adds_none false b f = refl
 
--- before any header is put, all first entries are left to put
+-- where only headers that are kept back were put, all first entries are left to put
 pub none_seen : (out sent : List Header) → AllByRecursion (λ h. IsTrue (has kept_back h.0)) out → out ++ first_entries (seen out) (drop 0 sent) ≡ out ++ first_entries kept_back sent
 none_seen out sent w = ap (λ (l : List Header). out ++ l) (same_names sent (seen out) kept_back (λ q. only_kept out q w))
 
