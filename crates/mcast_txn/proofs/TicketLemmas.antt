@@ -53,18 +53,22 @@ module _ (id : TxnId) (tickets : List (Slot ℕ)) (rising : RisesBy (λ slot. sl
   stands : (d : Slot ℕ) → slot_at ticket.topic (ticket_slots tickets) ≡ Some (get_or tickets i d).held
   stands d = slot_at-index ticket_slot tickets i d ticket.topic rising index.in_range (index.has_topic d)
 
+  -- a slot that has a number answers Twice
   pub answer_twice : (d : Slot ℕ) → same_id ticket.id id ≡ true → is_some (get_or tickets i d).held ≡ true → Err Twice ≡ put_answer (state_of id tickets) ticket
   answer_twice d same full = rw (same, stands d) (sym (full_answer (get_or tickets i d).held full))
 
+  -- a slot that has none takes the number
   pub answer_ok : (d : Slot ℕ) → same_id ticket.id id ≡ true → is_some (get_or tickets i d).held ≡ false → Ok tt ≡ put_answer (state_of id tickets) ticket
   answer_ok d same free = rw (same, stands d) (sym (free_answer (get_or tickets i d).held free))
 
   abbrev given : Slot ℕ
   given = record { topic = ticket.topic; held = Some ticket.n }
 
+  -- writing the slot stores the ticket's number for its topic
   pub tickets-set : ticket_slots (set tickets i given) ≡ with_slot ticket.topic (Some ticket.n) (ticket_slots tickets)
   tickets-set = with_slot-set ticket_slot tickets i given given ticket.topic (Some ticket.n) rising index.in_range (index.has_topic given) refl
 
+  -- writing the slot leaves room for each topic's ticket
   pub room-set : (rows : List Stamp) (capacity : ℕ) → HasRoom tickets rows capacity → HasRoom (set tickets i given) rows capacity
   room-set rows capacity room = record {
     rising = rises_alike (λ (t : Topic). t.0) (λ (slot : Slot ℕ). slot.topic) (λ (slot : Slot ℕ). slot.topic) tickets (set tickets i given) (sym (same_keys (λ (slot : Slot ℕ). slot.topic) tickets i given given (sym (index.has_topic given)))) rising;
