@@ -34,6 +34,7 @@ same_all t u f i (e ∷ es) h =
     let b = same_all t u f i es (λ x k. h x (inr k)) in
     rw (a, b) refl
 
+-- a release is the same with answers that agree at each open entry
 pub release_same : (t u : Entry → Bool) (x : TopicState) → ((p : Pending) → due_part x ≡ Some p → (e : Entry) → In e x.subscriptions → e.to ≡ None → t e ≡ u e) → after_release t x ≡ after_release u x
 release_same t u x h = go (due_part x) refl
   where
@@ -51,6 +52,7 @@ number_is n = grind (arith, nat_tests)
 number_not : (n m : ℕ) → n ≢ m → (n == m) ≡ false
 number_not n m h = grind (arith, nat_tests)
 
+-- where outlets count, each open entry is answered as takes_with says
 pub counts_so : (t : Entry → Bool) (es : List Entry) (rooms : List Room) → NumbersDiffer es → MayAnswer counted t es rooms → (e : Entry) → In e es → e.to ≡ None → t e ≡ takes_with es rooms e
 counts_so t [] rooms h a e k o = absurd k
 counts_so t (d ∷ es) [] h a e k o = absurd a
@@ -98,6 +100,7 @@ room_released n rooms t x = go (due_part x)
     go None = refl
     go (Some p) = room_same n x.subscriptions rooms t x.frontier (item_of p)
 
+-- releases to outlets that count are the machine's, with their answers
 pub counted_times : (u : Entry → Bool) (ts : List (Entry → Bool)) (g : GroupState) → NumbersDiffer g.topic.subscriptions → ((e : Entry) → takes_of g e ≡ u e) → AnswersEach counted ts g → group_after_releases ts g ≡ record { topic = after_releases u (length ts) g.topic; rooms = g.rooms }
 counted_times u [] g h k a = refl
 counted_times u (t ∷ ts) g h k a =
@@ -113,6 +116,7 @@ tried_subs id (Some v) x = go (learn_fault id v x)
     go None = refl
     go (Some fault) = refl
 
+-- tries to learn leave the subscriptions
 pub tried_all_subs : (find : TxnId → Option Decision) (ps : List Pending) (x : TopicState) → (after_tries find ps x).subscriptions ≡ x.subscriptions
 tried_all_subs find [] x = refl
 tried_all_subs find (p ∷ ps) x = tried_all_subs find ps (after_try p.part.id (find p.part.id) x) ∙ tried_subs p.part.id (find p.part.id) x

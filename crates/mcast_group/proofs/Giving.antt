@@ -67,9 +67,11 @@ none_of None e = refl
 none_of (Some x) e = absurd (true≢false e)
 
 module _ {Q : Type 0} (shown : Q → Shown) (f : Stamp) (p : Pending) (s new : Subscription Q) (o : Q) where
+  -- a subscription whose outlet took the item is the machine's entry after it
   pub given_taken : (b : Bool) (q : TopicPart) (at : Stamp) → b ≡ true → is_some s.to ≡ false → q ≡ p.part → at ≡ key p → new ≡ record s { outlet = o } → shown o ≡ after_push (record { id = q.id; stamp = at; sends = q.sends }) (shown s.outlet) → entry_of shown new ≡ entry_after (λ _. b) f (item_of p) (entry_of shown s)
   given_taken b q at t none e l n k = let m = none_of s.to none in rw (n, t, m, k, e, l) refl
 
+  -- a subscription whose outlet refused the item is the machine's entry after it
   pub given_refused : (b : Bool) → b ≡ false → is_some s.to ≡ false → new ≡ record s { outlet = o; to = Some f } → shown o ≡ shown s.outlet → entry_of shown new ≡ entry_after (λ _. b) f (item_of p) (entry_of shown s)
   given_refused b t none n k = let m = none_of s.to none in rw (n, t, m, k) refl
 

@@ -154,6 +154,7 @@ key_case p v None e again row =
     let k : key p ≡ t = ap (λ (o : Option Stamp). key (record p { learnt = o })) e in
     subst (λ z. stamp_lt (decided_stamp v) z ≡ false) (sym (k ∙ d)) (greatest_past v.rows f.it f.stands)
 
+-- the stamp that is learnt is at least the part's key
 pub key_past : (id : TxnId) (v : Decision) (x : TopicState) (l : Learns id v x) → stamp_lt (decided_stamp v) (key l.part) ≡ false
 key_past id v x l = key_case l.part v l.part.learnt refl l.again l.row
 

@@ -132,6 +132,7 @@ found_of [] found id = None
 found_of (p ∷ ps) [] id = None
 found_of (p ∷ ps) (a ∷ found) id = if same_id p.part.id id then a else found_of ps found id
 
+-- `find` gives for each part what was found for it
 abbrev pub HasFound : (TxnId → Option Decision) → List (Option Decision) → List Pending → Type 0
 HasFound find [] [] = Unit {0}
 HasFound find [] (p ∷ ps) = Prim.⊥
@@ -147,6 +148,7 @@ found_same f h (b ∷ found) (p ∷ ps) e a = (e p (inl refl) ∙ a.0, found_sam
 lower_differs : (a b : TxnId) → id_lt a b ≡ true → same_id a b ≡ false
 lower_differs a b e = grind (arith, nat_tests)
 
+-- found_of gives for each part what was found for it
 pub has_found : (found : List (Option Decision)) (ps : List Pending) → RisesById ps → length found ≡ length ps → HasFound (found_of ps found) found ps
 has_found [] [] h l = tt
 has_found [] (p ∷ ps) h l = absurd (omega arith)
@@ -189,6 +191,7 @@ tried_held id (Some v) x = go (learn_fault id v x)
     go None = refl
     go (Some fault) = refl
 
+-- tries to learn leave the log
 pub tried_all_held : (find : TxnId → Option Decision) (ps : List Pending) (x : TopicState) → (after_tries find ps x).held ≡ x.held
 tried_all_held find [] x = refl
 tried_all_held find (p ∷ ps) x = tried_all_held find ps (after_try p.part.id (find p.part.id) x) ∙ tried_held p.part.id (find p.part.id) x
@@ -200,6 +203,7 @@ release_held t x = go (due_part x)
     go None = omega arith
     go (Some p) = let m = length_push x.held (row_of p) in omega arith
 
+-- releases take no row from the log
 pub each_held : (ts : List (Entry → Bool)) (g : GroupState) → length g.topic.held ≤ length (group_after_releases ts g).topic.held
 each_held [] g = omega arith
 each_held (t ∷ ts) g =

@@ -52,6 +52,7 @@ same_number n = grind (arith, nat_tests)
 other_number : (n m : ℕ) → n ≢ m → (n == m) ≡ false
 other_number n m h = grind (arith, nat_tests)
 
+-- answer_of gives each entry its answer of the list
 pub has_answers : (bs : List Bool) (es : List Entry) → NumbersDiffer es → length bs ≡ length es → HasAnswers (answer_of es bs) bs es
 has_answers [] [] h l = tt
 has_answers [] (e ∷ es) h l = absurd (omega arith)
@@ -64,6 +65,7 @@ has_answers (b ∷ bs) (e ∷ es) h l = (
 delivered_by : (t u : Entry → Bool) (f : Stamp) (i : Item) (e : Entry) → t e ≡ u e → entry_after t f i e ≡ entry_after u f i e
 delivered_by t u f i e k = ap (λ (b : Bool). entry_after (λ _. b) f i e) k
 
+-- the entries after the answers of a list are those after a function that gives them
 pub each_is : (takes : Entry → Bool) (f : Stamp) (i : Item) (bs : List Bool) (es : List Entry) → HasAnswers takes bs es → entries_after f i bs es ≡ map (entry_after takes f i) es
 each_is takes f i [] [] h = refl
 each_is takes f i [] (e ∷ es) h = absurd h
@@ -72,6 +74,7 @@ each_is takes f i (b ∷ bs) (e ∷ es) h =
     let ih = each_is takes f i bs es h.1 in
     rw (delivered_by (λ _. b) takes f i e (sym h.0), ih) refl
 
+-- answers that may be given one by one may be given by a function that gives them
 pub may_is : {Q : Type 0} (shown : Q → Shown) (may : Shown → Bool → Type 0) (takes : Entry → Bool) (bs : List Bool) (subs : List (Subscription Q)) → HasAnswers takes bs (map (entry_of shown) subs) → MayGive shown may bs subs → MayAnswer may takes (map (entry_of shown) subs) (map (room_of shown) subs)
 may_is shown may takes [] [] h a = tt
 may_is shown may takes [] (s ∷ subs) h a = absurd h

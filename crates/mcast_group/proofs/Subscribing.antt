@@ -128,6 +128,7 @@ others_stay n (e ∷ es) h =
     let ih = others_stay n es (λ f i. h f (inr i)) in
     rw (k, ih) refl
 
+-- EndsAt holds of the first subscription of a number
 pub ends_at : {Q : Type 0} (shown : Q → Shown) (n : ℕ) (subs : List (Subscription Q)) (i : ℕ) (d : Subscription Q) → i < length subs → ((get_or subs i d).number == n) ≡ true → ((k : ℕ) → k < i → ((get_or subs k d).number == n) ≡ false) → EndsAt shown n subs i d
 ends_at shown n [] i d l e f = absurd (omega arith)
 ends_at shown n (s ∷ subs) zero d l e f =
