@@ -80,9 +80,11 @@ module _ (floor : Stamp) where
 
   -- a part taken out, a ticket put
   module _ (tickets : Slots ℕ) (parts : Slots TopicPart) (flying : IsFlying floor tickets parts) (t : Topic) where
+    -- IsFlying holds after a part was taken out
     pub flying_part : IsFlying floor tickets (with_slot t None parts)
     flying_part = record { some = flying.some; alike = firsts_with t None parts ∙ flying.alike; above = flying.above }
 
+    -- IsFlying holds after a ticket above the floor was put
     pub flying_put : (n : ℕ) → floor.n < n → IsFlying floor (with_slot t (Some n) tickets) parts
     flying_put n h = record {
       some = some_with t (Some n) tickets flying.some;
