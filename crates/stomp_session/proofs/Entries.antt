@@ -13,6 +13,7 @@ use Rattle.stomp_session.specs.Inner.Stored.{octets_of, entries_of}
 use Rattle.stomp_session.specs.Refusals.{is_open, sends_in}
 use Rattle.stomp_session.specs.Inner.Effects.{place_of_id, entries_without, with_send}
 
+-- a name or an id, as a set or a map holds it
 abbrev pub Key : Type 0
 Key = Vec ℕ Global
 
@@ -20,6 +21,7 @@ Key = Vec ℕ Global
 abbrev pub is_key : List ℕ → Key → Bool
 is_key id k = bytes_eq id k.items
 
+-- the keys have the same octets
 abbrev pub same_key : Key → Key → Bool
 same_key x y = bytes_eq x.items y.items
 

@@ -50,6 +50,7 @@ begun_again = refl
 pub none_is_open : open_transactions names (connect ∷ begin (codes "x") ∷ disconnect ∷ []) ≡ []
 none_is_open = refl
 
+-- the phase before any frame, after a CONNECT, and after a DISCONNECT
 pub phases_follow : (phase_of [] ≡ New) × (phase_of (connect ∷ []) ≡ Connected) × (phase_of (connect ∷ disconnect ∷ []) ≡ Closed)
 phases_follow = (refl, refl, refl)
 

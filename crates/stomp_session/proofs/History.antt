@@ -221,6 +221,7 @@ module _ (names : List (List ℕ)) (frames : List RawFrame) (f : RawFrame) where
   to_live : (command : Command) → is_ended frames ≡ false → effect command (live names frames) f ≡ held_after names (frames ++ f ∷ []) → effect command (held_after names frames) f ≡ held_after names (frames ++ f ∷ [])
   to_live command going after = ap (λ s. effect command s f) (held_after-live names frames going) ∙ after
 
+  -- Follows holds of a SUBSCRIBE
   pub subscribe-follows : Follows commands.Subscribe
   subscribe-follows e none =
       let s : Held = held_after names frames in
@@ -232,6 +233,7 @@ module _ (names : List (List ℕ)) (frames : List RawFrame) (f : RawFrame) where
       (subscriptions_left-open names frames f (ap is_subscribe e) shut)
       (transactions_left-quiet names frames f (ap is_begin e) (ap is_end e) (not_send (ap is_send e))))
 
+  -- Follows holds of an UNSUBSCRIBE
   pub unsubscribe-follows : Follows commands.Unsubscribe
   unsubscribe-follows e none =
       let s : Held = held_after names frames in
@@ -241,6 +243,7 @@ module _ (names : List (List ℕ)) (frames : List RawFrame) (f : RawFrame) where
       (subscriptions_left-close names frames f (ap is_subscribe e) (ap is_unsubscribe e))
       (transactions_left-quiet names frames f (ap is_begin e) (ap is_end e) (not_send (ap is_send e))))
 
+  -- Follows holds of a BEGIN
   pub begin-follows : Follows commands.Begin
   begin-follows e none =
       let s : Held = held_after names frames in
@@ -252,6 +255,7 @@ module _ (names : List (List ℕ)) (frames : List RawFrame) (f : RawFrame) where
       (subscriptions_left-quiet names frames f (ap is_subscribe e) (ap is_unsubscribe e))
       (transactions_left-open names frames f (ap is_begin e) (not_send (ap is_send e)) shut))
 
+  -- Follows holds of a COMMIT
   pub commit-follows : Follows commands.Commit
   commit-follows e none =
       let s : Held = held_after names frames in
@@ -261,6 +265,7 @@ module _ (names : List (List ℕ)) (frames : List RawFrame) (f : RawFrame) where
       (subscriptions_left-quiet names frames f (ap is_subscribe e) (ap is_unsubscribe e))
       (transactions_left-close names frames f (ap is_begin e) (ap is_end e) (not_send (ap is_send e))))
 
+  -- Follows holds of an ABORT
   pub abort-follows : Follows commands.Abort
   abort-follows e none =
       let s : Held = held_after names frames in
@@ -270,6 +275,7 @@ module _ (names : List (List ℕ)) (frames : List RawFrame) (f : RawFrame) where
       (subscriptions_left-quiet names frames f (ap is_subscribe e) (ap is_unsubscribe e))
       (transactions_left-close names frames f (ap is_begin e) (ap is_end e) (not_send (ap is_send e))))
 
+  -- Follows holds of a DISCONNECT
   pub disconnect-follows : Follows commands.Disconnect
   disconnect-follows e none =
       let ended : true ≡ is_ended (frames ++ f ∷ []) = sym (is_ended-push ∙ (ap (λ c. is_ended frames || is_disconnect c) e) ∙ or_all (is_ended frames)) in
@@ -286,16 +292,19 @@ module _ (names : List (List ℕ)) (frames : List RawFrame) (f : RawFrame) where
       let phase_is : (if is_connected frames || is_connect f.command then Connected else New) ≡ Connected = ap (λ b. if is_connected frames || b then Connected else New) connects ∙ ap (λ b. if b then Connected else New) (or_all (is_connected frames)) in
       live-push Connected _ _ going no_disconnect phase_is (subscriptions_left-quiet names frames f no_subscribe no_unsubscribe) (transactions_left-quiet names frames f no_begin no_end (not_send no_send))
 
+  -- Follows holds of a CONNECT
   pub connect-follows : Follows commands.Connect
   connect-follows e none =
       let going : is_ended frames ≡ false = accepted-going commands.Connect names frames f none in
       to_live commands.Connect going (connect-effect (ap is_connect e) (ap is_subscribe e) (ap is_unsubscribe e) (ap is_begin e) (ap is_end e) (ap is_send e) (ap is_disconnect e) going)
 
+  -- Follows holds of a STOMP
   pub stomp-follows : Follows commands.Stomp
   stomp-follows e none =
       let going : is_ended frames ≡ false = accepted-going commands.Stomp names frames f none in
       to_live commands.Stomp going (connect-effect (ap is_connect e) (ap is_subscribe e) (ap is_unsubscribe e) (ap is_begin e) (ap is_end e) (ap is_send e) (ap is_disconnect e) going)
 
+  -- Follows holds of a SEND
   pub send-follows : Follows commands.Send
   send-follows e none =
       let s : Held = held_after names frames in

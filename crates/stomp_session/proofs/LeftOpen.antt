@@ -47,12 +47,14 @@ not_none false b e = absurd (true≢false (sym e))
 pub list_any-push : (p : RawFrame → Bool) (frames : List RawFrame) (f : RawFrame) → list_any p (frames ++ f ∷ []) ≡ (list_any p frames || p f)
 list_any-push p frames f = list_any-append p frames (f ∷ []) ∙ ap (λ b. list_any p frames || b) (or_none (p f))
 
+-- without an id that isn't open the entries stay
 pub entries_without-shut : {X : Type 0} (id : List ℕ) (them : List (List ℕ × X)) → is_open id them ≡ false → entries_without id them ≡ them
 entries_without-shut id [] shut = refl
 entries_without-shut id (o ∷ them) shut =
     let here : bytes_eq id o.0 ≡ false = neither_first (bytes_eq id o.0) (is_open id them) shut in
     rw here (ap (λ rest. o ∷ rest) (entries_without-shut id them (neither_second (bytes_eq id o.0) (is_open id them) shut)))
 
+-- a SEND in a transaction that isn't open changes nothing
 pub with_send-shut : (x : List ℕ) (send : SentMessage) (them : List (List ℕ × List SentMessage)) → is_open x them ≡ false → with_send x send them ≡ them
 with_send-shut x send [] shut = refl
 with_send-shut x send (o ∷ them) shut =

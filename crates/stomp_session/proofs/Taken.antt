@@ -13,6 +13,7 @@ use Rattle.stomp_session.specs.Inner.Effects.{action_of, effect, refusal_by, Acc
 use Rattle.stomp_session.specs.Frames.{id_of}
 use Rattle.stomp_session.proofs.History.{Follows, connect-follows, stomp-follows}
 
+-- the step accepts the frame after these, and the session holds what is open after it
 abbrev pub Answered : Held → RawFrame → Step → Held → List RawFrame → Type 0
 Answered s f step new frames = Accepts (held_after s.names frames) f step × (new ≡ held_after new.names (frames ++ f ∷ []))
 
