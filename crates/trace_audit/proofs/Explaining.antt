@@ -126,6 +126,7 @@ one_stamp logs a b h k i j e =
 
 -- ---- the list
 
+-- where no two rows differ or collide, each row of the logs is among the sorted ones
 pub all_in : (rows : List LogRow) (logs : List LogLine) → some_two differ logs ≡ false → some_two collide logs ≡ false → IsSortingOf rows (rows_of logs) → (q : LogRow) → In q (rows_of logs) → In q rows
 all_in rows logs h k sorting q i =
     let f = any_found (λ (own : LogRow). same_stamp own.stamp q.stamp) rows (sorting.stamped q i) in
@@ -167,6 +168,7 @@ pub in_log : (t : Topic) (line : LogLine) (logs : List LogLine) → In line logs
 in_log t line logs i e =
     In-map (λ (l : LogLine). l.row) line (filter (at_topic t) logs) (In-filter (at_topic t) line logs i e)
 
+-- a row of a topic's log is a row of the logs
 pub in_rows : (t : Topic) (q : LogRow) (logs : List LogLine) → In q (log_of t logs) → In q (rows_of logs)
 in_rows t q logs i =
     let m = log_member t q logs i in
@@ -183,6 +185,7 @@ rises_case t x xs true e h ih = (
   ih,
 )
 
+-- where no log is out of order, a topic's log rises
 pub log_rises : (t : Topic) (logs : List LogLine) → out_of_order logs ≡ false → Rises row_stamp (log_of t logs)
 log_rises t [] h = tt
 log_rises t (x ∷ xs) h =
@@ -315,6 +318,7 @@ log_is rows logs t fit h k order whole sorting ne =
 abbrev mark_of : TxnId → Stamp → Mark
 mark_of id stamp = record { id = id; stamp = stamp }
 
+-- marks that are the same one by one are equal
 pub marks_equal : (xs ys : List Mark) → pointwise same_mark xs ys ≡ true → xs ≡ ys
 marks_equal [] [] e = refl
 marks_equal [] (y ∷ ys) e = absurd (false≢true e)

@@ -12,10 +12,12 @@ lesser_min a b = go (nat_lt b a) refl
     go true e = let k : b ≡ min a b = grind (arith, nat_tests) in ap (λ (z : ℕ). Some z) k
     go false e = let k : a ≡ min a b = grind (arith, nat_tests) in ap (λ (z : ℕ). Some z) k
 
+-- the lesser of a number and none is the number
 pub lesser_none : (a : Option ℕ) → lesser a None ≡ a
 lesser_none None = refl
 lesser_none (Some a) = refl
 
+-- lesser is associative
 pub lesser_assoc : (a b c : Option ℕ) → lesser (lesser a b) c ≡ lesser a (lesser b c)
 lesser_assoc None b c = refl
 lesser_assoc (Some a) None c = refl
@@ -26,6 +28,7 @@ lesser_assoc (Some a) (Some b) (Some c) =
     ∙ (ap (λ (z : ℕ). Some z) (let e : min (min a b) c ≡ min a (min b c) = omega arith in e)
     ∙ (sym (lesser_min a (min b c)) ∙ ap (lesser (Some a)) (sym (lesser_min b c)))))
 
+-- the least of two lists together is the lesser of their leasts
 pub least_append : (xs ys : List ℕ) → least (xs ++ ys) ≡ lesser (least xs) (least ys)
 least_append [] ys = refl
 least_append (x ∷ xs) ys =
@@ -35,6 +38,7 @@ least_append (x ∷ xs) ys =
 pub one_passes : {X : Type 0} (number : X → ℕ) (p : X → Bool) (best : Option ℕ) (x : X) (xs : List X) → p x ≡ true → lesser (lesser best (Some (number x))) (least (map number (filter p xs))) ≡ lesser best (least (map number (filter p (x ∷ xs))))
 one_passes number p best x xs h = rw h (lesser_assoc best (Some (number x)) (least (map number (filter p xs))))
 
+-- an item that doesn't pass changes no least
 pub one_fails : {X : Type 0} (number : X → ℕ) (p : X → Bool) (best : Option ℕ) (x : X) (xs : List X) → p x ≡ false → lesser best (least (map number (filter p xs))) ≡ lesser best (least (map number (filter p (x ∷ xs))))
 one_fails number p best x xs h = rw h refl
 

@@ -218,6 +218,7 @@ none_astray lines rows ex =
 
 -- ---- all of it
 
+-- no test of a trace that is explained holds
 pub unrefuted : (lines : Lines) (rows : List LogRow) → IsExplainedBy rows lines → IsClean lines
 unrefuted lines rows ex = record {
   verdicts = no_two differ lines.logs (λ a b i j. not_differ rows a b ex.senders (ex.all a i) (ex.all b j));
