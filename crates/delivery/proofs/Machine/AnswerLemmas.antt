@@ -44,6 +44,7 @@ of_case id i x ticket past true e ih (inl d) = record { it = row (txn_of_id i pa
 of_case id i x ticket past true e ih (inr k) = TicketOf-more id x (tickets past) (row (txn_of_id i past) ticket) (ih k)
 of_case id i x ticket past false e ih k = TicketOf-more id x (tickets past) (row (txn_of_id i past) ticket) (ih k)
 
+-- each ticket that a transaction was given is among the past's tickets
 pub ticket_of : (id : TxnId) (x : Stamp) (past : List Answer) → In x (tickets_of id past) → TicketOf id x (tickets past)
 ticket_of id x [] k = absurd k
 ticket_of id x (Ticket i ticket ∷ past) k = of_case id i x ticket past (same_id i id) refl (ticket_of id x past) k
@@ -56,6 +57,7 @@ to_case id i a ticket past false e ih (inl d) n =
     absurd (true≢false (sym (id_same i id (sym (made_id i past) ∙ (ap (λ (z : CommitRow). z.txn.id) d ∙ n))) ∙ e))
 to_case id i a ticket past false e ih (inr k) n = ih k
 
+-- each of the past's tickets of a transaction is among those that it was given
 pub to_tickets : (id : TxnId) (a : CommitRow) (past : List Answer) → In a (tickets past) → a.txn.id ≡ id → In a.stamp (tickets_of id past)
 to_tickets id a [] k n = absurd k
 to_tickets id a (Ticket i ticket ∷ past) k n = to_case id i a ticket past (same_id i id) refl (λ j. to_tickets id a past j n) k n

@@ -134,6 +134,7 @@ finds ts w inv id v e =
 abbrev pub FewerFlights : List SenderState → List SenderState → Type 0
 FewerFlights old new = (s : ℕ) (f : Undecided) → (sender_in new s).flight ≡ Some f → (g : Undecided) × ((sender_in old s).flight ≡ Some g) × (g.txn ≡ f.txn)
 
+-- flights are as they were made after a step for which FewerFlights holds
 pub flights_fewer : (past : List Answer) (old new : List SenderState) → FewerFlights old new → Flights past old → Flights past new
 flights_fewer past old new h k s f e =
     let g = h s f e in subst (λ (z : Transaction). txn_of_id z.id past ≡ z) g.2 (k s g.0 g.1)
@@ -226,7 +227,7 @@ pub record Asks (w : World) (c : ℕ) (t : Topic) : Type 0 where
   pub named : names t (topics_of (undecided_at w c).txn.sends) ≡ true
   pub unheard : has_ticket t (undecided_at w c).given ≡ false
 
--- a proposal that isn't refused has a flight, and names a topic that gave it no ticket
+-- a proposal that isn't refused is of a flight that names the topic and has no ticket of it
 pub asks_of : (w : World) (c : ℕ) (t : Topic) (memory : Bool) → move_refusal w (Proposes c t memory) ≡ None → Asks w c t
 asks_of w c t memory e =
     let p = checked w (Proposes c t memory) e in
@@ -340,6 +341,7 @@ handed_reached : (past : List Answer) (w : World) (s : ℕ) (o : Option Item) �
 handed_reached past w s None h = record { inv = h.inv; flights = h.flights; commits = h.commits }
 handed_reached past w s (Some item) h = record { inv = take_step (tickets past) w s h.inv; flights = h.flights; commits = h.commits }
 
+-- an event that isn't refused keeps Reached
 pub happens_reached : (past : List Answer) (w : World) (e : Move) → Reached past w → move_refusal w e ≡ None → Reached (move_answer w e ∷ past) (move_effect w e)
 happens_reached past w (AddsTopic clock) h e = record { inv = added_step (tickets past) w clock h.inv; flights = h.flights; commits = h.commits }
 happens_reached past w Opens h e = record {

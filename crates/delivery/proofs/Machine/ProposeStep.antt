@@ -45,6 +45,7 @@ insert_case g a b bs true ih (inr h) = inr h
 insert_case g a b bs false ih (inl e) = inr (inl e)
 insert_case g a b bs false ih (inr h) = elim (ih h) [ inl e ↦ inl e | inr k ↦ inr (inr k) ]
 
+-- what is among the tickets after an insertion was there before, or is the new one
 pub In-ticket_cases : (g a : Stamp) (bs : List Stamp) → In g (insert_ticket a bs) → (a ≡ g) ⊎ In g bs
 In-ticket_cases g a [] (inl e) = inl e
 In-ticket_cases g a [] (inr h) = absurd h
@@ -68,6 +69,7 @@ one_case a b bs true ne h ih = (ne, h)
 one_case a b bs false ne h ih =
     ((λ g i. elim (In-ticket_cases g a bs i) [ inl e ↦ (λ d. ne b (inl refl) (ap (λ (z : Stamp). z.topic.0) e ∙ sym d)) | inr k ↦ h.0 g k ]), ih)
 
+-- no two tickets are of one topic after another topic's is inserted
 pub OneEach-insert : (a : Stamp) (bs : List Stamp) → ((g : Stamp) → In g bs → a.topic.0 ≢ g.topic.0) → OneEach bs → OneEach (insert_ticket a bs)
 OneEach-insert a [] ne h = ((λ g i. absurd i), tt)
 OneEach-insert a (b ∷ bs) ne h = one_case a b bs (ltb a.topic.0 b.topic.0) ne h (OneEach-insert a bs (λ g i. ne g (inr i)) h.1)
@@ -178,6 +180,7 @@ Tied-there ts cs u x a ne h = record {
   sound = h.sound;
 }
 
+-- a transaction that was pending is so after a ticket was given
 pub waits_kept : (w : World) (s : ℕ) (t : Topic) (f : Undecided) (id : TxnId) (u : Topic) → Waits id (topic_in w.topics u).pending → Waits id (topic_in (set w.topics t.0 (topic_after w s t f)) u).pending
 waits_kept w s t f id u v =
     at_topic_from (λ y z. Waits id z.pending) w.topics t u (topic_after w s t f)

@@ -35,6 +35,7 @@ full_then : (taken capacity : ℕ) (a b c : Option Stamp) (xs ys zs : List Item)
 full_then taken capacity a None c xs ys zs h k n s e l = k.full refl s e (let m = h.grows in omega arith)
 full_then taken capacity a (Some end) c xs ys zs h k n s e l = let m = k.grows in let f = h.full n end refl l in omega arith
 
+-- Moves is transitive
 pub Moves-then : (taken capacity : ℕ) (a b c : Option Stamp) (xs ys zs : List Item) → Moves taken capacity a xs b ys → Moves taken capacity b ys c zs → Moves taken capacity a xs c zs
 Moves-then taken capacity a b c xs ys zs h k = record {
   stays = λ s e. k.stays s (h.stays s e);

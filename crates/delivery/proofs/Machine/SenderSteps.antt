@@ -29,6 +29,7 @@ use Rattle.delivery.proofs.Machine.ProposeStep.{within_senders}
 
 -- ---- a change of one sender
 
+-- writing a sender of which Serves holds keeps the invariant
 pub sender_step : (ts : List CommitRow) (w : World) (s : ℕ) (x : SenderState) → Holds ts w → Serves ts w.commits w.topics s x → Inv ts w.commits w.verdicts w.topics (set w.senders s x) w.subscriptions
 sender_step ts w s x inv h = record {
   consistent = inv.consistent;
@@ -142,15 +143,19 @@ pub record Decides (w : World) (s : ℕ) (f : Undecided) : Type 0 where
   pub flight : (sender_in w.senders s).flight ≡ Some f
   pub complete : is_complete f ≡ true
 
+-- the stamp of a decision: the greatest ticket
 abbrev pub stamp_by : Undecided → Stamp
 stamp_by f = greatest f.given
 
+-- its row of the commit list
 abbrev pub row_by : Undecided → CommitRow
 row_by f = row f.txn (stamp_by f)
 
+-- its verdict
 abbrev pub verdict_by : Undecided → Decision
 verdict_by f = record { id = f.txn.id; rows = f.given }
 
+-- sender s after the decision
 abbrev pub decided_sender : World → ℕ → Undecided → SenderState
 decided_sender w s f = record (sender_in w.senders s) { floor = stamp_by f; flight = None }
 

@@ -30,6 +30,7 @@ end_by closed entry = elim closed [ None ↦ entry_to entry | Some end ↦ Some 
 abbrev pub end_in : List TopicState → ℕ → Subscription → Option Stamp
 end_in topics s x = end_by x.closed (find_entry s (topic_in topics x.topic).subscriptions)
 
+-- what the queue of subscription s has accepted, among these topics
 abbrev pub items_in : List TopicState → ℕ → Subscription → List Item
 items_in topics s x = items_by x.closed (find_entry s (topic_in topics x.topic).subscriptions)
 
@@ -53,9 +54,11 @@ pub record Tells (capacity : ℕ) (topics : List TopicState) (subs : List Subscr
   pub each : (s : ℕ) → s < length subs → let x = get_or subs s no_subscription in let y = get_or all s no_subscription in Tell capacity x y (end_in topics s x) (end_in others s y) (items_in topics s x) (items_in others s y)
   pub fresh : (s : ℕ) → length subs ≤ s → s < length all → let y = get_or all s no_subscription in (end_in others s y ≡ None) × (items_in others s y ≡ [])
 
+-- the same from one core to another
 abbrev pub TellsOf : World → World → Type 0
 TellsOf w v = Tells w.capacity w.topics w.subscriptions v.capacity v.topics v.subscriptions
 
+-- TellsOf holds from a core to itself
 pub Tells-same : (w : World) → TellsOf w w
 Tells-same w = record {
   same = refl;

@@ -180,6 +180,7 @@ finds_entry n (x ∷ es) e (inl k) d =
     finds_case n x es true (λ f. absurd (true≢false f)) (eq-eqb x.number n (ap (λ (z : Entry). z.number) k ∙ d))
 finds_entry n (x ∷ es) e (inr k) d = finds_case n x es (x.number == n) (λ f. finds_entry n es e k d) refl
 
+-- t without the entries of this number
 abbrev pub topic_without : World → Topic → ℕ → TopicState
 topic_without w t s = after_unsubscribe s (topic_in w.topics t)
 
@@ -187,6 +188,7 @@ topic_without w t s = after_unsubscribe s (topic_in w.topics t)
 abbrev pub kept_by : ℕ → Entry → Bool
 kept_by s e = not (e.number == s)
 
+-- subscription s after it was closed with this entry
 abbrev pub subscription_after : World → ℕ → Entry → Subscription
 subscription_after w s e = let x = sub_in w.subscriptions s in record x { closed = Some (end_of (topic_in w.topics x.topic).frontier e) }
 

@@ -55,12 +55,15 @@ log_of_part part stamp = record { id = part.id; topics = part.topics; stamp = st
 abbrev item_of_part : TopicPart → Stamp → Item
 item_of_part part stamp = record { id = part.id; stamp = stamp; sends = part.sends }
 
+-- the key of a part that has learnt a stamp is that stamp
 pub key_learnt : (p : Pending) (s : Stamp) → p.learnt ≡ Some s → key p ≡ s
 key_learnt p s e = ap (λ (o : Option Stamp). key (record p { learnt = o })) e
 
+-- the key of a part that has learnt no stamp is its ticket
 pub key_unlearnt : (p : Pending) → p.learnt ≡ None → key p ≡ record { n = p.number; topic = p.part.topic }
 key_unlearnt p e = ap (λ (o : Option Stamp). key (record p { learnt = o })) e
 
+-- a pending part that has learnt a committed stamp has its committed row
 pub part_row : (ts cs : List CommitRow) (p : Pending) (s : Stamp) → Consistent ts cs → Ticketed ts p.part p.number → p.learnt ≡ Some s → Committed cs p.part.id s → PartRow cs p
 part_row ts cs p s all t e c =
     let a = t.ticket.txn in
@@ -129,9 +132,11 @@ pub record Keeps (ts cs : List CommitRow) (t : Topic) (x y : TopicState) : Type 
   pub entries : Entries x y
   pub queues : (from end : Stamp) (accepted : List Item) → IsQueueOf x.base x.frontier x.held from (Some end) accepted → IsQueueOf y.base y.frontier y.held from (Some end) accepted
 
+-- Keeps holds from a topic to itself
 pub Keeps-same : (ts cs : List CommitRow) (t : Topic) (x : TopicState) → Tied ts cs t x → Keeps ts cs t x x
 Keeps-same ts cs t x h = record { tied = h; waits = λ id u v. v; entries = Entries-same x x refl; queues = λ from end accepted q. q }
 
+-- Keeps is transitive
 pub Keeps-then : (ts cs : List CommitRow) (t : Topic) (x y z : TopicState) → Keeps ts cs t x y → Keeps ts cs t y z → Keeps ts cs t x z
 Keeps-then ts cs t x y z a b = record {
   tied = b.tied;
@@ -140,6 +145,7 @@ Keeps-then ts cs t x y z a b = record {
   queues = λ from end accepted q. b.queues from end accepted (a.queues from end accepted q);
 }
 
+-- a topic is tied after it learnt a committed stamp
 pub Tied-learned : (ts cs : List CommitRow) (t : Topic) (x : TopicState) (id : TxnId) (v : Decision) → Tied ts cs t x → Learns id v x → Committed cs v.id (decided_stamp v) → Tied ts cs t (after_learn id (decided_stamp v) x)
 Tied-learned ts cs t x id v h l c = record {
   topic = h.topic;
@@ -168,6 +174,7 @@ Keeps-learned ts cs t x id v h e c = record {
   queues = λ from end accepted q. q;
 }
 
+-- a topic is tied after the part that was due is released
 pub Tied-released : (ts cs : List CommitRow) (t : Topic) (x : TopicState) (takes : Entry → Bool) (p : Pending) → Consistent ts cs → Tied ts cs t x → Due p x → Tied ts cs t (after_release_of takes p x)
 Tied-released ts cs t x takes p all h due =
     let i = due.least.stands in
@@ -206,6 +213,7 @@ released_waits ts cs t x p all h due id u w =
       | inr k ↦ k
     ]
 
+-- Keeps holds of releasing the part that is due
 pub Keeps-released : (ts cs : List CommitRow) (t : Topic) (x : TopicState) (takes : Entry → Bool) (p : Pending) → Consistent ts cs → Tied ts cs t x → Due p x → Keeps ts cs t x (after_release_of takes p x)
 Keeps-released ts cs t x takes p all h due = record {
   tied = Tied-released ts cs t x takes p all h due;

@@ -37,6 +37,7 @@ learnt_case : (v : Decision) (p : Pending) → ((s : Stamp) → p.learnt ≡ Som
 learnt_case v p h None e = refl
 learnt_case v p h (Some s) e = rw (same_stamp_from s (decided_stamp v) (h s e)) refl
 
+-- a verdict of a pending part's transaction is the part's own
 pub own_verdict : (ts : List CommitRow) (w : World) (t : Topic) (p : Pending) (v : Decision) → Holds ts w → In p (topic_in w.topics t).pending → In v w.verdicts → v.id ≡ p.part.id → OwnVerdict v p (topic_in w.topics t)
 own_verdict ts w t p v inv i j e =
     let x = topic_in w.topics t in let k = inv.tied t in let all = inv.consistent in
@@ -91,6 +92,7 @@ finds_case : (id : TxnId) (v : Decision) (vs : List Decision) (b : Bool) → (b 
 finds_case id v vs true ih e = record { verdict = v; found = rw e refl }
 finds_case id v vs false ih e = let h = ih refl in record { verdict = h.verdict; found = rw e h.found }
 
+-- where the list has a verdict of this id, one is found
 pub finds_verdict : (id : TxnId) (vs : List Decision) (v : Decision) → In v vs → v.id ≡ id → FindsVerdict id vs
 finds_verdict id [] v i e = absurd i
 finds_verdict id (u ∷ vs) v (inl k) e = finds_case id u vs true (λ n. absurd (true≢false n)) (id_same u.id id (ap (λ (z : Decision). z.id) k ∙ e))

@@ -96,6 +96,7 @@ start_reached capacity log_limit clocks = record {
   commits = refl;
 }
 
+-- Reached holds along a run
 pub run_reached : (es : List Move) (past : List Answer) (w : World) → Reached past w → Reached (answers_from es w past) (run es w)
 run_reached [] past w h = h
 run_reached (e ∷ es) past w h = run_reached es (answer_to w e ∷ past) (world_after w e) (step_reached past w e h)

@@ -302,6 +302,7 @@ happens_handing past w (Turns t) r h e = told past (move_effect w (Turns t)) (mo
 happens_handing past w (Takes s) r h e =
     handed_handing past w s (ltb-true s (length w.subscriptions) (false_not (ltb s (length w.subscriptions)) (checked w (Takes s) e).0)) h _ refl
 
+-- each event keeps Handing
 pub step_handing : (past : List Answer) (w : World) (e : Move) → Reached past w → Handing past w → Handing (answer_to w e ∷ past) (world_after w e)
 step_handing past w e r h =
     by_refusal (λ v o. Handing (o ∷ past) v) w e (λ why. told past w (Refused why) (λ n. refl) h) (λ n. happens_handing past w e r h n)

@@ -192,6 +192,7 @@ full_ends = (refl, refl)
 full_holds : (length (accepted_at (world_after (final_world (full_queue [])) (Turns (topic 0))) 0) ≡ 2) × (delivered_items 0 (answers_of (full_queue [])) ≡ [])
 full_holds = (refl, refl)
 
+-- the entries of topic 0 after these events and a release
 abbrev pub by_release : List Move → List Entry
 by_release then = (topic_at (world_after (final_world (full_queue then)) (Releases (topic 0))) (topic 0)).subscriptions
 

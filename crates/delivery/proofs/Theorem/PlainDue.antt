@@ -38,9 +38,11 @@ names_any t (s ∷ sends) = ap (λ (z : Bool). (s.topic.0 == t.0) || z) (names_a
 
 -- ---- parts
 
+-- a SEND with its index, as a part has it
 abbrev pub part_send : ℕ → SentMessage → PartMessage
 part_send i s = record { index = i; headers = s.headers; body = s.body }
 
+-- what the last SEND, with its index, adds to the part at t
 abbrev pub last_part : ℕ → Topic → SentMessage → List PartMessage
 last_part i t s = cond (s.topic.0 == t.0) (part_send i s ∷ []) []
 
@@ -61,6 +63,7 @@ part_last_from i t (x ∷ sends) s =
     let k : i + 1 + length sends ≡ i + suc (length sends) = omega arith in
     part_case i t x s sends (x.topic.0 == t.0) (part_last_from (i + 1) t sends s ∙ ap (λ n. part_from (i + 1) t sends ++ last_part n t s) k)
 
+-- the part at t of one SEND more
 pub part_last : (t : Topic) (sends : List SentMessage) (s : SentMessage) → part_of t (sends ++ s ∷ []) ≡ part_of t sends ++ last_part (length sends) t s
 part_last t sends s =
     let k : 0 + length sends ≡ length sends = omega arith in
@@ -89,6 +92,7 @@ filter_case : {X Y : Type 0} (f : X → Y) (p : X → Bool) (x y : X) (xs : List
 filter_case f p x y xs done true ih = ap (λ z. f y ∷ z) ih
 filter_case f p x y xs done false ih = ih
 
+-- one item more is filtered and mapped after the others
 pub filter_last : {X Y : Type 0} (f : X → Y) (p : X → Bool) (xs : List X) (x : X) (done : List Y) → map f (filter p (xs ++ x ∷ [])) ++ done ≡ map f (filter p xs) ++ (map f (filter p (x ∷ [])) ++ done)
 filter_last f p [] x done = refl
 filter_last f p (y ∷ xs) x done = filter_case f p x y xs done (p y) (filter_last f p xs x done)

@@ -94,7 +94,7 @@ Fewer-topic topics senders t y g = record {
   parts = λ u. at_topic_from (λ v z. Gone_to (topic_in topics v).pending z.pending) topics t u y (λ o. g) (Gone-same (topic_in topics u).pending);
 }
 
--- Fewer holds where one sender gets a seq as high and no other flight
+-- Fewer holds where one sender gets a seq at least as high and no other flight
 pub Fewer-sender : (topics : List TopicState) (senders : List SenderState) (s : ℕ) (x : SenderState) → (sender_in senders s).seq ≤ x.seq → FewerFlights senders (set senders s x) → Fewer topics senders topics (set senders s x)
 Fewer-sender topics senders s x l few = record {
   seqs = λ d. at_set (λ (z : SenderState). (sender_in senders d).seq ≤ z.seq) senders s d x new_sender

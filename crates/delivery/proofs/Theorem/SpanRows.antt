@@ -19,9 +19,11 @@ use Rattle.delivery.specs.Theorem.Examples.{topic, stamp, id, send, part, run_of
 
 -- ---- a queue of two items: one row was released, and three more are decided
 
+-- a transaction of one SEND to topic 0 is decided; then these events
 abbrev pub decides_one : ℕ → List Move → List Move
 decides_one octet then = Commits 0 (send 0 octet ∷ []) ∷ Proposes 0 (topic 0) true ∷ Decides 0 ∷ then
 
+-- a queue of two items: one row was released and three more are decided; then these events
 abbrev pub three_due : List Move → Run
 three_due then = record {
   capacity = 2;
