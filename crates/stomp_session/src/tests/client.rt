@@ -110,6 +110,37 @@ pub(super) fn has(receipt: &Option<Octets>, want: &[u8]) -> bool {
     }
 }
 
+/// Letters, their commands, and the names of their two headers, which are empty where there are fewer.
+const SHAPES: [(u8, Command, &[u8], &[u8]); 6] = [
+    (b's', Command::Subscribe, b"id", b"destination"),
+    (b'u', Command::Unsubscribe, b"id", b""),
+    (b'b', Command::Begin, b"transaction", b""),
+    (b'e', Command::Commit, b"transaction", b""),
+    (b'a', Command::Abort, b"transaction", b""),
+    (b'm', Command::Send, b"destination", b"transaction"),
+];
+
+/// The command of a letter, and the names of its headers; any other letter is a DISCONNECT.
+fn shape(letter: u8) -> (Command, &'static [u8], &'static [u8]) {
+    for (own, command, first, second) in SHAPES {
+        if own == letter {
+            return (command, first, second);
+        }
+    }
+    (Command::Disconnect, b"", b"")
+}
+
+/// The pairs before the first one without a name.
+fn pairs_with_names<'a>(pairs: &'a [(&'a [u8], &'a [u8]); 2]) -> Pairs<'a> {
+    if pairs[0].0.is_empty() {
+        return &pairs[..0];
+    }
+    if pairs[1].0.is_empty() {
+        return &pairs[..1];
+    }
+    pairs
+}
+
 /// A client of a server with the topics `A` and `B`.
 #[derive(Drop)]
 pub(super) struct Client {
@@ -187,22 +218,14 @@ impl Client {
         Ok(number(&self.answer(command, pairs)?))
     }
 
-    /// A frame in three letters: `c` is a CONNECT, `s` a SUBSCRIBE with id and destination, `u` an UNSUBSCRIBE with id, `b`, `e`, `a` a
-    /// BEGIN, a COMMIT, an ABORT with a transaction, `m` a SEND with destination and transaction, any other a DISCONNECT.
+    /// A frame in three letters: what it is and its headers' values, as `shape` has them; `c` is a CONNECT.
     pub(super) fn letters(&mut self, letter: u8, x: u8, y: u8) -> Result<u32, NoMemory> {
-        match letter {
-            b'c' => self.connect(b"1.2"),
-            b's' => self.tell(Command::Subscribe, &[(b"id", &[x]), (b"destination", &[y])]),
-            b'u' => self.tell(Command::Unsubscribe, &[(b"id", &[x])]),
-            b'b' => self.tell(Command::Begin, &[(b"transaction", &[x])]),
-            b'e' => self.tell(Command::Commit, &[(b"transaction", &[x])]),
-            b'a' => self.tell(Command::Abort, &[(b"transaction", &[x])]),
-            b'm' => self.tell(
-                Command::Send,
-                &[(b"destination", &[x]), (b"transaction", &[y])],
-            ),
-            _ => self.tell(Command::Disconnect, &[]),
+        if letter == b'c' {
+            return self.connect(b"1.2");
         }
+        let (command, first, second) = shape(letter);
+        let pairs: [(&[u8], &[u8]); 2] = [(first, &[x]), (second, &[y])];
+        self.tell(command, pairs_with_names(&pairs))
     }
 
     pub(super) fn connect(&mut self, versions: &[u8]) -> Result<u32, NoMemory> {

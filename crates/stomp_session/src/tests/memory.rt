@@ -1,6 +1,6 @@
 //! Refused growths: they are made by `rt try --test --fail-alloc N`, and each test here holds whichever allocation fails.
 
-use super::client::{Client, Pairs, frame_with};
+use super::client::{Answer, Client, Pairs, frame_with};
 use crate::{Names, SessionFault};
 use mcast_txn::Topic;
 use std::alloc::Global;
@@ -43,20 +43,33 @@ fn is_given(frame: ClientFrame, row: &Row) -> bool {
         && raw.body.as_slice() == row.body
 }
 
-/// Puts the row's frame to a new session: whether it is accepted. An error tells that there was no memory for the frames before it. A refused
-/// frame is told 72 and handed back as it was given, and the session is closed.
+/// Whether an answer is 72, with the row's frame as it was given.
+fn is_out_of_memory(answer: Answer, row: &Row) -> bool {
+    match answer.err() {
+        None => false,
+        Some((frame, fault)) => {
+            let is_given = is_given(frame, row);
+            is_given && fault == SessionFault::NoMemory
+        }
+    }
+}
+
+/// Whether a DISCONNECT is refused, since the session is closed.
+fn is_closed(client: &mut Client) -> Result<bool, NoMemory> {
+    Ok(client.letters(b'd', b' ', b' ')? == SessionFault::Closed.number())
+}
+
+/// Puts the row's frame to a new session: whether it is accepted. An error says that there was no memory for the frames
+/// before it. The answer to a refused frame is 72, it comes back as it was given, and the session is closed.
 fn is_accepted(rt: &impl Abort, alloc: Global, row: &Row) -> Result<bool, NoMemory> {
     let mut client = Client::after(alloc, row.script)?;
     let frame = frame_with(alloc, row.command, row.pairs, row.body)?;
-    let Err((frame, fault)) = client.take(frame) else {
+    let answer = client.take(frame);
+    if answer.is_ok() {
         return Ok(true);
-    };
-    assert_eq!(rt; fault, SessionFault::NoMemory);
-    assert!(rt; is_given(frame, row));
-    assert_eq!(rt;
-        client.letters(b'd', b' ', b' ')?,
-        SessionFault::Closed.number()
-    );
+    }
+    assert!(rt; is_out_of_memory(answer, row));
+    assert!(rt; is_closed(&mut client)?);
     Ok(false)
 }
 

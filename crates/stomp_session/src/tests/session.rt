@@ -1,5 +1,7 @@
 //! The session's table: one row for each refusal but want of memory; and the messages of faults.
 
+ghost use Rattle.stomp_frame.specs.Headers.{IsText};
+
 use super::client::{Client, has, last_number};
 use crate::{Action, SessionFault, Step};
 use std::alloc::Global;
@@ -166,6 +168,16 @@ fn a_stomp_has_none(rt: HostRuntime) -> Result<(), Fail> {
     Ok(())
 }
 
+/// The octets of a RECEIPT with this id.
+fn receipt_text(alloc: Global, id: Octets) -> Result<Octets, NoMemory>
+    requires { IsText id }
+{
+    let frame = render(alloc, &ServerFrame::Receipt { id })?;
+    let mut out = Octets::new(alloc);
+    write_frame(&frame, &mut out)?;
+    Ok(out)
+}
+
 #[test]
 fn a_receipt_is_written(rt: HostRuntime) -> Result<(), Fail> {
     let alloc = rt.alloc();
@@ -174,10 +186,8 @@ fn a_receipt_is_written(rt: HostRuntime) -> Result<(), Fail> {
         Command::Subscribe,
         &[(b"id", b"s"), (b"destination", b"A"), (b"receipt", b"r")],
     )?;
-    let frame = render(alloc, &ServerFrame::Receipt { id })?;
-    let mut out = Octets::new(alloc);
-    write_frame(&frame, &mut out)?;
-    assert!(rt; out.as_slice() == b"RECEIPT\nreceipt-id:r\n\n\0".as_slice());
+    let text = receipt_text(alloc, id)?;
+    assert!(rt; text.as_slice() == b"RECEIPT\nreceipt-id:r\n\n\0".as_slice());
     Ok(())
 }
 

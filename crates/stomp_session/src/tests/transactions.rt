@@ -1,48 +1,80 @@
 //! What a COMMIT and a SEND are answered.
 
-use super::client::{Client, has};
+use super::client::{Client, Pairs, has};
 use crate::{Action, Step};
+use std::alloc::Global;
 use std::test::Fail;
 use stomp_frame::Command;
 
+/// A COMMIT or a SEND behind a script.
+#[derive(Clone, Copy)]
+struct Row {
+    script: &'static [u8],
+    command: Command,
+    pairs: Pairs<'static>,
+}
+
+/// What the row's frame is answered.
+fn step(alloc: Global, row: &Row) -> Result<Step, Fail> {
+    let mut client = Client::after(alloc, row.script)?;
+    client.step(row.command, row.pairs)
+}
+
+/// How many SENDs and topics the transaction of an answer has, none where it has no transaction; and whether the
+/// answer has the receipt `r`.
+fn counts(step: Step) -> (usize, usize, bool) {
+    let Step { action, receipt } = step;
+    let has_receipt = has(&receipt, b"r");
+    match action {
+        Action::Commit(txn) => (txn.len(), txn.topics().len(), has_receipt),
+        _ => (0, 0, has_receipt),
+    }
+}
+
+/// A COMMIT without SENDs is nothing, one with two has both, and a SEND outside a transaction is one of its own.
+#[test]
+fn commits(rt: HostRuntime) -> Result<(), Fail> {
+    let rows: [(Row, (usize, usize, bool)); 3] = [
+        (
+            Row {
+                script: b"c..,bx.",
+                command: Command::Commit,
+                pairs: &[(b"transaction", b"x"), (b"receipt", b"r")],
+            },
+            (0, 0, true),
+        ),
+        (
+            Row {
+                script: b"c..,bx.,mBx,mBx",
+                command: Command::Commit,
+                pairs: &[(b"transaction", b"x")],
+            },
+            (2, 1, false),
+        ),
+        (
+            Row {
+                script: b"c..",
+                command: Command::Send,
+                pairs: &[(b"destination", b"B"), (b"receipt", b"r")],
+            },
+            (1, 1, true),
+        ),
+    ];
+    for (row, want) in rows {
+        let told = counts(step(rt.alloc(), &row)?);
+        assert_eq!(rt; told, want);
+    }
+    Ok(())
+}
+
 #[test]
 fn a_commit_without_sends_is_nothing(rt: HostRuntime) -> Result<(), Fail> {
-    let mut client = Client::begun(rt.alloc())?;
-    let Step { action, receipt } = client.step(
-        Command::Commit,
-        &[(b"transaction", b"x"), (b"receipt", b"r")],
-    )?;
-    assert!(rt; matches!(&action, Action::Nothing));
-    assert!(rt; has(&receipt, b"r"));
-    Ok(())
-}
-
-#[test]
-fn a_commit_has_the_sends_of_its_transaction(rt: HostRuntime) -> Result<(), Fail> {
-    let mut client = Client::begun(rt.alloc())?;
-    client.letters(b'm', b'B', b'x')?;
-    client.letters(b'm', b'B', b'x')?;
-    let Step { action, receipt } = client.step(Command::Commit, &[(b"transaction", b"x")])?;
-    assert!(rt; receipt.is_none());
-    let Action::Commit(txn) = action else {
-        return Err(Fail::new("no Commit"));
+    let row = Row {
+        script: b"c..,bx.",
+        command: Command::Commit,
+        pairs: &[(b"transaction", b"x")],
     };
-    assert_eq!(rt; txn.len(), 2);
-    assert_eq!(rt; txn.topics().len(), 1);
-    Ok(())
-}
-
-#[test]
-fn a_send_outside_a_transaction_is_one_of_its_own(rt: HostRuntime) -> Result<(), Fail> {
-    let mut client = Client::begun(rt.alloc())?;
-    let Step { action, receipt } = client.step(
-        Command::Send,
-        &[(b"destination", b"B"), (b"receipt", b"r")],
-    )?;
-    assert!(rt; has(&receipt, b"r"));
-    let Action::Commit(txn) = action else {
-        return Err(Fail::new("no Commit"));
-    };
-    assert_eq!(rt; txn.len(), 1);
+    let step = step(rt.alloc(), &row)?;
+    assert!(rt; matches!(&step.action, Action::Nothing));
     Ok(())
 }

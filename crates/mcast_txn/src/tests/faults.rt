@@ -1,0 +1,32 @@
+//! The faults' numbers, and their messages, which begin with number and name.
+
+use crate::{BallotFault, DraftFault};
+use std::test::Fail;
+
+#[test]
+fn drafts(rt: HostRuntime) -> Result<(), Fail> {
+    let rows: [(DraftFault, u32, &[u8]); 2] = [
+        (DraftFault::TooManySends, 30, b"30 TooManySends: "),
+        (DraftFault::NoMemory, 31, b"31 NoMemory: "),
+    ];
+    for (fault, number, front) in rows {
+        let message = format!(in rt.alloc(); "{fault}")?;
+        assert_eq!(rt; fault.number(), number);
+        assert!(rt; message.as_bytes().starts_with(front));
+    }
+    Ok(())
+}
+
+#[test]
+fn ballots(rt: HostRuntime) -> Result<(), Fail> {
+    let rows: [(BallotFault, u32, &[u8]); 2] = [
+        (BallotFault::NotNamed, 50, b"50 NotNamed: "),
+        (BallotFault::Twice, 51, b"51 Twice: "),
+    ];
+    for (fault, number, front) in rows {
+        let message = format!(in rt.alloc(); "{fault}")?;
+        assert_eq!(rt; fault.number(), number);
+        assert!(rt; message.as_bytes().starts_with(front));
+    }
+    Ok(())
+}
