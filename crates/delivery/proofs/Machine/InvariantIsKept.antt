@@ -23,9 +23,9 @@ use Rattle.mcast_txn.specs.Checks.{first_refusal}
 use Rattle.mcast_txn.specs.Span.{Item}
 use Rattle.mcast_group.specs.Machine.{Pending, Entry, propose_checks, propose_fault, is_pending, after_learn, due_part, after_release, after_turn, decided_stamp}
 use Rattle.mcast_group.proofs.Parts.{some_same, none_some, not_true}
-use Rattle.delivery.specs.declared.refusal.Refusal.{Refusal}
+use Rattle.delivery.specs.Machine.Objections.{Objection}
 use Rattle.delivery.specs.Machine.World.{World, Undecided, Leftover, SenderState, topic_at, new_sender, connection_at, speaker, entry_at}
-use Rattle.delivery.specs.Machine.Moves.{Move, Answer, world_after, answer_to, move_refusal, move_effect, move_answer, undecided_at, undecided_or_none, find_leftover, find_verdict, verdict_in, oldest_live, has_ticket, next_txn, next_ticket, commit_effect, commit_answer, proposal_fault, propose_effect, propose_answer, decide_effect, withdraw_effect, cancel_effect, cancel_answer, learn_effect, learn_objection, release_answer, queue_has_room, take_effect, take_answer, leave_effect, leave_answer, close_effect, close_effect_of, or_out_of_memory, refusal_of_learn, is_topic, objections, topic_objection}
+use Rattle.delivery.specs.Machine.Moves.{Move, Answer, world_after, answer_to, move_refusal, move_effect, move_answer, undecided_at, undecided_or_none, find_leftover, find_verdict, verdict_in, oldest_live, has_ticket, next_txn, next_ticket, commit_effect, commit_answer, proposal_fault, propose_effect, propose_answer, decide_effect, withdraw_effect, cancel_effect, cancel_answer, learn_effect, learn_objection, release_answer, queue_has_room, take_effect, take_answer, leave_effect, leave_answer, close_effect, close_effect_of, or_out_of_memory, learn_objection_of, is_topic, objections, topic_objection}
 use Rattle.delivery.specs.Machine.Moves.Move.{AddsTopic, Opens, Commits, Subscribes, Unsubscribes, Disconnects, Errs, Lost, Leaves, Proposes, Decides, Withdraws, Cancels, Learns, Releases, Turns, Takes}
 use Rattle.delivery.specs.Machine.Moves.Answer.{Refused, Begun, Ticket}
 use Rattle.delivery.specs.Machine.Runs.{txn_of_id, commits_of}
@@ -51,18 +51,18 @@ passes [] e = tt
 passes (c ∷ cs) e = passes_case c.0 c.1 (first_refusal cs) (NoneHolds cs) (passes cs) e
 
 -- an event is refused and nothing is changed, or it isn't
-refusal_case : (P : World → Answer → Type 0) (w : World) (e : Move) (o : Option Refusal) → ((why : Refusal) → P w (Refused why)) → (o ≡ None → P (move_effect w e) (move_answer w e)) → P (elim o [ None ↦ move_effect w e | Some why ↦ w ]) (elim o [ None ↦ move_answer w e | Some why ↦ Refused why ])
+refusal_case : (P : World → Answer → Type 0) (w : World) (e : Move) (o : Option Objection) → ((why : Objection) → P w (Refused why)) → (o ≡ None → P (move_effect w e) (move_answer w e)) → P (elim o [ None ↦ move_effect w e | Some why ↦ w ]) (elim o [ None ↦ move_answer w e | Some why ↦ Refused why ])
 refusal_case P w e None h k = k refl
 refusal_case P w e (Some why) h k = h why
 
-pub by_refusal : (P : World → Answer → Type 0) (w : World) (e : Move) → ((why : Refusal) → P w (Refused why)) → (move_refusal w e ≡ None → P (move_effect w e) (move_answer w e)) → P (world_after w e) (answer_to w e)
+pub by_refusal : (P : World → Answer → Type 0) (w : World) (e : Move) → ((why : Objection) → P w (Refused why)) → (move_refusal w e ≡ None → P (move_effect w e) (move_answer w e)) → P (world_after w e) (answer_to w e)
 by_refusal P w e h k = refusal_case P w e (move_refusal w e) h k
 
-or_else_first : (a b : Option Refusal) → option_or a b ≡ None → a ≡ None
+or_else_first : (a b : Option Objection) → option_or a b ≡ None → a ≡ None
 or_else_first None b e = refl
 or_else_first (Some why) b e = none_some why (sym e)
 
-pub or_else_after : (a b : Option Refusal) → option_or a b ≡ None → b ≡ None
+pub or_else_after : (a b : Option Objection) → option_or a b ≡ None → b ≡ None
 or_else_after None b e = e
 or_else_after (Some why) b e = none_some why (sym e)
 
@@ -277,7 +277,7 @@ cancelled_case past w c t h (Some k) e =
       commits = h.commits;
     }
 
-no_learn_fault : (o : Option LearnFault) → option_map refusal_of_learn o ≡ None → o ≡ None
+no_learn_fault : (o : Option LearnFault) → option_map learn_objection_of o ≡ None → o ≡ None
 no_learn_fault None e = refl
 no_learn_fault (Some fault) e = none_some _ (sym e)
 
