@@ -1,5 +1,10 @@
 -- The numbers and names of what the core refuses (own).
 use Rattle.std.specs.Prelude.{ℕ, List, codes}
+use Rattle.stomp_frame.specs.Faults.{fault_of, frame_number, title_of}
+use Rattle.stomp_frame.specs.Cases.{case_number, case_title}
+use Rattle.stomp_session.specs.Faults.{number_of, session_title}
+use Rattle.delivery.specs.declared.connection_fault.ConnectionFault.{ConnectionFault}
+use Rattle.delivery.specs.declared.connection_fault.ConnectionFault.TheVariants as connection
 use Rattle.delivery.specs.declared.refusal.Refusal.{Refusal}
 use Rattle.delivery.specs.declared.refusal.Refusal.TheVariants as refusal
 
@@ -38,3 +43,19 @@ refusal_title refusal.NothingDue = codes "86 NothingDue"
 refusal_title refusal.Gone = codes "87 Gone"
 refusal_title refusal.Marked = codes "88 Marked"
 refusal_title refusal.NotMarked = codes "89 NotMarked"
+
+-- the number of what ends a connection: that of the check, of the case table or of the session
+abbrev pub connection_number : ConnectionFault → ℕ
+connection_number (connection.Stream check) = frame_number (fault_of check)
+connection_number (connection.Frame fault) = case_number fault
+connection_number (connection.Session fault) = number_of fault
+connection_number connection.Lagged = 74
+connection_number connection.ReaderNoMemory = 72
+
+-- its number and its name, as the message of the ERROR has them
+abbrev pub connection_title : ConnectionFault → List ℕ
+connection_title (connection.Stream check) = title_of (fault_of check)
+connection_title (connection.Frame fault) = case_title fault
+connection_title (connection.Session fault) = session_title fault
+connection_title connection.Lagged = codes "74 Lagged"
+connection_title connection.ReaderNoMemory = codes "72 NoMemory"

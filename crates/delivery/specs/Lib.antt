@@ -1,3 +1,4 @@
 pub mod Faults
+pub mod Topics
 pub mod Machine
 pub mod Theorem
