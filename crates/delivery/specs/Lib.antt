@@ -2,3 +2,5 @@ pub mod Faults
 pub mod Topics
 pub mod Machine
 pub mod Theorem
+pub mod Core
+pub mod Inner
