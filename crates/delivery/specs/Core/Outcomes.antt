@@ -14,7 +14,6 @@ use Rattle.delivery.specs.declared.refusal.Refusal.{Refusal}
 use Rattle.delivery.specs.declared.connection_fault.ConnectionFault.{ConnectionFault}
 use Rattle.delivery.specs.Topics.{TopicList}
 use Rattle.delivery.specs.Machine.Objections.{Objection, refusal_of}
-use Rattle.delivery.specs.Machine.World.{World}
 use Rattle.delivery.specs.Machine.Moves.{Move, Answer, needs_open, needs_idle, move_refusal, answer_to}
 use Rattle.delivery.specs.Core.Steps.{CoreStep, Reading}
 use Rattle.delivery.specs.Core.Account.{account_of}

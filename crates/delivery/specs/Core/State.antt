@@ -1,6 +1,6 @@
 -- The core: its topics' names, the machine of topics and transactions, and the steps so far, from which all else of it is
 -- read.
-use Rattle.std.specs.Prelude.{ℕ, ◌==◌, Bool, true, false, not, ◌&&◌, List, [], ◌∷◌, ◌++◌, Option, Some, None, Ok, Err, if◌then◌else◌}
+use Rattle.std.specs.Prelude.{ℕ, ◌==◌, Bool, true, false, not, ◌&&◌, List, [], ◌∷◌, Option, Some, None, Ok, Err, if◌then◌else◌}
 use Rattle.std.specs.Option.{option_to_list, option_map_or}
 use Rattle.stomp_frame.specs.Faults.{fault_of}
 use Rattle.stomp_frame.specs.Reader.{Unread, unread_of, fed, ReadsNext}

@@ -1,6 +1,6 @@
 -- What stands against a move of the machine. Each objection is a refusal that the core reports, but for those of the
 -- machine's own, which no move that the core makes meets.
-use Rattle.std.specs.Prelude.{Bool, true, false, Option, Some, None}
+use Rattle.std.specs.Prelude.{Bool, Option, Some, None}
 use Rattle.std.specs.Option.{is_some}
 use Rattle.delivery.specs.declared.refusal.Refusal.{Refusal}
 use Rattle.delivery.specs.declared.refusal.Refusal.TheVariants as refusal
