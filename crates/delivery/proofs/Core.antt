@@ -5,3 +5,5 @@ pub mod Rows
 pub mod MoreRows
 pub mod OctetsRow
 pub mod DeliveredRow
+pub mod StepRows
+pub mod GreetedRow

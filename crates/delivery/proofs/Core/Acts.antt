@@ -6,9 +6,11 @@ use Rattle.mcast_txn.specs.declared.draft.sent_message.SentMessage.{SentMessage}
 use Rattle.mcast_txn.specs.declared.parts.part_message.PartMessage.{PartMessage}
 use Rattle.mcast_txn.specs.declared.stamp.Stamp.{Stamp}
 use Rattle.mcast_txn.specs.Span.{LogRow}
+use Rattle.mcast_group.specs.declared.cause.Cause.{Cause}
 use Rattle.stomp_frame.specs.declared.command.Command.{Command}
 use Rattle.stomp_frame.specs.declared.command.Command.TheVariants as commands
 use Rattle.stomp_frame.specs.declared.raw_frame.RawFrame.{RawFrame}
+use Rattle.stomp_frame.specs.declared.fault.Check.{Check}
 use Rattle.stomp_frame.specs.Headers.{Header}
 use Rattle.stomp_frame.specs.Reader.{unread_of}
 use Rattle.delivery.specs.declared.event.Event.{Event}
@@ -51,6 +53,10 @@ act e = record { event = e; reading = Reading.Nothing; choice = 0 }
 -- a Next that reads this frame
 abbrev pub reads : ℕ → RawFrame → Act
 reads c f = record { event = Event.Next c; reading = Reading.Finds f (unread_of reader_limits); choice = 0 }
+
+-- a Next that reads this fault
+abbrev pub fails : ℕ → Check → Act
+fails c k = record { event = Event.Next c; reading = Reading.Fails k (unread_of reader_limits); choice = 0 }
 
 -- a Next that reads none
 abbrev pub waits : ℕ → Act
@@ -131,9 +137,9 @@ abbrev pub machine_account : Core × List Answer → List Act → List Answer
 machine_account p [] = heard p.1
 machine_account p (a ∷ acts) = machine_account (machine_after p a) acts
 
--- a subscription as a row shows it: its span, and the stamps of its queued and its handed items
-abbrev pub seen : QueueReport → Topic × Stamp × Option Stamp × List Stamp × List Stamp
-seen q = (q.topic, q.from, q.to, map (λ i. i.stamp) q.queued, map (λ i. i.stamp) q.handed)
+-- a subscription as a row shows it: its span, why that ended, and the stamps of its queued and its delivered items
+abbrev pub seen : QueueReport → Topic × Stamp × Option Stamp × Option Cause × List Stamp × List Stamp
+seen q = (q.topic, q.from, q.to, q.cause, map (λ i. i.stamp) q.queued, map (λ i. i.stamp) q.handed)
 
 -- the headers of a SEND in a transaction
 abbrev pub in_to : List ℕ → List ℕ → List Header

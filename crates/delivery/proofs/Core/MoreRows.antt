@@ -2,6 +2,7 @@
 use Rattle.std.specs.Prelude.{◌≡◌, ℕ, true, false, List, [], ◌∷◌, ◌++◌, map, codes, Some}
 use Rattle.std.specs.Fmt.{digits}
 use Rattle.std.proofs.Common.{refl}
+use Rattle.mcast_group.specs.declared.cause.Cause.TheVariants.{Asked}
 use Rattle.mcast_group.specs.declared.fault.ProposeFault.TheVariants as proposals
 use Rattle.stomp_frame.specs.declared.command.Command.TheVariants as commands
 use Rattle.stomp_frame.specs.Reader.{unread_of}
@@ -68,7 +69,7 @@ left_acts = opens 0 (opens 1 (
     ∷ reads 0 (send A (codes "2")) ∷ propose 0 0 ∷ act (Event.Decide 0)
     ∷ reads 1 (frame commands.Unsubscribe ((codes "id", codes "s") ∷ []) []) ∷ turn 0 ∷ act (Event.Take 0) ∷ []))
 
-left_queues : map seen (report_of (played one left_acts)).subscriptions ≡ (topic 0, stamp 0 0, Some (stamp 1 0), stamp 1 0 ∷ [], stamp 1 0 ∷ []) ∷ []
+left_queues : map seen (report_of (played one left_acts)).subscriptions ≡ (topic 0, stamp 0 0, Some (stamp 1 0), Some Asked, stamp 1 0 ∷ [], stamp 1 0 ∷ []) ∷ []
 left_queues = refl
 
 left_outs : (report_of (played one left_acts)).outs

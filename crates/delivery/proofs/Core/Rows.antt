@@ -3,6 +3,7 @@ use Rattle.std.specs.Prelude.{◌≡◌, ℕ, true, false, List, [], ◌∷◌, 
 use Rattle.std.proofs.Common.{refl}
 use Rattle.std.specs.Fmt.{digits}
 use Rattle.delivery.specs.Machine.Moves.{Answer}
+use Rattle.mcast_group.specs.declared.cause.Cause.TheVariants.{Asked, Lag}
 use Rattle.mcast_group.specs.declared.fault.ProposeFault.TheVariants as proposals
 use Rattle.stomp_frame.specs.declared.command.Command.TheVariants as commands
 use Rattle.stomp_frame.specs.declared.case_fault.CaseFault.TheVariants as cases
@@ -74,7 +75,7 @@ crossing_logs : (report_of crossing).logs
 crossing_logs = refl
 
 crossing_queues : map seen (report_of crossing).subscriptions
-    ≡ (topic 1, stamp 0 0, None, stamp 10 0 ∷ stamp 11 2 ∷ [], stamp 10 0 ∷ stamp 11 2 ∷ []) ∷ []
+    ≡ (topic 1, stamp 0 0, None, None, stamp 10 0 ∷ stamp 11 2 ∷ [], stamp 10 0 ∷ stamp 11 2 ∷ []) ∷ []
 crossing_queues = refl
 
 crossing_outs : (report_of crossing).outs
@@ -114,7 +115,7 @@ ends_agrees = refl
 ends_commits : (report_of ends).commits ≡ log_row 0 1 1 0 (0 ∷ []) ∷ []
 ends_commits = refl
 
-ends_queues : map seen (report_of ends).subscriptions ≡ (topic 0, stamp 0 0, Some (stamp 1 0), stamp 1 0 ∷ [], []) ∷ []
+ends_queues : map seen (report_of ends).subscriptions ≡ (topic 0, stamp 0 0, Some (stamp 1 0), Some Asked, stamp 1 0 ∷ [], []) ∷ []
 ends_queues = refl
 
 ends_outs : (report_of ends).outs ≡ codes "CONNECTED\nversion:1.2\nheart-beat:0,0\n\n\0RECEIPT\nreceipt-id:bye\n\n\0" ∷ []
@@ -146,7 +147,7 @@ lags_outcomes : shown_outcomes lags
 lags_outcomes = refl
 
 lags_queues : map seen (report_of lags).subscriptions
-    ≡ (topic 0, stamp 0 0, Some (stamp 2 0), stamp 1 0 ∷ stamp 2 0 ∷ [], stamp 1 0 ∷ stamp 2 0 ∷ []) ∷ []
+    ≡ (topic 0, stamp 0 0, Some (stamp 2 0), Some Lag, stamp 1 0 ∷ stamp 2 0 ∷ [], stamp 1 0 ∷ stamp 2 0 ∷ []) ∷ []
 lags_queues = refl
 
 lags_logs : map (map (λ row. row.stamp)) (report_of lags).logs ≡ (stamp 1 0 ∷ stamp 2 0 ∷ stamp 3 0 ∷ []) ∷ []

@@ -1,0 +1,169 @@
+-- Worked rows of single rules: whom octets are fed to, faults of a stream, learns and releases, the order of a frame's checks,
+-- and a lag of another connection than that of the same number.
+use Rattle.std.specs.Prelude.{◌≡◌, false, List, [], ◌∷◌, ◌++◌, map, codes, Some}
+use Rattle.std.proofs.Common.{refl}
+use Rattle.std.specs.Fmt.{digits}
+use Rattle.mcast_group.specs.declared.cause.Cause.TheVariants.{Asked, Lag}
+use Rattle.stomp_frame.specs.declared.command.Command.TheVariants as commands
+use Rattle.stomp_frame.specs.declared.case_fault.CaseFault.TheVariants as cases
+use Rattle.stomp_frame.specs.declared.fault.Check.TheVariants as checks
+use Rattle.stomp_session.specs.declared.fault.SessionFault.TheVariants as sessions
+use Rattle.delivery.specs.declared.event.Event.{Event}
+use Rattle.delivery.specs.declared.outcome.Outcome.TheVariants.{Opened, Fed, Done, Subscribed, Unsubscribed, Flying, Proposed, Decided, Learnt, Released, Turned, Handed, Faulted, Leaving, Gone, Refused}
+use Rattle.delivery.specs.declared.refusal.Refusal.{Refusal}
+use Rattle.delivery.specs.declared.connection_fault.ConnectionFault.{ConnectionFault}
+use Rattle.delivery.specs.Core.Steps.{CoreStep, Reading, reader_limits, shows_reading, octets_of, frames_of}
+use Rattle.delivery.specs.Core.Account.{account_of}
+use Rattle.delivery.specs.Machine.Moves.{Answer}
+use Rattle.stomp_frame.specs.Reader.{unread_of}
+use Rattle.delivery.specs.Core.State.{Core}
+use Rattle.delivery.specs.Core.Reports.{report_of}
+use Rattle.delivery.proofs.Core.Agreement.{agreements, all_agree}
+use Rattle.delivery.proofs.Core.Acts.{Act, frame, topic, stamp, id, act, reads, fails, waits, played, shown_outcomes, seen, connect, subscribe, begin, send_in, commit, opens, propose, turn, A, B}
+use Rattle.delivery.proofs.Core.Rows.{one, both, narrow, greeting, sends_one, to_both}
+
+-- ---- octets are fed to the connection that is named, in their order, unless the piece is refused
+
+abbrev pub feeds_acts : List Act
+feeds_acts = act Event.Open ∷ act Event.Open ∷ act (Event.Piece 0 (codes "a")) ∷ act (Event.Piece 1 (codes "b"))
+    ∷ act (Event.Piece 0 (codes "c")) ∷ act (Event.Lost 0) ∷ act (Event.Piece 0 (codes "d")) ∷ []
+
+abbrev pub feeds : Core
+feeds = played one feeds_acts
+
+feeds_octets : octets_of 0 feeds.steps ∷ octets_of 1 feeds.steps ∷ [] ≡ codes "ac" ∷ codes "b" ∷ []
+feeds_octets = refl
+
+feeds_outcomes : shown_outcomes feeds ≡ Opened 0 ∷ Opened 1 ∷ Fed ∷ Fed ∷ Fed ∷ Leaving ∷ Refused Refusal.Busy ∷ []
+feeds_outcomes = refl
+
+feeds_agrees : agreements one feeds_acts ≡ all_agree
+feeds_agrees = refl
+
+-- ---- frames are read of the connection that is named
+
+abbrev pub reading_acts : List Act
+reading_acts = act Event.Open ∷ act Event.Open ∷ reads 1 connect ∷ reads 0 connect ∷ reads 1 (begin (codes "x")) ∷ []
+
+reading_frames : frames_of 0 (played one reading_acts).steps ∷ frames_of 1 (played one reading_acts).steps ∷ []
+    ≡ (connect ∷ []) ∷ (connect ∷ begin (codes "x") ∷ []) ∷ []
+reading_frames = refl
+
+-- ---- a fault of the stream: its ERROR has no receipt-id
+
+abbrev pub broken_acts : List Act
+broken_acts = opens 0 (fails 0 checks.BadCommand ∷ waits 0 ∷ act (Event.Leave 0) ∷ [])
+
+broken_outcomes : shown_outcomes (played one broken_acts)
+    ≡ Opened 0 ∷ Done ∷ Faulted (ConnectionFault.Stream checks.BadCommand) false ∷ Refused Refusal.Busy ∷ Gone false ∷ []
+broken_outcomes = refl
+
+broken_outs : (report_of (played one broken_acts)).outs ≡ (greeting ++ codes "ERROR\nmessage:1 BadCommand\ncontent-length:0\n\n\0") ∷ []
+broken_outs = refl
+
+broken_agrees : agreements one broken_acts ≡ all_agree
+broken_agrees = refl
+
+-- the same where the reader finds no memory
+dry_agrees : agreements one (opens 0 (act (Event.Next 0) ∷ [])) ≡ all_agree
+dry_agrees = refl
+
+-- ---- the case table comes before the session, and the session before the topic
+
+abbrev pub early_ack : List Act
+early_ack = act Event.Open ∷ reads 0 (frame commands.Ack [] []) ∷ act Event.Open ∷ reads 1 (subscribe (codes "s") (codes "Z")) ∷ []
+
+early_ack_outcomes : shown_outcomes (played one early_ack)
+    ≡ Opened 0 ∷ Faulted (ConnectionFault.Frame cases.Unsupported) false ∷ Opened 1
+    ∷ Faulted (ConnectionFault.Session sessions.NotConnected) false ∷ []
+early_ack_outcomes = refl
+
+-- ---- two senders at two topics: the one that is decided waits for the other; learns and releases by themselves
+
+abbrev pub waiting_acts : List Act
+waiting_acts = opens 0 (opens 1 (reads 0 (subscribe (codes "s") A) ∷ to_both 0 (to_both 1 (
+    propose 0 0 ∷ propose 1 1 ∷ propose 1 0 ∷ propose 0 1 ∷ act (Event.Decide 1) ∷ turn 0
+    ∷ act (Event.Learn (topic 0) (id 1 1)) ∷ act (Event.Release (topic 0)) ∷ act (Event.Learn (topic 0) (id 0 1))
+    ∷ act (Event.Decide 0) ∷ act (Event.Learn (topic 0) (id 0 1)) ∷ act (Event.Release (topic 0)) ∷ act (Event.Release (topic 0))
+    ∷ act (Event.Release (topic 0)) ∷ turn 1 ∷ act (Event.Take 0) ∷ []))))
+
+abbrev pub waiting : Core
+waiting = played both waiting_acts
+
+waiting_outcomes : shown_outcomes waiting
+    ≡ Opened 0 ∷ Done ∷ Opened 1 ∷ Done ∷ Subscribed 0 (stamp 0 0) ∷ Done ∷ Done ∷ Done ∷ Flying (id 0 1) ∷ Done ∷ Done ∷ Done ∷ Flying (id 1 1)
+    ∷ Proposed 1 ∷ Proposed 1 ∷ Proposed 2 ∷ Proposed 2 ∷ Decided (stamp 2 0) false ∷ Turned 0
+    ∷ Learnt ∷ Refused Refusal.NothingDue ∷ Refused Refusal.NotDecided
+    ∷ Decided (stamp 2 1) false ∷ Learnt ∷ Released (id 1 1) ∷ Released (id 0 1)
+    ∷ Refused Refusal.NothingDue ∷ Turned 2 ∷ Handed 1 ∷ []
+waiting_outcomes = refl
+
+waiting_logs : map (map (λ row. row.stamp)) (report_of waiting).logs ≡ (stamp 2 0 ∷ stamp 2 1 ∷ []) ∷ (stamp 2 0 ∷ stamp 2 1 ∷ []) ∷ []
+waiting_logs = refl
+
+waiting_agrees : agreements both waiting_acts ≡ all_agree
+waiting_agrees = refl
+
+-- ---- whole parts: two SENDs to one topic are one item and two MESSAGEs, each with its index in the transaction
+
+abbrev pub whole_acts : List Act
+whole_acts = opens 0 (reads 0 (subscribe (codes "s") A) ∷ reads 0 (begin (codes "x")) ∷ reads 0 (send_in (codes "x") A (codes "1"))
+    ∷ reads 0 (send_in (codes "x") B (codes "2")) ∷ reads 0 (send_in (codes "x") A (codes "3")) ∷ reads 0 (commit (codes "x"))
+    ∷ propose 0 0 ∷ propose 0 0 ∷ act (Event.Decide 0) ∷ propose 0 1 ∷ act (Event.Decide 0) ∷ turn 0 ∷ act (Event.Take 0) ∷ [])
+
+whole_outcomes : shown_outcomes (played both whole_acts)
+    ≡ Opened 0 ∷ Done ∷ Subscribed 0 (stamp 0 0) ∷ Done ∷ Done ∷ Done ∷ Done ∷ Flying (id 0 1)
+    ∷ Proposed 1 ∷ Refused Refusal.Twice ∷ Refused Refusal.Incomplete ∷ Proposed 1 ∷ Decided (stamp 1 1) false ∷ Turned 1 ∷ Handed 2 ∷ []
+whole_outcomes = refl
+
+whole_outs : (report_of (played both whole_acts)).outs
+    ≡ (greeting
+    ++ codes "MESSAGE\nsubscription:s\nmessage-id:1.1.0\ndestination:A\ncontent-length:1\n\n1\0MESSAGE\nsubscription:s\nmessage-id:1.1.2\ndestination:A\ncontent-length:1\n\n3\0") ∷ []
+unfolding digits
+whole_outs = refl
+
+-- ---- connection 1 subscribes late and lags, by its subscription 1; connection 0 sends, and its own subscription is closed
+
+abbrev pub late_acts : List Act
+late_acts = opens 0 (opens 1 (reads 0 (subscribe (codes "s") A) ∷ sends_one 0 (codes "1") (reads 1 (subscribe (codes "t") A)
+    ∷ reads 0 (frame commands.Unsubscribe ((codes "id", codes "s") ∷ []) []) ∷ sends_one 0 (codes "2") (sends_one 0 (codes "3") (sends_one 0 (codes "4") (
+    act (Event.Take 1) ∷ act (Event.Take 1) ∷ act (Event.Take 1) ∷ act (Event.Leave 1) ∷ waits 0 ∷ []))))))
+
+abbrev pub late : Core
+late = played narrow late_acts
+
+late_queues : map seen (report_of late).subscriptions
+    ≡ (topic 0, stamp 0 0, Some (stamp 1 0), Some Asked, stamp 1 0 ∷ [], [])
+    ∷ (topic 0, stamp 1 0, Some (stamp 3 0), Some Lag, stamp 2 0 ∷ stamp 3 0 ∷ [], stamp 2 0 ∷ stamp 3 0 ∷ []) ∷ []
+late_queues = refl
+
+late_outs : (report_of late).outs
+    ≡ greeting
+    ∷ (greeting
+    ++ codes "MESSAGE\nsubscription:t\nmessage-id:2.0.0\ndestination:A\ncontent-length:1\n\n2\0MESSAGE\nsubscription:t\nmessage-id:3.0.0\ndestination:A\ncontent-length:1\n\n3\0ERROR\nmessage:74 Lagged\ncontent-length:0\n\n\0")
+    ∷ []
+unfolding digits
+late_outs = refl
+
+late_agrees : agreements narrow late_acts ≡ all_agree
+late_agrees = refl
+
+-- ---- an UNSUBSCRIBE ends the subscription that its id names, whatever number a wrong outcome says
+
+abbrev pub two_subscribed : Core
+two_subscribed = played one (opens 0 (reads 0 (subscribe (codes "s") A) ∷ reads 0 (subscribe (codes "t") A) ∷ []))
+
+abbrev pub wrong_end : CoreStep
+wrong_end = record {
+  event = Event.Next 0;
+  reading = Reading.Finds (frame commands.Unsubscribe ((codes "id", codes "s") ∷ []) []) (unread_of reader_limits);
+  outcome = Unsubscribed 1 (stamp 0 0);
+}
+
+wrong_end_account : account_of two_subscribed.names (wrong_end ∷ two_subscribed.steps)
+    ≡ Answer.Unsubscribed 0 (stamp 0 0) ∷ Answer.Subscribed 1 0 (topic 0) (stamp 0 0) ∷ Answer.Subscribed 0 0 (topic 0) (stamp 0 0) ∷ Answer.Opened 0 ∷ []
+wrong_end_account = refl
+
+-- nothing but a Next shows that it read a frame, and a Next of a refused frame does
+shown_alone : shows_reading (record { event = Event.Lost 0; reading = wrong_end.reading; outcome = Leaving }) ≡ false
+shown_alone = refl
