@@ -4,22 +4,23 @@ use Rattle.std.specs.Prelude.{◌≡◌, false, List, [], ◌∷◌, ◌++◌, m
 use Rattle.std.proofs.Common.{refl}
 use Rattle.std.specs.Fmt.{digits}
 use Rattle.mcast_group.specs.declared.cause.Cause.TheVariants.{Asked, Lag}
+use Rattle.mcast_group.specs.declared.fault.ProposeFault.TheVariants as proposals
 use Rattle.stomp_frame.specs.declared.command.Command.TheVariants as commands
 use Rattle.stomp_frame.specs.declared.case_fault.CaseFault.TheVariants as cases
 use Rattle.stomp_frame.specs.declared.fault.Check.TheVariants as checks
 use Rattle.stomp_session.specs.declared.fault.SessionFault.TheVariants as sessions
 use Rattle.delivery.specs.declared.event.Event.{Event}
-use Rattle.delivery.specs.declared.outcome.Outcome.TheVariants.{Opened, Fed, Done, Subscribed, Unsubscribed, Flying, Proposed, Decided, Learnt, Released, Turned, Handed, Faulted, Leaving, Gone, Refused}
+use Rattle.delivery.specs.declared.outcome.Outcome.TheVariants.{Opened, Failed, Withdrawn, Fed, Done, Subscribed, Unsubscribed, Flying, Proposed, Decided, Learnt, Released, Turned, Handed, Faulted, Leaving, Gone, Refused}
 use Rattle.delivery.specs.declared.refusal.Refusal.{Refusal}
 use Rattle.delivery.specs.declared.connection_fault.ConnectionFault.{ConnectionFault}
 use Rattle.delivery.specs.Core.Steps.{CoreStep, Reading, reader_limits, shows_reading, octets_of, frames_of}
 use Rattle.delivery.specs.Core.Account.{account_of}
 use Rattle.delivery.specs.Machine.Moves.{Answer}
 use Rattle.stomp_frame.specs.Reader.{unread_of}
-use Rattle.delivery.specs.Core.State.{Core}
+use Rattle.delivery.specs.Core.State.{Core, new_core, unread_at}
 use Rattle.delivery.specs.Core.Reports.{report_of}
 use Rattle.delivery.proofs.Core.Agreement.{agreements, all_agree}
-use Rattle.delivery.proofs.Core.Acts.{Act, frame, topic, stamp, id, act, reads, fails, waits, played, shown_outcomes, seen, connect, subscribe, begin, send_in, commit, opens, propose, turn, A, B}
+use Rattle.delivery.proofs.Core.Acts.{send, Act, topic_list, without, frame, topic, stamp, id, act, reads, fails, waits, played, shown_outcomes, seen, connect, subscribe, begin, send_in, commit, opens, propose, turn, A, B}
 use Rattle.delivery.proofs.Core.Rows.{one, both, narrow, greeting, sends_one, to_both}
 
 -- ---- octets are fed to the connection that is named, in their order, unless the piece is refused
@@ -39,6 +40,16 @@ feeds_outcomes = refl
 
 feeds_agrees : agreements one feeds_acts ≡ all_agree
 feeds_agrees = refl
+
+-- what their readers stand for then, also after a frame of another connection was read
+feeds_unread : (unread_at 0 feeds.steps).text ∷ (unread_at 1 feeds.steps).text ∷ [] ≡ codes "ac" ∷ codes "b" ∷ []
+feeds_unread = refl
+
+abbrev pub unread_acts : List Act
+unread_acts = act Event.Open ∷ act Event.Open ∷ act (Event.Piece 1 (codes "b")) ∷ reads 0 connect ∷ []
+
+unread_stays : (unread_at 1 (played one unread_acts).steps).text ≡ codes "b"
+unread_stays = refl
 
 -- ---- frames are read of the connection that is named
 
@@ -167,3 +178,43 @@ wrong_end_account = refl
 -- nothing but a Next shows that it read a frame, and a Next of a refused frame does
 shown_alone : shows_reading (record { event = Event.Lost 0; reading = wrong_end.reading; outcome = Leaving }) ≡ false
 shown_alone = refl
+
+-- a Next doesn't show that it read a frame where its outcome is a lag's ERROR, which no frame has
+shown_lag : shows_reading (record { event = Event.Next 0; reading = wrong_end.reading; outcome = Faulted ConnectionFault.Lagged false }) ≡ false
+shown_lag = refl
+
+-- ---- two subscriptions of one connection, to two topics: each MESSAGE has its own subscription's id and its own topic's part
+
+abbrev pub pair_acts : List Act
+pair_acts = opens 0 (reads 0 (subscribe (codes "s") A) ∷ reads 0 (subscribe (codes "t") B) ∷ to_both 0 (
+    propose 0 0 ∷ propose 0 1 ∷ act (Event.Decide 0) ∷ turn 1 ∷ turn 0 ∷ act (Event.Take 1) ∷ act (Event.Take 0) ∷ act (Event.Take 2) ∷ []))
+
+pair_outs : (report_of (played both pair_acts)).outs
+    ≡ (greeting
+    ++ codes "RECEIPT\nreceipt-id:q\n\n\0MESSAGE\nsubscription:t\nmessage-id:1.1.1\ndestination:B\ncontent-length:1\n\nb\0MESSAGE\nsubscription:s\nmessage-id:1.1.0\ndestination:A\ncontent-length:1\n\na\0") ∷ []
+unfolding digits
+pair_outs = refl
+
+pair_agrees : agreements both pair_acts ≡ all_agree
+pair_agrees = refl
+
+-- ---- two transactions that are refused, for two reasons: each ERROR has its own
+
+abbrev pub marks_start : Core
+marks_start = new_core (topic_list ((A, 18446744073709551615) ∷ (B, 0) ∷ [])) 64
+
+abbrev pub marks_acts : List Act
+marks_acts = opens 0 (opens 1 (reads 0 (send A (codes "m")) ∷ reads 1 (send B (codes "n")) ∷ propose 0 0 ∷ without 1 (propose 1 1)
+    ∷ act (Event.Withdraw 0) ∷ act (Event.Withdraw 1) ∷ act (Event.Leave 0) ∷ act (Event.Leave 1) ∷ []))
+
+marks_outcomes : shown_outcomes (played marks_start marks_acts)
+    ≡ Opened 0 ∷ Done ∷ Opened 1 ∷ Done ∷ Flying (id 0 1) ∷ Flying (id 1 1) ∷ Failed proposals.ClockFull ∷ Failed proposals.NoMemory
+    ∷ Withdrawn false ∷ Withdrawn false ∷ Gone false ∷ Gone false ∷ []
+marks_outcomes = refl
+
+marks_outs : (report_of (played marks_start marks_acts)).outs
+    ≡ (greeting ++ codes "ERROR\nmessage:40 ClockFull\ncontent-length:0\n\n\0") ∷ (greeting ++ codes "ERROR\nmessage:42 NoMemory\ncontent-length:0\n\n\0") ∷ []
+marks_outs = refl
+
+marks_agrees : agreements marks_start marks_acts ≡ all_agree
+marks_agrees = refl

@@ -1,5 +1,6 @@
--- The account that a run's steps give of transactions, topics and subscriptions, in the words of the machine's answers. It
--- takes nothing from the machine: what a transaction has and which item is next is worked out from frames and outcomes.
+-- The account that a run's steps give of transactions, topics and subscriptions, in the words of the
+-- machine's answers. It takes nothing from the machine: what a transaction has and which item is next is
+-- worked out from frames and outcomes.
 use Rattle.std.specs.Prelude.{ℕ, ◌==◌, ◌+◌, true, false, List, [], ◌∷◌, ◌++◌, length, take, slice_get, Option, Some, None, if◌then◌else◌}
 use Rattle.std.specs.Option.{unwrap_or}
 use Rattle.stomp_frame.specs.declared.raw_frame.RawFrame.{RawFrame}
@@ -38,12 +39,13 @@ abbrev pub committed_by : Action → List SentMessage
 committed_by (actions.Commit sends) = sends
 committed_by action = []
 
--- the SENDs that a frame commits, after these accepted ones: a COMMIT those of its transaction, a SEND alone itself
+-- the SENDs that a frame commits, after these accepted ones: a COMMIT those of its transaction, a SEND alone
+-- itself
 abbrev pub sends_at : List (List ℕ) → List RawFrame → RawFrame → List SentMessage
 sends_at names accepted f = committed_by (action_by f.command (held_after names accepted) f)
 
--- A topic's log: as many rows as were released, the first of the agreed sequence that name it. So where (1, 0) and (2, 0)
--- name topic 0 and one part was released there, it is the row of (1, 0).
+-- A topic's log: as many rows as were released, the first of the agreed sequence that name it. So where (1,
+-- 0) and (2, 0) name topic 0 and one part was released there, it is the row of (1, 0).
 abbrev pub released_log : Topic → List Answer → List LogRow
 released_log t account = take (released_at t account) (agreed_rows t (commits_of account))
 
@@ -80,8 +82,8 @@ abbrev pub no_item : Item
 no_item =
     record { id = record { sender = record { 0 = 0 }; seq = 0 }; stamp = zero_stamp; sends = [] }
 
--- The next item that is delivered to the subscription: of those that are due, the first that wasn't. So where three are
--- due and one was delivered, it is the second.
+-- The next item that is delivered to the subscription: of those that are due, the first that wasn't. So where
+-- three are due and one was delivered, it is the second.
 abbrev pub next_item : ℕ → List Answer → Item
 next_item s account =
     unwrap_or (slice_get (due_to s account) (length (delivered_items s account))) no_item
@@ -162,8 +164,8 @@ account_of_step names older account (Event.Cancel c t) reading o =
     account_of_other (Event.Cancel c t) (last_id c account) o
 account_of_step names older account e reading o = account_of_other e (last_id 0 account) o
 
--- The account of a run over topics of these names, the newest answer first. Refused events and those without memory add
--- nothing to it, nor does a frame that only its session needs.
+-- The account of a run over topics of these names, the newest answer first. Refused events and those without
+-- memory add nothing to it, nor does a frame that only its session needs.
 abbrev pub account_of : List (List ℕ) → List CoreStep → List Answer
 account_of names [] = []
 account_of names (step ∷ older) =

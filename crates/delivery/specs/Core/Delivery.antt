@@ -1,5 +1,5 @@
--- What the core is to deliver: the statement that the contracts of its calls are to name, over the kept run and the report
--- alone. No contract names it yet. It mentions no clock, no floor and no pending part.
+-- What the core is to deliver: the statement that the contracts of its calls are to name, over the kept run
+-- and the report alone. No contract names it yet. It mentions no clock, no floor and no pending part.
 use Rattle.std.specs.Prelude.{◌≡◌, ℕ, ◌+◌, ◌<◌, true, List, [], ◌∷◌, ◌++◌, map, length, reverse, Option, Some, None}
 use Rattle.std.specs.Option.{is_some}
 use Rattle.mcast_txn.specs.declared.id.Topic.{Topic}
@@ -98,9 +98,9 @@ abbrev pub opened_in : List CoreStep → ℕ
 opened_in [] = 0
 opened_in (step ∷ older) = opened_in older + opened_by step.outcome
 
--- The delivery of a kept run, the oldest event first, over these topics, and its report: there are steps, each a kept event
--- with what it read, such that what was read are the first frames of each connection's octets, what they say is
--- delivered, and each connection's octets out are what they say.
+-- The delivery of a kept run, the oldest event first, over these topics, and its report: there are steps,
+-- each a kept event with what it read, such that what was read are the first frames of each connection's
+-- octets, what they say is delivered, and each connection's octets out are what they say.
 pub record Delivery (topics : TopicList) (kept : List Kept) (r : Report) : Type 0 where
   pub steps : List CoreStep
   pub are_kept : kept ≡ reverse (map kept_of steps)

@@ -1,4 +1,5 @@
--- What may come of an event: the outcome of its table, with the checks in their order, or one for want of memory.
+-- What may come of an event: the outcome of its table, with the checks in their order, or one for want of
+-- memory.
 use Rattle.std.specs.Prelude.{◌≡◌, ℕ, Bool, true, false, List, [], ◌∷◌, ◌++◌, length, Option, Some, None, if◌then◌else◌}
 use Rattle.std.specs.Option.{option_map, option_or, option_map_or, option_and_then, option_to_list}
 use Rattle.stomp_frame.specs.declared.raw_frame.RawFrame.{RawFrame}
@@ -22,8 +23,8 @@ use Rattle.delivery.specs.Core.State.{Core, IsReadBy, unread_at, held_at, frame_
 
 -- ---- the machine's answers, as the core reports them
 
--- An outcome of the machine's answer. None of an objection that the core doesn't report. An ERROR of the machine's own is
--- that of a queue that has lagged.
+-- An outcome of the machine's answer. None of an objection that the core doesn't report. An ERROR of the
+-- machine's own is that of a queue that has lagged.
 abbrev pub outcome_of : Answer → Option Outcome
 outcome_of (Answer.Refused why) = option_map Outcome.Refused (refusal_of why)
 outcome_of Answer.Done = Some Outcome.Done
@@ -59,8 +60,8 @@ unless why outcomes =
 abbrev pub frame_no_memory : ConnectionFault
 frame_no_memory = ConnectionFault.Session SessionFault.NoMemory
 
--- Why the frame ends its connection, if it does: by the case table; by the session; by its topic or its sender, reported as
--- want of memory. In this order.
+-- Why the frame ends its connection, if it does: by the case table; by the session; by its topic or its
+-- sender, reported as want of memory. In this order.
 abbrev pub frame_fault : Core → ℕ → RawFrame → Option ConnectionFault
 frame_fault k c f =
     option_or (option_map ConnectionFault.Frame (case_fault f))
@@ -113,8 +114,8 @@ abbrev pub reply_outcomes : Core → ℕ → Event → List Outcome → List Out
 reply_outcomes k c e [] = []
 reply_outcomes k c e (o ∷ os) = with_cut k c e o
 
--- What may come of an event: first what does with memory, then what does without. So of a Take of a subscription whose
--- queue has an item: `Handed` or NoMemory; of a Turn: `Turned` alone.
+-- What may come of an event: first what does with memory, then what does without. So of a Take of a
+-- subscription whose queue has an item: `Handed` or NoMemory; of a Turn: `Turned` alone.
 abbrev pub outcomes : Core → Event → Reading → List Outcome
 outcomes k Event.Open reading = move_outcome k Move.Opens ++ Outcome.NoMemory ∷ []
 outcomes k (Event.Piece c octets) reading =

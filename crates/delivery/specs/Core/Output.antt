@@ -34,7 +34,8 @@ receipts_of f = option_map_or (λ id. receipt_frame id ∷ []) (receipt_of f) []
 abbrev pub receipt_asked : Option RawFrame → Option (List ℕ)
 receipt_asked f = option_and_then receipt_of f
 
--- the frame that made the connection's last transaction: the last accepted one, since none is read before it ends
+-- the frame that made the connection's last transaction: the last accepted one, since none is read before it
+-- ends
 abbrev pub commit_frame : List RawFrame → Option RawFrame
 commit_frame accepted = last_or None accepted
 
@@ -43,8 +44,8 @@ abbrev pub says_version : ConnectionFault → Bool
 says_version (ConnectionFault.Session SessionFault.NoVersion) = true
 says_version fault = false
 
--- What a Next is answered. The RECEIPT of a frame that makes a transaction is written at Decide, that of a DISCONNECT as
--- its connection is gone.
+-- What a Next is answered. The RECEIPT of a frame that makes a transaction is written at Decide, that of a
+-- DISCONNECT as its connection is gone.
 abbrev pub next_replies : Option RawFrame → Outcome → List RawFrame
 next_replies read (Outcome.Faulted fault cut) =
     error_frame (connection_title fault) (receipt_asked read) (says_version fault) ∷ []
@@ -90,8 +91,8 @@ is_cut (Outcome.Faulted fault cut) = cut
 is_cut (Outcome.Gone cut) = cut
 is_cut o = false
 
--- What a step writes to connection c. A RECEIPT of a decided transaction and the ERROR of a withdrawn one are written where
--- the connection wasn't closed before.
+-- What a step writes to connection c. A RECEIPT of a decided transaction and the ERROR of a withdrawn one are
+-- written where the connection wasn't closed before.
 abbrev pub replies_to : ℕ → List CoreStep → List Answer → Event → Reading → Outcome → List RawFrame
 replies_to c older account (Event.Next d) reading o =
     if d == c then next_replies (frame_in reading) o else []

@@ -22,8 +22,8 @@ pub record QueueReport : Type 0 where
   pub queued : List Item
   pub handed : List Item
 
--- the commits in the order of Decide, each topic's log, the subscriptions and the octets out of each connection, each by
--- its number
+-- the commits in the order of Decide, each topic's log, the subscriptions and the octets out of each
+-- connection, each by its number
 pub record Report : Type 0 where
   pub commits : List LogRow
   pub logs : List (List LogRow)

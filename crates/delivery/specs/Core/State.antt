@@ -1,5 +1,5 @@
--- The core: its topics' names, the machine of topics and transactions, and the steps so far, from which all else of it is
--- read.
+-- The core: its topics' names, the machine of topics and transactions, and the steps so far, from which all
+-- else of it is read.
 use Rattle.std.specs.Prelude.{ℕ, ◌==◌, Bool, true, false, not, ◌&&◌, List, [], ◌∷◌, Option, Some, None, Ok, Err, if◌then◌else◌}
 use Rattle.std.specs.Option.{option_to_list, option_map_or}
 use Rattle.stomp_frame.specs.Faults.{fault_of}
@@ -69,7 +69,8 @@ held_at k c = held_after k.names (accepted_of c k.steps)
 
 -- ---- which moves of the machine an event is
 
--- what an accepted frame asks of the machine, if it does: an UNSUBSCRIBE the end of the subscription that its id names
+-- what an accepted frame asks of the machine, if it does: an UNSUBSCRIBE the end of the subscription that its
+-- id names
 abbrev pub frame_move : Core → ℕ → Action → Option Move
 frame_move k c actions.Connected = None
 frame_move k c actions.Nothing = None
@@ -103,8 +104,8 @@ next_moves k c reading o =
     (frame_in reading) []
     else [])
 
--- The moves of the machine that an event of the core is, with what was read and what came of it. A Decide whose RECEIPT
--- was left out is also the loss of its connection.
+-- The moves of the machine that an event of the core is, with what was read and what came of it. A Decide
+-- whose RECEIPT was left out is also the loss of its connection.
 abbrev pub moves : Core → Event → Reading → Outcome → List Move
 moves k Event.Open reading o = if is_no_memory o then [] else Move.Opens ∷ []
 moves k (Event.Piece c octets) reading o = []

@@ -1,5 +1,5 @@
--- A run of the core, as its reader takes it: its steps, and of each connection the octets that it was fed and the frames
--- that were read and accepted. Worked examples: proofs/Core.
+-- A run of the core, as its reader takes it: its steps, and of each connection the octets that it was fed and
+-- the frames that were read and accepted. Worked examples: proofs/Core.
 use Rattle.std.specs.Prelude.{◌≡◌, ℕ, ◌==◌, Bool, true, false, not, List, [], ◌∷◌, ◌++◌, Option, Some, None, if◌then◌else◌}
 use Rattle.std.specs.Prelude.{◌&&◌}
 use Rattle.std.specs.List.{list_all}
@@ -16,8 +16,8 @@ use Rattle.delivery.specs.declared.outcome.Outcome.{Outcome}
 use Rattle.delivery.specs.declared.kept.Kept.{Kept}
 use Rattle.delivery.specs.declared.connection_fault.ConnectionFault.{ConnectionFault}
 
--- what a Next read, and what its reader stands for then: a frame is due, a frame, or the stream's fault; nothing, where no
--- frame was asked for or there was no memory
+-- what a Next read, and what its reader stands for then: a frame is due, a frame, or the stream's fault;
+-- nothing, where no frame was asked for or there was no memory
 pub data Reading : Type 0 where
   Nothing : Reading
   Waits : (left : Unread) → Reading
@@ -65,7 +65,8 @@ abbrev pub piece_to : ℕ → Event → List ℕ
 piece_to c (Event.Piece d octets) = if d == c then octets else []
 piece_to c e = []
 
--- the octets that connection c was fed: where pieces `AB` and `C` of it were fed and one was refused between, `ABC`
+-- the octets that connection c was fed: where pieces `AB` and `C` of it were fed and one was refused between,
+-- `ABC`
 abbrev pub octets_of : ℕ → List CoreStep → List ℕ
 octets_of c [] = []
 octets_of c (step ∷ older) =
@@ -96,8 +97,9 @@ abbrev pub begun_by : Outcome → Option ℕ
 begun_by (Outcome.Subscribed s from) = Some s
 begun_by o = None
 
--- The subscription that an id of connection c names: that of the last accepted SUBSCRIBE with this id. So after
--- SUBSCRIBEs of `s` and `t`, numbers 0 and 1, an UNSUBSCRIBE of `s` and a SUBSCRIBE of `s`, number 2, `s` names 2.
+-- The subscription that an id of connection c names: that of the last accepted SUBSCRIBE with this id. So
+-- after SUBSCRIBEs of `s` and `t`, numbers 0 and 1, an UNSUBSCRIBE of `s` and a SUBSCRIBE of `s`, number 2,
+-- `s` names 2.
 abbrev pub number_by : ℕ → List ℕ → List CoreStep → ℕ
 number_by c id [] = 0
 number_by c id (step ∷ older) =

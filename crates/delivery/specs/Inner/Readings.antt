@@ -1,5 +1,5 @@
--- Only serves proofs: what each Next of a kept run read, as a function of the run. No contract needs to speak of it, since
--- the delivery says by the grammar which frames were read.
+-- Only serves proofs: what each Next of a kept run read, as a function of the run. No contract needs to speak
+-- of it, since the delivery says by the grammar which frames were read.
 use Rattle.std.specs.Prelude.{Bool, true, false, ℕ, List, [], ◌∷◌, Some, Result, Ok, Err, if◌then◌else◌}
 use Rattle.stomp_frame.specs.declared.raw_frame.RawFrame.{RawFrame}
 use Rattle.stomp_frame.specs.Reader.{Unread}

@@ -1,5 +1,5 @@
--- What stands against a move of the machine. Each objection is a refusal that the core reports, but for those of the
--- machine's own, which no move that the core makes meets.
+-- What stands against a move of the machine. Each objection is a refusal that the core reports, but for those
+-- of the machine's own, which no move that the core makes meets.
 use Rattle.std.specs.Prelude.{Bool, Option, Some, None}
 use Rattle.std.specs.Option.{is_some}
 use Rattle.delivery.specs.declared.refusal.Refusal.{Refusal}
@@ -7,8 +7,8 @@ use Rattle.delivery.specs.declared.refusal.Refusal.TheVariants as refusal
 
 -- why a move has no effect
 pub data Objection : Type 0 where
-  -- the topic's: no part of the transaction is pending; the verdict isn't the part's; another stamp was learnt; the part
-  -- that is to be cancelled has learnt its stamp
+  -- the topic's: no part of the transaction is pending; the verdict isn't the part's; another stamp was
+  -- learnt; the part that is to be cancelled has learnt its stamp
   NotPending : Objection
   Foreign : Objection
   Clash : Objection
@@ -20,7 +20,8 @@ pub data Objection : Type 0 where
   Incomplete : Objection
   -- the sender has no sequence numbers left
   SeqFull : Objection
-  -- the connection: it is open; it isn't there; it is leaving, or its transaction is in flight; that isn't in flight
+  -- the connection: it is open; it isn't there; it is leaving, or its transaction is in flight; that isn't in
+  -- flight
   NotLeaving : Objection
   NoConn : Objection
   Busy : Objection
@@ -35,7 +36,8 @@ pub data Objection : Type 0 where
   Marked : Objection
   NotMarked : Objection
 
--- The refusal that the core reports; none where the objection is the machine's own. So `Gone` is 87, and `Clash` none.
+-- The refusal that the core reports; none where the objection is the machine's own. So `Gone` is 87, and
+-- `Clash` none.
 abbrev pub refusal_of : Objection → Option Refusal
 refusal_of Objection.NotPending = Some refusal.NotPending
 refusal_of Objection.Foreign = None

@@ -222,8 +222,8 @@ is_odd why = false
 abbrev pub OddNeverComes : Type 0
 OddNeverComes = (r : Run) (why : Objection) → In (Refused why) (answers_of r) → is_odd why ≡ false
 
--- The core reports what refuses a move. The one exception is a frame that would make a transaction whose sender has no
--- sequence number left: the core answers that frame by an ERROR, and makes no move of it.
+-- The core reports what refuses a move. The one exception is a frame that would make a transaction whose
+-- sender has no sequence number left: the core answers that frame by an ERROR, and makes no move of it.
 abbrev pub RefusalsAreReported : Type 0
 RefusalsAreReported =
     (r : Run) (e : Move) (why : Objection) → answer_to (final_world r) e ≡ Refused why
