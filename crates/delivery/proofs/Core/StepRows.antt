@@ -1,6 +1,6 @@
 -- Worked rows of single rules: whom octets are fed to, faults of a stream, learns and releases, the order of a frame's checks,
 -- and a lag of another connection than that of the same number.
-use Rattle.std.specs.Prelude.{◌≡◌, false, List, [], ◌∷◌, ◌++◌, map, codes, Some}
+use Rattle.std.specs.Prelude.{◌≡◌, false, true, List, [], ◌∷◌, ◌++◌, map, codes, Some, None}
 use Rattle.std.proofs.Common.{refl}
 use Rattle.std.specs.Fmt.{digits}
 use Rattle.mcast_group.specs.declared.cause.Cause.TheVariants.{Asked, Lag}
@@ -16,7 +16,9 @@ use Rattle.delivery.specs.declared.connection_fault.ConnectionFault.{ConnectionF
 use Rattle.delivery.specs.Core.Steps.{CoreStep, Reading, reader_limits, shows_reading, octets_of, frames_of}
 use Rattle.delivery.specs.Core.Account.{account_of}
 use Rattle.delivery.specs.Machine.Moves.{Answer}
-use Rattle.stomp_frame.specs.Reader.{unread_of}
+use Rattle.stomp_frame.specs.Reader.{Unread, unread_of}
+use Rattle.delivery.specs.Machine.World.{new_sender}
+use Rattle.delivery.specs.Core.Outcomes.{outcomes}
 use Rattle.delivery.specs.Core.State.{Core, new_core, unread_at}
 use Rattle.delivery.specs.Core.Reports.{report_of}
 use Rattle.delivery.proofs.Core.Agreement.{agreements, all_agree}
@@ -218,3 +220,34 @@ marks_outs = refl
 
 marks_agrees : agreements marks_start marks_acts ≡ all_agree
 marks_agrees = refl
+
+-- ---- a reader stands for what it left, also where a frame is due or the stream is at fault
+
+abbrev pub half : Unread
+half = record { limits = reader_limits; text = codes "SE"; answered = None }
+
+abbrev pub at_fault : Unread
+at_fault = record { limits = reader_limits; text = codes "HI"; answered = Some checks.BadCommand }
+
+abbrev pub after_reading : Reading → CoreStep
+after_reading reading = record { event = Event.Next 0; reading = reading; outcome = Refused Refusal.NoFrame }
+
+half_is_left : (unread_at 0 (after_reading (Reading.Waits half) ∷ [])).text ≡ codes "SE"
+half_is_left = refl
+
+fault_is_left : (unread_at 0 (after_reading (Reading.Fails checks.BadCommand at_fault) ∷ [])).answered ≡ Some checks.BadCommand
+fault_is_left = refl
+
+-- ---- a sender that has no sequence number left: its SEND is answered as without memory, whatever memory there is
+
+abbrev pub connected : Core
+connected = played one (opens 0 [])
+
+abbrev pub spent : Core
+spent = record connected {
+  world = record connected.world { senders = record new_sender { seq = 18446744073709551615 } ∷ [] };
+}
+
+spent_outcomes : outcomes spent (Event.Next 0) (Reading.Finds (send A (codes "m")) (unread_of reader_limits))
+    ≡ Faulted (ConnectionFault.Session sessions.NoMemory) false ∷ Faulted (ConnectionFault.Session sessions.NoMemory) true ∷ []
+spent_outcomes = refl
