@@ -15,7 +15,7 @@ use Rattle.delivery.specs.declared.outcome.Outcome.{Outcome}
 use Rattle.delivery.specs.Topics.{TopicList}
 use Rattle.delivery.specs.Theorem.Due.{log_row}
 use Rattle.delivery.specs.Machine.Moves.{Answer}
-use Rattle.delivery.specs.Core.Steps.{CoreStep, Reading, kept_of, reader_limits, octets_of, frames_of, BeginsWithFrames}
+use Rattle.delivery.specs.Core.Steps.{CoreStep, Reading, kept_of, reader_limits, fed_octets, frames_of, BeginsWithFrames}
 use Rattle.delivery.specs.Core.Account.{released_log, account_of}
 use Rattle.delivery.specs.Core.Output.{text_out}
 use Rattle.delivery.specs.Core.State.{core_of}
@@ -69,7 +69,7 @@ first_if : (b : Bool) → BeginsWithFrames reader_limits ((if b then text else [
 first_if true = ([], begins reader_limits text connect [] text_is, tt)
 first_if false = tt
 
-first : (c : ℕ) → BeginsWithFrames reader_limits (octets_of c steps) (frames_of c steps)
+first : (c : ℕ) → BeginsWithFrames reader_limits (fed_octets c steps) (frames_of c steps)
 first c = first_if (0 == c)
 
 logs : (n : ℕ) → n < 1 → log_in report (topic n) ≡ released_log (topic n) (Answer.Opened 0 ∷ [])

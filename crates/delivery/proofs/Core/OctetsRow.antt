@@ -12,7 +12,7 @@ use Rattle.stomp_frame.specs.Inner.Parser.{checked, line_at, after_eols, command
 use Rattle.stomp_frame.proofs.Whole.{begins}
 use Rattle.delivery.specs.declared.event.Event.{Event}
 use Rattle.delivery.specs.declared.outcome.Outcome.TheVariants.{Opened, Fed, Done, Subscribed, Flying, Proposed, Decided, Turned, Handed}
-use Rattle.delivery.specs.Core.Steps.{kept_of, shows_reading, BeginsWithFrames, octets_of, frames_of, reader_limits}
+use Rattle.delivery.specs.Core.Steps.{kept_of, shows_reading, BeginsWithFrames, fed_octets, frames_of, reader_limits}
 use Rattle.delivery.specs.Core.State.{Core, new_core}
 use Rattle.delivery.specs.Inner.Readings.{steps_of}
 use Rattle.delivery.specs.Core.Reports.{report_of}
@@ -60,14 +60,14 @@ third_is : frame_at reader_limits third ≡ Ok (with_null, [])
 unfolding checked line_at after_eols command_of field_of header_of headers_at counted_at uncounted_at body_at frame_at unescaped_from is_utf8 chars encode_utf8
 third_is = refl
 
-sent_octets : octets_of 0 sent.steps ≡ first
+sent_octets : fed_octets 0 sent.steps ≡ first
 sent_octets = refl
 
 -- each step shows whether it read a frame, and the frames that were read are the first of what was fed
 sent_shown : list_all shows_reading sent.steps ≡ true
 sent_shown = refl
 
-sent_first : BeginsWithFrames reader_limits (octets_of 0 sent.steps) (frames_of 0 sent.steps)
+sent_first : BeginsWithFrames reader_limits (fed_octets 0 sent.steps) (frames_of 0 sent.steps)
 sent_first = (
   second,
   begins reader_limits first connect second first_is,

@@ -13,14 +13,16 @@ use Rattle.delivery.specs.declared.event.Event.{Event}
 use Rattle.delivery.specs.declared.outcome.Outcome.TheVariants.{Opened, Failed, Withdrawn, Fed, Done, Subscribed, Unsubscribed, Flying, Proposed, Decided, Learnt, Released, Turned, Handed, Faulted, Leaving, Gone, Refused}
 use Rattle.delivery.specs.declared.refusal.Refusal.{Refusal}
 use Rattle.delivery.specs.declared.connection_fault.ConnectionFault.{ConnectionFault}
-use Rattle.delivery.specs.Core.Steps.{CoreStep, Reading, reader_limits, shows_reading, octets_of, frames_of}
-use Rattle.delivery.specs.Core.Account.{account_of}
+use Rattle.delivery.specs.Core.Steps.{CoreStep, Reading, reader_limits, shows_reading, fed_octets, frames_of}
+use Rattle.delivery.specs.Core.Account.{account_of, released_frontier}
+use Rattle.delivery.specs.Core.Delivery.{EndsByCause}
+use Rattle.delivery.specs.Theorem.Laws.{shared_marks}
 use Rattle.delivery.specs.Machine.Moves.{Answer}
 use Rattle.stomp_frame.specs.Reader.{Unread, unread_of}
 use Rattle.delivery.specs.Machine.World.{new_sender}
 use Rattle.delivery.specs.Core.Outcomes.{outcomes}
 use Rattle.delivery.specs.Core.State.{Core, new_core, unread_at}
-use Rattle.delivery.specs.Core.Reports.{report_of}
+use Rattle.delivery.specs.Core.Reports.{report_of, queue_in}
 use Rattle.delivery.proofs.Core.Agreement.{agreements, all_agree}
 use Rattle.delivery.proofs.Core.Acts.{send, Act, topic_list, without, frame, topic, stamp, id, act, reads, fails, waits, played, shown_outcomes, seen, connect, subscribe, begin, send_in, commit, opens, propose, turn, A, B}
 use Rattle.delivery.proofs.Core.Rows.{one, both, narrow, greeting, sends_one, to_both}
@@ -34,7 +36,7 @@ feeds_acts = act Event.Open ∷ act Event.Open ∷ act (Event.Piece 0 (codes "a"
 abbrev pub feeds : Core
 feeds = played one feeds_acts
 
-feeds_octets : octets_of 0 feeds.steps ∷ octets_of 1 feeds.steps ∷ [] ≡ codes "ac" ∷ codes "b" ∷ []
+feeds_octets : fed_octets 0 feeds.steps ∷ fed_octets 1 feeds.steps ∷ [] ≡ codes "ac" ∷ codes "b" ∷ []
 feeds_octets = refl
 
 feeds_outcomes : shown_outcomes feeds ≡ Opened 0 ∷ Opened 1 ∷ Fed ∷ Fed ∷ Fed ∷ Leaving ∷ Refused Refusal.Busy ∷ []
@@ -137,6 +139,9 @@ whole_outs = refl
 
 -- ---- connection 1 subscribes late and lags, by its subscription 1; connection 0 sends, and its own subscription is closed
 
+abbrev pub early_acts : List Act
+early_acts = opens 0 (opens 1 (reads 0 (subscribe (codes "s") A) ∷ sends_one 0 (codes "1") []))
+
 abbrev pub late_acts : List Act
 late_acts = opens 0 (opens 1 (reads 0 (subscribe (codes "s") A) ∷ sends_one 0 (codes "1") (reads 1 (subscribe (codes "t") A)
     ∷ reads 0 (frame commands.Unsubscribe ((codes "id", codes "s") ∷ []) []) ∷ sends_one 0 (codes "2") (sends_one 0 (codes "3") (sends_one 0 (codes "4") (
@@ -160,6 +165,13 @@ late_outs = refl
 
 late_agrees : agreements narrow late_acts ≡ all_agree
 late_agrees = refl
+
+-- its span ends by lag, and that of the other was asked to end at the frontier then
+late_lags : EndsByCause 1 (account_of late.names late.steps) (queue_in (report_of late) 1).cause (queue_in (report_of late) 1).to
+late_lags = refl
+
+late_frontier : (stamp 1 0) ≡ released_frontier (topic 0) (account_of (played narrow early_acts).names (played narrow early_acts).steps)
+late_frontier = refl
 
 -- ---- an UNSUBSCRIBE ends the subscription that its id names, whatever number a wrong outcome says
 
@@ -199,6 +211,11 @@ pair_outs = refl
 
 pair_agrees : agreements both pair_acts ≡ all_agree
 pair_agrees = refl
+
+-- both queues have the transaction, and share it
+pair_shares : map (λ m. m.id) (shared_marks (queue_in (report_of (played both pair_acts)) 0).queued (queue_in (report_of (played both pair_acts)) 1).queued)
+    ≡ id 0 1 ∷ []
+pair_shares = refl
 
 -- ---- two transactions that are refused, for two reasons: each ERROR has its own
 

@@ -19,7 +19,7 @@ use Rattle.delivery.specs.Machine.Moves.{Move, Answer, needs_open, needs_idle, m
 use Rattle.delivery.specs.Core.Steps.{CoreStep, Reading}
 use Rattle.delivery.specs.Core.Account.{account_of}
 use Rattle.delivery.specs.Core.Output.{replies_to}
-use Rattle.delivery.specs.Core.State.{Core, IsReadBy, unread_at, held_at, frame_move, core_of}
+use Rattle.delivery.specs.Core.State.{Core, IsReadBy, unread_at, session_at, frame_move, core_of}
 
 -- ---- the machine's answers, as the core reports them
 
@@ -65,10 +65,10 @@ frame_no_memory = ConnectionFault.Session SessionFault.NoMemory
 abbrev pub frame_fault : Core → ℕ → RawFrame → Option ConnectionFault
 frame_fault k c f =
     option_or (option_map ConnectionFault.Frame (case_fault f))
-    (option_or (option_map ConnectionFault.Session (refusal (held_at k c) f))
+    (option_or (option_map ConnectionFault.Session (refusal (session_at k c) f))
     (option_map (λ why. frame_no_memory)
     (option_and_then (λ move. move_refusal k.world move)
-    (frame_move k c (action_by f.command (held_at k c) f)))))
+    (frame_move k c (action_by f.command (session_at k c) f)))))
 
 -- a fault's ERROR, or the same with its reply left out
 abbrev pub fault_outcomes : ConnectionFault → List Outcome
@@ -77,7 +77,7 @@ fault_outcomes fault = Outcome.Faulted fault false ∷ Outcome.Faulted fault tru
 -- what comes of a frame that is accepted
 abbrev pub frame_outcome : Core → ℕ → RawFrame → List Outcome
 frame_outcome k c f =
-    option_map_or (move_outcome k) (frame_move k c (action_by f.command (held_at k c) f))
+    option_map_or (move_outcome k) (frame_move k c (action_by f.command (session_at k c) f))
     (Outcome.Done ∷ [])
 
 -- what may come of what was read: of a frame that isn't refused also that there was no memory for it

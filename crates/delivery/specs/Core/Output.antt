@@ -63,15 +63,15 @@ id_text s (step ∷ older) =
     then option_map_or id_of (frame_in step.reading) [] else id_text s older
 
 -- the MESSAGEs of an item, one for each SEND of its part
-abbrev pub messages_of : List ℕ → Item → List RawFrame
-messages_of id item =
+abbrev pub item_messages : List ℕ → Item → List RawFrame
+item_messages id item =
     map (λ p. message_frame id (message_id item.stamp.n item.stamp.topic.0 p.index) p.headers p.body)
     item.sends
 
 -- what a Take is answered
 abbrev pub take_replies : ℕ → List CoreStep → List Answer → Outcome → List RawFrame
 take_replies s older account (Outcome.Handed count) =
-    messages_of (id_text s older) (next_item s account)
+    item_messages (id_text s older) (next_item s account)
 take_replies s older account (Outcome.Faulted fault cut) =
     error_frame (connection_title fault) None false ∷ []
 take_replies s older account o = []

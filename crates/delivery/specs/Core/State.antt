@@ -64,8 +64,8 @@ IsReadBy u (Reading.Fails k left) = ReadsNext u (Err (fault_of k)) left
 -- ---- what a connection's session holds
 
 -- what is open after the connection's accepted frames
-abbrev pub held_at : Core → ℕ → Held
-held_at k c = held_after k.names (accepted_of c k.steps)
+abbrev pub session_at : Core → ℕ → Held
+session_at k c = held_after k.names (accepted_of c k.steps)
 
 -- ---- which moves of the machine an event is
 
@@ -100,7 +100,7 @@ next_moves k c reading o =
     if is_faulted o then Move.Errs c ∷ []
     else (if has_effect o
     then
-    option_map_or (λ f. option_to_list (frame_move k c (action_by f.command (held_at k c) f)))
+    option_map_or (λ f. option_to_list (frame_move k c (action_by f.command (session_at k c) f)))
     (frame_in reading) []
     else [])
 

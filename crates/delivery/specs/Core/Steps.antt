@@ -67,10 +67,10 @@ piece_to c e = []
 
 -- the octets that connection c was fed: where pieces `AB` and `C` of it were fed and one was refused between,
 -- `ABC`
-abbrev pub octets_of : ℕ → List CoreStep → List ℕ
-octets_of c [] = []
-octets_of c (step ∷ older) =
-    octets_of c older ++ (if is_fed step.outcome then piece_to c step.event else [])
+abbrev pub fed_octets : ℕ → List CoreStep → List ℕ
+fed_octets c [] = []
+fed_octets c (step ∷ older) =
+    fed_octets c older ++ (if is_fed step.outcome then piece_to c step.event else [])
 
 -- the frame of connection c that was read, if one was
 abbrev pub frame_from : ℕ → CoreStep → List RawFrame
@@ -143,4 +143,4 @@ reader_limits = record { line = 4096; headers = 64; body = 1048576 }
 -- What was read of each connection are the first frames of its octets, one for each outcome that says so.
 pub record AreReadings (steps : List CoreStep) : Type 0 where
   pub shown : list_all shows_reading steps ≡ true
-  pub first : (c : ℕ) → BeginsWithFrames reader_limits (octets_of c steps) (frames_of c steps)
+  pub first : (c : ℕ) → BeginsWithFrames reader_limits (fed_octets c steps) (frames_of c steps)
