@@ -25,7 +25,7 @@ use Rattle.delivery.specs.Core.State.{Core, new_core, unread_at}
 use Rattle.delivery.specs.Core.Reports.{report_of, queue_in}
 use Rattle.delivery.proofs.Core.Agreement.{agreements, all_agree}
 use Rattle.delivery.proofs.Core.Acts.{send, Act, topic_list, without, frame, topic, stamp, id, act, reads, fails, waits, played, shown_outcomes, seen, connect, subscribe, begin, send_in, commit, opens, propose, turn, A, B}
-use Rattle.delivery.proofs.Core.Rows.{one, both, narrow, greeting, sends_one, to_both}
+use Rattle.delivery.proofs.Core.Rows.{crossing, one, both, narrow, greeting, sends_one, to_both}
 
 -- ---- octets are fed to the connection that is named, in their order, unless the piece is refused
 
@@ -268,3 +268,12 @@ spent = record connected {
 spent_outcomes : outcomes spent (Event.Next 0) (Reading.Finds (send A (codes "m")) (unread_of reader_limits))
     ≡ Faulted (ConnectionFault.Session sessions.NoMemory) false ∷ Faulted (ConnectionFault.Session sessions.NoMemory) true ∷ []
 spent_outcomes = refl
+
+-- ---- a subscription that isn't closed has no end, or ends by lag
+
+crossing_open : EndsByCause 0 (account_of crossing.names crossing.steps) (queue_in (report_of crossing) 0).cause (queue_in (report_of crossing) 0).to
+crossing_open = refl
+
+lagging_queues : map seen (report_of (played narrow (opens 0 (reads 0 (subscribe (codes "s") A) ∷ sends_one 0 (codes "1") (sends_one 0 (codes "2") (sends_one 0 (codes "3") [])))))).subscriptions
+    ≡ (topic 0, stamp 0 0, Some (stamp 2 0), Some Lag, stamp 1 0 ∷ stamp 2 0 ∷ [], []) ∷ []
+lagging_queues = refl
