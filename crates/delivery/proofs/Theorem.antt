@@ -27,3 +27,4 @@ pub mod TopicsAreSound
 pub mod TopicsAreTied
 pub mod TurnIsItsSteps
 pub mod WithdrawnIsUndecided
+pub mod RefusalsAreReported

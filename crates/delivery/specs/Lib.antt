@@ -1,3 +1,6 @@
 pub mod Faults
+pub mod Topics
 pub mod Machine
 pub mod Theorem
+pub mod Core
+pub mod Inner

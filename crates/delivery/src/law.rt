@@ -7,7 +7,7 @@ ghost use Rattle.delivery.specs.Theorem.Laws.{CancelFindsItsPart, ClosedIsSilent
 ghost use Rattle.delivery.specs.Theorem.Laws.{EntriesAreOwned, EntriesAreThere, FoundIsLearnt};
 ghost use Rattle.delivery.specs.Theorem.Laws.{HandedIsPrefix, LagsWhereFull, NoneIsPendingTwice};
 ghost use Rattle.delivery.specs.Theorem.Laws.{NumbersAreFree, OddNeverComes, OthersUntouched};
-ghost use Rattle.delivery.specs.Theorem.Laws.{RefusalsChangeNothing, ReleasedIsLogged, SeqsCount};
+ghost use Rattle.delivery.specs.Theorem.Laws.{RefusalsAreReported, RefusalsChangeNothing, ReleasedIsLogged, SeqsCount};
 ghost use Rattle.delivery.specs.Theorem.Laws.{SettledLeavesNoneOut, SharedInOneOrder, StampIsGreatest};
 ghost use Rattle.delivery.specs.Theorem.Laws.{TicketIsOwn, TopicsAreSound, TurnIsItsSteps, TurnedIsLogged};
 ghost use Rattle.delivery.specs.Theorem.Laws.{WithdrawnIsUndecided};
@@ -73,11 +73,13 @@ pub fn genuine()
     ensures tickets { TicketIsOwn }
 {}
 
-/// No verdict is refused as another's or as a clash, no decided part is cancelled, a ticket that is
+/// No verdict is refused as another's or as a clash, no decided part is cancelled, each other refusal of a move is
+/// one that the core reports, but for a commit of a sender without sequence numbers; a ticket that is
 /// to be cancelled has its part pending, no topic refuses a part because its transaction is pending
 /// there, and no transaction is both withdrawn and decided.
 pub fn never()
     ensures refused { OddNeverComes }
+    ensures reported { RefusalsAreReported }
     ensures in_turns { FoundIsLearnt }
     ensures cancels { CancelFindsItsPart }
     ensures proposals { NoneIsPendingTwice }

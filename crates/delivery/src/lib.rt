@@ -1,14 +1,26 @@
 //! The core of the broker: topics, connections and senders over events.
 #![tactic(auto)]
 
+mod connection_fault;
 mod dues;
+mod event;
+mod event_list;
+mod kept;
 pub mod law;
+mod outcome;
 mod plain;
 mod refusal;
+mod topics;
 
+pub use connection_fault::ConnectionFault;
 pub use dues::{QueueItem, due};
+pub use event::Event;
+pub use event_list::EventList;
+pub use kept::Kept;
+pub use outcome::Outcome;
 pub use plain::{CommitRow, agreed};
 pub use refusal::Refusal;
+pub use topics::{MAX_TOPICS, Topics};
 
 #[cfg(test)]
 mod tests;

@@ -1,4 +1,8 @@
-//! Worked rows by the plain programs, with ample memory.
+//! Worked rows by the plain programs, with ample memory; the core's public types.
+
+mod event_list;
+mod faults;
+mod topics;
 
 use crate::{CommitRow, QueueItem, agreed, due};
 use mcast_txn::{Sender, SentMessage, Stamp, Topic, TxnId};

@@ -350,6 +350,19 @@ fn pending_parts_go_to_a_new_subscription(rt: HostRuntime) {
     assert!(rt; answers(alloc, &mut group, &BEGINS_LATE));
 }
 
+/// The titles of the refused proposals, by their names in docs/FAULTS.md.
+#[test]
+fn refused_proposals_have_their_titles(rt: HostRuntime) {
+    for (fault, title) in [
+        (ProposeFault::Twice, b"49 Twice".as_slice()),
+        (ProposeFault::ClockFull, b"40 ClockFull"),
+        (ProposeFault::LogFull, b"41 LogFull"),
+        (ProposeFault::NoMemory, b"42 NoMemory"),
+    ] {
+        assert!(rt; fault.title() == title);
+    }
+}
+
 /// The numbers of the faults, by their names in docs/FAULTS.md.
 #[test]
 fn faults_have_their_numbers(rt: HostRuntime) {

@@ -9,7 +9,7 @@ use Rattle.mcast_txn.proofs.Members.{at_set}
 use Rattle.mcast_group.specs.declared.fault.ProposeFault.{ProposeFault}
 use Rattle.mcast_txn.specs.Span.{Item}
 use Rattle.mcast_group.specs.Machine.{Pending, Entry, due_part}
-use Rattle.delivery.specs.declared.refusal.Refusal.{Refusal}
+use Rattle.delivery.specs.Machine.Objections.{Objection}
 use Rattle.delivery.specs.Machine.World.{World, Connection, Leftover, SenderState, Standing, nobody, new_sender, topic_at, connection_at, subscription_at, speaker, entry_at, start}
 use Rattle.delivery.specs.Machine.Moves.{Move, world_after, move_effect, move_answer, find_leftover, find_verdict, oldest_live, next_txn, commit_effect, commit_answer, proposal_fault, propose_effect, propose_answer, cancel_effect, cancel_answer, learn_effect, release_answer, take_effect, take_answer, leave_effect, leave_answer, close_effect_of}
 use Rattle.delivery.specs.Machine.Moves.Move.{AddsTopic, Opens, Commits, Subscribes, Unsubscribes, Disconnects, Errs, Lost, Leaves, Proposes, Decides, Withdraws, Cancels, Learns, Releases, Turns, Takes}
@@ -75,7 +75,7 @@ pub flying_is_own : Reported.BegunIsOwn
 flying_is_own w e txn =
     by_refusal (λ v o. o ≡ Begun txn → IsOwn w e txn) w e (λ why k. absurd (by why k)) (λ n k. answer_own w e txn k)
   where
-    by : (why : Refusal) → Refused why ≡ Begun txn → Prim.⊥
+    by : (why : Objection) → Refused why ≡ Begun txn → Prim.⊥
     by why k = cc
 
 -- ---- the sender

@@ -1,7 +1,7 @@
 -- Nothing is handed on of a closed subscription.
 use Rattle.std.proofs.Common.{◌≡◌, ℕ, zero, suc, ◌+◌, ◌<◌, ◌≤◌, ◌==◌, Bool, true, false, cond, not, ◌||◌, inl, inr, List, [], ◌∷◌, ◌++◌, length, get_or, Option, Some, None, refl, sym, ap, subst, ◌∙◌, arith, ltb}
 use Rattle.std.specs.Option.{is_some}
-use Rattle.std.proofs.lemmas.Bool.{true≢false, false≢true, ltb-true, and_parts}
+use Rattle.std.proofs.lemmas.Bool.{true≢false, false≢true, eqb-true, ltb-true, and_parts}
 use Rattle.mcast_txn.specs.Lists.{In}
 use Rattle.mcast_txn.specs.Ballot.{Decision}
 use Rattle.mcast_txn.specs.declared.id.Topic.{Topic}
@@ -18,13 +18,26 @@ use Rattle.delivery.specs.Machine.Moves.{Move, Answer, world_after, answer_to, m
 use Rattle.delivery.specs.Machine.Moves.Move.{AddsTopic, Opens, Commits, Subscribes, Unsubscribes, Disconnects, Errs, Lost, Leaves, Proposes, Decides, Withdraws, Cancels, Learns, Releases, Turns, Takes}
 use Rattle.delivery.specs.Machine.Moves.Answer.{Refused, Done, Opened, Subscribed, Unsubscribed, Leaving, Error, Gone, Learnt, Handed}
 use Rattle.delivery.specs.Machine.Runs.{run, answers_from}
-use Rattle.delivery.specs.Theorem.Settled.{Closes, IsSilent, SilentAfterClose}
+use Rattle.delivery.specs.Theorem.Settled.{closes, IsSilent, SilentAfterClose}
 use Rattle.delivery.specs.Theorem.Laws
 use Rattle.delivery.specs.Theorem.Laws.{Run, answers_of, final_world}
 use Rattle.delivery.proofs.Machine.Invariant.{topic_in, sub_in}
 use Rattle.delivery.proofs.Machine.SubscriptionSteps.{at_push, at_old, at_end, push_length, set_length, finds_entry}
 use Rattle.delivery.proofs.Machine.InvariantIsKept.{Reached, by_refusal, checked, step_reached, false_not}
 use Rattle.delivery.proofs.Theorem.AcceptedIsDue.{start_reached}
+
+-- the answer closes connection c, as a type
+abbrev Closes : ℕ → Answer → Type 0
+Closes c (Leaving d) = d ≡ c
+Closes c (Error d) = d ≡ c
+Closes c (Answer.Withdrawn id d) = d ≡ c
+Closes c o = Prim.⊥
+
+closes_is : (c : ℕ) (o : Answer) → closes c o ≡ true → Closes c o
+closes_is c (Leaving d) e = eqb-true d c e
+closes_is c (Error d) e = eqb-true d c e
+closes_is c (Answer.Withdrawn id d) e = eqb-true d c e
+closes_is c o e = absurd (false≢true e)
 
 abbrev stands : List Connection → ℕ → Standing
 stands connections c = (get_or connections c nobody).standing
@@ -317,7 +330,7 @@ not_silent past w s h e (inl k) =
 not_silent past w s h e (inr k) =
     let p = (checked w (Takes s) e).1.0 in
     let own = h.owner s k.0 k.1 k.2 k.4 in
-    let shut = h.shut k.0 k.3 k.5 k.6 in
+    let shut = h.shut k.0 k.3 k.5 (closes_is k.0 k.3 k.6) in
     true≢false (sym (false_not _ (or_right (is_some (subscription_at w s).closed) _ p)) ∙ subst (λ z. is_reading (stands w.connections z) ≡ false) (sym own.1) shut.1)
 
 silent_flown : (w : World) (c : ℕ) (sends : List SentMessage) (past : List Answer) → SilentAfterClose past → SilentAfterClose (commit_answer w c sends ∷ past)

@@ -9,7 +9,7 @@ use Rattle.mcast_txn.specs.Lists.{In}
 use Rattle.mcast_group.specs.declared.fault.SubFault.{SubFault}
 use Rattle.mcast_txn.specs.Span.{LogRow}
 use Rattle.mcast_group.specs.Machine.{TopicState, Pending, Entry, subscribe_fault, unsubscribe_fault}
-use Rattle.delivery.specs.declared.refusal.Refusal.{Refusal}
+use Rattle.delivery.specs.Machine.Objections.{Objection}
 use Rattle.delivery.specs.Machine.World.{World, topic_at, connection_at, subscription_at}
 use Rattle.delivery.specs.Machine.Observed.{log_at, accepted_at, end_at, span_at, frontier_at}
 use Rattle.delivery.specs.Machine.Moves.{Move, world_after, answer_to}
@@ -76,7 +76,7 @@ added = run_of (0 ∷ []) (
     ∷ Turns (topic 1) ∷ Takes 0 ∷ Turns (topic 0) ∷ [])
 
 added_answers : answers_in_order added
-    ≡ Opened 0 ∷ Refused Refusal.NotNamed ∷ Refused Refusal.NotNamed ∷ Done ∷ Subscribed 0 0 (topic 1) (stamp 0 0)
+    ≡ Opened 0 ∷ Refused Objection.NotNamed ∷ Refused Objection.NotNamed ∷ Done ∷ Subscribed 0 0 (topic 1) (stamp 0 0)
     ∷ Begun (transaction (id 0 1) (send 0 1 ∷ send 1 2 ∷ [])) ∷ Ticket (id 0 1) (stamp 1 0) ∷ Ticket (id 0 1) (stamp 5 1) ∷ Decided (id 0 1) (stamp 5 1)
     ∷ Turned (topic 1) 1 ∷ Handed 0 (item (id 0 1) (stamp 5 1) (part 1 2 ∷ [])) ∷ Turned (topic 0) 1 ∷ []
 added_answers = refl
@@ -95,10 +95,10 @@ has_made seq = record (final_world (run_of (0 ∷ []) (Opens ∷ []))) {
 last_is_made : answer_to (has_made 18446744073709551614) (Commits 0 (send 0 1 ∷ [])) ≡ Begun (transaction (id 0 18446744073709551615) (send 0 1 ∷ []))
 last_is_made = refl
 
-none_is_left : answer_to (has_made 18446744073709551615) (Commits 0 (send 0 1 ∷ [])) ≡ Refused Refusal.SeqFull
+none_is_left : answer_to (has_made 18446744073709551615) (Commits 0 (send 0 1 ∷ [])) ≡ Refused Objection.SeqFull
 none_is_left = refl
 
-topic_is_first : answer_to (has_made 18446744073709551615) (Commits 0 (send 0 1 ∷ send 1 2 ∷ [])) ≡ Refused Refusal.NotNamed
+topic_is_first : answer_to (has_made 18446744073709551615) (Commits 0 (send 0 1 ∷ send 1 2 ∷ [])) ≡ Refused Objection.NotNamed
 topic_is_first = refl
 
 nothing_is_made : answer_to (has_made 18446744073709551615) (Commits 0 []) ≡ Done
@@ -112,8 +112,8 @@ errs = run_of (0 ∷ []) (
 errs_answers : answers_in_order errs
     ≡ Opened 0 ∷ Subscribed 0 0 (topic 0) (stamp 0 0)
     ∷ Begun (transaction (id 0 1) (send 0 1 ∷ [])) ∷ Ticket (id 0 1) (stamp 1 0) ∷ Decided (id 0 1) (stamp 1 0) ∷ Turned (topic 0) 1
-    ∷ Error 0 ∷ Refused Refusal.Gone ∷ Refused Refusal.Busy ∷ Refused Refusal.Busy ∷ Refused Refusal.Busy
-    ∷ Unsubscribed 0 (stamp 1 0) ∷ Refused Refusal.Gone ∷ []
+    ∷ Error 0 ∷ Refused Objection.Gone ∷ Refused Objection.Busy ∷ Refused Objection.Busy ∷ Refused Objection.Busy
+    ∷ Unsubscribed 0 (stamp 1 0) ∷ Refused Objection.Gone ∷ []
 errs_answers = refl
 
 errs_handed : (delivered_items 0 (answers_of errs) ≡ []) × (map (λ i. i.stamp) (accepted_at (final_world errs) 0) ≡ stamp 1 0 ∷ [])
@@ -131,7 +131,7 @@ releases = run_of (0 ∷ []) (
 releases_answers : answers_in_order releases
     ≡ Opened 0 ∷ Subscribed 0 0 (topic 0) (stamp 0 0)
     ∷ Begun (transaction (id 0 1) (send 0 1 ∷ [])) ∷ Ticket (id 0 1) (stamp 1 0) ∷ Decided (id 0 1) (stamp 1 0)
-    ∷ Refused Refusal.NothingDue ∷ Learnt (id 0 1) (topic 0) ∷ Released (topic 0) (id 0 1) ∷ Refused Refusal.NothingDue ∷ Refused Refusal.NotPending ∷ []
+    ∷ Refused Objection.NothingDue ∷ Learnt (id 0 1) (topic 0) ∷ Released (topic 0) (id 0 1) ∷ Refused Objection.NothingDue ∷ Refused Objection.NotPending ∷ []
 releases_answers = refl
 
 releases_log : log_at (final_world releases) (topic 0) ≡ record { id = id 0 1; topics = topic 0 ∷ []; stamp = stamp 1 0 } ∷ []
@@ -259,7 +259,7 @@ steps_of_both = refl
 
 -- so too where one of them is undecided: a learn and both releases are refused
 refused_answers : reverse (answers_from turn_steps (waiting (Decides 1 ∷ [])) [])
-    ≡ Refused Refusal.NotDecided ∷ Learnt (id 1 1) (topic 0) ∷ Refused Refusal.NothingDue ∷ Refused Refusal.NothingDue ∷ []
+    ≡ Refused Objection.NotDecided ∷ Learnt (id 1 1) (topic 0) ∷ Refused Objection.NothingDue ∷ Refused Objection.NothingDue ∷ []
 refused_answers = refl
 
 abbrev half_decided : List Pending

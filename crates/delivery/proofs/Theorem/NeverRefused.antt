@@ -19,9 +19,9 @@ use Rattle.mcast_txn.specs.Checks.{first_refusal}
 use Rattle.mcast_txn.specs.Span.{Item}
 use Rattle.mcast_group.specs.Machine.{TopicState, Pending, Entry, find_pending, is_pending, cancel_fault_of, due_part, find_entry}
 use Rattle.mcast_group.proofs.Parts.{Waits, finds_part}
-use Rattle.delivery.specs.declared.refusal.Refusal.{Refusal}
+use Rattle.delivery.specs.Machine.Objections.{Objection}
 use Rattle.delivery.specs.Machine.World.{World, Leftover, Subscription, topic_at, connection_at, speaker, subscription_at, start}
-use Rattle.delivery.specs.Machine.Moves.{Move, Answer, world_after, answer_to, move_refusal, objections, or_out_of_memory, move_answer, undecided_at, find_leftover, oldest_live, commit_answer, proposal_fault, propose_answer, cancel_objection, refusal_of_cancel, cancel_answer, release_answer, take_answer, leave_answer}
+use Rattle.delivery.specs.Machine.Moves.{Move, Answer, world_after, answer_to, move_refusal, objections, or_out_of_memory, move_answer, undecided_at, find_leftover, oldest_live, commit_answer, proposal_fault, propose_answer, cancel_objection, cancel_objection_of, cancel_answer, release_answer, take_answer, leave_answer}
 use Rattle.delivery.specs.Machine.Moves.Move.{AddsTopic, Opens, Commits, Subscribes, Unsubscribes, Disconnects, Errs, Lost, Leaves, Proposes, Decides, Withdraws, Cancels, Learns, Releases, Turns, Takes}
 use Rattle.delivery.specs.Machine.Moves.Answer.{Refused, Failed}
 use Rattle.delivery.specs.Machine.Runs.{answers_from}
@@ -37,27 +37,27 @@ use Rattle.delivery.proofs.Theorem.StepLaws.{no_answer, outcome_case}
 
 -- ---- a ticket that is to be cancelled
 
-else_cases : (a b : Option Refusal) (why : Refusal) → option_or a b ≡ Some why → (a ≡ Some why) ⊎ (b ≡ Some why)
+else_cases : (a b : Option Objection) (why : Objection) → option_or a b ≡ Some why → (a ≡ Some why) ⊎ (b ≡ Some why)
 else_cases None b why e = inr e
 else_cases (Some x) b why e = inl e
 
 -- no test that stands before a cancelling speaks of what is pending
-not_checked : (a b c : Bool) → first_refusal ((a, Refusal.NoConn) ∷ (b, Refusal.Gone) ∷ (c, Refusal.NotNamed) ∷ []) ≡ Some Refusal.NotPending → Prim.⊥
+not_checked : (a b c : Bool) → first_refusal ((a, Objection.NoConn) ∷ (b, Objection.Gone) ∷ (c, Objection.NotNamed) ∷ []) ≡ Some Objection.NotPending → Prim.⊥
 not_checked true b c e = cc
 not_checked false true c e = cc
 not_checked false false true e = cc
 not_checked false false false e = cc
 
-found_case : (p : Pending) (b : Bool) → option_map refusal_of_cancel (cond b (Some CancelFault.Decided) None) ≡ Some Refusal.NotPending → Prim.⊥
+found_case : (p : Pending) (b : Bool) → option_map cancel_objection_of (cond b (Some CancelFault.Decided) None) ≡ Some Objection.NotPending → Prim.⊥
 found_case p true e = cc
 found_case p false e = cc
 
-waits_here : (id : TxnId) (ps : List Pending) → Waits id ps → option_map refusal_of_cancel (cancel_fault_of (find_pending id ps)) ≡ Some Refusal.NotPending → Prim.⊥
+waits_here : (id : TxnId) (ps : List Pending) → Waits id ps → option_map cancel_objection_of (cancel_fault_of (find_pending id ps)) ≡ Some Objection.NotPending → Prim.⊥
 waits_here id ps h e =
     let f = finds_part id ps h.part h.stands h.is in
-    found_case f.part (is_some f.part.learnt) (ap (λ (o : Option Pending). option_map refusal_of_cancel (cancel_fault_of o)) (sym f.found) ∙ e)
+    found_case f.part (is_some f.part.learnt) (ap (λ (o : Option Pending). option_map cancel_objection_of (cancel_fault_of o)) (sym f.found) ∙ e)
 
-is_waiting : (past : List Answer) (w : World) (c : ℕ) (t : Topic) → Reached past w → (o : Option Leftover) → find_leftover t (speaker w c).leftovers ≡ o → cancel_objection w t o ≡ Some Refusal.NotPending → Prim.⊥
+is_waiting : (past : List Answer) (w : World) (c : ℕ) (t : Topic) → Reached past w → (o : Option Leftover) → find_leftover t (speaker w c).leftovers ≡ o → cancel_objection w t o ≡ Some Objection.NotPending → Prim.⊥
 is_waiting past w c t h None f e = cc
 is_waiting past w c t h (Some k) f e =
     let g = leftover_found t (speaker w c).leftovers k f in
@@ -67,8 +67,8 @@ is_waiting past w c t h (Some k) f e =
 pub cancel_finds_its_part : Laws.CancelFindsItsPart
 cancel_finds_its_part r c t e =
     let w = final_world r in
-    elim (else_cases (first_refusal (objections w (Cancels c t))) (cancel_objection w t (find_leftover t (speaker w c).leftovers)) Refusal.NotPending
-    (outcome_case w (Cancels c t) Refusal.NotPending (move_refusal w (Cancels c t)) (no_answer w (Cancels c t) Refusal.NotPending) e)) [
+    elim (else_cases (first_refusal (objections w (Cancels c t))) (cancel_objection w t (find_leftover t (speaker w c).leftovers)) Objection.NotPending
+    (outcome_case w (Cancels c t) Objection.NotPending (move_refusal w (Cancels c t)) (no_answer w (Cancels c t) Objection.NotPending) e)) [
       | inl k ↦ not_checked _ _ _ k
       | inr k ↦ is_waiting (answers_of r) w c t (reached r) (find_leftover t (speaker w c).leftovers) refl k
     ]
@@ -147,7 +147,7 @@ outcome_once : (past : List Answer) (w : World) (e : Move) (id : TxnId) → Reac
 outcome_once past w e id h =
     by_refusal (λ v o. o ≡ Failed id ProposeFault.Twice → Prim.⊥) w e (λ why k. by why k) (λ n k. answer_once past w e id h n k)
   where
-    by : (why : Refusal) → Refused why ≡ Failed id ProposeFault.Twice → Prim.⊥
+    by : (why : Objection) → Refused why ≡ Failed id ProposeFault.Twice → Prim.⊥
     by why k = cc
 
 run_once : (es : List Move) (past : List Answer) (w : World) → Reached past w → ((id : TxnId) → In (Failed id ProposeFault.Twice) past → Prim.⊥) → (id : TxnId) → In (Failed id ProposeFault.Twice) (answers_from es w past) → Prim.⊥

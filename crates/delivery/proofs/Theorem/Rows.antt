@@ -2,7 +2,7 @@
 use Rattle.std.specs.Prelude.{◌≡◌, true, List, [], ◌∷◌, map, Some}
 use Rattle.std.proofs.Common.{refl}
 use Rattle.mcast_txn.specs.Agreed.{agreed}
-use Rattle.delivery.specs.declared.refusal.Refusal.{Refusal}
+use Rattle.delivery.specs.Machine.Objections.{Objection}
 use Rattle.delivery.specs.Theorem.Due.{due}
 use Rattle.delivery.specs.Machine.Observed.{accepted_at, span_at, frontier_at}
 use Rattle.delivery.specs.Machine.Moves.{Move}
@@ -50,7 +50,7 @@ one_decided = four_tickets (
 one_decided_answers : answers_in_order one_decided
     ≡ Opened 0 ∷ Opened 1 ∷ Begun (transaction (id 0 1) to_a_and_b) ∷ Begun (transaction (id 1 1) to_a_and_b)
     ∷ Ticket (id 0 1) (stamp 1 0) ∷ Ticket (id 1 1) (stamp 1 1) ∷ Ticket (id 1 1) (stamp 2 0) ∷ Ticket (id 0 1) (stamp 2 1)
-    ∷ Decided (id 1 1) (stamp 2 0) ∷ Turned (topic 0) 0 ∷ Learnt (id 1 1) (topic 0) ∷ Refused Refusal.NothingDue ∷ Refused Refusal.NotDecided ∷ []
+    ∷ Decided (id 1 1) (stamp 2 0) ∷ Turned (topic 0) 0 ∷ Learnt (id 1 1) (topic 0) ∷ Refused Objection.NothingDue ∷ Refused Objection.NotDecided ∷ []
 one_decided_answers = refl
 
 one_decided_log : log_stamps one_decided 0 ≡ []
@@ -66,7 +66,7 @@ three_sends = run_of (0 ∷ 0 ∷ []) (
 
 three_sends_answers : answers_in_order three_sends
     ≡ Opened 0 ∷ Subscribed 0 0 (topic 0) (stamp 0 0) ∷ Subscribed 1 0 (topic 1) (stamp 0 0) ∷ Begun (transaction (id 0 1) (send 0 1 ∷ send 1 2 ∷ send 0 3 ∷ []))
-    ∷ Ticket (id 0 1) (stamp 1 0) ∷ Refused Refusal.Twice ∷ Refused Refusal.Incomplete ∷ Ticket (id 0 1) (stamp 1 1) ∷ Decided (id 0 1) (stamp 1 1)
+    ∷ Ticket (id 0 1) (stamp 1 0) ∷ Refused Objection.Twice ∷ Refused Objection.Incomplete ∷ Ticket (id 0 1) (stamp 1 1) ∷ Decided (id 0 1) (stamp 1 1)
     ∷ Turned (topic 0) 1 ∷ Turned (topic 1) 1
     ∷ Handed 0 (item (id 0 1) (stamp 1 1) (part 0 1 ∷ part 2 3 ∷ [])) ∷ Handed 1 (item (id 0 1) (stamp 1 1) (part 1 2 ∷ [])) ∷ []
 three_sends_answers = refl
@@ -83,7 +83,7 @@ ends_answers : answers_in_order ends
     ≡ Opened 0 ∷ Opened 1 ∷ Begun (transaction (id 0 1) (send 0 1 ∷ [])) ∷ Ticket (id 0 1) (stamp 1 0) ∷ Decided (id 0 1) (stamp 1 0)
     ∷ Subscribed 0 1 (topic 0) (stamp 0 0) ∷ Turned (topic 0) 1 ∷ Handed 0 (item (id 0 1) (stamp 1 0) (part 0 1 ∷ []))
     ∷ Begun (transaction (id 0 2) (send 0 2 ∷ [])) ∷ Ticket (id 0 2) (stamp 2 0) ∷ Decided (id 0 2) (stamp 2 0)
-    ∷ Unsubscribed 0 (stamp 1 0) ∷ Turned (topic 0) 1 ∷ Refused Refusal.Gone ∷ []
+    ∷ Unsubscribed 0 (stamp 1 0) ∷ Turned (topic 0) 1 ∷ Refused Objection.Gone ∷ []
 ends_answers = refl
 
 ends_span : span_at (final_world ends) 0 ≡ record { topic = topic 0; from = stamp 0 0; to = Some (stamp 1 0) }

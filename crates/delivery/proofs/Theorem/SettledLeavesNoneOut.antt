@@ -18,7 +18,7 @@ use Rattle.mcast_txn.specs.Span.{Item}
 use Rattle.mcast_group.specs.Machine.{TopicState, Pending, Entry, decided_stamp, new_topic, after_learn, after_cancel, due_part, after_turn, turn_count}
 use Rattle.mcast_group.proofs.Parts.{Waits, others, not_true, none_some}
 use Rattle.mcast_group.proofs.Turning.{turn_none}
-use Rattle.delivery.specs.declared.refusal.Refusal.{Refusal}
+use Rattle.delivery.specs.Machine.Objections.{Objection}
 use Rattle.delivery.specs.Theorem.Due.{log_row}
 use Rattle.delivery.specs.Machine.World.{World, Undecided, Leftover, SenderState, new_sender, topic_at, connection_at, speaker, subscription_at, entry_at, start, new_topics}
 use Rattle.delivery.specs.Machine.Observed.{log_at}
@@ -41,7 +41,7 @@ use Rattle.delivery.proofs.Theorem.SettledSteps.{Calm, Settling, Gone_to, Gone-s
 
 -- ---- quiet outcomes
 
-quiet_refused : (why : Refusal) → Quiet (Refused why)
+quiet_refused : (why : Objection) → Quiet (Refused why)
 quiet_refused why = record { flying = λ txn e. cc; tickets = λ past. refl; withdrawn = λ id c e. cc; cancelled = λ id t e. cc; settled = λ t past h. h }
 
 quiet_done : Quiet Done

@@ -17,7 +17,7 @@ use Rattle.mcast_group.specs.Machine.{TopicState, Pending, Entry, with_stamp, af
 use Rattle.mcast_group.proofs.Parts.{Waits, In-insert_cases, told_how, others, not_true, some_same}
 use Rattle.mcast_group.proofs.Turning.{release_keeps, turn_keeps}
 use Rattle.delivery.specs.Machine.World.{World, Undecided, SenderState, new_sender, connection_at, speaker}
-use Rattle.delivery.specs.Machine.Moves.{Answer, next_txn, commit_effect, queue_has_room}
+use Rattle.delivery.specs.Machine.Moves.{Answer, next_txn, commit_effect}
 use Rattle.delivery.specs.Machine.Moves.Answer.{Begun, Ticket, Withdrawn, Cancelled, Turned}
 use Rattle.delivery.specs.Machine.Runs.{txn_of_id}
 use Rattle.delivery.specs.Theorem.Settled.{AllResolved, IsSettled}

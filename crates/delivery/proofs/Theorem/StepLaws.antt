@@ -21,9 +21,9 @@ use Rattle.mcast_txn.specs.Span.{Item}
 use Rattle.mcast_group.specs.Machine.{TopicState, Pending, Entry, new_topic, find_entry, find_pending, cancel_fault_of, learn_fault, entry_after, due_part, after_release_if, after_release, item_of}
 use Rattle.mcast_group.proofs.Parts.{found_part, some_same, none_some}
 use Rattle.mcast_group.proofs.Numbers.{delivered_number}
-use Rattle.delivery.specs.declared.refusal.Refusal.{Refusal}
+use Rattle.delivery.specs.Machine.Objections.{Objection}
 use Rattle.delivery.specs.Machine.World.{World, Leftover, topic_at, speaker, connection_at, subscription_at, entry_at, start}
-use Rattle.delivery.specs.Machine.Moves.{Move, Answer, world_after, answer_to, move_refusal, objections, topic_objection, move_effect, move_answer, undecided_at, find_leftover, find_verdict, oldest_live, commit_effect, commit_answer, proposal_fault, propose_effect, propose_answer, cancel_effect, cancel_objection, refusal_of_cancel, cancel_answer, learn_effect, learn_objection, refusal_of_learn, release_answer, queue_has_room, take_effect, take_answer, leave_effect, leave_answer, close_effect_of}
+use Rattle.delivery.specs.Machine.Moves.{Move, Answer, world_after, answer_to, move_refusal, objections, topic_objection, move_effect, move_answer, undecided_at, find_leftover, find_verdict, oldest_live, commit_effect, commit_answer, proposal_fault, propose_effect, propose_answer, cancel_effect, cancel_objection, cancel_objection_of, cancel_answer, learn_effect, learn_objection, learn_objection_of, release_answer, queue_has_room, take_effect, take_answer, leave_effect, leave_answer, close_effect_of}
 use Rattle.delivery.specs.Machine.Moves.Move.{AddsTopic, Opens, Commits, Subscribes, Unsubscribes, Disconnects, Errs, Lost, Leaves, Proposes, Decides, Withdraws, Cancels, Learns, Releases, Turns, Takes}
 use Rattle.delivery.specs.Machine.Moves.Answer.{Refused, Ticket}
 use Rattle.delivery.specs.Machine.Runs.{answers_from}
@@ -39,32 +39,31 @@ use Rattle.delivery.proofs.Machine.VerdictsFit.{learn_fault_is}
 
 -- ---- an answer is no refusal
 
-no_flying : (w : World) (c : ℕ) (sends : List SentMessage) (why : Refusal) → commit_answer w c sends ≡ Refused why → Prim.⊥
+no_flying : (w : World) (c : ℕ) (sends : List SentMessage) (why : Objection) → commit_answer w c sends ≡ Refused why → Prim.⊥
 no_flying w c [] why e = cc
 no_flying w c (first ∷ others) why e = cc
 
-no_propose : (w : World) (c : ℕ) (t : Topic) (o : Option ProposeFault) (why : Refusal) → propose_answer w c t o ≡ Refused why → Prim.⊥
+no_propose : (w : World) (c : ℕ) (t : Topic) (o : Option ProposeFault) (why : Objection) → propose_answer w c t o ≡ Refused why → Prim.⊥
 no_propose w c t None why e = cc
 no_propose w c t (Some fault) why e = cc
 
-no_cancel : (t : Topic) (o : Option Leftover) (why : Refusal) → cancel_answer t o ≡ Refused why → Prim.⊥
+no_cancel : (t : Topic) (o : Option Leftover) (why : Objection) → cancel_answer t o ≡ Refused why → Prim.⊥
 no_cancel t None why e = cc
 no_cancel t (Some k) why e = cc
 
-no_leave : (w : World) (c : ℕ) (o : Option ℕ) (why : Refusal) → leave_answer w c o ≡ Refused why → Prim.⊥
+no_leave : (w : World) (c : ℕ) (o : Option ℕ) (why : Objection) → leave_answer w c o ≡ Refused why → Prim.⊥
 no_leave w c None why e = cc
 no_leave w c (Some s) why e = cc
 
-no_release : (t : Topic) (o : Option Pending) (why : Refusal) → release_answer t o ≡ Refused why → Prim.⊥
+no_release : (t : Topic) (o : Option Pending) (why : Objection) → release_answer t o ≡ Refused why → Prim.⊥
 no_release t None why e = cc
 no_release t (Some p) why e = cc
 
-no_take : (w : World) (s : ℕ) (o : Option Item) (why : Refusal) → take_answer w s o ≡ Refused why → Prim.⊥
+no_take : (w : World) (s : ℕ) (o : Option Item) (why : Objection) → take_answer w s o ≡ Refused why → Prim.⊥
 no_take w s None why e = cc
 no_take w s (Some item) why e = cc
 
--- no effect is answered by a refusal
-pub no_answer : (w : World) (e : Move) (why : Refusal) → move_answer w e ≡ Refused why → Prim.⊥
+pub no_answer : (w : World) (e : Move) (why : Objection) → move_answer w e ≡ Refused why → Prim.⊥
 no_answer w (AddsTopic clock) why e = cc
 no_answer w Opens why e = cc
 no_answer w (Commits c sends) why e = no_flying w c sends why e
@@ -83,7 +82,6 @@ no_answer w (Releases t) why e = no_release t (due_part (topic_at w t)) why e
 no_answer w (Turns t) why e = cc
 no_answer w (Takes s) why e = no_take w s _ why e
 
--- a refused event changes nothing
 pub refusals_change_nothing : Laws.RefusalsChangeNothing
 refusals_change_nothing w e why =
     by_refusal (λ v o. o ≡ Refused why → v ≡ w) w e (λ other k. refl) (λ n k. absurd (no_answer w e why k))
@@ -141,7 +139,6 @@ effect_untouched w (Releases t) u l ne = untouched w.topics t u _ ne
 effect_untouched w (Turns t) u l ne = untouched w.topics t u _ ne
 effect_untouched w (Takes s) u l ne = ap (λ z. topic_in z u) (handed_topics w s _)
 
--- an event changes no other topic than its own
 pub others_untouched : Laws.OthersUntouched
 others_untouched w e u l ne = by_refusal (λ v o. topic_at v u ≡ topic_at w u) w e (λ why. refl) (λ n. effect_untouched w e u l ne)
 
@@ -196,25 +193,24 @@ answer_ticket w (Releases t) id ticket n e = absurd (no_ticket_release t (due_pa
 answer_ticket w (Turns t) id ticket n e = cc
 answer_ticket w (Takes s) id ticket n e = absurd (no_ticket_take w s _ id ticket e)
 
--- a ticket comes from a topic that is named, one above its clock and its sender's floor
 pub ticket_is_own : Laws.TicketIsOwn
 ticket_is_own w e id ticket =
     by_refusal (λ v o. o ≡ Ticket id ticket → IsOwn w e id ticket) w e (λ why k. absurd (by why k)) (λ n k. answer_ticket w e id ticket n k)
   where
-    by : (why : Refusal) → Refused why ≡ Ticket id ticket → Prim.⊥
+    by : (why : Objection) → Refused why ≡ Ticket id ticket → Prim.⊥
     by why k = cc
 
 -- ---- what never comes
 
-abbrev AllUsual : List (Bool × Refusal) → Type 0
+abbrev AllUsual : List (Bool × Objection) → Type 0
 AllUsual [] = Unit {0}
 AllUsual (c ∷ cs) = (is_odd c.1 ≡ false) × AllUsual cs
 
-usual_case : (b : Bool) (f why : Refusal) (rest : Option Refusal) → is_odd f ≡ false → (rest ≡ Some why → is_odd why ≡ false) → cond b (Some f) rest ≡ Some why → is_odd why ≡ false
+usual_case : (b : Bool) (f why : Objection) (rest : Option Objection) → is_odd f ≡ false → (rest ≡ Some why → is_odd why ≡ false) → cond b (Some f) rest ≡ Some why → is_odd why ≡ false
 usual_case true f why rest h ih e = subst (λ z. is_odd z ≡ false) (some_same f why e) h
 usual_case false f why rest h ih e = ih e
 
-usual_first : (cs : List (Bool × Refusal)) (why : Refusal) → AllUsual cs → first_refusal cs ≡ Some why → is_odd why ≡ false
+usual_first : (cs : List (Bool × Objection)) (why : Objection) → AllUsual cs → first_refusal cs ≡ Some why → is_odd why ≡ false
 usual_first [] why h e = none_some why e
 usual_first (c ∷ cs) why h e = usual_case c.0 c.1 why (first_refusal cs) h.0 (λ k. usual_first cs why h.1 k) e
 
@@ -237,20 +233,20 @@ usual_checks w (Releases t) = (refl, (refl, tt))
 usual_checks w (Turns t) = (refl, tt)
 usual_checks w (Takes s) = (refl, (refl, (refl, tt)))
 
-usual_learn : (why : Refusal) (o : Option LearnFault) → (o ≡ None) ⊎ (o ≡ Some LearnFault.NotPending) → option_map refusal_of_learn o ≡ Some why → is_odd why ≡ false
-usual_learn why o (inl n) e = none_some why (sym (ap (option_map refusal_of_learn) n) ∙ e)
-usual_learn why o (inr n) e = subst (λ z. is_odd z ≡ false) (some_same Refusal.NotPending why (sym (ap (option_map refusal_of_learn) n) ∙ e)) refl
+usual_learn : (why : Objection) (o : Option LearnFault) → (o ≡ None) ⊎ (o ≡ Some LearnFault.NotPending) → option_map learn_objection_of o ≡ Some why → is_odd why ≡ false
+usual_learn why o (inl n) e = none_some why (sym (ap (option_map learn_objection_of) n) ∙ e)
+usual_learn why o (inr n) e = subst (λ z. is_odd z ≡ false) (some_same Objection.NotPending why (sym (ap (option_map learn_objection_of) n) ∙ e)) refl
 
-learning_usual : (past : List Answer) (w : World) (t : Topic) (id : TxnId) (why : Refusal) → Reached past w → (o : Option Decision) → find_verdict id w.verdicts ≡ o → learn_objection w t id o ≡ Some why → is_odd why ≡ false
-learning_usual past w t id why h None f e = subst (λ z. is_odd z ≡ false) (some_same Refusal.NotDecided why e) refl
+learning_usual : (past : List Answer) (w : World) (t : Topic) (id : TxnId) (why : Objection) → Reached past w → (o : Option Decision) → find_verdict id w.verdicts ≡ o → learn_objection w t id o ≡ Some why → is_odd why ≡ false
+learning_usual past w t id why h None f e = subst (λ z. is_odd z ≡ false) (some_same Objection.NotDecided why e) refl
 learning_usual past w t id why h (Some v) f e = usual_learn why (learn_fault id v (topic_at w t)) (learn_fault_is (tickets past) w t id v h.inv f) e
 
 -- a leftover part hasn't learnt
-cancel_usual : (past : List Answer) (w : World) (t : Topic) (k : Leftover) (why : Refusal) → Reached past w → ((p : Pending) → In p (topic_in w.topics t).pending → p.part.id ≡ k.id → is_some p.learnt ≡ false) → (o : Option Pending) → find_pending k.id (topic_in w.topics t).pending ≡ o → option_map refusal_of_cancel (cancel_fault_of o) ≡ Some why → is_odd why ≡ false
-cancel_usual past w t k why h un None f e = subst (λ z. is_odd z ≡ false) (some_same Refusal.NotPending why e) refl
+cancel_usual : (past : List Answer) (w : World) (t : Topic) (k : Leftover) (why : Objection) → Reached past w → ((p : Pending) → In p (topic_in w.topics t).pending → p.part.id ≡ k.id → is_some p.learnt ≡ false) → (o : Option Pending) → find_pending k.id (topic_in w.topics t).pending ≡ o → option_map cancel_objection_of (cancel_fault_of o) ≡ Some why → is_odd why ≡ false
+cancel_usual past w t k why h un None f e = subst (λ z. is_odd z ≡ false) (some_same Objection.NotPending why e) refl
 cancel_usual past w t k why h un (Some p) f e =
     let g = found_part k.id (topic_in w.topics t).pending p f in
-    none_some why (sym (ap (λ (b : Bool). option_map refusal_of_cancel (cond b (Some CancelFault.Decided) None)) (un p g.stands g.is)) ∙ e)
+    none_some why (sym (ap (λ (b : Bool). option_map cancel_objection_of (cond b (Some CancelFault.Decided) None)) (un p g.stands g.is)) ∙ e)
 
 unlearnt : (past : List Answer) (w : World) (t : Topic) (s : ℕ) (k : Leftover) → Reached past w → In k (Rattle.delivery.proofs.Machine.Invariant.sender_in w.senders s).leftovers → (p : Pending) → In p (topic_in w.topics t).pending → p.part.id ≡ k.id → (o : Option Stamp) → p.learnt ≡ o → is_some o ≡ false
 unlearnt past w t s k h i p j e None d = refl
@@ -258,45 +254,42 @@ unlearnt past w t s k h i p j e (Some stamp) d =
     let c = (h.inv.tied t).decided p j stamp d in
     absurd (((h.inv.serves s).left k i).uncommitted c.row c.stands (Rattle.mcast_txn.proofs.Orders.id_same c.row.txn.id k.id (c.id_is ∙ e)))
 
-cancelling_usual : (past : List Answer) (w : World) (c : ℕ) (t : Topic) (why : Refusal) → Reached past w → (o : Option Leftover) → find_leftover t (speaker w c).leftovers ≡ o → cancel_objection w t o ≡ Some why → is_odd why ≡ false
-cancelling_usual past w c t why h None f e = subst (λ z. is_odd z ≡ false) (some_same Refusal.NotNamed why e) refl
+cancelling_usual : (past : List Answer) (w : World) (c : ℕ) (t : Topic) (why : Objection) → Reached past w → (o : Option Leftover) → find_leftover t (speaker w c).leftovers ≡ o → cancel_objection w t o ≡ Some why → is_odd why ≡ false
+cancelling_usual past w c t why h None f e = subst (λ z. is_odd z ≡ false) (some_same Objection.NotNamed why e) refl
 cancelling_usual past w c t why h (Some k) f e =
     let g = leftover_found t (speaker w c).leftovers k f in
     cancel_usual past w t k why h (λ p i d. unlearnt past w t (connection_at w c).sender k h g.stands p i d p.learnt refl)
     (find_pending k.id (topic_in w.topics t).pending) refl e
 
-topic_usual : (past : List Answer) (w : World) (e : Move) (why : Refusal) → Reached past w → topic_objection w e ≡ Some why → is_odd why ≡ false
+topic_usual : (past : List Answer) (w : World) (e : Move) (why : Objection) → Reached past w → topic_objection w e ≡ Some why → is_odd why ≡ false
 topic_usual past w (Cancels c t) why h e = cancelling_usual past w c t why h (find_leftover t (speaker w c).leftovers) refl e
 topic_usual past w (Learns t id) why h e = learning_usual past w t id why h (find_verdict id w.verdicts) refl e
 topic_usual past w e why h k = none_some why k
 
-else_usual : (a b : Option Refusal) (why : Refusal) → (a ≡ Some why → is_odd why ≡ false) → (b ≡ Some why → is_odd why ≡ false) → option_or a b ≡ Some why → is_odd why ≡ false
+else_usual : (a b : Option Objection) (why : Objection) → (a ≡ Some why → is_odd why ≡ false) → (b ≡ Some why → is_odd why ≡ false) → option_or a b ≡ Some why → is_odd why ≡ false
 else_usual None b why f g e = g e
 else_usual (Some x) b why f g e = f e
 
-refusal_usual : (past : List Answer) (w : World) (e : Move) (why : Refusal) → Reached past w → move_refusal w e ≡ Some why → is_odd why ≡ false
+refusal_usual : (past : List Answer) (w : World) (e : Move) (why : Objection) → Reached past w → move_refusal w e ≡ Some why → is_odd why ≡ false
 refusal_usual past w e why h =
     else_usual (first_refusal (objections w e)) (topic_objection w e) why (usual_first (objections w e) why (usual_checks w e)) (topic_usual past w e why h)
 
--- an event that is answered by a refusal was refused for it
-pub outcome_case : (w : World) (e : Move) (why : Refusal) (o : Option Refusal) → (move_answer w e ≡ Refused why → Prim.⊥) → elim o [ None ↦ move_answer w e | Some other ↦ Refused other ] ≡ Refused why → o ≡ Some why
+pub outcome_case : (w : World) (e : Move) (why : Objection) (o : Option Objection) → (move_answer w e ≡ Refused why → Prim.⊥) → elim o [ None ↦ move_answer w e | Some other ↦ Refused other ] ≡ Refused why → o ≡ Some why
 outcome_case w e why None never k = absurd (never k)
 outcome_case w e why (Some other) never k = let d : other ≡ why = cc in ap Some d
 
-outcome_usual : (past : List Answer) (w : World) (e : Move) (why : Refusal) → Reached past w → answer_to w e ≡ Refused why → is_odd why ≡ false
+pub outcome_usual : (past : List Answer) (w : World) (e : Move) (why : Objection) → Reached past w → answer_to w e ≡ Refused why → is_odd why ≡ false
 outcome_usual past w e why h k = refusal_usual past w e why h (outcome_case w e why (move_refusal w e) (no_answer w e why) k)
 
-odd_run : (es : List Move) (past : List Answer) (w : World) → Reached past w → ((why : Refusal) → In (Refused why) past → is_odd why ≡ false) → (why : Refusal) → In (Refused why) (answers_from es w past) → is_odd why ≡ false
+odd_run : (es : List Move) (past : List Answer) (w : World) → Reached past w → ((why : Objection) → In (Refused why) past → is_odd why ≡ false) → (why : Objection) → In (Refused why) (answers_from es w past) → is_odd why ≡ false
 odd_run [] past w h old = old
 odd_run (e ∷ es) past w h old =
     odd_run es (answer_to w e ∷ past) (world_after w e) (step_reached past w e h)
     (λ why i. elim i [ inl k ↦ outcome_usual past w e why h k | inr k ↦ old why k ])
 
--- in a run nothing is refused as foreign, as a clash, or as decided
 pub odd_never_comes : Laws.OddNeverComes
 odd_never_comes r = odd_run r.events [] (start r.capacity r.log_limit r.clocks) (start_reached r.capacity r.log_limit r.clocks) (λ why i. absurd i)
 
--- a verdict that is found after a run is learnt, or refused because nothing of it is pending
 pub found_is_learnt : Laws.FoundIsLearnt
 found_is_learnt r t id v e = learn_fault_is (tickets (answers_of r)) (final_world r) t id v (reached r).inv e
 
@@ -311,9 +304,9 @@ given_of w frontier p number from None accepted e = given_case w frontier p numb
 given_of w frontier p number from (Some end) accepted e = none_some end (sym e)
 
 happens_when : (w : World) (e : Move) → move_refusal w e ≡ None → world_after w e ≡ move_effect w e
-happens_when w e n = ap (λ (o : Option Refusal). pick o) n
+happens_when w e n = ap (λ (o : Option Objection). pick o) n
   where
-    pick : Option Refusal → World
+    pick : Option Objection → World
     pick o = elim o [ None ↦ move_effect w e | Some why ↦ w ]
 
 stepped_case : (step : Entry → Entry) (b : Bool) (x e : Entry) (o p : Option Entry) → (o ≡ Some e → p ≡ Some (step e)) → cond b (Some x) o ≡ Some e → cond b (Some (step x)) p ≡ Some (step e)
@@ -327,7 +320,6 @@ find_stepped n step number (x ∷ es) e k =
     subst (λ (a : ℕ). cond (a == n) (Some (step x)) (find_entry n (map step es)) ≡ Some (step e)) (sym (number x))
     (stepped_case step (x.number == n) x e (find_entry n es) (find_entry n (map step es)) (find_stepped n step number es e) k)
 
--- a release gives an open subscription the item where its queue has room, and else it lags
 pub lags_where_full : Laws.LagsWhereFull
 lags_where_full w t p number before n due found unended =
     let x = topic_at w t in let later = entry_after (queue_has_room w) x.frontier (item_of p) before in

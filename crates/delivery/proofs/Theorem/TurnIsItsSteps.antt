@@ -13,10 +13,10 @@ use Rattle.mcast_txn.specs.Checks.{first_refusal}
 use Rattle.mcast_txn.specs.Span.{LogRow}
 use Rattle.mcast_group.specs.Machine.{TopicState, Pending, Entry, row_of, new_topic, learn_fault, after_learn, with_stamp, after_try, after_tries, due_part, after_release_if, after_release, after_releases, after_turn, decided_stamp}
 use Rattle.mcast_group.proofs.Parts.{map_length}
-use Rattle.delivery.specs.declared.refusal.Refusal.{Refusal}
+use Rattle.delivery.specs.Machine.Objections.{Objection}
 use Rattle.delivery.specs.Machine.World.{World, topic_at, with_topic}
 use Rattle.delivery.specs.Machine.Observed.{log_at}
-use Rattle.delivery.specs.Machine.Moves.{Move, world_after, move_effect, is_topic, refusal_of_learn, learn_objection, learn_effect, verdict_in, queue_has_room, move_answer, release_answer}
+use Rattle.delivery.specs.Machine.Moves.{Move, world_after, move_effect, is_topic, learn_objection_of, learn_objection, learn_effect, verdict_in, queue_has_room, move_answer, release_answer}
 use Rattle.delivery.specs.Machine.Moves.Move.{Learns, Releases, Turns}
 use Rattle.delivery.specs.Machine.Moves.Answer.{Released, Turned}
 use Rattle.delivery.specs.Machine.Runs.{run}
@@ -26,7 +26,7 @@ use Rattle.delivery.proofs.Machine.InvariantIsKept.{by_refusal, checked, false_n
 use Rattle.delivery.proofs.Theorem.SpansAsAnswered.{within}
 
 -- the world after a step: the new one, or the old one where it is refused
-abbrev stepped : World → World → Option Refusal → World
+abbrev stepped : World → World → Option Objection → World
 stepped old new o = elim o [ None ↦ new | Some why ↦ old ]
 
 -- ---- a topic that is written
@@ -45,7 +45,7 @@ is_there w t x room = lt-ltb t.0 (length (set w.topics t.0 x)) (let n = length-s
 
 -- ---- a learning
 
-fault_case : (w : World) (t : Topic) (id : TxnId) (v : Decision) (x : TopicState) (o : Option LearnFault) → let u = with_topic w t x in stepped u (with_topic u t (after_learn id (decided_stamp v) x)) (option_map refusal_of_learn o) ≡ with_topic w t (elim o [ None ↦ after_learn id (decided_stamp v) x | Some fault ↦ x ])
+fault_case : (w : World) (t : Topic) (id : TxnId) (v : Decision) (x : TopicState) (o : Option LearnFault) → let u = with_topic w t x in stepped u (with_topic u t (after_learn id (decided_stamp v) x)) (option_map learn_objection_of o) ≡ with_topic w t (elim o [ None ↦ after_learn id (decided_stamp v) x | Some fault ↦ x ])
 fault_case w t id v x None = twice w t x (after_learn id (decided_stamp v) x)
 fault_case w t id v x (Some fault) = refl
 
@@ -53,13 +53,13 @@ learn_case : (w : World) (t : Topic) (id : TxnId) (x : TopicState) (o : Option D
 learn_case w t id x None room = refl
 learn_case w t id x (Some v) room =
     let u = with_topic w t x in
-    ap (λ (z : TopicState). stepped u (with_topic u t (after_learn id (decided_stamp v) z)) (option_map refusal_of_learn (learn_fault id v z))) (is_read w t x room)
+    ap (λ (z : TopicState). stepped u (with_topic u t (after_learn id (decided_stamp v) z)) (option_map learn_objection_of (learn_fault id v z))) (is_read w t x room)
     ∙ fault_case w t id v x (learn_fault id v x)
 
 learn_step : (w : World) (t : Topic) (id : TxnId) (x : TopicState) → t.0 < length w.topics → world_after (with_topic w t x) (Learns t id) ≡ with_topic w t (after_try id (verdict_in w id) x)
 learn_step w t id x room =
     let u = with_topic w t x in
-    ap (λ (b : Bool). stepped u (move_effect u (Learns t id)) (option_or (first_refusal ((not b, Refusal.NotNamed) ∷ [])) (learn_objection u t id (verdict_in w id)))) (is_there w t x room)
+    ap (λ (b : Bool). stepped u (move_effect u (Learns t id)) (option_or (first_refusal ((not b, Objection.NotNamed) ∷ [])) (learn_objection u t id (verdict_in w id)))) (is_there w t x room)
     ∙ learn_case w t id x (verdict_in w id) room
 
 learn_steps : (w : World) (t : Topic) (ps : List Pending) (x : TopicState) → t.0 < length w.topics → run (map (λ p. Learns t p.part.id) ps) (with_topic w t x) ≡ with_topic w t (after_tries (verdict_in w) ps x)
@@ -70,15 +70,15 @@ learn_steps w t (p ∷ ps) x room =
 
 -- ---- a release
 
-due_case : (w : World) (t : Topic) (x : TopicState) (o : Option Pending) → let u = with_topic w t x in let y = after_release_if (queue_has_room w) x o in stepped u (with_topic u t y) (option_or (first_refusal ((not (is_some o), Refusal.NothingDue) ∷ [])) None) ≡ with_topic w t y
+due_case : (w : World) (t : Topic) (x : TopicState) (o : Option Pending) → let u = with_topic w t x in let y = after_release_if (queue_has_room w) x o in stepped u (with_topic u t y) (option_or (first_refusal ((not (is_some o), Objection.NothingDue) ∷ [])) None) ≡ with_topic w t y
 due_case w t x None = refl
 due_case w t x (Some p) = twice w t x (after_release_if (queue_has_room w) x (Some p))
 
 release_step : (w : World) (t : Topic) (x : TopicState) → t.0 < length w.topics → world_after (with_topic w t x) (Releases t) ≡ with_topic w t (after_release (queue_has_room w) x)
 release_step w t x room =
     let u = with_topic w t x in
-    ap (λ (b : Bool). stepped u (move_effect u (Releases t)) (option_or (first_refusal ((not b, Refusal.NotNamed) ∷ (not (is_some (due_part (topic_at u t))), Refusal.NothingDue) ∷ [])) None)) (is_there w t x room)
-    ∙ (ap (λ (z : TopicState). stepped u (with_topic u t (after_release (queue_has_room w) z)) (option_or (first_refusal ((not (is_some (due_part z)), Refusal.NothingDue) ∷ [])) None)) (is_read w t x room)
+    ap (λ (b : Bool). stepped u (move_effect u (Releases t)) (option_or (first_refusal ((not b, Objection.NotNamed) ∷ (not (is_some (due_part (topic_at u t))), Objection.NothingDue) ∷ [])) None)) (is_there w t x room)
+    ∙ (ap (λ (z : TopicState). stepped u (with_topic u t (after_release (queue_has_room w) z)) (option_or (first_refusal ((not (is_some (due_part z)), Objection.NothingDue) ∷ [])) None)) (is_read w t x room)
     ∙ due_case w t x (due_part x))
 
 release_steps : (w : World) (t : Topic) (ps : List Pending) (x : TopicState) → t.0 < length w.topics → run (map (λ p. Releases t) ps) (with_topic w t x) ≡ with_topic w t (after_releases (queue_has_room w) (length ps) x)
@@ -117,8 +117,8 @@ turn_within w t room =
     ∙ (ap (run releases) (sym (learn_steps w t x.pending x room))
     ∙ (ap (λ (v : World). run releases (run learns v)) (unwritten w t) ∙ sym (run_append learns releases w))))
 
-turn_when : (w : World) (t : Topic) (b : Bool) → is_topic w t ≡ b → world_after w (Turns t) ≡ stepped w (move_effect w (Turns t)) (option_or (first_refusal ((not b, Refusal.NotNamed) ∷ [])) None)
-turn_when w t b e = ap (λ (z : Bool). stepped w (move_effect w (Turns t)) (option_or (first_refusal ((not z, Refusal.NotNamed) ∷ [])) None)) e
+turn_when : (w : World) (t : Topic) (b : Bool) → is_topic w t ≡ b → world_after w (Turns t) ≡ stepped w (move_effect w (Turns t)) (option_or (first_refusal ((not b, Objection.NotNamed) ∷ [])) None)
+turn_when w t b e = ap (λ (z : Bool). stepped w (move_effect w (Turns t)) (option_or (first_refusal ((not z, Objection.NotNamed) ∷ [])) None)) e
 
 -- a turn is a learn for each pending part, and then as many releases
 pub turn_is_its_steps : Laws.TurnIsItsSteps

@@ -1,6 +1,6 @@
 -- The core's moves so far as they touch topics and transactions: what each refuses, what it does, and what
 -- it answers.
-use Rattle.std.specs.Prelude.{ℕ, zero, suc, ◌-◌, ◌+◌, ◌==◌, nat_lt, Bool, not, ◌&&◌, ◌||◌, List, [], ◌∷◌, ◌++◌, map, length, find, slice_get, Option, Some, None, if◌then◌else◌}
+use Rattle.std.specs.Prelude.{ℕ, ◌-◌, ◌+◌, ◌==◌, nat_lt, Bool, not, ◌&&◌, ◌||◌, List, [], ◌∷◌, ◌++◌, map, length, find, slice_get, Option, Some, None, if◌then◌else◌}
 use Rattle.std.specs.List.{list_any, list_all}
 use Rattle.std.specs.Option.{is_some, option_map, option_or}
 use Rattle.mcast_txn.specs.declared.id.Topic.{Topic}
@@ -20,7 +20,7 @@ use Rattle.mcast_group.specs.declared.fault.CancelFault.{CancelFault}
 use Rattle.mcast_txn.specs.Checks.{first_refusal}
 use Rattle.mcast_txn.specs.Span.{Item}
 use Rattle.mcast_group.specs.Machine.{Entry, Pending, new_topic, last_number, next_number, propose_fault, after_propose, learn_fault, after_learn, cancel_fault, after_cancel, due_part, after_release, after_turn, turn_count, after_subscribe, end_of, after_unsubscribe, decided_stamp}
-use Rattle.delivery.specs.declared.refusal.Refusal.{Refusal}
+use Rattle.delivery.specs.Machine.Objections.{Objection}
 use Rattle.delivery.specs.Machine.World.{World, Undecided, Leftover, Subscription, Standing, is_reading, is_gone, topic_at, new_sender, connection_at, speaker, subscription_at, entry_at, with_topic, with_sender, with_standing, with_subscription}
 use Rattle.delivery.specs.Machine.Observed.{accepted_at, end_at}
 
@@ -52,7 +52,7 @@ pub data Move : Type 0 where
 
 -- what a move is answered, with all that a reader of the run needs
 pub data Answer : Type 0 where
-  Refused : (why : Refusal) → Answer
+  Refused : (why : Objection) → Answer
   Done : Answer
   -- a connection was opened: its number
   Opened : (c : ℕ) → Answer
@@ -80,16 +80,22 @@ pub data Answer : Type 0 where
 -- ---- tests
 
 -- there is no such connection, or it is gone
-abbrev pub needs_connection : World → ℕ → List (Bool × Refusal)
+abbrev pub needs_connection : World → ℕ → List (Bool × Objection)
 needs_connection w c =
-    (not (nat_lt c (length w.connections)), Refusal.NoConn)
-    ∷ (is_gone (connection_at w c).standing, Refusal.Gone) ∷ []
+    (not (nat_lt c (length w.connections)), Objection.NoConn)
+    ∷ (is_gone (connection_at w c).standing, Objection.Gone) ∷ []
+
+-- so too where it is leaving: it is fed nothing, and can't be lost
+abbrev pub needs_open : World → ℕ → List (Bool × Objection)
+needs_open w c =
+    needs_connection w c
+    ++ (not (is_reading (connection_at w c).standing), Objection.Busy) ∷ []
 
 -- so too where it is leaving or has an undecided transaction: no frame is read
-abbrev pub needs_idle : World → ℕ → List (Bool × Refusal)
+abbrev pub needs_idle : World → ℕ → List (Bool × Objection)
 needs_idle w c =
     needs_connection w c
-    ++ (not (is_reading (connection_at w c).standing) || is_some (speaker w c).flight, Refusal.Busy) ∷ []
+    ++ (not (is_reading (connection_at w c).standing) || is_some (speaker w c).flight, Objection.Busy) ∷ []
 
 -- there is a topic of this number
 abbrev pub is_topic : World → Topic → Bool
@@ -149,95 +155,94 @@ oldest_live c i (x ∷ xs) = if is_live c x then Some i else oldest_live c (i + 
 
 -- ---- the topics' own refusals
 
--- why a verdict isn't learnt, as the core tells it
-abbrev pub refusal_of_learn : LearnFault → Refusal
-refusal_of_learn LearnFault.NotPending = Refusal.NotPending
-refusal_of_learn LearnFault.Foreign = Refusal.Foreign
-refusal_of_learn LearnFault.Clash = Refusal.Clash
+-- why a verdict isn't learnt
+abbrev pub learn_objection_of : LearnFault → Objection
+learn_objection_of LearnFault.NotPending = Objection.NotPending
+learn_objection_of LearnFault.Foreign = Objection.Foreign
+learn_objection_of LearnFault.Clash = Objection.Clash
 
--- why a part isn't taken out, as the core tells it
-abbrev pub refusal_of_cancel : CancelFault → Refusal
-refusal_of_cancel CancelFault.NotPending = Refusal.NotPending
-refusal_of_cancel CancelFault.Decided = Refusal.Decided
+-- why a part isn't taken out
+abbrev pub cancel_objection_of : CancelFault → Objection
+cancel_objection_of CancelFault.NotPending = Objection.NotPending
+cancel_objection_of CancelFault.Decided = Objection.Decided
 
 -- what stands against learning the verdict that was found at t
-abbrev pub learn_objection : World → Topic → TxnId → Option Decision → Option Refusal
-learn_objection w t id None = Some Refusal.NotDecided
-learn_objection w t id (Some v) = option_map refusal_of_learn (learn_fault id v (topic_at w t))
+abbrev pub learn_objection : World → Topic → TxnId → Option Decision → Option Objection
+learn_objection w t id None = Some Objection.NotDecided
+learn_objection w t id (Some v) = option_map learn_objection_of (learn_fault id v (topic_at w t))
 
 -- what stands against cancelling the ticket that was found for t
-abbrev pub cancel_objection : World → Topic → Option Leftover → Option Refusal
-cancel_objection w t None = Some Refusal.NotNamed
-cancel_objection w t (Some k) = option_map refusal_of_cancel (cancel_fault k.id (topic_at w t))
+abbrev pub cancel_objection : World → Topic → Option Leftover → Option Objection
+cancel_objection w t None = Some Objection.NotNamed
+cancel_objection w t (Some k) = option_map cancel_objection_of (cancel_fault k.id (topic_at w t))
 
 -- ---- what is refused
 
 -- what stands against the event, in this order: where the first holds it is refused
-abbrev pub objections : World → Move → List (Bool × Refusal)
+abbrev pub objections : World → Move → List (Bool × Objection)
 objections w (AddsTopic clock) = []
 objections w Opens = []
 objections w (Commits c sends) =
     needs_idle w c
-    ++ (not (list_all (λ send. is_topic w send.topic) sends), Refusal.NotNamed)
-    ∷ (nat_lt 0 (length sends) && not (nat_lt (speaker w c).seq last_number), Refusal.SeqFull) ∷ []
-objections w (Subscribes c t) = needs_idle w c ++ (not (is_topic w t), Refusal.NotNamed) ∷ []
+    ++ (not (list_all (λ send. is_topic w send.topic) sends), Objection.NotNamed)
+    ∷ (nat_lt 0 (length sends) && not (nat_lt (speaker w c).seq last_number), Objection.SeqFull) ∷ []
+objections w (Subscribes c t) = needs_idle w c ++ (not (is_topic w t), Objection.NotNamed) ∷ []
 objections w (Unsubscribes c s) =
     needs_idle w c
-    ++ (not (nat_lt s (length w.subscriptions) && is_live c (subscription_at w s)), Refusal.NoSub) ∷ []
+    ++ (not (nat_lt s (length w.subscriptions) && is_live c (subscription_at w s)), Objection.NoSub) ∷ []
 objections w (Disconnects c) = needs_idle w c
 objections w (Errs c) = needs_idle w c
-objections w (Lost c) = needs_connection w c
-    ++ (not (is_reading (connection_at w c).standing), Refusal.Busy) ∷ []
+objections w (Lost c) = needs_open w c
 objections w (Leaves c) =
     needs_connection w c
-    ++ (is_reading (connection_at w c).standing, Refusal.NotLeaving)
+    ++ (is_reading (connection_at w c).standing, Objection.NotLeaving)
     ∷ (
       not (is_some (oldest_live c 0 w.subscriptions))
           && (is_some (speaker w c).flight || nat_lt 0 (length (speaker w c).leftovers)),
-      Refusal.Busy,
+      Objection.Busy,
     ) ∷ []
 objections w (Proposes c t memory) =
     needs_connection w c
-    ++ (not (is_some (speaker w c).flight), Refusal.NoFlight)
-    ∷ (is_some (undecided_at w c).mark, Refusal.Marked)
-    ∷ (not (is_topic w t && names t (topics_of (undecided_at w c).txn.sends)), Refusal.NotNamed)
-    ∷ (has_ticket t (undecided_at w c).given, Refusal.Twice) ∷ []
+    ++ (not (is_some (speaker w c).flight), Objection.NoFlight)
+    ∷ (is_some (undecided_at w c).mark, Objection.Marked)
+    ∷ (not (is_topic w t && names t (topics_of (undecided_at w c).txn.sends)), Objection.NotNamed)
+    ∷ (has_ticket t (undecided_at w c).given, Objection.Twice) ∷ []
 objections w (Decides c) =
     needs_connection w c
-    ++ (not (is_some (speaker w c).flight), Refusal.NoFlight)
-    ∷ (is_some (undecided_at w c).mark, Refusal.Marked)
-    ∷ (not (is_complete (undecided_at w c)), Refusal.Incomplete) ∷ []
+    ++ (not (is_some (speaker w c).flight), Objection.NoFlight)
+    ∷ (is_some (undecided_at w c).mark, Objection.Marked)
+    ∷ (not (is_complete (undecided_at w c)), Objection.Incomplete) ∷ []
 objections w (Withdraws c) =
     needs_connection w c
-    ++ (not (is_some (speaker w c).flight), Refusal.NoFlight)
-    ∷ (not (is_some (undecided_at w c).mark), Refusal.NotMarked) ∷ []
-objections w (Cancels c t) = needs_connection w c ++ (not (is_topic w t), Refusal.NotNamed) ∷ []
-objections w (Learns t id) = (not (is_topic w t), Refusal.NotNamed) ∷ []
+    ++ (not (is_some (speaker w c).flight), Objection.NoFlight)
+    ∷ (not (is_some (undecided_at w c).mark), Objection.NotMarked) ∷ []
+objections w (Cancels c t) = needs_connection w c ++ (not (is_topic w t), Objection.NotNamed) ∷ []
+objections w (Learns t id) = (not (is_topic w t), Objection.NotNamed) ∷ []
 objections w (Releases t) =
-    (not (is_topic w t), Refusal.NotNamed) ∷ (not (is_some (due_part (topic_at w t))), Refusal.NothingDue)
+    (not (is_topic w t), Objection.NotNamed) ∷ (not (is_some (due_part (topic_at w t))), Objection.NothingDue)
     ∷ []
-objections w (Turns t) = (not (is_topic w t), Refusal.NotNamed) ∷ []
+objections w (Turns t) = (not (is_topic w t), Objection.NotNamed) ∷ []
 objections w (Takes s) =
-    (not (nat_lt s (length w.subscriptions)), Refusal.NoSub)
+    (not (nat_lt s (length w.subscriptions)), Objection.NoSub)
     ∷ (
       is_some (subscription_at w s).closed
           || not (is_reading (connection_at w (subscription_at w s).connection).standing),
-      Refusal.Gone,
+      Objection.Gone,
     )
     ∷ (
       not (nat_lt (subscription_at w s).taken (length (accepted_at w s)))
           && not (is_some (end_at w s)),
-      Refusal.NothingDue,
+      Objection.NothingDue,
     ) ∷ []
 
 -- what the topic refuses of it then
-abbrev pub topic_objection : World → Move → Option Refusal
+abbrev pub topic_objection : World → Move → Option Objection
 topic_objection w (Cancels c t) = cancel_objection w t (find_leftover t (speaker w c).leftovers)
 topic_objection w (Learns t id) = learn_objection w t id (find_verdict id w.verdicts)
 topic_objection w e = None
 
 -- why the event has no effect
-abbrev pub move_refusal : World → Move → Option Refusal
+abbrev pub move_refusal : World → Move → Option Objection
 move_refusal w e = option_or (first_refusal (objections w e)) (topic_objection w e)
 
 -- ---- what is done

@@ -11,7 +11,7 @@ use Rattle.mcast_group.specs.declared.cause.Cause.TheVariants.{Asked, Lag}
 use Rattle.mcast_group.specs.declared.fault.ProposeFault.{ProposeFault}
 use Rattle.mcast_txn.specs.Span.{Item, Span}
 use Rattle.mcast_group.specs.Machine.{EntryEnd}
-use Rattle.delivery.specs.declared.refusal.Refusal.{Refusal}
+use Rattle.delivery.specs.Machine.Objections.{Objection}
 use Rattle.delivery.specs.Machine.World.{subscription_at}
 use Rattle.delivery.specs.Machine.Observed.{log_at, accepted_at, span_at}
 use Rattle.delivery.specs.Machine.Moves.{Move, Answer}
@@ -206,7 +206,7 @@ pub record WorkedRows : Type 0 where
       ∷ Begun (transaction (id 0 2) to_b_and_c)
       ∷ Ticket (id 0 2) (stamp 11 1) ∷ Ticket (id 0 2) (stamp 11 2) ∷ Decided (id 0 2) (stamp 11 2)
       ∷ Turned (topic 1) 2 ∷ Handed 0 (item (id 0 1) (stamp 10 0) (part 1 1 ∷ []))
-      ∷ Handed 0 (item (id 0 2) (stamp 11 2) (part 0 2 ∷ [])) ∷ Refused Refusal.NothingDue
+      ∷ Handed 0 (item (id 0 2) (stamp 11 2) (part 0 2 ∷ [])) ∷ Refused Objection.NothingDue
       ∷ Turned (topic 0) 1 ∷ Turned (topic 2) 1 ∷ []
   pub crossing_logs : log_stamps crossing 0 ∷ log_stamps crossing 1 ∷ log_stamps crossing 2 ∷ []
       ≡ (stamp 10 0 ∷ []) ∷ (stamp 10 0 ∷ stamp 11 2 ∷ []) ∷ (stamp 11 2 ∷ []) ∷ []
@@ -222,13 +222,13 @@ pub record WorkedRows : Type 0 where
       ∷ Begun (transaction (id 1 1) (send 1 2 ∷ [])) ∷ Ticket (id 1 1) (stamp 2 1)
       ∷ Decided (id 1 1) (stamp 2 1)
       ∷ Turned (topic 1) 0
-      ∷ Failed (id 2 1) ProposeFault.ClockFull ∷ Refused Refusal.Marked ∷ Withdrawn (id 2 1) 2
-      ∷ Refused Refusal.Busy ∷ Turned (topic 1) 0
-      ∷ Cancelled (id 2 1) (topic 1) ∷ Refused Refusal.NotNamed
+      ∷ Failed (id 2 1) ProposeFault.ClockFull ∷ Refused Objection.Marked ∷ Withdrawn (id 2 1) 2
+      ∷ Refused Objection.Busy ∷ Turned (topic 1) 0
+      ∷ Cancelled (id 2 1) (topic 1) ∷ Refused Objection.NotNamed
       ∷ Begun (transaction (id 3 1) (send 1 3 ∷ [])) ∷ Ticket (id 3 1) (stamp 3 1)
       ∷ Turned (topic 1) 1 ∷ Decided (id 3 1) (stamp 3 1) ∷ Turned (topic 1) 1 ∷ Gone 2
       ∷ Handed 0 (item (id 1 1) (stamp 2 1) (part 0 2 ∷ []))
-      ∷ Handed 0 (item (id 3 1) (stamp 3 1) (part 0 3 ∷ [])) ∷ Refused Refusal.NothingDue ∷ []
+      ∷ Handed 0 (item (id 3 1) (stamp 3 1) (part 0 3 ∷ [])) ∷ Refused Objection.NothingDue ∷ []
   pub withdrawal_logs : log_stamps withdrawal 0 ∷ log_stamps withdrawal 1 ∷ []
       ≡ (stamp 18446744073709551615 0 ∷ []) ∷ (stamp 2 1 ∷ stamp 3 1 ∷ []) ∷ []
   pub withdrawal_floors : floors withdrawal
@@ -240,11 +240,11 @@ pub record WorkedRows : Type 0 where
   pub loss_answers : answers_in_order loss
       ≡ Opened 0 ∷ Opened 1 ∷ Subscribed 0 0 (topic 0) zero_stamp ∷ Subscribed 1 1 (topic 0) zero_stamp
       ∷ Begun (transaction (id 0 1) to_a_b_and_a) ∷ Ticket (id 0 1) (stamp 1 0)
-      ∷ Leaving 0 ∷ Refused Refusal.Busy ∷ Refused Refusal.Gone ∷ Unsubscribed 0 zero_stamp
-      ∷ Refused Refusal.Busy
+      ∷ Leaving 0 ∷ Refused Objection.Busy ∷ Refused Objection.Gone ∷ Unsubscribed 0 zero_stamp
+      ∷ Refused Objection.Busy
       ∷ Ticket (id 0 1) (stamp 1 1) ∷ Decided (id 0 1) (stamp 1 1)
       ∷ Learnt (id 0 1) (topic 0) ∷ Released (topic 0) (id 0 1) ∷ Turned (topic 1) 1
-      ∷ Gone 0 ∷ Refused Refusal.Gone
+      ∷ Gone 0 ∷ Refused Objection.Gone
       ∷ Handed 1 (item (id 0 1) (stamp 1 1) (part 0 1 ∷ part 2 3 ∷ [])) ∷ []
   pub loss_logs : log_stamps loss 0 ∷ log_stamps loss 1 ∷ [] ≡ (stamp 1 1 ∷ []) ∷ (stamp 1 1 ∷ []) ∷ []
   pub loss_queues : queue loss 0 ∷ queue loss 1 ∷ [] ≡ [] ∷ loss_at_a ∷ []
@@ -258,7 +258,7 @@ pub record WorkedRows : Type 0 where
       ≡ Done ∷ Opened 0 ∷ Opened 1 ∷ Subscribed 0 0 (topic 1) zero_stamp
       ∷ Begun (transaction (id 1 1) (send 1 1 ∷ [])) ∷ Ticket (id 1 1) (stamp 5 1)
       ∷ Decided (id 1 1) (stamp 5 1) ∷ Turned (topic 1) 1
-      ∷ Leaving 0 ∷ Refused Refusal.Gone ∷ Unsubscribed 0 (stamp 5 1) ∷ Gone 0 ∷ Refused Refusal.Gone ∷ []
+      ∷ Leaving 0 ∷ Refused Objection.Gone ∷ Unsubscribed 0 (stamp 5 1) ∷ Gone 0 ∷ Refused Objection.Gone ∷ []
   pub disconnect_logs : log_stamps disconnect 0 ∷ log_stamps disconnect 1 ∷ [] ≡ [] ∷ (stamp 5 1 ∷ []) ∷ []
   pub disconnect_queue : queue disconnect 0 ≡ disconnect_at_b
   pub disconnect_span : span_at (final_world disconnect) 0 ≡ span 1 zero_stamp (Some (stamp 5 1))
@@ -270,7 +270,7 @@ pub record WorkedRows : Type 0 where
       ≡ Opened 0 ∷ Opened 1 ∷ Opened 2
       ∷ Subscribed 0 1 (topic 0) zero_stamp ∷ Subscribed 1 2 (topic 0) zero_stamp
       ∷ one_sent 1 (one_sent 2 (Handed 1 (one_item 1) ∷ one_sent 3 (
-      Handed 0 (one_item 1) ∷ Handed 0 (one_item 2) ∷ Error 1 ∷ Refused Refusal.Gone
+      Handed 0 (one_item 1) ∷ Handed 0 (one_item 2) ∷ Error 1 ∷ Refused Objection.Gone
       ∷ Unsubscribed 0 (stamp 2 0) ∷ Handed 1 (one_item 2) ∷ Handed 1 (one_item 3)
       ∷ Unsubscribed 1 (stamp 3 0) ∷ Error 2 ∷ [])))
   pub lag_log : log_stamps lag 0 ≡ stamp 1 0 ∷ stamp 2 0 ∷ stamp 3 0 ∷ []

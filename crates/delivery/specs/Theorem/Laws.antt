@@ -5,6 +5,7 @@ use Rattle.std.specs.Prelude.{not, ◌&&◌, take}
 use Rattle.std.specs.List.{list_any}
 use Rattle.mcast_txn.specs.declared.id.Topic.{Topic}
 use Rattle.mcast_txn.specs.declared.id.TxnId.{TxnId}
+use Rattle.mcast_txn.specs.declared.draft.sent_message.SentMessage.{SentMessage}
 use Rattle.mcast_txn.specs.declared.stamp.Stamp.{Stamp}
 use Rattle.mcast_txn.specs.Stamp.{zero_stamp, stamp_lt, greatest}
 use Rattle.mcast_txn.specs.Transaction.{topics_of}
@@ -18,12 +19,12 @@ use Rattle.mcast_group.specs.declared.fault.ProposeFault.{ProposeFault}
 use Rattle.mcast_txn.specs.Span.{LogRow, Item}
 use Rattle.mcast_group.specs.Sound.{IsSound}
 use Rattle.mcast_group.specs.Machine.{Pending, Entry, learn_fault, item_of, due_part, find_entry, subscribe_fault, unsubscribe_fault}
-use Rattle.delivery.specs.declared.refusal.Refusal.{Refusal}
+use Rattle.delivery.specs.Machine.Objections.{Objection, is_reported}
 use Rattle.delivery.specs.Theorem.Due.{log_row, due}
 use Rattle.delivery.specs.Machine.World.{World, start, topic_at, speaker, subscription_at}
 use Rattle.delivery.specs.Machine.Observed.{accepted_at, span_at, log_at, frontier_at}
 use Rattle.delivery.specs.Machine.Moves.{Move, Answer, world_after, answer_to, move_refusal, undecided_at, verdict_in, oldest_live}
-use Rattle.delivery.specs.Machine.Moves.Move.{Subscribes, Unsubscribes, Leaves, Proposes, Cancels, Learns, Releases, Turns}
+use Rattle.delivery.specs.Machine.Moves.Move.{Commits, Subscribes, Unsubscribes, Leaves, Proposes, Cancels, Learns, Releases, Turns}
 use Rattle.delivery.specs.Machine.Moves.Answer.{Refused, Ticket, Failed, Decided, Withdrawn, Released, Turned}
 use Rattle.delivery.specs.Machine.Runs.{run, answers_from, commits_of, tickets_of, delivered_items, Numbered}
 use Rattle.delivery.specs.Machine.Runs.{released_at}
@@ -151,7 +152,7 @@ StampIsGreatest =
 
 -- a refused event changes nothing
 abbrev pub RefusalsChangeNothing : Type 0
-RefusalsChangeNothing = (w : World) (e : Move) (why : Refusal) → answer_to w e ≡ Refused why
+RefusalsChangeNothing = (w : World) (e : Move) (why : Objection) → answer_to w e ≡ Refused why
     → world_after w e ≡ w
 
 -- a turn is its learns, one for each part that was pending, in their order, and then as many releases:
@@ -211,15 +212,23 @@ TicketIsOwn =
 
 -- a verdict isn't the part's or clashes, or a part that has learnt its stamp is to be cancelled: what no
 -- run meets
-abbrev pub is_odd : Refusal → Bool
-is_odd Refusal.Foreign = true
-is_odd Refusal.Clash = true
-is_odd Refusal.Decided = true
+abbrev pub is_odd : Objection → Bool
+is_odd Objection.Foreign = true
+is_odd Objection.Clash = true
+is_odd Objection.Decided = true
 is_odd why = false
 
 -- foreign, clash and decided never come
 abbrev pub OddNeverComes : Type 0
-OddNeverComes = (r : Run) (why : Refusal) → In (Refused why) (answers_of r) → is_odd why ≡ false
+OddNeverComes = (r : Run) (why : Objection) → In (Refused why) (answers_of r) → is_odd why ≡ false
+
+-- The core reports what refuses a move. The one exception is a frame that would make a transaction whose
+-- sender has no sequence number left: the core answers that frame by an ERROR, and makes no move of it.
+abbrev pub RefusalsAreReported : Type 0
+RefusalsAreReported =
+    (r : Run) (e : Move) (why : Objection) → answer_to (final_world r) e ≡ Refused why
+    → (is_reported why ≡ true)
+    ⊎ ((why ≡ Objection.SeqFull) × (c : ℕ) × (sends : List SentMessage) × (e ≡ Commits c sends))
 
 -- nor do they within a turn: what is found for a transaction is learnt wherever it is pending
 abbrev pub FoundIsLearnt : Type 0
@@ -231,7 +240,7 @@ FoundIsLearnt =
 -- a ticket that is to be cancelled has its part pending
 abbrev pub CancelFindsItsPart : Type 0
 CancelFindsItsPart = (r : Run) (c : ℕ) (t : Topic)
-    → answer_to (final_world r) (Cancels c t) ≢ Refused Refusal.NotPending
+    → answer_to (final_world r) (Cancels c t) ≢ Refused Objection.NotPending
 
 -- no topic refuses a part because its transaction is pending there
 abbrev pub NoneIsPendingTwice : Type 0

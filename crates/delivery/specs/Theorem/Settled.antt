@@ -1,5 +1,5 @@
 -- When a topic is settled in a run, and when a subscription is silent.
-use Rattle.std.specs.Prelude.{◌≡◌, ◌≢◌, ℕ, Bool, true, false, List, [], ◌∷◌, ◌⊎◌}
+use Rattle.std.specs.Prelude.{◌≡◌, ◌≢◌, ℕ, ◌==◌, Bool, true, false, List, [], ◌∷◌, ◌⊎◌}
 use Rattle.mcast_txn.specs.declared.id.Topic.{Topic}
 use Rattle.mcast_txn.specs.declared.id.TxnId.{TxnId}
 use Rattle.mcast_txn.specs.declared.stamp.Stamp.{Stamp}
@@ -39,18 +39,18 @@ IsSettled t (Turned u count ∷ before) = ((u ≡ t) × AllResolved t before) �
 IsSettled t (o ∷ before) = IsSettled t before
 
 -- this closes connection c: it is leaving, by itself or lost, by an ERROR, or by a withdrawal
-abbrev pub Closes : ℕ → Answer → Type 0
-Closes c (Leaving d) = d ≡ c
-Closes c (Error d) = d ≡ c
-Closes c (Withdrawn id d) = d ≡ c
-Closes c o = Prim.⊥
+abbrev pub closes : ℕ → Answer → Bool
+closes c (Leaving d) = d == c
+closes c (Error d) = d == c
+closes c (Withdrawn id d) = d == c
+closes c o = false
 
 -- s was unsubscribed, or its connection closed
 abbrev pub IsSilent : ℕ → List Answer → Type 0
 IsSilent s run =
     ((to : Stamp) × In (Unsubscribed s to) run)
     ⊎ ((c : ℕ) × (t : Topic) × (from : Stamp) × (o : Answer) × In (Subscribed s c t from) run × In o run
-    × Closes c o)
+    × (closes c o ≡ true))
 
 -- nothing is handed on of a subscription that was silent before
 abbrev pub SilentAfterClose : List Answer → Type 0

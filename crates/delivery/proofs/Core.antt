@@ -1,0 +1,9 @@
+-- Worked rows of the core's definitions, computed.
+pub mod Acts
+pub mod Agreement
+pub mod Rows
+pub mod MoreRows
+pub mod OctetsRow
+pub mod DeliveredRow
+pub mod StepRows
+pub mod GreetedRow

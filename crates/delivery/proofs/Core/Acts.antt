@@ -1,0 +1,165 @@
+-- What the worked rows are written with.
+use Rattle.std.specs.Prelude.{ℕ, zero, suc, List, [], ◌∷◌, ◌++◌, map, reverse, codes, Option}
+use Rattle.mcast_txn.specs.declared.id.Topic.{Topic}
+use Rattle.mcast_txn.specs.declared.id.TxnId.{TxnId}
+use Rattle.mcast_txn.specs.declared.draft.sent_message.SentMessage.{SentMessage}
+use Rattle.mcast_txn.specs.declared.parts.part_message.PartMessage.{PartMessage}
+use Rattle.mcast_txn.specs.declared.stamp.Stamp.{Stamp}
+use Rattle.mcast_txn.specs.Span.{LogRow}
+use Rattle.mcast_group.specs.declared.cause.Cause.{Cause}
+use Rattle.stomp_frame.specs.declared.command.Command.{Command}
+use Rattle.stomp_frame.specs.declared.command.Command.TheVariants as commands
+use Rattle.stomp_frame.specs.declared.raw_frame.RawFrame.{RawFrame}
+use Rattle.stomp_frame.specs.declared.fault.Check.{Check}
+use Rattle.stomp_frame.specs.Headers.{Header}
+use Rattle.stomp_frame.specs.Reader.{unread_of}
+use Rattle.delivery.specs.declared.event.Event.{Event}
+use Rattle.delivery.specs.declared.outcome.Outcome.{Outcome}
+use Rattle.delivery.specs.declared.refusal.Refusal.{Refusal}
+use Rattle.delivery.specs.Topics.{TopicList}
+use Rattle.delivery.specs.Core.Reports.{QueueReport}
+use Rattle.delivery.specs.Core.Steps.{CoreStep, Reading, reader_limits}
+use Rattle.delivery.specs.Machine.Moves.{Answer}
+use Rattle.delivery.specs.Machine.Runs.{answers_from}
+use Rattle.delivery.specs.Core.State.{Core, core_after, moves}
+use Rattle.delivery.specs.Core.Outcomes.{outcomes}
+
+abbrev pub topic : ℕ → Topic
+topic n = record { 0 = n }
+
+abbrev pub stamp : ℕ → ℕ → Stamp
+stamp n t = record { n = n; topic = topic t }
+
+abbrev pub id : ℕ → ℕ → TxnId
+id sender seq = record { sender = record { 0 = sender }; seq = seq }
+
+abbrev pub log_row : ℕ → ℕ → ℕ → ℕ → List ℕ → LogRow
+log_row sender seq n t topics = record { id = id sender seq; topics = map topic topics; stamp = stamp n t }
+
+-- topics of these names and opening clocks
+abbrev pub topic_list : List (List ℕ × ℕ) → TopicList
+topic_list topics = record { names = map (λ t. t.0) topics; clocks = map (λ t. t.1) topics }
+
+-- an event, what is read at it, and which of the outcomes is given
+pub record Act : Type 0 where
+  pub event : Event
+  pub reading : Reading
+  pub choice : ℕ
+
+-- an event that reads nothing
+abbrev pub act : Event → Act
+act e = record { event = e; reading = Reading.Nothing; choice = 0 }
+
+-- a Next that reads this frame
+abbrev pub reads : ℕ → RawFrame → Act
+reads c f = record { event = Event.Next c; reading = Reading.Finds f (unread_of reader_limits); choice = 0 }
+
+-- a Next that reads this fault
+abbrev pub fails : ℕ → Check → Act
+fails c k = record { event = Event.Next c; reading = Reading.Fails k (unread_of reader_limits); choice = 0 }
+
+-- a Next that reads none
+abbrev pub waits : ℕ → Act
+waits c = record { event = Event.Next c; reading = Reading.Waits (unread_of reader_limits); choice = 0 }
+
+-- the same act without memory, by its number among the outcomes
+abbrev pub without : ℕ → Act → Act
+without choice a = record a { choice = choice }
+
+-- one of these outcomes
+abbrev pub pick : ℕ → List Outcome → Outcome
+pick n [] = Outcome.Refused Refusal.NotMarked
+pick zero (o ∷ os) = o
+pick (suc n) (o ∷ os) = pick n os
+
+abbrev pub played : Core → List Act → Core
+played k [] = k
+played k (a ∷ acts) =
+    played (core_after k (record { event = a.event; reading = a.reading; outcome = pick a.choice (outcomes k a.event a.reading) })) acts
+
+-- what came of the acts, the oldest first
+abbrev pub shown_outcomes : Core → List Outcome
+shown_outcomes k = reverse (map (λ step. step.outcome) k.steps)
+
+abbrev pub frame : Command → List Header → List ℕ → RawFrame
+frame command headers body = record { command = command; headers = headers; body = body }
+
+abbrev pub connect : RawFrame
+connect = frame commands.Connect ((codes "accept-version", codes "1.2") ∷ (codes "host", codes "h") ∷ []) []
+
+abbrev pub subscribe : List ℕ → List ℕ → RawFrame
+subscribe sub name = frame commands.Subscribe ((codes "id", sub) ∷ (codes "destination", name) ∷ []) []
+
+abbrev pub begin : List ℕ → RawFrame
+begin x = frame commands.Begin ((codes "transaction", x) ∷ []) []
+
+abbrev pub send_in : List ℕ → List ℕ → List ℕ → RawFrame
+send_in x name body = frame commands.Send ((codes "destination", name) ∷ (codes "transaction", x) ∷ []) body
+
+abbrev pub send : List ℕ → List ℕ → RawFrame
+send name body = frame commands.Send ((codes "destination", name) ∷ []) body
+
+abbrev pub commit : List ℕ → RawFrame
+commit x = frame commands.Commit ((codes "transaction", x) ∷ []) []
+
+abbrev pub disconnect : RawFrame
+disconnect = frame commands.Disconnect [] []
+
+-- the same frame, asking for a receipt
+abbrev pub asking : List ℕ → RawFrame → RawFrame
+asking receipt f = record f { headers = f.headers ++ (codes "receipt", receipt) ∷ [] }
+
+-- a connection c is opened and connected
+abbrev pub opens : ℕ → List Act → List Act
+opens c then = act Event.Open ∷ reads c connect ∷ then
+
+abbrev pub propose : ℕ → ℕ → Act
+propose c t = act (Event.Propose c (topic t))
+
+abbrev pub turn : ℕ → Act
+turn t = act (Event.Turn (topic t))
+
+-- what the machine answered to its own events, the newest first, but for refusals and what has nothing to tell
+abbrev pub heard : List Answer → List Answer
+heard [] = []
+heard (Answer.Refused why ∷ before) = heard before
+heard (Answer.Done ∷ before) = heard before
+heard (o ∷ before) = o ∷ heard before
+
+-- the core and what its machine answered
+abbrev pub machine_after : Core × List Answer → Act → Core × List Answer
+machine_after p a =
+    let o = pick a.choice (outcomes p.0 a.event a.reading) in
+    let step : CoreStep = record { event = a.event; reading = a.reading; outcome = o } in
+    (core_after p.0 step, answers_from (moves p.0 a.event a.reading o) p.0.world p.1)
+
+abbrev pub machine_account : Core × List Answer → List Act → List Answer
+machine_account p [] = heard p.1
+machine_account p (a ∷ acts) = machine_account (machine_after p a) acts
+
+-- a subscription as a row shows it: its span, why that ended, and the stamps of its queued and its delivered items
+abbrev pub seen : QueueReport → Topic × Stamp × Option Stamp × Option Cause × List Stamp × List Stamp
+seen q = (q.topic, q.from, q.to, q.cause, map (λ i. i.stamp) q.queued, map (λ i. i.stamp) q.handed)
+
+-- the headers of a SEND in a transaction
+abbrev pub in_to : List ℕ → List ℕ → List Header
+in_to x name = (codes "destination", name) ∷ (codes "transaction", x) ∷ []
+
+abbrev pub x_to : List ℕ → List Header
+x_to name = in_to (codes "x") name
+
+abbrev pub y_to : List ℕ → List Header
+y_to name = in_to (codes "y") name
+
+-- a SEND as a transaction has it, and as a part has it
+abbrev pub made : ℕ → List Header → List ℕ → SentMessage
+made t headers body = record { topic = topic t; headers = headers; body = body }
+
+abbrev pub part : ℕ → List Header → List ℕ → PartMessage
+part index headers body = record { index = index; headers = headers; body = body }
+
+abbrev pub A : List ℕ
+A = codes "A"
+
+abbrev pub B : List ℕ
+B = codes "B"

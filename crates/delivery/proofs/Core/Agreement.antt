@@ -1,0 +1,94 @@
+-- Of a played row: its steps tell what its machine answered, and its report is what they tell.
+use Rattle.std.specs.Prelude.{ℕ, ◌+◌, ◌&&◌, Bool, true, false, List, [], ◌∷◌, ◌++◌, map, length}
+use Rattle.std.specs.List.{list_all, flat_map}
+use Rattle.std.specs.Str.{bytes_eq}
+use Rattle.mcast_txn.specs.declared.id.TxnId.{TxnId}
+use Rattle.mcast_txn.specs.declared.stamp.Stamp.{Stamp}
+use Rattle.mcast_txn.specs.Stamp.{zero_stamp}
+use Rattle.mcast_txn.specs.Span.{LogRow, Item, last_stamp}
+use Rattle.delivery.specs.Theorem.Due.{due, log_row}
+use Rattle.delivery.specs.Machine.Moves.{Answer}
+use Rattle.delivery.specs.Machine.Runs.{commits_of, delivered_items}
+use Rattle.delivery.specs.Core.Reports.{QueueReport, Report}
+use Rattle.delivery.specs.Core.Steps.{shows_reading}
+use Rattle.delivery.specs.Core.Account.{account_of, released_log}
+use Rattle.delivery.specs.Core.State.{Core}
+use Rattle.delivery.specs.Core.Reports.{report_of, span_of, log_in, each_number}
+use Rattle.delivery.specs.Core.Delivery.{begun_in, reported_begun, Begun}
+use Rattle.delivery.proofs.Core.Acts.{Act, machine_account, played, topic}
+
+-- ---- plain numbers of each
+
+abbrev pub id_numbers : TxnId → List ℕ
+id_numbers id = id.sender.0 ∷ id.seq ∷ []
+
+abbrev pub stamp_numbers : Stamp → List ℕ
+stamp_numbers s = s.n ∷ s.topic.0 ∷ []
+
+abbrev pub item_numbers : Item → List ℕ
+item_numbers i = id_numbers i.id ++ stamp_numbers i.stamp ++ flat_map (λ p. p.index ∷ length p.headers ∷ p.body) i.sends
+
+abbrev pub row_numbers : LogRow → List ℕ
+row_numbers r = id_numbers r.id ++ stamp_numbers r.stamp ++ map (λ t. t.0) r.topics
+
+abbrev pub begun_numbers : Begun → List ℕ
+begun_numbers b = b.0 ∷ b.1.0 ∷ stamp_numbers b.2
+
+abbrev pub answer_numbers : Answer → List ℕ
+answer_numbers (Answer.Begun txn) = 1 ∷ (id_numbers txn.id ++ flat_map (λ s. s.topic.0 ∷ length s.headers ∷ s.body) txn.sends)
+answer_numbers (Answer.Subscribed s c t from) = 2 ∷ s ∷ c ∷ t.0 ∷ stamp_numbers from
+answer_numbers (Answer.Unsubscribed s to) = 3 ∷ s ∷ stamp_numbers to
+answer_numbers (Answer.Leaving c) = 4 ∷ c ∷ []
+answer_numbers (Answer.Error c) = 5 ∷ c ∷ []
+answer_numbers (Answer.Gone c) = 6 ∷ c ∷ []
+answer_numbers (Answer.Ticket id ticket) = 7 ∷ (id_numbers id ++ stamp_numbers ticket)
+answer_numbers (Answer.Failed id why) = 8 ∷ id_numbers id
+answer_numbers (Answer.Decided id stamp) = 9 ∷ (id_numbers id ++ stamp_numbers stamp)
+answer_numbers (Answer.Withdrawn id c) = 10 ∷ c ∷ id_numbers id
+answer_numbers (Answer.Cancelled id t) = 11 ∷ t.0 ∷ id_numbers id
+answer_numbers (Answer.Learnt id t) = 12 ∷ t.0 ∷ id_numbers id
+answer_numbers (Answer.Released t id) = 13 ∷ t.0 ∷ id_numbers id
+answer_numbers (Answer.Turned t count) = 14 ∷ t.0 ∷ count ∷ []
+answer_numbers (Answer.Handed s item) = 15 ∷ s ∷ item_numbers item
+answer_numbers Answer.Done = 16 ∷ []
+answer_numbers (Answer.Opened c) = 18 ∷ c ∷ []
+answer_numbers (Answer.Refused why) = 17 ∷ []
+
+-- the lists have the same numbers, one by one
+abbrev pub alike : List (List ℕ) → List (List ℕ) → Bool
+alike [] [] = true
+alike [] (y ∷ ys) = false
+alike (x ∷ xs) [] = false
+alike (x ∷ xs) (y ∷ ys) = bytes_eq x y && alike xs ys
+
+-- ---- what agrees
+
+-- a queue is what is due, and what was handed on is what Takes handed
+abbrev pub is_due : List Answer → Report → ℕ → QueueReport → Bool
+is_due told r s q =
+    alike (map item_numbers q.queued) (map item_numbers (due (commits_of told) (span_of q) (last_stamp zero_stamp (log_in r q.topic))))
+    && alike (map item_numbers q.handed) (map item_numbers (delivered_items s told))
+
+abbrev pub are_due : List Answer → Report → ℕ → List QueueReport → List Bool
+are_due told r i [] = []
+are_due told r i (q ∷ qs) = is_due told r i q ∷ are_due told r (i + 1) qs
+
+-- the steps show what was read, tell what the machine answered, and the report is what they tell
+abbrev pub agreements_of : Core → List Answer → List Bool
+agreements_of k heard =
+    let told = account_of k.names k.steps in
+    let r = report_of k in
+    list_all shows_reading k.steps
+    ∷ alike (map answer_numbers told) (map answer_numbers heard)
+    ∷ alike (map row_numbers r.commits) (map (λ x. row_numbers (log_row x)) (commits_of told))
+    ∷ list_all (λ b. b) (each_number (λ t. alike (map row_numbers (log_in r (topic t))) (map row_numbers (released_log (topic t) told))) 0 r.logs)
+    ∷ alike (map begun_numbers (reported_begun 0 r.subscriptions)) (map begun_numbers (begun_in told))
+    ∷ list_all (λ b. b) (are_due told r 0 r.subscriptions) ∷ []
+
+-- the same of a row
+abbrev pub agreements : Core → List Act → List Bool
+agreements start acts = agreements_of (played start acts) (machine_account (start, []) acts)
+
+-- all of it
+abbrev pub all_agree : List Bool
+all_agree = true ∷ true ∷ true ∷ true ∷ true ∷ true ∷ []

@@ -1,0 +1,110 @@
+-- One run with all that is asked of it, so that neither a run of the core nor its delivery is asked in vain: a connection is
+-- opened, fed a CONNECT, and greeted.
+use Rattle.std.proofs.Common.{inl, refl, arith}
+use Rattle.std.specs.Prelude.{◌≡◌, ℕ, zero, suc, ◌==◌, ◌<◌, ◌++◌, Bool, true, false, if◌then◌else◌, List, [], ◌∷◌, map, reverse, codes, Ok}
+use Rattle.std.specs.Str.{is_utf8, chars}
+use Rattle.std.specs.Char.{encode_utf8}
+use Rattle.stomp_escape.specs.Inner.Unescaping.{unescaped_from}
+use Rattle.stomp_frame.specs.Inner.Parser.{checked, line_at, after_eols, command_of, field_of, header_of, headers_at, counted_at, uncounted_at, body_at, frame_at}
+use Rattle.stomp_frame.specs.Reader.{unread_of}
+use Rattle.stomp_frame.proofs.Whole.{begins}
+use Rattle.mcast_txn.specs.Agreed.{CommitRow}
+use Rattle.mcast_txn.specs.Lists.{In}
+use Rattle.delivery.specs.declared.event.Event.{Event}
+use Rattle.delivery.specs.declared.outcome.Outcome.{Outcome}
+use Rattle.delivery.specs.Topics.{TopicList}
+use Rattle.delivery.specs.Theorem.Due.{log_row}
+use Rattle.delivery.specs.Machine.Moves.{Answer}
+use Rattle.delivery.specs.Core.Steps.{CoreStep, Reading, kept_of, reader_limits, fed_octets, frames_of, BeginsWithFrames}
+use Rattle.delivery.specs.Core.Account.{released_log, account_of}
+use Rattle.delivery.specs.Core.Output.{text_out}
+use Rattle.delivery.specs.Core.State.{core_of}
+use Rattle.delivery.specs.Core.Outcomes.{IsCoreRun}
+use Rattle.delivery.specs.Core.Reports.{Report, report_of, log_in, out_in}
+use Rattle.delivery.specs.Core.Delivery.{Delivers, Delivery}
+use Rattle.delivery.proofs.Core.Acts.{topic, topic_list, connect, A}
+
+abbrev text : List ℕ
+text = codes "CONNECT\naccept-version:1.2\nhost:h\n\n\0"
+
+abbrev topics : TopicList
+topics = topic_list ((A, 0) ∷ [])
+
+-- the newest first
+abbrev steps : List CoreStep
+steps =
+    record { event = Event.Next 0; reading = Reading.Finds connect (unread_of reader_limits); outcome = Outcome.Done }
+    ∷ record { event = Event.Piece 0 text; reading = Reading.Nothing; outcome = Outcome.Fed }
+    ∷ record { event = Event.Open; reading = Reading.Nothing; outcome = Outcome.Opened 0 } ∷ []
+
+text_is : frame_at reader_limits text ≡ Ok (connect, [])
+unfolding checked line_at after_eols command_of field_of header_of headers_at counted_at uncounted_at body_at frame_at unescaped_from is_utf8 chars encode_utf8
+text_is = refl
+
+-- ---- a run of the core
+
+is_run : IsCoreRun topics 64 steps
+is_run = (
+  record { reading = ([], begins reader_limits text connect [] text_is, refl); outcome = inl refl },
+  (record { reading = refl; outcome = inl refl }, (record { reading = refl; outcome = inl refl }, tt)),
+)
+
+-- ---- its delivery
+
+abbrev report : Report
+report = record {
+  commits = [];
+  logs = [] ∷ [];
+  subscriptions = [];
+  outs = codes "CONNECTED\nversion:1.2\nheart-beat:0,0\n\n\0" ∷ [];
+}
+
+report_is : report_of (core_of topics 64 steps) ≡ report
+report_is = refl
+
+account_is : account_of topics.names steps ≡ Answer.Opened 0 ∷ []
+account_is = refl
+
+first_if : (b : Bool) → BeginsWithFrames reader_limits ((if b then text else []) ++ []) (if b then connect ∷ [] else [])
+first_if true = ([], begins reader_limits text connect [] text_is, tt)
+first_if false = tt
+
+first : (c : ℕ) → BeginsWithFrames reader_limits (fed_octets c steps) (frames_of c steps)
+first c = first_if (0 == c)
+
+logs : (n : ℕ) → n < 1 → log_in report (topic n) ≡ released_log (topic n) (Answer.Opened 0 ∷ [])
+logs zero lt = refl
+logs (suc n) lt = absurd (omega arith)
+
+outs : (c : ℕ) → c < 1 → out_in report c ≡ text_out topics.names c steps
+outs zero lt = refl
+outs (suc c) lt = absurd (omega arith)
+
+none_logged : (n : ℕ) (row : CommitRow) → In row [] → In (log_row row) (log_in report (topic n))
+none_logged n row i = absurd i
+
+delivers : Delivers (Answer.Opened 0 ∷ []) report
+delivers = record {
+  commits = refl;
+  each_once = tt;
+  fifo_order = tt;
+  logs = λ t lt. logs t.0 lt;
+  begins = refl;
+  ends = λ s lt. absurd (omega arith);
+  exactly_due = λ s lt. absurd (omega arith);
+  total_order = λ s q. refl;
+  validity = λ t row lt settled i named. none_logged t.0 row i;
+  handed = λ s lt. absurd (omega arith);
+  handed_prefix = λ s lt. absurd (omega arith);
+  silent_after_close = tt;
+}
+
+is_delivered : Delivery topics (reverse (map kept_of steps)) report
+is_delivered = record {
+  steps = steps;
+  are_kept = refl;
+  are_read = record { shown = refl; first = first };
+  delivers = delivers;
+  output = outs;
+  counts = (refl, refl);
+}

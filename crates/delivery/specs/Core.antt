@@ -1,0 +1,9 @@
+-- The core: its steps, what they say of the ordering machine, what is written to each connection, which steps
+-- a run may have, what is reported of it, and what the core's calls are to deliver. No code of the core yet.
+pub mod Steps
+pub mod Account
+pub mod Output
+pub mod State
+pub mod Outcomes
+pub mod Reports
+pub mod Delivery

@@ -1,0 +1,160 @@
+-- What may come of an event: the outcome of its table, with the checks in their order, or one for want of
+-- memory.
+use Rattle.std.specs.Prelude.{◌≡◌, ℕ, Bool, true, false, List, [], ◌∷◌, ◌++◌, length, Option, Some, None, if◌then◌else◌}
+use Rattle.std.specs.Option.{option_map, option_or, option_map_or, option_and_then, option_to_list}
+use Rattle.stomp_frame.specs.declared.raw_frame.RawFrame.{RawFrame}
+use Rattle.stomp_frame.specs.Cases.{case_fault}
+use Rattle.mcast_txn.specs.Lists.{In}
+use Rattle.mcast_txn.specs.Checks.{first_refusal}
+use Rattle.stomp_session.specs.declared.fault.SessionFault.{SessionFault}
+use Rattle.stomp_session.specs.Refusals.{refusal}
+use Rattle.stomp_session.specs.Answers.{action_by}
+use Rattle.delivery.specs.declared.event.Event.{Event}
+use Rattle.delivery.specs.declared.outcome.Outcome.{Outcome}
+use Rattle.delivery.specs.declared.refusal.Refusal.{Refusal}
+use Rattle.delivery.specs.declared.connection_fault.ConnectionFault.{ConnectionFault}
+use Rattle.delivery.specs.Topics.{TopicList}
+use Rattle.delivery.specs.Machine.Objections.{Objection, refusal_of}
+use Rattle.delivery.specs.Machine.Moves.{Move, Answer, needs_open, needs_idle, move_refusal, answer_to}
+use Rattle.delivery.specs.Core.Steps.{CoreStep, Reading}
+use Rattle.delivery.specs.Core.Account.{account_of}
+use Rattle.delivery.specs.Core.Output.{replies_to}
+use Rattle.delivery.specs.Core.State.{Core, IsReadBy, unread_at, session_at, frame_move, core_of}
+
+-- ---- the machine's answers, as the core reports them
+
+-- An outcome of the machine's answer. None of an objection that the core doesn't report. An ERROR of the
+-- machine's own is that of a queue that has lagged.
+abbrev pub outcome_of : Answer → Option Outcome
+outcome_of (Answer.Refused why) = option_map Outcome.Refused (refusal_of why)
+outcome_of Answer.Done = Some Outcome.Done
+outcome_of (Answer.Opened c) = Some (Outcome.Opened c)
+outcome_of (Answer.Begun txn) = Some (Outcome.Flying txn.id)
+outcome_of (Answer.Subscribed s c t from) = Some (Outcome.Subscribed s from)
+outcome_of (Answer.Unsubscribed s to) = Some (Outcome.Unsubscribed s to)
+outcome_of (Answer.Leaving c) = Some Outcome.Leaving
+outcome_of (Answer.Error c) = Some (Outcome.Faulted ConnectionFault.Lagged false)
+outcome_of (Answer.Gone c) = Some (Outcome.Gone false)
+outcome_of (Answer.Ticket id ticket) = Some (Outcome.Proposed ticket.n)
+outcome_of (Answer.Failed id why) = Some (Outcome.Failed why)
+outcome_of (Answer.Decided id stamp) = Some (Outcome.Decided stamp false)
+outcome_of (Answer.Withdrawn id c) = Some (Outcome.Withdrawn false)
+outcome_of (Answer.Cancelled id t) = Some Outcome.Cancelled
+outcome_of (Answer.Learnt id t) = Some Outcome.Learnt
+outcome_of (Answer.Released t id) = Some (Outcome.Released id)
+outcome_of (Answer.Turned t count) = Some (Outcome.Turned count)
+outcome_of (Answer.Handed s item) = Some (Outcome.Handed (length item.sends))
+
+-- what comes of a move
+abbrev pub move_outcome : Core → Move → List Outcome
+move_outcome k move = option_to_list (outcome_of (answer_to k.world move))
+
+-- where something stands against it, that alone; otherwise these
+abbrev pub unless : Option Objection → List Outcome → List Outcome
+unless why outcomes =
+    option_map_or (λ w. option_to_list (option_map Outcome.Refused (refusal_of w))) why outcomes
+
+-- ---- Next
+
+-- want of memory, as a fault of a frame that was read
+abbrev pub frame_no_memory : ConnectionFault
+frame_no_memory = ConnectionFault.Session SessionFault.NoMemory
+
+-- Why the frame ends its connection, if it does: by the case table; by the session; by its topic or its
+-- sender, reported as want of memory. In this order.
+abbrev pub frame_fault : Core → ℕ → RawFrame → Option ConnectionFault
+frame_fault k c f =
+    option_or (option_map ConnectionFault.Frame (case_fault f))
+    (option_or (option_map ConnectionFault.Session (refusal (session_at k c) f))
+    (option_map (λ why. frame_no_memory)
+    (option_and_then (λ move. move_refusal k.world move)
+    (frame_move k c (action_by f.command (session_at k c) f)))))
+
+-- a fault's ERROR, or the same with its reply left out
+abbrev pub fault_outcomes : ConnectionFault → List Outcome
+fault_outcomes fault = Outcome.Faulted fault false ∷ Outcome.Faulted fault true ∷ []
+
+-- what comes of a frame that is accepted
+abbrev pub frame_outcome : Core → ℕ → RawFrame → List Outcome
+frame_outcome k c f =
+    option_map_or (move_outcome k) (frame_move k c (action_by f.command (session_at k c) f))
+    (Outcome.Done ∷ [])
+
+-- what may come of what was read: of a frame that isn't refused also that there was no memory for it
+abbrev pub reading_outcomes : Core → ℕ → Reading → List Outcome
+reading_outcomes k c Reading.Nothing = fault_outcomes ConnectionFault.ReaderNoMemory
+reading_outcomes k c (Reading.Waits left) = Outcome.Refused Refusal.NoFrame ∷ []
+reading_outcomes k c (Reading.Finds f left) =
+    option_map_or fault_outcomes (frame_fault k c f)
+    (frame_outcome k c f ++ fault_outcomes frame_no_memory)
+reading_outcomes k c (Reading.Fails check left) = fault_outcomes (ConnectionFault.Stream check)
+
+-- ---- all events
+
+-- the outcome with its reply left out
+abbrev pub cut_of : Outcome → Outcome
+cut_of (Outcome.Decided stamp cut) = Outcome.Decided stamp true
+cut_of (Outcome.Withdrawn cut) = Outcome.Withdrawn true
+cut_of (Outcome.Gone cut) = Outcome.Gone true
+cut_of o = o
+
+-- there are some
+abbrev pub is_any : {X : Type 0} → List X → Bool
+is_any [] = false
+is_any (x ∷ xs) = true
+
+-- the outcome, and where a reply is due the same with the reply left out
+abbrev pub with_cut : Core → ℕ → Event → Outcome → List Outcome
+with_cut k c e o =
+    o ∷ (if is_any (replies_to c k.steps (account_of k.names k.steps) e Reading.Nothing o)
+    then cut_of o ∷ [] else [])
+
+-- the same of a move's outcome
+abbrev pub reply_outcomes : Core → ℕ → Event → List Outcome → List Outcome
+reply_outcomes k c e [] = []
+reply_outcomes k c e (o ∷ os) = with_cut k c e o
+
+-- What may come of an event: first what does with memory, then what does without. So of a Take of a
+-- subscription whose queue has an item: `Handed` or NoMemory; of a Turn: `Turned` alone.
+abbrev pub outcomes : Core → Event → Reading → List Outcome
+outcomes k Event.Open reading = move_outcome k Move.Opens ++ Outcome.NoMemory ∷ []
+outcomes k (Event.Piece c octets) reading =
+    unless (first_refusal (needs_open k.world c)) (Outcome.Fed ∷ Outcome.NoMemory ∷ [])
+outcomes k (Event.Next c) reading =
+    unless (first_refusal (needs_idle k.world c)) (reading_outcomes k c reading)
+outcomes k (Event.Propose c t) reading =
+    move_outcome k (Move.Proposes c t true) ++ move_outcome k (Move.Proposes c t false)
+outcomes k (Event.Decide c) reading =
+    reply_outcomes k c (Event.Decide c) (move_outcome k (Move.Decides c))
+outcomes k (Event.Withdraw c) reading =
+    reply_outcomes k c (Event.Withdraw c) (move_outcome k (Move.Withdraws c))
+outcomes k (Event.Cancel c t) reading = move_outcome k (Move.Cancels c t)
+outcomes k (Event.Learn t id) reading = move_outcome k (Move.Learns t id)
+outcomes k (Event.Release t) reading = move_outcome k (Move.Releases t)
+outcomes k (Event.Turn t) reading = move_outcome k (Move.Turns t)
+outcomes k (Event.Take s) reading =
+    unless (move_refusal k.world (Move.Takes s))
+    (move_outcome k (Move.Takes s) ++ Outcome.NoMemory ∷ [])
+outcomes k (Event.Leave c) reading =
+    reply_outcomes k c (Event.Leave c) (move_outcome k (Move.Leaves c))
+outcomes k (Event.Lost c) reading = move_outcome k (Move.Lost c)
+
+-- a Next reads what its reader gives, unless it is refused before; nothing else reads
+abbrev pub IsReadAt : Core → Event → Reading → Type 0
+IsReadAt k (Event.Next c) reading =
+    elim (first_refusal (needs_idle k.world c)) [
+      | None ↦ IsReadBy (unread_at c k.steps) reading
+      | Some why ↦ reading ≡ Reading.Nothing
+    ]
+IsReadAt k e reading = reading ≡ Reading.Nothing
+
+-- the core may make this step
+pub record MayStep (k : Core) (step : CoreStep) : Type 0 where
+  pub reading : IsReadAt k step.event step.reading
+  pub outcome : In step.outcome (outcomes k step.event step.reading)
+
+-- each of these steps was one that the core could make
+abbrev pub IsCoreRun : TopicList → ℕ → List CoreStep → Type 0
+IsCoreRun topics capacity [] = Unit {0}
+IsCoreRun topics capacity (step ∷ older) =
+    MayStep (core_of topics capacity older) step × IsCoreRun topics capacity older

@@ -1,0 +1,123 @@
+-- The octets that are written to a connection, from a run's steps alone.
+use Rattle.std.specs.Prelude.{ℕ, ◌==◌, Bool, true, false, not, ◌&&◌, List, [], ◌∷◌, ◌++◌, map, filter, Option, Some, None, if◌then◌else◌}
+use Rattle.std.specs.List.{list_any, flat_map, last_or}
+use Rattle.std.specs.Option.{option_map_or, option_and_then}
+use Rattle.mcast_txn.specs.declared.id.TxnId.{TxnId}
+use Rattle.mcast_txn.specs.Ids.{same_id}
+use Rattle.mcast_txn.specs.Span.{Item}
+use Rattle.mcast_group.specs.Faults.{propose_title}
+use Rattle.stomp_frame.specs.declared.raw_frame.RawFrame.{RawFrame}
+use Rattle.stomp_frame.specs.Cases.{is_connect}
+use Rattle.stomp_frame.specs.Receipts.{receipt_of}
+use Rattle.stomp_frame.specs.ServerFrames.{message_frame, message_id, error_frame, connected_frame, receipt_frame}
+use Rattle.stomp_frame.specs.Writing.{spelled}
+use Rattle.stomp_session.specs.declared.fault.SessionFault.{SessionFault}
+use Rattle.stomp_session.specs.Frames.{id_of, is_disconnect}
+use Rattle.delivery.specs.declared.event.Event.{Event}
+use Rattle.delivery.specs.declared.outcome.Outcome.{Outcome}
+use Rattle.delivery.specs.declared.connection_fault.ConnectionFault.{ConnectionFault}
+use Rattle.delivery.specs.Faults.{connection_title}
+use Rattle.delivery.specs.Machine.Moves.{Answer}
+use Rattle.delivery.specs.Theorem.Settled.{closes}
+use Rattle.delivery.specs.Core.Steps.{CoreStep, Reading, frame_in, accepted_of, begun_by}
+use Rattle.delivery.specs.Core.Account.{last_id, beginning_of, next_item, account_of}
+
+-- connection c was closed: nothing is written to it any more but the RECEIPT of its DISCONNECT
+abbrev pub has_closed : ℕ → List Answer → Bool
+has_closed c account = list_any (closes c) account
+
+-- the RECEIPT that a frame asks for, if it does
+abbrev pub receipts_of : RawFrame → List RawFrame
+receipts_of f = option_map_or (λ id. receipt_frame id ∷ []) (receipt_of f) []
+
+-- the receipt that the frame asks for, if there is a frame and it does
+abbrev pub receipt_asked : Option RawFrame → Option (List ℕ)
+receipt_asked f = option_and_then receipt_of f
+
+-- the frame that made the connection's last transaction: the last accepted one, since none is read before it
+-- ends
+abbrev pub commit_frame : List RawFrame → Option RawFrame
+commit_frame accepted = last_or None accepted
+
+-- the version is said where it was refused
+abbrev pub says_version : ConnectionFault → Bool
+says_version (ConnectionFault.Session SessionFault.NoVersion) = true
+says_version fault = false
+
+-- What a Next is answered. The RECEIPT of a frame that makes a transaction is written at Decide, that of a
+-- DISCONNECT as its connection is gone.
+abbrev pub next_replies : Option RawFrame → Outcome → List RawFrame
+next_replies read (Outcome.Faulted fault cut) =
+    error_frame (connection_title fault) (receipt_asked read) (says_version fault) ∷ []
+next_replies (Some f) Outcome.Done =
+    if is_connect f.command then connected_frame ∷ [] else receipts_of f
+next_replies (Some f) (Outcome.Subscribed s from) = receipts_of f
+next_replies (Some f) (Outcome.Unsubscribed s to) = receipts_of f
+next_replies read o = []
+
+-- the text of a subscription's id, as its SUBSCRIBE has it
+abbrev pub id_text : ℕ → List CoreStep → List ℕ
+id_text s [] = []
+id_text s (step ∷ older) =
+    if option_map_or (λ r. r == s) (begun_by step.outcome) false
+    then option_map_or id_of (frame_in step.reading) [] else id_text s older
+
+-- the MESSAGEs of an item, one for each SEND of its part
+abbrev pub item_messages : List ℕ → Item → List RawFrame
+item_messages id item =
+    map (λ p. message_frame id (message_id item.stamp.n item.stamp.topic.0 p.index) p.headers p.body)
+    item.sends
+
+-- what a Take is answered
+abbrev pub take_replies : ℕ → List CoreStep → List Answer → Outcome → List RawFrame
+take_replies s older account (Outcome.Handed count) =
+    item_messages (id_text s older) (next_item s account)
+take_replies s older account (Outcome.Faulted fault cut) =
+    error_frame (connection_title fault) None false ∷ []
+take_replies s older account o = []
+
+-- why the transaction was refused, by the last of its proposals that was
+abbrev pub failed_title : TxnId → List Answer → List ℕ
+failed_title id [] = []
+failed_title id (Answer.Failed i why ∷ before) =
+    if same_id i id then propose_title why else failed_title id before
+failed_title id (o ∷ before) = failed_title id before
+
+-- the outcome's reply was left out
+abbrev pub is_cut : Outcome → Bool
+is_cut (Outcome.Decided stamp cut) = cut
+is_cut (Outcome.Withdrawn cut) = cut
+is_cut (Outcome.Faulted fault cut) = cut
+is_cut (Outcome.Gone cut) = cut
+is_cut o = false
+
+-- What a step writes to connection c. A RECEIPT of a decided transaction and the ERROR of a withdrawn one are
+-- written where the connection wasn't closed before.
+abbrev pub replies_to : ℕ → List CoreStep → List Answer → Event → Reading → Outcome → List RawFrame
+replies_to c older account (Event.Next d) reading o =
+    if d == c then next_replies (frame_in reading) o else []
+replies_to c older account (Event.Take s) reading o =
+    if (beginning_of s account).connection == c then take_replies s older account o else []
+replies_to c older account (Event.Decide d) reading (Outcome.Decided stamp cut) =
+    if d == c && not (has_closed c account)
+    then option_map_or receipts_of (commit_frame (accepted_of c older)) [] else []
+replies_to c older account (Event.Withdraw d) reading (Outcome.Withdrawn cut) =
+    if d == c && not (has_closed c account)
+    then
+    error_frame (failed_title (last_id c account) account)
+    (receipt_asked (commit_frame (accepted_of c older))) false
+    ∷ []
+    else []
+replies_to c older account (Event.Leave d) reading (Outcome.Gone cut) =
+    if d == c then flat_map receipts_of (filter (λ f. is_disconnect f.command) (accepted_of c older))
+    else []
+replies_to c older account e reading o = []
+
+-- The octets out of connection c: each reply that wasn't left out, as it is spelled.
+abbrev pub text_out : List (List ℕ) → ℕ → List CoreStep → List ℕ
+text_out names c [] = []
+text_out names c (step ∷ older) =
+    let account = account_of names older in
+    text_out names c older
+    ++ (if is_cut step.outcome then []
+    else flat_map spelled (replies_to c older account step.event step.reading step.outcome))

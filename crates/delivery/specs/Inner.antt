@@ -1,0 +1,2 @@
+-- Only serves proofs.
+pub mod Readings

@@ -1,0 +1,58 @@
+//! Why a connection ends by an ERROR.
+
+ghost use Rattle.std.specs.Prelude.{◌≡◌};
+ghost use Rattle.delivery.specs.Faults.{connection_number, connection_title};
+
+use stomp_frame::{CaseFault, Check};
+use stomp_session::SessionFault;
+use thiserror::Error;
+
+/// Why a connection ends by an ERROR. That of a transaction which a topic refused isn't among these: its outcome is the
+/// refused proposal's.
+#[derive(Clone, Copy, Debug, PartialEq, Eq, Error)]
+pub enum ConnectionFault {
+    /// 1 to 10: what it was fed fails this check of the reader.
+    #[error("the stream can't be read on: send frames as STOMP 1.2 has them, and connect again")]
+    Stream(Check),
+    /// 20 to 23: the frame isn't one that a client may send.
+    #[error("the frame isn't a client's: send what the command's section of STOMP 1.2 requires")]
+    Frame(CaseFault),
+    /// 60 to 71: the session refuses the frame. 72: the frame found no memory, in the session, at its topic or for its
+    /// sender.
+    #[error("the frame is refused as the session stands: see its own fault, and connect again")]
+    Session(SessionFault),
+    /// 74: the subscription's queue was full when an item was due, and all that it had accepted was delivered.
+    #[error("74 Lagged: take from the subscription's queue before it is full; subscribe again")]
+    Lagged,
+    /// 72: the reader found no memory, so no frame was read.
+    #[error("72 NoMemory: out of memory before a frame was read; connect again")]
+    ReaderNoMemory,
+}
+
+impl ConnectionFault {
+    /// Its number: 1 to 10, 20 to 23, 60 to 72 or 74.
+    pub fn number(self) -> u32
+        ensures { result ≡ connection_number self }
+    {
+        match self {
+            ConnectionFault::Stream(check) => check.fault().number(),
+            ConnectionFault::Frame(fault) => fault.number(),
+            ConnectionFault::Session(fault) => fault.number(),
+            ConnectionFault::Lagged => 74,
+            ConnectionFault::ReaderNoMemory => 72,
+        }
+    }
+
+    /// Its number, a space and its name, as in the message of the ERROR.
+    pub fn title(self) -> &'static [u8]
+        ensures { result.now ≡ connection_title self }
+    {
+        match self {
+            ConnectionFault::Stream(check) => check.fault().title(),
+            ConnectionFault::Frame(fault) => fault.title(),
+            ConnectionFault::Session(fault) => fault.title(),
+            ConnectionFault::Lagged => b"74 Lagged".as_slice(),
+            ConnectionFault::ReaderNoMemory => b"72 NoMemory".as_slice(),
+        }
+    }
+}
