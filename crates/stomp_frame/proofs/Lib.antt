@@ -5,6 +5,8 @@ pub mod AtFault
 pub mod FirstFailed
 pub mod Whole
 pub mod Unread
+pub mod Unfound
+pub mod PartialFrames
 pub mod Pieces
 pub mod Breaks
 pub mod Eols

@@ -1,6 +1,8 @@
 //! STOMP 1.2 frames: a reader of streams, a writer, and the frames that a server sends.
 #![tactic(auto)]
 
+mod awaited;
+mod bodies;
 mod case_fault;
 mod cases;
 mod client_frame;
@@ -12,6 +14,7 @@ pub mod law;
 mod limits;
 mod lines;
 mod parse;
+mod partial_frame;
 mod raw_frame;
 mod reader;
 mod server_frame;
