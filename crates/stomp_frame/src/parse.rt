@@ -38,7 +38,11 @@ fn parse_field(alloc: Global, escapes: bool, text: &[u8]) -> Result<Octets, Stop
 
 /// The name and the value of a header's line.
 #[tactic(auto, unfolding(crate::specs::Inner::Parser::header_of))]
-pub(crate) fn parse_header(alloc: Global, escapes: bool, line: &[u8]) -> Result<(Octets, Octets), Stop>
+pub(crate) fn parse_header(
+    alloc: Global,
+    escapes: bool,
+    line: &[u8],
+) -> Result<(Octets, Octets), Stop>
     ensures { Returns (λ x. x) result (header_of escapes line.now) }
 {
     match split_at_first(b':', line) {
