@@ -21,5 +21,6 @@ pub mod Bare
 pub mod Names
 pub mod Digits
 pub mod Messages
+pub mod ServerSpellings
 pub mod Places
 pub mod Examples

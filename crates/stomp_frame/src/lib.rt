@@ -19,6 +19,7 @@ mod raw_frame;
 mod reader;
 mod server_frame;
 mod server_headers;
+mod server_writer;
 mod writer;
 
 pub use case_fault::{CaseFault, RequiredHeader};
@@ -34,6 +35,7 @@ pub use limits::Limits;
 pub use raw_frame::RawFrame;
 pub use reader::FrameReader;
 pub use server_frame::{ServerFrame, render};
+pub use server_writer::write_server;
 pub use stomp_escape::{NoMemory, Octets};
 pub use writer::{writable, write_frame};
 

@@ -87,7 +87,7 @@ const NOTHING: [Row; 6] = [
     (b"S", b".."),
     (b"SE", b"8 LineTooLong"),
     (b"S\n", b"8 LineTooLong"),
-    (b"\n\r\r\n", b"2 BadLine"),
+    (b"\n\r\r\n", b"8 LineTooLong"),
 ];
 
 /// Appends the frames that the reader returns of a piece, and its fault; whether it returned one.
