@@ -4,7 +4,7 @@ ghost use Rattle.stomp_frame.specs.ServerFrames.{IsRenderable};
 
 use super::made::{headers, raw, text};
 use crate::{
-    Command, FrameReader, Limits, RawFrame, ServerFrame, render, writable, write_frame,
+    Command, FrameReader, Headers, Limits, RawFrame, ServerFrame, render, writable, write_frame,
     write_server,
 };
 use std::alloc::Global;
@@ -53,34 +53,33 @@ fn message(
     sent(alloc, &frame)
 }
 
-fn error(
+/// What is written of an ERROR, if its texts may be values.
+fn error<'a>(
     alloc: Global,
-    title: &[u8],
-    asked: Option<&[u8]>,
+    message: &'a [u8],
+    receipt: Option<&'a [u8]>,
     version: bool,
 ) -> Result<Octets, NoMemory> {
-    let title = text(alloc, title)?;
-    match asked {
-        Some(asked) => {
-            let asked = text(alloc, asked)?;
-            sent(
-                alloc,
-                &ServerFrame::Error {
-                    message: title.as_slice(),
-                    receipt: Some(asked.as_slice()),
-                    version,
-                },
-            )
-        }
-        None => sent(
-            alloc,
-            &ServerFrame::Error {
-                message: title.as_slice(),
-                receipt: None,
-                version,
-            },
-        ),
+    if !Headers::is_pair(b"message", message) {
+        return Err(NoMemory);
     }
+    let Some(id) = receipt else {
+        let frame = ServerFrame::Error {
+            message,
+            receipt: None,
+            version,
+        };
+        return sent(alloc, &frame);
+    };
+    if !Headers::is_pair(b"receipt-id", id) {
+        return Err(NoMemory);
+    }
+    let frame = ServerFrame::Error {
+        message,
+        receipt: Some(id),
+        version,
+    };
+    sent(alloc, &frame)
 }
 
 /// A SEND's stamp and index, headers and body, and its MESSAGE for the subscription `s`.
