@@ -32,10 +32,12 @@ place text parsed next le w = omega (arith, length-drop parsed text)
 
 -- ---- now
 
+-- with nothing more behind the text
 pub now : (limits : Limits) (text : List ℕ) (awaited : Awaited) (headers : List Header) (parsed searched : ℕ) → IsReadUpTo limits text awaited headers parsed searched → frame_at limits text ≡ frame_resumed limits awaited headers (drop parsed text)
 now limits text awaited headers parsed searched h =
     ap (frame_at limits) (sym (append-nil text)) ∙ h.resumes [] ∙ ap (frame_resumed limits awaited headers) (append-nil (drop parsed text))
 
+-- what stops a step stops what goes on from it
 pub stops_bind : {A B : Type 0} (e : Stop) (r : Result A Halt) (f : A → Result B Halt) → Stops e r → Stops e (r >>= f)
 stops_bind stops.Memory r f s = tt
 stops_bind stops.Open r f s = rw s refl
@@ -46,7 +48,7 @@ begun_more text piece awaits.CommandLine headers parsed f = f
 begun_more text piece (awaits.HeaderLine c) headers parsed f = λ more. ap after_eols (append_assoc text piece more) ∙ f (piece ++ more) ∙ sym (append_assoc text piece more)
 begun_more text piece (awaits.Body c n) headers parsed f = λ more. ap after_eols (append_assoc text piece more) ∙ f (piece ++ more) ∙ sym (append_assoc text piece more)
 
--- more comes behind the text
+-- more comes after the text
 pub read_up_to_more : (limits : Limits) (text piece : List ℕ) (awaited : Awaited) (headers : List Header) (parsed searched : ℕ) → IsReadUpTo limits text awaited headers parsed searched → IsReadUpTo limits (text ++ piece) awaited headers parsed searched
 read_up_to_more limits text piece awaited headers parsed searched h =
     let near : parsed ≤ length text = omega (arith, h.within) in
@@ -65,7 +67,7 @@ read_up_to_more limits text piece awaited headers parsed searched h =
     still : (text piece : List ℕ) (parsed j : ℕ) → parsed + j < length text → get_or (drop parsed (text ++ piece)) j 0 ≡ get_or (drop parsed text) j 0
     still text piece parsed j lt = get_or-drop parsed (text ++ piece) j 0 ∙ open_at text piece (parsed + j) lt ∙ sym (get_or-drop parsed text j 0)
 
--- nothing was parsed in
+-- nothing is parsed
 pub read_up_to_none : (limits : Limits) (text : List ℕ) → IsReadUpTo limits text awaits.CommandLine [] 0 0
 read_up_to_none limits text = record { within = omega arith; few = omega arith; begun = (refl, refl); resumes = λ more. refl; unfound = none_yet 10 text }
 
@@ -75,16 +77,18 @@ by_eols : (limits : Limits) (a b : List ℕ) → after_eols a ≡ after_eols b �
 unfolding frame_at
 by_eols limits a b e = rw e refl
 
+-- end-of-lines are skipped once for all
 pub eols_once : (rest : List ℕ) → after_eols (after_eols rest) ≡ after_eols rest
 eols_once rest = let t = eols_take rest in sym (ap after_eols t.1 ∙ eols_again t.0 (after_eols rest))
 
+-- skipping goes on from where it stopped
 pub eols_more : (rest more : List ℕ) → after_eols (rest ++ more) ≡ after_eols (after_eols rest ++ more)
 eols_more rest more =
     let t = eols_take rest in
     let front = flat_map eol t.0 in
     ap (λ (r : List ℕ). after_eols (r ++ more)) t.1 ∙ ap after_eols (append_assoc front (after_eols rest) more) ∙ eols_again t.0 (after_eols rest ++ more)
 
--- the frame in partial begins behind the end-of-lines
+-- the frame begins after the end-of-lines
 pub front_later : (limits : Limits) (text : List ℕ) (awaited : Awaited) (headers : List Header) (parsed searched front start : ℕ) → awaited ≡ awaits.CommandLine → IsReadUpTo limits (drop front text) awaited headers parsed searched → IsReadUpTo limits (drop start text) awaited headers parsed 0
 front_later limits text awaited headers parsed searched front start s h =
     let begun = subst (λ (s : Awaited). HasBegun (drop front text) s headers parsed) s h.begun in
@@ -99,22 +103,26 @@ shorter text front start w v e =
     let left = ap length e in
     omega (arith, long, left, length-drop start text, length-drop front text)
 
+-- skipping goes forward
 pub front_order : (text : List ℕ) (front start : ℕ) → front ≤ length text → start ≤ length text → drop start text ≡ after_eols (drop front text) → front ≤ start
 front_order text front start w v e = shorter text front start w v e
 
+-- where nothing was skipped the frame begins where it did
 pub front_same : (limits : Limits) (text : List ℕ) (awaited : Awaited) (headers : List Header) (parsed searched front start : ℕ) → front ≤ length text → start ≤ length text → start ≤ front → drop start text ≡ after_eols (drop front text) → IsReadUpTo limits (drop front text) awaited headers parsed searched → IsReadUpTo limits (drop start text) awaited headers parsed searched
 front_same limits text awaited headers parsed searched front start w v le e h =
     let more = shorter text front start w v e in
     let same : front ≡ start = omega arith in
     subst (λ (k : ℕ). IsReadUpTo limits (drop k text) awaited headers parsed searched) same h
 
+-- skipping goes on from the front, whatever comes
 pub front_goes : (rest front more : List ℕ) → front ≡ after_eols rest → after_eols (rest ++ more) ≡ after_eols (front ++ more)
 front_goes rest front more e = eols_more rest more ∙ ap (λ (t : List ℕ). after_eols (t ++ more)) (sym e)
 
--- behind a command nothing is skipped
+-- after a command nothing is skipped
 pub front_stays : (text : List ℕ) (awaited : Awaited) (headers : List Header) (parsed : ℕ) (c : Command) → awaited ≡ awaits.HeaderLine c → HasBegun text awaited headers parsed → text ≡ after_eols text
 front_stays text awaited headers parsed c s f = let g = subst (λ (s : Awaited). HasBegun text s headers parsed) s f in sym (ap after_eols (sym (append-nil text)) ∙ g [] ∙ append-nil text)
 
+-- nor while its body is read
 pub front_stays_body : (text : List ℕ) (awaited : Awaited) (headers : List Header) (parsed : ℕ) (c : Command) (n : Option ℕ) → awaited ≡ awaits.Body c n → HasBegun text awaited headers parsed → text ≡ after_eols text
 front_stays_body text awaited headers parsed c n s f = let g = subst (λ (s : Awaited). HasBegun text s headers parsed) s f in sym (ap after_eols (sym (append-nil text)) ∙ g [] ∙ append-nil text)
 
@@ -140,9 +148,11 @@ never_skipped limits rest line after idem l more = elim (eols_cases rest more) [
       absurd (let q = sym (line_open limits rest (ap (cut 10) (sym idem) ∙ none) few) ∙ l in cc)
 ]
 
+-- before there is a command nothing is parsed
 pub start_here : (text : List ℕ) (awaited : Awaited) (headers : List Header) (parsed : ℕ) → awaited ≡ awaits.CommandLine → HasBegun text awaited headers parsed → drop parsed text ≡ text
 start_here text awaited headers parsed s f = let g = subst (λ (s : Awaited). HasBegun text s headers parsed) s f in ap (λ (k : ℕ). drop k text) g.1
 
+-- after a command's line
 pub held_command : (limits : Limits) (text : List ℕ) (awaited : Awaited) (headers : List Header) (parsed searched next : ℕ) (line : List ℕ) (c : Command) → awaited ≡ awaits.CommandLine → IsReadUpTo limits text awaited headers parsed searched → after_eols (drop parsed text) ≡ drop parsed text
     → line_at limits (drop parsed text) ≡ Ok (line, drop next (drop parsed text)) → command_of line ≡ Ok c → next ≤ length (drop parsed text) → IsReadUpTo limits text (awaits.HeaderLine c) headers (parsed + next) 0
 held_command limits text awaited headers parsed searched next line c s h idem l e le =
@@ -174,9 +184,11 @@ command_stops (stops.Fault k) limits rest line after idem l s = rw (idem, l, s) 
 at_start : (limits : Limits) (text : List ℕ) (awaited : Awaited) (headers : List Header) (parsed searched : ℕ) → awaited ≡ awaits.CommandLine → IsReadUpTo limits text awaited headers parsed searched → frame_at limits text ≡ frame_at limits (drop parsed text)
 at_start limits text awaited headers parsed searched s h = now limits text awaits.CommandLine headers parsed searched (subst (λ (s : Awaited). IsReadUpTo limits text s headers parsed searched) s h)
 
+-- a command's line that can't be read
 pub line_stops_frame : (e : Stop) (limits : Limits) (text : List ℕ) (awaited : Awaited) (headers : List Header) (parsed searched : ℕ) → awaited ≡ awaits.CommandLine → IsReadUpTo limits text awaited headers parsed searched → after_eols (drop parsed text) ≡ drop parsed text → Stops e (line_at limits (drop parsed text)) → Stops e (frame_at limits text)
 line_stops_frame e limits text awaited headers parsed searched s h idem l = subst (λ (r : Result (RawFrame × List ℕ) Halt). Stops e r) (sym (at_start limits text awaited headers parsed searched s h)) (line_stops e limits (drop parsed text) idem l)
 
+-- a line that is no command
 pub command_stops_frame : (e : Stop) (limits : Limits) (text : List ℕ) (awaited : Awaited) (headers : List Header) (parsed searched : ℕ) (line after : List ℕ) → awaited ≡ awaits.CommandLine → IsReadUpTo limits text awaited headers parsed searched → after_eols (drop parsed text) ≡ drop parsed text → line_at limits (drop parsed text) ≡ Ok (line, after) → Stops e (command_of line) → Stops e (frame_at limits text)
 command_stops_frame e limits text awaited headers parsed searched line after s h idem l c = subst (λ (r : Result (RawFrame × List ℕ) Halt). Stops e r) (sym (at_start limits text awaited headers parsed searched s h)) (command_stops e limits (drop parsed text) line after idem l c)
 
@@ -204,7 +216,7 @@ body_sized limits headers n e text = body_by_length limits headers text ∙ ap (
 
 -- ---- a header's line
 
--- what is still read of a frame of this command
+-- the headers of a frame, once its first ones are read
 abbrev pub due : Limits → Command → List Header → List ℕ → Result (List Header × List ℕ) Halt
 due limits c headers text = with_front headers (headers_at limits (has_escapes c) (limits.headers - length headers) text)
 
@@ -218,20 +230,24 @@ stops_header : (e : Stop) (limits : Limits) (text : List ℕ) (awaited : Awaited
 stops_header e limits text awaited headers parsed searched c s h d =
     subst (λ (r : Result (RawFrame × List ℕ) Halt). Stops e r) (sym (at_header limits text awaited headers parsed searched c s h)) (stops_bind e (due limits c headers (drop parsed text)) (frame_after_headers limits c) d)
 
+-- a header's line that can't be read
 pub header_line_stops : (e : Stop) (limits : Limits) (text : List ℕ) (awaited : Awaited) (headers : List Header) (parsed searched : ℕ) (c : Command) → awaited ≡ awaits.HeaderLine c → IsReadUpTo limits text awaited headers parsed searched → Stops e (line_at limits (drop parsed text)) → Stops e (frame_at limits text)
 header_line_stops e limits text awaited headers parsed searched c s h l =
     stops_header e limits text awaited headers parsed searched c s h (line_fails e limits (has_escapes c) headers (limits.headers - length headers) (drop parsed text) (due limits c headers (drop parsed text)) l refl)
 
+-- a line that is no header
 pub header_stops : (e : Stop) (limits : Limits) (text : List ℕ) (awaited : Awaited) (headers : List Header) (parsed searched : ℕ) (c : Command) (line after : List ℕ) → awaited ≡ awaits.HeaderLine c → IsReadUpTo limits text awaited headers parsed searched → length headers < limits.headers
     → line_at limits (drop parsed text) ≡ Ok (line, after) → eqb (length line) 0 ≡ false → Stops e (header_of (has_escapes c) line) → Stops e (frame_at limits text)
 header_stops e limits text awaited headers parsed searched c line after s h lt l some r =
     stops_header e limits text awaited headers parsed searched c s h (header_fails e limits (has_escapes c) headers limits.headers (length headers) (drop parsed text) line after (due limits c headers (drop parsed text)) lt l some r refl)
 
+-- one header too many
 pub many_stop : (limits : Limits) (text : List ℕ) (awaited : Awaited) (headers : List Header) (parsed searched : ℕ) (c : Command) (line after : List ℕ) → awaited ≡ awaits.HeaderLine c → IsReadUpTo limits text awaited headers parsed searched → limits.headers ≤ length headers
     → line_at limits (drop parsed text) ≡ Ok (line, after) → eqb (length line) 0 ≡ false → frame_at limits text ≡ Err (Fault TooManyHeaders)
 many_stop limits text awaited headers parsed searched c line after s h le l some =
     stops_header (stops.Fault TooManyHeaders) limits text awaited headers parsed searched c s h (too_many limits (has_escapes c) headers limits.headers (length headers) (drop parsed text) line after (due limits c headers (drop parsed text)) le l some refl)
 
+-- after a header's line
 pub held_header : (limits : Limits) (text : List ℕ) (awaited : Awaited) (headers : List Header) (parsed searched next : ℕ) (c : Command) (line : List ℕ) (entry : Header) → awaited ≡ awaits.HeaderLine c → IsReadUpTo limits text awaited headers parsed searched → length headers < limits.headers
     → line_at limits (drop parsed text) ≡ Ok (line, drop next (drop parsed text)) → eqb (length line) 0 ≡ false → header_of (has_escapes c) line ≡ Ok entry → next ≤ length (drop parsed text) → IsReadUpTo limits text awaited (headers ++ entry ∷ []) (parsed + next) 0
 held_header limits text awaited headers parsed searched next c line entry s h lt l some r le =
@@ -253,6 +269,7 @@ held_header limits text awaited headers parsed searched next c line entry s h lt
     } in
     subst (λ (s : Awaited). IsReadUpTo limits text s (headers ++ entry ∷ []) (parsed + next) 0) (sym s) there
 
+-- after the empty line
 pub held_empty : (limits : Limits) (text : List ℕ) (awaited : Awaited) (headers : List Header) (parsed searched next : ℕ) (c : Command) (n : Option ℕ) (line : List ℕ) → awaited ≡ awaits.HeaderLine c → IsReadUpTo limits text awaited headers parsed searched
     → line_at limits (drop parsed text) ≡ Ok (line, drop next (drop parsed text)) → eqb (length line) 0 ≡ true → body_length limits headers ≡ Ok n → next ≤ length (drop parsed text) → IsReadUpTo limits text (awaits.Body c n) headers (parsed + next) 0
 held_empty limits text awaited headers parsed searched next c n line s h l none sized le =
@@ -270,6 +287,7 @@ held_empty limits text awaited headers parsed searched next c n line s h l none 
       unfound = none_yet 0 (drop (parsed + next) text);
     }
 
+-- a content-length that can't be taken
 pub length_stops : (e : Stop) (limits : Limits) (text : List ℕ) (awaited : Awaited) (headers : List Header) (parsed searched : ℕ) (c : Command) (line after : List ℕ) → awaited ≡ awaits.HeaderLine c → IsReadUpTo limits text awaited headers parsed searched
     → line_at limits (drop parsed text) ≡ Ok (line, after) → eqb (length line) 0 ≡ true → Stops e (body_length limits headers) → Stops e (frame_at limits text)
 length_stops e limits text awaited headers parsed searched c line after s h l none r =
@@ -284,11 +302,13 @@ length_stops e limits text awaited headers parsed searched c line after s h l no
 at_body : (limits : Limits) (text : List ℕ) (awaited : Awaited) (headers : List Header) (parsed searched : ℕ) (c : Command) (n : Option ℕ) → awaited ≡ awaits.Body c n → IsReadUpTo limits text awaited headers parsed searched → frame_at limits text ≡ frame_of_body c headers (body_of limits n (drop parsed text))
 at_body limits text awaited headers parsed searched c n s h = now limits text (awaits.Body c n) headers parsed searched (subst (λ (s : Awaited). IsReadUpTo limits text s headers parsed searched) s h)
 
+-- a body that isn't there
 pub body_stops : (e : Stop) (limits : Limits) (text : List ℕ) (awaited : Awaited) (headers : List Header) (parsed searched : ℕ) (c : Command) (n : Option ℕ) → awaited ≡ awaits.Body c n → IsReadUpTo limits text awaited headers parsed searched → Stops e (body_of limits n (drop parsed text)) → Stops e (frame_at limits text)
 body_stops e limits text awaited headers parsed searched c n s h b =
     subst (λ (r : Result (RawFrame × List ℕ) Halt). Stops e r) (sym (at_body limits text awaited headers parsed searched c n s h))
     (stops_bind e (body_of limits n (drop parsed text)) (λ body. Ok (record { command = c; headers = headers; body = body.0 }, body.1)) b)
 
+-- the frame is whole
 pub body_whole : (limits : Limits) (text : List ℕ) (awaited : Awaited) (headers : List Header) (parsed searched next : ℕ) (c : Command) (n : Option ℕ) (body : List ℕ) → awaited ≡ awaits.Body c n → IsReadUpTo limits text awaited headers parsed searched → body_of limits n (drop parsed text) ≡ Ok (body, drop next (drop parsed text))
     → frame_at limits text ≡ Ok (record { command = c; headers = headers; body = body }, drop (parsed + next) text)
 body_whole limits text awaited headers parsed searched next c n body s h b =
@@ -296,6 +316,7 @@ body_whole limits text awaited headers parsed searched next c n body s h b =
 
 -- ---- the reader
 
+-- a piece comes
 pub reading_more : (limits : Limits) (text piece : List ℕ) (start front : ℕ) (partial : PartialFrame) → IsReaderState limits text start front partial → IsReaderState limits (text ++ piece) start front partial
 reading_more limits text piece start front partial r =
     let near : start ≤ length text = omega (arith, r.order, r.within) in
@@ -309,9 +330,10 @@ reading_more limits text piece start front partial r =
       read = subst (λ (t : List ℕ). IsPartial limits t partial) (sym behind) (read_up_to_more limits (drop front text) piece partial.awaited partial.headers partial.parsed partial.searched r.read);
     }
 
--- what is unread and what is in partial have the same eols skipped
+-- skipping ends at the same place from the unread text and from the partial frame
 pub same_skipped : (a b c : List ℕ) → ((more : List ℕ) → after_eols (a ++ more) ≡ after_eols (b ++ more)) → ((more : List ℕ) → after_eols (b ++ more) ≡ after_eols (c ++ more)) → after_eols a ≡ after_eols c
 same_skipped a b c p q = ap after_eols (sym (append-nil a)) ∙ p [] ∙ q [] ∙ ap after_eols (append-nil c)
 
+-- the frame is the same after the end-of-lines
 pub same_frame : (limits : Limits) (a b c : List ℕ) → ((more : List ℕ) → after_eols (a ++ more) ≡ after_eols (b ++ more)) → ((more : List ℕ) → after_eols (b ++ more) ≡ after_eols (c ++ more)) → frame_at limits a ≡ frame_at limits c
 same_frame limits a b c p q = by_eols limits a c (same_skipped a b c p q)

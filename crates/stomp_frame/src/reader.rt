@@ -66,7 +66,7 @@ impl FrameReader {
         if self.answered.is_some() {
             return Ok(());
         }
-        if self.start >= self.text.len() / 2 {
+        if self.start > self.text.len() / 2 {
             self.let_go();
         }
         self.text.extend_from_slice(piece)?;

@@ -174,7 +174,7 @@ fn a_receipt_is_written(rt: HostRuntime) -> Result<(), Fail> {
         Command::Subscribe,
         &[(b"id", b"s"), (b"destination", b"A"), (b"receipt", b"r")],
     )?;
-    let frame = render(alloc, &ServerFrame::Receipt { id })?;
+    let frame = render(alloc, &ServerFrame::Receipt { id: id.as_slice() })?;
     let mut out = Octets::new(alloc);
     write_frame(&frame, &mut out)?;
     assert!(rt; out.as_slice() == b"RECEIPT\nreceipt-id:r\n\n\0".as_slice());
