@@ -382,7 +382,7 @@ fn out_of_memory_at_each_octet(rt: HostRuntime) -> Result<(), Fail> {
     for octet in b"\r\nSEND\r\nk:\\c\nm:\xe2\x82\xac\n\nhi\0\nSEND\ncontent-length:3\n\na\0b\0\n" {
         assert!(rt; feeds(&mut reader, *octet));
         if let Some(length) = next_length(alloc, &mut reader)? {
-            lengths = (lengths * 10 + length) % 100;
+            lengths = (lengths % 10) * 10 + length % 10;
         }
     }
     assert_eq!(rt; lengths, 23);
