@@ -17,7 +17,7 @@ use Rattle.broker_server.specs.Relay.{standard, IsRelayed}
 use Rattle.broker_server.specs.RelayFaults.{relay_fault}
 use Rattle.broker_server.specs.declared.relay_fault.RelayFault.TheVariants.{UnknownDestination}
 use Rattle.broker_server.specs.Inner.Steps.{reading}
-use Rattle.broker_server.proofs.NextLemmas.{is_ascii, is_text}
+use Rattle.broker_server.proofs.AsciiTexts.{is_ascii, is_text}
 
 -- ---- two SENDs to `A`, with the bodies `hi` and `a`, NULL, `b`
 

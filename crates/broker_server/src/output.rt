@@ -1,35 +1,31 @@
 //! What is written, gathered into large writes.
 
-ghost use Rattle.std.specs.Prelude.{◌≡◌, ◌++◌, [], IfOk, OnOk, IfSome, IsTrue};
+ghost use Rattle.std.specs.Prelude.{◌≡◌, ◌++◌, [], IfOk, OnOk, IsTrue};
 ghost use Rattle.std.specs.Io.KnownBytes.{Appends};
 ghost use Rattle.std.specs.Option.{option_map, option_map_or};
 ghost use Rattle.stomp_frame.specs.Writing.{spelled};
-ghost use Rattle.stomp_frame.specs.ServerFrames.{rendered, IsRenderable};
+ghost use Rattle.stomp_frame.specs.ServerFrames.{rendered};
 ghost use Rattle.broker_server.specs.Inner.Steps.{Heard, Sends};
 
 use crate::counting::Counting;
 use crate::program_fault::ProgramFault;
-use std::alloc::Global;
 use std::io::Write;
-use stomp_frame::{Octets, ServerFrame, render, write_frame};
+use stomp_frame::{Octets, ServerFrame, write_server};
 
 /// How many octets wait before they are written.
 const FULL: usize = 65_536;
 
 /// Puts the frame after the octets that wait, and writes them once they are many.
 pub(crate) fn put<W: Write>(
-    alloc: Global,
     frame: &ServerFrame,
     waiting: &mut Octets,
     writer: &mut Counting<W>,
 ) -> Result<(), ProgramFault>
-    requires { IsRenderable frame.now }
     ensures sent { OnOk result (Sends (W.contents writer.old.inner) waiting.old
         (W.contents writer.new.inner) waiting.new (spelled (rendered frame.now))) }
     ensures heard { Heard result writer.old writer.new }
 {
-    let frame = render(alloc, frame)?;
-    write_frame(&frame, waiting)?;
+    write_server(frame, waiting)?;
     if waiting.len() < FULL {
         return Ok(());
     }
@@ -65,23 +61,21 @@ fn drain_and_flush<W: Write>(
 
 /// Writes all that waits and then the error, if there is one, flushes, and returns the status.
 pub(crate) fn finish<W: Write>(
-    alloc: Global,
     error: Option<ServerFrame>,
     waiting: &mut Octets,
     writer: &mut Counting<W>,
 ) -> Result<u8, ProgramFault>
-    requires { IfSome error IsRenderable }
     ensures written { OnOk result
         (Appends (W.contents writer.old.inner) (W.contents writer.new.inner)
-        (waiting.old ++ option_map_or spelled (option_map rendered error) [])) }
+        (waiting.old ++ option_map_or spelled (option_map rendered error.entry) [])) }
     ensures status { IfOk result (λ status.
-        status ≡ option_map_or (λ f. 2) (option_map rendered error) 0) }
+        status ≡ option_map_or (λ f. 2) (option_map rendered error.entry) 0) }
     ensures flushed { OnOk result (IsTrue writer.new.flushed) }
     ensures heard { Heard result writer.old writer.new }
 {
     let status = match &error {
         Some(frame) => {
-            put(alloc, frame, waiting, writer)?;
+            put(frame, waiting, writer)?;
             2
         }
         None => 0,

@@ -3,8 +3,9 @@
 ghost use Rattle.std.specs.Prelude.{◌≡◌, ◌≢◌, ◌⊎◌, ◌≤◌, [], List, ℕ, Err, IfOk, IfSome, IsErrOf, length};
 ghost use Rattle.std.specs.Prelude.{IsTrue, OnOk, vec_len};
 ghost use Rattle.std.specs.Io.KnownBytes.{Appends};
+ghost use Rattle.stomp_frame.specs.ServerFrames.{rendered};
 ghost use Rattle.broker_server.specs.Counts.{plus, max_reads, Fails, FailsNot, RunsOut};
-ghost use Rattle.broker_server.specs.Relay.{input_limit, too_long, IsAnswered};
+ghost use Rattle.broker_server.specs.Relay.{input_limit, message, too_long, IsAnswered};
 ghost use Rattle.broker_server.specs.Runs.{Relays, HasCause};
 ghost use Rattle.broker_server.specs.Inner.Steps.{reading, Heard, IsGathered};
 
@@ -14,7 +15,7 @@ use crate::output::{finish, put};
 use crate::program_fault::ProgramFault;
 use std::alloc::{AllocError, Global};
 use std::io::{ErrorKind, Read, Write};
-use stomp_frame::{FrameReader, Limits, Octets};
+use stomp_frame::{FrameReader, Limits, Octets, RawFrame, ServerFrame};
 
 /// How many octets of input are taken.
 const INPUT_LIMIT: usize = 16_777_216;
@@ -112,6 +113,20 @@ fn refuse_length<W: Write>(writer: &mut Counting<W>) -> Result<u8, ProgramFault>
     Ok(2)
 }
 
+/// The message of a frame, with this number.
+fn message(n: u64, frame: &RawFrame) -> ServerFrame<'_>
+    ensures { rendered result ≡ message n frame.now }
+{
+    ServerFrame::Message {
+        subscription: b"0",
+        n,
+        topic: 0,
+        index: 0,
+        headers: &frame.headers,
+        body: frame.body.as_slice(),
+    }
+}
+
 /// Writes the messages of the frames that are read, and then the error.
 fn relay_frames<W: Write>(
     alloc: Global,
@@ -130,9 +145,9 @@ fn relay_frames<W: Write>(
     let mut waiting = Octets::new(alloc);
     let mut n = 1;
     'frames: loop {
-        match Next::read(alloc, name, n, frames)? {
-            Next::Message(message) => put(alloc, &message, &mut waiting, writer)?,
-            Next::End(error) => return finish(alloc, error, &mut waiting, writer),
+        match Next::read(alloc, name, frames)? {
+            Next::Message(frame) => put(&message(n, &frame), &mut waiting, writer)?,
+            Next::End(last) => return finish(last.error(), &mut waiting, writer),
         }
         n += 1;
     }

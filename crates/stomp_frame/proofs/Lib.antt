@@ -5,6 +5,8 @@ pub mod AtFault
 pub mod FirstFailed
 pub mod Whole
 pub mod Unread
+pub mod Unfound
+pub mod PartialFrames
 pub mod Pieces
 pub mod Breaks
 pub mod Eols
@@ -19,5 +21,6 @@ pub mod Bare
 pub mod Names
 pub mod Digits
 pub mod Messages
+pub mod ServerSpellings
 pub mod Places
 pub mod Examples

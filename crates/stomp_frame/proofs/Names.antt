@@ -20,7 +20,7 @@ has names q = list_any (λ n. bytes_eq q n) names
 abbrev pub seen : List Header → List (List ℕ)
 seen headers = map (λ h. h.0) headers ++ kept_back
 
-either_way : (xs ys : List ℕ) → bytes_eq xs ys ≡ bytes_eq ys xs
+pub either_way : (xs ys : List ℕ) → bytes_eq xs ys ≡ bytes_eq ys xs
 either_way xs ys = same_from_decides (bytes_eq xs ys) (bytes_eq ys xs) (bytes_eq-Decides xs ys) (Decides-like (bytes_eq ys xs) (λ e. sym e) (λ e. sym e) (bytes_eq-Decides ys xs))
 
 same_cond : {X : Type 0} (a b : Bool) (x v y w : X) → a ≡ b → x ≡ v → y ≡ w → cond a x y ≡ cond b v w
@@ -52,23 +52,23 @@ pub seen_is : (hs : List Header) (q : List ℕ) (kept found : Bool) → kept ≡
 seen_is hs q kept found k f = or_swap kept found ∙ ap (λ b. b || kept) (f ∙ first_has hs q) ∙ ap (λ b. has (map (λ h. h.0) hs) q || b) k ∙ sym (list_any-append (λ n. bytes_eq q n) (map (λ h. h.0) hs) kept_back)
 
 -- names that tell the same give the same first entries
-same_names : (hs : List Header) (names others : List (List ℕ)) → ((q : List ℕ) → has names q ≡ has others q) → first_entries names hs ≡ first_entries others hs
+pub same_names : (hs : List Header) (names others : List (List ℕ)) → ((q : List ℕ) → has names q ≡ has others q) → first_entries names hs ≡ first_entries others hs
 same_names [] names others e = refl
 same_names (h ∷ hs) names others e =
     same_cond (has names h.0) (has others h.0) (first_entries names hs) (first_entries others hs) (h ∷ first_entries (h.0 ∷ names) hs) (h ∷ first_entries (h.0 ∷ others) hs) (e h.0) (same_names hs names others e)
     (ap (λ (l : List Header). h ∷ l) (same_names hs (h.0 ∷ names) (h.0 ∷ others) (λ q. ap (λ b. bytes_eq q h.0 || b) (e q))))
 
 -- one more header behind the others puts its name among those that were seen
-seen_more : (hs : List Header) (h : Header) (q : List ℕ) → has (seen (hs ++ h ∷ [])) q ≡ has (h.0 ∷ seen hs) q
+pub seen_more : (hs : List Header) (h : Header) (q : List ℕ) → has (seen (hs ++ h ∷ [])) q ≡ has (h.0 ∷ seen hs) q
 seen_more [] h q = refl
 seen_more (g ∷ hs) h q = ap (λ b. bytes_eq q g.0 || b) (seen_more hs h q) ∙ or_third (bytes_eq q g.0) (bytes_eq q h.0) (has (seen hs) q)
 
-rest_at : (hs : List Header) (i : ℕ) (h : Header) → slice_get hs i ≡ Some h → drop i hs ≡ h ∷ drop (i + 1) hs
+pub rest_at : (hs : List Header) (i : ℕ) (h : Header) → slice_get hs i ≡ Some h → drop i hs ≡ h ∷ drop (i + 1) hs
 rest_at [] i h e = absurd cc
 rest_at (g ∷ hs) zero h e = ap (λ (x : Header). x ∷ hs) (same_Some g h e)
 rest_at (g ∷ hs) (suc i) h e = let more : suc i + 1 ≡ suc (i + 1) = omega arith in rw more (rest_at hs i h e)
 
-at_cons : (hs rest : List Header) (h : Header) (names : List (List ℕ)) → hs ≡ h ∷ rest → first_entries names hs ≡ cond (has names h.0) (first_entries names rest) (h ∷ first_entries (h.0 ∷ names) rest)
+pub at_cons : (hs rest : List Header) (h : Header) (names : List (List ℕ)) → hs ≡ h ∷ rest → first_entries names hs ≡ cond (has names h.0) (first_entries names rest) (h ∷ first_entries (h.0 ∷ names) rest)
 at_cons hs rest h names e = ap (first_entries names) e
 
 -- at a header that is passed over nothing is put
@@ -84,14 +84,18 @@ put_next out whole sent i h at absent e =
     let names = same_names (drop (i + 1) sent) (seen (out ++ h ∷ [])) (h.0 ∷ seen out) (seen_more out h) in
     append_assoc out (h ∷ []) (first_entries (seen (out ++ h ∷ [])) (drop (i + 1) sent)) ∙ ap (λ (l : List Header). out ++ h ∷ l) names ∙ ap (λ (l : List Header). out ++ l) (sym one) ∙ e
 
+adds_none : (a b : Bool) → (a ≡ true → b ≡ true) → (a || b) ≡ b
+adds_none true b f = sym (f refl)
+adds_none false b f = refl
+
+-- a name that is there adds nothing
+pub again : (names : List (List ℕ)) (name q : List ℕ) → has names name ≡ true → has (name ∷ names) q ≡ has names q
+again names name q e = adds_none (bytes_eq q name) (has names q) (λ t. subst (λ (n : List ℕ). has names n ≡ true) (sym ((bytes_eq-Decides q name).0 t)) e)
+
 -- headers whose names are all kept back add nothing to them
 only_kept : (hs : List Header) (q : List ℕ) → AllByRecursion (λ h. IsTrue (has kept_back h.0)) hs → has (seen hs) q ≡ has kept_back q
 only_kept [] q w = refl
 only_kept (h ∷ hs) q w = ap (λ b. bytes_eq q h.0 || b) (only_kept hs q w.1) ∙ adds_none (bytes_eq q h.0) (has kept_back q) (λ e. subst (λ (t : List ℕ). has kept_back t ≡ true) (sym ((bytes_eq-Decides q h.0).0 e)) w.0)
-  where
-    adds_none : (a b : Bool) → (a ≡ true → b ≡ true) → (a || b) ≡ b
-    adds_none true b f = sym (f refl)
-    adds_none false b f = refl
 
 -- where only headers that are kept back were put, all first entries are left to put
 pub none_seen : (out sent : List Header) → AllByRecursion (λ h. IsTrue (has kept_back h.0)) out → out ++ first_entries (seen out) (drop 0 sent) ≡ out ++ first_entries kept_back sent

@@ -175,7 +175,7 @@ spelled_first limits f more w i =
       parts = refl;
     }
 
-taken : (hs : List Header) (i : ℕ) (h : Header) → slice_get hs i ≡ Some h → take (i + 1) hs ≡ take i hs ++ h ∷ []
+pub taken : (hs : List Header) (i : ℕ) (h : Header) → slice_get hs i ≡ Some h → take (i + 1) hs ≡ take i hs ++ h ∷ []
 taken [] i h e = absurd cc
 taken (g ∷ hs) zero h e = ap (λ (x : Header). x ∷ []) (same_Some g h e)
 taken (g ∷ hs) (suc i) h e = let more : suc i + 1 ≡ suc (i + 1) = omega arith in rw more (ap (λ (xs : List Header). g ∷ xs) (taken hs i h e))

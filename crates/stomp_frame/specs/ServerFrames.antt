@@ -1,7 +1,7 @@
 -- The frames that a server sends (STOMP 1.2, "Server Frames").
 use Rattle.std.specs.Prelude.{ℕ, Bool, List, [], ◌∷◌, ◌++◌, length, codes, decimal, Option, Some, None, MatchOption, if◌then◌else◌}
 use Rattle.std.specs.List.{list_any}
-use Rattle.std.specs.Option.{option_map_or}
+use Rattle.std.specs.Option.{option_map, option_map_or}
 use Rattle.std.specs.Str.{bytes_eq}
 use Rattle.stomp_frame.specs.declared.command.Command.TheVariants as commands
 use Rattle.stomp_frame.specs.declared.raw_frame.RawFrame.{RawFrame}
@@ -81,13 +81,14 @@ receipt_frame id = record { command = commands.Receipt; headers = (codes "receip
 abbrev pub rendered : ServerFrame → RawFrame
 rendered Connected = connected_frame
 rendered (Message subscription n topic index headers body) =
-    message_frame subscription (message_id n topic index) headers body
-rendered (Receipt id) = receipt_frame id
-rendered (Error message receipt version) = error_frame message receipt version
+    message_frame subscription.now (message_id n topic index) headers.now body.now
+rendered (Receipt id) = receipt_frame id.now
+rendered (Error message receipt version) = error_frame message.now (option_map (λ r. r.now) receipt) version
 
--- The texts that it is given are UTF-8 without NULL.
+-- The texts that it borrows are UTF-8 without NULL.
 abbrev pub IsRenderable : ServerFrame → Type 0
 IsRenderable Connected = Unit {0}
-IsRenderable (Message subscription n topic index headers body) = IsText subscription
-IsRenderable (Receipt id) = IsText id
-IsRenderable (Error message receipt version) = IsText message × MatchOption receipt (Unit {0}) IsText
+IsRenderable (Message subscription n topic index headers body) = IsText subscription.now
+IsRenderable (Receipt id) = IsText id.now
+IsRenderable (Error message receipt version) =
+    IsText message.now × MatchOption receipt (Unit {0}) (λ r. IsText r.now)

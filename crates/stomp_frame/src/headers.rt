@@ -1,6 +1,6 @@
 //! Headers.
 
-ghost use Rattle.std.specs.Prelude.{◌≡◌, ◌∷◌, [], ◌==◌, ◌++◌, ◌↔◌, IsTrue, List, ℕ, length, ◌<◌, slice_get, Some, IfSome, OnOk, OnErr};
+ghost use Rattle.std.specs.Prelude.{◌≡◌, ◌∷◌, [], ◌==◌, ◌++◌, ◌↔◌, IsTrue, List, ℕ, length, take, ◌<◌, ◌≤◌, slice_get, Some, IfSome, OnOk, OnErr};
 ghost use Rattle.std.specs.List.{AllByRecursion, list_any, position};
 ghost use Rattle.std.specs.Option.{option_map};
 ghost use Rattle.std.specs.Str.{bytes_eq};
@@ -105,6 +105,14 @@ impl Headers {
             .iter()
             .find(|pair| pair.0.as_slice() == name)
             .map(|pair| pair.1.as_slice())
+    }
+
+    /// Whether one of the first `n` headers has this name.
+    pub(crate) fn has_among_first(&self, n: usize, name: &[u8]) -> bool
+        requires { n ≤ length self.now }
+        ensures { result ≡ list_any (λ h. bytes_eq h.0 name.now) (take n self.now) }
+    {
+        self.pairs[..n].iter().any(|pair| pair.0.as_slice() == name)
     }
 
     /// The index of the first header of this name, from 0.

@@ -1,6 +1,8 @@
 //! STOMP 1.2 frames: a reader of streams, a writer, and the frames that a server sends.
 #![tactic(auto)]
 
+mod awaited;
+mod bodies;
 mod case_fault;
 mod cases;
 mod client_frame;
@@ -12,10 +14,12 @@ pub mod law;
 mod limits;
 mod lines;
 mod parse;
+mod partial_frame;
 mod raw_frame;
 mod reader;
 mod server_frame;
 mod server_headers;
+mod server_writer;
 mod writer;
 
 pub use case_fault::{CaseFault, RequiredHeader};
@@ -31,6 +35,7 @@ pub use limits::Limits;
 pub use raw_frame::RawFrame;
 pub use reader::FrameReader;
 pub use server_frame::{ServerFrame, render};
+pub use server_writer::write_server;
 pub use stomp_escape::{NoMemory, Octets};
 pub use writer::{writable, write_frame};
 

@@ -1,10 +1,11 @@
 //! Cutting a text into lines.
 
-ghost use Rattle.std.specs.Prelude.{◌≡◌, ◌<◌, ◌+◌, length, slice_index, ◌==◌, ◌&&◌, ◌||◌};
+ghost use Rattle.std.specs.Prelude.{◌≡◌, ◌<◌, ◌≤◌, ◌+◌, length, take, drop, slice_index, ◌==◌, ◌&&◌, ◌||◌, Some, IfOk, IfSome, IsNone};
 ghost use Rattle.std.specs.List.{list_any};
 ghost use Rattle.std.specs.Option.{option_map};
 ghost use Rattle.std.specs.Str.{is_utf8};
 ghost use Rattle.stomp_frame.specs.Inner.Parser.{Returns, cut, without_cr, checked, line_at, after_eols};
+ghost use Rattle.stomp_frame.specs.Inner.PartialFrames.{IsUnfound};
 
 use crate::fault::{Check, Stop};
 use crate::limits::Limits;
@@ -59,17 +60,46 @@ fn check<'a>(limits: &Limits, content: &'a [u8]) -> Result<&'a [u8], Stop>
     Ok(content)
 }
 
-/// The content of the line at the front, and what comes after it.
-#[tactic(auto, unfolding(crate::specs::Inner::Parser::line_at))]
-pub(crate) fn take_line<'a>(limits: &Limits, text: &'a [u8]) -> Result<(&'a [u8], &'a [u8]), Stop>
-    ensures { Returns (λ x. (x.0.now, x.1.now)) result (line_at limits.now text.now) }
+/// The first place of the octet, which is at none of the first `searched`; only places before `end` are looked at.
+pub(crate) fn find_from(octet: u8, text: &[u8], searched: usize, end: usize) -> Option<usize>
+    requires order { searched ≤ end }
+    requires within { end ≤ length text.now }
+    requires unfound { IsUnfound octet text.now searched }
+    ensures found { IfSome result (λ at. (at < end)
+        × (cut octet text.now ≡ Some (take at text.now, drop (at + 1) text.now))) }
+    ensures none { IsNone result → IsUnfound octet text.now end }
 {
-    match split_at_first(b'\n', text) {
-        Some((line, rest)) => Ok((check(limits, without_cr(line))?, rest)),
-        None if text.len() > 1 && text.len() - 2 >= limits.line => {
-            Err(Stop::Fault(Check::LineTooLong))
+    let at = memchr(octet, &text[searched..end])?;
+    Some(searched + at)
+}
+
+/// The content of the line at the front, whose LF isn't among the first `searched` octets, and where the text goes on
+/// after it.
+#[tactic(auto, unfolding(crate::specs::Inner::Parser::line_at))]
+pub(crate) fn take_line<'a>(
+    limits: &Limits,
+    text: &'a [u8],
+    searched: &mut usize,
+) -> Result<(&'a [u8], usize), Stop>
+    requires within { searched.old ≤ length text.now }
+    requires unfound { IsUnfound 10 text.now searched.old }
+    ensures read { Returns (λ x. (x.0.now, drop x.1 text.now)) result
+        (line_at limits.now text.now) }
+    ensures end { IfOk result (λ x. (0 < x.1) × (x.1 ≤ length text.now)) }
+    ensures within { searched.new ≤ length text.now }
+    ensures unfound { IsUnfound 10 text.now searched.new }
+{
+    let most = limits.line.saturating_add(2);
+    let end = text.len().min(most).max(*searched);
+    match find_from(b'\n', text, *searched, end) {
+        Some(at) => Ok((check(limits, without_cr(&text[..at]))?, at + 1)),
+        None => {
+            if text.len() > 1 && text.len() - 2 >= limits.line {
+                return Err(Stop::Fault(Check::LineTooLong));
+            }
+            *searched = text.len();
+            Err(Stop::Open)
         }
-        None => Err(Stop::Open),
     }
 }
 

@@ -7,11 +7,14 @@ ghost use Rattle.stomp_frame.specs.Reader.{Unread, ReadsNext, Answers, fed, unre
 
 use crate::fault::{Check, FrameFault, Stop};
 use crate::limits::Limits;
-use crate::parse::{eols_from, frame_from};
+use crate::partial_frame::PartialFrame;
 use crate::raw_frame::RawFrame;
 use std::alloc::Global;
 use std::marker::Model;
 use stomp_escape::NoMemory;
+
+/// The octets of room that a reader keeps for its text, however few it holds.
+const KEPT_ROOM: usize = 16_384;
 
 /// Reads the frames of a stream from its front. It is seen as its limits, the text that it was fed and hasn't read,
 /// and the fault that it returned.
@@ -21,18 +24,22 @@ pub struct FrameReader {
     text: Vec<u8>,
     /// Where what is unread begins.
     start: usize,
+    /// Where the partial frame begins, after the end-of-lines at `start`.
+    front: usize,
+    partial: PartialFrame,
     answered: Option<Check>,
 }
 
 impl Model for FrameReader {
-    ghost use Rattle.std.specs.Prelude.{drop, length, ◌≤◌};
+    ghost use Rattle.std.specs.Prelude.{drop};
+    ghost use Rattle.stomp_frame.specs.Inner.PartialFrames.{IsReaderState};
     ghost use Rattle.stomp_frame.specs.Reader.{Unread};
 
     ghost Value = { Unread };
 
     ghost view = { λ r. record { limits = r.limits; text = drop r.start r.text.items; answered = r.answered } };
 
-    ghost invariant = { λ r. r.start ≤ length r.text.items };
+    ghost invariant = { λ r. IsReaderState r.limits r.text.items r.start r.front r.partial };
 }
 
 impl FrameReader {
@@ -44,6 +51,8 @@ impl FrameReader {
             limits,
             text: Vec::new(alloc),
             start: 0,
+            front: 0,
+            partial: PartialFrame::new(alloc),
             answered: None,
         }
     }
@@ -57,8 +66,27 @@ impl FrameReader {
         if self.answered.is_some() {
             return Ok(());
         }
+        if self.start > self.text.len() / 2 {
+            self.let_go();
+        }
         self.text.extend_from_slice(piece)?;
         Ok(())
+    }
+
+    /// Lets go of the octets before the unread text, and of room that is four times what is held and more.
+    fn let_go(&mut self)
+        ensures { self.new ≡ self.old }
+    {
+        if self.start == 0 {
+            return;
+        }
+        let held = self.text.len();
+        self.text.drain(..self.start);
+        self.front -= self.start;
+        self.start = 0;
+        if self.text.capacity() / 4 > held.max(KEPT_ROOM) {
+            self.text.shrink_to(held.max(KEPT_ROOM));
+        }
     }
 
     /// Reads on, where no fault was returned.
@@ -66,13 +94,17 @@ impl FrameReader {
         ensures answer { (result ≢ Err FrameFault.NoMemory) → ReadsNext self.old result self.new }
         ensures no_memory { result ≡ Err FrameFault.NoMemory → self.new ≡ self.old }
     {
-        match frame_from(alloc, &self.limits, self.text.as_slice(), self.start) {
-            Ok((frame, start)) => {
-                self.start = start;
+        let text = self.text.as_slice();
+        self.front = self.partial.front(&self.limits, text, self.front);
+        match self.partial.frame(alloc, &self.limits, &text[self.front..]) {
+            Ok((frame, end)) => {
+                self.front += end;
+                self.start = self.front;
                 Ok(Some(frame))
             }
             Err(Stop::Open) => {
-                self.start = eols_from(self.text.as_slice(), self.start);
+                self.start = self.front;
+                self.let_go();
                 Ok(None)
             }
             Err(Stop::Memory) => Err(FrameFault::NoMemory),

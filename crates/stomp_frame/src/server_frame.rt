@@ -13,15 +13,16 @@ use crate::server_headers::{
 use std::alloc::Global;
 use stomp_escape::{NoMemory, Octets};
 
-/// A frame that a server sends (STOMP 1.2, "Server Frames").
-#[derive(Drop)]
-pub enum ServerFrame {
+/// A frame that a server sends (STOMP 1.2, "Server Frames"). It borrows what it is made of: texts, and a SEND's headers
+/// and body.
+#[derive(Clone, Copy)]
+pub enum ServerFrame<'a> {
     /// The answer to a CONNECT: version 1.2, and no heart-beats (STOMP 1.2, "CONNECTED Frame").
     Connected,
     /// A SEND as a subscriber gets it (STOMP 1.2, "MESSAGE").
     Message {
         /// The subscription's id.
-        subscription: Octets,
+        subscription: &'a [u8],
         /// The number of the message's stamp.
         n: u64,
         /// The topic of the message's stamp.
@@ -29,21 +30,21 @@ pub enum ServerFrame {
         /// The SEND's place in its transaction, from 0.
         index: u32,
         /// The headers of the SEND.
-        headers: Headers,
+        headers: &'a Headers,
         /// The body of the SEND.
-        body: Octets,
+        body: &'a [u8],
     },
     /// The report that a client's frame has had its effect (STOMP 1.2, "RECEIPT").
     Receipt {
         /// The receipt that the frame asked for.
-        id: Octets,
+        id: &'a [u8],
     },
     /// The last frame of a connection that went wrong (STOMP 1.2, "ERROR").
     Error {
         /// What went wrong: a number, a space and a name.
-        message: Octets,
+        message: &'a [u8],
         /// The receipt that the faulty frame asked for.
-        receipt: Option<Octets>,
+        receipt: Option<&'a [u8]>,
         /// Whether the frame says which version is supported.
         version: bool,
     },
@@ -75,16 +76,13 @@ pub fn render(alloc: Global, frame: &ServerFrame) -> Result<RawFrame, NoMemory>
         Message { subscription, n, topic, index, headers, body } => [
             {
                 let id = message_id(alloc, *n, *topic, *index)?;
-                message_headers(alloc, subscription.as_slice(), id.as_slice(), headers, body.len())?
+                message_headers(alloc, subscription, id.as_slice(), headers, body.len())?
             },
-            Octets::from_slice(alloc, body.as_slice())?
+            Octets::from_slice(alloc, body)?
         ];
-        Receipt { id } => [receipt_headers(alloc, id.as_slice())?, Octets::new(alloc)];
+        Receipt { id } => [receipt_headers(alloc, id)?, Octets::new(alloc)];
         Error { message, receipt, version } => [
-            {
-                let receipt = receipt.as_ref().map(|receipt| receipt.as_slice());
-                error_headers(alloc, message.as_slice(), receipt, *version)?
-            },
+            error_headers(alloc, message, *receipt, *version)?,
             Octets::new(alloc)
         ];
     }

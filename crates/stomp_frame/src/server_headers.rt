@@ -43,7 +43,7 @@ fn put_optional(
 }
 
 /// Whether a MESSAGE doesn't pass on this header of its SEND.
-fn is_kept_back(name: &[u8]) -> bool
+pub(crate) fn is_kept_back(name: &[u8]) -> bool
     ensures { result ≡ list_any (λ kept. bytes_eq name.now kept) kept_back }
 {
     name == b"destination".as_slice()

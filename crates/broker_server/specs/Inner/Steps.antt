@@ -1,25 +1,25 @@
 -- This module only serves proofs: what the functions inside the relay do. The public contracts speak of Relay
 -- and Runs, to which these definitions are tied.
-use Rattle.std.specs.Prelude.{◌≡◌, ◌≢◌, ◌⊎◌, ℕ, ◌+◌, ◌<◌, ◌≤◌, Bool, true, false, List, ◌++◌, length, Option, Some, None, Result, Err, IsErrOf, IsSome, IfSome}
+use Rattle.std.specs.Prelude.{◌≡◌, ◌≢◌, ◌⊎◌, ℕ, ◌+◌, ◌<◌, ◌≤◌, Bool, true, false, List, ◌++◌, length, Option, Some, None, Result, Err, IsErrOf, IsSome}
 use Rattle.std.specs.Io.KnownBytes.{Appends, Consumes, IsAtEnd}
 use Rattle.std.specs.List.{AllByRecursion}
-use Rattle.std.specs.Option.{option_map}
 use Rattle.stomp_frame.specs.declared.raw_frame.RawFrame.{RawFrame}
 use Rattle.stomp_frame.specs.declared.fault.FrameFault.{FrameFault}
-use Rattle.stomp_frame.specs.declared.server_frame.ServerFrame.{ServerFrame}
-use Rattle.stomp_frame.specs.declared.server_frame.ServerFrame.TheVariants.{Error}
 use Rattle.stomp_frame.specs.Faults.{title_of}
 use Rattle.stomp_frame.specs.Grammar.{BeginsWith, Leaves, Stream}
 use Rattle.stomp_frame.specs.Reader.{Unread}
-use Rattle.stomp_frame.specs.ServerFrames.{rendered, IsRenderable}
+use Rattle.stomp_frame.specs.Receipts.{receipt_of}
+use Rattle.stomp_frame.specs.ServerFrames.{error_frame}
 use Rattle.broker_server.specs.declared.counting.Counting.{Counting}
+use Rattle.broker_server.specs.declared.last.Last.{Last}
+use Rattle.broker_server.specs.declared.last.Last.TheVariants.{Refused, Fault, Clean}
 use Rattle.broker_server.specs.declared.next.Next.{Next}
 use Rattle.broker_server.specs.declared.next.Next.TheVariants.{Message, End}
 use Rattle.broker_server.specs.declared.program_fault.ProgramFault.{ProgramFault}
 use Rattle.broker_server.specs.declared.program_fault.ProgramFault.TheVariants.{Io}
 use Rattle.broker_server.specs.Counts.{Fails, FailsNot}
-use Rattle.broker_server.specs.RelayFaults.{relay_fault}
-use Rattle.broker_server.specs.Relay.{input_limit, standard, message, messages, relay_fault_error, ErrorAfterFrames}
+use Rattle.broker_server.specs.RelayFaults.{relay_fault, relay_fault_title}
+use Rattle.broker_server.specs.Relay.{input_limit, standard, messages, relay_fault_error, ErrorAfterFrames}
 
 -- a reader of frames that has this to read and returned no fault yet
 abbrev pub reading : List ℕ → Unread
@@ -49,28 +49,27 @@ IsFinalError name text error =
     × IsSome (relay_fault name f) × (error ≡ relay_fault_error name f))
     ⊎ ((rest : List ℕ) × Leaves standard text rest × ErrorAfterFrames rest error)
 
--- This is the message of that frame, with this number.
-abbrev pub IsMessageOf : ℕ → RawFrame → ServerFrame → Type 0
-IsMessageOf n f sent = (rendered sent ≡ message n f) × IsRenderable sent
+-- the ERROR of what comes last, if it has one
+abbrev pub last_error : Last → Option RawFrame
+last_error (Refused fault f) = Some (error_frame (relay_fault_title fault) (receipt_of f) false)
+last_error (Fault fault) = Some (error_frame (title_of fault) None false)
+last_error Clean = None
 
--- what comes next by a frame: its message, with this number; or, where it is refused, the end
-abbrev pub IsNextOfFrame : List ℕ → ℕ → RawFrame → Next → Type 0
-IsNextOfFrame name n f (Message sent) = (relay_fault name f ≡ None) × IsMessageOf n f sent
-IsNextOfFrame name n f (End error) =
-    IsSome (relay_fault name f) × (option_map rendered error ≡ relay_fault_error name f)
-    × IfSome error IsRenderable
+-- what comes next by a frame: the frame, or, where it is refused, the end
+abbrev pub IsNextOfFrame : List ℕ → RawFrame → Next → Type 0
+IsNextOfFrame name f (Message accepted) = (accepted ≡ f) × (relay_fault name f ≡ None)
+IsNextOfFrame name f (End last) =
+    IsSome (relay_fault name f) × (last_error last ≡ relay_fault_error name f)
 
 -- what comes next by a fault
 abbrev pub next_of_fault : FrameFault → Next
-next_of_fault fault = End (Some (Error (title_of fault) None false))
+next_of_fault fault = End (Fault fault)
 
--- what comes next: the message of the first frame, with this number, or the end
-abbrev pub IsNext : List ℕ → ℕ → Unread → Next → Unread → Type 0
-IsNext name n old (Message sent) new =
-    (f : RawFrame) × BeginsWith standard old.text f new.text × (relay_fault name f ≡ None)
-    × (new ≡ reading new.text) × IsMessageOf n f sent
-IsNext name n old (End error) new =
-    IsFinalError name old.text (option_map rendered error) × IfSome error IsRenderable
+-- what comes next: the first frame, or the end
+abbrev pub IsNext : List ℕ → Unread → Next → Unread → Type 0
+IsNext name old (Message f) new =
+    BeginsWith standard old.text f new.text × (relay_fault name f ≡ None) × (new ≡ reading new.text)
+IsNext name old (End last) new = IsFinalError name old.text (last_error last)
 
 -- The relay has come so far: the frames that it has read are accepted, and it has written their messages.
 pub record IsSoFar (name text unread output : List ℕ) (n : ℕ) : Type 0 where

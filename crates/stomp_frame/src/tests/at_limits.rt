@@ -3,6 +3,7 @@
 use super::made::{put, text};
 use crate::{
     Command, FrameReader, Headers, Limits, RawFrame, ServerFrame, render, writable, write_frame,
+    write_server,
 };
 use std::alloc::Global;
 use std::test::Fail;
@@ -121,13 +122,14 @@ fn written_and_read_back(rt: HostRuntime) -> Result<(), Fail> {
 fn passed_on(rt: HostRuntime) -> Result<(), Fail> {
     let alloc = rt.alloc();
     let sent = long_send(alloc)?;
+    let subscription = text(alloc, b"s")?;
     let message = ServerFrame::Message {
-        subscription: text(alloc, b"s")?,
+        subscription: subscription.as_slice(),
         n: 1,
         topic: 0,
         index: 0,
-        headers: sent.headers,
-        body: sent.body,
+        headers: &sent.headers,
+        body: sent.body.as_slice(),
     };
     let mut want = Octets::from_slice(
         alloc,
@@ -136,6 +138,9 @@ fn passed_on(rt: HostRuntime) -> Result<(), Fail> {
     spell_long(&mut want)?;
     let out = written(alloc, &render(alloc, &message)?)?;
     assert!(rt; out.as_slice() == want.as_slice());
+    let mut direct = Octets::new(alloc);
+    write_server(&message, &mut direct)?;
+    assert!(rt; direct.as_slice() == want.as_slice());
     Ok(())
 }
 
@@ -149,7 +154,7 @@ fn long_receipts(rt: HostRuntime) -> Result<(), Fail> {
     let mut want = Octets::from_slice(alloc, b"RECEIPT\nreceipt-id:")?;
     want.extend(id.as_slice())?;
     want.extend(b"\n\n\0")?;
-    let receipt = ServerFrame::Receipt { id };
+    let receipt = ServerFrame::Receipt { id: id.as_slice() };
     let out = written(alloc, &render(alloc, &receipt)?)?;
     assert!(rt; out.as_slice() == want.as_slice());
     Ok(())

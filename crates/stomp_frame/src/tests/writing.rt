@@ -1,7 +1,12 @@
 //! Worked examples of what is written, and answers without memory.
 
+ghost use Rattle.stomp_frame.specs.ServerFrames.{IsRenderable};
+
 use super::made::{headers, raw, text};
-use crate::{Command, FrameReader, Limits, RawFrame, ServerFrame, render, writable, write_frame};
+use crate::{
+    Command, FrameReader, Headers, Limits, RawFrame, ServerFrame, render, writable, write_frame,
+    write_server,
+};
 use std::alloc::Global;
 use std::test::Fail;
 use stomp_escape::{NoMemory, Octets};
@@ -13,6 +18,21 @@ fn is(octets: &Octets, want: &[u8]) -> bool {
     octets.as_slice() == want
 }
 
+/// What is written of a server's frame, if it is the same by its raw frame and without one; else nothing.
+fn sent(alloc: Global, frame: &ServerFrame) -> Result<Octets, NoMemory>
+    requires { IsRenderable frame.now }
+{
+    let mut out = Octets::new(alloc);
+    write_frame(&render(alloc, frame)?, &mut out)?;
+    let mut direct = Octets::new(alloc);
+    write_server(frame, &mut direct)?;
+    if direct.as_slice() == out.as_slice() {
+        Ok(out)
+    } else {
+        Ok(Octets::new(alloc))
+    }
+}
+
 /// What is written of the MESSAGE for the subscription `s`.
 fn message(
     alloc: Global,
@@ -20,37 +40,46 @@ fn message(
     pairs: Pairs,
     body: &[u8],
 ) -> Result<Octets, NoMemory> {
+    let subscription = text(alloc, b"s")?;
+    let headers = headers(alloc, pairs)?;
     let frame = ServerFrame::Message {
-        subscription: text(alloc, b"s")?,
+        subscription: subscription.as_slice(),
         n: stamp.0,
         topic: stamp.1,
         index: stamp.2,
-        headers: headers(alloc, pairs)?,
-        body: Octets::from_slice(alloc, body)?,
+        headers: &headers,
+        body,
     };
-    let mut out = Octets::new(alloc);
-    write_frame(&render(alloc, &frame)?, &mut out)?;
-    Ok(out)
+    sent(alloc, &frame)
 }
 
-fn error(
+/// What is written of an ERROR, if its texts may be values.
+fn error<'a>(
     alloc: Global,
-    title: &[u8],
-    asked: Option<&[u8]>,
+    message: &'a [u8],
+    receipt: Option<&'a [u8]>,
     version: bool,
 ) -> Result<Octets, NoMemory> {
-    let receipt = match asked {
-        Some(asked) => Some(text(alloc, asked)?),
-        None => None,
+    if !Headers::is_pair(b"message", message) {
+        return Err(NoMemory);
+    }
+    let Some(id) = receipt else {
+        let frame = ServerFrame::Error {
+            message,
+            receipt: None,
+            version,
+        };
+        return sent(alloc, &frame);
     };
+    if !Headers::is_pair(b"receipt-id", id) {
+        return Err(NoMemory);
+    }
     let frame = ServerFrame::Error {
-        message: text(alloc, title)?,
-        receipt,
+        message,
+        receipt: Some(id),
         version,
     };
-    let mut out = Octets::new(alloc);
-    write_frame(&render(alloc, &frame)?, &mut out)?;
-    Ok(out)
+    sent(alloc, &frame)
 }
 
 /// A SEND's stamp and index, headers and body, and its MESSAGE for the subscription `s`.
@@ -155,19 +184,14 @@ fn errors(rt: HostRuntime) -> Result<(), Fail> {
 
 /// What is written of a RECEIPT.
 fn receipt(alloc: Global, id: &[u8]) -> Result<Octets, NoMemory> {
-    let frame = ServerFrame::Receipt {
-        id: text(alloc, id)?,
-    };
-    let mut out = Octets::new(alloc);
-    write_frame(&render(alloc, &frame)?, &mut out)?;
-    Ok(out)
+    let id = text(alloc, id)?;
+    sent(alloc, &ServerFrame::Receipt { id: id.as_slice() })
 }
 
 #[test]
 fn connected_and_receipts(rt: HostRuntime) -> Result<(), Fail> {
     let alloc = rt.alloc();
-    let mut out = Octets::new(alloc);
-    write_frame(&render(alloc, &ServerFrame::Connected)?, &mut out)?;
+    let out = sent(alloc, &ServerFrame::Connected)?;
     assert!(rt; is(&out, b"CONNECTED\nversion:1.2\nheart-beat:0,0\n\n\0"));
     assert!(rt; is(&receipt(alloc, b"r:1")?, b"RECEIPT\nreceipt-id:r\\c1\n\n\0"));
     Ok(())
@@ -340,12 +364,33 @@ fn out_of_memory_leaves_nothing(rt: HostRuntime) {
         };
         assert!(rt; &out.as_slice()[before..] == want);
     }
-    if let Ok(out) = message(alloc, (1, 0, 0), &[(b"x", b"1"), (b"x", b"2")], b"hi") {
-        assert!(rt;
-            is(
-                &out,
-                b"MESSAGE\nsubscription:s\nmessage-id:1.0.0\ncontent-length:2\nx:1\n\nhi\0"
-            )
-        );
+}
+
+/// A MESSAGE of two headers, one of them escaped, as it is written.
+const SHORT: &[u8] =
+    b"MESSAGE\nsubscription:s\nmessage-id:1.2.3\ndestination:A\ncontent-length:2\nx:\\c\n\nhi\0";
+
+/// Holds whichever allocation fails: what isn't written whole leaves nothing, and is written when memory is there.
+#[test]
+fn out_of_memory_leaves_no_part_of_a_server_frame(rt: HostRuntime) {
+    let alloc = rt.alloc();
+    let Ok(headers) = headers(alloc, &[(b"destination", b"A"), (b"x", b":")]) else {
+        return;
+    };
+    let frame = ServerFrame::Message {
+        subscription: b"s",
+        n: 1,
+        topic: 2,
+        index: 3,
+        headers: &headers,
+        body: b"hi",
+    };
+    let mut out = Octets::new(alloc);
+    for _ in 0..20u8 {
+        let before = out.len();
+        let whole = write_server(&frame, &mut out).is_ok();
+        let want = if whole { SHORT } else { b"" };
+        assert!(rt; &out.as_slice()[before..] == want);
     }
+    assert!(rt; out.len() >= 19 * SHORT.len());
 }

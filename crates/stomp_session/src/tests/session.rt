@@ -172,7 +172,7 @@ fn a_stomp_has_none(rt: HostRuntime) -> Result<(), Fail> {
 fn receipt_text(alloc: Global, id: Octets) -> Result<Octets, NoMemory>
     requires { IsText id }
 {
-    let frame = render(alloc, &ServerFrame::Receipt { id })?;
+    let frame = render(alloc, &ServerFrame::Receipt { id: id.as_slice() })?;
     let mut out = Octets::new(alloc);
     write_frame(&frame, &mut out)?;
     Ok(out)

@@ -1,10 +1,9 @@
 use Rattle.std.proofs.Common.{◌+◌, [], ◌++◌, subst, ◌∙◌}
-use Rattle.std.specs.Option.{option_map, option_map_or}
+use Rattle.std.specs.Option.{option_map_or}
 use Rattle.stomp_frame.specs.declared.raw_frame.RawFrame.{RawFrame}
 use Rattle.stomp_frame.specs.Writing.{spelled}
-use Rattle.stomp_frame.specs.ServerFrames.{rendered}
 use Rattle.broker_server.specs.declared.next.Next.{Next}
-use Rattle.broker_server.specs.Inner.Steps.{Sends, IsNext}
+use Rattle.broker_server.specs.Inner.Steps.{Sends, IsNext, last_error}
 use Rattle.broker_server.proofs.SoFarLemmas.{answers, ended, goes_on, so_far_more}
 use Rattle.broker_server.proofs.relay.relay_frames.Goals as goal
 
@@ -13,12 +12,12 @@ returns-in-End-clause-answered g c =
     let contents = g.W.Write.contents in
     let name = c.args.name.now in
     let text = c.args.frames.now.text in
-    let error = option_map rendered c.in-End.error in
+    let error = last_error c.in-End.last in
     let so_far = c.frames.invariant.so_far in
-    let next = subst (λ (t : Next). IsNext name c.frames.n c.frames.frames t c.read.new.frames) c.in-End.is c.in_ok-message.ensures in
-    let end = ended name text c.frames.frames.text (so_far.0 ++ c.frames.waiting) c.frames.n error so_far.1 next.0 in
+    let next = subst (λ (t : Next). IsNext name c.frames.frames t c.read.new.frames) c.in-End.is c.in_ok-frame.ensures in
+    let end = ended name text c.frames.frames.text (so_far.0 ++ c.frames.waiting) c.frames.n error so_far.1 next in
     answers (contents c.args.writer.now.inner) (contents c.frames.writer.inner) (contents c.finish.new.writer.inner) name text so_far.0 c.frames.waiting (option_map_or spelled error []) (option_map_or (λ (f : RawFrame). 2) error 0) c.finish.result
-    so_far.2 end c.finish.ensures.written c.finish.ensures.status
+    so_far.2 end (rw c.error.ensures at c.finish.ensures.written) (rw c.error.ensures at c.finish.ensures.status)
 
 pub frames-preserved : goal.frames-preserved
 frames-preserved g c =
@@ -29,11 +28,11 @@ frames-preserved g c =
     let so_far = c.frames.invariant.so_far in
     let before = contents c.frames.writer.inner in
     let after = contents c.put.new.writer.inner in
-    let next = subst (λ (t : Next). IsNext name c.frames.n c.frames.frames t c.read.new.frames) c.in-Message.is c.in_ok-message.ensures in
-    let more = so_far_more name text c.frames.frames.text (so_far.0 ++ c.frames.waiting) c.frames.n next.0 others so_far.1 next.1 next.2 in
-    let sends = subst (λ (f : RawFrame). Sends before c.frames.waiting after c.put.new.waiting (spelled f)) next.4.0 c.in_ok-put-in-Message.ensures.sent in
+    let next = subst (λ (t : Next). IsNext name c.frames.frames t c.read.new.frames) c.in-Message.is c.in_ok-frame.ensures in
+    let more = so_far_more name text c.frames.frames.text (so_far.0 ++ c.frames.waiting) c.frames.n c.in-Message.frame others so_far.1 next.0 next.1 in
+    let sends = subst (λ (f : RawFrame). Sends before c.frames.waiting after c.put.new.waiting (spelled f)) c.message.ensures c.in_ok-put-in-Message.ensures.sent in
     record {
-      unread = next.3;
+      unread = next.2;
       so_far = goes_on (contents c.args.writer.now.inner) before after name text others so_far.0 c.frames.waiting c.put.new.waiting _ (c.frames.n + 1) so_far.2 more sends;
       heard = c.in_ok-put-in-Message.ensures.heard.kept (λ e. cc) ∙ c.frames.invariant.heard;
     }

@@ -9,5 +9,5 @@ pub returns-in_ok-from_slice-in-Message-clause-writable : goal.returns-in_ok-fro
 returns-in_ok-from_slice-in-Message-clause-writable c =
     let m = c.in-Message in
     let made : RawFrame = record { command = commands.Message; headers = c.in_ok-message_headers-in-Message.field-0; body = c.in_ok-from_slice-in-Message.field-0 } in
-    let same : made ≡ message_frame m.subscription (message_id m.n m.topic m.index) m.headers m.body = search rules in
-    made_writable made m.subscription (message_id m.n m.topic m.index) m.headers m.body same c.in_ok-message_headers-in-Message.ensures.pairs
+    let same : made ≡ message_frame m.subscription.now (message_id m.n m.topic m.index) m.headers.now m.body.now = search rules in
+    made_writable made m.subscription.now (message_id m.n m.topic m.index) m.headers.now m.body.now same c.in_ok-message_headers-in-Message.ensures.pairs

@@ -1,0 +1,41 @@
+//! How the relay ends.
+
+ghost use Rattle.std.specs.Prelude.{◌≡◌};
+ghost use Rattle.std.specs.Option.{option_map};
+ghost use Rattle.stomp_frame.specs.ServerFrames.{rendered};
+ghost use Rattle.broker_server.specs.Inner.Steps.{last_error};
+
+use crate::relay_fault::RelayFault;
+use stomp_frame::{FrameFault, RawFrame, ServerFrame};
+
+/// What comes last in a stream.
+#[derive(Drop)]
+pub(crate) enum Last {
+    /// A frame that is refused.
+    Refused(RelayFault, RawFrame),
+    /// A fault of the reader of frames.
+    Fault(FrameFault),
+    /// The end of the input, after a frame.
+    Clean,
+}
+
+impl Last {
+    /// Its ERROR (STOMP 1.2, "ERROR"), if it has one.
+    pub(crate) fn error(&self) -> Option<ServerFrame<'_>>
+        ensures { option_map rendered result ≡ last_error self.now }
+    {
+        match self {
+            Last::Refused(fault, frame) => Some(ServerFrame::Error {
+                message: fault.title(),
+                receipt: frame.receipt(),
+                version: false,
+            }),
+            Last::Fault(fault) => Some(ServerFrame::Error {
+                message: fault.title(),
+                receipt: None,
+                version: false,
+            }),
+            Last::Clean => None,
+        }
+    }
+}

@@ -1,0 +1,147 @@
+-- A server's frame, appended in parts, is its spelling.
+use Rattle.std.proofs.Common.{◌≡◌, ℕ, ◌+◌, ◌^◌, ◌<◌, Bool, true, false, List, [], ◌∷◌, ◌++◌, drop, take, map, ◌||◌, Option, Some, None, refl, sym, ap, ◌∙◌, append_assoc}
+use Rattle.std.specs.Prelude.{codes, decimal, slice_get, if◌then◌else◌}
+use Rattle.std.specs.List.{list_any}
+use Rattle.std.specs.Str.{bytes_eq}
+use Rattle.std.proofs.lemmas.Grind.{flat_map-append}
+use Rattle.std.proofs.lemmas.List.Folds.{list_any-append}
+use Rattle.stomp_frame.specs.Headers.{Header}
+use Rattle.stomp_frame.specs.Writing.{header_line, header_lines, spelled, Extends}
+use Rattle.stomp_frame.specs.ServerFrames.{optional, first_entries, kept_back, message_id, receipt_frame, error_frame}
+use Rattle.stomp_frame.proofs.Digits.{decimal_plain, id_plain}
+use Rattle.stomp_frame.proofs.Names.{has, seen, either_way, seen_more, rest_at, same_names, at_cons, again}
+use Rattle.stomp_frame.proofs.Written.{taken}
+
+-- a header's line, with its LF
+abbrev pub line_of : List ℕ → List ℕ → List ℕ
+line_of name value = header_line true (name, value) ++ 10 ∷ []
+
+abbrev lines : List Header → List ℕ
+lines hs = header_lines true hs
+
+-- what extends an extension extends the text
+pub longer : (a b c : List ℕ) → Extends a b → Extends b c → Extends a c
+longer a b c e f = record { more = e.more ++ f.more; grown = f.grown ∙ ap (λ (t : List ℕ). t ++ f.more) e.grown ∙ append_assoc a e.more f.more }
+
+-- ---- digits
+
+-- a content-length, appended in parts
+pub length_put : (old a b e : List ℕ) (n : ℕ) → n < 2 ^ 64 → a ≡ old ++ codes "content-length:" → b ≡ a ++ decimal n → e ≡ b ++ 10 ∷ [] → e ≡ old ++ line_of (codes "content-length") (decimal n)
+length_put old a b e n lt p q r =
+    let whole : e ≡ (((old ++ codes "content-length:") ++ decimal n) ++ 10 ∷ []) = r ∙ ap (λ (t : List ℕ). t ++ 10 ∷ []) (q ∙ ap (λ (t : List ℕ). t ++ decimal n) p) in
+    whole ∙ append_assoc (old ++ codes "content-length:") (decimal n) (10 ∷ []) ∙ append_assoc old (codes "content-length:") (decimal n ++ 10 ∷ [])
+    ∙ ap (λ (t : List ℕ). old ++ (codes "content-length:" ++ (t ++ 10 ∷ []))) (sym (decimal_plain n lt))
+
+-- a message-id, appended in parts
+pub id_put : (old a b c d f g e : List ℕ) (n topic index : ℕ) → n < 2 ^ 64 → topic < 2 ^ 64 → index < 2 ^ 64 → a ≡ old ++ codes "message-id:" → b ≡ a ++ decimal n → c ≡ b ++ codes "." → d ≡ c ++ decimal topic → f ≡ d ++ codes "." → g ≡ f ++ decimal index → e ≡ g ++ 10 ∷ []
+    → e ≡ old ++ line_of (codes "message-id") (message_id n topic index)
+id_put old a b c d f g e n topic index ln lt li pa pb pc pd pf pg pe =
+    let id = message_id n topic index in
+    let front = old ++ codes "message-id:" in
+    let to_b : b ≡ front ++ decimal n = pb ∙ ap (λ (t : List ℕ). t ++ decimal n) pa in
+    let to_c : c ≡ front ++ (decimal n ++ codes ".") = pc ∙ ap (λ (t : List ℕ). t ++ codes ".") to_b ∙ append_assoc front (decimal n) (codes ".") in
+    let to_d : d ≡ front ++ (decimal n ++ codes "." ++ decimal topic) = pd ∙ ap (λ (t : List ℕ). t ++ decimal topic) to_c ∙ append_assoc front (decimal n ++ codes ".") (decimal topic) in
+    let to_f : f ≡ front ++ (decimal n ++ codes "." ++ decimal topic ++ codes ".") = pf ∙ ap (λ (t : List ℕ). t ++ codes ".") to_d ∙ append_assoc front (decimal n ++ codes "." ++ decimal topic) (codes ".") in
+    let to_g : g ≡ front ++ id = pg ∙ ap (λ (t : List ℕ). t ++ decimal index) to_f ∙ append_assoc front (decimal n ++ codes "." ++ decimal topic ++ codes ".") (decimal index) in
+    pe ∙ ap (λ (t : List ℕ). t ++ 10 ∷ []) to_g ∙ append_assoc front id (10 ∷ []) ∙ append_assoc old (codes "message-id:") (id ++ 10 ∷ [])
+    ∙ ap (λ (t : List ℕ). old ++ (codes "message-id:" ++ (t ++ 10 ∷ []))) (sym (id_plain n topic index ln lt li))
+
+-- ---- whole frames
+
+split : (xs ys : List Header) (tail : List ℕ) → lines (xs ++ ys) ++ tail ≡ lines xs ++ (lines ys ++ tail)
+split xs ys tail = ap (λ (t : List ℕ). t ++ tail) (flat_map-append (λ h. header_line true h ++ 10 ∷ []) xs ys) ∙ append_assoc (lines xs) (lines ys) tail
+
+-- a RECEIPT, appended in parts
+pub receipt_put : (old a b e id : List ℕ) → a ≡ old ++ (codes "RECEIPT" ++ 10 ∷ []) → b ≡ a ++ line_of (codes "receipt-id") id → e ≡ b ++ 10 ∷ 0 ∷ [] → e ≡ old ++ spelled (receipt_frame id)
+receipt_put old a b e id p q r =
+    let word = codes "RECEIPT" ++ 10 ∷ [] in
+    let line = line_of (codes "receipt-id") id in
+    let tail = 10 ∷ 0 ∷ [] in
+    r ∙ ap (λ (t : List ℕ). t ++ tail) (q ∙ ap (λ (t : List ℕ). t ++ line) p)
+    ∙ append_assoc (old ++ word) line tail ∙ append_assoc old word (line ++ tail)
+    ∙ ap (λ (t : List ℕ). old ++ (word ++ t)) (sym (append_assoc line [] tail))
+
+-- a MESSAGE's headers, appended in parts
+pub headers_put : (old a b c d e subscription id : List ℕ) (destination : Option (List ℕ)) (size : List ℕ) (others : List Header) → a ≡ old ++ line_of (codes "subscription") subscription → b ≡ a ++ line_of (codes "message-id") id
+    → c ≡ b ++ lines (optional (codes "destination") destination) → d ≡ c ++ line_of (codes "content-length") size → e ≡ d ++ lines others
+    → e ≡ old ++ lines ((codes "subscription", subscription) ∷ (codes "message-id", id) ∷ (optional (codes "destination") destination ++ (codes "content-length", size) ∷ others))
+headers_put old a b c d e subscription id destination size others pa pb pc pd pe =
+    let s = line_of (codes "subscription") subscription in
+    let i = line_of (codes "message-id") id in
+    let own = optional (codes "destination") destination in
+    let l = line_of (codes "content-length") size in
+    let last = lines others in
+    pe ∙ ap (λ (t : List ℕ). t ++ last) (pd ∙ ap (λ (t : List ℕ). t ++ l) (pc ∙ ap (λ (t : List ℕ). t ++ lines own) (pb ∙ ap (λ (t : List ℕ). t ++ i) pa)))
+    ∙ append_assoc (((old ++ s) ++ i) ++ lines own) l last
+    ∙ append_assoc ((old ++ s) ++ i) (lines own) (l ++ last)
+    ∙ append_assoc (old ++ s) i (lines own ++ (l ++ last))
+    ∙ append_assoc old s (i ++ (lines own ++ (l ++ last)))
+    ∙ ap (λ (t : List ℕ). old ++ (s ++ (i ++ t))) (sym (flat_map-append (λ h. header_line true h ++ 10 ∷ []) own ((codes "content-length", size) ∷ others)))
+
+-- an ERROR, appended in parts
+pub error_put : (old a b c d e message : List ℕ) (receipt : Option (List ℕ)) (version : Bool) → a ≡ old ++ (codes "ERROR" ++ 10 ∷ []) → b ≡ a ++ line_of (codes "message") message → c ≡ b ++ lines (optional (codes "receipt-id") receipt)
+    → d ≡ c ++ lines (optional (codes "version") (if version then Some (codes "1.2") else None)) → e ≡ d ++ (codes "content-length:0" ++ 10 ∷ 10 ∷ 0 ∷ []) → e ≡ old ++ spelled (error_frame message receipt version)
+error_put old a b c d e message receipt version pa pb pc pd pe =
+    let word = codes "ERROR" ++ 10 ∷ [] in
+    let asked = optional (codes "receipt-id") receipt in
+    let told = optional (codes "version") (if version then Some (codes "1.2") else None) in
+    let last : List Header = (codes "content-length", codes "0") ∷ [] in
+    let tail = 10 ∷ 0 ∷ [] in
+    let first = line_of (codes "message") message in
+    let ending = lines last ++ tail in
+    pe ∙ ap (λ (t : List ℕ). t ++ ending) (pd ∙ ap (λ (t : List ℕ). t ++ lines told) (pc ∙ ap (λ (t : List ℕ). t ++ lines asked) (pb ∙ ap (λ (t : List ℕ). t ++ first) pa)))
+    ∙ append_assoc ((((old ++ word) ++ first) ++ lines asked)) (lines told) ending
+    ∙ append_assoc ((old ++ word) ++ first) (lines asked) (lines told ++ ending)
+    ∙ append_assoc (old ++ word) first (lines asked ++ (lines told ++ ending))
+    ∙ append_assoc old word (first ++ (lines asked ++ (lines told ++ ending)))
+    ∙ ap (λ (t : List ℕ). old ++ (word ++ t)) (sym (
+    append_assoc first (lines (asked ++ (told ++ last))) tail
+    ∙ ap (λ (t : List ℕ). first ++ t) (split asked (told ++ last) tail ∙ ap (λ (t : List ℕ). lines asked ++ t) (split told last tail))))
+
+-- ---- the first entries of a SEND's headers
+
+before_has : (hs : List Header) (q : List ℕ) → list_any (λ h. bytes_eq h.0 q) hs ≡ has (map (λ h. h.0) hs) q
+before_has [] q = refl
+before_has (h ∷ hs) q = ap (λ b. b || list_any (λ g. bytes_eq g.0 q) hs) (either_way h.0 q) ∙ ap (λ b. bytes_eq q h.0 || b) (before_has hs q)
+
+or_swap : (a b : Bool) → (a || b) ≡ (b || a)
+or_swap true true = refl
+or_swap true false = refl
+or_swap false true = refl
+or_swap false false = refl
+
+-- whether a header is dropped: its name is kept back, or was before
+pub dropped_by : (hs : List Header) (q : List ℕ) (kept before : Bool) → kept ≡ has kept_back q → before ≡ list_any (λ h. bytes_eq h.0 q) hs → (kept || before) ≡ has (seen hs) q
+dropped_by hs q kept before k f =
+    or_swap kept before ∙ ap (λ b. b || kept) (f ∙ before_has hs q) ∙ ap (λ b. has (map (λ h. h.0) hs) q || b) k ∙ sym (list_any-append (λ n. bytes_eq q n) (map (λ h. h.0) hs) kept_back)
+
+-- what is still due after the first i headers
+abbrev pub due : List Header → ℕ → List ℕ
+due sent i = lines (first_entries (seen (take i sent)) (drop i sent))
+
+seen_next : (sent : List Header) (i : ℕ) (h : Header) (q : List ℕ) → slice_get sent i ≡ Some h → has (seen (take (i + 1) sent)) q ≡ has (h.0 ∷ seen (take i sent)) q
+seen_next sent i h q at = ap (λ (hs : List Header). has (seen hs) q) (taken sent i h at) ∙ seen_more (take i sent) h q
+
+-- a header that is passed over
+pub due_passed : (sent : List Header) (i : ℕ) (h : Header) → slice_get sent i ≡ Some h → has (seen (take i sent)) h.0 ≡ true → due sent i ≡ due sent (i + 1)
+due_passed sent i h at found =
+    let rest = drop (i + 1) sent in
+    let one : first_entries (seen (take i sent)) (drop i sent) ≡ first_entries (seen (take i sent)) rest = at_cons (drop i sent) rest h (seen (take i sent)) (rest_at sent i h at) ∙ rw found refl in
+    let names = same_names rest (seen (take i sent)) (seen (take (i + 1) sent)) (λ q. sym (seen_next sent i h q at ∙ again (seen (take i sent)) h.0 q found)) in
+    ap lines (one ∙ names)
+
+-- a header that is put
+pub due_put : (sent : List Header) (i : ℕ) (h : Header) → slice_get sent i ≡ Some h → has (seen (take i sent)) h.0 ≡ false → due sent i ≡ (header_line true h ++ 10 ∷ []) ++ due sent (i + 1)
+due_put sent i h at absent =
+    let rest = drop (i + 1) sent in
+    let one : first_entries (seen (take i sent)) (drop i sent) ≡ h ∷ first_entries (h.0 ∷ seen (take i sent)) rest = at_cons (drop i sent) rest h (seen (take i sent)) (rest_at sent i h at) ∙ rw absent refl in
+    let names = same_names rest (h.0 ∷ seen (take i sent)) (seen (take (i + 1) sent)) (λ q. sym (seen_next sent i h q at)) in
+    ap lines one ∙ ap (λ (l : List Header). (header_line true h ++ 10 ∷ []) ++ lines l) names
+
+-- what was appended is no more due
+pub goes_on : (old out new sent : List ℕ) (whole : List ℕ) → new ≡ out ++ sent → (rest due : List ℕ) → due ≡ sent ++ rest → out ++ due ≡ whole → new ++ rest ≡ whole
+goes_on old out new sent whole n rest due d e = ap (λ (t : List ℕ). t ++ rest) n ∙ append_assoc out sent rest ∙ ap (λ (t : List ℕ). out ++ t) (sym d) ∙ e
+
+-- what is appended extends
+pub appended : (old new more : List ℕ) → new ≡ old ++ more → Extends old new
+appended old new more e = record { more = more; grown = e }

@@ -1,0 +1,10 @@
+use Rattle.std.proofs.Common.{◌≡◌, ◌++◌}
+use Rattle.stomp_frame.specs.Writing.{Extends}
+use Rattle.stomp_frame.proofs.ServerSpellings.{due}
+use Rattle.stomp_frame.proofs.server_writer.put_first_entries.Given as goal
+
+abbrev pub invariant-loop-i : goal.invariant-loop-i
+invariant-loop-i l = record {
+  written : l.out ++ due l.sent l.i ≡ l.fn.out ++ due l.sent 0;
+  grown : Extends l.fn.out l.out;
+}

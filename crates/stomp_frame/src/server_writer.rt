@@ -1,0 +1,234 @@
+//! Writing a server's frames from what they borrow.
+
+ghost use Rattle.std.specs.Prelude.{◌≡◌, ◌++◌, ◌∷◌, [], codes, true, decimal, length, map, take, ◌≤◌, Some, None, OnOk, OnErr, if◌then◌else◌};
+ghost use Rattle.std.specs.List.{list_any};
+ghost use Rattle.std.specs.Option.{option_map};
+ghost use Rattle.std.specs.Str.{bytes_eq};
+ghost use Rattle.stomp_escape.specs.Escape.{escaped};
+ghost use Rattle.stomp_frame.specs.Headers.{first_of};
+ghost use Rattle.stomp_frame.specs.Writing.{header_line, header_lines, spelled, Extends};
+ghost use Rattle.stomp_frame.specs.ServerFrames.{optional, first_entries, kept_back, message_id, message_headers, message_frame, receipt_frame, error_frame, connected_frame, rendered};
+
+use crate::headers::Headers;
+use crate::server_frame::ServerFrame;
+use crate::server_headers::is_kept_back;
+use crate::writer::put_header;
+use itoa::Buffer;
+use stomp_escape::{NoMemory, Octets, escape_into};
+
+/// Appends a header whose name has nothing to escape.
+fn put_plain_name(name: &[u8], value: &[u8], out: &mut Octets) -> Result<(), NoMemory>
+    requires { escaped name.now ≡ name.now }
+    ensures ok { OnOk result
+        (out.new ≡ out.old ++ (header_line true (name.now, value.now) ++ 10 ∷ [])) }
+    ensures err { OnErr result (Extends out.old out.new) }
+{
+    out.extend(name)?;
+    out.push(b':')?;
+    escape_into(value, out)?;
+    out.push(b'\n')
+}
+
+/// Appends a message's id.
+fn put_message_id(n: u64, topic: u32, index: u32, out: &mut Octets) -> Result<(), NoMemory>
+    ensures ok { OnOk result (out.new
+        ≡ out.old ++ (header_line true (codes "message-id", message_id n topic index) ++ 10 ∷ [])) }
+    ensures err { OnErr result (Extends out.old out.new) }
+{
+    let mut digits = Buffer::new();
+    out.extend(b"message-id:")?;
+    out.extend(digits.format(n).as_bytes())?;
+    out.push(b'.')?;
+    out.extend(digits.format(topic).as_bytes())?;
+    out.push(b'.')?;
+    out.extend(digits.format(index).as_bytes())?;
+    out.push(b'\n')
+}
+
+/// Appends a content-length.
+fn put_content_length(len: usize, out: &mut Octets) -> Result<(), NoMemory>
+    ensures ok { OnOk result (out.new
+        ≡ out.old ++ (header_line true (codes "content-length", decimal len) ++ 10 ∷ [])) }
+    ensures err { OnErr result (Extends out.old out.new) }
+{
+    out.extend(b"content-length:")?;
+    out.extend(Buffer::new().format(len).as_bytes())?;
+    out.push(b'\n')
+}
+
+/// Whether a SEND's header at index `i`, which has this name, isn't passed on: the name is kept back, or was before.
+fn is_dropped(sent: &Headers, name: &[u8], i: usize) -> bool
+    requires { i ≤ length sent.now }
+    ensures { result ≡ list_any (λ seen. bytes_eq name.now seen)
+        (map (λ h. h.0) (take i sent.now) ++ kept_back) }
+{
+    is_kept_back(name) || sent.has_among_first(i, name)
+}
+
+/// Appends the first entry of each header of the SEND that isn't kept back.
+fn put_first_entries(sent: &Headers, out: &mut Octets) -> Result<(), NoMemory>
+    ensures ok { OnOk result
+        (out.new ≡ out.old ++ header_lines true (first_entries kept_back sent.now)) }
+    ensures err { OnErr result (Extends out.old out.new) }
+{
+    for i in 0..sent.len() {
+        let (name, value) = sent.pair(i);
+        if !is_dropped(sent, name, i) {
+            put_header(true, name, value, out)?;
+        }
+    }
+    Ok(())
+}
+
+/// Appends the SEND's first destination, where it has one.
+fn put_destination(sent: &Headers, out: &mut Octets) -> Result<(), NoMemory>
+    ensures ok { OnOk result (out.new ≡ out.old ++ header_lines true
+        (optional (codes "destination") (first_of (codes "destination") sent.now))) }
+    ensures err { OnErr result (Extends out.old out.new) }
+{
+    match sent.first(b"destination") {
+        Some(destination) => put_plain_name(b"destination", destination, out),
+        None => Ok(()),
+    }
+}
+
+/// Appends the headers of a MESSAGE.
+fn put_message_headers(
+    subscription: &[u8],
+    n: u64,
+    topic: u32,
+    index: u32,
+    sent: &Headers,
+    len: usize,
+    out: &mut Octets,
+) -> Result<(), NoMemory>
+    ensures ok { OnOk result (out.new ≡ out.old ++ header_lines true
+        (message_headers subscription.now (message_id n topic index) sent.now len)) }
+    ensures err { OnErr result (Extends out.old out.new) }
+{
+    put_plain_name(b"subscription", subscription, out)?;
+    put_message_id(n, topic, index, out)?;
+    put_destination(sent, out)?;
+    put_content_length(len, out)?;
+    put_first_entries(sent, out)
+}
+
+/// Appends a MESSAGE.
+fn put_message(
+    subscription: &[u8],
+    n: u64,
+    topic: u32,
+    index: u32,
+    sent: &Headers,
+    body: &[u8],
+    out: &mut Octets,
+) -> Result<(), NoMemory>
+    ensures ok { OnOk result (out.new ≡ out.old ++ spelled
+        (message_frame subscription.now (message_id n topic index) sent.now body.now)) }
+    ensures err { OnErr result (Extends out.old out.new) }
+{
+    out.extend(b"MESSAGE\n")?;
+    put_message_headers(subscription, n, topic, index, sent, body.len(), out)?;
+    out.push(b'\n')?;
+    out.extend(body)?;
+    out.push(0)
+}
+
+/// Appends a RECEIPT.
+fn put_receipt(id: &[u8], out: &mut Octets) -> Result<(), NoMemory>
+    ensures ok { OnOk result (out.new ≡ out.old ++ spelled (receipt_frame id.now)) }
+    ensures err { OnErr result (Extends out.old out.new) }
+{
+    out.extend(b"RECEIPT\n")?;
+    put_plain_name(b"receipt-id", id, out)?;
+    out.extend(b"\n\0")
+}
+
+/// Appends a receipt's id, where there is one.
+fn put_receipt_id(receipt: Option<&[u8]>, out: &mut Octets) -> Result<(), NoMemory>
+    ensures ok { OnOk result (out.new ≡ out.old ++ header_lines true
+        (optional (codes "receipt-id") (option_map (λ r. r.now) receipt.entry))) }
+    ensures err { OnErr result (Extends out.old out.new) }
+{
+    match receipt {
+        Some(receipt) => put_plain_name(b"receipt-id", receipt, out),
+        None => Ok(()),
+    }
+}
+
+/// Appends the version that is supported, if the frame says it.
+fn put_version(version: bool, out: &mut Octets) -> Result<(), NoMemory>
+    ensures ok { OnOk result (out.new ≡ out.old ++ header_lines true
+        (optional (codes "version") (if version then Some (codes "1.2") else None))) }
+    ensures err { OnErr result (Extends out.old out.new) }
+{
+    if version {
+        out.extend(b"version:1.2\n")
+    } else {
+        Ok(())
+    }
+}
+
+/// Appends an ERROR.
+fn put_error(
+    message: &[u8],
+    receipt: Option<&[u8]>,
+    version: bool,
+    out: &mut Octets,
+) -> Result<(), NoMemory>
+    ensures ok { OnOk result (out.new ≡ out.old ++ spelled
+        (error_frame message.now (option_map (λ r. r.now) receipt.entry) version)) }
+    ensures err { OnErr result (Extends out.old out.new) }
+{
+    out.extend(b"ERROR\n")?;
+    put_plain_name(b"message", message, out)?;
+    put_receipt_id(receipt, out)?;
+    put_version(version, out)?;
+    out.extend(b"content-length:0\n\n\0")
+}
+
+/// Appends a CONNECTED.
+fn put_connected(out: &mut Octets) -> Result<(), NoMemory>
+    ensures ok { OnOk result (out.new ≡ out.old ++ spelled connected_frame) }
+    ensures err { OnErr result (Extends out.old out.new) }
+{
+    out.extend(b"CONNECTED\nversion:1.2\nheart-beat:0,0\n\n\0")
+}
+
+/// Appends the frame; after `NoMemory` perhaps a part of it.
+fn put_server(frame: &ServerFrame, out: &mut Octets) -> Result<(), NoMemory>
+    ensures ok { OnOk result (out.new ≡ out.old ++ spelled (rendered frame.now)) }
+    ensures err { OnErr result (Extends out.old out.new) }
+{
+    match frame {
+        ServerFrame::Connected => put_connected(out),
+        ServerFrame::Message {
+            subscription,
+            n,
+            topic,
+            index,
+            headers,
+            body,
+        } => put_message(subscription, *n, *topic, *index, headers, body, out),
+        ServerFrame::Receipt { id } => put_receipt(id, out),
+        ServerFrame::Error {
+            message,
+            receipt,
+            version,
+        } => put_error(message, *receipt, *version, out),
+    }
+}
+
+/// Appends the frame that `render` returns as `write_frame` does, but makes no frame: each octet of a body is copied
+/// once. After `NoMemory` the octets are what they were.
+pub fn write_server(frame: &ServerFrame, out: &mut Octets) -> Result<(), NoMemory>
+    ensures ok { OnOk result (out.new ≡ out.old ++ spelled (rendered frame.now)) }
+    ensures err { OnErr result (out.new ≡ out.old) }
+{
+    let before = out.len();
+    let done = put_server(frame, out);
+    if done.is_err() {
+        out.truncate(before);
+    }
+    done
+}
