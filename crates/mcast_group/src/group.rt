@@ -7,7 +7,7 @@ ghost use Rattle.mcast_txn.specs.Part.{data_of};
 ghost use Rattle.mcast_group.specs.Group.{CanLearn, MayBeFound, GroupState, Releases, ReleasesAll, Tries, TriesAll, Turns, AreFound, group_after_release, result_of, after_enter, propose_refusal, HasLeft, shown_at, sub_refusal, group_after_subscribe, group_after_unsubscribe};
 ghost use Rattle.mcast_txn.specs.declared.id.TxnId.{TxnId};
 ghost use Rattle.mcast_txn.specs.Ballot.{Decision};
-ghost use Rattle.mcast_group.specs.Counted.{takes_of};
+ghost use Rattle.mcast_group.specs.Counted.{group_after_take, item_at, next_at, takes_of};
 ghost use Rattle.mcast_group.specs.Inner.Copies.{AreOf, HaveCopies};
 ghost use Rattle.mcast_group.specs.Fitting.{Fits};
 ghost use Rattle.mcast_group.specs.Inner.GroupInvariant.{entry_of};
@@ -22,7 +22,7 @@ use crate::row::Row;
 use crate::state::SubState;
 use crate::subscription::{Subscription, give_all, index_of_sub, reserve_each};
 use crate::verdicts::Verdicts;
-use mcast_txn::{NoMemory, Part, Stamp, Ticket, Topic, TxnId, Verdict};
+use mcast_txn::{NoMemory, Part, Released, Stamp, Ticket, Topic, TxnId, Verdict};
 use std::alloc::Global;
 use std::marker::Model;
 use std::sync::Arc;
@@ -371,6 +371,7 @@ impl Group<VecOutlet> {
         ensures due { result ≡ option_map (λ p. (p.part.id, key p)) (due_part self.old.topic) }
         ensures released { self.new ≡ group_after_release (takes_of self.old) self.old }
     {
+        // For the proof: to read a field shows what the type keeps, that the subscriptions' numbers differ.
         let _ = &self.subscriptions;
         self.release(&())
     }
@@ -382,8 +383,27 @@ impl Group<VecOutlet> {
             × (Fits find self.old.topic → self.new.topic.pending ≡ []) }
         ensures count { result ≡ length self.new.topic.held - length self.old.topic.held }
     {
+        // For the proof, as in `release_counted`.
         let _ = &self.subscriptions;
         self.turn(&(), verdicts)
+    }
+
+    /// Takes the next item of the subscription of this number, with no memory, and returns its index among those that
+    /// its queue accepted; `item` lends it. `None` exactly where all were taken or there is no such subscription.
+    pub fn take(&mut self, number: u64) -> Option<usize>
+        ensures next { result ≡ next_at number self.old }
+        ensures taken { self.new ≡ group_after_take number self.old }
+    {
+        let at = index_of_sub(&self.subscriptions, number)?;
+        self.subscriptions[at].outlet.take()
+    }
+
+    /// The item of this index, from 0, among those that the queue of the subscription of this number accepted.
+    pub fn item(&self, number: u64, index: usize) -> Option<&Released>
+        ensures { option_map (λ item. item.now) result ≡ item_at number index self.now }
+    {
+        let at = index_of_sub(&self.subscriptions, number)?;
+        self.subscriptions[at].outlet.get(index)
     }
 }
 

@@ -76,7 +76,7 @@ after : (g : given.Over) (c : goal.After-drop-copies-inside g) → (with_items c
 after g c = with_items_is c.self.inside.subscriptions c.give_all.new.subs (many g c ∙ sym c.self.inside.subscriptions.ok.0)
 
 took : (g : given.Over) (c : goal.After-drop-copies-inside g) → Taken g.Q.Outlet.may_accept c.self.inside.frontier (item_of c.remove-part.result) (map (entry_of g.Q.Outlet.shown) c.self.inside.subscriptions.items) (map (entry_of g.Q.Outlet.shown) c.give_all.new.subs) (map (room_of g.Q.Outlet.shown) c.self.inside.subscriptions.items)
-took g c = taken g.Q.Outlet.shown g.Q.Outlet.may_accept c.self.inside.frontier (item_of c.remove-part.result) c.self.inside.subscriptions.items c.give_all.new.subs c.self.invariant.differ (gave g c)
+took g c = taken g.Q.Outlet.shown g.Q.Outlet.may_accept c.self.inside.frontier (item_of c.remove-part.result) c.self.inside.subscriptions.items c.give_all.new.subs c.self.invariant.sound.numbers (gave g c)
 
 gone : (g : given.Over) (c : goal.After-drop-copies-inside g) → c.in_ok-index.index < length c.self.inside.pending.items
 gone g c = rw c.deref.ensures.value at c.in_ok-index.ensures.0
