@@ -1,6 +1,9 @@
 //! Worked rows of a topic and its subscriptions, each refusal, made schedules, and what is answered when memory runs out.
 
 mod calls;
+mod made;
 mod memory;
 mod parts;
+mod plain;
+mod schedules;
 mod subscriptions;

@@ -136,6 +136,8 @@ pub(super) enum Answer {
     Left(u64, Cause, usize),
     /// The item of the transaction of this seq was taken.
     Took(u64),
+    /// A turn released so many.
+    Turned(u64),
     Open,
     /// A subscription has lagged at the stamp of this number.
     Lagged(u64),
