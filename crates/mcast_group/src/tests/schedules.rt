@@ -107,7 +107,9 @@ fn agrees(alloc: Global, schedule: u32, seen: &mut Seen) -> bool {
         if past.answer(call) != Some(answer) {
             return false;
         }
-        seen.came[place_of(answer)] = true;
+        if let Some(came) = seen.came.get_mut(place_of(answer)) {
+            *came = true;
+        }
     }
     has_sorted_log(&group, &past)
 }

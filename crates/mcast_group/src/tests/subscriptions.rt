@@ -50,6 +50,35 @@ fn a_full_queue_lags(rt: HostRuntime) {
     assert_eq!(rt; group.held_len(), 3);
 }
 
+/// Queues of two items, step by step, as in docs/ORDERING.md.
+const IN_STEPS: [(Call, Answer); 20] = [
+    (Propose(1, &[0], 0), Answer::Ticket(1)),
+    (Propose(2, &[0], 0), Answer::Ticket(2)),
+    (Propose(3, &[0], 0), Answer::Ticket(3)),
+    (Propose(4, &[0], 0), Answer::Ticket(4)),
+    (Learn(1, &[(0, 1)]), Done),
+    (Learn(2, &[(0, 2)]), Done),
+    (Learn(3, &[(0, 3)]), Done),
+    (Learn(4, &[(0, 4)]), Done),
+    (Subscribe(7, 2), From(0)),
+    (Release, Released(1, 1, 0)),
+    (Subscribe(8, 2), From(1)),
+    (Release, Released(2, 2, 0)),
+    (Take(8), Took(2)),
+    (Release, Released(3, 3, 0)),
+    (State(7), Lagged(2)),
+    (Take(7), Took(1)),
+    (Take(7), Took(2)),
+    (Release, Released(4, 4, 0)),
+    (Unsubscribe(7), Left(2, Cause::Lag, 2)),
+    (Unsubscribe(8), Left(4, Cause::Asked, 3)),
+];
+
+#[test]
+fn queues_step_by_step(rt: HostRuntime) {
+    assert!(rt; topic_answers(rt.alloc(), &IN_STEPS));
+}
+
 /// A lagged subscription gets no row after it, though its items were taken and its queue has room.
 const LAGGED: [(Call, Answer); 11] = [
     (Subscribe(7, 1), From(0)),

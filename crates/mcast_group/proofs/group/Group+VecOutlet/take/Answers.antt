@@ -25,7 +25,7 @@ returns-in_err-at-clause-taken c =
     let s = c.self.inside in
     let subs = s.subscriptions.items in
     let at = rw c.deref.ensures.value at c.index_of_sub.ensures in
-    let x = topic_state s.topic s.clock s.log_limit s.pending.items s.base s.rows.items s.frontier (map (entry_of shown_of) subs) in
+    let x = topic_state s.topic s.clock s.log_limit s.pending s.base s.rows.items s.frontier (map (entry_of shown_of) subs) in
     sym c.self.view_is
     ∙ (ap (λ (rs : List Room). record { topic = x; rooms = rs }) (sym (untouched shown_of c.args.number subs (sym at ∙ c.in_err-at.was)))
     ∙ ap (group_after_take c.args.number) c.self.view_is)
@@ -39,11 +39,11 @@ invariant_of-self c =
     let new : Subscription VecOutlet = record old { outlet = c.take.new.self } in
     let at = rw c.deref.ensures.value at c.index_of_sub.ensures in
     let ends = ends_found shown_of c.args.number subs place old (sym at ∙ c.in_ok-at.was) in
-    let x = topic_state s.topic s.clock s.log_limit s.pending.items s.base s.rows.items s.frontier (map (entry_of shown_of) subs) in
+    let x = topic_state s.topic s.clock s.log_limit s.pending s.base s.rows.items s.frontier (map (entry_of shown_of) subs) in
     let e : old ≡ get_or subs place old = c.index_mut.ensures.value in
     let t = c.take.ensures.taken in
     kept_taken (λ (o : VecOutlet). o.spare) x _ (vec_capacity s.rows) s.copies.items subs place old new c.self.invariant
-    (ap (λ (es : List Entry). topic_state s.topic s.clock s.log_limit s.pending.items s.base s.rows.items s.frontier es)
+    (ap (λ (es : List Entry). topic_state s.topic s.clock s.log_limit s.pending s.base s.rows.items s.frontier es)
     (map_set (entry_of shown_of) subs place new old (ap (λ (o : VecOutlet). entry_of shown_of (record old { outlet = o })) t ∙ ap (entry_of shown_of) e) ends.0))
     ends.0 (ap (λ (z : Subscription VecOutlet). z.to) e) (ap (λ (o : VecOutlet). o.spare) t ∙ ap (λ (z : Subscription VecOutlet). z.outlet.spare) e)
 
@@ -71,7 +71,7 @@ returns-clause-taken c =
     let at = rw c.deref.ensures.value at c.index_of_sub.ensures in
     let p = sym at ∙ c.in_ok-at.was in
     let ends = ends_found shown_of c.args.number subs place old p in
-    let x = topic_state s.topic s.clock s.log_limit s.pending.items s.base s.rows.items s.frontier in
+    let x = topic_state s.topic s.clock s.log_limit s.pending s.base s.rows.items s.frontier in
     let e : old ≡ get_or subs place old = c.index_mut.ensures.value in
     let t = c.take.ensures.taken in
     ap (λ (es : List Entry). record { topic = x es; rooms = map (room_of shown_of) (set subs place new) })
