@@ -50,6 +50,8 @@ next_index s =
 
 -- the room after a take: one more item is taken, where one was left
 abbrev pub room_after_take : Shown → Room
-room_after_take s = record s.room { taken = Some (
-    if nat_lt (known_taken s.room.taken) (length s.accepted) then known_taken s.room.taken + 1
-    else known_taken s.room.taken) }
+room_after_take s = record s.room {
+  taken = Some (
+      if nat_lt (known_taken s.room.taken) (length s.accepted) then known_taken s.room.taken + 1
+      else known_taken s.room.taken);
+}
