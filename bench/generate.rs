@@ -1,4 +1,4 @@
-//! Writes the inputs of `bench/relay`, `bench/frames` and `bench/transactions` into a folder:
+//! Writes the inputs of `bench/relay`, `bench/frames`, `bench/transactions` and `bench/topic` into a folder:
 //! `generate FOLDER NAME..`. Each is as many of its frames, of its sessions, or of its transactions
 //! as fit the relay's 16,777,216 octets of input. Those of `bench/relay` are SENDs to topic A alone.
 
@@ -111,6 +111,20 @@ fn transactions(place: usize, numbers: &mut Numbers) -> Vec<u8> {
     frames
 }
 
+/// The number of subscriptions, and then bodies of 64 octets, each with a NULL behind it; so many
+/// that no input takes more than some seconds and 64 MiB of queues.
+fn topic(subscriptions: usize, place: usize, numbers: &mut Numbers) -> Vec<u8> {
+    if place == 0 {
+        return format!("{subscriptions}\0").into_bytes();
+    }
+    if place > (2_560_000 / subscriptions).min(200_000) {
+        return Vec::new();
+    }
+    let mut text = body(64, numbers);
+    text.push(0);
+    text
+}
+
 /// The frames of the input of that name, at that place.
 fn frames(name: &str, place: usize, numbers: &mut Numbers) -> Option<Vec<u8>> {
     match name {
@@ -121,18 +135,21 @@ fn frames(name: &str, place: usize, numbers: &mut Numbers) -> Option<Vec<u8>> {
         "receipts" => Some(with_receipt(place, numbers)),
         "sessions" => Some(session(place, numbers)),
         "transactions" => Some(transactions(place, numbers)),
+        "topic-1" => Some(topic(1, place, numbers)),
+        "topic-16" => Some(topic(16, place, numbers)),
+        "topic-256" => Some(topic(256, place, numbers)),
         _ => None,
     }
 }
 
-/// Writes frames for as long as the next ones fit.
+/// Writes frames for as long as there are next ones, and they fit.
 fn write_input(folder: &Path, name: &str) -> io::Result<()> {
     let mut numbers = Numbers::new(0);
     let mut text = Vec::with_capacity(INPUT_LIMIT);
     for place in 0.. {
         let next = frames(name, place, &mut numbers)
             .ok_or_else(|| io::Error::other(format!("no input has the name {name}")))?;
-        if text.len() + next.len() > INPUT_LIMIT {
+        if next.is_empty() || text.len() + next.len() > INPUT_LIMIT {
             break;
         }
         text.extend(next);

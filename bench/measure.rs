@@ -1,5 +1,5 @@
 //! Times a program and its baseline on each input of a benchmark and prints the table:
-//! `measure relay|frames|transactions PROGRAM BASELINE FOLDER`. It refuses outputs that differ,
+//! `measure relay|frames|transactions|topic PROGRAM BASELINE FOLDER`. It refuses outputs that differ,
 //! and judges no time.
 
 use std::env;
@@ -21,6 +21,12 @@ const TRANSACTIONS: Rate = Rate {
     unit: "transactions",
     program: "sender_gate",
     counts: is_transaction,
+};
+const TOPIC: Rate = Rate {
+    inputs: &["topic-1", "topic-16", "topic-256"],
+    unit: "transactions",
+    program: "mcast_group",
+    counts: is_body,
 };
 const RUNS: usize = 5;
 
@@ -188,6 +194,11 @@ fn is_transaction(frame: &[u8]) -> bool {
     frame.starts_with(b"COMMIT\n") || (frame.starts_with(b"SEND\n") && !in_another())
 }
 
+/// Whether it is a transaction's body, and not the number of subscriptions.
+fn is_body(text: &[u8]) -> bool {
+    text.len() == 65
+}
+
 /// How many frames of an input count: each ends by a NULL, and no body has one.
 fn count(folder: &Path, name: &str, counts: fn(&[u8]) -> bool) -> io::Result<usize> {
     let mut input = BufReader::new(File::open(folder.join(name).with_extension("stomp"))?);
@@ -237,8 +248,12 @@ fn main() -> ExitCode {
             "transactions",
             print_rate(TRANSACTIONS, program, baseline, Path::new(folder)),
         ),
+        ["topic", program, baseline, folder] => (
+            "topic",
+            print_rate(TOPIC, program, baseline, Path::new(folder)),
+        ),
         _ => {
-            eprintln!("usage: measure relay|frames|transactions PROGRAM BASELINE FOLDER");
+            eprintln!("usage: measure relay|frames|transactions|topic PROGRAM BASELINE FOLDER");
             return ExitCode::FAILURE;
         }
     };

@@ -43,7 +43,6 @@ pub kept_grown : {Q : Type 0} (shown : Q → Shown) (spare : Q → ℕ) (x : Top
 kept_grown shown spare x capacity after copies old new h l e grown = record {
   sound = h.sound;
   room = let r : length x.held + length x.pending ≤ capacity = h.room in omega arith;
-  differ = h.differ;
   spares = λ s stands n.
       let w = placed_at s new stands in
       let m = same_many shown old new e in
@@ -64,7 +63,6 @@ kept_entered shown spare x y capacity after n copies more old new floor part h o
     record {
       sound = subst IsSound (sym (e ∙ ap (λ (k : ℕ). after_enter k part x) next)) (keeps_sound.proposes floor part x h.sound own none);
       room = omega arith;
-      differ = rw e h.differ;
       spares = λ s stands o.
           let w = placed_at s new stands in
           let m = same_many shown old new same in
@@ -83,7 +81,6 @@ kept_cancelled spare x y capacity copies subs id i h e gone l =
     record {
       sound = subst IsSound (sym e) (keeps_sound.cancels id x h.sound);
       room = let r : length x.held + length x.pending ≤ capacity = h.room in omega arith;
-      differ = rw e h.differ;
       spares = λ s k n. let r : length x.pending ≤ spare s.outlet = h.spares s k n in omega arith;
       copied = rw gone (copies_remove (length subs) x.pending copies i h.copied);
     }

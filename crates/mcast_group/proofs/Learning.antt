@@ -36,7 +36,6 @@ kept_learned spare x y capacity copies subs id place stamp h can e =
     subst (λ (z : TopicState). IsKept spare z capacity copies subs) (sym e) (record {
       sound = subst (λ (s : Stamp). IsSound (after_learn id s x)) (sym can.is) (Sound-learned id can.verdict x h.sound (learns_is id can.verdict x can.allowed));
       room = let r : length x.held + length x.pending ≤ capacity = h.room in omega arith;
-      differ = h.differ;
       spares = λ s k n. let r : length x.pending ≤ spare s.outlet = h.spares s k n in omega arith;
       copied = copies_told id stamp (length subs) x.pending copies h.copied;
     })

@@ -11,6 +11,7 @@ pub mod Copying
 pub mod Releasing
 pub mod Learning
 pub mod Subscribing
+pub mod Taking
 pub mod Entering
 pub mod Counting
 pub mod TurnEmpties

@@ -20,7 +20,6 @@ use Rattle.mcast_group.specs.Group.{GroupState, OutletsAnswer, AnswersEach, Rele
 use Rattle.mcast_group.specs.Sound.{NumbersDiffer}
 use Rattle.mcast_group.specs.Inner.Copies.{AreOf, HaveCopies}
 use Rattle.mcast_group.specs.Inner.GroupInvariant.{Gave, IsKept, IsReady, MayGive, entry_of, room_of}
-use Rattle.mcast_group.proofs.Queues.{delivered_number}
 use Rattle.mcast_group.proofs.Groups.{due_here, release_is, release_none}
 use Rattle.mcast_group.proofs.Parts.{due_is, map_length}
 use Rattle.mcast_group.proofs.Turning.{Sound-release}
@@ -184,7 +183,6 @@ module _ {Q : Type 0} (shown : Q → Shown) (spare : Q → ℕ) (x : TopicState)
             let r : length x.held + length x.pending ≤ capacity = h.room in
             let held : length y.held ≡ length (x.held ++ row_of p ∷ []) = ap (λ (z : TopicState). length z.held) e in
             let m = length_push x.held (row_of p) in omega arith;
-        differ = subst NumbersDiffer (sym subs) (differ_same (entry_after takes x.frontier (item_of p)) (delivered_number takes x.frontier (item_of p)) x.subscriptions h.differ);
         spares = λ s stands n.
             let w = placed_at s new stands in
             let k = w.place in

@@ -14,7 +14,7 @@ use Rattle.mcast_txn.specs.Lists.{In}
 use Rattle.mcast_txn.specs.Transaction.{TopicPart}
 use Rattle.mcast_txn.specs.Span.{LogRow}
 use Rattle.mcast_txn.specs.declared.id.Topic.{Topic}
-use Rattle.mcast_txn.proofs.Members.{In-push_cases, In-filter_cases}
+use Rattle.mcast_txn.proofs.Members.{In-push_cases}
 use Rattle.sub_queue.specs.Shown.{Shown, Room}
 use Rattle.mcast_group.specs.declared.state.SubState.{SubState}
 use Rattle.mcast_group.specs.Machine.{state_of_entry}
@@ -45,7 +45,6 @@ in_use {Q = Q} shown x n subs (Some i) e p s =
     let a : is_some (find_entry n x.subscriptions) ≡ true = ap (λ (es : List Entry). is_some (find_entry n es)) e ∙ (entry_any shown n subs ∙ some_at (λ (z : Subscription Q). z.number == n) subs i (sym p)) in
     rw a refl
 
--- a subscription isn't refused where no place is found for its number
 pub not_in_use : {Q : Type 0} (shown : Q → Shown) (x : TopicState) (n : ℕ) (subs : List (Subscription Q)) (o : Option ℕ) → x.subscriptions ≡ map (entry_of shown) subs → o ≡ position (λ (z : Subscription Q). z.number == n) subs → is_some o ≡ false → subscribe_fault n x ≡ None
 not_in_use {Q = Q} shown x n subs (Some i) e p s = absurd (true≢false s)
 not_in_use {Q = Q} shown x n subs None e p s =
@@ -54,39 +53,11 @@ not_in_use {Q = Q} shown x n subs None e p s =
 
 -- ---- a new one
 
-number_case : (n : ℕ) (d : Entry) (es : List Entry) (b : Bool) → (d.number == n) ≡ b → (is_some (find_entry n es) ≡ false → (e : Entry) → In e es → e.number ≢ n) → is_some (cond b (Some d) (find_entry n es)) ≡ false → (e : Entry) → In e (d ∷ es) → e.number ≢ n
-number_case n d es true q ih h e k = absurd (true≢false h)
-number_case n d es false q ih h e (inl i) = let ne : d.number ≢ n = grind (arith, nat_tests) in subst (λ (z : Entry). z.number ≢ n) i ne
-number_case n d es false q ih h e (inr i) = ih h e i
-
-any_number : (n : ℕ) (es : List Entry) → is_some (find_entry n es) ≡ false → (e : Entry) → In e es → e.number ≢ n
-any_number n [] h e k = absurd k
-any_number n (d ∷ es) h e k = number_case n d es (d.number == n) refl (any_number n es) h e k
-
-differ_push : (es : List Entry) (e : Entry) → NumbersDiffer es → ((f : Entry) → In f es → f.number ≢ e.number) → NumbersDiffer (es ++ e ∷ [])
-differ_push [] e h k = ((λ f i. absurd i), tt)
-differ_push (d ∷ es) e h k = (
-  (λ f i. elim (In-push_cases f e es i) [
-    | inl o ↦ h.0 f o
-    | inr m ↦ λ q. k d (inl refl) (sym (ap (λ (z : Entry). z.number) m ∙ q))
-  ]),
-  differ_push es e h.1 (λ f i. k f (inr i)),
-)
-
-unused : (n : ℕ) (x : TopicState) → subscribe_fault n x ≡ None → is_some (find_entry n x.subscriptions) ≡ false
-unused n x h = go (is_some (find_entry n x.subscriptions)) h
-  where
-    go : (b : Bool) → cond b (Some SubInUse) None ≡ None → b ≡ false
-    go true k = cc
-    go false k = refl
-
--- IsKept holds after a subscription began, with spare and copies for it
 pub kept_subscribed : {Q : Type 0} (shown : Q → Shown) (spare : Q → ℕ) (x y : TopicState) (capacity : ℕ) (copies more : List (List TopicPart)) (subs : List (Subscription Q)) (s : Subscription Q) → IsKept spare x capacity copies subs → subscribe_fault s.number x ≡ None → y ≡ after_subscribe s.number x → (s.to ≡ None → length x.pending ≤ spare s.outlet) → HaveCopies (length subs + 1) x.pending more → IsKept spare y capacity more (subs ++ s ∷ [])
 kept_subscribed shown spare x y capacity copies more subs s h none e left copied =
     subst (λ (z : TopicState). IsKept spare z capacity more (subs ++ s ∷ [])) (sym e) (record {
       sound = keeps_sound.subscribes s.number x h.sound none;
       room = h.room;
-      differ = differ_push x.subscriptions _ h.differ (any_number s.number x.subscriptions (unused s.number x none));
       spares = λ z k n. elim (In-push_cases z s subs k) [
         | inl o ↦ h.spares z o n
         | inr m ↦ subst (λ (w : Subscription _). length x.pending ≤ spare w.outlet) m (left (subst (λ (w : Subscription _). w.to ≡ None) (sym m) n))
@@ -94,7 +65,6 @@ kept_subscribed shown spare x y capacity copies more subs s h none e left copied
       copied = subst (λ (k : ℕ). HaveCopies k x.pending more) (sym (length_push subs s)) copied;
     })
 
--- a subscription at the end, with nothing accepted, is the machine's new entry
 pub subscribed_state : {Q : Type 0} (shown : Q → Shown) (t : Topic) (clock limit : ℕ) (ps : List Pending) (base : Stamp) (rows : List LogRow) (f : Stamp) (subs : List (Subscription Q)) (s : Subscription Q) → entry_of shown s ≡ record { number = s.number; from = f; to = None; accepted = [] } → topic_state t clock limit ps base rows f (map (entry_of shown) (subs ++ s ∷ [])) ≡ after_subscribe s.number (topic_state t clock limit ps base rows f (map (entry_of shown) subs))
 subscribed_state shown t clock limit ps base rows f subs s e =
     let m : map (entry_of shown) (subs ++ s ∷ []) ≡ map (entry_of shown) subs ++ entry_of shown s ∷ [] = map-append (entry_of shown) subs (s ∷ []) in
@@ -109,13 +79,13 @@ pub record EndsAt {Q : Type 0} (shown : Q → Shown) (n : ℕ) (subs : List (Sub
   pub rooms : rooms_without n (map (entry_of shown) subs) (map (room_of shown) subs) ≡ map (room_of shown) (remove subs i)
   pub left : NumbersDiffer (map (entry_of shown) subs) → filter (λ (e : Entry). not (e.number == n)) (map (entry_of shown) subs) ≡ map (entry_of shown) (remove subs i)
 
-flip_true : (a b : ℕ) → (a == b) ≡ true → (b == a) ≡ true
+pub flip_true : (a b : ℕ) → (a == b) ≡ true → (b == a) ≡ true
 flip_true a b e = grind (arith, nat_tests)
 
-flip_false : (a b : ℕ) → (a == b) ≡ false → (b == a) ≡ false
+pub flip_false : (a b : ℕ) → (a == b) ≡ false → (b == a) ≡ false
 flip_false a b e = grind (arith, nat_tests)
 
-is_number : (a b : ℕ) → (a == b) ≡ true → a ≡ b
+pub is_number : (a b : ℕ) → (a == b) ≡ true → a ≡ b
 is_number a b e = grind (arith, nat_tests)
 
 isnt_number : (a b : ℕ) → a ≢ b → (a == b) ≡ false
@@ -128,7 +98,6 @@ others_stay n (e ∷ es) h =
     let ih = others_stay n es (λ f i. h f (inr i)) in
     rw (k, ih) refl
 
--- EndsAt holds of the first subscription of a number
 pub ends_at : {Q : Type 0} (shown : Q → Shown) (n : ℕ) (subs : List (Subscription Q)) (i : ℕ) (d : Subscription Q) → i < length subs → ((get_or subs i d).number == n) ≡ true → ((k : ℕ) → k < i → ((get_or subs k d).number == n) ≡ false) → EndsAt shown n subs i d
 ends_at shown n [] i d l e f = absurd (omega arith)
 ends_at shown n (s ∷ subs) zero d l e f =
@@ -151,7 +120,6 @@ ends_at shown n (s ∷ subs) (suc i) d l e f =
       left = λ h. rw a (ap (λ (es : List Entry). entry_of shown s ∷ es) (ih.left h.1));
     }
 
--- where a place is found for a number, its subscription is there
 pub ends_found : {Q : Type 0} (shown : Q → Shown) (n : ℕ) (subs : List (Subscription Q)) (i : ℕ) (d : Subscription Q) → position (λ (z : Subscription Q). z.number == n) subs ≡ Some i → (i < length subs) × EndsAt shown n subs i d
 ends_found {Q = Q} shown n subs i d e =
     let k = position-Some (λ (z : Subscription Q). z.number == n) subs i d e in (k.0, ends_at shown n subs i d k.0 k.1 k.2)
@@ -163,27 +131,16 @@ In-remove x (y ∷ xs) zero h = inr h
 In-remove x (y ∷ xs) (suc i) (inl e) = inl e
 In-remove x (y ∷ xs) (suc i) (inr h) = inr (In-remove x xs i h)
 
-differ_filter : (p : Entry → Bool) (es : List Entry) → NumbersDiffer es → NumbersDiffer (filter p es)
-differ_filter p [] h = tt
-differ_filter p (e ∷ es) h = go (differ_filter p es h.1) (p e)
-  where
-    go : NumbersDiffer (filter p es) → (b : Bool) → NumbersDiffer (cond b (e ∷ filter p es) (filter p es))
-    go ih true = ((λ f i. h.0 f (In-filter_cases p f es i).stands), ih)
-    go ih false = ih
-
--- IsKept holds after a subscription ended
 pub kept_unsubscribed : {Q : Type 0} (shown : Q → Shown) (spare : Q → ℕ) (x y : TopicState) (capacity : ℕ) (copies : List (List TopicPart)) (subs : List (Subscription Q)) (n i : ℕ) → IsKept spare x capacity copies subs → y ≡ after_unsubscribe n x → i < length subs → IsKept spare y capacity copies (remove subs i)
 kept_unsubscribed shown spare x y capacity copies subs n i h e l =
     let m = length-remove subs i l in
     subst (λ (z : TopicState). IsKept spare z capacity copies (remove subs i)) (sym e) (record {
       sound = keeps_sound.unsubscribes n x h.sound;
       room = h.room;
-      differ = differ_filter (λ (z : Entry). not (z.number == n)) x.subscriptions h.differ;
       spares = λ s k o. h.spares s (In-remove s subs i k) o;
       copied = fewer (length subs) (length (remove subs i)) x.pending copies (omega arith) h.copied;
     })
 
--- ending a subscription is refused where no place is found for its number
 pub no_sub : {Q : Type 0} (shown : Q → Shown) (x : TopicState) (n : ℕ) (subs : List (Subscription Q)) → x.subscriptions ≡ map (entry_of shown) subs → position (λ (z : Subscription Q). z.number == n) subs ≡ None → unsubscribe_fault n x ≡ Some (record {})
 no_sub {Q = Q} shown x n subs e p =
     let a : is_some (find_entry n x.subscriptions) ≡ false = ap (λ (es : List Entry). is_some (find_entry n es)) e ∙ (entry_any shown n subs ∙ none_at (λ (z : Subscription Q). z.number == n) subs p) in

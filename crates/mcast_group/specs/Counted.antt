@@ -1,11 +1,12 @@
 -- Outlets that count what was taken: their answers are a function of what they show.
-use Rattle.std.specs.Prelude.{◌≡◌, Bool, false, List, Option, Some, None}
+use Rattle.std.specs.Prelude.{◌≡◌, ℕ, ◌==◌, Bool, false, List, [], ◌∷◌, slice_get, Option, Some, None, if◌then◌else◌}
+use Rattle.mcast_txn.specs.Span.{Item}
 use Rattle.mcast_txn.specs.declared.id.TxnId.{TxnId}
 use Rattle.mcast_txn.specs.Ballot.{Decision}
-use Rattle.sub_queue.specs.Shown.{Shown, Room, has_room}
-use Rattle.mcast_group.specs.Machine.{Entry, after_turn}
+use Rattle.sub_queue.specs.Shown.{Shown, Room, has_room, next_index, room_after_take}
+use Rattle.mcast_group.specs.Machine.{Entry, after_turn, find_entry}
 use Rattle.mcast_group.specs.Sound.{NumbersDiffer}
-use Rattle.mcast_group.specs.Group.{GroupState, Releases, ReleasesAll, group_after_release, room_at, shows, group_after_tries}
+use Rattle.mcast_group.specs.Group.{GroupState, Releases, ReleasesAll, group_after_release, room_at, shown_at, shows, group_after_tries}
 
 -- fewer items of the subscription than the room's capacity are untaken, where there is a room
 abbrev pub takes_in : Option Room → Entry → Bool
@@ -36,3 +37,34 @@ CountedTurns =
     (find : TxnId → Option Decision) (g new : GroupState) → NumbersDiffer g.topic.subscriptions
     → ReleasesAll counted (group_after_tries find g) new
     → new ≡ record g { topic = after_turn (takes_of g) find g.topic }
+
+-- ---- take
+
+-- the index of the next item of a subscription, if there is the subscription and an item is untaken
+abbrev pub next_in : Option Shown → Option ℕ
+next_in None = None
+next_in (Some s) = next_index s
+
+-- the same, of the subscription of this number
+abbrev pub next_at : ℕ → GroupState → Option ℕ
+next_at number g = next_in (shown_at number g)
+
+-- the rooms after a take of this number: that of its subscription counts one more item as taken, where one was left
+abbrev pub rooms_after_take : ℕ → List Entry → List Room → List Room
+rooms_after_take number [] rooms = rooms
+rooms_after_take number (e ∷ es) [] = []
+rooms_after_take number (e ∷ es) (r ∷ rooms) =
+    if number == e.number then room_after_take (shows e r) ∷ rooms else r ∷ rooms_after_take number es rooms
+
+-- a group after a take of this number
+abbrev pub group_after_take : ℕ → GroupState → GroupState
+group_after_take number g = record g { rooms = rooms_after_take number g.topic.subscriptions g.rooms }
+
+-- the item of this index among those that a subscription's queue accepted, if there is the subscription and the item
+abbrev pub item_in : ℕ → Option Entry → Option Item
+item_in index None = None
+item_in index (Some e) = slice_get e.accepted index
+
+-- the same, of the subscription of this number
+abbrev pub item_at : ℕ → ℕ → GroupState → Option Item
+item_at number index g = item_in index (find_entry number g.topic.subscriptions)

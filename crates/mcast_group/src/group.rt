@@ -7,7 +7,7 @@ ghost use Rattle.mcast_txn.specs.Part.{data_of};
 ghost use Rattle.mcast_group.specs.Group.{CanLearn, MayBeFound, GroupState, Releases, ReleasesAll, Tries, TriesAll, Turns, AreFound, group_after_release, result_of, after_enter, propose_refusal, HasLeft, shown_at, sub_refusal, group_after_subscribe, group_after_unsubscribe};
 ghost use Rattle.mcast_txn.specs.declared.id.TxnId.{TxnId};
 ghost use Rattle.mcast_txn.specs.Ballot.{Decision};
-ghost use Rattle.mcast_group.specs.Counted.{takes_of};
+ghost use Rattle.mcast_group.specs.Counted.{group_after_take, item_at, next_at, takes_of};
 ghost use Rattle.mcast_group.specs.Inner.Copies.{AreOf, HaveCopies};
 ghost use Rattle.mcast_group.specs.Fitting.{Fits};
 ghost use Rattle.mcast_group.specs.Inner.GroupInvariant.{entry_of};
@@ -17,12 +17,13 @@ use crate::copies::{Copies, add_to_each};
 use crate::ended::Ended;
 use crate::fault::{CancelFault, LearnFault, NoSub, ProposeFault, SubFault};
 use crate::law::has_one_row_each;
-use crate::pending::{PendingPart, index_for, index_of, index_to_learn, least_index};
+use crate::pending::PendingPart;
+use crate::pending_parts::PendingParts;
 use crate::row::Row;
 use crate::state::SubState;
 use crate::subscription::{Subscription, give_all, index_of_sub, reserve_each};
 use crate::verdicts::Verdicts;
-use mcast_txn::{NoMemory, Part, Stamp, Ticket, Topic, TxnId, Verdict};
+use mcast_txn::{NoMemory, Part, Released, Stamp, Ticket, Topic, TxnId, Verdict};
 use std::alloc::Global;
 use std::marker::Model;
 use std::sync::Arc;
@@ -36,8 +37,7 @@ pub struct Group<Q: Outlet + Drop> {
     topic: Topic,
     clock: u64,
     log_limit: usize,
-    /// By rising id.
-    pending: Vec<PendingPart>,
+    pending: PendingParts,
     /// For each pending part, in their order, a copy for each subscription.
     copies: Vec<Copies>,
     /// The stamp of the last row that was drained.
@@ -56,13 +56,13 @@ impl<Q: Outlet + Drop> Model for Group<Q> {
     ghost Value = { GroupState };
 
     ghost view = { λ g. record {
-      topic = topic_state g.topic g.clock g.log_limit g.pending.items g.base g.rows.items g.frontier
+      topic = topic_state g.topic g.clock g.log_limit g.pending g.base g.rows.items g.frontier
           (map (entry_of Q.shown) g.subscriptions.items);
       rooms = map (room_of Q.shown) g.subscriptions.items;
     } };
 
     ghost invariant = { λ g. IsKept Q.spare
-        (topic_state g.topic g.clock g.log_limit g.pending.items g.base g.rows.items g.frontier
+        (topic_state g.topic g.clock g.log_limit g.pending g.base g.rows.items g.frontier
         (map (entry_of Q.shown) g.subscriptions.items))
         (vec_capacity g.rows) g.copies.items g.subscriptions.items };
 }
@@ -77,7 +77,7 @@ impl<Q: Outlet + Drop> Group<Q> {
             topic,
             clock,
             log_limit,
-            pending: Vec::new(alloc),
+            pending: PendingParts::new(alloc),
             copies: Vec::new(alloc),
             base: Stamp::ZERO,
             rows: Vec::new(alloc),
@@ -134,8 +134,8 @@ impl<Q: Outlet + Drop> Group<Q> {
         ensures due { result ≡ option_map (λ p. (p.part.id, key p)) (due_part self.old.topic) }
         ensures released { Releases Q.may_accept self.old self.new }
     {
-        let index = least_index(&self.pending)?;
-        if !self.pending[index].is_learnt() {
+        let index = self.pending.least_index()?;
+        if !self.pending.at(index).is_learnt() {
             return None;
         }
         let part = self.pending.remove(index);
@@ -163,7 +163,7 @@ impl<Q: Outlet + Drop> Group<Q> {
         ensures ok { OnOk result (self.new ≡ record self.old { topic = after_learn id (decided_stamp verdict.now) self.old.topic }) }
         ensures err { OnErr result (self.new ≡ self.old) }
     {
-        let index = index_to_learn(&self.pending, id, verdict)?;
+        let index = self.pending.index_to_learn(id, verdict)?;
         self.store(id, index, verdict.stamp());
         Ok(())
     }
@@ -198,7 +198,7 @@ impl<Q: Outlet + Drop> Group<Q> {
         ensures err { OnErr result (self.new ≡ self.old) }
     {
         let id = part.id;
-        if index_of(&self.pending, id).is_some() {
+        if self.pending.index_of(id).is_some() {
             return Err(ProposeFault::Twice);
         }
         let last = self.clock.max(floor.n);
@@ -242,10 +242,10 @@ impl<Q: Outlet + Drop> Group<Q> {
         ensures ok { OnOk result (self.new ≡ record self.old { topic = after_cancel id self.old.topic }) }
         ensures err { OnErr result (self.new ≡ self.old) }
     {
-        let Some(index) = index_of(&self.pending, id) else {
+        let Some(index) = self.pending.index_of(id) else {
             return Err(CancelFault::NotPending);
         };
-        if self.pending[index].is_learnt() {
+        if self.pending.at(index).is_learnt() {
             return Err(CancelFault::Decided);
         }
         self.pending.remove(index);
@@ -335,13 +335,13 @@ impl<Q: Outlet + Drop> Group<Q> {
         requires { index < length self.old.topic.pending }
         ensures { (d : Pending) → Tries (MayBeFound (V.finds verdicts.now)) (slice_index_or self.old.topic.pending index d) self.old self.new }
     {
-        let part = self.pending[index].part();
+        let part = self.pending.at(index).part();
         let id = part.id;
         let Some(found) = verdicts.find(part) else {
             return;
         };
         has_one_row_each(found.verdict);
-        let Ok(at) = index_to_learn(&self.pending, id, found.verdict) else {
+        let Ok(at) = self.pending.index_to_learn(id, found.verdict) else {
             return;
         };
         let stamp = found.verdict.stamp();
@@ -353,7 +353,7 @@ impl<Q: Outlet + Drop> Group<Q> {
         requires { CanLearn id index stamp self.old.topic }
         ensures { self.new ≡ record self.old { topic = after_learn id stamp self.old.topic } }
     {
-        self.pending[index].learn(stamp);
+        self.pending.learn(index, stamp);
         self.clock = self.clock.max(stamp.n);
     }
 
@@ -371,6 +371,7 @@ impl Group<VecOutlet> {
         ensures due { result ≡ option_map (λ p. (p.part.id, key p)) (due_part self.old.topic) }
         ensures released { self.new ≡ group_after_release (takes_of self.old) self.old }
     {
+        // For the proof: to read a field shows what the type keeps, that the subscriptions' numbers differ.
         let _ = &self.subscriptions;
         self.release(&())
     }
@@ -382,8 +383,27 @@ impl Group<VecOutlet> {
             × (Fits find self.old.topic → self.new.topic.pending ≡ []) }
         ensures count { result ≡ length self.new.topic.held - length self.old.topic.held }
     {
+        // For the proof, as in `release_counted`.
         let _ = &self.subscriptions;
         self.turn(&(), verdicts)
+    }
+
+    /// Takes the next item of the subscription of this number, with no memory, and returns its index among those that
+    /// its queue accepted; `item` lends it. `None` exactly where all were taken or there is no such subscription.
+    pub fn take(&mut self, number: u64) -> Option<usize>
+        ensures next { result ≡ next_at number self.old }
+        ensures taken { self.new ≡ group_after_take number self.old }
+    {
+        let at = index_of_sub(&self.subscriptions, number)?;
+        self.subscriptions[at].outlet.take()
+    }
+
+    /// The item of this index, from 0, among those that the queue of the subscription of this number accepted.
+    pub fn item(&self, number: u64, index: usize) -> Option<&Released>
+        ensures { option_map (λ item. item.now) result ≡ item_at number index self.now }
+    {
+        let at = index_of_sub(&self.subscriptions, number)?;
+        self.subscriptions[at].outlet.get(index)
     }
 }
 
@@ -392,7 +412,7 @@ fn make_room<Q: Outlet + Drop>(
     subs: &mut Vec<Subscription<Q>>,
     sub: &mut Subscription<Q>,
     copies: &mut Vec<Copies>,
-    pending: &[PendingPart],
+    pending: &PendingParts,
 ) -> Result<(), NoMemory>
     requires { length copies.old.items ≡ length pending.now }
     ensures subs { subs.new.items ≡ subs.old.items }
@@ -405,26 +425,25 @@ fn make_room<Q: Outlet + Drop>(
 {
     subs.reserve(1)?;
     sub.outlet.reserve(pending.len())?;
-    add_to_each(copies, pending)?;
+    add_to_each(copies, pending.by_id())?;
     Ok(())
 }
 
 // Puts a part and its copies at its index.
 fn put(
-    pending: &mut Vec<PendingPart>,
+    pending: &mut PendingParts,
     copies: &mut Vec<Copies>,
     entry: PendingPart,
     made: Copies,
 ) -> Result<(), NoMemory>
-    requires { length copies.old.items ≡ length pending.old.items }
-    ensures ok { OnOk result (pending.new.items ≡ insert_pending entry pending.old.items) }
-    ensures copies { OnOk result ((n : ℕ) → HaveCopies n pending.old.items copies.old.items → n ≤ length made → AreOf entry.part made → HaveCopies n pending.new.items copies.new.items) }
-    ensures err { OnErr result (pending.new.items ≡ pending.old.items) }
+    requires { length copies.old.items ≡ length pending.old }
+    ensures ok { OnOk result (pending.new ≡ insert_pending entry pending.old) }
+    ensures copies { OnOk result ((n : ℕ) → HaveCopies n pending.old copies.old.items → n ≤ length made → AreOf entry.part made → HaveCopies n pending.new copies.new.items) }
+    ensures err { OnErr result (pending.new ≡ pending.old) }
     ensures kept { OnErr result (copies.new.items ≡ copies.old.items) }
 {
     copies.reserve(1)?;
-    let index = index_for(pending, entry.id());
-    pending.insert(index, entry)?;
+    let index = pending.insert(entry)?;
     copies.insert(index, made)?;
     Ok(())
 }

@@ -3,8 +3,8 @@ use Rattle.std.specs.Prelude.{◌≡◌, ℕ, true, false, [], ◌∷◌, Some, 
 use Rattle.std.proofs.Common.{refl}
 use Rattle.mcast_txn.specs.declared.stamp.Stamp.{Stamp}
 use Rattle.mcast_txn.specs.Span.{Item}
-use Rattle.sub_queue.specs.Shown.{Shown, IsAboveLast, after_push, has_room, untaken}
-use Rattle.sub_queue.specs.VecQueue.{VecQueue, after_take, next_index, shown_of}
+use Rattle.sub_queue.specs.Shown.{Shown, IsAboveLast, after_push, has_room, next_index, room_after_take, untaken}
+use Rattle.sub_queue.specs.VecQueue.{VecQueue, after_take, shown_of}
 
 abbrev stamp : ℕ → Stamp
 stamp n = record { n = n; topic = record { 0 = 0 } }
@@ -26,17 +26,23 @@ no_room_where_full = refl
 room_after_a_take : has_room (shown_of (after_take (two 0))) ≡ true
 room_after_a_take = refl
 
-first_is_next : next_index (two 0) ≡ Some 0
+first_is_next : next_index (shown_of (two 0)) ≡ Some 0
 first_is_next = refl
 
-second_is_next_after_a_take : next_index (after_take (two 0)) ≡ Some 1
+second_is_next_after_a_take : next_index (shown_of (after_take (two 0))) ≡ Some 1
 second_is_next_after_a_take = refl
 
-none_is_next_after_two : next_index (two 2) ≡ None
+none_is_next_after_two : next_index (shown_of (two 2)) ≡ None
 none_is_next_after_two = refl
 
 nothing_is_taken_twice : after_take (two 2) ≡ two 2
 nothing_is_taken_twice = refl
+
+room_with_one_more : room_after_take (shown_of (two 1)) ≡ record { capacity = 2; taken = Some 2 }
+room_with_one_more = refl
+
+room_of_all_taken : room_after_take (shown_of (two 2)) ≡ record { capacity = 2; taken = Some 2 }
+room_of_all_taken = refl
 
 one_is_untaken : untaken (shown_of (two 1)) ≡ 1
 one_is_untaken = refl

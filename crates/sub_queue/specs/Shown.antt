@@ -1,6 +1,6 @@
 -- What an outlet shows. Worked rows are in proofs/Examples.antt.
 use Rattle.std.specs.Prelude.{◌≡◌, ℕ, ◌-◌, ◌≤◌, nat_lt, Bool, true, List, [], ◌∷◌, ◌++◌, length}
-use Rattle.std.specs.Prelude.{Option, Some, None, IfSome}
+use Rattle.std.specs.Prelude.{Option, Some, None, IfSome, ◌+◌, if◌then◌else◌}
 use Rattle.std.specs.List.{last_or}
 use Rattle.mcast_txn.specs.declared.stamp.Stamp.{Stamp}
 use Rattle.mcast_txn.specs.Stamp.{stamp_lt}
@@ -42,3 +42,16 @@ has_room s = nat_lt (untaken s) s.room.capacity
 -- as many items as the capacity are untaken
 abbrev pub IsFull : Shown → Type 0
 IsFull s = s.room.capacity ≤ untaken s
+
+-- the index of the next item to take, where one isn't known to be taken: of 5 items of which 3 were taken, 3
+abbrev pub next_index : Shown → Option ℕ
+next_index s =
+    if nat_lt (known_taken s.room.taken) (length s.accepted) then Some (known_taken s.room.taken) else None
+
+-- the room after a take: one more item is taken, where one was left
+abbrev pub room_after_take : Shown → Room
+room_after_take s = record s.room {
+  taken = Some (
+      if nat_lt (known_taken s.room.taken) (length s.accepted) then known_taken s.room.taken + 1
+      else known_taken s.room.taken);
+}

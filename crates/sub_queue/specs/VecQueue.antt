@@ -1,5 +1,5 @@
 -- A queue that knows which of its items were taken.
-use Rattle.std.specs.Prelude.{ℕ, ◌+◌, ◌≤◌, nat_lt, List, length, Option, Some, None, if◌then◌else◌}
+use Rattle.std.specs.Prelude.{ℕ, ◌+◌, ◌≤◌, nat_lt, List, length, Some, if◌then◌else◌}
 use Rattle.mcast_txn.specs.Lists.{Rises}
 use Rattle.mcast_txn.specs.Span.{Item, item_stamp}
 use Rattle.sub_queue.specs.Shown.{Shown}
@@ -27,10 +27,6 @@ pub record KeepsCapacity (accepted : List Item) (capacity taken : ℕ) : Type 0 
 -- what a queue shows
 abbrev pub shown_of : VecQueue → Shown
 shown_of q = record { accepted = q.accepted; room = record { capacity = q.capacity; taken = Some q.taken } }
-
--- the index of the next item, where one is untaken: of 5 items of which 3 were taken, 3
-abbrev pub next_index : VecQueue → Option ℕ
-next_index q = if nat_lt q.taken (length q.accepted) then Some q.taken else None
 
 -- one more item is taken, where one was untaken
 abbrev pub after_take : VecQueue → VecQueue

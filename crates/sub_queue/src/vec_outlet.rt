@@ -4,8 +4,8 @@ ghost use Rattle.std.specs.Prelude.{◌≡◌, [], length, slice_get, Some};
 ghost use Rattle.std.proofs.Common.{sym};
 ghost use Rattle.std.proofs.lemmas.Bool.{ltb-false};
 ghost use Rattle.std.specs.Option.{option_map};
-ghost use Rattle.sub_queue.specs.Shown.{has_room, untaken};
-ghost use Rattle.sub_queue.specs.VecQueue.{KeepsCapacity, shown_of, next_index, after_take};
+ghost use Rattle.sub_queue.specs.Shown.{has_room, next_index, untaken};
+ghost use Rattle.sub_queue.specs.VecQueue.{KeepsCapacity, shown_of, after_take};
 
 use crate::outlet::Outlet;
 use mcast_txn::{NoMemory, Released};
@@ -73,7 +73,7 @@ impl VecOutlet {
 
     /// Takes the next item, with no memory, and returns its index: `None` exactly where all were taken.
     pub fn take(&mut self) -> Option<usize>
-        ensures next { result ≡ next_index self.old }
+        ensures next { result ≡ next_index (shown_of self.old) }
         ensures taken { self.new ≡ after_take self.old }
     {
         let index = self.taken;

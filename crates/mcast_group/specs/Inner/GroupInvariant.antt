@@ -6,7 +6,7 @@ use Rattle.mcast_txn.specs.Transaction.{TopicPart}
 use Rattle.mcast_txn.specs.Span.{Item}
 use Rattle.sub_queue.specs.Shown.{Shown, Room, IsAboveLast}
 use Rattle.mcast_group.specs.declared.subscription.Subscription.{Subscription}
-use Rattle.mcast_group.specs.Sound.{IsSound, NumbersDiffer}
+use Rattle.mcast_group.specs.Sound.{IsSound}
 use Rattle.mcast_group.specs.Machine.{TopicState, Entry}
 use Rattle.mcast_group.specs.Group.{entries_after}
 use Rattle.mcast_group.specs.Inner.Copies.{HaveCopies}
@@ -21,16 +21,14 @@ abbrev pub room_of : {Q : Type 0} → (Q → Shown) → Subscription Q → Room
 room_of shown s = (shown s.outlet).room
 
 -- What a group keeps.
--- sound: the topic is sound.
+-- sound: the topic is sound; so its subscriptions' numbers differ.
 -- room: its log has room for a row of each pending part.
--- differ: the subscriptions' numbers differ.
 -- spares: the outlet of each open subscription has spare for each pending part.
 -- copied: each pending part has a copy for each subscription.
 pub record IsKept {Q : Type 0} (spare : Q → ℕ) (x : TopicState) (capacity : ℕ)
     (copies : List (List TopicPart)) (subs : List (Subscription Q)) : Type 0 where
   pub sound : IsSound x
   pub room : length x.held + length x.pending ≤ capacity
-  pub differ : NumbersDiffer x.subscriptions
   pub spares : (s : Subscription Q) → In s subs → s.to ≡ None → length x.pending ≤ spare s.outlet
   pub copied : HaveCopies (length subs) x.pending copies
 

@@ -6,4 +6,4 @@ use Rattle.mcast_group.proofs.group.Group+VecOutlet.release_counted.Goals as goa
 
 pub returns-clause-released : goal.returns-clause-released
 returns-clause-released c =
-    counted_releases c.args.self.now c.release.new.self (subst (λ (z : GroupState). NumbersDiffer z.topic.subscriptions) c.self.view_is c.self.invariant.differ) c.release.ensures.released
+    counted_releases c.args.self.now c.release.new.self (subst (λ (z : GroupState). NumbersDiffer z.topic.subscriptions) c.self.view_is c.self.invariant.sound.numbers) c.release.ensures.released

@@ -7,4 +7,4 @@ use Rattle.mcast_group.proofs.group.Group+VecOutlet.turn_counted.Goals as goal
 pub returns-clause-turned : goal.returns-clause-turned
 returns-clause-turned g c =
     let t = c.turn.ensures.turned in
-    (t.find, t.found, counted_turns t.find c.args.self.now c.turn.new.self (subst (λ (z : GroupState). NumbersDiffer z.topic.subscriptions) c.self.view_is c.self.invariant.differ) t.releases, t.none_pending)
+    (t.find, t.found, counted_turns t.find c.args.self.now c.turn.new.self (subst (λ (z : GroupState). NumbersDiffer z.topic.subscriptions) c.self.view_is c.self.invariant.sound.numbers) t.releases, t.none_pending)

@@ -15,7 +15,7 @@ pub try_to_learn-requires : goal.try_to_learn-requires
 try_to_learn-requires g c =
     let all = parts_length c.loop-index.self.topic.pending c.args.self.now.topic.pending c.loop-index.invariant.same in
     let l = ap (λ (z : GroupState). length z.topic.pending) c.self.view_is in
-    let n = c.self.inside.pending.ok.0 in
+    let n = c.len-index-end.ensures in
     omega arith
 
 pub loop-index-preserved : goal.loop-index-preserved
@@ -26,7 +26,7 @@ loop-index-preserved g c =
     let x = c.loop-index.self.topic in
     let t = c.try_to_learn.ensures some_part in
     let all = parts_length x.pending old.pending inv.same in
-    let n = c.self.inside.pending.ok.0 in
+    let n = c.len-index-end.ensures in
     let l = ap (λ (z : GroupState). length z.topic.pending) c.self.view_is in
     let within : i < length old.pending = omega arith in
     let here : (get_or x.pending i some_part).part ≡ (get_or old.pending i some_part).part = part_at x.pending old.pending i some_part inv.same in
@@ -45,7 +45,7 @@ pub returns : goal.returns
 returns g c =
     let inv = c.loop-index.invariant in
     let old = c.args.self.now in
-    let n = c.self.inside.pending.ok.0 in
+    let n = c.len-index-end.ensures in
     let l = ap (λ (z : GroupState). length z.topic.pending) c.self.view_is in
     let e = inv.many in
     all_tried (MayBeFound (g.V.Verdicts.finds c.args.verdicts.now)) inv.found old c.loop-index.self

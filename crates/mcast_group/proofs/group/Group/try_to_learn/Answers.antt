@@ -16,16 +16,16 @@ pub returns-in_default-index_to_learn : goal.returns-in_default-index_to_learn
 returns-in_default-index_to_learn g c = λ d.
     let V = MayBeFound (g.V.Verdicts.finds c.args.verdicts.now) in
     let s = c.self.inside in
-    let p = c.index.result.now in
+    let p = c.at.result.now in
     let v = c.in-Some.found.verdict.now in
-    let within : c.args.index < length s.pending.items = ap-lt c.requires (ap (λ (z : GroupState). length z.topic.pending) c.self.view_is) in
+    let within : c.args.index < length s.pending = ap-lt c.requires (ap (λ (z : GroupState). length z.topic.pending) c.self.view_is) in
     let at : p ≡ get_or c.args.self.now.topic.pending c.args.index d =
-    c.index.ensures ∙ (get_or_default s.pending.items c.args.index p d within ∙ ap (λ (z : GroupState). get_or z.topic.pending c.args.index d) c.self.view_is) in
+    c.at.ensures ∙ (get_or_default s.pending c.args.index p d within ∙ ap (λ (z : GroupState). get_or z.topic.pending c.args.index d) c.self.view_is) in
     let finds : V p.part (option_map (λ (f : Found). f.verdict.now) c.find.result) = subst (λ (z : TopicPart). V z (option_map (λ (f : Found). f.verdict.now) c.find.result)) c.part-part.ensures
     (c.find.ensures, subst (λ (o : Option Found). IfSome (option_map (λ (f : Found). f.verdict.now) o) HasOneRowEach) (sym c.in-Some.is) c.has_one_row_each.ensures) in
     let is : option_map (λ (f : Found). f.verdict.now) c.find.result ≡ Some v = ap (option_map (λ (f : Found). f.verdict.now)) c.in-Some.is in
     let id : c.part-part.result.now.id ≡ p.part.id = ap (λ (z : TopicPart). z.id) c.part-part.ensures in
-    let fault = rw c.deref.ensures.value at c.in_default-index_to_learn.ensures.fault in
+    let fault = c.in_default-index_to_learn.ensures.fault in
     let k : learn_fault p.part.id v c.args.self.now.topic ≡ Some c.in_default-index_to_learn.field-0 =
     subst (λ (z : TxnId). learn_fault z v c.args.self.now.topic ≡ Some c.in_default-index_to_learn.field-0) id
     (subst (λ (z : GroupState). learn_fault c.part-part.result.now.id v z.topic ≡ Some c.in_default-index_to_learn.field-0) c.self.view_is fault) in
@@ -34,24 +34,24 @@ returns-in_default-index_to_learn g c = λ d.
 
 pub store-requires : goal.store-requires
 store-requires g c =
-    let learns = rw c.deref.ensures.value at c.in-Ok.ensures.learns in
-    let index = rw c.deref.ensures.value at c.in-Ok.ensures.index in
+    let learns = c.in-Ok.ensures.learns in
+    let index = c.in-Ok.ensures.index in
     subst (λ (z : GroupState). CanLearn c.part-part.result.now.id c.in-Ok.at c.stamp-stamp.result z.topic) c.self.view_is (record { verdict = c.in-Some.found.verdict.now; is = c.stamp-stamp.ensures; allowed = learns; at = index })
 
 pub returns : goal.returns
 returns g c = λ d.
     let V = MayBeFound (g.V.Verdicts.finds c.args.verdicts.now) in
     let s = c.self.inside in
-    let p = c.index.result.now in
+    let p = c.at.result.now in
     let v = c.in-Some.found.verdict.now in
-    let within : c.args.index < length s.pending.items = ap-lt c.requires (ap (λ (z : GroupState). length z.topic.pending) c.self.view_is) in
+    let within : c.args.index < length s.pending = ap-lt c.requires (ap (λ (z : GroupState). length z.topic.pending) c.self.view_is) in
     let at : p ≡ get_or c.args.self.now.topic.pending c.args.index d =
-    c.index.ensures ∙ (get_or_default s.pending.items c.args.index p d within ∙ ap (λ (z : GroupState). get_or z.topic.pending c.args.index d) c.self.view_is) in
+    c.at.ensures ∙ (get_or_default s.pending c.args.index p d within ∙ ap (λ (z : GroupState). get_or z.topic.pending c.args.index d) c.self.view_is) in
     let finds : V p.part (option_map (λ (f : Found). f.verdict.now) c.find.result) = subst (λ (z : TopicPart). V z (option_map (λ (f : Found). f.verdict.now) c.find.result)) c.part-part.ensures
     (c.find.ensures, subst (λ (o : Option Found). IfSome (option_map (λ (f : Found). f.verdict.now) o) HasOneRowEach) (sym c.in-Some.is) c.has_one_row_each.ensures) in
     let is : option_map (λ (f : Found). f.verdict.now) c.find.result ≡ Some v = ap (option_map (λ (f : Found). f.verdict.now)) c.in-Some.is in
     let id : c.part-part.result.now.id ≡ p.part.id = ap (λ (z : TopicPart). z.id) c.part-part.ensures in
-    let learns = rw c.deref.ensures.value at c.in-Ok.ensures.learns in
+    let learns = c.in-Ok.ensures.learns in
     let k : learn_fault p.part.id v c.args.self.now.topic ≡ None =
     subst (λ (z : TxnId). learn_fault z v c.args.self.now.topic ≡ None) id
     (subst (λ (z : GroupState). learn_fault c.part-part.result.now.id v z.topic ≡ None) c.self.view_is learns) in

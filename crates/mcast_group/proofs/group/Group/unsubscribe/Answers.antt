@@ -14,7 +14,7 @@ returns-in_default-clause-fault g c =
     let s = c.self.inside in
     let shown = g.Q.Outlet.shown in
     let subs = s.subscriptions.items in
-    let x = topic_state s.topic s.clock s.log_limit s.pending.items s.base s.rows.items s.frontier (map (entry_of shown) subs) in
+    let x = topic_state s.topic s.clock s.log_limit s.pending s.base s.rows.items s.frontier (map (entry_of shown) subs) in
     let at = rw c.deref.ensures.value at c.index_of_sub.ensures in
     ap (λ (z : GroupState). unsubscribe_fault c.args.number z.topic) (sym c.self.view_is) ∙ no_sub shown x c.args.number subs refl (sym at ∙ c.in_default.is)
 
@@ -23,22 +23,22 @@ invariant_of-self g c =
     let s = c.self.inside in
     let shown = g.Q.Outlet.shown in
     let subs = s.subscriptions.items in
-    let x = topic_state s.topic s.clock s.log_limit s.pending.items s.base s.rows.items s.frontier (map (entry_of shown) subs) in
+    let x = topic_state s.topic s.clock s.log_limit s.pending s.base s.rows.items s.frontier (map (entry_of shown) subs) in
     let at = rw c.deref.ensures.value at c.index_of_sub.ensures in
     let ends = ends_found shown c.args.number subs c.in-Some.index c.remove-sub.result (sym at ∙ c.in-Some.is) in
-    let es : map (entry_of shown) c.remove-sub.new.self.items ≡ filter (λ (e : Entry). not (e.number == c.args.number)) (map (entry_of shown) subs) = ap (map (entry_of shown)) c.remove-sub.ensures.items ∙ sym (ends.1.left c.self.invariant.differ) in
-    let kept = kept_unsubscribed shown g.Q.Outlet.spare x _ (vec_capacity s.rows) s.copies.items subs c.args.number c.in-Some.index c.self.invariant (ap (λ (zs : List Entry). topic_state s.topic s.clock s.log_limit s.pending.items s.base s.rows.items s.frontier zs) es) ends.0 in
-    subst (λ (zs : List (Subscription g.row.Q.Denot)). IsKept g.Q.Outlet.spare (topic_state s.topic s.clock s.log_limit s.pending.items s.base s.rows.items s.frontier (map (entry_of shown) c.remove-sub.new.self.items)) (vec_capacity s.rows) s.copies.items zs) (sym c.remove-sub.ensures.items) kept
+    let es : map (entry_of shown) c.remove-sub.new.self.items ≡ filter (λ (e : Entry). not (e.number == c.args.number)) (map (entry_of shown) subs) = ap (map (entry_of shown)) c.remove-sub.ensures.items ∙ sym (ends.1.left c.self.invariant.sound.numbers) in
+    let kept = kept_unsubscribed shown g.Q.Outlet.spare x _ (vec_capacity s.rows) s.copies.items subs c.args.number c.in-Some.index c.self.invariant (ap (λ (zs : List Entry). topic_state s.topic s.clock s.log_limit s.pending s.base s.rows.items s.frontier zs) es) ends.0 in
+    subst (λ (zs : List (Subscription g.row.Q.Denot)). IsKept g.Q.Outlet.spare (topic_state s.topic s.clock s.log_limit s.pending s.base s.rows.items s.frontier (map (entry_of shown) c.remove-sub.new.self.items)) (vec_capacity s.rows) s.copies.items zs) (sym c.remove-sub.ensures.items) kept
 
 pub returns-clause-left : goal.returns-clause-left
 returns-clause-left g c =
     let s = c.self.inside in
     let shown = g.Q.Outlet.shown in
     let subs = s.subscriptions.items in
-    let x = topic_state s.topic s.clock s.log_limit s.pending.items s.base s.rows.items s.frontier (map (entry_of shown) subs) in
+    let x = topic_state s.topic s.clock s.log_limit s.pending s.base s.rows.items s.frontier (map (entry_of shown) subs) in
     let at = rw c.deref.ensures.value at c.index_of_sub.ensures in
     let ends = ends_found shown c.args.number subs c.in-Some.index c.remove-sub.result (sym at ∙ c.in-Some.is) in
-    let es : map (entry_of shown) c.remove-sub.new.self.items ≡ filter (λ (e : Entry). not (e.number == c.args.number)) (map (entry_of shown) subs) = ap (map (entry_of shown)) c.remove-sub.ensures.items ∙ sym (ends.1.left c.self.invariant.differ) in
+    let es : map (entry_of shown) c.remove-sub.new.self.items ≡ filter (λ (e : Entry). not (e.number == c.args.number)) (map (entry_of shown) subs) = ap (map (entry_of shown)) c.remove-sub.ensures.items ∙ sym (ends.1.left c.self.invariant.sound.numbers) in
     let sub = c.remove-sub.result in
     let v : get_or subs c.in-Some.index sub ≡ sub = sym c.remove-sub.ensures.value in
     subst (λ (z : GroupState). HasLeft c.args.number z (shown c.end.result.outlet) c.end.result.to c.end.result.cause) c.self.view_is (record {
@@ -56,11 +56,11 @@ returns-clause-ok g c =
     let s = c.self.inside in
     let shown = g.Q.Outlet.shown in
     let subs = s.subscriptions.items in
-    let x = topic_state s.topic s.clock s.log_limit s.pending.items s.base s.rows.items s.frontier (map (entry_of shown) subs) in
+    let x = topic_state s.topic s.clock s.log_limit s.pending s.base s.rows.items s.frontier (map (entry_of shown) subs) in
     let at = rw c.deref.ensures.value at c.index_of_sub.ensures in
     let ends = ends_found shown c.args.number subs c.in-Some.index c.remove-sub.result (sym at ∙ c.in-Some.is) in
-    let es : map (entry_of shown) c.remove-sub.new.self.items ≡ filter (λ (e : Entry). not (e.number == c.args.number)) (map (entry_of shown) subs) = ap (map (entry_of shown)) c.remove-sub.ensures.items ∙ sym (ends.1.left c.self.invariant.differ) in
+    let es : map (entry_of shown) c.remove-sub.new.self.items ≡ filter (λ (e : Entry). not (e.number == c.args.number)) (map (entry_of shown) subs) = ap (map (entry_of shown)) c.remove-sub.ensures.items ∙ sym (ends.1.left c.self.invariant.sound.numbers) in
     let rooms = ap (map (room_of shown)) c.remove-sub.ensures.items ∙ sym ends.1.rooms in
-    ap (λ (zs : List Entry). record { topic = topic_state s.topic s.clock s.log_limit s.pending.items s.base s.rows.items s.frontier zs; rooms = map (room_of shown) c.remove-sub.new.self.items }) es
-    ∙ (ap (λ (rs : List Room). record { topic = topic_state s.topic s.clock s.log_limit s.pending.items s.base s.rows.items s.frontier (filter (λ (e : Entry). not (e.number == c.args.number)) (map (entry_of shown) subs)); rooms = rs }) rooms
+    ap (λ (zs : List Entry). record { topic = topic_state s.topic s.clock s.log_limit s.pending s.base s.rows.items s.frontier zs; rooms = map (room_of shown) c.remove-sub.new.self.items }) es
+    ∙ (ap (λ (rs : List Room). record { topic = topic_state s.topic s.clock s.log_limit s.pending s.base s.rows.items s.frontier (filter (λ (e : Entry). not (e.number == c.args.number)) (map (entry_of shown) subs)); rooms = rs }) rooms
     ∙ ap (group_after_unsubscribe c.args.number) c.self.view_is)

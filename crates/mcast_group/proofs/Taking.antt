@@ -1,0 +1,83 @@
+-- A take of a subscription: its room alone changes.
+use Rattle.std.proofs.Common.{◌≡◌, ℕ, zero, suc, ◌<◌, ◌≤◌, ◌==◌, Bool, true, false, ◌||◌, inl, inr, ◌⊎◌, List, [], ◌∷◌, map, length, get_or, set, Some, None, refl, sym, ap, subst, ◌∙◌, arith}
+use Rattle.std.specs.List.{list_any, position}
+use Rattle.std.proofs.lemmas.Bool.{true≢false}
+use Rattle.std.proofs.lemmas.List.Quantifiers.{position-Some}
+use Rattle.mcast_txn.specs.Lists.{In}
+use Rattle.mcast_txn.specs.Transaction.{TopicPart}
+use Rattle.mcast_txn.proofs.Members.{In-get_or}
+use Rattle.sub_queue.specs.Shown.{Shown, Room, room_after_take}
+use Rattle.mcast_group.specs.declared.subscription.Subscription.{Subscription}
+use Rattle.mcast_group.specs.Machine.{TopicState}
+use Rattle.mcast_group.specs.Counted.{rooms_after_take}
+use Rattle.mcast_group.specs.Inner.Copies.{HaveCopies}
+use Rattle.mcast_group.specs.Inner.GroupInvariant.{IsKept, entry_of, room_of}
+use Rattle.mcast_group.proofs.Indices.{none_at}
+use Rattle.mcast_group.proofs.Subscribing.{flip_true, flip_false}
+
+-- what is written at an index shows what was there
+pub map_set : {X Y : Type 0} (f : X → Y) (xs : List X) (i : ℕ) (x d : X) → f x ≡ f (get_or xs i d) → i < length xs → map f (set xs i x) ≡ map f xs
+map_set f [] i x d e l = absurd (omega arith)
+map_set f (y ∷ ys) zero x d e l = ap (λ z. z ∷ map f ys) e
+map_set f (y ∷ ys) (suc i) x d e l = ap (λ zs. f y ∷ zs) (map_set f ys i x d e (omega arith))
+
+In-set_cases : {X : Type 0} (z x : X) (xs : List X) (i : ℕ) → In z (set xs i x) → In z xs ⊎ (x ≡ z)
+In-set_cases z x [] zero h = inl h
+In-set_cases z x [] (suc i) h = inl h
+In-set_cases z x (y ∷ ys) zero (inl e) = inr e
+In-set_cases z x (y ∷ ys) zero (inr h) = inl (inr h)
+In-set_cases z x (y ∷ ys) (suc i) (inl e) = inl (inl e)
+In-set_cases z x (y ∷ ys) (suc i) (inr h) = elim (In-set_cases z x ys i h) [
+  | inl o ↦ inl (inr o)
+  | inr m ↦ inr m
+]
+
+same_length : {X : Type 0} (xs : List X) (i : ℕ) (x : X) → length xs ≡ length (set xs i x)
+same_length [] zero x = refl
+same_length [] (suc i) x = refl
+same_length (y ∷ ys) zero x = refl
+same_length (y ∷ ys) (suc i) x = ap suc (same_length ys i x)
+
+-- the room of the first subscription of a number counts one more item as taken
+taken_rooms : {Q : Type 0} (shown : Q → Shown) (n : ℕ) (subs : List (Subscription Q)) (i : ℕ) (d new : Subscription Q) → i < length subs → ((get_or subs i d).number == n) ≡ true → ((k : ℕ) → k < i → ((get_or subs k d).number == n) ≡ false) → room_of shown new ≡ room_after_take (shown (get_or subs i d).outlet) → rooms_after_take n (map (entry_of shown) subs) (map (room_of shown) subs) ≡ map (room_of shown) (set subs i new)
+taken_rooms shown n [] i d new l e f r = absurd (omega arith)
+taken_rooms shown n (s ∷ subs) zero d new l e f r =
+    let m = flip_true s.number n e in
+    rw m (ap (λ (z : Room). z ∷ map (room_of shown) subs) (sym r))
+taken_rooms shown n (s ∷ subs) (suc i) d new l e f r =
+    let a : (s.number == n) ≡ false = f zero (omega arith) in
+    let b = flip_false s.number n a in
+    let ih = taken_rooms shown n subs i d new (omega arith) e (λ k m. f (suc k) (omega arith)) r in
+    rw b (ap (λ (rs : List Room). room_of shown s ∷ rs) ih)
+
+pub taken_at : {Q : Type 0} (shown : Q → Shown) (n : ℕ) (subs : List (Subscription Q)) (i : ℕ) (d new : Subscription Q) → position (λ (z : Subscription Q). z.number == n) subs ≡ Some i → room_of shown new ≡ room_after_take (shown (get_or subs i d).outlet) → rooms_after_take n (map (entry_of shown) subs) (map (room_of shown) subs) ≡ map (room_of shown) (set subs i new)
+taken_at {Q = Q} shown n subs i d new e r =
+    let k = position-Some (λ (z : Subscription Q). z.number == n) subs i d e in
+    taken_rooms shown n subs i d new k.0 k.1 k.2 r
+
+-- where no subscription has the number, each room stays
+none_taken : {Q : Type 0} (shown : Q → Shown) (n : ℕ) (subs : List (Subscription Q)) → list_any (λ (z : Subscription Q). z.number == n) subs ≡ false → rooms_after_take n (map (entry_of shown) subs) (map (room_of shown) subs) ≡ map (room_of shown) subs
+none_taken shown n [] h = refl
+none_taken {Q = Q} shown n (s ∷ subs) h = go (none_taken shown n subs) (s.number == n) refl h
+  where
+    go : (list_any (λ (z : Subscription Q). z.number == n) subs ≡ false → rooms_after_take n (map (entry_of shown) subs) (map (room_of shown) subs) ≡ map (room_of shown) subs) → (b : Bool) → (s.number == n) ≡ b → (b || list_any (λ (z : Subscription Q). z.number == n) subs) ≡ false → rooms_after_take n (map (entry_of shown) (s ∷ subs)) (map (room_of shown) (s ∷ subs)) ≡ map (room_of shown) (s ∷ subs)
+    go ih true k e = absurd (true≢false e)
+    go ih false k e =
+        let b = flip_false s.number n k in
+        rw b (ap (λ (rs : List Room). room_of shown s ∷ rs) (ih e))
+
+pub untouched : {Q : Type 0} (shown : Q → Shown) (n : ℕ) (subs : List (Subscription Q)) → position (λ (z : Subscription Q). z.number == n) subs ≡ None → rooms_after_take n (map (entry_of shown) subs) (map (room_of shown) subs) ≡ map (room_of shown) subs
+untouched {Q = Q} shown n subs e = none_taken shown n subs (none_at (λ (z : Subscription Q). z.number == n) subs e)
+
+-- a group keeps what it keeps where the outlet of one subscription has changed, and not its spare
+pub kept_taken : {Q : Type 0} (spare : Q → ℕ) (x y : TopicState) (capacity : ℕ) (copies : List (List TopicPart)) (subs : List (Subscription Q)) (i : ℕ) (d new : Subscription Q) → IsKept spare x capacity copies subs → y ≡ x → i < length subs → new.to ≡ (get_or subs i d).to → spare new.outlet ≡ spare (get_or subs i d).outlet → IsKept spare y capacity copies (set subs i new)
+kept_taken {Q = Q} spare x y capacity copies subs i d new h e l t m =
+    subst (λ (z : TopicState). IsKept spare z capacity copies (set subs i new)) (sym e) (record {
+      sound = h.sound;
+      room = h.room;
+      spares = λ s k o. elim (In-set_cases s new subs i k) [
+        | inl a ↦ h.spares s a o
+        | inr b ↦ subst (λ (w : Subscription Q). length x.pending ≤ spare w.outlet) b (subst (λ (w : ℕ). length x.pending ≤ w) (sym m) (h.spares (get_or subs i d) (In-get_or subs i d l) (sym t ∙ subst (λ (w : Subscription Q). w.to ≡ None) (sym b) o)))
+      ];
+      copied = subst (λ (k : ℕ). HaveCopies k x.pending copies) (same_length subs i new) h.copied;
+    })

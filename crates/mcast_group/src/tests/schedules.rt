@@ -1,0 +1,126 @@
+//! Made schedules of one topic: what it answers to each of their calls, and what the plain program does.
+
+use super::calls::{
+    Answer, cancelled, id, learnt, propose, proposed, released, state, subscribed, taken, turned,
+    unsubscribed,
+};
+use super::made::{Draws, MadeCall};
+use super::plain::Past;
+use crate::{Cause, Group};
+use mcast_txn::Topic;
+use std::alloc::Global;
+use sub_queue::VecOutlet;
+
+/// How many schedules there are, and how many calls each has.
+const SCHEDULES: u32 = 400;
+
+const CALLS: u32 = 48;
+
+/// The least clock of a schedule's topic, and its limit of parts and rows.
+const OPENING: u64 = 3;
+
+const LIMIT: usize = 12;
+
+/// What the topic answers to a call; nothing where memory ran out before it.
+fn reply(alloc: Global, group: &mut Group<VecOutlet>, call: MadeCall) -> Option<Answer> {
+    match call {
+        MadeCall::Propose(seq, floor) => {
+            Some(proposed(propose(alloc, group, id(seq), &[0, 1], floor)?))
+        }
+        MadeCall::Learn(made) => {
+            learnt(
+                alloc,
+                group,
+                id(made.seq),
+                &[(0, made.own), (1, made.other)],
+            )
+        }
+        MadeCall::Cancel(seq) => Some(cancelled(group, id(seq))),
+        MadeCall::Release => Some(released(group)),
+        MadeCall::Turn(first, second) => Some(Answer::Turned(turned(
+            alloc,
+            group,
+            (first.seq, &[(0, first.own), (1, first.other)]),
+            (second.seq, &[(0, second.own), (1, second.other)]),
+        )?)),
+        MadeCall::Subscribe(number, capacity) => Some(subscribed(alloc, group, number, capacity)),
+        MadeCall::Unsubscribe(number) => Some(unsubscribed(group, number)),
+        MadeCall::Take(number) => taken(group, number),
+        MadeCall::State(number) => Some(state(group, number)),
+    }
+}
+
+/// Whether the log is the released rows sorted by stamp.
+fn has_sorted_log(group: &Group<VecOutlet>, past: &Past) -> bool {
+    for i in 0..past.rows() {
+        let Some((seq, stamp)) = past.held(i) else {
+            return false;
+        };
+        match group.held(i) {
+            Some(row) if row.id.seq == seq && row.stamp == stamp => {}
+            _ => return false,
+        }
+    }
+    group.held_len() == past.rows()
+}
+
+/// Which answers came, in the order of `place_of`.
+#[derive(Drop)]
+struct Seen {
+    came: [bool; 18],
+}
+
+/// The place of an answer among those that must come.
+fn place_of(answer: Answer) -> usize {
+    match answer {
+        Answer::Ticket(_) => 0,
+        Answer::Released(_, _, _) => 1,
+        Answer::Done => 2,
+        Answer::Nothing => 3,
+        Answer::From(_) => 4,
+        Answer::Left(_, Cause::Asked, _) => 5,
+        Answer::Left(_, Cause::Lag, _) => 6,
+        Answer::Took(_) => 7,
+        Answer::Open => 8,
+        Answer::Lagged(_) => 9,
+        Answer::Turned(0) => 10,
+        Answer::Turned(_) => 11,
+        Answer::Fault(41) => 12,
+        Answer::Fault(43 | 44) => 13,
+        Answer::Fault(45) => 14,
+        Answer::Fault(46) => 15,
+        Answer::Fault(47 | 48) => 16,
+        Answer::Fault(_) => 17,
+    }
+}
+
+/// Whether the topic and the plain program give the same answers to a schedule's calls, and have the same log after it.
+fn agrees(alloc: Global, schedule: u32, seen: &mut Seen) -> bool {
+    let mut group = Group::new(alloc, Topic(0), OPENING, LIMIT);
+    let mut past = Past::new(alloc, OPENING, LIMIT);
+    let mut draws = Draws::of(schedule);
+    for _ in 0..CALLS {
+        let call = draws.call(&past);
+        let Some(answer) = reply(alloc, &mut group, call) else {
+            return false;
+        };
+        if past.answer(call) != Some(answer) {
+            return false;
+        }
+        if let Some(came) = seen.came.get_mut(place_of(answer)) {
+            *came = true;
+        }
+    }
+    has_sorted_log(&group, &past)
+}
+
+/// Each answer is the one that the list of what happened before says, and each kind of answer comes.
+#[test]
+fn made_schedules(rt: HostRuntime) {
+    let alloc = rt.alloc();
+    let mut seen = Seen { came: [false; 18] };
+    for schedule in 0..SCHEDULES {
+        assert!(rt; agrees(alloc, schedule, &mut seen), "schedule {schedule}");
+    }
+    assert!(rt; seen.came.iter().all(|came| *came));
+}

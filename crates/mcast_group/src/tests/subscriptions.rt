@@ -1,0 +1,256 @@
+//! Subscriptions of a topic: what they get, how they lag, and how they end.
+
+use super::calls::{Answer, Call, answers};
+use crate::{Cause, Group};
+use Answer::{Done, Fault, From, Lagged, Left, Nothing, Open, Released, Took};
+use Call::{Cancel, Learn, Propose, Release, State, Subscribe, Take, Unsubscribe};
+use mcast_txn::Topic;
+use std::alloc::Global;
+use sub_queue::VecOutlet;
+
+/// Whether a new topic 0 of at most eight parts and rows answers each of these calls as is written beside it.
+fn topic_answers(alloc: Global, rows: &[(Call, Answer)]) -> bool {
+    let mut group = Group::new(alloc, Topic(0), 0, 8);
+    answers(alloc, &mut group, rows)
+}
+
+/// Three rows and a queue of two items, of which none was taken, and one that begins after the first row.
+const LAG: [(Call, Answer); 24] = [
+    (Subscribe(7, 2), From(0)),
+    (Subscribe(7, 2), Fault(47)),
+    (Propose(1, &[0], 0), Answer::Ticket(1)),
+    (Learn(1, &[(0, 1)]), Done),
+    (Release, Released(1, 1, 0)),
+    (Subscribe(8, 2), From(1)),
+    (Propose(2, &[0], 0), Answer::Ticket(2)),
+    (Learn(2, &[(0, 2)]), Done),
+    (Release, Released(2, 2, 0)),
+    (State(7), Open),
+    (Propose(3, &[0], 0), Answer::Ticket(3)),
+    (Learn(3, &[(0, 3)]), Done),
+    (Release, Released(3, 3, 0)),
+    (State(7), Lagged(2)),
+    (State(8), Open),
+    (State(9), Nothing),
+    (Take(8), Took(2)),
+    (Take(7), Took(1)),
+    (Take(7), Took(2)),
+    (Take(7), Nothing),
+    (Take(9), Nothing),
+    (Unsubscribe(7), Left(2, Cause::Lag, 2)),
+    (Unsubscribe(7), Fault(48)),
+    (Unsubscribe(8), Left(3, Cause::Asked, 2)),
+];
+
+#[test]
+fn a_full_queue_lags(rt: HostRuntime) {
+    let alloc = rt.alloc();
+    let mut group = Group::new(alloc, Topic(0), 0, 8);
+    assert!(rt; answers(alloc, &mut group, &LAG));
+    assert_eq!(rt; group.held_len(), 3);
+}
+
+/// Queues of two items, step by step, as in docs/ORDERING.md.
+const IN_STEPS: [(Call, Answer); 20] = [
+    (Propose(1, &[0], 0), Answer::Ticket(1)),
+    (Propose(2, &[0], 0), Answer::Ticket(2)),
+    (Propose(3, &[0], 0), Answer::Ticket(3)),
+    (Propose(4, &[0], 0), Answer::Ticket(4)),
+    (Learn(1, &[(0, 1)]), Done),
+    (Learn(2, &[(0, 2)]), Done),
+    (Learn(3, &[(0, 3)]), Done),
+    (Learn(4, &[(0, 4)]), Done),
+    (Subscribe(7, 2), From(0)),
+    (Release, Released(1, 1, 0)),
+    (Subscribe(8, 2), From(1)),
+    (Release, Released(2, 2, 0)),
+    (Take(8), Took(2)),
+    (Release, Released(3, 3, 0)),
+    (State(7), Lagged(2)),
+    (Take(7), Took(1)),
+    (Take(7), Took(2)),
+    (Release, Released(4, 4, 0)),
+    (Unsubscribe(7), Left(2, Cause::Lag, 2)),
+    (Unsubscribe(8), Left(4, Cause::Asked, 3)),
+];
+
+#[test]
+fn queues_step_by_step(rt: HostRuntime) {
+    assert!(rt; topic_answers(rt.alloc(), &IN_STEPS));
+}
+
+/// A lagged subscription gets no row after it, though its items were taken and its queue has room.
+const LAGGED: [(Call, Answer); 11] = [
+    (Subscribe(7, 1), From(0)),
+    (Propose(1, &[0], 0), Answer::Ticket(1)),
+    (Propose(2, &[0], 0), Answer::Ticket(2)),
+    (Propose(3, &[0], 0), Answer::Ticket(3)),
+    (Learn(1, &[(0, 1)]), Done),
+    (Learn(2, &[(0, 2)]), Done),
+    (Learn(3, &[(0, 3)]), Done),
+    (Release, Released(1, 1, 0)),
+    (Release, Released(2, 2, 0)),
+    (Take(7), Took(1)),
+    (Release, Released(3, 3, 0)),
+];
+
+#[test]
+fn a_lagged_one_gets_no_more(rt: HostRuntime) {
+    let alloc = rt.alloc();
+    let mut group = Group::new(alloc, Topic(0), 0, 8);
+    assert!(rt; answers(alloc, &mut group, &LAGGED));
+    assert!(rt;
+        answers(
+            alloc,
+            &mut group,
+            &[(State(7), Lagged(1)), (Take(7), Nothing)]
+        )
+    );
+    assert!(rt;
+        answers(
+            alloc,
+            &mut group,
+            &[(Unsubscribe(7), Left(1, Cause::Lag, 1))]
+        )
+    );
+}
+
+/// A take between two releases keeps a full queue from lagging.
+const TAKES: [(Call, Answer); 12] = [
+    (Subscribe(7, 1), From(0)),
+    (Propose(1, &[0], 0), Answer::Ticket(1)),
+    (Propose(2, &[0], 0), Answer::Ticket(2)),
+    (Learn(1, &[(0, 1)]), Done),
+    (Learn(2, &[(0, 2)]), Done),
+    (Release, Released(1, 1, 0)),
+    (Take(7), Took(1)),
+    (Release, Released(2, 2, 0)),
+    (State(7), Open),
+    (Take(7), Took(2)),
+    (Take(7), Nothing),
+    (Unsubscribe(7), Left(2, Cause::Asked, 2)),
+];
+
+#[test]
+fn a_take_keeps_a_full_queue_from_lagging(rt: HostRuntime) {
+    assert!(rt; topic_answers(rt.alloc(), &TAKES));
+}
+
+/// A subscription that begins while three parts are pending gets all three, by stamp; one of them is decided already.
+const BEGINS_LATE: [(Call, Answer); 16] = [
+    (Propose(1, &[0, 1], 0), Answer::Ticket(1)),
+    (Propose(2, &[0], 0), Answer::Ticket(2)),
+    (Propose(3, &[0], 0), Answer::Ticket(3)),
+    (Learn(2, &[(0, 2)]), Done),
+    (Subscribe(5, 8), From(0)),
+    (Learn(1, &[(0, 1), (1, 9)]), Done),
+    (Learn(3, &[(0, 3)]), Done),
+    (Take(5), Nothing),
+    (Release, Released(2, 2, 0)),
+    (Release, Released(3, 3, 0)),
+    (Release, Released(1, 9, 1)),
+    (Take(5), Took(2)),
+    (Take(5), Took(3)),
+    (Take(5), Took(1)),
+    (Take(5), Nothing),
+    (Unsubscribe(5), Left(9, Cause::Asked, 3)),
+];
+
+#[test]
+fn pending_parts_go_to_a_new_subscription(rt: HostRuntime) {
+    assert!(rt; topic_answers(rt.alloc(), &BEGINS_LATE));
+}
+
+/// A subscription that ends between learn and release gets nothing, and the part is released; its number is free then.
+const ENDS_BEFORE: [(Call, Answer); 11] = [
+    (Subscribe(4, 8), From(0)),
+    (Subscribe(5, 8), From(0)),
+    (Propose(1, &[0], 0), Answer::Ticket(1)),
+    (Learn(1, &[(0, 1)]), Done),
+    (Unsubscribe(4), Left(0, Cause::Asked, 0)),
+    (Release, Released(1, 1, 0)),
+    (Take(4), Nothing),
+    (Take(5), Took(1)),
+    (Unsubscribe(4), Fault(48)),
+    (Subscribe(4, 8), From(1)),
+    (Unsubscribe(4), Left(1, Cause::Asked, 0)),
+];
+
+#[test]
+fn one_that_ends_before_a_release_gets_nothing(rt: HostRuntime) {
+    assert!(rt; topic_answers(rt.alloc(), &ENDS_BEFORE));
+}
+
+/// A part that is taken out goes to nobody.
+const CANCELLED: [(Call, Answer); 7] = [
+    (Subscribe(3, 1), From(0)),
+    (Propose(1, &[0], 0), Answer::Ticket(1)),
+    (Propose(2, &[0], 0), Answer::Ticket(2)),
+    (Cancel(1), Done),
+    (Learn(2, &[(0, 2)]), Done),
+    (Release, Released(2, 2, 0)),
+    (Take(3), Took(2)),
+];
+
+#[test]
+fn a_part_that_is_taken_out_goes_to_nobody(rt: HostRuntime) {
+    assert!(rt; topic_answers(rt.alloc(), &CANCELLED));
+}
+
+/// A topic of at most one part or row, with a second subscription of one number.
+const OF_ONE: [(Call, Answer); 9] = [
+    (Subscribe(7, 1), From(0)),
+    (Propose(1, &[0], 0), Answer::Ticket(1)),
+    (Propose(2, &[0], 0), Fault(41)),
+    (Subscribe(7, 1), Fault(47)),
+    (Learn(1, &[(0, 1)]), Done),
+    (Release, Released(1, 1, 0)),
+    (Propose(2, &[0], 0), Fault(41)),
+    (Take(7), Took(1)),
+    (Unsubscribe(7), Left(1, Cause::Asked, 1)),
+];
+
+#[test]
+fn a_topic_of_one_part_is_full_until_its_row_is_drained(rt: HostRuntime) {
+    let alloc = rt.alloc();
+    let mut group = Group::new(alloc, Topic(0), 0, 1);
+    assert!(rt; answers(alloc, &mut group, &OF_ONE));
+}
+
+/// A queue with room for nothing lags at the first row, and ends with the frontier before it.
+const OF_NONE: [(Call, Answer); 6] = [
+    (Subscribe(7, 0), From(0)),
+    (Propose(1, &[0], 0), Answer::Ticket(1)),
+    (Learn(1, &[(0, 1)]), Done),
+    (Release, Released(1, 1, 0)),
+    (Take(7), Nothing),
+    (Unsubscribe(7), Left(0, Cause::Lag, 0)),
+];
+
+#[test]
+fn a_queue_of_no_room_lags_at_once(rt: HostRuntime) {
+    assert!(rt; topic_answers(rt.alloc(), &OF_NONE));
+}
+
+/// Whether the subscription of this number is refused by 47, and its outlet is returned as it was.
+fn is_returned(alloc: Global, group: &mut Group<VecOutlet>, number: u64) -> bool {
+    match group.subscribe(number, VecOutlet::new(alloc, 5)) {
+        Ok(_) => false,
+        Err((fault, outlet)) => fault.number() == 47 && outlet.pushed() == 0,
+    }
+}
+
+#[test]
+fn a_refused_subscription_returns_its_outlet(rt: HostRuntime) {
+    let alloc = rt.alloc();
+    let mut group = Group::new(alloc, Topic(0), 0, 8);
+    assert!(rt; answers(alloc, &mut group, &[(Subscribe(7, 2), From(0))]));
+    assert!(rt; is_returned(alloc, &mut group, 7));
+    assert!(rt;
+        answers(
+            alloc,
+            &mut group,
+            &[(Unsubscribe(7), Left(0, Cause::Asked, 0))]
+        )
+    );
+}
