@@ -8,6 +8,7 @@ mod fault;
 mod mark;
 mod marks;
 mod row;
+mod text;
 mod trace;
 
 pub use agreed::{Agreed, AgreedRow};
@@ -15,6 +16,7 @@ pub use auditor::audit;
 pub use fault::{AddFault, AuditFault};
 pub use mcast_txn::{NoMemory, Sender, Stamp, Topic, TxnId};
 pub use row::{LogRow, QueueRow, SpanRow, TraceRow};
+pub use text::ParseFault;
 pub use trace::Trace;
 
 #[cfg(test)]
