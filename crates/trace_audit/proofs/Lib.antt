@@ -3,6 +3,7 @@ pub mod Fields
 mod Examples
 pub mod Explaining
 pub mod Least
+pub mod Printing
 pub mod Putting
 pub mod Refuting
 pub mod Rows

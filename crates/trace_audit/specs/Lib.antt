@@ -3,6 +3,7 @@ pub mod Explained
 pub mod Faults
 pub mod Line
 pub mod Parsing
+pub mod Report
 pub mod Rows
 pub mod Text
 pub mod Trace

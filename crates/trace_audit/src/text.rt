@@ -1,8 +1,11 @@
 //! The text of a trace.
 
+mod entry;
 mod fields;
 mod parse;
 mod parse_fault;
+mod print;
+mod printer;
 mod reader;
 
 pub use parse_fault::ParseFault;
