@@ -7,5 +7,7 @@ mod parse_fault;
 mod print;
 mod printer;
 mod reader;
+#[cfg(test)]
+mod tests;
 
 pub use parse_fault::ParseFault;
