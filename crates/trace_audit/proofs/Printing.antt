@@ -1,5 +1,5 @@
 -- Rows in a report's order, and topics one after the other.
-use Rattle.std.proofs.Common.{◌≡◌, ℕ, zero, suc, ◌+◌, ◌<◌, ◌≤◌, ◌⊎◌, Bool, true, false, not, cond, ◌&&◌, ◌||◌, ◌==◌, List, [], ◌∷◌, ◌++◌, map, length, drop, get_or, refl, sym, ap, ◌∙◌, inl, inr, append_assoc, arith, Less, Equal, Greater}
+use Rattle.std.proofs.Common.{◌≡◌, ℕ, zero, suc, ◌+◌, ◌<◌, ◌⊎◌, Bool, true, false, not, cond, ◌&&◌, ◌||◌, ◌==◌, List, [], ◌∷◌, ◌++◌, map, length, drop, get_or, refl, sym, ap, ◌∙◌, inl, inr, append_assoc, arith, Less, Equal, Greater}
 use Rattle.std.specs.Prelude.{decimal, nat_lt}
 use Rattle.std.specs.List.{filter}
 use Rattle.std.specs.List.Sorted.{IsSortedBy, IsStableBy, ties}
@@ -9,7 +9,7 @@ use Rattle.std.proofs.lemmas.Bool.Decides.{nat_tests}
 use Rattle.mcast_txn.specs.declared.id.Topic.{Topic}
 use Rattle.trace_audit.specs.Inner.Printing.{entry_row, more_topics, topic_part, left_topics}
 use Rattle.trace_audit.specs.Report.{print_key, key_lt, has_key, NeverFalls, IsSortOf}
-use Rattle.trace_audit.specs.Text.{topics_text, joined}
+use Rattle.trace_audit.specs.Text.{topics_text}
 use Rattle.trace_audit.specs.declared.row.TraceRow.{TraceRow}
 use Rattle.trace_audit.specs.declared.text.entry.Entry.{Entry}
 

@@ -4,6 +4,7 @@ pub mod Faults
 pub mod Line
 pub mod Parsing
 pub mod Report
+pub mod Rereading
 pub mod Rows
 pub mod Text
 pub mod Trace

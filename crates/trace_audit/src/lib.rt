@@ -5,6 +5,7 @@ mod agreed;
 mod auditor;
 mod checks;
 mod fault;
+pub mod law;
 mod mark;
 mod marks;
 mod row;
