@@ -4,7 +4,7 @@ use Rattle.std.specs.Option.{option_map}
 use Rattle.std.specs.List.{AllByRecursion}
 use Rattle.std.proofs.lemmas.Bool.{eq-eqb, ne_eqb, eqb-true, cases_eq}
 use Rattle.memchr.specs.Find.{IsFirstByte, is_byte}
-use Rattle.trace_audit.specs.Inner.Reading.{cut, parts_of}
+use Rattle.trace_audit.specs.Inner.Reading.{cut, text_parts}
 use Rattle.trace_audit.specs.Parsing.{lines_of}
 
 cut_found : (b : ℕ) (text : List ℕ) (k : ℕ) → k < length text → get_or text k 0 ≡ b → ((j : ℕ) → j < k → get_or text j 0 ≢ b) → cut b text ≡ Some (take k text, drop (k + 1) text)
@@ -89,18 +89,18 @@ cut_shorter b text p e =
 
 -- ---- parts
 
-pub parts_first : (b : ℕ) (front text : List ℕ) → Without b front → parts_of b (front ++ b ∷ text) ≡ front ∷ parts_of b text
+pub parts_first : (b : ℕ) (front text : List ℕ) → Without b front → text_parts b (front ++ b ∷ text) ≡ front ∷ text_parts b text
 parts_first b [] text w = rw (eq-eqb b b refl) refl
 parts_first b (x ∷ front) text w = rw (ne_eqb x b w.0, parts_first b front text w.1) refl
 
-pub parts_only : (b : ℕ) (text : List ℕ) → Without b text → parts_of b text ≡ text ∷ []
+pub parts_only : (b : ℕ) (text : List ℕ) → Without b text → text_parts b text ≡ text ∷ []
 parts_only b [] w = refl
 parts_only b (x ∷ text) w = rw (ne_eqb x b w.0, parts_only b text w.1) refl
 
-pub parts_cut : (b : ℕ) (text : List ℕ) (p : List ℕ × List ℕ) → cut b text ≡ Some p → parts_of b text ≡ p.0 ∷ parts_of b p.1
-parts_cut b text p e = let s = cut_splits b text p e in ap (parts_of b) s.0 ∙ parts_first b p.0 p.1 s.1
+pub parts_cut : (b : ℕ) (text : List ℕ) (p : List ℕ × List ℕ) → cut b text ≡ Some p → text_parts b text ≡ p.0 ∷ text_parts b p.1
+parts_cut b text p e = let s = cut_splits b text p e in ap (text_parts b) s.0 ∙ parts_first b p.0 p.1 s.1
 
-pub parts_uncut : (b : ℕ) (text : List ℕ) → cut b text ≡ None → parts_of b text ≡ text ∷ []
+pub parts_uncut : (b : ℕ) (text : List ℕ) → cut b text ≡ None → text_parts b text ≡ text ∷ []
 parts_uncut b text e = parts_only b text (cut_without b text e)
 
 -- ---- lines

@@ -11,7 +11,7 @@ use Rattle.trace_audit.specs.Parsing.{lines_of, AddsLines, IsBadLine, IsFirstBad
 use Rattle.trace_audit.specs.Rows.{is_misfit, with_row}
 use Rattle.trace_audit.specs.Text.{id_text, stamp_text, end_text, topics_text, row_text, IsStampInRange, IsRowInRange, SpellsRow}
 use Rattle.trace_audit.specs.Trace.{Lines, no_lines}
-use Rattle.trace_audit.specs.Inner.Reading.{◌>>=◌, cut, number_before, topic_before, id_before, stamp_of, stamp_before, end_of, topics_of, log_of_text, span_of_text, queue_of_text, row_named, row_of, line_added, read_from, ReadsAs}
+use Rattle.trace_audit.specs.Inner.Reading.{◌>>=◌, cut, number_before, topic_before, id_before, spelled_stamp, stamp_before, spelled_end, spelled_topics, log_of_text, span_of_text, queue_of_text, row_named, spelled_row, line_added, read_from, ReadsAs}
 use Rattle.trace_audit.specs.declared.row.SpanRow.{SpanRow}
 use Rattle.trace_audit.specs.declared.row.QueueRow.{QueueRow}
 use Rattle.trace_audit.specs.declared.row.TraceRow.{TraceRow}
@@ -36,12 +36,12 @@ other_text a b ne = elim (cases_Bool (bytes_eq a b)) [
   | inr other ↦ other
 ]
 
-end_spelled : (text : List ℕ) (to : Option Stamp) → end_of text ≡ Some to → (text ≡ end_text to) × IfSome to IsStampInRange
-unfolding end_of
-end_spelled text to e = elim (chosen (bytes_eq text (codes "-")) (Some None) (stamp_of text >>= λ s. Some (Some s)) to e) [
+end_spelled : (text : List ℕ) (to : Option Stamp) → spelled_end text ≡ Some to → (text ≡ end_text to) × IfSome to IsStampInRange
+unfolding spelled_end
+end_spelled text to e = elim (chosen (bytes_eq text (codes "-")) (Some None) (spelled_stamp text >>= λ s. Some (Some s)) to e) [
   | inl (same, is) ↦ subst (λ (z : Option Stamp). (text ≡ end_text z) × IfSome z IsStampInRange) (some_is None to is) (same_text text (codes "-") same, tt)
   | inr (other, is) ↦
-      let s = bound (stamp_of text) (λ s. Some (Some s)) to is in
+      let s = bound (spelled_stamp text) (λ s. Some (Some s)) to is in
       subst (λ (z : Option Stamp). (text ≡ end_text z) × IfSome z IsStampInRange) (some_is (Some s.0) to s.2) (stamp_spelled text s.0 s.1)
 ]
 
@@ -51,8 +51,8 @@ not_open s i e =
     let two = sym (ap length e) ∙ length-append (decimal s.n) (46 ∷ decimal s.topic.0) in
     omega arith
 
-end_again : (to : Option Stamp) → IfSome to IsStampInRange → end_of (end_text to) ≡ Some to
-unfolding end_of
+end_again : (to : Option Stamp) → IfSome to IsStampInRange → spelled_end (end_text to) ≡ Some to
+unfolding spelled_end
 end_again None i = refl
 end_again (Some s) i = rw (other_text (stamp_text s) (codes "-") (not_open s i), stamp_again s i) refl
 
@@ -74,10 +74,10 @@ Fields word text r = (word ++ 32 ∷ text ≡ row_text r) × IsRowInRange r
 log_spelled : (text : List ℕ) (r : TraceRow) → log_of_text text ≡ Some r → Fields (codes "log") text r
 unfolding log_of_text
 log_spelled text r e =
-    let t = bound (topic_before text) (λ t. id_before t.1 >>= λ i. stamp_before i.1 >>= λ s. topics_of s.1 >>= λ ts. Some (row.Log (record { topic = t.0; row = record { id = i.0; topics = ts; stamp = s.0 } }))) r e in
-    let i = bound (id_before t.0.1) (λ i. stamp_before i.1 >>= λ s. topics_of s.1 >>= λ ts. Some (row.Log (record { topic = t.0.0; row = record { id = i.0; topics = ts; stamp = s.0 } }))) r t.2 in
-    let s = bound (stamp_before i.0.1) (λ s. topics_of s.1 >>= λ ts. Some (row.Log (record { topic = t.0.0; row = record { id = i.0.0; topics = ts; stamp = s.0 } }))) r i.2 in
-    let ts = bound (topics_of s.0.1) (λ ts. Some (row.Log (record { topic = t.0.0; row = record { id = i.0.0; topics = ts; stamp = s.0.0 } }))) r s.2 in
+    let t = bound (topic_before text) (λ t. id_before t.1 >>= λ i. stamp_before i.1 >>= λ s. spelled_topics s.1 >>= λ ts. Some (row.Log (record { topic = t.0; row = record { id = i.0; topics = ts; stamp = s.0 } }))) r e in
+    let i = bound (id_before t.0.1) (λ i. stamp_before i.1 >>= λ s. spelled_topics s.1 >>= λ ts. Some (row.Log (record { topic = t.0.0; row = record { id = i.0; topics = ts; stamp = s.0 } }))) r t.2 in
+    let s = bound (stamp_before i.0.1) (λ s. spelled_topics s.1 >>= λ ts. Some (row.Log (record { topic = t.0.0; row = record { id = i.0.0; topics = ts; stamp = s.0 } }))) r i.2 in
+    let ts = bound (spelled_topics s.0.1) (λ ts. Some (row.Log (record { topic = t.0.0; row = record { id = i.0.0; topics = ts; stamp = s.0.0 } }))) r s.2 in
     let a = topic_field text t.0 t.1 in
     let b = id_field t.0.1 i.0 i.1 in
     let c = stamp_field i.0.1 s.0 s.1 in
@@ -100,10 +100,10 @@ log_again l i =
 span_spelled : (text : List ℕ) (r : TraceRow) → span_of_text text ≡ Some r → Fields (codes "span") text r
 unfolding span_of_text
 span_spelled text r e =
-    let k = bound (number_before 32 text) (λ k. topic_before k.1 >>= λ t. stamp_before t.1 >>= λ s. end_of s.1 >>= λ to. Some (row.Span (record { sub = k.0; topic = t.0; from = s.0; to = to }))) r e in
-    let t = bound (topic_before k.0.1) (λ t. stamp_before t.1 >>= λ s. end_of s.1 >>= λ to. Some (row.Span (record { sub = k.0.0; topic = t.0; from = s.0; to = to }))) r k.2 in
-    let s = bound (stamp_before t.0.1) (λ s. end_of s.1 >>= λ to. Some (row.Span (record { sub = k.0.0; topic = t.0.0; from = s.0; to = to }))) r t.2 in
-    let to = bound (end_of s.0.1) (λ to. Some (row.Span (record { sub = k.0.0; topic = t.0.0; from = s.0.0; to = to }))) r s.2 in
+    let k = bound (number_before 32 text) (λ k. topic_before k.1 >>= λ t. stamp_before t.1 >>= λ s. spelled_end s.1 >>= λ to. Some (row.Span (record { sub = k.0; topic = t.0; from = s.0; to = to }))) r e in
+    let t = bound (topic_before k.0.1) (λ t. stamp_before t.1 >>= λ s. spelled_end s.1 >>= λ to. Some (row.Span (record { sub = k.0.0; topic = t.0; from = s.0; to = to }))) r k.2 in
+    let s = bound (stamp_before t.0.1) (λ s. spelled_end s.1 >>= λ to. Some (row.Span (record { sub = k.0.0; topic = t.0.0; from = s.0; to = to }))) r t.2 in
+    let to = bound (spelled_end s.0.1) (λ to. Some (row.Span (record { sub = k.0.0; topic = t.0.0; from = s.0.0; to = to }))) r s.2 in
     let a = number_field 32 text k.0 k.1 in
     let b = topic_field k.0.1 t.0 t.1 in
     let c = stamp_field t.0.1 s.0 s.1 in
@@ -125,9 +125,9 @@ span_again s i =
 queue_spelled : (text : List ℕ) (r : TraceRow) → queue_of_text text ≡ Some r → Fields (codes "queue") text r
 unfolding queue_of_text
 queue_spelled text r e =
-    let k = bound (number_before 32 text) (λ k. id_before k.1 >>= λ i. stamp_of i.1 >>= λ s. Some (row.Queue (record { sub = k.0; id = i.0; stamp = s }))) r e in
-    let i = bound (id_before k.0.1) (λ i. stamp_of i.1 >>= λ s. Some (row.Queue (record { sub = k.0.0; id = i.0; stamp = s }))) r k.2 in
-    let s = bound (stamp_of i.0.1) (λ s. Some (row.Queue (record { sub = k.0.0; id = i.0.0; stamp = s }))) r i.2 in
+    let k = bound (number_before 32 text) (λ k. id_before k.1 >>= λ i. spelled_stamp i.1 >>= λ s. Some (row.Queue (record { sub = k.0; id = i.0; stamp = s }))) r e in
+    let i = bound (id_before k.0.1) (λ i. spelled_stamp i.1 >>= λ s. Some (row.Queue (record { sub = k.0.0; id = i.0; stamp = s }))) r k.2 in
+    let s = bound (spelled_stamp i.0.1) (λ s. Some (row.Queue (record { sub = k.0.0; id = i.0.0; stamp = s }))) r i.2 in
     let a = number_field 32 text k.0 k.1 in
     let b = id_field k.0.1 i.0 i.1 in
     let c = stamp_spelled i.0.1 s.0 s.1 in
@@ -156,22 +156,22 @@ spelled_after word text r e = elim (chosen (bytes_eq word (codes "log")) (log_of
 ]
 
 -- what is read is spelled
-pub row_spelled : (line : List ℕ) (r : TraceRow) → row_of line ≡ Some r → SpellsRow line r
-unfolding row_of
+pub row_spelled : (line : List ℕ) (r : TraceRow) → spelled_row line ≡ Some r → SpellsRow line r
+unfolding spelled_row
 row_spelled line r e =
     let c = bound (cut 32 line) (λ p. row_named p.0 p.1) r e in
     let f = spelled_after c.0.0 c.0.1 r c.2 in
     ((cut_splits 32 line c.0 c.1).0 ∙ f.0, f.1)
 
 -- what is spelled is read
-row_again : (r : TraceRow) → IsRowInRange r → row_of (row_text r) ≡ Some r
-unfolding row_of
+row_again : (r : TraceRow) → IsRowInRange r → spelled_row (row_text r) ≡ Some r
+unfolding spelled_row
 row_again (row.Log l) i = log_again l i
 row_again (row.Span s) i = span_again s i
 row_again (row.Queue q) i = queue_again q i
 
-pub row_read : (line : List ℕ) (r : TraceRow) → SpellsRow line r → row_of line ≡ Some r
-row_read line r s = ap row_of s.0 ∙ row_again r s.1
+pub row_read : (line : List ℕ) (r : TraceRow) → SpellsRow line r → spelled_row line ≡ Some r
+row_read line r s = ap spelled_row s.0 ∙ row_again r s.1
 
 -- ---- one line more
 
@@ -179,7 +179,7 @@ pub line_adds : (line : List ℕ) (old new : Lines) → line_added line old ≡ 
     → (r : TraceRow) × SpellsRow line r × (is_misfit r old ≡ false) × (with_row r old ≡ new)
 unfolding line_added
 line_adds line old new e =
-    let b = bound (row_of line) (λ r. cond (is_misfit r old) None (Some (with_row r old))) new e in
+    let b = bound (spelled_row line) (λ r. cond (is_misfit r old) None (Some (with_row r old))) new e in
     let p = unstopped (is_misfit b.0 old) (Some (with_row b.0 old)) new b.2 in
     (b.0, row_spelled line b.0 b.1, p.0, some_is (with_row b.0 old) new p.1)
 

@@ -13,7 +13,7 @@ use Rattle.mcast_txn.specs.declared.id.TxnId.{TxnId}
 use Rattle.mcast_txn.specs.declared.stamp.Stamp.{Stamp}
 use Rattle.trace_audit.specs.Parsing.{onto_first}
 use Rattle.trace_audit.specs.Text.{id_text, stamp_text, topics_text, joined, IsTopicInRange, IsIdInRange, IsStampInRange}
-use Rattle.trace_audit.specs.Inner.Reading.{◌>>=◌, cut, read_on, is_badly_begun, number_of, topic_of, number_before, topic_before, id_before, stamp_of, stamp_before, parts_of, topics_from, topics_of}
+use Rattle.trace_audit.specs.Inner.Reading.{◌>>=◌, cut, read_on, is_badly_begun, spelled_number, spelled_topic, number_before, topic_before, id_before, spelled_stamp, stamp_before, text_parts, topics_from, spelled_topics}
 use Rattle.trace_audit.proofs.Cuts.{Without, Without-append, cut_splits, cut_first, some_is, parts_first, parts_only}
 
 -- ---- tools
@@ -74,8 +74,8 @@ well_begun (b ∷ text) e = (omega arith, λ h. grind (arith, nat_tests))
 begins_well : (text : List ℕ) → 0 < length text → (get_or text 0 0 ≡ 48 → length text ≡ 1) → is_badly_begun text ≡ false
 begins_well text some one = grind (arith, nat_tests)
 
-pub number_spelled : (text : List ℕ) (v : ℕ) → number_of text ≡ Some v → (text ≡ decimal v) × (v < 2 ^ 64)
-unfolding number_of
+pub number_spelled : (text : List ℕ) (v : ℕ) → spelled_number text ≡ Some v → (text ≡ decimal v) × (v < 2 ^ 64)
+unfolding spelled_number
 number_spelled text v e =
     let p = unstopped (is_badly_begun text) (read_on 0 text) v e in
     let w = well_begun text p.0 in
@@ -86,8 +86,8 @@ first_is : (n : ℕ) → n < 2 ^ 64 → get_or (decimal n) 0 0 ≡ 48 → length
 first_is zero lt h = ap length (decimal_digit 0 (omega arith))
 first_is (suc n) lt h = absurd (let k = first_decimal (suc n) (omega arith) lt in omega arith)
 
-pub number_again : (n : ℕ) → n < 2 ^ 64 → number_of (decimal n) ≡ Some n
-unfolding number_of
+pub number_again : (n : ℕ) → n < 2 ^ 64 → spelled_number (decimal n) ≡ Some n
+unfolding spelled_number
 number_again n lt =
     let v = digits_value-decimal own n lt in
     rw (begins_well (decimal n) (decimal_nonempty n lt) (first_is n lt))
@@ -103,17 +103,17 @@ without b lt (c ∷ ds) d =
 pub number_without : (b n : ℕ) → b < 48 → n < 2 ^ 64 → Without b (decimal n)
 number_without b n low lt = without b low (decimal n) (digits_decimal own n lt)
 
-pub topic_spelled : (text : List ℕ) (t : Topic) → topic_of text ≡ Some t → (text ≡ decimal t.0) × IsTopicInRange t
-unfolding topic_of
+pub topic_spelled : (text : List ℕ) (t : Topic) → spelled_topic text ≡ Some t → (text ≡ decimal t.0) × IsTopicInRange t
+unfolding spelled_topic
 topic_spelled text t e =
-    let m = bound (number_of text) (λ n. cond (ltb n (2 ^ 32)) (Some (record { 0 = n })) None) t e in
+    let m = bound (spelled_number text) (λ n. cond (ltb n (2 ^ 32)) (Some (record { 0 = n })) None) t e in
     let p = passed (ltb m.0 (2 ^ 32)) (Some (record { 0 = m.0 })) t m.2 in
     let same : m.0 ≡ t.0 = ap (λ (z : Topic). z.0) (some_is (record { 0 = m.0 }) t p.1) in
     let s = number_spelled text m.0 m.1 in
     (s.0 ∙ ap decimal same, subst (λ (z : ℕ). z < 2 ^ 32) same (ltb-true m.0 (2 ^ 32) p.0))
 
-pub topic_again : (t : Topic) → IsTopicInRange t → topic_of (decimal t.0) ≡ Some t
-unfolding topic_of
+pub topic_again : (t : Topic) → IsTopicInRange t → spelled_topic (decimal t.0) ≡ Some t
+unfolding spelled_topic
 topic_again t lt = rw (number_again t.0 (omega arith), lt-ltb t.0 (2 ^ 32) lt) refl
 
 -- ---- fields
@@ -121,8 +121,8 @@ topic_again t lt = rw (number_again t.0 (omega arith), lt-ltb t.0 (2 ^ 32) lt) r
 pub number_field : (b : ℕ) (text : List ℕ) (p : ℕ × List ℕ) → number_before b text ≡ Some p → (text ≡ decimal p.0 ++ b ∷ p.1) × (p.0 < 2 ^ 64)
 unfolding number_before
 number_field b text p e =
-    let c = bound (cut b text) (λ q. number_of q.0 >>= λ n. Some (n, q.1)) p e in
-    let m = bound (number_of c.0.0) (λ n. Some (n, c.0.1)) p c.2 in
+    let c = bound (cut b text) (λ q. spelled_number q.0 >>= λ n. Some (n, q.1)) p e in
+    let m = bound (spelled_number c.0.0) (λ n. Some (n, c.0.1)) p c.2 in
     let s = number_spelled c.0.0 m.0 m.1 in
     subst (λ (z : ℕ × List ℕ). (text ≡ decimal z.0 ++ b ∷ z.1) × (z.0 < 2 ^ 64)) (some_is (m.0, c.0.1) p m.2)
     ((cut_splits b text c.0 c.1).0 ∙ ap (λ (z : List ℕ). z ++ b ∷ c.0.1) s.0, s.1)
@@ -134,8 +134,8 @@ number_field_again b n rest low lt = rw (cut_first b (decimal n) rest (number_wi
 pub topic_field : (text : List ℕ) (p : Topic × List ℕ) → topic_before text ≡ Some p → (text ≡ decimal p.0.0 ++ 32 ∷ p.1) × IsTopicInRange p.0
 unfolding topic_before
 topic_field text p e =
-    let c = bound (cut 32 text) (λ q. topic_of q.0 >>= λ t. Some (t, q.1)) p e in
-    let m = bound (topic_of c.0.0) (λ t. Some (t, c.0.1)) p c.2 in
+    let c = bound (cut 32 text) (λ q. spelled_topic q.0 >>= λ t. Some (t, q.1)) p e in
+    let m = bound (spelled_topic c.0.0) (λ t. Some (t, c.0.1)) p c.2 in
     let s = topic_spelled c.0.0 m.0 m.1 in
     subst (λ (z : Topic × List ℕ). (text ≡ decimal z.0.0 ++ 32 ∷ z.1) × IsTopicInRange z.0) (some_is (m.0, c.0.1) p m.2)
     ((cut_splits 32 text c.0 c.1).0 ∙ ap (λ (z : List ℕ). z ++ 32 ∷ c.0.1) s.0, s.1)
@@ -166,18 +166,18 @@ id_field_again id rest i =
       number_field_again 32 id.seq rest (omega arith) i.1,
     ) refl
 
-pub stamp_spelled : (text : List ℕ) (s : Stamp) → stamp_of text ≡ Some s → (text ≡ stamp_text s) × IsStampInRange s
-unfolding stamp_of
+pub stamp_spelled : (text : List ℕ) (s : Stamp) → spelled_stamp text ≡ Some s → (text ≡ stamp_text s) × IsStampInRange s
+unfolding spelled_stamp
 stamp_spelled text s e =
-    let n = bound (number_before 46 text) (λ n. topic_of n.1 >>= λ t. Some (record { n = n.0; topic = t })) s e in
-    let t = bound (topic_of n.0.1) (λ t. Some (record { n = n.0.0; topic = t })) s n.2 in
+    let n = bound (number_before 46 text) (λ n. spelled_topic n.1 >>= λ t. Some (record { n = n.0; topic = t })) s e in
+    let t = bound (spelled_topic n.0.1) (λ t. Some (record { n = n.0.0; topic = t })) s n.2 in
     let a = number_field 46 text n.0 n.1 in
     let b = topic_spelled n.0.1 t.0 t.1 in
     subst (λ (z : Stamp). (text ≡ stamp_text z) × IsStampInRange z) (some_is (record { n = n.0.0; topic = t.0 }) s t.2)
     (a.0 ∙ ap (λ (z : List ℕ). decimal n.0.0 ++ 46 ∷ z) b.0, (a.1, b.1))
 
-pub stamp_again : (s : Stamp) → IsStampInRange s → stamp_of (stamp_text s) ≡ Some s
-unfolding stamp_of
+pub stamp_again : (s : Stamp) → IsStampInRange s → spelled_stamp (stamp_text s) ≡ Some s
+unfolding spelled_stamp
 stamp_again s i = rw (number_field_again 46 s.n (decimal s.topic.0) (omega arith) i.0, topic_again s.topic i.1) refl
 
 -- a stamp's text has no space
@@ -189,8 +189,8 @@ stamp_without s i =
 pub stamp_field : (text : List ℕ) (p : Stamp × List ℕ) → stamp_before text ≡ Some p → (text ≡ stamp_text p.0 ++ 32 ∷ p.1) × IsStampInRange p.0
 unfolding stamp_before
 stamp_field text p e =
-    let c = bound (cut 32 text) (λ q. stamp_of q.0 >>= λ s. Some (s, q.1)) p e in
-    let m = bound (stamp_of c.0.0) (λ s. Some (s, c.0.1)) p c.2 in
+    let c = bound (cut 32 text) (λ q. spelled_stamp q.0 >>= λ s. Some (s, q.1)) p e in
+    let m = bound (spelled_stamp c.0.0) (λ s. Some (s, c.0.1)) p c.2 in
     let s = stamp_spelled c.0.0 m.0 m.1 in
     subst (λ (z : Stamp × List ℕ). (text ≡ stamp_text z.0 ++ 32 ∷ z.1) × IsStampInRange z.0) (some_is (m.0, c.0.1) p m.2)
     ((cut_splits 32 text c.0 c.1).0 ∙ ap (λ (z : List ℕ). z ++ 32 ∷ c.0.1) s.0, s.1)
@@ -201,13 +201,13 @@ stamp_field_again s rest i = rw (cut_first 32 (stamp_text s) rest (stamp_without
 
 -- ---- topics
 
-spelled_topics : (parts : List (List ℕ)) (ts : List Topic) → topics_from parts ≡ Some ts → (parts ≡ map (λ (t : Topic). decimal t.0) ts) × AllByRecursion IsTopicInRange ts
-spelled_topics [] ts e = subst (λ (z : List Topic). ([] ≡ map (λ (t : Topic). decimal t.0) z) × AllByRecursion IsTopicInRange z) (some_is [] ts e) (refl, tt)
-spelled_topics (part ∷ parts) ts e =
-    let t = bound (topic_of part) (λ t. topics_from parts >>= λ us. Some (t ∷ us)) ts e in
+topics_from_spelled : (parts : List (List ℕ)) (ts : List Topic) → topics_from parts ≡ Some ts → (parts ≡ map (λ (t : Topic). decimal t.0) ts) × AllByRecursion IsTopicInRange ts
+topics_from_spelled [] ts e = subst (λ (z : List Topic). ([] ≡ map (λ (t : Topic). decimal t.0) z) × AllByRecursion IsTopicInRange z) (some_is [] ts e) (refl, tt)
+topics_from_spelled (part ∷ parts) ts e =
+    let t = bound (spelled_topic part) (λ t. topics_from parts >>= λ us. Some (t ∷ us)) ts e in
     let us = bound (topics_from parts) (λ us. Some (t.0 ∷ us)) ts t.2 in
     let one = topic_spelled part t.0 t.1 in
-    let more = spelled_topics parts us.0 us.1 in
+    let more = topics_from_spelled parts us.0 us.1 in
     subst (λ (z : List Topic). (part ∷ parts ≡ map (λ (t : Topic). decimal t.0) z) × AllByRecursion IsTopicInRange z) (some_is (t.0 ∷ us.0) ts us.2)
     (ap (λ (z : List ℕ). z ∷ parts) one.0 ∙ ap (λ (z : List (List ℕ)). decimal t.0.0 ∷ z) more.0, (one.1, more.1))
 
@@ -220,28 +220,28 @@ joined_after : (b : ℕ) (parts : List (List ℕ)) → parts ≢ [] → joined b
 joined_after b [] some = absurd (some refl)
 joined_after b (p ∷ parts) some = refl
 
-some_parts : (b : ℕ) (text : List ℕ) → parts_of b text ≢ []
+some_parts : (b : ℕ) (text : List ℕ) → text_parts b text ≢ []
 some_parts b [] e = cc
 some_parts b (x ∷ text) e = elim (cases_eq x b) [
-  | inl same ↦ let h : [] ∷ parts_of b text ≡ [] = sym (rw (eq-eqb x b same) refl) ∙ e in cc
-  | inr other ↦ onto_some x (parts_of b text) (sym (rw (ne_eqb x b other) refl) ∙ e)
+  | inl same ↦ let h : [] ∷ text_parts b text ≡ [] = sym (rw (eq-eqb x b same) refl) ∙ e in cc
+  | inr other ↦ onto_some x (text_parts b text) (sym (rw (ne_eqb x b other) refl) ∙ e)
 ]
   where
     onto_some : (x : ℕ) (parts : List (List ℕ)) → onto_first x parts ≢ []
     onto_some x [] e = cc
     onto_some x (p ∷ parts) e = cc
 
-joined_parts : (b : ℕ) (text : List ℕ) → joined b (parts_of b text) ≡ text
+joined_parts : (b : ℕ) (text : List ℕ) → joined b (text_parts b text) ≡ text
 joined_parts b [] = refl
 joined_parts b (x ∷ text) = elim (cases_eq x b) [
-  | inl same ↦ rw (eq-eqb x b same) (joined_after b (parts_of b text) (some_parts b text) ∙ rw (joined_parts b text, same) refl)
-  | inr other ↦ rw (ne_eqb x b other) (joined_onto b x (parts_of b text) ∙ ap (λ (z : List ℕ). x ∷ z) (joined_parts b text))
+  | inl same ↦ rw (eq-eqb x b same) (joined_after b (text_parts b text) (some_parts b text) ∙ rw (joined_parts b text, same) refl)
+  | inr other ↦ rw (ne_eqb x b other) (joined_onto b x (text_parts b text) ∙ ap (λ (z : List ℕ). x ∷ z) (joined_parts b text))
 ]
 
-pub topics_spelled : (text : List ℕ) (ts : List Topic) → topics_of text ≡ Some ts → (text ≡ topics_text ts) × AllByRecursion IsTopicInRange ts × (ts ≢ [])
-unfolding topics_of
+pub topics_spelled : (text : List ℕ) (ts : List Topic) → spelled_topics text ≡ Some ts → (text ≡ topics_text ts) × AllByRecursion IsTopicInRange ts × (ts ≢ [])
+unfolding spelled_topics
 topics_spelled text ts e =
-    let s = spelled_topics (parts_of 44 text) ts e in
+    let s = topics_from_spelled (text_parts 44 text) ts e in
     (sym (joined_parts 44 text) ∙ ap (joined 44) s.0, s.1, λ none. some_parts 44 text (s.0 ∙ ap (map (λ (t : Topic). decimal t.0)) none))
 
 topics_from_again : (ts : List Topic) → AllByRecursion IsTopicInRange ts → topics_from (map (λ (t : Topic). decimal t.0) ts) ≡ Some ts
@@ -251,13 +251,13 @@ topics_from_again (t ∷ ts) i = rw (topic_again t i.0, topics_from_again ts i.1
 topic_without : (t : Topic) → IsTopicInRange t → Without 44 (decimal t.0)
 topic_without t i = number_without 44 t.0 (omega arith) (omega arith)
 
-parts_again : (ts : List Topic) → AllByRecursion IsTopicInRange ts → ts ≢ [] → parts_of 44 (topics_text ts) ≡ map (λ (t : Topic). decimal t.0) ts
+parts_again : (ts : List Topic) → AllByRecursion IsTopicInRange ts → ts ≢ [] → text_parts 44 (topics_text ts) ≡ map (λ (t : Topic). decimal t.0) ts
 parts_again [] i some = absurd (some refl)
 parts_again (t ∷ []) i some = parts_only 44 (decimal t.0) (topic_without t i.0)
 parts_again (t ∷ u ∷ ts) i some =
     parts_first 44 (decimal t.0) (topics_text (u ∷ ts)) (topic_without t i.0)
     ∙ ap (λ (z : List (List ℕ)). decimal t.0 ∷ z) (parts_again (u ∷ ts) i.1 (λ e. cc))
 
-pub topics_again : (ts : List Topic) → AllByRecursion IsTopicInRange ts → ts ≢ [] → topics_of (topics_text ts) ≡ Some ts
-unfolding topics_of
+pub topics_again : (ts : List Topic) → AllByRecursion IsTopicInRange ts → ts ≢ [] → spelled_topics (topics_text ts) ≡ Some ts
+unfolding spelled_topics
 topics_again ts i some = rw (parts_again ts i some) (topics_from_again ts i)

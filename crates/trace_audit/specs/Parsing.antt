@@ -12,8 +12,8 @@ abbrev pub onto_first : ℕ → List (List ℕ) → List (List ℕ)
 onto_first b [] = (b ∷ []) ∷ []
 onto_first b (line ∷ lines) = (b ∷ line) ∷ lines
 
--- The lines of a text: what is before each LF, and what is after the last one, unless that is nothing. So with LF as
--- `/`, `a//b` and `a//b/` both have the lines `a`, the empty one, and `b`.
+-- The lines of a text: what is before each LF, and what is after the last one, unless that is nothing. So
+-- `a`, LF, LF, `b` has three lines, of which the second is empty, and another LF adds none.
 abbrev pub lines_of : List ℕ → List (List ℕ)
 lines_of [] = []
 lines_of (b ∷ text) = if b == 10 then [] ∷ lines_of text else onto_first b (lines_of text)
@@ -22,7 +22,8 @@ lines_of (b ∷ text) = if b == 10 then [] ∷ lines_of text else onto_first b (
 abbrev pub AddsLines : List (List ℕ) → Lines → Lines → Type 0
 AddsLines [] old new = new ≡ old
 AddsLines (line ∷ lines) old new =
-    (row : TraceRow) × SpellsRow line row × (is_misfit row old ≡ false) × AddsLines lines (with_row row old) new
+    (row : TraceRow) × SpellsRow line row × (is_misfit row old ≡ false)
+    × AddsLines lines (with_row row old) new
 
 -- the line can't be added to the trace: it spells no row, or one that doesn't fit
 abbrev pub IsBadLine : List ℕ → Lines → Type 0

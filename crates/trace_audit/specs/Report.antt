@@ -37,8 +37,8 @@ pub record IsSortOf (sorted rows : List TraceRow) : Type 0 where
   pub ordered : NeverFalls sorted
   pub same : (key : ℕ × ℕ) → filter (has_key key) sorted ≡ filter (has_key key) rows
 
--- These are the rows of the trace in a report's order. So a subscription's span is before its queue, and each log and
--- each queue keeps its order.
+-- These are the rows of the trace in a report's order. So a subscription's span is before its queue, and
+-- each log and each queue keeps its order.
 abbrev pub IsReport : List TraceRow → Lines → Type 0
 IsReport rows lines = IsSortOf rows (rows_in lines)
 

@@ -20,8 +20,8 @@ pub record AreAlike (a b : Lines) : Type 0 where
   pub spans : (sub : ℕ) → filter (λ span. span.sub == sub) a.spans ≡ filter (λ span. span.sub == sub) b.spans
   pub queues : (sub : ℕ) → queue_of sub a.queues ≡ queue_of sub b.queues
 
--- The lines of a trace that adding rows made, whose numbers are in range, are read in a report's order as a trace
--- that is alike.
+-- Where adding rows made a trace, and their numbers are in range, the lines of its rows in a report's order
+-- are read as a trace that is alike.
 abbrev pub PrintedIsRead : Type 0
 PrintedIsRead = (added printed : List TraceRow) (trace : Lines) → AddsRows added no_lines trace
     → AllByRecursion IsRowInRange (rows_in trace) → IsReport printed trace

@@ -37,8 +37,9 @@ end_text (Some stamp) = stamp_text stamp
 abbrev pub topics_text : List Topic → List ℕ
 topics_text topics = joined 44 (map (λ t. decimal t.0) topics)
 
--- A row's line without its end. So transaction 1 of sender 0 in the log of topic 1 is `log 1 0 1 2.1 0,1`, the open
--- span of subscription 3 at topic 1 is `span 3 1 0.0 -`, and that transaction in its queue `queue 3 0 1 2.1`.
+-- A row's line without its end. So transaction 1 of sender 0 in the log of topic 1 is `log 1 0 1 2.1 0,1`,
+-- the open span of subscription 3 at topic 1 is `span 3 1 0.0 -`, and that transaction in its queue
+-- `queue 3 0 1 2.1`.
 abbrev pub row_text : TraceRow → List ℕ
 row_text (row.Log line) =
     spaced (codes "log" ∷ decimal line.topic.0
@@ -66,13 +67,15 @@ IsStampInRange stamp = (stamp.n < 2 ^ 64) × IsTopicInRange stamp.topic
 -- a transaction's numbers are in range, and it names a topic
 abbrev pub IsTxnInRange : LogRow → Type 0
 IsTxnInRange row =
-    IsIdInRange row.id × IsStampInRange row.stamp × AllByRecursion IsTopicInRange row.topics × (row.topics ≢ [])
+    IsIdInRange row.id × IsStampInRange row.stamp
+    × AllByRecursion IsTopicInRange row.topics × (row.topics ≢ [])
 
 -- each number of a row is in range, and a log's row names a topic
 abbrev pub IsRowInRange : TraceRow → Type 0
 IsRowInRange (row.Log line) = IsTopicInRange line.topic × IsTxnInRange line.row
 IsRowInRange (row.Span span) =
-    (span.sub < 2 ^ 64) × IsTopicInRange span.topic × IsStampInRange span.from × IfSome span.to IsStampInRange
+    (span.sub < 2 ^ 64) × IsTopicInRange span.topic
+    × IsStampInRange span.from × IfSome span.to IsStampInRange
 IsRowInRange (row.Queue line) = (line.sub < 2 ^ 64) × IsIdInRange line.id × IsStampInRange line.stamp
 
 -- The line is the text of this row. A number has one spelling: `log 0 0 01 2.1 0` spells no row.

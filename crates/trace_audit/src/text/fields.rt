@@ -2,7 +2,7 @@
 
 ghost use Rattle.std.specs.Prelude.{◌≡◌, IfOk};
 ghost use Rattle.std.specs.Option.{option_map};
-ghost use Rattle.trace_audit.specs.Inner.Reading.{cut, read_on, is_badly_begun, number_of, topic_of, number_before, topic_before, id_before, stamp_of, stamp_before, end_of, topics_of};
+ghost use Rattle.trace_audit.specs.Inner.Reading.{cut, read_on, is_badly_begun, spelled_number, spelled_topic, number_before, topic_before, id_before, spelled_stamp, stamp_before, spelled_end, spelled_topics};
 
 use mcast_txn::{NoMemory, Sender, Stamp, Topic, TxnId};
 use memchr::memchr;
@@ -38,9 +38,9 @@ fn value(digits: &[u8]) -> Option<u64>
 }
 
 // The number that a text spells.
-#[tactic(auto, unfolding(crate::specs::Inner::Reading::number_of))]
+#[tactic(auto, unfolding(crate::specs::Inner::Reading::spelled_number))]
 fn number(text: &[u8]) -> Option<u64>
-    ensures { result ≡ number_of text.now }
+    ensures { result ≡ spelled_number text.now }
 {
     if is_badly_begun(text) {
         return None;
@@ -49,9 +49,9 @@ fn number(text: &[u8]) -> Option<u64>
 }
 
 // The topic that a text spells.
-#[tactic(auto, unfolding(crate::specs::Inner::Reading::topic_of))]
+#[tactic(auto, unfolding(crate::specs::Inner::Reading::spelled_topic))]
 fn topic(text: &[u8]) -> Option<Topic>
-    ensures { result ≡ topic_of text.now }
+    ensures { result ≡ spelled_topic text.now }
 {
     let n = number(text)?;
     if n > u32::MAX as u64 {
@@ -93,9 +93,9 @@ pub(crate) fn id_before(text: &[u8]) -> Option<(TxnId, &[u8])>
 }
 
 // The stamp that a text spells.
-#[tactic(auto, unfolding(crate::specs::Inner::Reading::stamp_of))]
+#[tactic(auto, unfolding(crate::specs::Inner::Reading::spelled_stamp))]
 pub(crate) fn stamp(text: &[u8]) -> Option<Stamp>
-    ensures { result ≡ stamp_of text.now }
+    ensures { result ≡ spelled_stamp text.now }
 {
     let (n, rest) = number_before(b'.', text)?;
     Some(Stamp {
@@ -114,9 +114,9 @@ pub(crate) fn stamp_before(text: &[u8]) -> Option<(Stamp, &[u8])>
 }
 
 // The end of a span that a text spells: none where the span is open.
-#[tactic(auto, unfolding(crate::specs::Inner::Reading::end_of))]
+#[tactic(auto, unfolding(crate::specs::Inner::Reading::spelled_end))]
 pub(crate) fn end(text: &[u8]) -> Option<Option<Stamp>>
-    ensures { result ≡ end_of text.now }
+    ensures { result ≡ spelled_end text.now }
 {
     if text == b"-".as_slice() {
         return Some(None);
@@ -125,9 +125,9 @@ pub(crate) fn end(text: &[u8]) -> Option<Option<Stamp>>
 }
 
 // The topics that a text spells.
-#[tactic(auto, unfolding(crate::specs::Inner::Reading::topics_of))]
+#[tactic(auto, unfolding(crate::specs::Inner::Reading::spelled_topics))]
 pub(crate) fn topics(alloc: Global, text: &[u8]) -> Result<Option<Vec<Topic>>, NoMemory>
-    ensures { IfOk result (λ topics. option_map (λ t. t.items) topics ≡ topics_of text.now) }
+    ensures { IfOk result (λ topics. option_map (λ t. t.items) topics ≡ spelled_topics text.now) }
 {
     let mut topics = Vec::new(alloc);
     let mut rest = text;

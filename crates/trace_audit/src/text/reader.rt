@@ -1,7 +1,7 @@
 //! Reading a row's line.
 
 ghost use Rattle.std.specs.Prelude.{◌≡◌, IfOk};
-ghost use Rattle.trace_audit.specs.Inner.Reading.{row_of, log_of_text, span_of_text, queue_of_text};
+ghost use Rattle.trace_audit.specs.Inner.Reading.{spelled_row, log_of_text, span_of_text, queue_of_text};
 
 use super::fields::{
     end, id_before, number_before, split_at_first, stamp, stamp_before, topic_before, topics,
@@ -11,9 +11,9 @@ use mcast_txn::NoMemory;
 use std::alloc::Global;
 
 // The row that a line spells.
-#[tactic(auto, unfolding(crate::specs::Inner::Reading::row_of))]
+#[tactic(auto, unfolding(crate::specs::Inner::Reading::spelled_row))]
 pub(crate) fn read_row(alloc: Global, line: &[u8]) -> Result<Option<TraceRow>, NoMemory>
-    ensures { IfOk result (λ row. row ≡ row_of line.now) }
+    ensures { IfOk result (λ row. row ≡ spelled_row line.now) }
 {
     macro_rules! rows {
         ($($word:literal => $read:ident;)*) => {
