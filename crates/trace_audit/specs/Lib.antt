@@ -2,6 +2,10 @@ pub mod Answers
 pub mod Explained
 pub mod Faults
 pub mod Line
+pub mod Parsing
+pub mod Report
+pub mod Rereading
 pub mod Rows
+pub mod Text
 pub mod Trace
 pub mod Inner

@@ -5,9 +5,11 @@ mod agreed;
 mod auditor;
 mod checks;
 mod fault;
+pub mod law;
 mod mark;
 mod marks;
 mod row;
+mod text;
 mod trace;
 
 pub use agreed::{Agreed, AgreedRow};
@@ -15,6 +17,7 @@ pub use auditor::audit;
 pub use fault::{AddFault, AuditFault};
 pub use mcast_txn::{NoMemory, Sender, Stamp, Topic, TxnId};
 pub use row::{LogRow, QueueRow, SpanRow, TraceRow};
+pub use text::ParseFault;
 pub use trace::Trace;
 
 #[cfg(test)]

@@ -1,0 +1,113 @@
+-- Rows in a report's order, and topics one after the other.
+use Rattle.std.proofs.Common.{◌≡◌, ℕ, zero, suc, ◌+◌, ◌<◌, ◌⊎◌, Bool, true, false, not, cond, ◌&&◌, ◌||◌, ◌==◌, List, [], ◌∷◌, ◌++◌, map, length, drop, get_or, refl, sym, ap, ◌∙◌, inl, inr, append_assoc, arith, Less, Equal, Greater}
+use Rattle.std.specs.Prelude.{decimal, nat_lt}
+use Rattle.std.specs.List.{filter}
+use Rattle.std.specs.List.Sorted.{IsSortedBy, IsStableBy, ties}
+use Rattle.std.specs.Ordering.{nat_cmp, ordering_then, is_lt}
+use Rattle.std.proofs.lemmas.Bool.{cases_Bool}
+use Rattle.std.proofs.lemmas.Bool.Decides.{nat_tests}
+use Rattle.mcast_txn.specs.declared.id.Topic.{Topic}
+use Rattle.trace_audit.specs.Inner.Printing.{entry_row, more_topics, topic_part, left_topics}
+use Rattle.trace_audit.specs.Report.{print_key, key_lt, has_key, NeverFalls, IsSortOf}
+use Rattle.trace_audit.specs.Text.{topics_text}
+use Rattle.trace_audit.specs.declared.row.TraceRow.{TraceRow}
+use Rattle.trace_audit.specs.declared.text.entry.Entry.{Entry}
+
+-- the first topic, and then the others
+pub first_topic : (t : Topic) (ts : List Topic) → topics_text (t ∷ ts) ≡ decimal t.0 ++ more_topics ts
+first_topic t [] = go (decimal t.0)
+  where
+    go : (xs : List ℕ) → xs ≡ xs ++ []
+    go [] = refl
+    go (x ∷ xs) = ap (λ (z : List ℕ). x ∷ z) (go xs)
+first_topic t (u ∷ ts) = ap (λ (z : List ℕ). decimal t.0 ++ 44 ∷ z) (first_topic u ts)
+
+-- one topic more
+pub topics_left : (first : Bool) (t : Topic) (ts : List Topic) → left_topics first (t ∷ ts) ≡ topic_part first t ++ left_topics false ts
+topics_left true t ts = first_topic t ts
+topics_left false t ts = refl
+
+drop_next : (ts : List Topic) (i : ℕ) (d : Topic) → i < length ts → drop i ts ≡ get_or ts i d ∷ drop (i + 1) ts
+drop_next [] i d lt = absurd (omega arith)
+drop_next (t ∷ ts) zero d lt = refl
+drop_next (t ∷ ts) (suc i) d lt = let e : suc i + 1 ≡ suc (i + 1) = omega arith in rw e (drop_next ts i d (omega arith))
+
+pub topics_more : (out new whole : List ℕ) (first : Bool) (ts : List Topic) (i : ℕ) (d : Topic) → i < length ts → new ≡ out ++ topic_part first (get_or ts i d)
+    → out ++ left_topics first (drop i ts) ≡ whole → new ++ left_topics false (drop (i + 1) ts) ≡ whole
+topics_more out new whole first ts i d lt e h =
+    rw e (append_assoc out (topic_part first (get_or ts i d)) (left_topics false (drop (i + 1) ts))
+    ∙ ap (λ (z : List ℕ). out ++ z) (sym (topics_left first (get_or ts i d) (drop (i + 1) ts)))
+    ∙ ap (λ (z : List Topic). out ++ left_topics first z) (sym (drop_next ts i d lt)) ∙ h)
+
+-- ---- sorting
+
+abbrev pub entry_key : Entry → ℕ × ℕ
+entry_key e = print_key (entry_row e)
+
+-- as pairs of numbers are compared
+abbrev pub entry_lt : Entry → Entry → Bool
+entry_lt a b = is_lt (ordering_then (nat_cmp (entry_key a).0 (entry_key b).0) (nat_cmp (entry_key a).1 (entry_key b).1))
+
+tests_are : (p q r s : Bool) → is_lt (ordering_then (cond p Less (cond q Equal Greater)) (cond r Less (cond s Equal Greater))) ≡ (p || (q && r))
+tests_are true q r s = refl
+tests_are false true true s = refl
+tests_are false true false true = refl
+tests_are false true false false = refl
+tests_are false false r s = refl
+
+lt_is : (a b : Entry) → entry_lt a b ≡ key_lt (entry_key a) (entry_key b)
+lt_is a b = tests_are (nat_lt (entry_key a).0 (entry_key b).0) ((entry_key a).0 == (entry_key b).0) (nat_lt (entry_key a).1 (entry_key b).1) ((entry_key a).1 == (entry_key b).1)
+
+never_falls : (ys : List Entry) → IsSortedBy entry_lt ys → NeverFalls (map entry_row ys)
+never_falls [] s = tt
+never_falls (x ∷ []) s = tt
+never_falls (x ∷ y ∷ ys) s = (
+  sym (lt_is y x) ∙ s 0 x (omega arith) (omega arith),
+  never_falls (y ∷ ys) (λ k d low high. let e : suc k + 1 ≡ suc (k + 1) = omega arith in rw e at (s (suc k) d (omega arith) (omega arith))),
+)
+
+filter_map : (p : TraceRow → Bool) (ys : List Entry) → filter p (map entry_row ys) ≡ map entry_row (filter (λ y. p (entry_row y)) ys)
+filter_map p [] = refl
+filter_map p (y ∷ ys) = elim (cases_Bool (p (entry_row y))) [
+  | inl held ↦ rw (held, filter_map p ys) refl
+  | inr not_held ↦ rw (not_held, filter_map p ys) refl
+]
+
+filter_same : (p q : Entry → Bool) → ((y : Entry) → q y ≡ p y) → (ys : List Entry) → filter q ys ≡ filter p ys
+filter_same p q h [] = refl
+filter_same p q h (y ∷ ys) = rw (h y, filter_same p q h ys) refl
+
+found_or_none : (p : Entry → Bool) (xs : List Entry) → ((x : Entry) × (p x ≡ true)) ⊎ (filter p xs ≡ [])
+found_or_none p [] = inr refl
+found_or_none p (x ∷ xs) = elim (cases_Bool (p x)) [
+  | inl held ↦ inl (x, held)
+  | inr other ↦ elim (found_or_none p xs) [
+    | inl f ↦ inl f
+    | inr none ↦ inr (rw other none)
+  ]
+]
+
+-- what ties with each that passes a test is what passes it
+stable_at : (p : Entry → Bool) (xs ys : List Entry) → ((x : Entry) → p x ≡ true → (y : Entry) → ties entry_lt x y ≡ p y) → IsStableBy entry_lt xs ys → filter p ys ≡ filter p xs
+stable_at p xs ys h stable = elim (found_or_none p ys) [
+  | inl f ↦ same f.0 f.1
+  | inr none ↦ elim (found_or_none p xs) [
+    | inl f ↦ same f.0 f.1
+    | inr neither ↦ none ∙ sym neither
+  ]
+]
+  where
+    same : (x : Entry) → p x ≡ true → filter p ys ≡ filter p xs
+    same x held = sym (filter_same p (ties entry_lt x) (h x held) ys) ∙ stable x ∙ filter_same p (ties entry_lt x) (h x held) xs
+
+keys_tie : (k a b : ℕ × ℕ) → (a.0 == k.0 && a.1 == k.1) ≡ true → (not (key_lt a b) && not (key_lt b a)) ≡ (b.0 == k.0 && b.1 == k.1)
+keys_tie k a b e = grind (arith, nat_tests)
+
+pub is_sort_of : (xs ys : List Entry) → IsSortedBy entry_lt ys → IsStableBy entry_lt xs ys → IsSortOf (map entry_row ys) (map entry_row xs)
+is_sort_of xs ys sorted stable = record {
+  ordered = never_falls ys sorted;
+  same = λ k.
+      let at = stable_at (λ y. has_key k (entry_row y)) xs ys
+      (λ x held y. rw (lt_is x y, lt_is y x) (keys_tie k (entry_key x) (entry_key y) held)) stable in
+      filter_map (has_key k) ys ∙ ap (map entry_row) at ∙ sym (filter_map (has_key k) xs);
+}
