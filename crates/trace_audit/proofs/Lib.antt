@@ -1,5 +1,8 @@
 mod Examples
 pub mod Explaining
 pub mod Least
+pub mod LogFaults
+pub mod Neighbours
+pub mod OrderLemmas
 pub mod Putting
 pub mod Refuting

@@ -6,11 +6,14 @@ ghost use Rattle.mcast_txn.specs.Stamp.{same_stamp, stamp_lt};
 ghost use Rattle.trace_audit.specs.Answers.{IsRefusal, says_no_memory};
 ghost use Rattle.trace_audit.specs.Explained.{IsCompleteBy, IsExplainedBy};
 ghost use Rattle.trace_audit.specs.Faults.{audit_fault};
+ghost use Rattle.trace_audit.specs.Inner.LogFault.{log_fault};
+ghost use Rattle.trace_audit.specs.Inner.Orders.{IsOrdersOf};
 ghost use Rattle.trace_audit.specs.Inner.Sorting.{IsPlaceFor, IsSortingOf, put_row};
 ghost use Rattle.trace_audit.specs.Trace.{rows_of};
 
 use crate::agreed::{Agreed, AgreedRow};
 use crate::fault::AuditFault;
+use crate::orders::Orders;
 use crate::row::LogRow;
 use crate::trace::Trace;
 use crate::{checks, marks};
@@ -27,7 +30,10 @@ pub fn audit(alloc: Global, trace: &Trace) -> Result<Agreed, AuditFault>
     ensures refused { IfErr result
         (λ fault. says_no_memory fault ≡ false → IsRefusal fault trace.now) }
 {
-    match find_fault(alloc, trace) {
+    let Ok(orders) = Orders::of(alloc, &trace.logs) else {
+        return Err(AuditFault::NoMemory);
+    };
+    match find_fault(alloc, trace, &orders) {
         Ok(None) => {}
         Ok(Some(fault)) => return Err(fault),
         Err(NoMemory) => return Err(AuditFault::NoMemory),
@@ -40,28 +46,43 @@ pub fn audit(alloc: Global, trace: &Trace) -> Result<Agreed, AuditFault>
 }
 
 // The first fault.
-fn find_fault(alloc: Global, trace: &Trace) -> Result<Option<AuditFault>, NoMemory>
+fn find_fault(
+    alloc: Global,
+    trace: &Trace,
+    orders: &Orders<'_>,
+) -> Result<Option<AuditFault>, NoMemory>
+    requires { IsOrdersOf orders.now.by_id.items orders.now.by_stamp.items orders.now.by_topic.items trace.now.logs }
     ensures { IfOk result (λ fault. fault ≡ audit_fault trace.now) }
 {
-    let logs = trace.logs.as_slice();
-    if checks::has_two_verdicts(logs) {
-        return Ok(Some(AuditFault::TwoVerdicts));
-    }
-    if checks::has_same_stamp(logs) {
-        return Ok(Some(AuditFault::SameStamp));
-    }
-    if checks::is_out_of_order(logs) {
-        return Ok(Some(AuditFault::LogOrder));
-    }
-    if checks::has_sender_disorder(logs) {
-        return Ok(Some(AuditFault::SenderOrder));
-    }
-    if let Some(topic) = checks::first_hole(logs) {
-        return Ok(Some(AuditFault::Hole(Topic(topic))));
+    if let Some(fault) = find_log_fault(&trace.logs, orders) {
+        return Ok(Some(fault));
     }
     match marks::first_astray(alloc, trace)? {
         Some(sub) => Ok(Some(AuditFault::QueueRow(sub))),
         None => Ok(None),
+    }
+}
+
+// The first fault of the logs alone.
+fn find_log_fault(logs: &[LogRow], orders: &Orders<'_>) -> Option<AuditFault>
+    requires { IsOrdersOf orders.now.by_id.items orders.now.by_stamp.items orders.now.by_topic.items logs.now }
+    ensures { result ≡ log_fault logs.now }
+{
+    if checks::has_two_verdicts(&orders.by_id) {
+        return Some(AuditFault::TwoVerdicts);
+    }
+    if checks::has_same_stamp(&orders.by_stamp) {
+        return Some(AuditFault::SameStamp);
+    }
+    if checks::is_out_of_order(&orders.by_topic) {
+        return Some(AuditFault::LogOrder);
+    }
+    if checks::has_sender_disorder(&orders.by_id) {
+        return Some(AuditFault::SenderOrder);
+    }
+    match checks::first_hole(logs) {
+        Some(topic) => Some(AuditFault::Hole(Topic(topic))),
+        None => None,
     }
 }
 

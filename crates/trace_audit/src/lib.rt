@@ -7,6 +7,7 @@ mod checks;
 mod fault;
 mod mark;
 mod marks;
+mod orders;
 mod row;
 mod trace;
 
