@@ -1,5 +1,6 @@
 mod Examples
 pub mod Explaining
+pub mod Halving
 pub mod Least
 pub mod LogFaults
 pub mod Neighbours

@@ -16,7 +16,7 @@ use Rattle.mcast_txn.proofs.Members.{In-map, In-map_cases, In-get_or, any_from}
 use Rattle.mcast_txn.proofs.Orders.{lt_irrefl, lt_trans, le_trans, same_stamps, id_equal, id_same}
 use Rattle.trace_audit.specs.Faults.{differ, collide, overtake, some_two, falls, out_of_order}
 use Rattle.trace_audit.specs.Line.{LogLine}
-use Rattle.trace_audit.specs.Inner.Chained.{Chained}
+use Rattle.trace_audit.specs.Inner.Chained.{Chained, Above}
 use Rattle.trace_audit.specs.Inner.Orders.{shown, RisesById, RisesByStamp, RisesByTopic}
 use Rattle.trace_audit.specs.Trace.{rows_of, log_of}
 use Rattle.trace_audit.proofs.Explaining.{and_true, not_true, not_false, open_test, one_row, rows_equal, topics_equal, stamps_equal, log_rises}
@@ -163,9 +163,6 @@ stamps_tested rows r up h =
 
 -- ---- the order of each log
 
-abbrev pub Above : LogLine → LogLine → Type 0
-Above x y = (nat_lt y.topic.0 x.topic.0 ≡ false) × (x.topic.0 ≡ y.topic.0 → stamp_lt x.row.stamp y.row.stamp ≡ true)
-
 topic_between : (a b c : ℕ) → nat_lt b a ≡ false → nat_lt c b ≡ false → a ≡ c → a ≡ b
 topic_between a b c e f g = grind (arith, nat_tests)
 
@@ -222,6 +219,11 @@ order_tested rows true up h =
 order_tested rows false up h =
     let d = some_row rows h.0 (omega arith) in
     sym (falls_at rows h.0 d h.1 (not_twice _ (h.2 d)))
+
+-- rows by topic whose logs are in order
+pub chained_from_order : (rows : List (Bor LogLine)) → RisesByTopic rows → out_of_order (shown rows) ≡ false → Chained Above (shown rows)
+chained_from_order rows up e =
+    order_chained rows up (λ k d l. refuted _ (λ f. true≢false (sym (falls_at rows k d l f) ∙ e)))
 
 -- logs of the same rows by topic are out of order alike
 pub same_order : (logs lines : List LogLine) → ((t : Topic) → filter (λ line. line.topic.0 == t.0) lines ≡ filter (λ line. line.topic.0 == t.0) logs) → out_of_order lines ≡ out_of_order logs

@@ -6,6 +6,7 @@ mod auditor;
 mod checks;
 mod fault;
 mod mark;
+mod logs;
 mod marks;
 mod orders;
 mod row;
