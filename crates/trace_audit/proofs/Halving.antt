@@ -172,7 +172,7 @@ pub found_here : (t : Topic) (stamp : Stamp) (rows : List (Bor LogLine)) (i : �
 found_here t stamp rows i d point l e =
     ap (option_map (λ (line : LogLine). line.row.stamp))
     (sym (find_at (is_from t stamp) rows i d l (early t stamp rows i point)
-        (not_before_from (get_or rows i d).now.topic.0 t.0 (stamp_lt (get_or rows i d).now.row.stamp stamp) (point.1 i d (omega arith) l) e)))
+    (not_before_from (get_or rows i d).now.topic.0 t.0 (stamp_lt (get_or rows i d).now.row.stamp stamp) (point.1 i d (omega arith) l) e)))
 
 pub found_beyond : (t : Topic) (stamp : Stamp) (rows : List (Bor LogLine)) (i : ℕ) (d : Bor LogLine) → IsIndex rows → PointOf t stamp rows i → i < length rows → (get_or rows i d).now.topic.0 ≢ t.0 → None ≡ option_map (λ line. line.row.stamp) (find (λ line. is_from t stamp line) (shown rows))
 found_beyond t stamp rows i d index point l e =
@@ -221,8 +221,12 @@ has_line : (t : Topic) (q : LogRow) (rows : List (Bor LogLine)) → IsIndex rows
 has_line t q rows index i e =
     let f = any_found (λ (line : LogLine). line.topic.0 == t.0 && same_id line.row.id q.id) (shown rows) e in
     let p = and_parts (f.it.topic.0 == t.0) (same_id f.it.row.id q.id) f.passes in
-    record { line = f.it; stands = f.stands; topic = p.0;
-      is = one_row (shown rows) f.it.row q index.one_verdict (In-map (λ (l : LogLine). l.row) f.it (shown rows) f.stands) i p.1 }
+    record {
+      line = f.it;
+      stands = f.stands;
+      topic = p.0;
+      is = one_row (shown rows) f.it.row q index.one_verdict (In-map (λ (l : LogLine). l.row) f.it (shown rows) f.stands) i p.1;
+    }
 
 -- the log has the row exactly where the first stamp from its own on is its own
 pub has_row_is : (t : Topic) (q : LogRow) (rows : List (Bor LogLine)) → IsIndex rows → In q (rows_of (shown rows)) → log_has_row t q.id (shown rows) ≡ says (find (λ line. is_from t q.stamp line) (shown rows)) q

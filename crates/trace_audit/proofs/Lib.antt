@@ -1,6 +1,7 @@
 mod Examples
 pub mod Explaining
 pub mod Halving
+pub mod Indexed
 pub mod Least
 pub mod LogFaults
 pub mod Neighbours

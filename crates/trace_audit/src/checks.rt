@@ -1,12 +1,16 @@
 //! What may speak against logs, in their orders.
 
 ghost use Rattle.std.specs.Prelude.{◌≡◌, false, map};
-ghost use Rattle.std.specs.List.{filter, list_all, list_any};
-ghost use Rattle.trace_audit.specs.Faults.{collide, differ, falls, log_has_row, holes, is_whole, is_hole, least, lesser, out_of_order, overtake, reaches, some_two};
+ghost use Rattle.std.specs.List.{filter, list_all};
+ghost use Rattle.std.specs.List.Sorted.{IsPermutation};
+ghost use Rattle.mcast_txn.specs.Lists.{In};
+ghost use Rattle.trace_audit.specs.Faults.{collide, differ, falls, log_has_row, holes, is_whole, is_hole, least, lesser, out_of_order, overtake, some_two};
+ghost use Rattle.trace_audit.specs.Inner.Chained.{IsIndex};
 ghost use Rattle.trace_audit.specs.Inner.Orders.{shown, RisesById, RisesByStamp, RisesByTopic};
+ghost use Rattle.trace_audit.specs.Trace.{rows_of};
 
+use crate::logs::{has_row, is_hole};
 use crate::row::LogRow;
-use mcast_txn::{Stamp, Topic, TxnId};
 
 // Whether two rows of one transaction differ in stamp or topics.
 pub(crate) fn has_two_verdicts(by_id: &[&LogRow]) -> bool
@@ -69,46 +73,28 @@ fn overtake(a: &LogRow, b: &LogRow) -> bool
     a.id.sender.0 == b.id.sender.0 && a.stamp.is_before(b.stamp) && a.id.seq >= b.id.seq
 }
 
-// Whether a topic's log has a row of the transaction.
-fn log_has_row(topic: Topic, id: TxnId, logs: &[LogRow]) -> bool
-    ensures { result ≡ log_has_row topic id logs.now }
-{
-    logs.iter()
-        .any(|row| row.topic.0 == topic.0 && row.id == id)
-}
-
-// Whether a topic's log has a row of this stamp or a later one.
-fn reaches(topic: Topic, stamp: Stamp, logs: &[LogRow]) -> bool
-    ensures { result ≡ reaches topic stamp logs.now }
-{
-    logs.iter().any(|row| row.topic.0 == topic.0 && !row.stamp.is_before(stamp))
-}
-
-// Whether a topic's log lacks the row, and goes on to its stamp or beyond.
-fn is_hole(logs: &[LogRow], row: &LogRow, topic: Topic) -> bool
-    ensures { result ≡ is_hole logs.now row.now.row topic }
-{
-    !log_has_row(topic, row.id, logs) && reaches(topic, row.stamp, logs)
-}
-
 // The least topic that has a hole.
-pub(crate) fn first_hole(logs: &[LogRow]) -> Option<u32>
+pub(crate) fn first_hole(logs: &[LogRow], by_topic: &[&LogRow]) -> Option<u32>
+    requires index { IsIndex by_topic.now }
+    requires moved { IsPermutation logs.now (shown by_topic.now) }
     ensures { result ≡ least (holes logs.now) }
 {
     let mut best = None;
     for row in logs {
-        best = lesser(best, hole_of(logs, row));
+        best = lesser(best, hole_of(by_topic, row));
     }
     best
 }
 
 // The least of a row's topics that lacks it.
-fn hole_of(logs: &[LogRow], row: &LogRow) -> Option<u32>
-    ensures { result ≡ least (map (λ t. t.0) (filter (λ t. is_hole logs.now row.now.row t) row.now.row.topics)) }
+fn hole_of(by_topic: &[&LogRow], row: &LogRow) -> Option<u32>
+    requires index { IsIndex by_topic.now }
+    requires within { In row.now.row (rows_of (shown by_topic.now)) }
+    ensures { result ≡ least (map (λ t. t.0) (filter (λ t. is_hole (shown by_topic.now) row.now.row t) row.now.row.topics)) }
 {
     let mut best = None;
     for &topic in &row.topics {
-        if is_hole(logs, row, topic) {
+        if is_hole(by_topic, row, topic) {
             best = lesser(best, Some(topic.0));
         }
     }
@@ -127,17 +113,29 @@ fn lesser(a: Option<u32>, b: Option<u32>) -> Option<u32>
 }
 
 // Whether each row is in the log of each of its topics.
-pub(crate) fn is_whole(logs: &[LogRow]) -> bool
+pub(crate) fn is_whole(logs: &[LogRow], by_topic: &[&LogRow]) -> bool
+    requires index { IsIndex by_topic.now }
+    requires moved { IsPermutation logs.now (shown by_topic.now) }
     ensures { result ≡ is_whole logs.now }
 {
-    logs.iter().all(|row| is_everywhere(row, logs))
+    for row in logs {
+        if !is_everywhere(by_topic, row) {
+            return false;
+        }
+    }
+    true
 }
 
 // Whether a row is in the log of each of its topics.
-fn is_everywhere(row: &LogRow, logs: &[LogRow]) -> bool
-    ensures { result ≡ list_all (λ t. log_has_row t row.now.row.id logs.now) row.now.row.topics }
+fn is_everywhere(by_topic: &[&LogRow], row: &LogRow) -> bool
+    requires index { IsIndex by_topic.now }
+    requires within { In row.now.row (rows_of (shown by_topic.now)) }
+    ensures { result ≡ list_all (λ t. log_has_row t row.now.row.id (shown by_topic.now)) row.now.row.topics }
 {
-    row.topics
-        .iter()
-        .all(|topic| log_has_row(*topic, row.id, logs))
+    for &topic in &row.topics {
+        if !has_row(by_topic, row, topic) {
+            return false;
+        }
+    }
+    true
 }
