@@ -8,3 +8,4 @@ pub mod Neighbours
 pub mod OrderLemmas
 pub mod Putting
 pub mod Refuting
+pub mod Slices

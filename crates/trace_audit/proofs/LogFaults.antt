@@ -49,3 +49,16 @@ at_hole logs n a b d e f = rw (a, b, d, e, f) refl
 
 pub at_none : (logs : List LogLine) → some_two differ logs ≡ false → some_two collide logs ≡ false → out_of_order logs ≡ false → some_two overtake logs ≡ false → least (holes logs) ≡ None → None ≡ log_fault logs
 at_none logs a b d e f = rw (a, b, d, e, f) refl
+
+-- logs against which nothing speaks pass the first three tests
+pub log_clear : (logs : List LogLine) → log_fault logs ≡ None → (some_two differ logs ≡ false) × (some_two collide logs ≡ false) × (out_of_order logs ≡ false)
+log_clear logs e = go (some_two differ logs) (some_two collide logs) (out_of_order logs) refl refl refl
+  where
+    none_is : (f : AuditFault) → Some f ≡ None → Prim.⊥
+    none_is f e = cc
+
+    go : (a b d : Bool) → some_two differ logs ≡ a → some_two collide logs ≡ b → out_of_order logs ≡ d → (some_two differ logs ≡ false) × (some_two collide logs ≡ false) × (out_of_order logs ≡ false)
+    go true b d f g h = absurd (none_is audit.TwoVerdicts (at_verdicts logs f ∙ e))
+    go false true d f g h = absurd (none_is audit.SameStamp (at_stamps logs f g ∙ e))
+    go false false true f g h = absurd (none_is audit.LogOrder (at_order logs f g h ∙ e))
+    go false false false f g h = (f, g, h)

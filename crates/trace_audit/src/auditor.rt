@@ -55,10 +55,11 @@ fn find_fault(
     requires { IsOrdersOf orders.now.by_id.items orders.now.by_stamp.items orders.now.by_topic.items trace.now.logs }
     ensures { IfOk result (λ fault. fault ≡ audit_fault trace.now) }
 {
-    if let Some(fault) = find_log_fault(&trace.logs, orders) {
-        return Ok(Some(fault));
+    match find_log_fault(&trace.logs, orders) {
+        Some(fault) => return Ok(Some(fault)),
+        None => {}
     }
-    match marks::first_astray(alloc, trace)? {
+    match marks::first_astray(alloc, trace, &orders.by_topic)? {
         Some(sub) => Ok(Some(AuditFault::QueueRow(sub))),
         None => Ok(None),
     }

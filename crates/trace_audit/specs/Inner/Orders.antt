@@ -7,6 +7,7 @@ use Rattle.mcast_txn.specs.declared.id.Topic.{Topic}
 use Rattle.mcast_txn.specs.Ids.{id_lt}
 use Rattle.mcast_txn.specs.Stamp.{stamp_lt}
 use Rattle.trace_audit.specs.Line.{LogLine}
+use Rattle.trace_audit.specs.declared.row.QueueRow.{QueueRow}
 
 -- what references show
 abbrev pub shown : {X : Type 0} → List (Bor X) → List X
@@ -23,6 +24,10 @@ RisesByStamp rows = IsSortedBy (λ a b. stamp_lt a.now.row.stamp b.now.row.stamp
 -- no row's log is of a topic below the one before it
 abbrev pub RisesByTopic : List (Bor LogLine) → Type 0
 RisesByTopic rows = IsSortedBy (λ a b. nat_lt a.now.topic.0 b.now.topic.0) rows
+
+-- no row's subscription is below the one before it
+abbrev pub RisesBySub : List (Bor QueueRow) → Type 0
+RisesBySub rows = IsSortedBy (λ a b. nat_lt a.now.sub b.now.sub) rows
 
 -- the references show these lines, in another order, in which each topic's log is as it was
 pub record IsGroupingOf (rows : List (Bor LogLine)) (logs : List LogLine) : Type 0 where
