@@ -21,7 +21,7 @@ pub(crate) fn is_hole(by_topic: &[&LogRow], row: &LogRow, topic: Topic) -> bool
 {
     match stamp_at(by_topic, topic, row.stamp) {
         Some(found) => found != row.stamp,
-        None => false,
+        None => false, // the log ends before the row
     }
 }
 
