@@ -1,6 +1,6 @@
 -- What a halving finds among rows by topic and stamp.
-use Rattle.std.proofs.Common.{◌≡◌, ◌≢◌, ℕ, zero, suc, ◌+◌, ◌<◌, ◌≤◌, ◌==◌, Bool, true, false, cond, not, ◌&&◌, ◌||◌, nat_lt, inl, inr, List, [], ◌∷◌, length, map, get_or, take, drop, Bor, Option, Some, None, refl, sym, ap, subst, ◌∙◌, ◌⊎◌, eq-eqb, arith}
-use Rattle.std.specs.List.{list_any, filter, find}
+use Rattle.std.proofs.Common.{◌≡◌, ◌≢◌, ℕ, zero, suc, ◌<◌, ◌≤◌, ◌==◌, Bool, true, false, cond, not, ◌&&◌, ◌||◌, nat_lt, inl, inr, List, [], ◌∷◌, length, get_or, Bor, Option, Some, None, refl, sym, ap, subst, ◌∙◌, ◌⊎◌, arith}
+use Rattle.std.specs.List.{list_any, find}
 use Rattle.std.specs.List.Sorted.{IsPartitionedBy, IsPartitionPoint}
 use Rattle.std.specs.Option.{option_map}
 use Rattle.std.proofs.lemmas.Bool.{eqb-true, and_parts, true≢false, false≢true}
@@ -14,13 +14,13 @@ use Rattle.mcast_txn.specs.Span.{LogRow}
 use Rattle.mcast_txn.specs.Stamp.{same_stamp, stamp_lt}
 use Rattle.mcast_txn.proofs.Members.{In-map, In-get_or, any_found, any_from}
 use Rattle.mcast_txn.proofs.Orders.{lt_irrefl, lt_trans, id_itself}
-use Rattle.trace_audit.specs.Faults.{some_two, differ, collide, log_has_row, reaches, is_hole}
+use Rattle.trace_audit.specs.Faults.{log_has_row, reaches, is_hole}
 use Rattle.trace_audit.specs.Line.{LogLine}
 use Rattle.trace_audit.specs.Inner.Chained.{Chained, Above, IsIndex, comes_before, is_from}
 use Rattle.trace_audit.specs.Inner.Orders.{shown}
 use Rattle.trace_audit.specs.Trace.{rows_of}
 use Rattle.trace_audit.proofs.Explaining.{none_at, and_true, not_true, not_false, one_row, one_stamp}
-use Rattle.trace_audit.proofs.Refuting.{refuted, none_any, stamp_itself}
+use Rattle.trace_audit.proofs.Refuting.{refuted, stamp_itself}
 
 -- ---- chains by index
 

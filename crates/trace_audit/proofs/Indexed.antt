@@ -1,8 +1,7 @@
 -- Logs and their index: the same lines by topic and stamp.
-use Rattle.std.proofs.Common.{◌≡◌, ℕ, ◌+◌, ◌<◌, ◌==◌, Bool, true, false, not, ◌&&◌, List, [], ◌∷◌, map, length, get_or, drop, Option, Some, None, Bor, refl, sym, ap, subst, ◌∙◌}
-use Rattle.std.specs.List.{filter, list_any, list_all}
+use Rattle.std.proofs.Common.{◌≡◌, ℕ, ◌+◌, ◌<◌, ◌==◌, Bool, true, false, not, ◌&&◌, List, [], ◌∷◌, map, length, get_or, drop, Bor, refl, sym, ap, subst, ◌∙◌}
+use Rattle.std.specs.List.{filter, list_all}
 use Rattle.std.specs.List.Sorted.{IsPermutation}
-use Rattle.std.proofs.lemmas.Bool.{true≢false, false≢true}
 use Rattle.std.proofs.lemmas.List.Elements.{filter_agree}
 use Rattle.std.proofs.lemmas.List.Sorted.{list_any-IsPermutation}
 use Rattle.mcast_txn.specs.declared.id.Topic.{Topic}
@@ -11,7 +10,7 @@ use Rattle.mcast_txn.specs.Lists.{In}
 use Rattle.mcast_txn.specs.Span.{LogRow}
 use Rattle.mcast_txn.specs.Stamp.{stamp_lt}
 use Rattle.mcast_txn.proofs.Members.{In-get_or, In-map}
-use Rattle.trace_audit.specs.Faults.{some_two, differ, collide, out_of_order, log_has_row, reaches, is_hole, is_whole}
+use Rattle.trace_audit.specs.Faults.{some_two, differ, collide, out_of_order, log_has_row, reaches, is_hole}
 use Rattle.trace_audit.specs.Inner.Chained.{IsIndex}
 use Rattle.trace_audit.specs.Inner.Orders.{shown, IsOrdersOf}
 use Rattle.trace_audit.specs.Line.{LogLine}

@@ -9,3 +9,4 @@ pub mod OrderLemmas
 pub mod Putting
 pub mod Refuting
 pub mod Slices
+pub mod Subs

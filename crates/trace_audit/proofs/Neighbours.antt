@@ -1,27 +1,26 @@
 -- What neighbours in an order say of all rows.
-use Rattle.std.proofs.Common.{◌≡◌, ℕ, zero, suc, ◌+◌, ◌<◌, ◌==◌, Bool, true, false, cond, not, ◌&&◌, ◌||◌, nat_lt, inl, inr, List, [], ◌∷◌, length, map, get_or, Bor, refl, sym, ap, subst, ◌∙◌, ◌⊎◌, eq-eqb, arith}
+use Rattle.std.proofs.Common.{◌≡◌, ℕ, zero, suc, ◌+◌, ◌<◌, ◌==◌, Bool, true, false, not, ◌&&◌, ◌||◌, nat_lt, inl, inr, List, [], ◌∷◌, length, get_or, Bor, refl, sym, ap, subst, ◌∙◌, ◌⊎◌, eq-eqb, arith}
 use Rattle.std.specs.List.{list_any, filter, IsAllAdjacentAnswer}
 use Rattle.std.proofs.lemmas.Bool.{eqb-true, and_parts, true≢false, false≢true}
 use Rattle.std.proofs.lemmas.Bool.Decides.{nat_tests}
 use lib.Pointwise.{pointwise}
 use Rattle.mcast_txn.specs.declared.id.Topic.{Topic}
-use Rattle.mcast_txn.specs.declared.id.Sender.{Sender}
 use Rattle.mcast_txn.specs.declared.id.TxnId.{TxnId}
 use Rattle.mcast_txn.specs.declared.stamp.Stamp.{Stamp}
 use Rattle.mcast_txn.specs.Ids.{same_id, id_lt}
 use Rattle.mcast_txn.specs.Lists.{In, Rises}
 use Rattle.mcast_txn.specs.Span.{LogRow, row_stamp}
 use Rattle.mcast_txn.specs.Stamp.{same_stamp, stamp_lt}
-use Rattle.mcast_txn.proofs.Members.{In-map, In-map_cases, In-get_or, any_from}
+use Rattle.mcast_txn.proofs.Members.{In-map, In-get_or, any_from}
 use Rattle.mcast_txn.proofs.Orders.{lt_irrefl, lt_trans, le_trans, same_stamps, id_equal, id_same}
 use Rattle.trace_audit.specs.Faults.{differ, collide, overtake, some_two, falls, out_of_order}
 use Rattle.trace_audit.specs.Line.{LogLine}
 use Rattle.trace_audit.specs.Inner.Chained.{Chained, Above}
 use Rattle.trace_audit.specs.Inner.Orders.{shown, RisesById, RisesByStamp, RisesByTopic}
 use Rattle.trace_audit.specs.Trace.{rows_of, log_of}
-use Rattle.trace_audit.proofs.Explaining.{and_true, not_true, not_false, open_test, one_row, rows_equal, topics_equal, stamps_equal, log_rises}
+use Rattle.trace_audit.proofs.Explaining.{and_true, not_false, open_test, one_row, rows_equal, topics_equal, stamps_equal, log_rises}
 use Rattle.trace_audit.proofs.OrderLemmas.{chain_shown, chain_pair}
-use Rattle.trace_audit.proofs.Refuting.{no_two, none_any, refuted, topics_itself, stamp_itself, in_order}
+use Rattle.trace_audit.proofs.Refuting.{none_any, refuted, topics_itself, stamp_itself, in_order}
 
 -- ---- ids
 

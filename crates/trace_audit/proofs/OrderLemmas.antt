@@ -1,5 +1,5 @@
 -- What sorts give: lines behind references, in another order.
-use Rattle.std.proofs.Common.{◌≡◌, ℕ, suc, ◌+◌, ◌<◌, ◌==◌, Bool, true, false, cond, not, ◌&&◌, ◌||◌, nat_lt, inl, inr, List, [], ◌∷◌, length, map, get_or, Bor, refl, sym, ap, subst, ◌∙◌, ◌⊎◌, arith}
+use Rattle.std.proofs.Common.{◌≡◌, ℕ, suc, ◌+◌, ◌<◌, ◌==◌, Bool, true, false, cond, not, ◌&&◌, ◌||◌, nat_lt, inl, inr, List, [], ◌∷◌, length, get_or, Bor, refl, sym, ap, subst, ◌∙◌, ◌⊎◌, arith}
 use Rattle.std.specs.declared.cmp.Ordering.TheVariants.{Less, Equal, Greater}
 use Rattle.std.specs.Ordering.{nat_cmp, ordering_then, is_lt}
 use Rattle.std.specs.List.{filter}
@@ -15,7 +15,7 @@ use Rattle.mcast_txn.specs.Lists.{In}
 use Rattle.mcast_txn.specs.Stamp.{stamp_lt, zero_stamp}
 use Rattle.trace_audit.specs.Line.{LogLine}
 use Rattle.trace_audit.specs.Inner.Chained.{Chained}
-use Rattle.trace_audit.specs.Inner.Orders.{shown, IsGroupingOf}
+use Rattle.trace_audit.specs.Inner.Orders.{shown}
 
 -- ---- orders as tests
 

@@ -1,24 +1,19 @@
 -- What lies between two halvings.
-use Rattle.std.proofs.Common.{◌≡◌, ◌≢◌, ℕ, zero, suc, ◌+◌, ◌<◌, ◌≤◌, ◌==◌, Bool, true, false, cond, not, ◌&&◌, ◌||◌, nat_lt, leb, List, [], ◌∷◌, length, map, get_or, take, drop, Bor, Option, Some, None, refl, sym, ap, subst, ◌∙◌, eq-eqb, arith}
+use Rattle.std.proofs.Common.{◌≡◌, ℕ, zero, suc, ◌<◌, ◌≤◌, ◌==◌, Bool, true, false, cond, not, ◌&&◌, ◌||◌, nat_lt, leb, List, [], ◌∷◌, length, map, get_or, take, drop, Bor, Option, Some, None, refl, sym, ap, subst, ◌∙◌, arith}
 use Rattle.std.specs.List.{filter}
 use Rattle.std.specs.List.Sorted.{IsPartitionedBy, IsPartitionPoint}
-use Rattle.std.proofs.lemmas.Bool.{eqb-true, true≢false, false≢true}
+use Rattle.std.proofs.lemmas.Bool.{eqb-true, false≢true}
 use Rattle.std.proofs.lemmas.Bool.Decides.{nat_tests}
-use lib.Pointwise.{pointwise}
-use Rattle.mcast_txn.specs.declared.id.Topic.{Topic}
 use Rattle.mcast_txn.specs.declared.stamp.Stamp.{Stamp}
-use Rattle.mcast_txn.specs.Lists.{In}
 use Rattle.mcast_txn.specs.Span.{LogRow, in_span, up_to}
 use Rattle.mcast_txn.specs.Stamp.{stamp_lt, zero_stamp}
-use Rattle.mcast_txn.proofs.Orders.{lt_trans, lt_le, le_lt}
-use Rattle.trace_audit.specs.Faults.{same_mark}
+use Rattle.mcast_txn.proofs.Orders.{lt_trans}
 use Rattle.trace_audit.specs.Line.{LogLine}
-use Rattle.trace_audit.specs.declared.mark.Mark.{Mark}
 use Rattle.trace_audit.specs.declared.row.QueueRow.{QueueRow}
 use Rattle.trace_audit.specs.declared.row.SpanRow.{SpanRow}
 use Rattle.trace_audit.specs.Inner.Chained.{Chained, Above, IsIndex, is_up_to_from, is_up_to_end}
 use Rattle.trace_audit.specs.Inner.Orders.{shown, RisesBySub}
-use Rattle.trace_audit.specs.Trace.{rows_of, log_of, marks_in, row_mark, queue_mark}
+use Rattle.trace_audit.specs.Trace.{rows_of, marks_in, row_mark}
 use Rattle.trace_audit.proofs.Halving.{parted}
 use Rattle.trace_audit.proofs.OrderLemmas.{chain_shown}
 

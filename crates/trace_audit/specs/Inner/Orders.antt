@@ -1,5 +1,5 @@
 -- Serves proofs only: the lines of logs behind references, in an auditor's orders.
-use Rattle.std.specs.Prelude.{◌≡◌, ◌==◌, nat_lt, true, Bool, List, map}
+use Rattle.std.specs.Prelude.{◌≡◌, ◌==◌, nat_lt, List, map}
 use Rattle.std.specs.List.{filter}
 use Rattle.std.specs.List.Sorted.{IsPermutation, IsSortedBy}
 use denote.Bor.{Bor}

@@ -27,7 +27,7 @@ orders_are c =
 explained_here : (c : goal.After-drop-orders-4) → IsExplainedBy c.in-Ok-agreed_rows.rows.items c.args.trace.now
 explained_here c =
     explains c.args.trace.now c.args.trace.now.logs c.in-Ok-agreed_rows.rows.items refl
-    (subst (λ (z : List LogLine). list_all (λ (line : LogLine). fits line) z ≡ true) (logs_are c) c.trace.invariant)
+    (subst (λ (z : List LogLine). list_all (λ (line : LogLine). fits line) z ≡ true) (logs_are c) c.trace.invariant.0)
     (sym c.in-Ok-None.ensures ∙ c.in-Ok-None.field-0-is)
     (sorting_moved c.in-Ok-agreed_rows.rows.items c.args.trace.now.logs (shown c.in-Ok.orders.by_stamp.items) (orders_are c).stamps_moved
     (subst (λ (z : List (Bor LogLine)). IsSortingOf c.in-Ok-agreed_rows.rows.items (rows_of (shown z))) c.deref-2.ensures.value c.in-Ok-agreed_rows.ensures))

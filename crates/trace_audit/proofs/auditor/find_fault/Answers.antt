@@ -1,4 +1,4 @@
-use Rattle.std.proofs.Common.{sym, ap, subst, ◌∙◌, None}
+use Rattle.std.proofs.Common.{sym, ap, subst, ◌∙◌}
 use Rattle.trace_audit.specs.Inner.Chained.{IsIndex}
 use Rattle.trace_audit.specs.Inner.LogFault.{log_fault}
 use Rattle.trace_audit.specs.Trace.{Lines}

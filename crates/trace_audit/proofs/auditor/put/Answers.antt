@@ -5,7 +5,6 @@ use Rattle.mcast_txn.specs.Lists.{In}
 use Rattle.mcast_txn.specs.Span.{LogRow}
 use Rattle.mcast_txn.specs.Stamp.{same_stamp, stamp_lt}
 use Rattle.trace_audit.specs.Line.{LogLine}
-use Rattle.trace_audit.specs.Inner.Sorting.{IsAtLeast, put_row}
 use Rattle.trace_audit.proofs.Putting.{put_last}
 use Rattle.trace_audit.proofs.auditor.put.Goals as goal
 

@@ -1,4 +1,4 @@
-use Rattle.std.proofs.Common.{◌≡◌, ◌<◌, ◌==◌, false, length, get_or, Bor, sym, ap, ◌∙◌, Some, arith, rules}
+use Rattle.std.proofs.Common.{◌<◌, length, Bor, sym, ap, ◌∙◌, Some, rules}
 use Rattle.trace_audit.specs.Line.{LogLine}
 use Rattle.trace_audit.proofs.Halving.{found_here, found_beyond, found_none}
 use Rattle.trace_audit.proofs.logs.stamp_at.Goals as goal
