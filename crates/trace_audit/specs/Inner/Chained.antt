@@ -18,7 +18,9 @@ Chained R (x ∷ xs) = ((y : _) → In y xs → R x y) × Chained R xs
 
 -- the later line is of no lower topic, and above it in its log
 abbrev pub Above : LogLine → LogLine → Type 0
-Above x y = (nat_lt y.topic.0 x.topic.0 ≡ false) × (x.topic.0 ≡ y.topic.0 → stamp_lt x.row.stamp y.row.stamp ≡ true)
+Above x y =
+    (nat_lt y.topic.0 x.topic.0 ≡ false)
+    × (x.topic.0 ≡ y.topic.0 → stamp_lt x.row.stamp y.row.stamp ≡ true)
 
 -- lines by topic and stamp, against which neither verdicts nor stamps speak
 pub record IsIndex (rows : List (Bor LogLine)) : Type 0 where
@@ -37,7 +39,8 @@ is_from t stamp line = line.topic.0 == t.0 && not (stamp_lt line.row.stamp stamp
 -- the line is of a lower topic than the span's, or of its topic and no later than its beginning
 abbrev pub is_up_to_from : SpanRow → LogLine → Bool
 is_up_to_from span line =
-    nat_lt line.topic.0 span.topic.0 || (line.topic.0 == span.topic.0 && not (stamp_lt span.from line.row.stamp))
+    nat_lt line.topic.0 span.topic.0
+    || (line.topic.0 == span.topic.0 && not (stamp_lt span.from line.row.stamp))
 
 -- the line is of a lower topic than the span's, or of its topic and no later than its end
 abbrev pub is_up_to_end : SpanRow → LogLine → Bool

@@ -32,7 +32,8 @@ RisesBySub rows = IsSortedBy (λ a b. nat_lt a.now.sub b.now.sub) rows
 -- the references show these lines, in another order, in which each topic's log is as it was
 pub record IsGroupingOf (rows : List (Bor LogLine)) (logs : List LogLine) : Type 0 where
   pub moved : IsPermutation logs (shown rows)
-  pub kept : (t : Topic) → filter (λ line. line.topic.0 == t.0) (shown rows) ≡ filter (λ line. line.topic.0 == t.0) logs
+  pub kept : (t : Topic) →
+      filter (λ line. line.topic.0 == t.0) (shown rows) ≡ filter (λ line. line.topic.0 == t.0) logs
 
 -- the references show these lines in all three orders
 pub record IsOrdersOf (by_id by_stamp by_topic : List (Bor LogLine)) (logs : List LogLine) : Type 0 where
