@@ -69,7 +69,7 @@ pub shut_test : (s v : Bool) → (not s && v) ≡ false → v ≡ true → s ≡
 shut_test true v e k = refl
 shut_test false v e k = absurd (true≢false (sym k ∙ e))
 
-third : (s l q : Bool) → (s && (l && not q)) ≡ false → s ≡ true → l ≡ true → q ≡ true
+pub third : (s l q : Bool) → (s && (l && not q)) ≡ false → s ≡ true → l ≡ true → q ≡ true
 third true l q e k m = open_test l q e m
 third false l q e k m = absurd (false≢true k)
 
@@ -93,7 +93,7 @@ stamps_equal a b e =
 abbrev same_number : Topic → Topic → Bool
 same_number t u = t.0 == u.0
 
-topics_equal : (ts us : List Topic) → pointwise same_number ts us ≡ true → ts ≡ us
+pub topics_equal : (ts us : List Topic) → pointwise same_number ts us ≡ true → ts ≡ us
 topics_equal [] [] e = refl
 topics_equal [] (u ∷ us) e = absurd (false≢true e)
 topics_equal (t ∷ ts) [] e = absurd (false≢true e)
@@ -106,7 +106,7 @@ topics_equal (t ∷ ts) (u ∷ us) e =
 abbrev log_row : TxnId → List Topic → Stamp → LogRow
 log_row id topics stamp = record { id = id; topics = topics; stamp = stamp }
 
-rows_equal : (a b : LogRow) → a.id ≡ b.id → a.topics ≡ b.topics → a.stamp ≡ b.stamp → a ≡ b
+pub rows_equal : (a b : LogRow) → a.id ≡ b.id → a.topics ≡ b.topics → a.stamp ≡ b.stamp → a ≡ b
 rows_equal a b e f g =
     ap (λ (z : TxnId). log_row z a.topics a.stamp) e
     ∙ (ap (λ (z : List Topic). log_row b.id z a.stamp) f ∙ ap (λ (z : Stamp). log_row b.id b.topics z) g)
@@ -203,16 +203,16 @@ last_above s [] q up i = absurd i
 last_above s (x ∷ xs) q up (inl e) = subst (λ (z : LogRow). stamp_lt (last_stamp x.stamp xs) z.stamp ≡ false) e (last_ge x xs up)
 last_above s (x ∷ xs) q up (inr k) = last_above x.stamp xs q up.1 k
 
-record LastOf (log : List LogRow) (s : Stamp) : Type 0 where
-  row : LogRow
-  stands : In row log
-  is : row.stamp ≡ s
+pub record LastOf (log : List LogRow) (s : Stamp) : Type 0 where
+  pub row : LogRow
+  pub stands : In row log
+  pub is : row.stamp ≡ s
 
 last_in : (x : LogRow) (xs : List LogRow) → LastOf (x ∷ xs) (last_stamp x.stamp xs)
 last_in x [] = record { row = x; stands = inl refl; is = refl }
 last_in x (y ∷ ys) = let l = last_in y ys in record { row = l.row; stands = inr l.stands; is = l.is }
 
-last_of : (s : Stamp) (log : List LogRow) → log ≢ [] → LastOf log (last_stamp s log)
+pub last_of : (s : Stamp) (log : List LogRow) → log ≢ [] → LastOf log (last_stamp s log)
 last_of s [] ne = absurd (ne refl)
 last_of s (x ∷ xs) ne = last_in x xs
 
@@ -228,7 +228,7 @@ log_reaches t stamp logs ne h =
 
 -- ---- holes
 
-least_none : (ns : List ℕ) → least ns ≡ None → (n : ℕ) → In n ns → Prim.⊥
+pub least_none : (ns : List ℕ) → least ns ≡ None → (n : ℕ) → In n ns → Prim.⊥
 least_none [] e n i = i
 least_none (x ∷ ns) e n i = go (least ns) e
   where
@@ -240,17 +240,17 @@ least_none (x ∷ ns) e n i = go (least ns) e
     go None e = cc
     go (Some y) e = two (nat_lt y x) y e
 
-In-append_right : {X : Type 0} (x : X) (xs ys : List X) → In x ys → In x (xs ++ ys)
+pub In-append_right : {X : Type 0} (x : X) (xs ys : List X) → In x ys → In x (xs ++ ys)
 In-append_right x [] ys h = h
 In-append_right x (y ∷ xs) ys h = inr (In-append_right x xs ys h)
 
-In-flat_map : {X Y : Type 0} (f : X → List Y) (x : X) (y : Y) (xs : List X) → In x xs → In y (f x) → In y (flat_map f xs)
+pub In-flat_map : {X Y : Type 0} (f : X → List Y) (x : X) (y : Y) (xs : List X) → In x xs → In y (f x) → In y (flat_map f xs)
 In-flat_map f x y [] i j = absurd i
 In-flat_map f x y (z ∷ xs) (inl e) j =
     In-append_left y (f z) (flat_map f xs) (subst (λ (q : _). In y (f q)) (sym e) j)
 In-flat_map f x y (z ∷ xs) (inr k) j = In-append_right y (f z) (flat_map f xs) (In-flat_map f x y xs k j)
 
-no_hole : (logs : List LogLine) (line : LogLine) (t : Topic) → least (holes logs) ≡ None → In line logs → In t line.row.topics → is_hole logs line.row t ≡ false
+pub no_hole : (logs : List LogLine) (line : LogLine) (t : Topic) → least (holes logs) ≡ None → In line logs → In t line.row.topics → is_hole logs line.row t ≡ false
 no_hole logs line t h i j = go (is_hole logs line.row t) refl
   where
     go : (b : Bool) → is_hole logs line.row t ≡ b → is_hole logs line.row t ≡ false

@@ -3,10 +3,17 @@ pub mod Fields
 mod Examples
 mod TextExamples
 pub mod Explaining
+pub mod Halving
+pub mod Indexed
 pub mod Least
+pub mod LogFaults
+pub mod Neighbours
+pub mod OrderLemmas
 pub mod Printing
 pub mod Putting
 pub mod Refuting
 pub mod Rereading
 pub mod Rows
+pub mod Slices
 pub mod Spelling
+pub mod Subs

@@ -1,69 +1,97 @@
 -- Rows put among others that rise.
-use Rattle.std.proofs.Common.{◌≡◌, ℕ, suc, ◌+◌, ◌<◌, ◌≤◌, ltb, Bool, true, false, cond, not, inl, inr, List, [], ◌∷◌, ◌++◌, length, get_or, take, drop, Some, None, refl, sym, ap, subst, ◌∙◌, arith}
-use Rattle.std.specs.List.{list_any, position, position_or_len}
-use Rattle.std.proofs.lemmas.Bool.{true≢false, ltb-false}
+use Rattle.std.proofs.Common.{◌≡◌, ℕ, zero, suc, ◌+◌, ◌-◌, ◌<◌, Bool, true, false, cond, inl, inr, List, [], ◌∷◌, ◌++◌, length, get_or, take, Bor, Some, refl, sym, ap, subst, ◌∙◌, arith}
+use Rattle.std.specs.List.{list_any, slice_get}
+use Rattle.std.specs.List.Sorted.{IsPermutation}
+use Rattle.std.proofs.lemmas.Bool.{true≢false}
 use Rattle.std.proofs.lemmas.Bool.Decides.{nat_tests}
 use Rattle.std.proofs.lemmas.List.{take_more, map-append}
+use Rattle.std.proofs.lemmas.Option.{slice_get_within, slice_get-get_or}
+use Rattle.std.proofs.lemmas.List.Sorted.{IsPermutation-sym, All-permutation}
 use Rattle.mcast_txn.specs.declared.stamp.Stamp.{Stamp}
-use Rattle.mcast_txn.specs.Lists.{In, insert_by}
+use Rattle.mcast_txn.specs.Lists.{In, Rises, insert_by}
 use Rattle.mcast_txn.specs.Span.{LogRow, row_stamp}
 use Rattle.mcast_txn.specs.Stamp.{same_stamp, stamp_lt}
-use Rattle.mcast_txn.proofs.Members.{In-append_left, In-push, In-push_cases, any_found, any_from}
+use Rattle.mcast_txn.proofs.Members.{In-append_left, In-push, In-push_cases, In-map, In-map_cases, In-get_or, any_found, any_from}
+use Rattle.mcast_txn.proofs.Orders.{lt_irrefl, lt_asym, le_trans, same_stamps}
 use Rattle.mcast_txn.proofs.Sorting.{In-insert, In-insert_cases, Rises-insert}
 use Rattle.trace_audit.specs.Line.{LogLine}
-use Rattle.trace_audit.specs.Inner.Sorting.{IsSortingOf, put_row}
+use Rattle.trace_audit.specs.Inner.Chained.{Chained}
+use Rattle.trace_audit.specs.Inner.Orders.{shown, RisesByStamp}
+use Rattle.trace_audit.specs.Inner.Sorting.{IsSortingOf, IsAtLeast, put_row}
 use Rattle.trace_audit.specs.Trace.{rows_of}
-use Rattle.trace_audit.proofs.Explaining.{none_at}
+use Rattle.trace_audit.proofs.OrderLemmas.{chain_shown}
+use Rattle.trace_audit.proofs.Explaining.{none_at, stamps_equal}
 
--- ---- the place
-
-within_case : {X : Type 0} (p : X → Bool) (x : X) (xs : List X) (b : Bool) → position_or_len p xs ≤ length xs → cond (not b) (1 + position_or_len p xs) 0 ≤ length (x ∷ xs)
-within_case p x xs true l = omega arith
-within_case p x xs false l = omega arith
-
-within : {X : Type 0} (p : X → Bool) (xs : List X) → position_or_len p xs ≤ length xs
-within p [] = omega arith
-within p (x ∷ xs) = within_case p x xs (p x) (within p xs)
-
--- a place that is found is position_or_len's
-pub index_is : {X : Type 0} (p : X → Bool) (xs : List X) (i : ℕ) → position p xs ≡ Some i → i ≡ position_or_len p xs
-index_is p xs i e = go (ltb (position_or_len p xs) (length xs)) e
-  where
-    go : (b : Bool) → cond b (Some (position_or_len p xs)) None ≡ Some i → i ≡ position_or_len p xs
-    go true e = cc
-    go false e = cc
-
--- where no item passes, position_or_len is the length
-pub end_is : {X : Type 0} (p : X → Bool) (xs : List X) → position p xs ≡ None → length xs ≡ position_or_len p xs
-end_is p xs e = go (ltb (position_or_len p xs) (length xs)) refl e
-  where
-    go : (b : Bool) → ltb (position_or_len p xs) (length xs) ≡ b → cond b (Some (position_or_len p xs)) None ≡ None → length xs ≡ position_or_len p xs
-    go true k e = cc
-    go false k e = let l = within p xs in let m = ltb-false (position_or_len p xs) (length xs) k in omega arith
-
-insert_case : (q r : LogRow) (qs : List LogRow) (k : ℕ) (b : Bool) → take k qs ++ r ∷ drop k qs ≡ insert_by row_stamp r qs → take (cond (not b) (1 + k) 0) (q ∷ qs) ++ r ∷ drop (cond (not b) (1 + k) 0) (q ∷ qs) ≡ cond b (r ∷ q ∷ qs) (q ∷ insert_by row_stamp r qs)
-insert_case q r qs k true ih = refl
-insert_case q r qs k false ih = let e : 1 + k ≡ suc k = omega arith in rw e (ap (λ z. q ∷ z) ih)
-
--- a row put before the first that is above it
-insert_here : (r : LogRow) (xs : List LogRow) → take (position_or_len (λ (q : LogRow). stamp_lt r.stamp q.stamp) xs) xs ++ r ∷ drop (position_or_len (λ (q : LogRow). stamp_lt r.stamp q.stamp) xs) xs ≡ insert_by row_stamp r xs
-insert_here r [] = refl
-insert_here r (q ∷ qs) =
-    insert_case q r qs (position_or_len (λ (z : LogRow). stamp_lt r.stamp z.stamp) qs) (stamp_lt r.stamp q.stamp) (insert_here r qs)
-
--- a row put before the first of greater stamp is put where insert_by puts it
-pub insert_at : (s : Stamp) (r : LogRow) (xs : List LogRow) (i : ℕ) → i ≡ position_or_len (λ (q : LogRow). stamp_lt s q.stamp) xs → r.stamp ≡ s → take i xs ++ r ∷ drop i xs ≡ insert_by row_stamp r xs
-insert_at s r xs i e k =
-    let here = e ∙ ap (λ (z : Stamp). position_or_len (λ (q : LogRow). stamp_lt z q.stamp) xs) (sym k) in
-    ap (λ (n : ℕ). take n xs ++ r ∷ drop n xs) here ∙ insert_here r xs
-
--- ---- the list
+-- ---- the end
 
 abbrev is_at : Stamp → LogRow → Bool
 is_at s own = same_stamp own.stamp s
 
 at_itself : (s : Stamp) → same_stamp s s ≡ true
 at_itself s = grind (arith, nat_tests)
+
+-- a row goes at the end of others of which none is above it
+pub insert_last : (r : LogRow) (xs : List LogRow) → IsAtLeast r.stamp xs → insert_by row_stamp r xs ≡ xs ++ r ∷ []
+insert_last r [] h = refl
+insert_last r (q ∷ qs) h = rw (h q (inl refl)) (ap (λ z. q ∷ z) (insert_last r qs (λ p i. h p (inr i))))
+
+-- where the last of rows that rise has a stamp that none is above, or any other row has it
+last_case : (s : Stamp) (xs : List LogRow) (last : LogRow) → Rises row_stamp xs → IsAtLeast s xs → In last xs → ((q : LogRow) → In q xs → stamp_lt last.stamp q.stamp ≡ false) → (b : Bool) → same_stamp last.stamp s ≡ b → b ≡ list_any (λ own. same_stamp own.stamp s) xs
+last_case s xs last up least i top true e = sym (any_from (λ own. same_stamp own.stamp s) last xs i e)
+last_case s xs last up least i top false e = go (list_any (λ own. same_stamp own.stamp s) xs) refl
+  where
+    go : (b : Bool) → list_any (λ own. same_stamp own.stamp s) xs ≡ b → false ≡ b
+    go false f = refl
+    go true f =
+        let m = any_found (λ own. same_stamp own.stamp s) xs f in
+        let same : m.it.stamp ≡ s = stamps_equal m.it.stamp s m.passes in
+        let equal : last.stamp ≡ s = same_stamps last.stamp s (subst (λ (z : Stamp). stamp_lt last.stamp z ≡ false) same (top m.it m.stands)) (least last i) in
+        absurd (true≢false (sym (subst (λ (z : Stamp). same_stamp z s ≡ true) (sym equal) (at_itself s)) ∙ e))
+
+-- none of rows that rise is above the last
+pub top_at : (xs : List LogRow) (k : ℕ) (d : LogRow) → Rises row_stamp xs → k + 1 ≡ length xs → (q : LogRow) → In q xs → stamp_lt (get_or xs k d).stamp q.stamp ≡ false
+top_at [] k d up e q i = absurd i
+top_at (x ∷ []) zero d up e q (inl f) = subst (λ (z : LogRow). stamp_lt x.stamp z.stamp ≡ false) f (lt_irrefl x.stamp)
+top_at (x ∷ []) zero d up e q (inr i) = absurd i
+top_at (x ∷ y ∷ ys) zero d up e q i = absurd (omega arith)
+top_at (x ∷ ys) (suc k) d up e q (inl f) =
+    subst (λ (z : LogRow). stamp_lt (get_or ys k d).stamp z.stamp ≡ false) f (lt_asym x.stamp (get_or ys k d).stamp (up.0 (get_or ys k d) (In-get_or ys k d (omega arith))))
+top_at (x ∷ ys) (suc k) d up e q (inr i) = top_at ys k d up.1 (omega arith) q i
+
+pub last_is : (s : Stamp) (xs : List LogRow) (k : ℕ) (d : LogRow) → Rises row_stamp xs → IsAtLeast s xs → k + 1 ≡ length xs → same_stamp (get_or xs k d).stamp s ≡ list_any (λ own. same_stamp own.stamp s) xs
+last_is s xs k d up least e =
+    last_case s xs (get_or xs k d) up least (In-get_or xs k d (omega arith)) (top_at xs k d up e) (same_stamp (get_or xs k d).stamp s) refl
+
+some_is : {X : Type 0} (x y : X) → Some x ≡ Some y → x ≡ y
+some_is x y e = cc
+
+-- the same of the item that `last` gives
+pub last_told : (s : Stamp) (xs : List LogRow) (y : LogRow) → Rises row_stamp xs → IsAtLeast s xs → Some y ≡ slice_get xs (length xs - 1) → same_stamp y.stamp s ≡ list_any (λ own. same_stamp own.stamp s) xs
+last_told s xs y up least e =
+    let l = slice_get_within xs (length xs - 1) y (sym e) in
+    let same : y ≡ get_or xs (length xs - 1) y = some_is _ _ (e ∙ slice_get-get_or xs (length xs - 1) y l) in
+    ap (λ (z : LogRow). same_stamp z.stamp s) same ∙ last_is s xs (length xs - 1) y up least (omega arith)
+
+-- a row above all others, of a stamp that none has
+pub put_last : (r : LogRow) (xs : List LogRow) → IsAtLeast r.stamp xs → list_any (λ own. same_stamp own.stamp r.stamp) xs ≡ false → put_row r xs ≡ xs ++ r ∷ []
+put_last r xs least e = rw e (insert_last r xs least)
+
+record Indexed {X : Type 0} (xs : List X) (x : X) : Type 0 where
+  index : ℕ
+  within : index < length xs
+  is : get_or xs index x ≡ x
+
+In-index : {X : Type 0} (xs : List X) (x : X) → In x xs → Indexed xs x
+In-index [] x i = absurd i
+In-index (y ∷ ys) x (inl e) = record { index = 0; within = omega arith; is = e }
+In-index (y ∷ ys) x (inr i) =
+    let at = In-index ys x i in
+    record { index = suc at.index; within = suc_below at.index (length ys) at.within; is = at.is }
+  where
+    suc_below : (a b : ℕ) → a < b → suc a < suc b
+    suc_below a b l = omega arith
+
+-- ---- the list
 
 sorted_case : (rows all : List LogRow) (r : LogRow) (b : Bool) → list_any (is_at r.stamp) rows ≡ b → IsSortingOf rows all → IsSortingOf (cond b rows (insert_by row_stamp r rows)) (all ++ r ∷ [])
 sorted_case rows all r true e s = record {
@@ -89,17 +117,51 @@ sorted_case rows all r false e s = record {
   ];
 }
 
--- IsSortingOf holds after one more row is put among the sorted rows and added to all
 pub put_sorted : (rows all : List LogRow) (r : LogRow) → IsSortingOf rows all → IsSortingOf (put_row r rows) (all ++ r ∷ [])
 put_sorted rows all r s = sorted_case rows all r (list_any (is_at r.stamp) rows) refl s
 
--- one line more
-pub one_line : (logs : List LogLine) (i : ℕ) (d : LogLine) → i < length logs → d ≡ get_or logs i d → rows_of (take (i + 1) logs) ≡ rows_of (take i logs) ++ d.row ∷ []
-one_line logs i d l e =
-    ap rows_of (take_more logs i d l)
-    ∙ (map-append (λ (z : LogLine). z.row) (take i logs) (get_or logs i d ∷ [])
-    ∙ ap (λ (z : LogLine). rows_of (take i logs) ++ z.row ∷ []) (sym e))
+-- what is in a list is in the same list in another order
+pub In_moved : {X : Type 0} (xs ys : List X) (x : X) → IsPermutation xs ys → In x xs → In x ys
+In_moved {X} xs ys x p i =
+    let at = In-index xs x i in
+    subst (λ z. In z ys) at.is (All-permutation (λ z. In z ys) ys xs (IsPermutation-sym xs ys p) (λ k d l. In-get_or ys k d l) at.index x at.within)
 
--- IsSortingOf holds of no rows
+pub row_moved : (logs lines : List LogLine) (q : LogRow) → IsPermutation logs lines → In q (rows_of logs) → In q (rows_of lines)
+row_moved logs lines q p i =
+    let m = In-map_cases (λ (l : LogLine). l.row) q logs i in
+    subst (λ (z : LogRow). In z (rows_of lines)) m.is (In-map (λ (l : LogLine). l.row) m.from lines (In_moved logs lines m.from p m.stands))
+
+-- one row more
+pub one_shown : (rows : List (Bor LogLine)) (i : ℕ) (d : Bor LogLine) → i < length rows → d ≡ get_or rows i d → rows_of (shown (take (i + 1) rows)) ≡ rows_of (shown (take i rows)) ++ d.now.row ∷ []
+one_shown rows i d l e =
+    ap (λ z. rows_of (shown z)) (take_more rows i d l)
+    ∙ (ap rows_of (map-append (λ (z : Bor LogLine). z.now) (take i rows) (get_or rows i d ∷ []))
+    ∙ (map-append (λ (z : LogLine). z.row) (shown (take i rows)) ((get_or rows i d).now ∷ [])
+    ∙ ap (λ (z : Bor LogLine). rows_of (shown (take i rows)) ++ z.now.row ∷ []) (sym e)))
+
+abbrev NotAbove : LogLine → LogLine → Type 0
+NotAbove x y = stamp_lt y.row.stamp x.row.stamp ≡ false
+
+below_chain : (rows : List (Bor LogLine)) (i : ℕ) (d : Bor LogLine) → Chained NotAbove (shown rows) → i < length rows → (q : LogRow) → In q (rows_of (shown (take i rows))) → stamp_lt (get_or rows i d).now.row.stamp q.stamp ≡ false
+below_chain [] i d c l q k = absurd (omega arith)
+below_chain (x ∷ xs) zero d c l q k = absurd k
+below_chain (x ∷ xs) (suc i) d c l q (inl e) =
+    subst (λ (z : LogRow). stamp_lt (get_or xs i d).now.row.stamp z.stamp ≡ false) e (c.0 (get_or xs i d).now (In-map (λ (r : Bor LogLine). r.now) (get_or xs i d) xs (In-get_or xs i d (omega arith))))
+below_chain (x ∷ xs) (suc i) d c l q (inr k) = below_chain xs i d c.1 (omega arith) q k
+
+-- rows before one in the order by stamp aren't above it
+pub taken_below : (rows : List (Bor LogLine)) (i : ℕ) (d : Bor LogLine) → RisesByStamp rows → i < length rows → d ≡ get_or rows i d → (q : LogRow) → In q (rows_of (shown (take i rows))) → stamp_lt d.now.row.stamp q.stamp ≡ false
+taken_below rows i d up l e q k =
+    subst (λ (z : Bor LogLine). stamp_lt z.now.row.stamp q.stamp ≡ false) (sym e)
+    (below_chain rows i d (chain_shown NotAbove (λ x y z p r. le_trans x.row.stamp y.row.stamp z.row.stamp p r) rows (λ j f m. up j f (omega arith) m)) l q k)
+
+-- what sorts lines sorts them in another order too
+pub sorting_moved : (rows : List LogRow) (logs lines : List LogLine) → IsPermutation logs lines → IsSortingOf rows (rows_of lines) → IsSortingOf rows (rows_of logs)
+sorting_moved rows logs lines p s = record {
+  rises = s.rises;
+  of_all = λ q i. row_moved lines logs q (IsPermutation-sym logs lines p) (s.of_all q i);
+  stamped = λ q i. s.stamped q (row_moved logs lines q p i);
+}
+
 pub sorting_none : IsSortingOf [] []
 sorting_none = record { rises = tt; of_all = λ q i. i; stamped = λ q i. absurd i }

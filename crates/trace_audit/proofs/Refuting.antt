@@ -28,28 +28,28 @@ use Rattle.trace_audit.proofs.Explaining.{IsClean, clean, explained, and_true, n
 
 -- ---- tests
 
-none_any : {X : Type 0} (p : X → Bool) (xs : List X) → ((x : X) → In x xs → p x ≡ false) → list_any p xs ≡ false
+pub none_any : {X : Type 0} (p : X → Bool) (xs : List X) → ((x : X) → In x xs → p x ≡ false) → list_any p xs ≡ false
 none_any p [] h = refl
 none_any p (x ∷ xs) h = rw (h x (inl refl)) (none_any p xs (λ y k. h y (inr k)))
 
-no_two : (test : LogRow → LogRow → Bool) (logs : List LogLine) → ((a b : LogRow) → In a (rows_of logs) → In b (rows_of logs) → test a b ≡ false) → some_two test logs ≡ false
+pub no_two : (test : LogRow → LogRow → Bool) (logs : List LogLine) → ((a b : LogRow) → In a (rows_of logs) → In b (rows_of logs) → test a b ≡ false) → some_two test logs ≡ false
 no_two test logs h =
     none_any (λ (x : LogLine). list_any (λ (y : LogLine). test x.row y.row) logs) logs
     (λ x i. none_any (λ (y : LogLine). test x.row y.row) logs
     (λ y j. h x.row y.row (In-map (λ (l : LogLine). l.row) x logs i) (In-map (λ (l : LogLine). l.row) y logs j)))
 
 -- a test of which each true part refutes
-refuted : (b : Bool) → (b ≡ true → Prim.⊥) → b ≡ false
+pub refuted : (b : Bool) → (b ≡ true → Prim.⊥) → b ≡ false
 refuted true h = absurd (h refl)
 refuted false h = refl
 
 -- ---- the list
 
-topics_itself : (ts : List Topic) → pointwise (λ (t u : Topic). t.0 == u.0) ts ts ≡ true
+pub topics_itself : (ts : List Topic) → pointwise (λ (t u : Topic). t.0 == u.0) ts ts ≡ true
 topics_itself [] = refl
 topics_itself (t ∷ ts) = and_true (t.0 == t.0) _ (eq-eqb t.0 t.0 refl) (topics_itself ts)
 
-stamp_itself : (s : Stamp) → same_stamp s s ≡ true
+pub stamp_itself : (s : Stamp) → same_stamp s s ≡ true
 stamp_itself s = grind (arith, nat_tests)
 
 abbrev sender : ℕ → Sender
@@ -131,7 +131,7 @@ head_below t x xs true e up = up.0
 head_below t x xs false e up = absurd (false≢true e)
 
 -- logs that rise are in order
-in_order : (logs : List LogLine) → ((t : Topic) → Rises row_stamp (log_of t logs)) → out_of_order logs ≡ false
+pub in_order : (logs : List LogLine) → ((t : Topic) → Rises row_stamp (log_of t logs)) → out_of_order logs ≡ false
 in_order [] up = refl
 in_order (x ∷ xs) up =
     rw (none_any (λ (y : LogLine). falls x y) xs (λ y i. refuted (falls x y) (go y i)))
@@ -160,7 +160,7 @@ logs_rise lines rows ex t = go (log_of t lines.logs) refl
 -- ---- holes and queues
 
 -- a log that has the row has one of its transaction
-has_from : (t : Topic) (q : LogRow) (logs : List LogLine) → In q (log_of t logs) → log_has_row t q.id logs ≡ true
+pub has_from : (t : Topic) (q : LogRow) (logs : List LogLine) → In q (log_of t logs) → log_has_row t q.id logs ≡ true
 has_from t q logs i =
     let m = log_member t q logs i in
     any_from (λ (line : LogLine). line.topic.0 == t.0 && same_id line.row.id q.id) m.line logs m.stands
@@ -189,7 +189,7 @@ flat_none : {X Y : Type 0} (f : X → List Y) (xs : List X) → ((x : X) → In 
 flat_none f [] h = refl
 flat_none f (x ∷ xs) h = rw (h x (inl refl)) (flat_none f xs (λ y k. h y (inr k)))
 
-named_by : (t : Topic) (topics : List Topic) → In t topics → names t topics ≡ true
+pub named_by : (t : Topic) (topics : List Topic) → In t topics → names t topics ≡ true
 named_by t topics i = any_from (λ (u : Topic). u.0 == t.0) t topics i (eq-eqb t.0 t.0 refl)
 
 no_holes : (lines : Lines) (rows : List LogRow) → IsExplainedBy rows lines → least (holes lines.logs) ≡ None
@@ -237,7 +237,7 @@ faultless lines rows ex =
 
 -- ---- completeness
 
-all_true : {X : Type 0} (p : X → Bool) (xs : List X) → ((x : X) → In x xs → p x ≡ true) → list_all p xs ≡ true
+pub all_true : {X : Type 0} (p : X → Bool) (xs : List X) → ((x : X) → In x xs → p x ≡ true) → list_all p xs ≡ true
 all_true p [] h = refl
 all_true p (x ∷ xs) h = and_true (p x) (list_all p xs) (h x (inl refl)) (all_true p xs (λ y k. h y (inr k)))
 

@@ -1,4 +1,7 @@
 -- These modules only serve proofs: no public contract cites them, and nobody need believe them.
+pub mod Chained
+pub mod LogFault
+pub mod Orders
 pub mod Printing
 pub mod Reading
 pub mod Sorting

@@ -1,24 +1,28 @@
 //! The auditor.
 
-ghost use Rattle.std.specs.Prelude.{◌≡◌, ◌≤◌, ◌↔◌, false, length, IsTrue, IfOk, IfErr, OnOk, None};
-ghost use Rattle.std.specs.List.{list_any, position};
-ghost use Rattle.mcast_txn.specs.Stamp.{same_stamp, stamp_lt};
+ghost use Rattle.std.specs.Prelude.{◌≡◌, ◌↔◌, false, IsTrue, IfOk, IfErr, OnOk, None};
+ghost use Rattle.std.specs.List.{list_any};
+ghost use Rattle.mcast_txn.specs.Lists.{Rises};
+ghost use Rattle.mcast_txn.specs.Span.{row_stamp};
+ghost use Rattle.mcast_txn.specs.Stamp.{same_stamp};
 ghost use Rattle.trace_audit.specs.Answers.{IsRefusal, says_no_memory};
 ghost use Rattle.trace_audit.specs.Explained.{IsCompleteBy, IsExplainedBy};
 ghost use Rattle.trace_audit.specs.Faults.{audit_fault};
-ghost use Rattle.trace_audit.specs.Inner.Sorting.{IsPlaceFor, IsSortingOf, put_row};
+ghost use Rattle.trace_audit.specs.Inner.LogFault.{log_fault};
+ghost use Rattle.trace_audit.specs.Inner.Orders.{IsOrdersOf, RisesByStamp, shown};
+ghost use Rattle.trace_audit.specs.Inner.Sorting.{IsAtLeast, IsSortingOf, put_row};
 ghost use Rattle.trace_audit.specs.Trace.{rows_of};
 
 use crate::agreed::{Agreed, AgreedRow};
 use crate::fault::AuditFault;
+use crate::orders::Orders;
 use crate::row::LogRow;
 use crate::trace::Trace;
 use crate::{checks, marks};
 use mcast_txn::{NoMemory, Stamp, Topic};
 use std::alloc::Global;
 
-/// Judges a trace: the list of transactions that explains it, or the first fault, where none does. Takes time of the
-/// square of the rows.
+/// Judges a trace: the list of transactions that explains it, or the first fault, where none does.
 pub fn audit(alloc: Global, trace: &Trace) -> Result<Agreed, AuditFault>
     ensures explained { IfOk result (λ agreed. IsExplainedBy agreed.rows.items trace.now) }
     ensures complete { IfOk result
@@ -27,88 +31,95 @@ pub fn audit(alloc: Global, trace: &Trace) -> Result<Agreed, AuditFault>
     ensures refused { IfErr result
         (λ fault. says_no_memory fault ≡ false → IsRefusal fault trace.now) }
 {
-    match find_fault(alloc, trace) {
+    let Ok(orders) = Orders::of(alloc, &trace.logs) else {
+        return Err(AuditFault::NoMemory);
+    };
+    match find_fault(alloc, trace, &orders) {
         Ok(None) => {}
         Ok(Some(fault)) => return Err(fault),
         Err(NoMemory) => return Err(AuditFault::NoMemory),
     }
-    let Ok(rows) = sorted_rows(alloc, &trace.logs) else {
+    let Ok(rows) = agreed_rows(alloc, &orders.by_stamp) else {
         return Err(AuditFault::NoMemory);
     };
-    let complete = checks::is_whole(&trace.logs);
+    let complete = checks::is_whole(&trace.logs, &orders.by_topic);
     Ok(Agreed { rows, complete })
 }
 
 // The first fault.
-fn find_fault(alloc: Global, trace: &Trace) -> Result<Option<AuditFault>, NoMemory>
+fn find_fault(
+    alloc: Global,
+    trace: &Trace,
+    orders: &Orders<'_>,
+) -> Result<Option<AuditFault>, NoMemory>
+    requires { IsOrdersOf orders.now.by_id.items orders.now.by_stamp.items orders.now.by_topic.items trace.now.logs }
     ensures { IfOk result (λ fault. fault ≡ audit_fault trace.now) }
 {
-    let logs = trace.logs.as_slice();
-    if checks::has_two_verdicts(logs) {
-        return Ok(Some(AuditFault::TwoVerdicts));
+    match find_log_fault(&trace.logs, orders) {
+        Some(fault) => return Ok(Some(fault)),
+        None => {}
     }
-    if checks::has_same_stamp(logs) {
-        return Ok(Some(AuditFault::SameStamp));
-    }
-    if checks::is_out_of_order(logs) {
-        return Ok(Some(AuditFault::LogOrder));
-    }
-    if checks::has_sender_disorder(logs) {
-        return Ok(Some(AuditFault::SenderOrder));
-    }
-    if let Some(topic) = checks::first_hole(logs) {
-        return Ok(Some(AuditFault::Hole(Topic(topic))));
-    }
-    match marks::first_astray(alloc, trace)? {
+    match marks::first_astray(alloc, trace, &orders.by_topic)? {
         Some(sub) => Ok(Some(AuditFault::QueueRow(sub))),
         None => Ok(None),
     }
 }
 
+// The first fault of the logs alone.
+fn find_log_fault(logs: &[LogRow], orders: &Orders<'_>) -> Option<AuditFault>
+    requires { IsOrdersOf orders.now.by_id.items orders.now.by_stamp.items orders.now.by_topic.items logs.now }
+    ensures { result ≡ log_fault logs.now }
+{
+    if checks::has_two_verdicts(&orders.by_id) {
+        return Some(AuditFault::TwoVerdicts);
+    }
+    if checks::has_same_stamp(&orders.by_stamp) {
+        return Some(AuditFault::SameStamp);
+    }
+    if checks::is_out_of_order(&orders.by_topic) {
+        return Some(AuditFault::LogOrder);
+    }
+    if checks::has_sender_disorder(&orders.by_id) {
+        return Some(AuditFault::SenderOrder);
+    }
+    match checks::first_hole(logs, &orders.by_topic) {
+        Some(topic) => Some(AuditFault::Hole(Topic(topic))),
+        None => None,
+    }
+}
+
 // The rows of all logs by rising stamp, one of each stamp.
-fn sorted_rows(alloc: Global, logs: &[LogRow]) -> Result<Vec<AgreedRow>, NoMemory>
-    ensures { IfOk result (λ rows. IsSortingOf rows.items (rows_of logs.now)) }
+fn agreed_rows(alloc: Global, by_stamp: &[&LogRow]) -> Result<Vec<AgreedRow>, NoMemory>
+    requires { RisesByStamp by_stamp.now }
+    ensures { IfOk result (λ rows. IsSortingOf rows.items (rows_of (shown by_stamp.now))) }
 {
     let mut rows = Vec::new(alloc);
-    for row in logs {
+    for &row in by_stamp {
         put(&mut rows, row)?;
     }
     Ok(rows)
 }
 
-// Puts a row among others that rise, unless its stamp is there.
+// Puts a row at the end of others that rise, unless its stamp is there.
 fn put(rows: &mut Vec<AgreedRow>, row: &LogRow) -> Result<(), NoMemory>
+    requires rises { Rises row_stamp rows.old.items }
+    requires below { IsAtLeast row.now.row.stamp rows.old.items }
     ensures { OnOk result (rows.new.items ≡ put_row row.now.row rows.old.items) }
 {
-    if has_stamp(rows, row.stamp) {
-        return Ok(());
+    if !ends_at(rows, row.stamp) {
+        rows.push(row.agreed()?)?;
     }
-    let index = index_for(rows, row.stamp);
-    rows.insert(index, row.agreed()?)?;
     Ok(())
 }
 
-// Whether one of the rows has the stamp.
-fn has_stamp(rows: &[AgreedRow], stamp: Stamp) -> bool
+// Whether the last row has the stamp, and so whether any has it.
+fn ends_at(rows: &[AgreedRow], stamp: Stamp) -> bool
+    requires rises { Rises row_stamp rows.now }
+    requires below { IsAtLeast stamp rows.now }
     ensures { result ≡ list_any (λ own. same_stamp own.stamp stamp) rows.now }
 {
-    rows.iter().any(|own| own.stamp == stamp)
-}
-
-// Where a row of this stamp goes among others that rise.
-fn index_for(rows: &[AgreedRow], stamp: Stamp) -> usize
-    ensures within { result ≤ length rows.now }
-    ensures index { IsPlaceFor stamp rows.now result }
-{
-    match first_above(rows, stamp) {
-        Some(index) => index,
-        None => rows.len(),
+    match rows.last() {
+        Some(own) => own.stamp == stamp,
+        None => false,
     }
-}
-
-// The index of the first row above the stamp.
-fn first_above(rows: &[AgreedRow], stamp: Stamp) -> Option<usize>
-    ensures { result ≡ position (λ own. stamp_lt stamp own.stamp) rows.now }
-{
-    rows.iter().position(|own| stamp.is_before(own.stamp))
 }

@@ -1,24 +1,23 @@
-//! What may speak against logs, by a plain program that looks at each two rows.
+//! What may speak against logs, in their orders.
 
-ghost use Rattle.std.specs.Prelude.{◌≡◌, map};
-ghost use Rattle.std.specs.List.{filter, list_all, list_any};
-ghost use Rattle.trace_audit.specs.Faults.{collide, differ, falls, log_has_row, holes, is_whole, is_hole, least, lesser, out_of_order, overtake, reaches, some_two};
+ghost use Rattle.std.specs.Prelude.{◌≡◌, false, map};
+ghost use Rattle.std.specs.List.{filter, list_all};
+ghost use Rattle.std.specs.List.Sorted.{IsPermutation};
+ghost use Rattle.mcast_txn.specs.Lists.{In};
+ghost use Rattle.trace_audit.specs.Faults.{collide, differ, falls, log_has_row, holes, is_whole, is_hole, least, lesser, out_of_order, overtake, some_two};
+ghost use Rattle.trace_audit.specs.Inner.Chained.{IsIndex};
+ghost use Rattle.trace_audit.specs.Inner.Orders.{shown, RisesById, RisesByStamp, RisesByTopic};
+ghost use Rattle.trace_audit.specs.Trace.{rows_of};
 
+use crate::logs::{has_row, is_hole};
 use crate::row::LogRow;
-use mcast_txn::{Stamp, Topic, TxnId};
 
 // Whether two rows of one transaction differ in stamp or topics.
-pub(crate) fn has_two_verdicts(logs: &[LogRow]) -> bool
-    ensures { result ≡ some_two differ logs.now }
+pub(crate) fn has_two_verdicts(by_id: &[&LogRow]) -> bool
+    requires { RisesById by_id.now }
+    ensures { result ≡ some_two differ (shown by_id.now) }
 {
-    logs.iter().any(|a| differs_from_one(a, logs))
-}
-
-// Whether a row differs from one of these that is of its transaction.
-fn differs_from_one(a: &LogRow, logs: &[LogRow]) -> bool
-    ensures { result ≡ list_any (λ b. differ a.now.row b.row) logs.now }
-{
-    logs.iter().any(|b| differ(a, b))
+    !by_id.is_sorted_by(|a, b| !differ(a, b))
 }
 
 // Whether two rows are of one transaction, and differ.
@@ -29,17 +28,11 @@ fn differ(a: &LogRow, b: &LogRow) -> bool
 }
 
 // Whether two transactions have one stamp.
-pub(crate) fn has_same_stamp(logs: &[LogRow]) -> bool
-    ensures { result ≡ some_two collide logs.now }
+pub(crate) fn has_same_stamp(by_stamp: &[&LogRow]) -> bool
+    requires { RisesByStamp by_stamp.now }
+    ensures { result ≡ some_two collide (shown by_stamp.now) }
 {
-    logs.iter().any(|a| collides_with_one(a, logs))
-}
-
-// Whether another transaction's row has this row's stamp.
-fn collides_with_one(a: &LogRow, logs: &[LogRow]) -> bool
-    ensures { result ≡ list_any (λ b. collide a.now.row b.row) logs.now }
-{
-    logs.iter().any(|b| collide(a, b))
+    !by_stamp.is_sorted_by(|a, b| !collide(a, b))
 }
 
 // Whether two rows are of two transactions, and have one stamp.
@@ -49,44 +42,12 @@ fn collide(a: &LogRow, b: &LogRow) -> bool
     a.id != b.id && a.stamp == b.stamp
 }
 
-// Whether a sender's seqs don't rise with its stamps.
-pub(crate) fn has_sender_disorder(logs: &[LogRow]) -> bool
-    ensures { result ≡ some_two overtake logs.now }
-{
-    logs.iter().any(|a| overtakes_one(a, logs))
-}
-
-// Whether a row has a seq that isn't below that of a later one of its sender.
-fn overtakes_one(a: &LogRow, logs: &[LogRow]) -> bool
-    ensures { result ≡ list_any (λ b. overtake a.now.row b.row) logs.now }
-{
-    logs.iter().any(|b| overtake(a, b))
-}
-
-// Whether the rows are of one sender, the first before the second, and its seq not below the other's.
-fn overtake(a: &LogRow, b: &LogRow) -> bool
-    ensures { result ≡ overtake a.now.row b.now.row }
-{
-    a.id.sender.0 == b.id.sender.0 && a.stamp.is_before(b.stamp) && a.id.seq >= b.id.seq
-}
-
 // Whether some log doesn't rise.
-pub(crate) fn is_out_of_order(logs: &[LogRow]) -> bool
-    ensures { result ≡ out_of_order logs.now }
+pub(crate) fn is_out_of_order(by_topic: &[&LogRow]) -> bool
+    requires { RisesByTopic by_topic.now }
+    ensures { result ≡ out_of_order (shown by_topic.now) }
 {
-    for index in 0..logs.len() {
-        if has_fall(&logs[index], &logs[index + 1..]) {
-            return true;
-        }
-    }
-    false
-}
-
-// Whether one of these later rows is of the row's log, and not above it.
-fn has_fall(row: &LogRow, later: &[LogRow]) -> bool
-    ensures { result ≡ list_any (λ y. falls row.now y) later.now }
-{
-    later.iter().any(|other| falls(row, other))
+    !by_topic.is_sorted_by(|a, b| !falls(a, b))
 }
 
 // Whether the later row is of the first one's log, and not above it.
@@ -96,46 +57,44 @@ fn falls(a: &LogRow, b: &LogRow) -> bool
     a.topic.0 == b.topic.0 && !a.stamp.is_before(b.stamp)
 }
 
-// Whether a topic's log has a row of the transaction.
-fn log_has_row(topic: Topic, id: TxnId, logs: &[LogRow]) -> bool
-    ensures { result ≡ log_has_row topic id logs.now }
+// Whether a sender's seqs don't rise with its stamps, where no transaction has two verdicts.
+pub(crate) fn has_sender_disorder(by_id: &[&LogRow]) -> bool
+    requires rises { RisesById by_id.now }
+    requires one_verdict { some_two differ (shown by_id.now) ≡ false }
+    ensures { result ≡ some_two overtake (shown by_id.now) }
 {
-    logs.iter()
-        .any(|row| row.topic.0 == topic.0 && row.id == id)
+    !by_id.is_sorted_by(|a, b| !overtake(b, a))
 }
 
-// Whether a topic's log has a row of this stamp or a later one.
-fn reaches(topic: Topic, stamp: Stamp, logs: &[LogRow]) -> bool
-    ensures { result ≡ reaches topic stamp logs.now }
+// Whether the rows are of one sender, the first before the second, and its seq not below the other's.
+fn overtake(a: &LogRow, b: &LogRow) -> bool
+    ensures { result ≡ overtake a.now.row b.now.row }
 {
-    logs.iter().any(|row| row.topic.0 == topic.0 && !row.stamp.is_before(stamp))
-}
-
-// Whether a topic's log lacks the row, and goes on to its stamp or beyond.
-fn is_hole(logs: &[LogRow], row: &LogRow, topic: Topic) -> bool
-    ensures { result ≡ is_hole logs.now row.now.row topic }
-{
-    !log_has_row(topic, row.id, logs) && reaches(topic, row.stamp, logs)
+    a.id.sender.0 == b.id.sender.0 && a.stamp.is_before(b.stamp) && a.id.seq >= b.id.seq
 }
 
 // The least topic that has a hole.
-pub(crate) fn first_hole(logs: &[LogRow]) -> Option<u32>
+pub(crate) fn first_hole(logs: &[LogRow], by_topic: &[&LogRow]) -> Option<u32>
+    requires index { IsIndex by_topic.now }
+    requires moved { IsPermutation logs.now (shown by_topic.now) }
     ensures { result ≡ least (holes logs.now) }
 {
     let mut best = None;
     for row in logs {
-        best = lesser(best, hole_of(logs, row));
+        best = lesser(best, hole_of(by_topic, row));
     }
     best
 }
 
 // The least of a row's topics that lacks it.
-fn hole_of(logs: &[LogRow], row: &LogRow) -> Option<u32>
-    ensures { result ≡ least (map (λ t. t.0) (filter (λ t. is_hole logs.now row.now.row t) row.now.row.topics)) }
+fn hole_of(by_topic: &[&LogRow], row: &LogRow) -> Option<u32>
+    requires index { IsIndex by_topic.now }
+    requires within { In row.now.row (rows_of (shown by_topic.now)) }
+    ensures { result ≡ least (map (λ t. t.0) (filter (λ t. is_hole (shown by_topic.now) row.now.row t) row.now.row.topics)) }
 {
     let mut best = None;
     for &topic in &row.topics {
-        if is_hole(logs, row, topic) {
+        if is_hole(by_topic, row, topic) {
             best = lesser(best, Some(topic.0));
         }
     }
@@ -154,17 +113,29 @@ fn lesser(a: Option<u32>, b: Option<u32>) -> Option<u32>
 }
 
 // Whether each row is in the log of each of its topics.
-pub(crate) fn is_whole(logs: &[LogRow]) -> bool
+pub(crate) fn is_whole(logs: &[LogRow], by_topic: &[&LogRow]) -> bool
+    requires index { IsIndex by_topic.now }
+    requires moved { IsPermutation logs.now (shown by_topic.now) }
     ensures { result ≡ is_whole logs.now }
 {
-    logs.iter().all(|row| is_everywhere(row, logs))
+    for row in logs {
+        if !is_everywhere(by_topic, row) {
+            return false;
+        }
+    }
+    true
 }
 
 // Whether a row is in the log of each of its topics.
-fn is_everywhere(row: &LogRow, logs: &[LogRow]) -> bool
-    ensures { result ≡ list_all (λ t. log_has_row t row.now.row.id logs.now) row.now.row.topics }
+fn is_everywhere(by_topic: &[&LogRow], row: &LogRow) -> bool
+    requires index { IsIndex by_topic.now }
+    requires within { In row.now.row (rows_of (shown by_topic.now)) }
+    ensures { result ≡ list_all (λ t. log_has_row t row.now.row.id (shown by_topic.now)) row.now.row.topics }
 {
-    row.topics
-        .iter()
-        .all(|topic| log_has_row(*topic, row.id, logs))
+    for &topic in &row.topics {
+        if !has_row(by_topic, row, topic) {
+            return false;
+        }
+    }
+    true
 }

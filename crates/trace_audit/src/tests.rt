@@ -7,6 +7,10 @@ use crate::{
 use std::alloc::Global;
 use std::test::Fail;
 
+mod made;
+mod memory;
+mod slow;
+
 /// A row with numbers alone.
 #[derive(Clone, Copy)]
 enum Row {

@@ -1,12 +1,13 @@
 //! Traces.
 
-ghost use Rattle.std.specs.Prelude.{◌≡◌, ◌&&◌, ◌==◌, ℕ, false, None, IfErr, OnOk, OnErr};
+ghost use Rattle.std.specs.Prelude.{◌≡◌, ◌&&◌, ◌==◌, ℕ, true, false, None, IfErr, OnOk, OnErr};
 ghost use Rattle.std.specs.List.{list_any};
 ghost use Rattle.mcast_txn.specs.TopicSet.{names};
 ghost use Rattle.trace_audit.specs.Trace.{no_lines, rise_after, fits, has_span};
 
 use crate::fault::AddFault;
 use crate::row::{LogRow, QueueRow, SpanRow, TraceRow};
+use indexmap::IndexSet;
 use mcast_txn::Topic;
 use std::alloc::Global;
 use std::marker::Model;
@@ -18,10 +19,12 @@ pub struct Trace {
     pub(crate) logs: Vec<LogRow>,
     pub(crate) spans: Vec<SpanRow>,
     pub(crate) queues: Vec<QueueRow>,
+    // The spans' subscriptions, in the spans' order.
+    subs: IndexSet<u64>,
 }
 
 impl Model for Trace {
-    ghost use Rattle.std.specs.Prelude.{◌≡◌, true};
+    ghost use Rattle.std.specs.Prelude.{◌≡◌, true, map};
     ghost use Rattle.std.specs.List.{list_all};
     ghost use Rattle.trace_audit.specs.Trace.{Lines, fits};
 
@@ -29,11 +32,12 @@ impl Model for Trace {
 
     ghost view = { λ t. record { logs = t.logs.items; spans = t.spans.items; queues = t.queues.items } };
 
-    ghost invariant = { λ t. list_all (λ line. fits line) t.logs.items ≡ true };
+    ghost invariant = { λ t. (list_all (λ line. fits line) t.logs.items ≡ true) × (t.subs.keys ≡ map (λ line. line.sub) t.spans.items) };
 }
 
 impl Trace {
     ghost use Rattle.trace_audit.specs.Rows.{is_misfit, says_misfit, with_row};
+    ghost use Rattle.trace_audit.specs.declared.row.TraceRow.TheVariants as row_kind;
 
     /// A trace without rows.
     pub fn new(alloc: Global) -> Trace
@@ -43,6 +47,7 @@ impl Trace {
             logs: Vec::new(alloc),
             spans: Vec::new(alloc),
             queues: Vec::new(alloc),
+            subs: IndexSet::new(alloc),
         }
     }
 
@@ -58,13 +63,31 @@ impl Trace {
         }
         let added = match row {
             TraceRow::Log(row) => self.logs.push(row).is_ok(),
-            TraceRow::Span(row) => self.spans.push(row).is_ok(),
+            TraceRow::Span(row) => self.opens(row),
             TraceRow::Queue(row) => self.queues.push(row).is_ok(),
         };
         if added {
             Ok(())
         } else {
             Err(AddFault::NoMemory)
+        }
+    }
+
+    // Opens a subscription's first span; whether there was memory. If not, the trace is as it was.
+    fn opens(&mut self, row: SpanRow) -> bool
+        requires { has_span row.sub self.old.spans ≡ false }
+        ensures yes { result ≡ true → self.new ≡ with_row (row_kind.Span row) self.old }
+        ensures no { result ≡ false → self.new ≡ self.old }
+    {
+        let Ok(()) = self.spans.push(row) else {
+            return false;
+        };
+        match self.subs.insert(row.sub) {
+            Ok(_) => true,
+            Err(_) => {
+                self.spans.pop();
+                false
+            }
         }
     }
 
@@ -83,7 +106,7 @@ impl Trace {
     fn has_span(&self, sub: u64) -> bool
         ensures { result ≡ has_span sub self.now.spans }
     {
-        self.spans.iter().any(|line| line.sub == sub)
+        self.subs.contains(&sub)
     }
 }
 

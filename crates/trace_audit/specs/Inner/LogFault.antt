@@ -1,0 +1,19 @@
+-- Serves proofs only: the first fault of logs alone.
+use Rattle.std.specs.Prelude.{[], ◌∷◌, List, Option}
+use Rattle.std.specs.Option.{option_or}
+use Rattle.mcast_txn.specs.Checks.{first_refusal}
+use Rattle.trace_audit.specs.Faults.{some_two, differ, collide, out_of_order, overtake, hole_fault}
+use Rattle.trace_audit.specs.Line.{LogLine}
+use Rattle.trace_audit.specs.declared.fault.AuditFault.{AuditFault}
+use Rattle.trace_audit.specs.declared.fault.AuditFault.TheVariants as audit
+
+-- the first that speaks against logs, as long as no queue is looked at
+abbrev pub log_fault : List LogLine → Option AuditFault
+log_fault logs =
+    option_or (first_refusal (
+    (some_two differ logs, audit.TwoVerdicts)
+    ∷ (some_two collide logs, audit.SameStamp)
+    ∷ (out_of_order logs, audit.LogOrder)
+    ∷ (some_two overtake logs, audit.SenderOrder)
+    ∷ []))
+    (hole_fault logs)
