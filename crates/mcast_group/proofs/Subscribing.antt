@@ -45,6 +45,7 @@ in_use {Q = Q} shown x n subs (Some i) e p s =
     let a : is_some (find_entry n x.subscriptions) ≡ true = ap (λ (es : List Entry). is_some (find_entry n es)) e ∙ (entry_any shown n subs ∙ some_at (λ (z : Subscription Q). z.number == n) subs i (sym p)) in
     rw a refl
 
+-- a subscription isn't refused where no place is found for its number
 pub not_in_use : {Q : Type 0} (shown : Q → Shown) (x : TopicState) (n : ℕ) (subs : List (Subscription Q)) (o : Option ℕ) → x.subscriptions ≡ map (entry_of shown) subs → o ≡ position (λ (z : Subscription Q). z.number == n) subs → is_some o ≡ false → subscribe_fault n x ≡ None
 not_in_use {Q = Q} shown x n subs (Some i) e p s = absurd (true≢false s)
 not_in_use {Q = Q} shown x n subs None e p s =
@@ -53,6 +54,7 @@ not_in_use {Q = Q} shown x n subs None e p s =
 
 -- ---- a new one
 
+-- IsKept holds after a subscription began, with spare and copies for it
 pub kept_subscribed : {Q : Type 0} (shown : Q → Shown) (spare : Q → ℕ) (x y : TopicState) (capacity : ℕ) (copies more : List (List TopicPart)) (subs : List (Subscription Q)) (s : Subscription Q) → IsKept spare x capacity copies subs → subscribe_fault s.number x ≡ None → y ≡ after_subscribe s.number x → (s.to ≡ None → length x.pending ≤ spare s.outlet) → HaveCopies (length subs + 1) x.pending more → IsKept spare y capacity more (subs ++ s ∷ [])
 kept_subscribed shown spare x y capacity copies more subs s h none e left copied =
     subst (λ (z : TopicState). IsKept spare z capacity more (subs ++ s ∷ [])) (sym e) (record {
@@ -65,6 +67,7 @@ kept_subscribed shown spare x y capacity copies more subs s h none e left copied
       copied = subst (λ (k : ℕ). HaveCopies k x.pending more) (sym (length_push subs s)) copied;
     })
 
+-- a subscription at the end, with nothing accepted, is the machine's new entry
 pub subscribed_state : {Q : Type 0} (shown : Q → Shown) (t : Topic) (clock limit : ℕ) (ps : List Pending) (base : Stamp) (rows : List LogRow) (f : Stamp) (subs : List (Subscription Q)) (s : Subscription Q) → entry_of shown s ≡ record { number = s.number; from = f; to = None; accepted = [] } → topic_state t clock limit ps base rows f (map (entry_of shown) (subs ++ s ∷ [])) ≡ after_subscribe s.number (topic_state t clock limit ps base rows f (map (entry_of shown) subs))
 subscribed_state shown t clock limit ps base rows f subs s e =
     let m : map (entry_of shown) (subs ++ s ∷ []) ≡ map (entry_of shown) subs ++ entry_of shown s ∷ [] = map-append (entry_of shown) subs (s ∷ []) in
@@ -98,6 +101,7 @@ others_stay n (e ∷ es) h =
     let ih = others_stay n es (λ f i. h f (inr i)) in
     rw (k, ih) refl
 
+-- EndsAt holds of the first subscription of a number
 pub ends_at : {Q : Type 0} (shown : Q → Shown) (n : ℕ) (subs : List (Subscription Q)) (i : ℕ) (d : Subscription Q) → i < length subs → ((get_or subs i d).number == n) ≡ true → ((k : ℕ) → k < i → ((get_or subs k d).number == n) ≡ false) → EndsAt shown n subs i d
 ends_at shown n [] i d l e f = absurd (omega arith)
 ends_at shown n (s ∷ subs) zero d l e f =
@@ -120,6 +124,7 @@ ends_at shown n (s ∷ subs) (suc i) d l e f =
       left = λ h. rw a (ap (λ (es : List Entry). entry_of shown s ∷ es) (ih.left h.1));
     }
 
+-- where a place is found for a number, its subscription is there
 pub ends_found : {Q : Type 0} (shown : Q → Shown) (n : ℕ) (subs : List (Subscription Q)) (i : ℕ) (d : Subscription Q) → position (λ (z : Subscription Q). z.number == n) subs ≡ Some i → (i < length subs) × EndsAt shown n subs i d
 ends_found {Q = Q} shown n subs i d e =
     let k = position-Some (λ (z : Subscription Q). z.number == n) subs i d e in (k.0, ends_at shown n subs i d k.0 k.1 k.2)
@@ -131,6 +136,7 @@ In-remove x (y ∷ xs) zero h = inr h
 In-remove x (y ∷ xs) (suc i) (inl e) = inl e
 In-remove x (y ∷ xs) (suc i) (inr h) = inr (In-remove x xs i h)
 
+-- IsKept holds after a subscription ended
 pub kept_unsubscribed : {Q : Type 0} (shown : Q → Shown) (spare : Q → ℕ) (x y : TopicState) (capacity : ℕ) (copies : List (List TopicPart)) (subs : List (Subscription Q)) (n i : ℕ) → IsKept spare x capacity copies subs → y ≡ after_unsubscribe n x → i < length subs → IsKept spare y capacity copies (remove subs i)
 kept_unsubscribed shown spare x y capacity copies subs n i h e l =
     let m = length-remove subs i l in
@@ -141,6 +147,7 @@ kept_unsubscribed shown spare x y capacity copies subs n i h e l =
       copied = fewer (length subs) (length (remove subs i)) x.pending copies (omega arith) h.copied;
     })
 
+-- ending a subscription is refused where no place is found for its number
 pub no_sub : {Q : Type 0} (shown : Q → Shown) (x : TopicState) (n : ℕ) (subs : List (Subscription Q)) → x.subscriptions ≡ map (entry_of shown) subs → position (λ (z : Subscription Q). z.number == n) subs ≡ None → unsubscribe_fault n x ≡ Some (record {})
 no_sub {Q = Q} shown x n subs e p =
     let a : is_some (find_entry n x.subscriptions) ≡ false = ap (λ (es : List Entry). is_some (find_entry n es)) e ∙ (entry_any shown n subs ∙ none_at (λ (z : Subscription Q). z.number == n) subs p) in

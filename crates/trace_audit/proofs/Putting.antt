@@ -117,6 +117,7 @@ sorted_case rows all r false e s = record {
   ];
 }
 
+-- IsSortingOf holds after one more row is put among the sorted rows and added to all
 pub put_sorted : (rows all : List LogRow) (r : LogRow) → IsSortingOf rows all → IsSortingOf (put_row r rows) (all ++ r ∷ [])
 put_sorted rows all r s = sorted_case rows all r (list_any (is_at r.stamp) rows) refl s
 
@@ -163,5 +164,6 @@ sorting_moved rows logs lines p s = record {
   stamped = λ q i. s.stamped q (row_moved logs lines q p i);
 }
 
+-- IsSortingOf holds of no rows
 pub sorting_none : IsSortingOf [] []
 sorting_none = record { rises = tt; of_all = λ q i. i; stamped = λ q i. absurd i }

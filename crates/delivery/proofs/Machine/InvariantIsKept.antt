@@ -46,6 +46,7 @@ passes_case : {F : Type 0} (b : Bool) (f : F) (rest : Option F) (P : Type 0) →
 passes_case true f rest P ih e = none_some f (sym e)
 passes_case false f rest P ih e = (refl, ih e)
 
+-- where there is no refusal, none of its tests holds
 pub passes : {F : Type 0} (cs : List (Bool × F)) → first_refusal cs ≡ None → NoneHolds cs
 passes [] e = tt
 passes (c ∷ cs) e = passes_case c.0 c.1 (first_refusal cs) (NoneHolds cs) (passes cs) e
@@ -55,6 +56,7 @@ refusal_case : (P : World → Answer → Type 0) (w : World) (e : Move) (o : Opt
 refusal_case P w e None h k = k refl
 refusal_case P w e (Some why) h k = h why
 
+-- what holds of each refusal, and of each effect with its answer, holds of what an event comes to
 pub by_refusal : (P : World → Answer → Type 0) (w : World) (e : Move) → ((why : Objection) → P w (Refused why)) → (move_refusal w e ≡ None → P (move_effect w e) (move_answer w e)) → P (world_after w e) (answer_to w e)
 by_refusal P w e h k = refusal_case P w e (move_refusal w e) h k
 
@@ -62,6 +64,7 @@ or_else_first : (a b : Option Objection) → option_or a b ≡ None → a ≡ No
 or_else_first None b e = refl
 or_else_first (Some why) b e = none_some why (sym e)
 
+-- where there is neither of two objections, there is no second one
 pub or_else_after : (a b : Option Objection) → option_or a b ≡ None → b ≡ None
 or_else_after None b e = e
 or_else_after (Some why) b e = none_some why (sym e)
@@ -80,9 +83,11 @@ flight_case : (w : World) (c : ℕ) (o : Option Undecided) → (speaker w c).fli
 flight_case w c None e h = absurd (true≢false h)
 flight_case w c (Some f) e h = record { flight = f; is = e; at = ap undecided_or_none e }
 
+-- where the test for a flight passes, the connection's sender has an undecided transaction
 pub in_flight : (w : World) (c : ℕ) → not (is_some (speaker w c).flight) ≡ false → InFlight w c
 in_flight w c h = flight_case w c (speaker w c).flight refl h
 
+-- a bool whose negation is false is true
 pub false_not : (b : Bool) → not b ≡ false → b ≡ true
 false_not true e = refl
 false_not false e = absurd (true≢false e)
@@ -99,6 +104,7 @@ tickets (o ∷ before) = tickets before
 abbrev pub Flights : List Answer → List SenderState → Type 0
 Flights past senders = (s : ℕ) (f : Undecided) → (sender_in senders s).flight ≡ Some f → txn_of_id f.txn.id past ≡ f.txn
 
+-- the core that a run leads to: the invariant, its flights as they were made, and the run's commit list
 pub record Reached (past : List Answer) (w : World) : Type 0 where
   pub inv : Holds (tickets past) w
   pub flights : Flights past w.senders
@@ -111,10 +117,12 @@ find_verdict_case id v u vs true e ih d =
     let same = some_same v u d in (inl same, subst (λ (z : Decision). z.id ≡ id) same (id_equal v.id id e))
 find_verdict_case id v u vs false e ih d = let h = ih d in (inr h.0, h.1)
 
+-- a verdict that is found is in the list, and has the id that was looked for
 pub verdict_found : (id : TxnId) (vs : List Decision) (u : Decision) → find_verdict id vs ≡ Some u → In u vs × (u.id ≡ id)
 verdict_found id [] u e = cc
 verdict_found id (v ∷ vs) u e = find_verdict_case id v u vs (same_id v.id id) refl (verdict_found id vs u) e
 
+-- each verdict that the core finds is that of a committed row
 pub finds : (ts : List CommitRow) (w : World) → Holds ts w → Finds w.commits (verdict_in w)
 finds ts w inv id v e =
     let f = verdict_found id w.verdicts v e in let k = inv.voted v f.0 in
@@ -126,17 +134,21 @@ finds ts w inv id v e =
 abbrev pub FewerFlights : List SenderState → List SenderState → Type 0
 FewerFlights old new = (s : ℕ) (f : Undecided) → (sender_in new s).flight ≡ Some f → (g : Undecided) × ((sender_in old s).flight ≡ Some g) × (g.txn ≡ f.txn)
 
+-- flights are as they were made after a step for which FewerFlights holds
 pub flights_fewer : (past : List Answer) (old new : List SenderState) → FewerFlights old new → Flights past old → Flights past new
 flights_fewer past old new h k s f e =
     let g = h s f e in subst (λ (z : Transaction). txn_of_id z.id past ≡ z) g.2 (k s g.0 g.1)
 
+-- the same senders have no other flights
 pub same_flights : (senders : List SenderState) → FewerFlights senders senders
 same_flights senders s f e = (f, e, refl)
 
+-- writing a sender that has no flight adds no flight
 pub one_fewer : (senders : List SenderState) (s : ℕ) (x : SenderState) → x.flight ≡ None → FewerFlights senders (set senders s x)
 one_fewer senders s x n d f = at_set (λ (z : SenderState). z.flight ≡ Some f → (g : Undecided) × ((sender_in senders d).flight ≡ Some g) × (g.txn ≡ f.txn)) senders s d x new_sender
     (λ e k. none_some f (sym n ∙ k)) (λ k. (f, k, refl))
 
+-- writing a sender whose flight has the same transaction adds no flight
 pub one_same : (senders : List SenderState) (s : ℕ) (x : SenderState) (f g : Undecided) → (sender_in senders s).flight ≡ Some f → x.flight ≡ Some g → f.txn ≡ g.txn → FewerFlights senders (set senders s x)
 one_same senders s x f g e d same r y = at_set (λ (z : SenderState). z.flight ≡ Some y → (h : Undecided) × ((sender_in senders r).flight ≡ Some h) × (h.txn ≡ y.txn)) senders s r x new_sender
     (λ n k. (f, subst (λ v. (sender_in senders v).flight ≡ Some f) (sym n) e, same ∙ ap (λ (z : Undecided). z.txn) (some_same g y (sym d ∙ k)))) (λ k. (y, k, refl))
@@ -203,6 +215,7 @@ room_of w c t e =
     let p = passes (propose_checks (speaker w c).floor (part_at (undecided_at w c).txn.id (undecided_at w c).txn.sends t) (topic_at w t)) e in
     record { apart = p.0; limit = ltb-true (length (topic_at w t).pending + length (topic_at w t).held) (topic_at w t).log_limit (false_not _ p.1.1.0) }
 
+-- where a proposal has no fault, its transaction isn't pending at the topic, whose log has room
 pub no_fault : (w : World) (c : ℕ) (t : Topic) (memory : Bool) (o : Option ProposeFault) → propose_fault (speaker w c).floor (part_at (undecided_at w c).txn.id (undecided_at w c).txn.sends t) (topic_at w t) ≡ o → or_out_of_memory memory o ≡ None → Room w c t
 no_fault w c t memory None e k = room_of w c t e
 no_fault w c t memory (Some fault) e k = none_some fault (sym k)
@@ -214,12 +227,14 @@ pub record Asks (w : World) (c : ℕ) (t : Topic) : Type 0 where
   pub named : names t (topics_of (undecided_at w c).txn.sends) ≡ true
   pub unheard : has_ticket t (undecided_at w c).given ≡ false
 
+-- a proposal that isn't refused is of a flight that names the topic and has no ticket of it
 pub asks_of : (w : World) (c : ℕ) (t : Topic) (memory : Bool) → move_refusal w (Proposes c t memory) ≡ None → Asks w c t
 asks_of w c t memory e =
     let p = checked w (Proposes c t memory) e in
     let n = and_parts (is_topic w t) (names t (topics_of (undecided_at w c).txn.sends)) (false_not _ p.1.1.1.1.0) in
     record { flying = in_flight w c p.1.1.0; room = ltb-true t.0 (length w.topics) n.0; named = n.1; unheard = p.1.1.1.1.1.0 }
 
+-- so a proposal without a fault gets a new ticket
 pub new_ticket : (w : World) (c : ℕ) (t : Topic) (a : Asks w c t) → Room w c t → New w (connection_at w c).sender t (undecided_at w c)
 new_ticket w c t a r = record {
   flight = a.flying.is ∙ ap Some (sym a.flying.at);
@@ -326,6 +341,7 @@ handed_reached : (past : List Answer) (w : World) (s : ℕ) (o : Option Item) �
 handed_reached past w s None h = record { inv = h.inv; flights = h.flights; commits = h.commits }
 handed_reached past w s (Some item) h = record { inv = take_step (tickets past) w s h.inv; flights = h.flights; commits = h.commits }
 
+-- an event that isn't refused keeps Reached
 pub happens_reached : (past : List Answer) (w : World) (e : Move) → Reached past w → move_refusal w e ≡ None → Reached (move_answer w e ∷ past) (move_effect w e)
 happens_reached past w (AddsTopic clock) h e = record { inv = added_step (tickets past) w clock h.inv; flights = h.flights; commits = h.commits }
 happens_reached past w Opens h e = record {
@@ -365,6 +381,7 @@ happens_reached past w (Turns t) h e = record {
 }
 happens_reached past w (Takes s) h e = handed_reached past w s _ h
 
+-- each event keeps Reached
 pub step_reached : (past : List Answer) (w : World) (e : Move) → Reached past w → Reached (answer_to w e ∷ past) (world_after w e)
 step_reached past w e h =
     by_refusal (λ v o. Reached (o ∷ past) v) w e (λ why. record { inv = h.inv; flights = h.flights; commits = h.commits })

@@ -63,6 +63,7 @@ no_take : (w : World) (s : ℕ) (o : Option Item) (why : Objection) → take_ans
 no_take w s None why e = cc
 no_take w s (Some item) why e = cc
 
+-- no effect is answered by a refusal
 pub no_answer : (w : World) (e : Move) (why : Objection) → move_answer w e ≡ Refused why → Prim.⊥
 no_answer w (AddsTopic clock) why e = cc
 no_answer w Opens why e = cc
@@ -82,6 +83,7 @@ no_answer w (Releases t) why e = no_release t (due_part (topic_at w t)) why e
 no_answer w (Turns t) why e = cc
 no_answer w (Takes s) why e = no_take w s _ why e
 
+-- a refused event changes nothing
 pub refusals_change_nothing : Laws.RefusalsChangeNothing
 refusals_change_nothing w e why =
     by_refusal (λ v o. o ≡ Refused why → v ≡ w) w e (λ other k. refl) (λ n k. absurd (no_answer w e why k))
@@ -139,6 +141,7 @@ effect_untouched w (Releases t) u l ne = untouched w.topics t u _ ne
 effect_untouched w (Turns t) u l ne = untouched w.topics t u _ ne
 effect_untouched w (Takes s) u l ne = ap (λ z. topic_in z u) (handed_topics w s _)
 
+-- an event changes no other topic than its own
 pub others_untouched : Laws.OthersUntouched
 others_untouched w e u l ne = by_refusal (λ v o. topic_at v u ≡ topic_at w u) w e (λ why. refl) (λ n. effect_untouched w e u l ne)
 
@@ -193,6 +196,7 @@ answer_ticket w (Releases t) id ticket n e = absurd (no_ticket_release t (due_pa
 answer_ticket w (Turns t) id ticket n e = cc
 answer_ticket w (Takes s) id ticket n e = absurd (no_ticket_take w s _ id ticket e)
 
+-- a ticket comes from a topic that is named, one above its clock and its sender's floor
 pub ticket_is_own : Laws.TicketIsOwn
 ticket_is_own w e id ticket =
     by_refusal (λ v o. o ≡ Ticket id ticket → IsOwn w e id ticket) w e (λ why k. absurd (by why k)) (λ n k. answer_ticket w e id ticket n k)
@@ -274,6 +278,7 @@ refusal_usual : (past : List Answer) (w : World) (e : Move) (why : Objection) �
 refusal_usual past w e why h =
     else_usual (first_refusal (objections w e)) (topic_objection w e) why (usual_first (objections w e) why (usual_checks w e)) (topic_usual past w e why h)
 
+-- an event that is answered by a refusal was refused for it
 pub outcome_case : (w : World) (e : Move) (why : Objection) (o : Option Objection) → (move_answer w e ≡ Refused why → Prim.⊥) → elim o [ None ↦ move_answer w e | Some other ↦ Refused other ] ≡ Refused why → o ≡ Some why
 outcome_case w e why None never k = absurd (never k)
 outcome_case w e why (Some other) never k = let d : other ≡ why = cc in ap Some d
@@ -287,9 +292,11 @@ odd_run (e ∷ es) past w h old =
     odd_run es (answer_to w e ∷ past) (world_after w e) (step_reached past w e h)
     (λ why i. elim i [ inl k ↦ outcome_usual past w e why h k | inr k ↦ old why k ])
 
+-- in a run nothing is refused as foreign, as a clash, or as decided
 pub odd_never_comes : Laws.OddNeverComes
 odd_never_comes r = odd_run r.events [] (start r.capacity r.log_limit r.clocks) (start_reached r.capacity r.log_limit r.clocks) (λ why i. absurd i)
 
+-- a verdict that is found after a run is learnt, or refused because nothing of it is pending
 pub found_is_learnt : Laws.FoundIsLearnt
 found_is_learnt r t id v e = learn_fault_is (tickets (answers_of r)) (final_world r) t id v (reached r).inv e
 
@@ -320,6 +327,7 @@ find_stepped n step number (x ∷ es) e k =
     subst (λ (a : ℕ). cond (a == n) (Some (step x)) (find_entry n (map step es)) ≡ Some (step e)) (sym (number x))
     (stepped_case step (x.number == n) x e (find_entry n es) (find_entry n (map step es)) (find_stepped n step number es e) k)
 
+-- a release gives an open subscription the item where its queue has room, and else it lags
 pub lags_where_full : Laws.LagsWhereFull
 lags_where_full w t p number before n due found unended =
     let x = topic_at w t in let later = entry_after (queue_has_room w) x.frontier (item_of p) before in
