@@ -69,6 +69,7 @@ pub shut_test : (s v : Bool) → (not s && v) ≡ false → v ≡ true → s ≡
 shut_test true v e k = refl
 shut_test false v e k = absurd (true≢false (sym k ∙ e))
 
+-- of s, l and not q: where s and l hold, q does
 pub third : (s l q : Bool) → (s && (l && not q)) ≡ false → s ≡ true → l ≡ true → q ≡ true
 third true l q e k m = open_test l q e m
 third false l q e k m = absurd (false≢true k)
@@ -93,6 +94,7 @@ stamps_equal a b e =
 abbrev same_number : Topic → Topic → Bool
 same_number t u = t.0 == u.0
 
+-- lists of topics that are the same one by one are equal
 pub topics_equal : (ts us : List Topic) → pointwise same_number ts us ≡ true → ts ≡ us
 topics_equal [] [] e = refl
 topics_equal [] (u ∷ us) e = absurd (false≢true e)
@@ -106,6 +108,7 @@ topics_equal (t ∷ ts) (u ∷ us) e =
 abbrev log_row : TxnId → List Topic → Stamp → LogRow
 log_row id topics stamp = record { id = id; topics = topics; stamp = stamp }
 
+-- rows of the same id, topics and stamp are equal
 pub rows_equal : (a b : LogRow) → a.id ≡ b.id → a.topics ≡ b.topics → a.stamp ≡ b.stamp → a ≡ b
 rows_equal a b e f g =
     ap (λ (z : TxnId). log_row z a.topics a.stamp) e
@@ -203,6 +206,7 @@ last_above s [] q up i = absurd i
 last_above s (x ∷ xs) q up (inl e) = subst (λ (z : LogRow). stamp_lt (last_stamp x.stamp xs) z.stamp ≡ false) e (last_ge x xs up)
 last_above s (x ∷ xs) q up (inr k) = last_above x.stamp xs q up.1 k
 
+-- a log has a row of this stamp
 pub record LastOf (log : List LogRow) (s : Stamp) : Type 0 where
   pub row : LogRow
   pub stands : In row log
@@ -212,6 +216,7 @@ last_in : (x : LogRow) (xs : List LogRow) → LastOf (x ∷ xs) (last_stamp x.st
 last_in x [] = record { row = x; stands = inl refl; is = refl }
 last_in x (y ∷ ys) = let l = last_in y ys in record { row = l.row; stands = inr l.stands; is = l.is }
 
+-- a log that isn't empty has a row of its last stamp
 pub last_of : (s : Stamp) (log : List LogRow) → log ≢ [] → LastOf log (last_stamp s log)
 last_of s [] ne = absurd (ne refl)
 last_of s (x ∷ xs) ne = last_in x xs
@@ -228,6 +233,7 @@ log_reaches t stamp logs ne h =
 
 -- ---- holes
 
+-- a list of numbers without a least one is empty
 pub least_none : (ns : List ℕ) → least ns ≡ None → (n : ℕ) → In n ns → Prim.⊥
 least_none [] e n i = i
 least_none (x ∷ ns) e n i = go (least ns) e
@@ -240,16 +246,19 @@ least_none (x ∷ ns) e n i = go (least ns) e
     go None e = cc
     go (Some y) e = two (nat_lt y x) y e
 
+-- a member of the second list is one of the two appended
 pub In-append_right : {X : Type 0} (x : X) (xs ys : List X) → In x ys → In x (xs ++ ys)
 In-append_right x [] ys h = h
 In-append_right x (y ∷ xs) ys h = inr (In-append_right x xs ys h)
 
+-- what a function gives for a member is in the flat map
 pub In-flat_map : {X Y : Type 0} (f : X → List Y) (x : X) (y : Y) (xs : List X) → In x xs → In y (f x) → In y (flat_map f xs)
 In-flat_map f x y [] i j = absurd i
 In-flat_map f x y (z ∷ xs) (inl e) j =
     In-append_left y (f z) (flat_map f xs) (subst (λ (q : _). In y (f q)) (sym e) j)
 In-flat_map f x y (z ∷ xs) (inr k) j = In-append_right y (f z) (flat_map f xs) (In-flat_map f x y xs k j)
 
+-- where no log has a hole, a topic's log has none at the row of a line that names the topic
 pub no_hole : (logs : List LogLine) (line : LogLine) (t : Topic) → least (holes logs) ≡ None → In line logs → In t line.row.topics → is_hole logs line.row t ≡ false
 no_hole logs line t h i j = go (is_hole logs line.row t) refl
   where

@@ -32,6 +32,7 @@ pub last_read : (done : List Topic) (text : List ℕ) (t : Topic) (all : Option 
     → read_after done (text_parts 44 text) ≡ all → Some (done ++ t ∷ []) ≡ all
 last_read done text t all e h k = sym (ap (read_after done) (parts_uncut 44 text e) ∙ rw h refl) ∙ k
 
+-- the last, where it spells no topic
 pub last_unread : (done : List Topic) (text : List ℕ) (all : Option (List Topic)) → cut 44 text ≡ None → spelled_topic text ≡ None
     → read_after done (text_parts 44 text) ≡ all → None ≡ all
 last_unread done text all e h k = sym (ap (read_after done) (parts_uncut 44 text e) ∙ rw h refl) ∙ k

@@ -68,11 +68,13 @@ parted R p rows c keeps i j d l m e = go (le_cases i j l)
 find_case : {X : Type 0} (q : X → Bool) (x : X) (xs : List X) (b : Bool) → q x ≡ b → b ≡ false → find q (x ∷ xs) ≡ find q xs
 find_case q x xs b e f = rw (e ∙ f) refl
 
+-- where no item passes a test, none is found
 pub find_none : {X : Type 0} (q : X → Bool) (rows : List (Bor X)) → ((k : ℕ) (d : Bor X) → k < length rows → q (get_or rows k d).now ≡ false) → find q (shown rows) ≡ None
 find_none q [] h = refl
 find_none q (x ∷ xs) h =
     find_case q x.now (shown xs) (q x.now) refl (h 0 x (omega arith)) ∙ find_none q xs (λ k d l. h (suc k) d (omega arith))
 
+-- where an item passes and none before it does, it is the one found
 pub find_at : {X : Type 0} (q : X → Bool) (rows : List (Bor X)) (i : ℕ) (d : Bor X) → i < length rows → ((k : ℕ) (d : Bor X) → k < i → q (get_or rows k d).now ≡ false) → q (get_or rows i d).now ≡ true → find q (shown rows) ≡ Some (get_or rows i d).now
 find_at q [] i d l h e = absurd (omega arith)
 find_at q (x ∷ xs) zero d l h e = rw e refl
@@ -88,6 +90,7 @@ pub record FoundFirst {X : Type 0} (R : X → X → Type 0) (q : X → Bool) (xs
 some_is : {X : Type 0} (x y : X) → Some x ≡ Some y → x ≡ y
 some_is x y e = cc
 
+-- what is found in a chained list passes, and is in the relation to all others that pass
 pub found_first : {X : Type 0} (R : X → X → Type 0) (q : X → Bool) (xs : List X) (y : X) → Chained R xs → find q xs ≡ Some y → FoundFirst R q xs y
 found_first R q [] y c e = absurd cc
 found_first {X} R q (x ∷ xs) y c e = go (q x) refl e (λ f. found_first R q xs y c.1 f)
@@ -147,6 +150,7 @@ before_keeps t stamp x y above e = go (x.topic.0 == y.topic.0) refl
     go true f = same (eqb-true x.topic.0 y.topic.0 f)
     go false f = other f
 
+-- an index is partitioned: the lines before a stamp of a topic, and then the others
 pub before_parted : (t : Topic) (stamp : Stamp) (rows : List (Bor LogLine)) → IsIndex rows → IsPartitionedBy (λ r. comes_before t stamp r.now) rows
 before_parted t stamp rows index = parted Above (comes_before t stamp) rows index.rises (before_keeps t stamp)
 
@@ -168,12 +172,14 @@ early : (t : Topic) (stamp : Stamp) (rows : List (Bor LogLine)) (i : ℕ) → Po
 early t stamp rows i point k d l =
     before_not_from (get_or rows k d).now.topic.0 t.0 (stamp_lt (get_or rows k d).now.row.stamp stamp) (point.0 k d (omega arith) l)
 
+-- where the line at the partition point is of the topic, its stamp is the log's first from the given one on
 pub found_here : (t : Topic) (stamp : Stamp) (rows : List (Bor LogLine)) (i : ℕ) (d : Bor LogLine) → PointOf t stamp rows i → i < length rows → (get_or rows i d).now.topic.0 ≡ t.0 → Some (get_or rows i d).now.row.stamp ≡ option_map (λ line. line.row.stamp) (find (λ line. is_from t stamp line) (shown rows))
 found_here t stamp rows i d point l e =
     ap (option_map (λ (line : LogLine). line.row.stamp))
     (sym (find_at (is_from t stamp) rows i d l (early t stamp rows i point)
     (not_before_from (get_or rows i d).now.topic.0 t.0 (stamp_lt (get_or rows i d).now.row.stamp stamp) (point.1 i d (omega arith) l) e)))
 
+-- where the line at the partition point is of another topic, the log has no stamp from the given one on
 pub found_beyond : (t : Topic) (stamp : Stamp) (rows : List (Bor LogLine)) (i : ℕ) (d : Bor LogLine) → IsIndex rows → PointOf t stamp rows i → i < length rows → (get_or rows i d).now.topic.0 ≢ t.0 → None ≡ option_map (λ line. line.row.stamp) (find (λ line. is_from t stamp line) (shown rows))
 found_beyond t stamp rows i d index point l e =
     ap (option_map (λ (line : LogLine). line.row.stamp)) (sym (find_none (is_from t stamp) rows none))
@@ -195,6 +201,7 @@ found_beyond t stamp rows i d index point l e =
     none k f m =
         subst (λ (r : Bor LogLine). is_from t stamp r.now ≡ false) (get_or_default rows k d f m) (at_d k m (three k i))
 
+-- where the partition point is the end, the log has no stamp from the given one on
 pub found_none : (t : Topic) (stamp : Stamp) (rows : List (Bor LogLine)) (i : ℕ) → PointOf t stamp rows i → i ≡ length rows → None ≡ option_map (λ line. line.row.stamp) (find (λ line. is_from t stamp line) (shown rows))
 found_none t stamp rows i point e =
     ap (option_map (λ (line : LogLine). line.row.stamp)) (sym (find_none (is_from t stamp) rows (λ k d l. early t stamp rows i point k d (subst (λ n. k < n) (sym e) l))))
@@ -279,6 +286,7 @@ abbrev pub tells : Option Stamp → Stamp → Bool
 tells None s = false
 tells (Some found) s = same_stamp found s
 
+-- there is a first stamp that isn't before a row's own, and it is another
 abbrev pub tells_other : Option Stamp → Stamp → Bool
 tells_other None s = false
 tells_other (Some found) s = not (same_stamp found s)
@@ -318,6 +326,7 @@ pub has_row_told : (t : Topic) (q : LogRow) (s : Stamp) (rows : List (Bor LogLin
 has_row_told t q s rows o same index i e =
     ap (tells o) same ∙ has_row_told_own t q rows o index i (e ∙ ap (λ (z : Stamp). option_map (λ (line : LogLine). line.row.stamp) (find (λ line. is_from t z line) (shown rows))) same)
 
+-- a log has a hole at a row exactly where its first stamp from the row's on is another than the row's
 pub hole_told : (t : Topic) (q : LogRow) (s : Stamp) (rows : List (Bor LogLine)) (o : Option Stamp) → s ≡ q.stamp → IsIndex rows → In q (rows_of (shown rows)) → o ≡ option_map (λ line. line.row.stamp) (find (λ line. is_from t s line) (shown rows)) → tells_other o s ≡ is_hole (shown rows) q t
 hole_told t q s rows o same index i e =
     ap (tells_other o) same ∙ hole_told_own t q rows o index i (e ∙ ap (λ (z : Stamp). option_map (λ (line : LogLine). line.row.stamp) (find (λ line. is_from t z line) (shown rows))) same)

@@ -28,14 +28,17 @@ indexed logs by_id by_stamp by_topic o verdicts stamps order = record {
   one_stamp = moved_two collide logs (shown by_topic) o.grouping.moved ∙ stamps;
 }
 
+-- whether a log has a row of the transaction is the same of the lines in another order
 pub has_moved : (t : Topic) (q : LogRow) (logs lines : List LogLine) → IsPermutation logs lines → log_has_row t q.id lines ≡ log_has_row t q.id logs
 has_moved t q logs lines p = sym (list_any-IsPermutation (λ (line : LogLine). line.topic.0 == t.0 && same_id line.row.id q.id) logs lines p)
 
+-- whether a log has a hole at a row is the same of the lines in another order
 pub hole_moved : (t : Topic) (q : LogRow) (logs lines : List LogLine) → IsPermutation logs lines → is_hole lines q t ≡ is_hole logs q t
 hole_moved t q logs lines p =
     ap (λ z. not z && reaches t q.stamp lines) (has_moved t q logs lines p)
     ∙ ap (λ z. not (log_has_row t q.id logs) && z) (sym (list_any-IsPermutation (λ (line : LogLine). line.topic.0 == t.0 && not (stamp_lt line.row.stamp q.stamp)) logs lines p))
 
+-- the topics that have a hole at a row are the same of the lines in another order
 pub holes_moved : (q : LogRow) (logs lines : List LogLine) → IsPermutation logs lines → map (λ (t : Topic). t.0) (filter (λ t. is_hole lines q t) q.topics) ≡ map (λ (t : Topic). t.0) (filter (λ t. is_hole logs q t) q.topics)
 holes_moved q logs lines p =
     ap (map (λ (t : Topic). t.0)) (filter_agree (λ t. is_hole lines q t) (λ t. is_hole logs q t) (λ t. hole_moved t q logs lines p) q.topics)
@@ -44,6 +47,7 @@ all_agree : {X : Type 0} (p q : X → Bool) → ((x : X) → p x ≡ q x) → (x
 all_agree p q h [] = refl
 all_agree p q h (x ∷ xs) = rw (h x, all_agree p q h xs) refl
 
+-- whether the log of each topic of a row has it is the same of the lines in another order
 pub everywhere_moved : (q : LogRow) (logs lines : List LogLine) → IsPermutation logs lines → list_all (λ t. log_has_row t q.id lines) q.topics ≡ list_all (λ t. log_has_row t q.id logs) q.topics
 everywhere_moved q logs lines p =
     all_agree (λ t. log_has_row t q.id lines) (λ t. log_has_row t q.id logs) (λ t. has_moved t q logs lines p) q.topics
@@ -58,6 +62,7 @@ pub one_passes : {X : Type 0} (test : X → Bool) (xs : List X) (i : ℕ) (x : X
 one_passes test xs i x b l e f g =
     sym (ap (λ z. z && list_all test (drop (i + 1) xs)) g) ∙ (ap (list_all test) (sym (rest_is xs i x l e)) ∙ f)
 
+-- where the item at an index fails, the test of all items from there on answers false
 pub one_fails_all : {X : Type 0} (test : X → Bool) (xs : List X) (i : ℕ) (x : X) (b : Bool) → i < length xs → x ≡ get_or xs i x → list_all test (drop i xs) ≡ b → test x ≡ false → false ≡ b
 one_fails_all test xs i x b l e f g =
     sym (ap (λ z. z && list_all test (drop (i + 1) xs)) g) ∙ (ap (list_all test) (sym (rest_is xs i x l e)) ∙ f)

@@ -28,25 +28,32 @@ pub two_is : (test : LogRow → LogRow → Bool) (logs : List LogLine) (rows see
 two_is test logs rows seen r b e f p g =
     sym (moved_two test logs (shown rows) p) ∙ (ap (λ z. some_two test (shown z)) (sym f) ∙ (sym e ∙ g))
 
+-- what a test of the order of grouped lines answered holds of the logs
 pub order_is : (logs : List LogLine) (rows seen : List (Bor LogLine)) (r b : Bool) → r ≡ out_of_order (shown seen) → seen ≡ rows → IsGroupingOf rows logs → r ≡ b → out_of_order logs ≡ b
 order_is logs rows seen r b e f p g =
     sym (same_order logs (shown rows) p.kept) ∙ (ap (λ z. out_of_order (shown z)) (sym f) ∙ (sym e ∙ g))
 
+-- logs with two verdicts of a transaction have the fault TwoVerdicts
 pub at_verdicts : (logs : List LogLine) → some_two differ logs ≡ true → Some audit.TwoVerdicts ≡ log_fault logs
 at_verdicts logs a = rw a refl
 
+-- logs with a stamp of two transactions, and no earlier fault, have the fault SameStamp
 pub at_stamps : (logs : List LogLine) → some_two differ logs ≡ false → some_two collide logs ≡ true → Some audit.SameStamp ≡ log_fault logs
 at_stamps logs a b = rw (a, b) refl
 
+-- logs of which one is out of order, and no earlier fault, have the fault LogOrder
 pub at_order : (logs : List LogLine) → some_two differ logs ≡ false → some_two collide logs ≡ false → out_of_order logs ≡ true → Some audit.LogOrder ≡ log_fault logs
 at_order logs a b d = rw (a, b, d) refl
 
+-- logs with a sender out of order, and no earlier fault, have the fault SenderOrder
 pub at_senders : (logs : List LogLine) → some_two differ logs ≡ false → some_two collide logs ≡ false → out_of_order logs ≡ false → some_two overtake logs ≡ true → Some audit.SenderOrder ≡ log_fault logs
 at_senders logs a b d e = rw (a, b, d, e) refl
 
+-- logs with a hole, and no earlier fault, have the fault Hole with the least topic that has one
 pub at_hole : (logs : List LogLine) (n : ℕ) → some_two differ logs ≡ false → some_two collide logs ≡ false → out_of_order logs ≡ false → some_two overtake logs ≡ false → least (holes logs) ≡ Some n → Some (audit.Hole (record { 0 = n })) ≡ log_fault logs
 at_hole logs n a b d e f = rw (a, b, d, e, f) refl
 
+-- logs of which no test finds anything have no fault
 pub at_none : (logs : List LogLine) → some_two differ logs ≡ false → some_two collide logs ≡ false → out_of_order logs ≡ false → some_two overtake logs ≡ false → least (holes logs) ≡ None → None ≡ log_fault logs
 at_none logs a b d e f = rw (a, b, d, e, f) refl
 

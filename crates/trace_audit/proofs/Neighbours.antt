@@ -109,6 +109,7 @@ agrees_trans x y z p q = (
 id_back : (a b : LogRow) → same_id a.id b.id ≡ true → same_id b.id a.id ≡ true
 id_back a b e = id_same b.id a.id (sym (id_equal a.id b.id e))
 
+-- in rows in order of id, two rows differ exactly where two neighbours do
 pub verdicts_tested : (rows : List (Bor LogLine)) (r : Bool) → RisesById rows → IsAllAdjacentAnswer (λ x y b. b ≡ not (differ x.now.row y.now.row)) rows r → not r ≡ some_two differ (shown rows)
 verdicts_tested rows r up h =
     answered differ (λ a b. differ a.row b.row) rows r h
@@ -135,6 +136,7 @@ apart_trans x y z p q = (
       p.1 f ∙ q.1 (sym f ∙ e)),
 )
 
+-- in rows in order of stamp, two rows collide exactly where two neighbours do
 pub stamps_tested : (rows : List (Bor LogLine)) (r : Bool) → RisesByStamp rows → IsAllAdjacentAnswer (λ x y b. b ≡ not (collide x.now.row y.now.row)) rows r → not r ≡ some_two collide (shown rows)
 stamps_tested rows r up h =
     answered collide (λ a b. collide a.row b.row) rows r h
@@ -205,6 +207,7 @@ falls_at (x ∷ xs) (suc k) d l e =
     let f : suc k + 1 ≡ suc (k + 1) = omega arith in
     or_right _ _ (falls_at xs k d (omega arith) (subst (λ (n : ℕ). falls (get_or xs k d).now (get_or (x ∷ xs) n d).now ≡ true) f e))
 
+-- rows in order of topic of which no two neighbours fall are chained, each later one above in its log
 pub order_chained : (rows : List (Bor LogLine)) → RisesByTopic rows → ((k : ℕ) (d : Bor LogLine) → k + 1 < length rows → falls (get_or rows k d).now (get_or rows (k + 1) d).now ≡ false) → Chained Above (shown rows)
 order_chained rows up none =
     chain_shown Above above_trans rows (λ k d l. (
@@ -212,6 +215,7 @@ order_chained rows up none =
       (λ e. open_test _ _ (none k d l) (eq-eqb _ _ e)),
     ))
 
+-- in rows in order of topic, a log is out of order exactly where two neighbours fall
 pub order_tested : (rows : List (Bor LogLine)) (r : Bool) → RisesByTopic rows → IsAllAdjacentAnswer (λ x y b. b ≡ not (falls x.now y.now)) rows r → not r ≡ out_of_order (shown rows)
 order_tested rows true up h =
     sym (chained_in_order (shown rows) (order_chained rows up (λ k d l. not_false _ (sym (h k d l)))))
@@ -291,6 +295,7 @@ not_overtaken lines a b verdicts i j c e = go c
     go (inr (inl p)) = true≢false (sym more.0 ∙ p.1 (sym sender))
     go (inr (inr p)) = equal (ap (λ (z : LogLine). z.row) p)
 
+-- in rows by id without two verdicts, a row overtakes another exactly where one overtakes its neighbour
 pub senders_tested : (rows : List (Bor LogLine)) (r : Bool) → RisesById rows → some_two differ (shown rows) ≡ false → IsAllAdjacentAnswer (λ x y b. b ≡ not (overtake y.now.row x.now.row)) rows r → not r ≡ some_two overtake (shown rows)
 senders_tested rows r up verdicts h =
     answered overtake (λ a b. overtake b.row a.row) rows r h

@@ -19,6 +19,7 @@ use Rattle.trace_audit.specs.Inner.Orders.{shown}
 
 -- ---- orders as tests
 
+-- a comparison of two numbers answers less exactly where the first is below the second
 pub one_lt : (a b : ℕ) → is_lt (nat_cmp a b) ≡ nat_lt a b
 one_lt a b = go (nat_lt a b) (a == b)
   where
@@ -30,6 +31,7 @@ one_lt a b = go (nat_lt a b) (a == b)
     go true e = refl
     go false e = unless e
 
+-- a comparison of two pairs of numbers answers less where the first parts do, or are equal and the second do
 pub pair_lt : (a b c d : ℕ) → is_lt (ordering_then (nat_cmp a b) (nat_cmp c d)) ≡ (nat_lt a b || (a == b && nat_lt c d))
 pair_lt a b c d = go (nat_lt a b) (a == b)
   where
@@ -41,9 +43,11 @@ pair_lt a b c d = go (nat_lt a b) (a == b)
     go true e = refl
     go false e = unless e
 
+-- a comparison of ids by sender and then sequence number is the order of ids
 pub id_rises : (a b : TxnId) → is_lt (ordering_then (nat_cmp a.sender.0 b.sender.0) (nat_cmp a.seq b.seq)) ≡ id_lt a b
 id_rises a b = pair_lt a.sender.0 b.sender.0 a.seq b.seq
 
+-- a comparison of stamps by number and then topic is the order of stamps
 pub stamp_rises : (a b : Stamp) → is_lt (ordering_then (nat_cmp a.n b.n) (nat_cmp a.topic.0 b.topic.0)) ≡ stamp_lt a b
 stamp_rises a b = pair_lt a.n b.n a.topic.0 b.topic.0
 
@@ -57,6 +61,7 @@ shown_case : {X : Type 0} (p : X → Bool) (r : Bor X) (rows : List (Bor X)) (b 
 shown_case p r rows true e = ap (λ z. r.now ∷ z) e
 shown_case p r rows false e = e
 
+-- to filter what references show is to show the filtered references
 pub shown_filter : {X : Type 0} (p : X → Bool) (rows : List (Bor X)) → filter p (shown rows) ≡ shown (filter (λ r. p r.now) rows)
 shown_filter p [] = refl
 shown_filter p (r ∷ rows) = shown_case p r rows (p r.now) (shown_filter p rows)
@@ -105,6 +110,7 @@ chain_shown R trans (x ∷ y ∷ ys) h =
     let e : suc k + 1 ≡ suc (k + 1) = omega arith in
     subst (λ (n : ℕ). R (get_or (y ∷ ys) k d).now (get_or (x ∷ y ∷ ys) n d).now) e (h (suc k) d (omega arith))))
 
+-- of two items of a chained list, one is in the relation to the other, or they are equal
 pub chain_pair : {X : Type 0} (R : X → X → Type 0) (xs : List X) (a b : X) → Chained R xs → In a xs → In b xs → R a b ⊎ (R b a ⊎ (a ≡ b))
 chain_pair R [] a b c i j = absurd i
 chain_pair R (x ∷ xs) a b c (inl e) (inl f) = inr (inr (sym e ∙ f))

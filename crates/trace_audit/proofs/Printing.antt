@@ -32,6 +32,7 @@ drop_next [] i d lt = absurd (omega arith)
 drop_next (t ∷ ts) zero d lt = refl
 drop_next (t ∷ ts) (suc i) d lt = let e : suc i + 1 ≡ suc (i + 1) = omega arith in rw e (drop_next ts i d (omega arith))
 
+-- the next topic is written: what is written and what is left are still the whole
 pub topics_more : (out new whole : List ℕ) (first : Bool) (ts : List Topic) (i : ℕ) (d : Topic) → i < length ts → new ≡ out ++ topic_part first (get_or ts i d)
     → out ++ left_topics first (drop i ts) ≡ whole → new ++ left_topics false (drop (i + 1) ts) ≡ whole
 topics_more out new whole first ts i d lt e h =
@@ -41,6 +42,7 @@ topics_more out new whole first ts i d lt e h =
 
 -- ---- sorting
 
+-- an entry's key in a report
 abbrev pub entry_key : Entry → ℕ × ℕ
 entry_key e = print_key (entry_row e)
 
@@ -103,6 +105,7 @@ stable_at p xs ys h stable = elim (found_or_none p ys) [
 keys_tie : (k a b : ℕ × ℕ) → (a.0 == k.0 && a.1 == k.1) ≡ true → (not (key_lt a b) && not (key_lt b a)) ≡ (b.0 == k.0 && b.1 == k.1)
 keys_tie k a b e = grind (arith, nat_tests)
 
+-- a stable sort of entries by key has their rows in a report's order
 pub is_sort_of : (xs ys : List Entry) → IsSortedBy entry_lt ys → IsStableBy entry_lt xs ys → IsSortOf (map entry_row ys) (map entry_row xs)
 is_sort_of xs ys sorted stable = record {
   ordered = never_falls ys sorted;

@@ -58,6 +58,7 @@ top_at (x ∷ ys) (suc k) d up e q (inl f) =
     subst (λ (z : LogRow). stamp_lt (get_or ys k d).stamp z.stamp ≡ false) f (lt_asym x.stamp (get_or ys k d).stamp (up.0 (get_or ys k d) (In-get_or ys k d (omega arith))))
 top_at (x ∷ ys) (suc k) d up e q (inr i) = top_at ys k d up.1 (omega arith) q i
 
+-- of rows that rise and are at most a stamp, the last has the stamp exactly where any row has it
 pub last_is : (s : Stamp) (xs : List LogRow) (k : ℕ) (d : LogRow) → Rises row_stamp xs → IsAtLeast s xs → k + 1 ≡ length xs → same_stamp (get_or xs k d).stamp s ≡ list_any (λ own. same_stamp own.stamp s) xs
 last_is s xs k d up least e =
     last_case s xs (get_or xs k d) up least (In-get_or xs k d (omega arith)) (top_at xs k d up e) (same_stamp (get_or xs k d).stamp s) refl
@@ -127,6 +128,7 @@ In_moved {X} xs ys x p i =
     let at = In-index xs x i in
     subst (λ z. In z ys) at.is (All-permutation (λ z. In z ys) ys xs (IsPermutation-sym xs ys p) (λ k d l. In-get_or ys k d l) at.index x at.within)
 
+-- a row of lines is a row of the same lines in another order
 pub row_moved : (logs lines : List LogLine) (q : LogRow) → IsPermutation logs lines → In q (rows_of logs) → In q (rows_of lines)
 row_moved logs lines q p i =
     let m = In-map_cases (λ (l : LogLine). l.row) q logs i in

@@ -28,10 +28,12 @@ use Rattle.trace_audit.proofs.Explaining.{IsClean, clean, explained, and_true, n
 
 -- ---- tests
 
+-- a test that fails for each member holds for none
 pub none_any : {X : Type 0} (p : X → Bool) (xs : List X) → ((x : X) → In x xs → p x ≡ false) → list_any p xs ≡ false
 none_any p [] h = refl
 none_any p (x ∷ xs) h = rw (h x (inl refl)) (none_any p xs (λ y k. h y (inr k)))
 
+-- where a test fails for each two rows of the logs, no two rows are so
 pub no_two : (test : LogRow → LogRow → Bool) (logs : List LogLine) → ((a b : LogRow) → In a (rows_of logs) → In b (rows_of logs) → test a b ≡ false) → some_two test logs ≡ false
 no_two test logs h =
     none_any (λ (x : LogLine). list_any (λ (y : LogLine). test x.row y.row) logs) logs
@@ -45,10 +47,12 @@ refuted false h = refl
 
 -- ---- the list
 
+-- a list of topics is the same as itself, one by one
 pub topics_itself : (ts : List Topic) → pointwise (λ (t u : Topic). t.0 == u.0) ts ts ≡ true
 topics_itself [] = refl
 topics_itself (t ∷ ts) = and_true (t.0 == t.0) _ (eq-eqb t.0 t.0 refl) (topics_itself ts)
 
+-- a stamp is the same as itself
 pub stamp_itself : (s : Stamp) → same_stamp s s ≡ true
 stamp_itself s = grind (arith, nat_tests)
 
@@ -189,6 +193,7 @@ flat_none : {X Y : Type 0} (f : X → List Y) (xs : List X) → ((x : X) → In 
 flat_none f [] h = refl
 flat_none f (x ∷ xs) h = rw (h x (inl refl)) (flat_none f xs (λ y k. h y (inr k)))
 
+-- a topic that is one of the topics is named
 pub named_by : (t : Topic) (topics : List Topic) → In t topics → names t topics ≡ true
 named_by t topics i = any_from (λ (u : Topic). u.0 == t.0) t topics i (eq-eqb t.0 t.0 refl)
 
@@ -237,6 +242,7 @@ faultless lines rows ex =
 
 -- ---- completeness
 
+-- a test that holds for each member holds for all
 pub all_true : {X : Type 0} (p : X → Bool) (xs : List X) → ((x : X) → In x xs → p x ≡ true) → list_all p xs ≡ true
 all_true p [] h = refl
 all_true p (x ∷ xs) h = and_true (p x) (list_all p xs) (h x (inl refl)) (all_true p xs (λ y k. h y (inr k)))

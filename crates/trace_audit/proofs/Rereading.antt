@@ -511,6 +511,7 @@ fits_in_turn rows trace a =
     subst (λ (z : List TraceRow). Fit z no_lines) same
     (whole_fits (in_turn rows) no_lines (λ key. subst (λ (z : List TraceRow). Fit z no_lines) (sym (group_is key rows f.0)) (part_fits key rows no_lines no_lines (λ _. refl) f.0)))
 
+-- a report of a trace, when read, gives a trace that is alike
 pub printed_is_read : PrintedIsRead
 printed_is_read added printed trace a i s =
     let f = fits_in_turn added trace a in

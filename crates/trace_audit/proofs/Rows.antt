@@ -170,11 +170,13 @@ row_again (row.Log l) i = log_again l i
 row_again (row.Span s) i = span_again s i
 row_again (row.Queue q) i = queue_again q i
 
+-- a line that spells a row is read as that row
 pub row_read : (line : List ℕ) (r : TraceRow) → SpellsRow line r → spelled_row line ≡ Some r
 row_read line r s = ap spelled_row s.0 ∙ row_again r s.1
 
 -- ---- one line more
 
+-- a line that is added spells a row that fits, and the new trace is the old one with this row
 pub line_adds : (line : List ℕ) (old new : Lines) → line_added line old ≡ Some new
     → (r : TraceRow) × SpellsRow line r × (is_misfit r old ≡ false) × (with_row r old ≡ new)
 unfolding line_added
@@ -183,10 +185,12 @@ line_adds line old new e =
     let p = unstopped (is_misfit b.0 old) (Some (with_row b.0 old)) new b.2 in
     (b.0, row_spelled line b.0 b.1, p.0, some_is (with_row b.0 old) new p.1)
 
+-- a line that spells a row that fits is added: the new trace is the old one with this row
 pub line_again : (line : List ℕ) (r : TraceRow) (old : Lines) → SpellsRow line r → is_misfit r old ≡ false → line_added line old ≡ Some (with_row r old)
 unfolding line_added
 line_again line r old s fit = rw (row_read line r s, fit) refl
 
+-- a line that isn't added spells no row that fits
 pub line_bad : (line : List ℕ) (old : Lines) → line_added line old ≡ None → IsBadLine line old
 unfolding line_added
 line_bad line old e = λ r s. elim (cases_Bool (is_misfit r old)) [
@@ -194,6 +198,7 @@ line_bad line old e = λ r s. elim (cases_Bool (is_misfit r old)) [
   | inr fit ↦ absurd (let k = sym e ∙ line_again line r old s fit in cc)
 ]
 
+-- a line that spells no row that fits isn't added
 pub bad_again : (line : List ℕ) (old : Lines) → IsBadLine line old → line_added line old ≡ None
 bad_again line old bad = go (line_added line old) refl
   where
@@ -203,6 +208,7 @@ bad_again line old bad = go (line_added line old) refl
 
 -- ---- whole texts
 
+-- where reading gives a trace, each line adds its row, and the rows lead to this trace
 pub reads_adds : (n : ℕ) (lines : List (List ℕ)) (old new : Lines) → read_from n lines old ≡ Ok new → AddsLines lines old new
 reads_adds n [] old new e = cc
 reads_adds n (line ∷ lines) old new e = go (line_added line old) refl (λ mid f. reads_adds (n + 1) lines mid new f)
@@ -213,6 +219,7 @@ reads_adds n (line ∷ lines) old new e = go (line_added line old) refl (λ mid 
         let a = line_adds line old mid k in
         (a.0, a.1, a.2, subst (λ (z : Lines). AddsLines lines z new) (sym a.3) (later mid (sym (rw k refl) ∙ e)))
 
+-- where each line adds its row, reading gives the trace that the rows lead to
 pub adds_reads : (n : ℕ) (lines : List (List ℕ)) (old new : Lines) → AddsLines lines old new → read_from n lines old ≡ Ok new
 adds_reads n [] old new a = ap Ok (sym a)
 adds_reads n (line ∷ lines) old new a = rw (line_again line a.0 old a.1 a.2) (adds_reads (n + 1) lines (with_row a.0 old) new a.3)
@@ -268,11 +275,13 @@ bad_reads n (next ∷ front) line back old trace a bad =
     let m : length front + (n + 1) ≡ length (next ∷ front) + n = omega arith in
     rw (line_again next a.0 old a.1 a.2) (r ∙ ap Err m)
 
+-- where reading fails with a number, it is that of the first line that can't be added
 pub first_bad : (lines : List (List ℕ)) (m : ℕ) → read_from 1 lines no_lines ≡ Err m → IsFirstBad lines m
 first_bad lines m e =
     let b = reads_bad 1 lines no_lines m e in
     record { front = b.front; line = b.line; back = b.back; trace = b.trace; cut = b.cut; number = b.number; added = b.added; bad = b.bad }
 
+-- where a line is the first that can't be added, reading fails with its number
 pub bad_first : (lines : List (List ℕ)) (m : ℕ) → IsFirstBad lines m → read_from 1 lines no_lines ≡ Err m
 bad_first lines m b =
     ap (λ (z : List (List ℕ)). read_from 1 z no_lines) b.cut ∙ bad_reads 1 b.front b.line b.back no_lines b.trace b.added b.bad
@@ -280,20 +289,24 @@ bad_first lines m b =
 
 -- ---- what the reader returned
 
+-- a trace that was returned is the one that the rows of the lines lead to
 pub is_found : (lines : List (List ℕ)) (r : Result Lines ParseFault) → ReadsAs r (read_from 1 lines no_lines) → IfOk r (λ trace. AddsLines lines no_lines trace)
 is_found lines (Ok trace) h = reads_adds 1 lines no_lines trace (sym h)
 is_found lines (Err e) h = tt
 
+-- a fault that was returned is that of the text: the first line that can't be added, or no memory
 pub is_fault : (text : List ℕ) (r : Result Lines ParseFault) → ReadsAs r (read_from 1 (lines_of text) no_lines) → IfErr r (λ fault. IsParseFault text fault)
 is_fault text (Ok trace) h = tt
 is_fault text (Err (parse.BadRow n)) h = first_bad (lines_of text) n (sym h)
 is_fault text (Err parse.NoMemory) h = tt
 
+-- where the rows of the lines lead to a trace, it was returned, unless memory ran out
 pub is_only : (lines : List (List ℕ)) (r : Result Lines ParseFault) → ReadsAs r (read_from 1 lines no_lines) → (trace : Lines) → AddsLines lines no_lines trace → GivesTrace r (Ok trace)
 is_only lines (Ok t) h trace a = let f = h ∙ adds_reads 1 lines no_lines trace a in let g : trace ≡ t = cc in ap Ok g
 is_only lines (Err (parse.BadRow n)) h trace a = absurd (let k = h ∙ adds_reads 1 lines no_lines trace a in cc)
 is_only lines (Err parse.NoMemory) h trace a = tt
 
+-- where line n is the first that can't be added, its fault was returned, unless memory ran out
 pub is_only_fault : (lines : List (List ℕ)) (r : Result Lines ParseFault) → ReadsAs r (read_from 1 lines no_lines) → (n : ℕ) → IsFirstBad lines n → GivesTrace r (Err (parse.BadRow n))
 is_only_fault lines (Ok t) h n b = absurd (let k = h ∙ bad_first lines n b in cc)
 is_only_fault lines (Err (parse.BadRow m)) h n b = let k : m ≡ n = (let f = h ∙ bad_first lines n b in cc) in ap (λ (z : ℕ). Err (parse.BadRow z)) (sym k)

@@ -31,6 +31,7 @@ head_slice q (x ∷ xs) zero h g =
 head_slice q (x ∷ xs) (suc n) h g =
     filter_step q x.now (shown xs) (shown (take n xs)) true (h 0 x (omega arith) (omega arith)) (head_slice q xs n (λ k d l m. h (suc k) d (omega arith) (omega arith)) (λ k d l m. g (suc k) d (omega arith) (omega arith)))
 
+-- where n items from m on pass and no others do, what passes is the slice of n items from m on
 pub slice : {X : Type 0} (q : X → Bool) (rows : List (Bor X)) (m n : ℕ) → ((k : ℕ) (d : Bor X) → k < m → k < length rows → q (get_or rows k d).now ≡ false) → ((k : ℕ) (d : Bor X) → k < n → k < length (drop m rows) → q (get_or (drop m rows) k d).now ≡ true) → ((k : ℕ) (d : Bor X) → n ≤ k → k < length (drop m rows) → q (get_or (drop m rows) k d).now ≡ false) → filter q (shown rows) ≡ shown (take n (drop m rows))
 slice q rows zero n f h g = head_slice q rows n h g
 slice q [] (suc m) n f h g = head_slice q [] n h g
@@ -43,6 +44,7 @@ from_drop P rows zero h k d l = h k d (omega arith) l
 from_drop P [] (suc m) h k d l = absurd (omega arith)
 from_drop P (x ∷ xs) (suc m) h k d l = from_drop P xs m (λ j f n o. h (suc j) f (omega arith) (omega arith)) k d l
 
+-- what is left of a chained list after dropping its first items is chained
 pub chained_drop : {X : Type 0} (R : X → X → Type 0) (rows : List (Bor X)) (m : ℕ) → Chained R (shown rows) → Chained R (shown (drop m rows))
 chained_drop R rows zero c = c
 chained_drop R [] (suc m) c = c
@@ -87,14 +89,17 @@ below_keeps sub a b e f = grind (arith, nat_tests)
 le_keeps : (sub a b : ℕ) → nat_lt b a ≡ false → leb b sub ≡ true → leb a sub ≡ true
 le_keeps sub a b e f = grind (arith, nat_tests)
 
+-- rows in order of subscription are partitioned: those below a subscription, and then the others
 pub subs_below : (sub : ℕ) (rows : List (Bor QueueRow)) → RisesBySub rows → IsPartitionedBy (λ r. nat_lt r.now.sub sub) rows
 subs_below sub rows up =
     parted SubLe (λ row. nat_lt row.sub sub) rows (subs_chained rows up) (λ x y e f. below_keeps sub x.sub y.sub e f)
 
+-- rows in order of subscription, after the first m: those up to a subscription, and then the others
 pub subs_up_to : (sub m : ℕ) (rows : List (Bor QueueRow)) → RisesBySub rows → IsPartitionedBy (λ r. leb r.now.sub sub) (drop m rows)
 subs_up_to sub m rows up =
     parted SubLe (λ row. leb row.sub sub) (drop m rows) (chained_drop SubLe rows m (subs_chained rows up)) (λ x y e f. le_keeps sub x.sub y.sub e f)
 
+-- a number is equal to another exactly where it is not below it and at most it
 pub sub_is : (a sub : ℕ) → (a == sub) ≡ (not (nat_lt a sub) && leb a sub)
 sub_is a sub = grind (arith, nat_tests)
 
@@ -132,14 +137,17 @@ to_down : (to : Option Stamp) (a b : Stamp) → stamp_lt a b ≡ true → up_to 
 to_down None a b e f = refl
 to_down (Some end) a b e f = from_down end a b e f
 
+-- an index is partitioned: the lines up to a span's beginning, and then the others
 pub span_begins : (span : SpanRow) (rows : List (Bor LogLine)) → IsIndex rows → IsPartitionedBy (λ r. is_up_to_from span r.now) rows
 span_begins span rows index =
     parted Above (is_up_to_from span) rows index.rises (span_keeps span.topic.0 (λ s. not (stamp_lt span.from s)) (from_down span.from))
 
+-- an index after its first m lines is partitioned: the lines up to a span's end, and then the others
 pub span_ends : (span : SpanRow) (m : ℕ) (rows : List (Bor LogLine)) → IsIndex rows → IsPartitionedBy (λ r. is_up_to_end span r.now) (drop m rows)
 span_ends span m rows index =
     parted Above (is_up_to_end span) (drop m rows) (chained_drop Above rows m index.rises) (span_keeps span.topic.0 (λ s. up_to span.to s) (to_down span.to))
 
+-- a line is of a span's topic and in the span where it is past the beginning, and not past the end
 pub span_is : (span : SpanRow) (line : LogLine) → (line.topic.0 == span.topic.0 && in_span span.from span.to line.row.stamp) ≡ (not (is_up_to_from span line) && is_up_to_end span line)
 span_is span line = cases line.topic.0 span.topic.0 (stamp_lt span.from line.row.stamp) (up_to span.to line.row.stamp)
   where
@@ -164,5 +172,6 @@ marks_are span (x ∷ xs) = step (x.topic.0 == span.topic.0) (in_span span.from 
     step true true e ih = rw e (ap (λ z. row_mark x.row ∷ z) ih)
     step true false e ih = rw e ih
 
+-- a row of this subscription's queue
 abbrev pub queue_row : ℕ → QueueRow
 queue_row sub = record { sub = sub; id = record { sender = record { 0 = 0 }; seq = 0 }; stamp = zero_stamp }

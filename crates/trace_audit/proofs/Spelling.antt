@@ -74,6 +74,7 @@ well_begun (b ∷ text) e = (omega arith, λ h. grind (arith, nat_tests))
 begins_well : (text : List ℕ) → 0 < length text → (get_or text 0 0 ≡ 48 → length text ≡ 1) → is_badly_begun text ≡ false
 begins_well text some one = grind (arith, nat_tests)
 
+-- a text that is read as a number is its decimal form, and the number is below 2^64
 pub number_spelled : (text : List ℕ) (v : ℕ) → spelled_number text ≡ Some v → (text ≡ decimal v) × (v < 2 ^ 64)
 unfolding spelled_number
 number_spelled text v e =
@@ -86,6 +87,7 @@ first_is : (n : ℕ) → n < 2 ^ 64 → get_or (decimal n) 0 0 ≡ 48 → length
 first_is zero lt h = ap length (decimal_digit 0 (omega arith))
 first_is (suc n) lt h = absurd (let k = first_decimal (suc n) (omega arith) lt in omega arith)
 
+-- the decimal form of a number below 2^64 is read as that number
 pub number_again : (n : ℕ) → n < 2 ^ 64 → spelled_number (decimal n) ≡ Some n
 unfolding spelled_number
 number_again n lt =
@@ -103,6 +105,7 @@ without b lt (c ∷ ds) d =
 pub number_without : (b n : ℕ) → b < 48 → n < 2 ^ 64 → Without b (decimal n)
 number_without b n low lt = without b low (decimal n) (digits_decimal own n lt)
 
+-- a text that is read as a topic is the topic's decimal form, and the topic is in range
 pub topic_spelled : (text : List ℕ) (t : Topic) → spelled_topic text ≡ Some t → (text ≡ decimal t.0) × IsTopicInRange t
 unfolding spelled_topic
 topic_spelled text t e =
@@ -112,12 +115,14 @@ topic_spelled text t e =
     let s = number_spelled text m.0 m.1 in
     (s.0 ∙ ap decimal same, subst (λ (z : ℕ). z < 2 ^ 32) same (ltb-true m.0 (2 ^ 32) p.0))
 
+-- the decimal form of a topic in range is read as that topic
 pub topic_again : (t : Topic) → IsTopicInRange t → spelled_topic (decimal t.0) ≡ Some t
 unfolding spelled_topic
 topic_again t lt = rw (number_again t.0 (omega arith), lt-ltb t.0 (2 ^ 32) lt) refl
 
 -- ---- fields
 
+-- a number read before an octet: the text is its decimal form, the octet and what's left
 pub number_field : (b : ℕ) (text : List ℕ) (p : ℕ × List ℕ) → number_before b text ≡ Some p → (text ≡ decimal p.0 ++ b ∷ p.1) × (p.0 < 2 ^ 64)
 unfolding number_before
 number_field b text p e =
@@ -127,10 +132,12 @@ number_field b text p e =
     subst (λ (z : ℕ × List ℕ). (text ≡ decimal z.0 ++ b ∷ z.1) × (z.0 < 2 ^ 64)) (some_is (m.0, c.0.1) p m.2)
     ((cut_splits b text c.0 c.1).0 ∙ ap (λ (z : List ℕ). z ++ b ∷ c.0.1) s.0, s.1)
 
+-- a number's decimal form before an octet below the digits is read as that number, with the rest left
 pub number_field_again : (b n : ℕ) (rest : List ℕ) → b < 48 → n < 2 ^ 64 → number_before b (decimal n ++ b ∷ rest) ≡ Some (n, rest)
 unfolding number_before
 number_field_again b n rest low lt = rw (cut_first b (decimal n) rest (number_without b n low lt), number_again n lt) refl
 
+-- a topic read before a space: the text is its decimal form, a space and what's left
 pub topic_field : (text : List ℕ) (p : Topic × List ℕ) → topic_before text ≡ Some p → (text ≡ decimal p.0.0 ++ 32 ∷ p.1) × IsTopicInRange p.0
 unfolding topic_before
 topic_field text p e =
@@ -140,6 +147,7 @@ topic_field text p e =
     subst (λ (z : Topic × List ℕ). (text ≡ decimal z.0.0 ++ 32 ∷ z.1) × IsTopicInRange z.0) (some_is (m.0, c.0.1) p m.2)
     ((cut_splits 32 text c.0 c.1).0 ∙ ap (λ (z : List ℕ). z ++ 32 ∷ c.0.1) s.0, s.1)
 
+-- a topic's decimal form before a space is read as that topic, with the rest left
 pub topic_field_again : (t : Topic) (rest : List ℕ) → IsTopicInRange t → topic_before (decimal t.0 ++ 32 ∷ rest) ≡ Some (t, rest)
 unfolding topic_before
 topic_field_again t rest lt = rw (cut_first 32 (decimal t.0) rest (number_without 32 t.0 (omega arith) (omega arith)), topic_again t lt) refl
@@ -147,6 +155,7 @@ topic_field_again t rest lt = rw (cut_first 32 (decimal t.0) rest (number_withou
 id_whole : (a b rest : List ℕ) → (a ++ 32 ∷ b) ++ 32 ∷ rest ≡ a ++ 32 ∷ (b ++ 32 ∷ rest)
 id_whole a b rest = append_assoc a (32 ∷ b) (32 ∷ rest)
 
+-- an id read before a space: the text is the id's, a space and what's left, and the id is in range
 pub id_field : (text : List ℕ) (p : TxnId × List ℕ) → id_before text ≡ Some p → (text ≡ id_text p.0 ++ 32 ∷ p.1) × IsIdInRange p.0
 unfolding id_before
 id_field text p e =
@@ -157,6 +166,7 @@ id_field text p e =
     subst (λ (z : TxnId × List ℕ). (text ≡ id_text z.0 ++ 32 ∷ z.1) × IsIdInRange z.0) (some_is (record { sender = record { 0 = s.0.0 }; seq = q.0.0 }, q.0.1) p q.2)
     (a.0 ∙ ap (λ (z : List ℕ). decimal s.0.0 ++ 32 ∷ z) b.0 ∙ sym (id_whole (decimal s.0.0) (decimal q.0.0) q.0.1), (a.1, b.1))
 
+-- an id's text before a space is read as that id, with the rest left
 pub id_field_again : (id : TxnId) (rest : List ℕ) → IsIdInRange id → id_before (id_text id ++ 32 ∷ rest) ≡ Some (id, rest)
 unfolding id_before
 id_field_again id rest i =
@@ -166,6 +176,7 @@ id_field_again id rest i =
       number_field_again 32 id.seq rest (omega arith) i.1,
     ) refl
 
+-- a text that is read as a stamp is the stamp's, and the stamp is in range
 pub stamp_spelled : (text : List ℕ) (s : Stamp) → spelled_stamp text ≡ Some s → (text ≡ stamp_text s) × IsStampInRange s
 unfolding spelled_stamp
 stamp_spelled text s e =
@@ -176,6 +187,7 @@ stamp_spelled text s e =
     subst (λ (z : Stamp). (text ≡ stamp_text z) × IsStampInRange z) (some_is (record { n = n.0.0; topic = t.0 }) s t.2)
     (a.0 ∙ ap (λ (z : List ℕ). decimal n.0.0 ++ 46 ∷ z) b.0, (a.1, b.1))
 
+-- the text of a stamp in range is read as that stamp
 pub stamp_again : (s : Stamp) → IsStampInRange s → spelled_stamp (stamp_text s) ≡ Some s
 unfolding spelled_stamp
 stamp_again s i = rw (number_field_again 46 s.n (decimal s.topic.0) (omega arith) i.0, topic_again s.topic i.1) refl
@@ -186,6 +198,7 @@ stamp_without s i =
     Without-append 32 (decimal s.n) (46 ∷ decimal s.topic.0) (number_without 32 s.n (omega arith) i.0)
     ((λ e. cc), number_without 32 s.topic.0 (omega arith) (let h : s.topic.0 < 2 ^ 32 = i.1 in omega arith))
 
+-- a stamp read before a space: the text is the stamp's, a space and what's left
 pub stamp_field : (text : List ℕ) (p : Stamp × List ℕ) → stamp_before text ≡ Some p → (text ≡ stamp_text p.0 ++ 32 ∷ p.1) × IsStampInRange p.0
 unfolding stamp_before
 stamp_field text p e =
@@ -195,6 +208,7 @@ stamp_field text p e =
     subst (λ (z : Stamp × List ℕ). (text ≡ stamp_text z.0 ++ 32 ∷ z.1) × IsStampInRange z.0) (some_is (m.0, c.0.1) p m.2)
     ((cut_splits 32 text c.0 c.1).0 ∙ ap (λ (z : List ℕ). z ++ 32 ∷ c.0.1) s.0, s.1)
 
+-- a stamp's text before a space is read as that stamp, with the rest left
 pub stamp_field_again : (s : Stamp) (rest : List ℕ) → IsStampInRange s → stamp_before (stamp_text s ++ 32 ∷ rest) ≡ Some (s, rest)
 unfolding stamp_before
 stamp_field_again s rest i = rw (cut_first 32 (stamp_text s) rest (stamp_without s i), stamp_again s i) refl
@@ -238,6 +252,7 @@ joined_parts b (x ∷ text) = elim (cases_eq x b) [
   | inr other ↦ rw (ne_eqb x b other) (joined_onto b x (text_parts b text) ∙ ap (λ (z : List ℕ). x ∷ z) (joined_parts b text))
 ]
 
+-- a text that is read as topics is theirs; each is in range, and there is at least one
 pub topics_spelled : (text : List ℕ) (ts : List Topic) → spelled_topics text ≡ Some ts → (text ≡ topics_text ts) × AllByRecursion IsTopicInRange ts × (ts ≢ [])
 unfolding spelled_topics
 topics_spelled text ts e =
@@ -258,6 +273,7 @@ parts_again (t ∷ u ∷ ts) i some =
     parts_first 44 (decimal t.0) (topics_text (u ∷ ts)) (topic_without t i.0)
     ∙ ap (λ (z : List (List ℕ)). decimal t.0 ∷ z) (parts_again (u ∷ ts) i.1 (λ e. cc))
 
+-- the text of topics in range, at least one, is read as these topics
 pub topics_again : (ts : List Topic) → AllByRecursion IsTopicInRange ts → ts ≢ [] → spelled_topics (topics_text ts) ≡ Some ts
 unfolding spelled_topics
 topics_again ts i some = rw (parts_again ts i some) (topics_from_again ts i)
