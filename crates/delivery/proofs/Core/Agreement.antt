@@ -19,21 +19,27 @@ use Rattle.delivery.proofs.Core.Acts.{Act, machine_account, played, topic}
 
 -- ---- plain numbers of each
 
+-- the sender and the sequence number of an id
 abbrev pub id_numbers : TxnId → List ℕ
 id_numbers id = id.sender.0 ∷ id.seq ∷ []
 
+-- the number and the topic of a stamp
 abbrev pub stamp_numbers : Stamp → List ℕ
 stamp_numbers s = s.n ∷ s.topic.0 ∷ []
 
+-- an item's id and stamp, and of each of its SENDs the index, the count of headers and the body
 abbrev pub item_numbers : Item → List ℕ
 item_numbers i = id_numbers i.id ++ stamp_numbers i.stamp ++ flat_map (λ p. p.index ∷ length p.headers ∷ p.body) i.sends
 
+-- a row's id, stamp and topics
 abbrev pub row_numbers : LogRow → List ℕ
 row_numbers r = id_numbers r.id ++ stamp_numbers r.stamp ++ map (λ t. t.0) r.topics
 
+-- of a subscription that began: its number, its topic, and the stamp that it began at
 abbrev pub begun_numbers : Begun → List ℕ
 begun_numbers b = b.0 ∷ b.1.0 ∷ stamp_numbers b.2
 
+-- the kind of an answer, and the numbers of what it says, but for the reason of a failure or refusal
 abbrev pub answer_numbers : Answer → List ℕ
 answer_numbers (Answer.Begun txn) = 1 ∷ (id_numbers txn.id ++ flat_map (λ s. s.topic.0 ∷ length s.headers ∷ s.body) txn.sends)
 answer_numbers (Answer.Subscribed s c t from) = 2 ∷ s ∷ c ∷ t.0 ∷ stamp_numbers from
@@ -69,6 +75,7 @@ is_due told r s q =
     alike (map item_numbers q.queued) (map item_numbers (due (commits_of told) (span_of q) (last_stamp zero_stamp (log_in r q.topic))))
     && alike (map item_numbers q.handed) (map item_numbers (delivered_items s told))
 
+-- of each subscription from number i on: whether its queue is what is due, and it delivered what Takes gave
 abbrev pub are_due : List Answer → Report → ℕ → List QueueReport → List Bool
 are_due told r i [] = []
 are_due told r i (q ∷ qs) = is_due told r i q ∷ are_due told r (i + 1) qs

@@ -24,11 +24,13 @@ use Rattle.delivery.proofs.Core.Rows.{one, both, greeting, sends_one, to_both}
 abbrev pub shown : Core → List Outcome × List (List ℕ)
 shown k = (shown_outcomes k, (report_of k).outs)
 
+-- the text of a RECEIPT with this id
 abbrev pub receipt : List ℕ → List ℕ
 receipt name = codes "RECEIPT\nreceipt-id:" ++ name ++ codes "\n\n\0"
 
 -- ---- an empty COMMIT: no row, its RECEIPT at once
 
+-- a transaction without SENDs is begun and committed, with a receipt
 abbrev pub empty_acts : List Act
 empty_acts = opens 0 (reads 0 (begin (codes "x")) ∷ reads 0 (asking (codes "r") (commit (codes "x"))) ∷ waits 0 ∷ [])
 
@@ -41,9 +43,11 @@ empty_agrees = refl
 
 -- ---- an id that is used again names the last subscription; another connection's same id is its own
 
+-- an UNSUBSCRIBE of this id by connection 0, with a receipt
 abbrev pub unsubscribe : List ℕ → Act
 unsubscribe sub = reads 0 (asking (codes "u") (frame commands.Unsubscribe ((codes "id", sub) ∷ []) []))
 
+-- an id that two connections use; one of them ends it, uses it again, and ends one too many
 abbrev pub again_acts : List Act
 again_acts = opens 0 (opens 1 (
     reads 0 (subscribe (codes "s") A) ∷ reads 0 (subscribe (codes "t") A) ∷ reads 1 (subscribe (codes "s") A) ∷ unsubscribe (codes "s")
@@ -63,6 +67,7 @@ again_agrees = refl
 
 -- ---- a span that ends by UNSUBSCRIBE: what is left in its queue isn't handed on
 
+-- a subscription takes its one item, and ends by UNSUBSCRIBE before the second SEND is released
 abbrev pub left_acts : List Act
 left_acts = opens 0 (opens 1 (
     reads 0 (send A (codes "1")) ∷ propose 0 0 ∷ act (Event.Decide 0) ∷ reads 1 (subscribe (codes "s") A) ∷ turn 0 ∷ act (Event.Take 0)
@@ -82,6 +87,7 @@ left_agrees = refl
 
 -- ---- faults of the session, and checks of events
 
+-- frames that a session refuses: SEND before CONNECT, a second CONNECT, version 1.1; then events refused
 abbrev pub early : List Act
 early = act Event.Open ∷ reads 0 (asking (codes "r") (send A []))
     ∷ act Event.Open ∷ reads 1 connect ∷ reads 1 (asking (codes "r") connect)
@@ -107,6 +113,7 @@ pieces_checked : pieces 0 one ∷ pieces 0 (played one (opens 0 (act (Event.Lost
     ≡ (Refused Refusal.NoConn ∷ []) ∷ (Refused Refusal.Busy ∷ []) ∷ (Refused Refusal.Gone ∷ []) ∷ (Fed ∷ NoMemory ∷ []) ∷ []
 pieces_checked = refl
 
+-- what a Next of connection c that reads no frame may answer
 abbrev pub nexts : ℕ → Core → List Outcome
 nexts c k = outcomes k (Event.Next c) (Reading.Waits (unread_of reader_limits))
 
@@ -117,6 +124,7 @@ nexts_checked = refl
 
 -- ---- a MESSAGE's headers, and a RECEIPT at Decide
 
+-- a SEND with a content type, a receipt and a header twice, delivered to a subscription
 abbrev pub headers_acts : List Act
 headers_acts = opens 0 (reads 0 (subscribe (codes "s") A)
     ∷ reads 0 (frame commands.Send ((codes "destination", A) ∷ (codes "content-type", codes "text/plain") ∷ (codes "receipt", codes "q") ∷ (codes "x", codes "1") ∷ (codes "x", codes "2") ∷ []) (codes "hi"))
@@ -129,6 +137,7 @@ headers_outs = refl
 
 -- ---- a proposal without memory: withdrawn, with its ERROR or without, and cancelled
 
+-- a proposal at B finds no memory: the transaction is withdrawn, and cancelled at A
 abbrev pub starved : ℕ → List Act
 starved choice = opens 0 (to_both 0 (propose 0 0 ∷ without 1 (propose 0 1) ∷ without choice (act (Event.Withdraw 0))
     ∷ act (Event.Leave 0) ∷ act (Event.Cancel 0 (topic 0)) ∷ turn 0 ∷ act (Event.Leave 0) ∷ []))
@@ -154,6 +163,7 @@ starved_agrees = refl
 
 -- ---- a RECEIPT of DISCONNECT that finds no memory; a Take that finds none, and then hands the item
 
+-- a Take without memory and one with it; a DISCONNECT whose RECEIPT finds no memory
 abbrev pub byes : List Act
 byes = opens 0 (reads 0 (subscribe (codes "s") A) ∷ sends_one 0 (codes "m") (without 1 (act (Event.Take 0)) ∷ act (Event.Take 0)
     ∷ reads 0 (asking (codes "bye") disconnect) ∷ act (Event.Leave 0) ∷ without 1 (act (Event.Leave 0)) ∷ []))
@@ -172,6 +182,7 @@ byes_agrees = refl
 
 -- ---- a frame that finds no memory: 72, with its ERROR or without, and no effect
 
+-- a COMMIT that finds no memory, with this choice of outcome: no transaction is in flight after it
 abbrev pub lacking : ℕ → List Act
 lacking choice = opens 0 (reads 0 (begin (codes "x")) ∷ reads 0 (send_in (codes "x") A (codes "m"))
     ∷ without choice (reads 0 (asking (codes "q") (commit (codes "x")))) ∷ act (Event.Propose 0 (topic 0)) ∷ act (Event.Leave 0) ∷ [])

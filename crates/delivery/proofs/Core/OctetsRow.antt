@@ -20,9 +20,11 @@ use Rattle.delivery.proofs.Core.Acts.{topic_list, played, act, reads, frame, con
 
 -- ---- a SEND with a NULL in its body, and its MESSAGE
 
+-- a SEND to A whose body of three octets has a NULL
 abbrev pub with_null : RawFrame
 with_null = frame commands.Send ((codes "destination", A) ∷ (codes "content-length", codes "3") ∷ []) (codes "a\0b")
 
+-- a core after CONNECT, SUBSCRIBE and this SEND in three pieces, delivered to the subscription
 abbrev pub sent : Core
 sent = played (new_core (topic_list ((A, 0) ∷ [])) 64) (act Event.Open
     ∷ act (Event.Piece 0 (codes "CONNECT\naccept-version:1.2\nhost:h\n\n\0")) ∷ reads 0 connect
@@ -39,12 +41,15 @@ sent_outs : (report_of sent).outs
 unfolding digits
 sent_outs = refl
 
+-- the octets of the third frame
 abbrev pub third : List ℕ
 third = codes "SEND\ndestination:A\ncontent-length:3\n\na\0b\0"
 
+-- the octets of the second frame and the third
 abbrev pub second : List ℕ
 second = codes "SUBSCRIBE\nid:s\ndestination:A\n\n\0SEND\ndestination:A\ncontent-length:3\n\na\0b\0"
 
+-- the octets of all three frames
 abbrev pub first : List ℕ
 first = codes "CONNECT\naccept-version:1.2\nhost:h\n\n\0SUBSCRIBE\nid:s\ndestination:A\n\n\0SEND\ndestination:A\ncontent-length:3\n\na\0b\0"
 

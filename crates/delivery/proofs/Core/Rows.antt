@@ -23,9 +23,11 @@ use Rattle.delivery.proofs.Core.Acts.{topic_list, Act, frame, part, made, x_to, 
 
 -- ---- transactions that cross: topics A at 9, B and C at 0
 
+-- three topics, of which A's clock is at 9
 abbrev pub three : Core
 three = new_core (topic_list ((A, 9) ∷ (B, 0) ∷ (codes "C", 0) ∷ [])) 64
 
+-- x names A and B, and y B and C; a subscription to B takes both, in the order of their stamps
 abbrev pub crossing_acts : List Act
 crossing_acts = opens 0 (
     reads 0 (subscribe (codes "b") B) ∷ reads 0 (begin (codes "x")) ∷ reads 0 (send_in (codes "x") A (codes "m1"))
@@ -35,6 +37,7 @@ crossing_acts = opens 0 (
     ∷ reads 0 (commit (codes "y")) ∷ propose 0 1 ∷ propose 0 2 ∷ act (Event.Decide 0)
     ∷ turn 1 ∷ act (Event.Take 0) ∷ act (Event.Take 0) ∷ act (Event.Take 0) ∷ turn 0 ∷ turn 2 ∷ [])
 
+-- the core after the transactions that cross
 abbrev pub crossing : Core
 crossing = played three crossing_acts
 
@@ -85,9 +88,11 @@ crossing_outs = refl
 
 -- ---- DISCONNECT: the open transaction has no row, nothing more is handed on, and its RECEIPT is written as the connection is gone
 
+-- a core with topic A alone
 abbrev pub one : Core
 one = new_core (topic_list ((A, 0) ∷ [])) 64
 
+-- a core with topics A and B
 abbrev pub both : Core
 both = new_core (topic_list ((A, 0) ∷ (B, 0) ∷ [])) 64
 
@@ -95,12 +100,14 @@ both = new_core (topic_list ((A, 0) ∷ (B, 0) ∷ [])) 64
 abbrev pub sends_one : ℕ → List ℕ → List Act → List Act
 sends_one c body then = reads c (send A body) ∷ propose c 0 ∷ act (Event.Decide c) ∷ turn 0 ∷ then
 
+-- a DISCONNECT with a receipt, while a transaction is open and an item is in a queue
 abbrev pub ends_acts : List Act
 ends_acts = opens 0 (
     reads 0 (subscribe (codes "s") A) ∷ sends_one 0 (codes "m") (
     reads 0 (begin (codes "x")) ∷ reads 0 (send_in (codes "x") A (codes "n")) ∷ reads 0 (asking (codes "bye") disconnect)
     ∷ act (Event.Take 0) ∷ waits 0 ∷ act (Event.Leave 0) ∷ act (Event.Leave 0) ∷ act (Event.Leave 0) ∷ []))
 
+-- the core after the DISCONNECT
 abbrev pub ends : Core
 ends = played one ends_acts
 
@@ -123,14 +130,17 @@ ends_outs = refl
 
 -- ---- lag: a queue of two items, and three rows
 
+-- three SENDs are released before the subscription takes any; it takes four times, and the connection leaves
 abbrev pub lags_acts : List Act
 lags_acts = opens 0 (
     reads 0 (subscribe (codes "s") A) ∷ sends_one 0 (codes "1") (sends_one 0 (codes "2") (sends_one 0 (codes "3") (
     act (Event.Take 0) ∷ act (Event.Take 0) ∷ act (Event.Take 0) ∷ act (Event.Take 0) ∷ waits 0 ∷ act (Event.Leave 0) ∷ act (Event.Leave 0) ∷ []))))
 
+-- a core with topic A, whose queues have room for two items
 abbrev pub narrow : Core
 narrow = new_core (topic_list ((A, 0) ∷ [])) 2
 
+-- the core after the lag
 abbrev pub lags : Core
 lags = played narrow lags_acts
 
@@ -160,6 +170,7 @@ lags_outs = refl
 
 -- ---- the four faults, each frame with a receipt
 
+-- four refused frames: of an unknown topic, an unknown transaction, an ack mode, and an ACK
 abbrev pub faults_acts : List Act
 faults_acts = opens 0 (opens 1 (opens 2 (opens 3 (
     reads 0 (asking (codes "r") (send (codes "Z") [])) ∷ reads 1 (asking (codes "r") (commit (codes "q")))
@@ -167,6 +178,7 @@ faults_acts = opens 0 (opens 1 (opens 2 (opens 3 (
     ∷ reads 3 (asking (codes "r") (frame commands.Ack [] []))
     ∷ act (Event.Piece 3 (codes "x")) ∷ act (Event.Leave 3) ∷ act (Event.Next 3) ∷ []))))
 
+-- the core after the four faults
 abbrev pub faults : Core
 faults = played one faults_acts
 
@@ -180,6 +192,7 @@ faults_outcomes : shown_outcomes faults
     ∷ Refused Refusal.Busy ∷ Gone false ∷ Refused Refusal.Gone ∷ []
 faults_outcomes = refl
 
+-- the text of the CONNECTED frame
 abbrev pub greeting : List ℕ
 greeting = codes "CONNECTED\nversion:1.2\nheart-beat:0,0\n\n\0"
 
@@ -198,15 +211,18 @@ to_both c then =
     reads c (begin (codes "x")) ∷ reads c (send_in (codes "x") A (codes "a")) ∷ reads c (send_in (codes "x") B (codes "b"))
     ∷ reads c (asking (codes "q") (commit (codes "x"))) ∷ then
 
+-- a core with topics A and B, where A's clock has one number left
 abbrev pub full_start : Core
 full_start = new_core (topic_list ((A, 18446744073709551614) ∷ (B, 0) ∷ [])) 64
 
+-- a SEND takes the last number of A; a transaction to A and B fails at A, and is cancelled at B
 abbrev pub full_acts : List Act
 full_acts = opens 0 (opens 1 (opens 2 (sends_one 0 (codes "m") (to_both 1 (
     propose 1 1 ∷ reads 2 (send B (codes "n")) ∷ propose 2 1 ∷ act (Event.Decide 2) ∷ turn 1
     ∷ propose 1 0 ∷ act (Event.Decide 1) ∷ act (Event.Withdraw 1) ∷ turn 1
     ∷ act (Event.Cancel 1 (topic 1)) ∷ act (Event.Cancel 1 (topic 1)) ∷ turn 1 ∷ act (Event.Leave 1) ∷ [])))))
 
+-- the core after the full clock
 abbrev pub full : Core
 full = played full_start full_acts
 
@@ -227,11 +243,13 @@ full_outs = refl
 
 -- ---- loss: the flight goes on, and its RECEIPT isn't written
 
+-- a connection is lost between its two proposals: its transaction is still decided and released
 abbrev pub lost_acts : List Act
 lost_acts = opens 0 (to_both 0 (
     propose 0 0 ∷ act (Event.Lost 0) ∷ act (Event.Next 0) ∷ act (Event.Leave 0) ∷ propose 0 1 ∷ act (Event.Decide 0)
     ∷ turn 0 ∷ turn 1 ∷ act (Event.Leave 0) ∷ []))
 
+-- the core after the loss
 abbrev pub lost : Core
 lost = played both lost_acts
 
@@ -248,10 +266,12 @@ lost_outs = refl
 
 -- ---- a Decide whose RECEIPT finds no memory: the row stands, the reply is left out, the connection is leaving
 
+-- a transaction to A and B is decided without memory for its RECEIPT, and released
 abbrev pub cuts_acts : List Act
 cuts_acts = opens 0 (to_both 0 (
     propose 0 0 ∷ propose 0 1 ∷ without 1 (act (Event.Decide 0)) ∷ waits 0 ∷ turn 0 ∷ turn 1 ∷ act (Event.Leave 0) ∷ []))
 
+-- the core after the Decide without memory
 abbrev pub cuts : Core
 cuts = played both cuts_acts
 

@@ -29,10 +29,12 @@ use Rattle.delivery.proofs.Core.Rows.{crossing, one, both, narrow, greeting, sen
 
 -- ---- octets are fed to the connection that is named, in their order, unless the piece is refused
 
+-- pieces of two connections; the last is refused, since its connection is lost
 abbrev pub feeds_acts : List Act
 feeds_acts = act Event.Open ∷ act Event.Open ∷ act (Event.Piece 0 (codes "a")) ∷ act (Event.Piece 1 (codes "b"))
     ∷ act (Event.Piece 0 (codes "c")) ∷ act (Event.Lost 0) ∷ act (Event.Piece 0 (codes "d")) ∷ []
 
+-- the core after these pieces
 abbrev pub feeds : Core
 feeds = played one feeds_acts
 
@@ -49,6 +51,7 @@ feeds_agrees = refl
 feeds_unread : (unread_at 0 feeds.steps).text ∷ (unread_at 1 feeds.steps).text ∷ [] ≡ codes "ac" ∷ codes "b" ∷ []
 feeds_unread = refl
 
+-- connection 1 is fed an octet, and connection 0 reads a frame
 abbrev pub unread_acts : List Act
 unread_acts = act Event.Open ∷ act Event.Open ∷ act (Event.Piece 1 (codes "b")) ∷ reads 0 connect ∷ []
 
@@ -57,6 +60,7 @@ unread_stays = refl
 
 -- ---- frames are read of the connection that is named
 
+-- both connections read a CONNECT, and connection 1 reads a BEGIN too
 abbrev pub reading_acts : List Act
 reading_acts = act Event.Open ∷ act Event.Open ∷ reads 1 connect ∷ reads 0 connect ∷ reads 1 (begin (codes "x")) ∷ []
 
@@ -66,6 +70,7 @@ reading_frames = refl
 
 -- ---- a fault of the stream: its ERROR has no receipt-id
 
+-- connection 0 reads a fault of its stream, and leaves
 abbrev pub broken_acts : List Act
 broken_acts = opens 0 (fails 0 checks.BadCommand ∷ waits 0 ∷ act (Event.Leave 0) ∷ [])
 
@@ -85,6 +90,7 @@ dry_agrees = refl
 
 -- ---- the case table comes before the session, and the session before the topic
 
+-- an ACK and a SUBSCRIBE to an unknown topic, each the first frame of its connection
 abbrev pub early_ack : List Act
 early_ack = act Event.Open ∷ reads 0 (frame commands.Ack [] []) ∷ act Event.Open ∷ reads 1 (subscribe (codes "s") (codes "Z")) ∷ []
 
@@ -95,6 +101,7 @@ early_ack_outcomes = refl
 
 -- ---- two senders at two topics: the one that is decided waits for the other; learns and releases by themselves
 
+-- two transactions to A and B; that of connection 1 is decided first, and waits for the other at A
 abbrev pub waiting_acts : List Act
 waiting_acts = opens 0 (opens 1 (reads 0 (subscribe (codes "s") A) ∷ to_both 0 (to_both 1 (
     propose 0 0 ∷ propose 1 1 ∷ propose 1 0 ∷ propose 0 1 ∷ act (Event.Decide 1) ∷ turn 0
@@ -102,6 +109,7 @@ waiting_acts = opens 0 (opens 1 (reads 0 (subscribe (codes "s") A) ∷ to_both 0
     ∷ act (Event.Decide 0) ∷ act (Event.Learn (topic 0) (id 0 1)) ∷ act (Event.Release (topic 0)) ∷ act (Event.Release (topic 0))
     ∷ act (Event.Release (topic 0)) ∷ turn 1 ∷ act (Event.Take 0) ∷ []))))
 
+-- the core after the two transactions
 abbrev pub waiting : Core
 waiting = played both waiting_acts
 
@@ -121,6 +129,7 @@ waiting_agrees = refl
 
 -- ---- whole parts: two SENDs to one topic are one item and two MESSAGEs, each with its index in the transaction
 
+-- SENDs to A, B and A in a transaction; a second Propose at A and an early Decide are refused
 abbrev pub whole_acts : List Act
 whole_acts = opens 0 (reads 0 (subscribe (codes "s") A) ∷ reads 0 (begin (codes "x")) ∷ reads 0 (send_in (codes "x") A (codes "1"))
     ∷ reads 0 (send_in (codes "x") B (codes "2")) ∷ reads 0 (send_in (codes "x") A (codes "3")) ∷ reads 0 (commit (codes "x"))
@@ -139,14 +148,17 @@ whole_outs = refl
 
 -- ---- connection 1 subscribes late and lags, by its subscription 1; connection 0 sends, and its own subscription is closed
 
+-- the acts of the row before connection 1 subscribes
 abbrev pub early_acts : List Act
 early_acts = opens 0 (opens 1 (reads 0 (subscribe (codes "s") A) ∷ sends_one 0 (codes "1") []))
 
+-- connection 1 subscribes after the first of four SENDs; its queue takes two, and lags at the last
 abbrev pub late_acts : List Act
 late_acts = opens 0 (opens 1 (reads 0 (subscribe (codes "s") A) ∷ sends_one 0 (codes "1") (reads 1 (subscribe (codes "t") A)
     ∷ reads 0 (frame commands.Unsubscribe ((codes "id", codes "s") ∷ []) []) ∷ sends_one 0 (codes "2") (sends_one 0 (codes "3") (sends_one 0 (codes "4") (
     act (Event.Take 1) ∷ act (Event.Take 1) ∷ act (Event.Take 1) ∷ act (Event.Leave 1) ∷ waits 0 ∷ []))))))
 
+-- the core after the late subscription
 abbrev pub late : Core
 late = played narrow late_acts
 
@@ -175,9 +187,11 @@ late_frontier = refl
 
 -- ---- an UNSUBSCRIBE ends the subscription that its id names, whatever number a wrong outcome says
 
+-- connection 0 has subscriptions s and t to A, numbers 0 and 1
 abbrev pub two_subscribed : Core
 two_subscribed = played one (opens 0 (reads 0 (subscribe (codes "s") A) ∷ reads 0 (subscribe (codes "t") A) ∷ []))
 
+-- an UNSUBSCRIBE of s, with an outcome that names subscription 1
 abbrev pub wrong_end : CoreStep
 wrong_end = record {
   event = Event.Next 0;
@@ -199,6 +213,7 @@ shown_lag = refl
 
 -- ---- two subscriptions of one connection, to two topics: each MESSAGE has its own subscription's id and its own topic's part
 
+-- a transaction to A and B, with a subscription to each; Takes of both, and of a number that none has
 abbrev pub pair_acts : List Act
 pair_acts = opens 0 (reads 0 (subscribe (codes "s") A) ∷ reads 0 (subscribe (codes "t") B) ∷ to_both 0 (
     propose 0 0 ∷ propose 0 1 ∷ act (Event.Decide 0) ∷ turn 1 ∷ turn 0 ∷ act (Event.Take 1) ∷ act (Event.Take 0) ∷ act (Event.Take 2) ∷ []))
@@ -219,9 +234,11 @@ pair_shares = refl
 
 -- ---- two transactions that are refused, for two reasons: each ERROR has its own
 
+-- a core with topics A and B, where A's clock is full
 abbrev pub marks_start : Core
 marks_start = new_core (topic_list ((A, 18446744073709551615) ∷ (B, 0) ∷ [])) 64
 
+-- a SEND that the full clock of A refuses, and one to B without memory; both are withdrawn
 abbrev pub marks_acts : List Act
 marks_acts = opens 0 (opens 1 (reads 0 (send A (codes "m")) ∷ reads 1 (send B (codes "n")) ∷ propose 0 0 ∷ without 1 (propose 1 1)
     ∷ act (Event.Withdraw 0) ∷ act (Event.Withdraw 1) ∷ act (Event.Leave 0) ∷ act (Event.Leave 1) ∷ []))
@@ -240,12 +257,15 @@ marks_agrees = refl
 
 -- ---- a reader stands for what it left, also where a frame is due or the stream is at fault
 
+-- a reader that has half a command, and no fault
 abbrev pub half : Unread
 half = record { limits = reader_limits; text = codes "SE"; answered = None }
 
+-- a reader whose stream is at fault for its command
 abbrev pub at_fault : Unread
 at_fault = record { limits = reader_limits; text = codes "HI"; answered = Some checks.BadCommand }
 
+-- a Next of connection 0 that had this reading, and was refused as without a frame
 abbrev pub after_reading : Reading → CoreStep
 after_reading reading = record { event = Event.Next 0; reading = reading; outcome = Refused Refusal.NoFrame }
 
@@ -257,9 +277,11 @@ fault_is_left = refl
 
 -- ---- a sender that has no sequence number left: its SEND is answered as without memory, whatever memory there is
 
+-- a core with topic A and one connection, which is connected
 abbrev pub connected : Core
 connected = played one (opens 0 [])
 
+-- the same, where the sender has used its last sequence number
 abbrev pub spent : Core
 spent = record connected {
   world = record connected.world { senders = record new_sender { seq = 18446744073709551615 } ∷ [] };

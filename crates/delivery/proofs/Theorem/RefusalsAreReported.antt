@@ -110,6 +110,7 @@ full_is_commit w (Releases t) k = absurd (true≢false (refused_none w (Releases
 full_is_commit w (Turns t) k = absurd (true≢false (refused_none w (Turns t) Objection.SeqFull (refl, tt) k))
 full_is_commit w (Takes s) k = absurd (true≢false (refused_none w (Takes s) Objection.SeqFull (refl, (refl, (refl, tt))) k))
 
+-- what refuses a move is reported by the core, but for a commit without a sequence number left
 pub refusals_are_reported : Laws.RefusalsAreReported
 refusals_are_reported r e why k =
     elim (reported why (outcome_usual (answers_of r) (final_world r) e why (reached r) k)) [

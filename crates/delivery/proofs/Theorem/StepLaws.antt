@@ -283,6 +283,7 @@ pub outcome_case : (w : World) (e : Move) (why : Objection) (o : Option Objectio
 outcome_case w e why None never k = absurd (never k)
 outcome_case w e why (Some other) never k = let d : other ≡ why = cc in ap Some d
 
+-- in a world that a run reaches, no move is refused as foreign, as a clash, or as decided
 pub outcome_usual : (past : List Answer) (w : World) (e : Move) (why : Objection) → Reached past w → answer_to w e ≡ Refused why → is_odd why ≡ false
 outcome_usual past w e why h k = refusal_usual past w e why h (outcome_case w e why (move_refusal w e) (no_answer w e why) k)
 
