@@ -20,6 +20,7 @@ has names q = list_any (λ n. bytes_eq q n) names
 abbrev pub seen : List Header → List (List ℕ)
 seen headers = map (λ h. h.0) headers ++ kept_back
 
+-- the test that two texts are equal answers the same with the two exchanged
 pub either_way : (xs ys : List ℕ) → bytes_eq xs ys ≡ bytes_eq ys xs
 either_way xs ys = same_from_decides (bytes_eq xs ys) (bytes_eq ys xs) (bytes_eq-Decides xs ys) (Decides-like (bytes_eq ys xs) (λ e. sym e) (λ e. sym e) (bytes_eq-Decides ys xs))
 
@@ -63,11 +64,13 @@ pub seen_more : (hs : List Header) (h : Header) (q : List ℕ) → has (seen (hs
 seen_more [] h q = refl
 seen_more (g ∷ hs) h q = ap (λ b. bytes_eq q g.0 || b) (seen_more hs h q) ∙ or_third (bytes_eq q g.0) (bytes_eq q h.0) (has (seen hs) q)
 
+-- the headers from an index on are the one at it, and those from the next on
 pub rest_at : (hs : List Header) (i : ℕ) (h : Header) → slice_get hs i ≡ Some h → drop i hs ≡ h ∷ drop (i + 1) hs
 rest_at [] i h e = absurd cc
 rest_at (g ∷ hs) zero h e = ap (λ (x : Header). x ∷ hs) (same_Some g h e)
 rest_at (g ∷ hs) (suc i) h e = let more : suc i + 1 ≡ suc (i + 1) = omega arith in rw more (rest_at hs i h e)
 
+-- the first entries of headers that begin with h: without h where its name is among the names
 pub at_cons : (hs rest : List Header) (h : Header) (names : List (List ℕ)) → hs ≡ h ∷ rest → first_entries names hs ≡ cond (has names h.0) (first_entries names rest) (h ∷ first_entries (h.0 ∷ names) rest)
 at_cons hs rest h names e = ap (first_entries names) e
 

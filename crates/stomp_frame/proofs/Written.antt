@@ -175,6 +175,7 @@ spelled_first limits f more w i =
       parts = refl;
     }
 
+-- the first i + 1 headers are the first i, and the one at i
 pub taken : (hs : List Header) (i : ℕ) (h : Header) → slice_get hs i ≡ Some h → take (i + 1) hs ≡ take i hs ++ h ∷ []
 taken [] i h e = absurd cc
 taken (g ∷ hs) zero h e = ap (λ (x : Header). x ∷ []) (same_Some g h e)
