@@ -82,12 +82,15 @@ pub record EndsAt {Q : Type 0} (shown : Q → Shown) (n : ℕ) (subs : List (Sub
   pub rooms : rooms_without n (map (entry_of shown) subs) (map (room_of shown) subs) ≡ map (room_of shown) (remove subs i)
   pub left : NumbersDiffer (map (entry_of shown) subs) → filter (λ (e : Entry). not (e.number == n)) (map (entry_of shown) subs) ≡ map (entry_of shown) (remove subs i)
 
+-- a test that two numbers are equal holds with the two exchanged
 pub flip_true : (a b : ℕ) → (a == b) ≡ true → (b == a) ≡ true
 flip_true a b e = grind (arith, nat_tests)
 
+-- a test that two numbers are equal fails with the two exchanged
 pub flip_false : (a b : ℕ) → (a == b) ≡ false → (b == a) ≡ false
 flip_false a b e = grind (arith, nat_tests)
 
+-- numbers that pass the test of equality are equal
 pub is_number : (a b : ℕ) → (a == b) ≡ true → a ≡ b
 is_number a b e = grind (arith, nat_tests)
 

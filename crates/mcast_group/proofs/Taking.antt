@@ -50,6 +50,7 @@ taken_rooms shown n (s ∷ subs) (suc i) d new l e f r =
     let ih = taken_rooms shown n subs i d new (omega arith) e (λ k m. f (suc k) (omega arith)) r in
     rw b (ap (λ (rs : List Room). room_of shown s ∷ rs) ih)
 
+-- the rooms after a take of a number: those with its subscription replaced by the one that took
 pub taken_at : {Q : Type 0} (shown : Q → Shown) (n : ℕ) (subs : List (Subscription Q)) (i : ℕ) (d new : Subscription Q) → position (λ (z : Subscription Q). z.number == n) subs ≡ Some i → room_of shown new ≡ room_after_take (shown (get_or subs i d).outlet) → rooms_after_take n (map (entry_of shown) subs) (map (room_of shown) subs) ≡ map (room_of shown) (set subs i new)
 taken_at {Q = Q} shown n subs i d new e r =
     let k = position-Some (λ (z : Subscription Q). z.number == n) subs i d e in
@@ -66,6 +67,7 @@ none_taken {Q = Q} shown n (s ∷ subs) h = go (none_taken shown n subs) (s.numb
         let b = flip_false s.number n k in
         rw b (ap (λ (rs : List Room). room_of shown s ∷ rs) (ih e))
 
+-- where no subscription has the number, a take changes no room
 pub untouched : {Q : Type 0} (shown : Q → Shown) (n : ℕ) (subs : List (Subscription Q)) → position (λ (z : Subscription Q). z.number == n) subs ≡ None → rooms_after_take n (map (entry_of shown) subs) (map (room_of shown) subs) ≡ map (room_of shown) subs
 untouched {Q = Q} shown n subs e = none_taken shown n subs (none_at (λ (z : Subscription Q). z.number == n) subs e)
 

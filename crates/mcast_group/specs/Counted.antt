@@ -49,7 +49,8 @@ next_in (Some s) = next_index s
 abbrev pub next_at : ℕ → GroupState → Option ℕ
 next_at number g = next_in (shown_at number g)
 
--- the rooms after a take of this number: that of its subscription counts one more item as taken, where one was left
+-- the rooms after a take of this number: that of its subscription counts one more item as taken, where
+-- one was left
 abbrev pub rooms_after_take : ℕ → List Entry → List Room → List Room
 rooms_after_take number [] rooms = rooms
 rooms_after_take number (e ∷ es) [] = []
@@ -60,7 +61,8 @@ rooms_after_take number (e ∷ es) (r ∷ rooms) =
 abbrev pub group_after_take : ℕ → GroupState → GroupState
 group_after_take number g = record g { rooms = rooms_after_take number g.topic.subscriptions g.rooms }
 
--- the item of this index among those that a subscription's queue accepted, if there is the subscription and the item
+-- the item of this index among those that a subscription's queue accepted, if there is the subscription
+-- and the item
 abbrev pub item_in : ℕ → Option Entry → Option Item
 item_in index None = None
 item_in index (Some e) = slice_get e.accepted index
