@@ -10,6 +10,7 @@ from_not : (b : Bool) → not b ≡ true → b ≡ false
 from_not true e = absurd cc
 from_not false e = refl
 
+-- an octet of ASCII that isn't NULL
 abbrev pub is_ascii : ℕ → Bool
 is_ascii b = not (eqb b 0) && ltb b 128
 
@@ -23,5 +24,6 @@ all_ascii (b ∷ text) e =
     let here : b ≢ 0 = eqb-false b 0 (from_not (eqb b 0) q.0) in
     ((here, others.0), elim [ zero ↦ ltb-true b 128 q.1 | suc i ↦ others.1 i ])
 
+-- octets from 1 to 127 are a text
 pub is_text : (text : List ℕ) → list_all is_ascii text ≡ true → IsText text
 is_text text e = let a = all_ascii text e in record { utf8 = IsUtf8-from_ascii text a.1; no_null = a.0 }
