@@ -27,12 +27,14 @@ body_of limits (Some n) text = counted_at n text
 body_of limits None text = uncounted_at limits text
 
 -- the frame, once its body is read
-abbrev pub frame_of_body : Command → List Header → Result (List ℕ × List ℕ) Halt → Result (RawFrame × List ℕ) Halt
+abbrev pub frame_of_body : Command → List Header → Result (List ℕ × List ℕ) Halt
+    → Result (RawFrame × List ℕ) Halt
 frame_of_body command headers read =
     read >>= λ body. Ok (record { command = command; headers = headers; body = body.0 }, body.1)
 
 -- the frame, once the headers are read, and the text after them
-abbrev pub frame_after_headers : Limits → Command → List Header × List ℕ → Result (RawFrame × List ℕ) Halt
+abbrev pub frame_after_headers : Limits → Command → List Header × List ℕ
+    → Result (RawFrame × List ℕ) Halt
 frame_after_headers limits command headers =
     frame_of_body command headers.0 (body_at limits headers.0 headers.1)
 
@@ -60,16 +62,19 @@ sought (Body command length) = 0
 abbrev pub IsUnfound : ℕ → List ℕ → ℕ → Type 0
 IsUnfound b text n = (i : ℕ) → i < n → slice_index text i ≢ b
 
--- Before there is a command, there are no headers and nothing is parsed; after it, the text doesn't begin with an
--- end-of-line, whatever comes.
+-- Before there is a command, there are no headers and nothing is parsed; after it, the text doesn't begin
+-- with an end-of-line, whatever comes.
 abbrev pub HasBegun : List ℕ → Awaited → List Header → ℕ → Type 0
 HasBegun text CommandLine headers parsed = (headers ≡ []) × (parsed ≡ 0)
-HasBegun text (HeaderLine command) headers parsed = (more : List ℕ) → after_eols (text ++ more) ≡ text ++ more
-HasBegun text (Body command length) headers parsed = (more : List ℕ) → after_eols (text ++ more) ≡ text ++ more
+HasBegun text (HeaderLine command) headers parsed =
+    (more : List ℕ) → after_eols (text ++ more) ≡ text ++ more
+HasBegun text (Body command length) headers parsed =
+    (more : List ℕ) → after_eols (text ++ more) ≡ text ++ more
 
--- The first parsed octets of the text are parsed, and the next searched octets hold nothing that is searched for:
--- whatever comes after the text, reading it from its start is reading on from there.
-pub record IsReadUpTo (limits : Limits) (text : List ℕ) (awaited : Awaited) (headers : List Header) (parsed searched : ℕ) : Type 0 where
+-- The first parsed octets of the text are parsed, and the next searched octets hold nothing that is searched
+-- for: whatever comes after the text, reading it from its start is reading on from there.
+pub record IsReadUpTo (limits : Limits) (text : List ℕ) (awaited : Awaited) (headers : List Header)
+    (parsed searched : ℕ) : Type 0 where
   pub within : parsed + searched ≤ length text
   pub few : length headers ≤ limits.headers
   pub begun : HasBegun text awaited headers parsed
@@ -84,7 +89,8 @@ IsPartial limits text partial =
 
 -- In what a reader holds, the unread text begins at start; it begins with end-of-lines, and the partial frame
 -- begins at front, after these: skipping them ends there, whatever comes.
-pub record IsReaderState (limits : Limits) (text : List ℕ) (start front : ℕ) (partial : PartialFrame) : Type 0 where
+pub record IsReaderState (limits : Limits) (text : List ℕ) (start front : ℕ) (partial : PartialFrame)
+    : Type 0 where
   pub order : start ≤ front
   pub within : front ≤ length text
   pub skips : (more : List ℕ) → after_eols (drop start text ++ more) ≡ after_eols (drop front text ++ more)
