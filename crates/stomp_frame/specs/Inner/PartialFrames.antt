@@ -33,7 +33,8 @@ frame_of_body command headers read =
     read >>= λ body. Ok (record { command = command; headers = headers; body = body.0 }, body.1)
 
 -- the frame, once the headers are read, and the text after them
-abbrev pub frame_after_headers : Limits → Command → List Header × List ℕ → Result (RawFrame × List ℕ) Halt
+abbrev pub frame_after_headers : Limits → Command → List Header × List ℕ
+    → Result (RawFrame × List ℕ) Halt
 frame_after_headers limits command headers =
     frame_of_body command headers.0 (body_at limits headers.0 headers.1)
 
@@ -65,7 +66,8 @@ IsUnfound b text n = (i : ℕ) → i < n → slice_index text i ≢ b
 -- with an end-of-line, whatever comes.
 abbrev pub HasBegun : List ℕ → Awaited → List Header → ℕ → Type 0
 HasBegun text CommandLine headers parsed = (headers ≡ []) × (parsed ≡ 0)
-HasBegun text (HeaderLine command) headers parsed = (more : List ℕ) → after_eols (text ++ more) ≡ text ++ more
+HasBegun text (HeaderLine command) headers parsed =
+    (more : List ℕ) → after_eols (text ++ more) ≡ text ++ more
 HasBegun text (Body command length) headers parsed =
     (more : List ℕ) → after_eols (text ++ more) ≡ text ++ more
 
