@@ -1,5 +1,6 @@
 -- Outlets that count what was taken: their answers are a function of what they show.
-use Rattle.std.specs.Prelude.{◌≡◌, ℕ, ◌==◌, Bool, false, List, [], ◌∷◌, slice_get, Option, Some, None, if◌then◌else◌}
+use Rattle.std.specs.Prelude.{◌≡◌, ℕ, ◌==◌, Bool, false, List, [], ◌∷◌, slice_get}
+use Rattle.std.specs.Prelude.{Option, Some, None, if◌then◌else◌}
 use Rattle.mcast_txn.specs.Span.{Item}
 use Rattle.mcast_txn.specs.declared.id.TxnId.{TxnId}
 use Rattle.mcast_txn.specs.Ballot.{Decision}
@@ -49,8 +50,7 @@ next_in (Some s) = next_index s
 abbrev pub next_at : ℕ → GroupState → Option ℕ
 next_at number g = next_in (shown_at number g)
 
--- the rooms after a take of this number: that of its subscription counts one more item as taken, where
--- one was left
+-- the rooms after a take of this number: its subscription's counts one more item as taken, where one was left
 abbrev pub rooms_after_take : ℕ → List Entry → List Room → List Room
 rooms_after_take number [] rooms = rooms
 rooms_after_take number (e ∷ es) [] = []
@@ -61,8 +61,7 @@ rooms_after_take number (e ∷ es) (r ∷ rooms) =
 abbrev pub group_after_take : ℕ → GroupState → GroupState
 group_after_take number g = record g { rooms = rooms_after_take number g.topic.subscriptions g.rooms }
 
--- the item of this index among those that a subscription's queue accepted, if there is the subscription
--- and the item
+-- the item of this index among those that a subscription's queue accepted, if there are both
 abbrev pub item_in : ℕ → Option Entry → Option Item
 item_in index None = None
 item_in index (Some e) = slice_get e.accepted index
