@@ -5,6 +5,8 @@ use Rattle.std.specs.Fmt.{digits}
 use Rattle.mcast_txn.specs.declared.id.Topic.{Topic}
 use Rattle.mcast_txn.specs.declared.id.TxnId.{TxnId}
 use Rattle.mcast_txn.specs.declared.stamp.Stamp.{Stamp}
+use Rattle.trace_audit.specs.AuditText.{agreed_text, refusal_text}
+use Rattle.trace_audit.specs.declared.fault.AuditFault.TheVariants as audit
 use Rattle.trace_audit.specs.Parsing.{lines_of, AddsLines, IsBadLine, IsFirstBad}
 use Rattle.trace_audit.specs.Report.{key_lt, print_key}
 use Rattle.trace_audit.specs.Text.{row_text, SpellsRow}
@@ -83,3 +85,20 @@ logs_are_first = refl
 
 a_span_and_its_queue_tie : key_lt (print_key opened) (print_key queued) ≡ false
 a_span_and_its_queue_tie = refl
+
+-- ---- what is written of an answer
+
+a_yes : agreed_text (record { id = id 0 1; topics = topic 0 ∷ topic 1 ∷ []; stamp = stamp 2 1 } ∷ []) true ≡ codes "agreed 0 1 2.1 0,1\ncomplete\n"
+unfolding digits
+a_yes = refl
+
+nothing_is_agreed : agreed_text [] true ≡ codes "complete\n"
+nothing_is_agreed = refl
+
+a_hole : refusal_text (audit.Hole (topic 1)) ≡ codes "no 95 Hole 1\n"
+unfolding digits
+a_hole = refl
+
+two_verdicts : refusal_text audit.TwoVerdicts ≡ codes "no 93 TwoVerdicts\n"
+unfolding digits
+two_verdicts = refl

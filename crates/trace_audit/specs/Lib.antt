@@ -1,4 +1,5 @@
 pub mod Answers
+pub mod AuditText
 pub mod Explained
 pub mod Faults
 pub mod Line

@@ -1,5 +1,6 @@
 //! The text of a trace.
 
+mod answer;
 mod entry;
 mod fields;
 mod parse;

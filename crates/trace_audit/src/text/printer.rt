@@ -31,14 +31,14 @@ pub(crate) fn put_row(out: &mut Octets, entry: Entry<'_>) -> Result<(), NoMemory
 }
 
 // Writes a number's digits.
-fn digits(out: &mut Octets, n: u64) -> Result<(), NoMemory>
+pub(crate) fn digits(out: &mut Octets, n: u64) -> Result<(), NoMemory>
     ensures { OnOk result (out.new ≡ out.old ++ decimal n) }
 {
     out.extend(Buffer::new().format(n).as_bytes())
 }
 
 // Writes a space and a number.
-fn number(out: &mut Octets, n: u64) -> Result<(), NoMemory>
+pub(crate) fn number(out: &mut Octets, n: u64) -> Result<(), NoMemory>
     ensures { OnOk result (out.new ≡ out.old ++ 32 ∷ decimal n) }
 {
     out.push(b' ')?;
@@ -53,7 +53,7 @@ fn topic(out: &mut Octets, topic: Topic) -> Result<(), NoMemory>
 }
 
 // Writes a space and a transaction.
-fn id(out: &mut Octets, id: TxnId) -> Result<(), NoMemory>
+pub(crate) fn id(out: &mut Octets, id: TxnId) -> Result<(), NoMemory>
     ensures { OnOk result (out.new ≡ out.old ++ 32 ∷ id_text id) }
 {
     number(out, id.sender.0)?;
@@ -61,7 +61,7 @@ fn id(out: &mut Octets, id: TxnId) -> Result<(), NoMemory>
 }
 
 // Writes a space and a stamp.
-fn stamp(out: &mut Octets, stamp: Stamp) -> Result<(), NoMemory>
+pub(crate) fn stamp(out: &mut Octets, stamp: Stamp) -> Result<(), NoMemory>
     ensures { OnOk result (out.new ≡ out.old ++ 32 ∷ stamp_text stamp) }
 {
     number(out, stamp.n)?;
@@ -80,7 +80,7 @@ fn end(out: &mut Octets, to: Option<Stamp>) -> Result<(), NoMemory>
 }
 
 // Writes a space and topics.
-fn topics(out: &mut Octets, topics: &[Topic]) -> Result<(), NoMemory>
+pub(crate) fn topics(out: &mut Octets, topics: &[Topic]) -> Result<(), NoMemory>
     ensures { OnOk result (out.new ≡ out.old ++ 32 ∷ topics_text topics.now) }
 {
     out.push(b' ')?;

@@ -37,12 +37,6 @@ fn is_printed_as(alloc: Global, text: &[u8], printed: &[u8]) -> Option<bool> {
     Some(again.as_slice() == printed)
 }
 
-/// The first fault that the auditor finds in a text's trace.
-fn fault_in(alloc: Global, text: &[u8]) -> Option<AuditFault> {
-    let trace = Trace::parse(alloc, text).ok()?;
-    audit(alloc, &trace).err()
-}
-
 #[test]
 fn lines_are_rows(rt: HostRuntime) {
     let texts: [&[u8]; 15] = [
@@ -191,31 +185,64 @@ fn refused_growths_are_reported(rt: HostRuntime) {
     }
 }
 
+/// Whether what is written of the answer to a text's trace is this; `None` where memory ran out.
+fn is_answered(alloc: Global, text: &[u8], written: &[u8]) -> Option<bool> {
+    let trace = match Trace::parse(alloc, text) {
+        Ok(trace) => trace,
+        Err(ParseFault::BadRow(_)) => return Some(false),
+        Err(ParseFault::NoMemory) => return None,
+    };
+    let answer = match audit(alloc, &trace) {
+        Ok(agreed) => agreed.print(alloc),
+        Err(AuditFault::NoMemory) => return None,
+        Err(fault) => fault.print(alloc),
+    };
+    let Ok(answer) = answer else {
+        return None;
+    };
+    Some(answer.as_slice() == written)
+}
+
+/// Texts, and what is written of the answers to their traces.
+const ANSWERED: [(&[u8], &[u8]); 10] = [
+    (b"", b"complete\n"),
+    (
+        b"log 0 1 1 2.0 0,1\nlog 0 0 1 2.1 0,1\nlog 1 1 1 2.0 0,1\nlog 1 0 1 2.1 0,1\n",
+        b"agreed 1 1 2.0 0,1\nagreed 0 1 2.1 0,1\ncomplete\n",
+    ),
+    (
+        b"log 0 1 1 2.0 0,1\nlog 0 0 1 2.1 0,1\nlog 1 1 1 2.0 0,1\nlog 1 0 1 1.1 0,1\n",
+        b"no 93 TwoVerdicts\n",
+    ),
+    (
+        b"log 0 1 1 2.0 0,1\nlog 0 0 1 2.1 0,1\nlog 1 0 1 2.1 0,1\n",
+        b"no 95 Hole 1\n",
+    ),
+    (b"span 0 0 0.0 -\nqueue 0 0 1 1.0\n", b"no 96 QueueRow 0\n"),
+    (
+        b"span 18446744073709551615 0 0.0 -\nqueue 18446744073709551615 0 1 1.0\n",
+        b"no 96 QueueRow 18446744073709551615\n",
+    ),
+    (b"log 0 0 1 1.0 0\nlog 0 1 1 1.0 0\n", b"no 97 SameStamp\n"),
+    (
+        b"log 0 0 2 1.0 0\nlog 0 0 1 2.0 0\n",
+        b"no 94 SenderOrder\n",
+    ),
+    (b"log 0 0 2 2.0 0\nlog 0 0 1 1.0 0\n", b"no 92 LogOrder\n"),
+    (b"log 0 0 1 1.1 0,1\n", b"agreed 0 1 1.1 0,1\nincomplete\n"),
+];
+
 #[test]
-fn texts_are_audited(rt: HostRuntime) {
-    let cases: [(&[u8], Option<u32>); 9] = [
-        (b"", None),
-        (
-            b"log 0 1 1 2.0 0,1\nlog 0 0 1 2.1 0,1\nlog 1 1 1 2.0 0,1\nlog 1 0 1 2.1 0,1\n",
-            None,
-        ),
-        (
-            b"log 0 1 1 2.0 0,1\nlog 0 0 1 2.1 0,1\nlog 1 1 1 2.0 0,1\nlog 1 0 1 1.1 0,1\n",
-            Some(93),
-        ),
-        (
-            b"log 0 1 1 2.0 0,1\nlog 0 0 1 2.1 0,1\nlog 1 0 1 2.1 0,1\n",
-            Some(95),
-        ),
-        (b"span 0 0 0.0 -\nqueue 0 0 1 1.0\n", Some(96)),
-        (b"log 0 0 1 1.0 0\nlog 0 1 1 1.0 0\n", Some(97)),
-        (b"log 0 0 2 1.0 0\nlog 0 0 1 2.0 0\n", Some(94)),
-        (b"log 0 0 2 2.0 0\nlog 0 0 1 1.0 0\n", Some(92)),
-        (b"log 0 0 1 1.1 0,1\n", None),
-    ];
-    for (text, number) in cases {
-        let found = fault_in(rt.alloc(), text).map(|fault| fault.number());
-        assert_eq!(rt; found, number);
+fn answers_are_written(rt: HostRuntime) {
+    for (text, written) in ANSWERED {
+        assert_eq!(rt; is_answered(rt.alloc(), text, written), Some(true));
+    }
+}
+
+#[test]
+fn refused_growths_of_answers_are_reported(rt: HostRuntime) {
+    for (text, written) in ANSWERED {
+        assert!(rt; is_answered(rt.alloc(), text, written) != Some(false));
     }
 }
 
