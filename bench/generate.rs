@@ -125,6 +125,56 @@ fn topic(subscriptions: usize, place: usize, numbers: &mut Numbers) -> Vec<u8> {
     text
 }
 
+/// How many transactions the log of the input `subscriptions` has, and how many subscriptions there are.
+const LOGGED: usize = 960;
+const SUBSCRIPTIONS: usize = 1_000;
+
+/// A log's row: the sender is one of eight, and each of its transactions has a later stamp.
+fn logged(topic: usize, at: usize, named: &[usize]) -> Vec<u8> {
+    let mut row = format!("0 {topic} {} {} {} 0 ", at % 8, at / 8 + 1, at + 1);
+    for name in named {
+        row.push_str(&format!("{name} "));
+    }
+    row.push('\n');
+    row.into_bytes()
+}
+
+/// One log with all rows.
+fn one_topic(place: usize) -> Vec<u8> {
+    logged(0, place, &[0])
+}
+
+/// A log, subscriptions from each of its stamps on, and the rows of their queues by turns.
+fn subscriptions(place: usize) -> Vec<u8> {
+    if place < LOGGED {
+        return logged(0, place, &[0]);
+    }
+    let place = place - LOGGED;
+    if place < SUBSCRIPTIONS {
+        return format!("1 {place} 0 {} 0 \n", place % LOGGED / 8).into_bytes();
+    }
+    let place = place - SUBSCRIPTIONS;
+    let (at, sub) = (place / SUBSCRIPTIONS, place % SUBSCRIPTIONS);
+    if at < sub % LOGGED / 8 {
+        return Vec::new();
+    }
+    // The log has ended: more than fits, so the input ends.
+    if at >= LOGGED {
+        return vec![b'\n'; 1 << 24];
+    }
+    format!("2 {sub} {} {} {} 0 \n", at % 8, at / 8 + 1, at + 1).into_bytes()
+}
+
+/// Transactions to four of 4,096 topics each, in each of their logs.
+fn many_topics(place: usize) -> Vec<u8> {
+    let first = place * 37 % 4_093;
+    let named = [first, first + 1, first + 2, first + 3];
+    named
+        .iter()
+        .flat_map(|&topic| logged(topic, place, &named))
+        .collect()
+}
+
 /// The frames of the input of that name, at that place.
 fn frames(name: &str, place: usize, numbers: &mut Numbers) -> Option<Vec<u8>> {
     match name {
@@ -138,6 +188,9 @@ fn frames(name: &str, place: usize, numbers: &mut Numbers) -> Option<Vec<u8>> {
         "topic-1" => Some(topic(1, place, numbers)),
         "topic-16" => Some(topic(16, place, numbers)),
         "topic-256" => Some(topic(256, place, numbers)),
+        "one-topic" => Some(one_topic(place)),
+        "subscriptions" => Some(subscriptions(place)),
+        "many-topics" => Some(many_topics(place)),
         _ => None,
     }
 }

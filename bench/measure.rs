@@ -1,5 +1,5 @@
 //! Times a program and its baseline on each input of a benchmark and prints the table:
-//! `measure relay|frames|transactions|topic PROGRAM BASELINE FOLDER`. It refuses outputs that differ,
+//! `measure relay|frames|transactions|topic|audit PROGRAM BASELINE FOLDER`. It refuses outputs that differ,
 //! and judges no time.
 
 use std::env;
@@ -28,6 +28,8 @@ const TOPIC: Rate = Rate {
     program: "mcast_group",
     counts: is_body,
 };
+
+const AUDIT_INPUTS: [&str; 3] = ["one-topic", "subscriptions", "many-topics"];
 const RUNS: usize = 5;
 
 /// What one program took: the best time and the largest peak of all its runs.
@@ -179,6 +181,23 @@ fn print_relay(stompd: &str, baseline: &str, folder: &Path) -> io::Result<()> {
     Ok(())
 }
 
+fn print_audit(program: &str, baseline: &str, folder: &Path) -> io::Result<()> {
+    println!("best of {RUNS} runs, from file to file; ms is time, MiB is peak memory");
+    println!("              input |   trace_audit   |    baseline     | trace_audit over");
+    println!("                MiB |    ms       MiB |    ms       MiB |  baseline  input");
+    for name in AUDIT_INPUTS {
+        let size = length(folder, name)?;
+        let costs = measure([&[program], &[baseline]], folder, name)?;
+        print!("{name:<13} {:5.1} |", size / 1_048_576.0);
+        for cost in costs {
+            print!(" {:7.1} {:7.1} |", cost.milliseconds(), cost.mebibytes());
+        }
+        let time = costs[0].milliseconds() / costs[1].milliseconds();
+        println!(" {time:9.2} {:6.2}", costs[0].peak as f64 / size);
+    }
+    Ok(())
+}
+
 /// A benchmark that tells how many things a program does in a second.
 struct Rate {
     inputs: &'static [&'static str],
@@ -252,8 +271,11 @@ fn main() -> ExitCode {
             "topic",
             print_rate(TOPIC, program, baseline, Path::new(folder)),
         ),
+        ["audit", program, baseline, folder] => {
+            ("audit", print_audit(program, baseline, Path::new(folder)))
+        }
         _ => {
-            eprintln!("usage: measure relay|frames|transactions|topic PROGRAM BASELINE FOLDER");
+            eprintln!("usage: measure relay|frames|transactions|topic|audit PROGRAM BASELINE FOLDER");
             return ExitCode::FAILURE;
         }
     };
