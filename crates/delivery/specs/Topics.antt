@@ -15,8 +15,8 @@ no_topics = record { names = []; clocks = [] }
 abbrev pub max_topics : ℕ
 max_topics = 1024
 
--- A topic of this name may be added: the name isn't empty, no topic has it, and there is room for one more. So
--- beside A alone, B may be, and neither A nor the empty name.
+-- A topic of this name may be added: the name isn't empty, no topic has it, and there is room for one more.
+-- So beside A alone, B may be, and neither A nor the empty name.
 pub record MayAdd (name : List ℕ) (topics : TopicList) : Type 0 where
   pub named : name ≢ []
   pub new : is_known name topics.names ≡ false
