@@ -67,5 +67,5 @@ item_in index None = None
 item_in index (Some e) = slice_get e.accepted index
 
 -- the same, of the subscription of this number
-abbrev pub item_at : ℕ → ℕ → GroupState → Option Item
-item_at number index g = item_in index (find_entry number g.topic.subscriptions)
+abbrev pub queue_item_at : ℕ → ℕ → GroupState → Option Item
+queue_item_at number index g = item_in index (find_entry number g.topic.subscriptions)

@@ -7,7 +7,7 @@ ghost use Rattle.mcast_txn.specs.Part.{data_of};
 ghost use Rattle.mcast_group.specs.Group.{CanLearn, MayBeFound, GroupState, Releases, ReleasesAll, Tries, TriesAll, Turns, AreFound, group_after_release, result_of, after_enter, propose_refusal, HasLeft, shown_at, sub_refusal, group_after_subscribe, group_after_unsubscribe};
 ghost use Rattle.mcast_txn.specs.declared.id.TxnId.{TxnId};
 ghost use Rattle.mcast_txn.specs.Ballot.{Decision};
-ghost use Rattle.mcast_group.specs.Counted.{group_after_take, item_at, next_at, takes_of};
+ghost use Rattle.mcast_group.specs.Counted.{group_after_take, queue_item_at, next_at, takes_of};
 ghost use Rattle.mcast_group.specs.Inner.Copies.{AreOf, HaveCopies};
 ghost use Rattle.mcast_group.specs.Fitting.{Fits};
 ghost use Rattle.mcast_group.specs.Inner.GroupInvariant.{entry_of};
@@ -400,7 +400,7 @@ impl Group<VecOutlet> {
 
     /// The item of this index, from 0, among those that the queue of the subscription of this number accepted.
     pub fn item(&self, number: u64, index: usize) -> Option<&Released>
-        ensures { option_map (λ item. item.now) result ≡ item_at number index self.now }
+        ensures { option_map (λ item. item.now) result ≡ queue_item_at number index self.now }
     {
         let at = index_of_sub(&self.subscriptions, number)?;
         self.subscriptions[at].outlet.get(index)

@@ -16,7 +16,7 @@ use Rattle.mcast_txn.proofs.Orders.{lt_irrefl, lt_trans, le_trans, same_stamps, 
 use Rattle.trace_audit.specs.Faults.{differ, collide, overtake, some_two, falls, out_of_order}
 use Rattle.trace_audit.specs.Line.{LogLine}
 use Rattle.trace_audit.specs.Inner.Chained.{Chained, Above}
-use Rattle.trace_audit.specs.Inner.Orders.{shown, RisesById, RisesByStamp, RisesByTopic}
+use Rattle.trace_audit.specs.Inner.Orders.{shown, IsOrderedById, RisesByStamp, RisesByTopic}
 use Rattle.trace_audit.specs.Trace.{rows_of, log_of}
 use Rattle.trace_audit.proofs.Explaining.{and_true, not_false, open_test, one_row, rows_equal, topics_equal, stamps_equal, log_rises}
 use Rattle.trace_audit.proofs.OrderLemmas.{chain_shown, chain_pair}
@@ -110,7 +110,7 @@ id_back : (a b : LogRow) → same_id a.id b.id ≡ true → same_id b.id a.id �
 id_back a b e = id_same b.id a.id (sym (id_equal a.id b.id e))
 
 -- in rows in order of id, two rows differ exactly where two neighbours do
-pub verdicts_tested : (rows : List (Bor LogLine)) (r : Bool) → RisesById rows → IsAllAdjacentAnswer (λ x y b. b ≡ not (differ x.now.row y.now.row)) rows r → not r ≡ some_two differ (shown rows)
+pub verdicts_tested : (rows : List (Bor LogLine)) (r : Bool) → IsOrderedById rows → IsAllAdjacentAnswer (λ x y b. b ≡ not (differ x.now.row y.now.row)) rows r → not r ≡ some_two differ (shown rows)
 verdicts_tested rows r up h =
     answered differ (λ a b. differ a.row b.row) rows r h
     (λ none. none_chained differ Agrees (shown rows)
@@ -296,7 +296,7 @@ not_overtaken lines a b verdicts i j c e = go c
     go (inr (inr p)) = equal (ap (λ (z : LogLine). z.row) p)
 
 -- in rows by id without two verdicts, a row overtakes another exactly where one overtakes its neighbour
-pub senders_tested : (rows : List (Bor LogLine)) (r : Bool) → RisesById rows → some_two differ (shown rows) ≡ false → IsAllAdjacentAnswer (λ x y b. b ≡ not (overtake y.now.row x.now.row)) rows r → not r ≡ some_two overtake (shown rows)
+pub senders_tested : (rows : List (Bor LogLine)) (r : Bool) → IsOrderedById rows → some_two differ (shown rows) ≡ false → IsAllAdjacentAnswer (λ x y b. b ≡ not (overtake y.now.row x.now.row)) rows r → not r ≡ some_two overtake (shown rows)
 senders_tested rows r up verdicts h =
     answered overtake (λ a b. overtake b.row a.row) rows r h
     (λ none. none_chained overtake Follows (shown rows)

@@ -6,7 +6,7 @@ ghost use Rattle.std.specs.List.Sorted.{IsPermutation};
 ghost use Rattle.mcast_txn.specs.Lists.{In};
 ghost use Rattle.trace_audit.specs.Faults.{collide, differ, falls, log_has_row, holes, is_whole, is_hole, least, lesser, out_of_order, overtake, some_two};
 ghost use Rattle.trace_audit.specs.Inner.Chained.{IsIndex};
-ghost use Rattle.trace_audit.specs.Inner.Orders.{shown, RisesById, RisesByStamp, RisesByTopic};
+ghost use Rattle.trace_audit.specs.Inner.Orders.{shown, IsOrderedById, RisesByStamp, RisesByTopic};
 ghost use Rattle.trace_audit.specs.Trace.{rows_of};
 
 use crate::logs::{has_row, is_hole};
@@ -14,7 +14,7 @@ use crate::row::LogRow;
 
 // Whether two rows of one transaction differ in stamp or topics.
 pub(crate) fn has_two_verdicts(by_id: &[&LogRow]) -> bool
-    requires { RisesById by_id.now }
+    requires { IsOrderedById by_id.now }
     ensures { result ≡ some_two differ (shown by_id.now) }
 {
     !by_id.is_sorted_by(|a, b| !differ(a, b))
@@ -59,7 +59,7 @@ fn falls(a: &LogRow, b: &LogRow) -> bool
 
 // Whether a sender's seqs don't rise with its stamps, where no transaction has two verdicts.
 pub(crate) fn has_sender_disorder(by_id: &[&LogRow]) -> bool
-    requires rises { RisesById by_id.now }
+    requires rises { IsOrderedById by_id.now }
     requires one_verdict { some_two differ (shown by_id.now) ≡ false }
     ensures { result ≡ some_two overtake (shown by_id.now) }
 {

@@ -2,7 +2,7 @@
 
 ghost use Rattle.std.specs.Prelude.{◌≡◌, IfOk};
 ghost use Rattle.std.specs.List.Sorted.{IsPermutation};
-ghost use Rattle.trace_audit.specs.Inner.Orders.{shown, RisesById, RisesByStamp, RisesByTopic, IsGroupingOf, IsOrdersOf};
+ghost use Rattle.trace_audit.specs.Inner.Orders.{shown, IsOrderedById, RisesByStamp, RisesByTopic, IsGroupingOf, IsOrdersOf};
 
 use crate::row::LogRow;
 use mcast_txn::NoMemory;
@@ -38,7 +38,7 @@ fn references(alloc: Global, logs: &[LogRow]) -> Result<Vec<&LogRow>, NoMemory>
 
 // The rows by sender, and each sender's by seq.
 fn by_id(alloc: Global, logs: &[LogRow]) -> Result<Vec<&LogRow>, NoMemory>
-    ensures rises { IfOk result (λ rows. RisesById rows.items) }
+    ensures rises { IfOk result (λ rows. IsOrderedById rows.items) }
     ensures moved { IfOk result (λ rows. IsPermutation logs.now (shown rows.items)) }
 {
     let mut rows = references(alloc, logs)?;

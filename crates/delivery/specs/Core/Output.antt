@@ -56,11 +56,11 @@ next_replies (Some f) (Outcome.Unsubscribed s to) = receipts_of f
 next_replies read o = []
 
 -- the text of a subscription's id, as its SUBSCRIBE has it
-abbrev pub id_text : ℕ → List CoreStep → List ℕ
-id_text s [] = []
-id_text s (step ∷ older) =
+abbrev pub sub_id_text : ℕ → List CoreStep → List ℕ
+sub_id_text s [] = []
+sub_id_text s (step ∷ older) =
     if option_map_or (λ r. r == s) (begun_by step.outcome) false
-    then option_map_or id_of (frame_in step.reading) [] else id_text s older
+    then option_map_or id_of (frame_in step.reading) [] else sub_id_text s older
 
 -- the MESSAGEs of an item, one for each SEND of its part
 abbrev pub item_messages : List ℕ → Item → List RawFrame
@@ -71,7 +71,7 @@ item_messages id item =
 -- what a Take is answered
 abbrev pub take_replies : ℕ → List CoreStep → List Answer → Outcome → List RawFrame
 take_replies s older account (Outcome.Handed count) =
-    item_messages (id_text s older) (next_item s account)
+    item_messages (sub_id_text s older) (next_item s account)
 take_replies s older account (Outcome.Faulted fault cut) =
     error_frame (connection_title fault) None false ∷ []
 take_replies s older account o = []

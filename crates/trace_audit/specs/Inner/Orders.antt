@@ -14,8 +14,8 @@ abbrev pub shown : {X : Type 0} → List (Bor X) → List X
 shown rows = map (λ r. r.now) rows
 
 -- no row's transaction is below the one before it
-abbrev pub RisesById : List (Bor LogLine) → Type 0
-RisesById rows = IsSortedBy (λ a b. id_lt a.now.row.id b.now.row.id) rows
+abbrev pub IsOrderedById : List (Bor LogLine) → Type 0
+IsOrderedById rows = IsSortedBy (λ a b. id_lt a.now.row.id b.now.row.id) rows
 
 -- no row's stamp is below the one before it
 abbrev pub RisesByStamp : List (Bor LogLine) → Type 0
@@ -37,7 +37,7 @@ pub record IsGroupingOf (rows : List (Bor LogLine)) (logs : List LogLine) : Type
 
 -- the references show these lines in all three orders
 pub record IsOrdersOf (by_id by_stamp by_topic : List (Bor LogLine)) (logs : List LogLine) : Type 0 where
-  pub ids_rise : RisesById by_id
+  pub ids_rise : IsOrderedById by_id
   pub ids_moved : IsPermutation logs (shown by_id)
   pub stamps_rise : RisesByStamp by_stamp
   pub stamps_moved : IsPermutation logs (shown by_stamp)

@@ -1,5 +1,5 @@
 use Rattle.std.proofs.Common.{Bor, sym, ap, slice_get, ◌∙◌}
-use Rattle.mcast_group.specs.Counted.{item_at, item_in}
+use Rattle.mcast_group.specs.Counted.{queue_item_at, item_in}
 use Rattle.std.specs.Option.{option_map}
 use Rattle.mcast_txn.specs.declared.parts.released.Released.{Released}
 use Rattle.mcast_group.specs.declared.subscription.Subscription.{Subscription}
@@ -14,7 +14,7 @@ returns-in_err-at c =
     let at = rw c.deref.ensures.value at c.index_of_sub.ensures in
     ap (option_map (λ (item : Bor Released). item.now)) c.from_residual.ensures
     ∙ (ap (item_in c.args.index) (sym (no_entry shown_of c.args.number subs (sym at ∙ c.in_err-at.was)))
-    ∙ ap (item_at c.args.number c.args.index) c.self.view_is)
+    ∙ ap (queue_item_at c.args.number c.args.index) c.self.view_is)
 
 pub returns : goal.returns
 returns c =
@@ -25,4 +25,4 @@ returns c =
     c.get.ensures
     ∙ (ap (λ (w : Subscription VecOutlet). slice_get w.outlet.accepted c.args.index) c.index.ensures
     ∙ (ap (item_in c.args.index) (sym ends.1.found)
-    ∙ ap (item_at c.args.number c.args.index) c.self.view_is))
+    ∙ ap (queue_item_at c.args.number c.args.index) c.self.view_is))
