@@ -91,13 +91,8 @@ next_item s account =
 -- ---- what a step adds
 
 -- what an outcome of Next adds, where this frame was read after these steps
-<<<<<<< HEAD
-abbrev pub account_of_frame : List (List ℕ) → ℕ → List CoreStep → RawFrame → List Answer → Outcome
-    → List Answer
-=======
 abbrev pub account_of_frame : List (List ℕ) → ℕ → List CoreStep → RawFrame → List Answer
     → Outcome → List Answer
->>>>>>> core
 account_of_frame names c older f account (Outcome.Flying id) =
     let last = last_id c account in
     Answer.Begun (record {
@@ -118,13 +113,8 @@ account_of_no_frame c (Outcome.Faulted fault cut) = Answer.Error c ∷ []
 account_of_no_frame c o = []
 
 -- what a Next adds
-<<<<<<< HEAD
-abbrev pub account_of_next : List (List ℕ) → ℕ → List CoreStep → Option RawFrame → List Answer → Outcome
-    → List Answer
-=======
 abbrev pub account_of_next : List (List ℕ) → ℕ → List CoreStep → Option RawFrame → List Answer
     → Outcome → List Answer
->>>>>>> core
 account_of_next names c older None account o = account_of_no_frame c o
 account_of_next names c older (Some f) account o = account_of_frame names c older f account o
 
@@ -162,13 +152,8 @@ account_of_other (Event.Lost c) id Outcome.Leaving = Answer.Leaving c ∷ []
 account_of_other e id o = []
 
 -- what a step adds to the account so far
-<<<<<<< HEAD
-abbrev pub account_of_step : List (List ℕ) → List CoreStep → List Answer → Event → Reading → Outcome
-    → List Answer
-=======
 abbrev pub account_of_step : List (List ℕ) → List CoreStep → List Answer → Event → Reading
     → Outcome → List Answer
->>>>>>> core
 account_of_step names older account (Event.Next c) reading o =
     account_of_next names c older (frame_in reading) account o
 account_of_step names older account (Event.Propose c t) reading o =
