@@ -1,6 +1,6 @@
 //! Times a program and its baseline on each input of a benchmark and prints the table:
-//! `measure relay|frames|transactions|topic|audit PROGRAM BASELINE FOLDER`. It refuses outputs that differ,
-//! and judges no time.
+//! `measure frames|pieces|transactions|topic|audit PROGRAM BASELINE FOLDER`, or `measure relay` with the floor
+//! before the folder. It refuses outputs that differ, and judges no time.
 
 use std::env;
 use std::fs::{self, File};
@@ -29,29 +29,38 @@ const TOPIC: Rate = Rate {
     counts: is_body,
 };
 
+/// The octets of a piece; at 0 all of the input is one piece.
+const PIECES: [&str; 5] = ["0", "1", "16", "4096", "65536"];
 const AUDIT_INPUTS: [&str; 3] = ["one-topic", "subscriptions", "many-topics"];
 const RUNS: usize = 5;
 
-/// What one program took: the best time and the largest peak of all its runs.
+/// What one program took: the best time by the clock, the best processor time, and the largest peak of all its runs.
 #[derive(Clone, Copy)]
 struct Cost {
     time: Duration,
+    processor: Duration,
     peak: u64,
 }
 
 impl Cost {
     const NONE: Cost = Cost {
         time: Duration::MAX,
+        processor: Duration::MAX,
         peak: 0,
     };
 
     fn add(&mut self, other: Cost) {
         self.time = self.time.min(other.time);
+        self.processor = self.processor.min(other.processor);
         self.peak = self.peak.max(other.peak);
     }
 
     fn milliseconds(self) -> f64 {
         self.time.as_secs_f64() * 1_000.0
+    }
+
+    fn processor_milliseconds(self) -> f64 {
+        self.processor.as_secs_f64() * 1_000.0
     }
 
     fn mebibytes(self) -> f64 {
@@ -67,6 +76,14 @@ struct Usage {
     system: [i64; 2],
     peak_kibibytes: i64,
     others: [i64; 13],
+}
+
+impl Usage {
+    /// The time of the program and of the system for it.
+    fn processor(&self) -> Duration {
+        let [seconds, micros] = [0, 1].map(|place| (self.user[place] + self.system[place]) as u64);
+        Duration::from_secs(seconds) + Duration::from_micros(micros)
+    }
 }
 
 unsafe extern "C" {
@@ -106,6 +123,7 @@ fn run(words: &[&str], input: &Path, output: &Path) -> io::Result<Cost> {
     }
     Ok(Cost {
         time,
+        processor: usage.processor(),
         peak: usage.peak_kibibytes as u64 * 1_024,
     })
 }
@@ -126,7 +144,8 @@ fn are_equal(left: &Path, right: &Path) -> io::Result<bool> {
     Ok(true)
 }
 
-/// Runs each program so many times by turns; what each took. The first two must write the same.
+/// Runs each program so many times by turns; what each took. The first two must write the same, and the third if
+/// there are four.
 fn measure<const N: usize>(
     programs: [&[&str]; N],
     folder: &Path,
@@ -140,11 +159,13 @@ fn measure<const N: usize>(
         for place in 0..N {
             costs[place].add(run(programs[place], &input, &outputs[place])?);
         }
-        if !are_equal(&outputs[0], &outputs[1])? {
-            return Err(io::Error::other(format!(
-                "{name}: the outputs of {} and {} differ",
-                programs[0][0], programs[1][0]
-            )));
+        for place in 1..(N - 1).max(2) {
+            if !are_equal(&outputs[0], &outputs[place])? {
+                return Err(io::Error::other(format!(
+                    "{name}: the outputs of {} and {} differ",
+                    programs[0][0], programs[place][0]
+                )));
+            }
         }
     }
     for output in &outputs {
@@ -158,25 +179,65 @@ fn length(folder: &Path, name: &str) -> io::Result<f64> {
     Ok(fs::metadata(folder.join(name).with_extension("stomp"))?.len() as f64)
 }
 
-fn print_relay(stompd: &str, baseline: &str, folder: &Path) -> io::Result<()> {
-    println!("best of {RUNS} runs, from file to file; ms is time, MiB is peak memory");
+fn print_relay(programs: [&str; 3], folder: &Path) -> io::Result<()> {
+    let [stompd, baseline, floor] = programs;
+    println!("best of {RUNS} runs, from file to file; ms is processor time, MiB is peak memory");
     println!(
-        "            input |     stompd      |    baseline     |       cat       |  stompd over"
+        "            input |     stompd      |    baseline     |      floor      |  stompd over, and by the clock"
     );
     println!(
-        "              MiB |    ms       MiB |    ms       MiB |    ms       MiB | baseline input"
+        "              MiB |    ms       MiB |    ms       MiB |    ms       MiB | floor     baseline      input"
     );
     for name in RELAY_INPUTS {
         let size = length(folder, name)?;
-        let programs: [&[&str]; 3] = [&[stompd, "relay", "A"], &[baseline, "A"], &["cat"]];
+        let programs: [&[&str]; 4] = [
+            &[stompd, "relay", "A"],
+            &[baseline, "A"],
+            &[floor],
+            &["cat"],
+        ];
         let costs = measure(programs, folder, name)?;
         print!("{name:<11} {:5.1} |", size / 1_048_576.0);
-        for cost in costs {
-            print!(" {:7.1} {:7.1} |", cost.milliseconds(), cost.mebibytes());
+        for cost in &costs[..3] {
+            let (time, peak) = (cost.processor_milliseconds(), cost.mebibytes());
+            print!(" {time:7.1} {peak:7.1} |");
         }
-        let time = costs[0].milliseconds() / costs[1].milliseconds();
-        let memory = costs[0].peak as f64 / size;
-        println!(" {time:7.2}  {memory:4.2}");
+        for other in [costs[2], costs[1]] {
+            let processor = costs[0].processor_milliseconds() / other.processor_milliseconds();
+            print!(
+                " {processor:4.2} {:4.2}",
+                costs[0].milliseconds() / other.milliseconds()
+            );
+        }
+        println!("  {:4.2}", costs[0].peak as f64 / size);
+    }
+    Ok(())
+}
+
+fn print_pieces(program: &str, baseline: &str, folder: &Path) -> io::Result<()> {
+    println!("best of {RUNS} runs, from file to file; ms is processor time, MiB is peak memory");
+    println!("            input |   stomp_frame   |    baseline     | stomp_frame over baseline,");
+    println!("      pieces of   |    ms       MiB |    ms       MiB |  and over one whole piece");
+    for name in RELAY_INPUTS {
+        let mut whole = 0.0;
+        for size in PIECES {
+            let programs: [&[&str]; 2] = [&[program, size], &[baseline, size]];
+            let [one, other] = measure(programs, folder, name)?;
+            if size == PIECES[0] {
+                whole = one.processor_milliseconds();
+            }
+            print!("{name:<11} {size:>5} |");
+            for cost in [one, other] {
+                let (time, peak) = (cost.processor_milliseconds(), cost.mebibytes());
+                print!(" {time:7.1} {peak:7.1} |");
+            }
+            let time = one.processor_milliseconds();
+            println!(
+                " {:7.2} {:7.2}",
+                time / other.processor_milliseconds(),
+                time / whole
+            );
+        }
     }
     Ok(())
 }
@@ -256,9 +317,10 @@ fn main() -> ExitCode {
     let words: Vec<String> = env::args().skip(1).collect();
     let words: Vec<&str> = words.iter().map(String::as_str).collect();
     let (bench, result) = match words[..] {
-        ["relay", stompd, baseline, folder] => {
-            ("relay", print_relay(stompd, baseline, Path::new(folder)))
-        }
+        ["relay", stompd, baseline, floor, folder] => (
+            "relay",
+            print_relay([stompd, baseline, floor], Path::new(folder)),
+        ),
         ["frames", program, baseline, folder] => (
             "frames",
             print_rate(FRAMES, program, baseline, Path::new(folder)),
@@ -271,11 +333,14 @@ fn main() -> ExitCode {
             "topic",
             print_rate(TOPIC, program, baseline, Path::new(folder)),
         ),
+        ["pieces", program, baseline, folder] => {
+            ("pieces", print_pieces(program, baseline, Path::new(folder)))
+        }
         ["audit", program, baseline, folder] => {
             ("audit", print_audit(program, baseline, Path::new(folder)))
         }
         _ => {
-            eprintln!("usage: measure relay|frames|transactions|topic|audit PROGRAM BASELINE FOLDER");
+            eprintln!("usage: measure relay|frames|pieces|transactions|topic|audit PROGRAM BASELINE [FLOOR] FOLDER");
             return ExitCode::FAILURE;
         }
     };

@@ -6,9 +6,9 @@ use std::fs::File;
 use std::io::{self, BufRead, BufWriter, Write};
 use std::os::fd::AsFd;
 
-const LINE_LIMIT: usize = 4_096;
-const HEADERS_LIMIT: usize = 64;
-const BODY_LIMIT: usize = 1_048_576;
+pub const LINE_LIMIT: usize = 4_096;
+pub const HEADERS_LIMIT: usize = 64;
+pub const BODY_LIMIT: usize = 1_048_576;
 
 /// The headers of a SEND that don't go on to its MESSAGE, which sets its own.
 const NOT_CARRIED: [&[u8]; 7] = [
@@ -74,7 +74,7 @@ pub enum Command {
 }
 
 impl Command {
-    fn from_line(line: &[u8]) -> Result<Command, Fault> {
+    pub fn from_line(line: &[u8]) -> Result<Command, Fault> {
         match line {
             b"SEND" => Ok(Command::Send),
             b"SUBSCRIBE" => Ok(Command::Subscribe),
@@ -95,7 +95,7 @@ impl Command {
     }
 
     /// Whether a backslash in its headers begins an escape.
-    fn has_escapes(self) -> bool {
+    pub fn has_escapes(self) -> bool {
         !matches!(self, Command::Connect | Command::Connected)
     }
 }
@@ -108,7 +108,7 @@ pub struct Header<'a> {
 
 impl<'a> Header<'a> {
     /// Parts a line at its first colon.
-    fn from_line(line: &'a [u8], escapes: bool) -> Result<Header<'a>, Fault> {
+    pub fn from_line(line: &'a [u8], escapes: bool) -> Result<Header<'a>, Fault> {
         let read = |text| match escapes {
             true => unescape(text),
             false => Ok(Cow::Borrowed(text)),
@@ -119,6 +119,15 @@ impl<'a> Header<'a> {
                 name: read(&line[..colon])?,
                 value: read(&line[colon + 1..])?,
             }),
+        }
+    }
+
+    /// The same, with nothing borrowed.
+    #[allow(dead_code)] // Only a reader that keeps a state wants it.
+    pub fn into_owned(self) -> Header<'static> {
+        Header {
+            name: Cow::Owned(self.name.into_owned()),
+            value: Cow::Owned(self.value.into_owned()),
         }
     }
 }
@@ -145,7 +154,7 @@ impl Frame<'_> {
 }
 
 /// The value of the first header of that name.
-fn first<'h>(headers: &'h [Header], name: &[u8]) -> Option<&'h [u8]> {
+pub fn first<'h>(headers: &'h [Header], name: &[u8]) -> Option<&'h [u8]> {
     let header = headers.iter().find(|header| *header.name == *name)?;
     Some(&header.value)
 }
@@ -215,17 +224,7 @@ impl<'a> Frames<'a> {
         };
         let line = &self.unread[..end];
         self.unread = &self.unread[end + 1..];
-        let content = line.strip_suffix(b"\r").unwrap_or(line);
-        if content.len() > LINE_LIMIT {
-            return Err(Fault::LineTooLong);
-        }
-        if content.contains(&b'\r') || content.contains(&0) {
-            return Err(Fault::BadLine);
-        }
-        if std::str::from_utf8(content).is_err() {
-            return Err(Fault::BadText);
-        }
-        Ok(content)
+        content(line)
     }
 
     /// The body, counted where there is a content-length, and the NULL behind it.
@@ -252,8 +251,23 @@ impl<'a> Frames<'a> {
     }
 }
 
+/// What a line has without the CR before its LF.
+pub fn content(line: &[u8]) -> Result<&[u8], Fault> {
+    let content = line.strip_suffix(b"\r").unwrap_or(line);
+    if content.len() > LINE_LIMIT {
+        return Err(Fault::LineTooLong);
+    }
+    if content.contains(&b'\r') || content.contains(&0) {
+        return Err(Fault::BadLine);
+    }
+    if std::str::from_utf8(content).is_err() {
+        return Err(Fault::BadText);
+    }
+    Ok(content)
+}
+
 /// The length that a content-length tells: 1 to 10 digits, and at most the limit.
-fn counted(digits: &[u8]) -> Result<usize, Fault> {
+pub fn counted(digits: &[u8]) -> Result<usize, Fault> {
     if digits.is_empty() || digits.len() > 10 || !digits.iter().all(u8::is_ascii_digit) {
         return Err(Fault::BadLength);
     }
@@ -267,7 +281,7 @@ fn counted(digits: &[u8]) -> Result<usize, Fault> {
 }
 
 /// Where the octet stands first. `skip_until` searches words at a time, and `position` octets.
-fn find(octet: u8, mut text: &[u8]) -> Option<usize> {
+pub fn find(octet: u8, mut text: &[u8]) -> Option<usize> {
     let whole = text;
     let taken = text.skip_until(octet).expect("a slice can be read");
     (taken > 0 && whole[taken - 1] == octet).then(|| taken - 1)
