@@ -1,89 +1,99 @@
 /* A floor for `bench/relay`: what the relay writes of well-formed SENDs to one topic, with as little work as a C
  * program can do. It reads all of its input, searches with memchr, copies header lines as they are (the inputs
- * have each header once, escaped as it is written), and writes once. It checks nothing. */
-#include <stdio.h>
+ * have each header once, escaped as it is written), and writes from one buffer. It checks nothing. */
 #include <stdlib.h>
 #include <string.h>
 #include <unistd.h>
 
-static char *input(size_t *length)
+/* What waits is written once it is this long; a MESSAGE is at most so much longer. */
+enum { FULL = 1 << 16, MESSAGE = 1 << 21 };
+
+static char output[FULL + MESSAGE], *out = output;
+
+static void flush(void)
 {
-    size_t room = 1 << 16, used = 0;
-    char *text = malloc(room);
-    ssize_t count;
-    while (text && (count = read(0, text + used, room - used)) > 0) {
-        used += (size_t)count;
-        if (used == room)
-            text = realloc(text, room *= 2);
+    for (char *at = output; at != out;) {
+        ssize_t count = write(1, at, (size_t)(out - at));
+        if (count <= 0)
+            exit(1);
+        at += count;
     }
-    *length = used;
-    return text;
+    out = output;
 }
 
-static int starts(const char *line, size_t length, const char *name)
+static void put(const char *text, size_t length)
 {
-    size_t size = strlen(name);
-    return length > size && !memcmp(line, name, size);
+    memcpy(out, text, length);
+    out += length;
 }
 
-/* Puts the MESSAGE of the frame at `at` to `out`, and moves both on; 0 where there is no whole frame. */
-static int relay(const char **at, const char *end, unsigned long number, char **out)
+static void put_number(unsigned long number)
 {
-    const char *line = memchr(*at, '\n', (size_t)(end - *at));
-    const char *destination = NULL, *headers, *next, *body;
-    size_t destination_length = 0, length = 0;
-    int counted = 0;
-    char *to = *out;
-    if (!line)
-        return 0;
-    headers = ++line;
-    while ((next = memchr(line, '\n', (size_t)(end - line))) && next != line) {
-        if (starts(line, (size_t)(next - line), "destination:")) {
-            destination = line;
-            destination_length = (size_t)(next - line) + 1;
-        } else if (starts(line, (size_t)(next - line), "content-length:")) {
-            length = strtoul(line + 15, NULL, 10);
+    char digits[20], *first = digits + 20;
+    do
+        *--first = (char)('0' + number % 10);
+    while (number /= 10);
+    put(first, (size_t)(digits + 20 - first));
+}
+
+#define PUT(text) put(text, sizeof text - 1)
+#define STARTS(line, size, name) ((size_t)(size) >= sizeof name - 1 && !memcmp(line, name, sizeof name - 1))
+
+static const char *line_end(const char *at, const char *end)
+{
+    return memchr(at, '\n', (size_t)(end - at));
+}
+
+/* Puts the MESSAGE of the SEND that begins here, and returns where it ends. */
+static const char *relay(const char *at, const char *end, unsigned long number)
+{
+    const char *lines[64], *destination = at, *next;
+    size_t sizes[64], destination_size = 0, length = 0;
+    int others = 0, counted = 0;
+    for (at = line_end(at, end) + 1; *at != '\n'; at = next) {
+        next = line_end(at, end) + 1;
+        if (STARTS(at, next - at, "destination:")) {
+            destination = at;
+            destination_size = (size_t)(next - at);
+        } else if (STARTS(at, next - at, "content-length:")) {
+            for (const char *digit = at + 15; *digit != '\n'; digit++)
+                length = 10 * length + (size_t)(*digit - '0');
             counted = 1;
+        } else {
+            lines[others] = at;
+            sizes[others++] = (size_t)(next - at);
         }
-        line = next + 1;
     }
-    if (!next)
-        return 0;
-    body = next + 1;
+    at++;
     if (!counted)
-        length = (size_t)((const char *)memchr(body, 0, (size_t)(end - body)) - body);
-    to += sprintf(to, "MESSAGE\nsubscription:0\nmessage-id:%lu.0.0\n", number);
-    memcpy(to, destination, destination_length);
-    to += destination_length;
-    to += sprintf(to, "content-length:%zu\n", length);
-    for (line = headers; line != next; line = (const char *)memchr(line, '\n', (size_t)(end - line)) + 1) {
-        size_t size = (size_t)((const char *)memchr(line, '\n', (size_t)(end - line)) - line) + 1;
-        if (!starts(line, size, "destination:") && !starts(line, size, "content-length:")) {
-            memcpy(to, line, size);
-            to += size;
-        }
-    }
-    *to++ = '\n';
-    memcpy(to, body, length + 1);
-    *out = to + length + 1;
-    *at = body + length + 1;
-    return 1;
+        length = (size_t)((const char *)memchr(at, 0, (size_t)(end - at)) - at);
+    PUT("MESSAGE\nsubscription:0\nmessage-id:");
+    put_number(number);
+    PUT(".0.0\n");
+    put(destination, destination_size);
+    PUT("content-length:");
+    put_number(length);
+    PUT("\n");
+    for (int other = 0; other < others; other++)
+        put(lines[other], sizes[other]);
+    PUT("\n");
+    put(at, length + 1);
+    return at + length + 1;
 }
 
 int main(void)
 {
-    size_t length;
-    const char *text = input(&length), *at = text, *end = text + length;
-    /* A MESSAGE is at most 100 octets longer than its SEND, which has 20 at least. */
-    char *output = malloc(6 * length + 256), *out = output, *written = output;
-    unsigned long number = 1;
-    while (at != end && relay(&at, end, number, &out))
-        number++;
-    while (written != out) {
-        ssize_t count = write(1, written, (size_t)(out - written));
-        if (count <= 0)
-            return 1;
-        written += count;
+    size_t room = 1 << 24, length = 0;
+    char *text = malloc(room);
+    ssize_t count;
+    while (text && (count = read(0, text + length, room - length)) > 0)
+        length += (size_t)count;
+    const char *at = text, *end = text + length;
+    for (unsigned long number = 1; at != end; number++) {
+        at = relay(at, end, number);
+        if (out - output >= FULL)
+            flush();
     }
+    flush();
     return 0;
 }
