@@ -1,4 +1,4 @@
-//! Writes the inputs of `bench/relay`, `bench/frames`, `bench/transactions` and `bench/topic` into a folder:
+//! Writes the inputs of the other programs of bench/ into a folder:
 //! `generate FOLDER NAME..`. Each is as many of its frames, of its sessions, or of its transactions
 //! as fit the relay's 16,777,216 octets of input. Those of `bench/relay` are SENDs to topic A alone.
 
@@ -117,8 +117,9 @@ fn topic(subscriptions: usize, place: usize, numbers: &mut Numbers) -> Vec<u8> {
     if place == 0 {
         return format!("{subscriptions}\0").into_bytes();
     }
+    // Enough of them: more than fits, so the input ends.
     if place > (2_560_000 / subscriptions).min(200_000) {
-        return Vec::new();
+        return vec![b'\n'; 1 << 24];
     }
     let mut text = body(64, numbers);
     text.push(0);
@@ -202,7 +203,7 @@ fn write_input(folder: &Path, name: &str) -> io::Result<()> {
     for place in 0.. {
         let next = frames(name, place, &mut numbers)
             .ok_or_else(|| io::Error::other(format!("no input has the name {name}")))?;
-        if next.is_empty() || text.len() + next.len() > INPUT_LIMIT {
+        if text.len() + next.len() > INPUT_LIMIT {
             break;
         }
         text.extend(next);
