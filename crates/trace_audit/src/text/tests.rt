@@ -84,7 +84,7 @@ fn other_lines_are_bad(rt: HostRuntime) {
         b"log 00 0 1 1.0 0",
         b"log 0 00 1 1.0 0",
         b"log 0 0 01 1.0 0",
-        b"log 0 0 1 01.0 0",
+        b"log 0 0 1 00.0 0",
         b"log 0 0 1 1.00 0",
         b"log 0 0 1 1.0 00",
         b"log 0 0 1 1.0 0,01",
