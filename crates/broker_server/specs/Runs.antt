@@ -1,17 +1,34 @@
--- What a run of the relay does with its reader and its writer, each with the counts of its calls.
+-- What a run of a program does with its reader and its writer, each with the counts of its calls.
 use Rattle.std.specs.Prelude.{◌≡◌, ◌≢◌, ◌⊎◌, ℕ, ◌≤◌, List, Option, Result, Err, IfOk, IfSome, OnOk, IsTrue, IsErrOf}
 use Rattle.std.specs.Io.KnownBytes.{Appends}
 use Rattle.broker_server.specs.declared.counting.Counting.{Counting}
 use Rattle.broker_server.specs.declared.program_fault.ProgramFault.{ProgramFault}
 use Rattle.broker_server.specs.declared.program_fault.ProgramFault.TheVariants.{Io}
 use Rattle.broker_server.specs.Counts.{plus, max_reads, Fails, FailsNot, RunsOut}
+use Rattle.broker_server.specs.Audit.{IsAudited}
+use Rattle.broker_server.specs.Programs.{Asked, ToRelay, ToAudit}
 use Rattle.broker_server.specs.Relay.{IsRelayed}
 
--- Where the run returns a status and the reader's octets are known, it has written the relay of all of them.
+-- Where the run returns a status and the reader's octets are known, it has written what this relation says of
+-- all of them.
+abbrev pub Writes : (List ℕ → List ℕ → ℕ → Type 0) → Option (List ℕ) → Option (List ℕ) → Option (List ℕ)
+    → Result ℕ ProgramFault → Type 0
+Writes IsWritten unread old new answer = IfOk answer (λ status. IfSome unread (λ input.
+    (output : List ℕ) × Appends old new output × IsWritten input output status))
+
+-- ... the relay of them to the topic of this name
 abbrev pub Relays : List ℕ → Option (List ℕ) → Option (List ℕ) → Option (List ℕ) → Result ℕ ProgramFault
     → Type 0
-Relays name unread old new answer = IfOk answer (λ status. IfSome unread (λ input.
-    (output : List ℕ) × Appends old new output × IsRelayed name input output status))
+Relays name unread old new answer = Writes (IsRelayed name) unread old new answer
+
+-- ... the audit of them
+abbrev pub Audits : Option (List ℕ) → Option (List ℕ) → Option (List ℕ) → Result ℕ ProgramFault → Type 0
+Audits unread old new answer = Writes IsAudited unread old new answer
+
+-- what a program writes of an input, and its status
+abbrev pub IsWrittenBy : Asked → List ℕ → List ℕ → ℕ → Type 0
+IsWrittenBy (ToRelay name) = IsRelayed name
+IsWrittenBy ToAudit = IsAudited
 
 -- A fault of input or output has a cause that was counted: the writer failed; or the writer wasn't called,
 -- and the reader failed or was called as often as it may be and met no end.
@@ -22,13 +39,13 @@ HasCause remaining reader read writer wrote =
     ⊎ ((wrote ≡ writer)
     × (Fails reader read ⊎ RunsOut reader read (remaining reader.inner) (remaining read.inner)))
 
--- A run of the relay to this name that finds its reader and writer as `reader` and `writer`, leaves them
--- as `read` and `wrote`, and returns this answer. `remaining` is what a reader has left, `contents` what a
--- writer took.
+-- A run of the program that finds its reader and writer as `reader` and `writer`, leaves them as `read` and
+-- `wrote`, and returns this answer. `remaining` is what a reader has left, `contents` what a writer took.
 pub record IsRun {R W : Type 0} (remaining : R → Option (List ℕ)) (contents : W → Option (List ℕ))
-    (name : List ℕ) (reader read : Counting R) (writer wrote : Counting W)
+    (asked : Asked) (reader read : Counting R) (writer wrote : Counting W)
     (answer : Result ℕ ProgramFault) : Type 0 where
-  pub relayed : Relays name (remaining reader.inner) (contents writer.inner) (contents wrote.inner) answer
+  pub written : Writes (IsWrittenBy asked) (remaining reader.inner) (contents writer.inner)
+      (contents wrote.inner) answer
   -- after a status the last call of the writer was a flush that succeeded
   pub flushed : OnOk answer (IsTrue wrote.flushed)
   pub io : IsErrOf answer Io → HasCause remaining reader read writer wrote

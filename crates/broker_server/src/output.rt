@@ -5,6 +5,7 @@ ghost use Rattle.std.specs.Io.KnownBytes.{Appends};
 ghost use Rattle.std.specs.Option.{option_map, option_map_or};
 ghost use Rattle.stomp_frame.specs.Writing.{spelled};
 ghost use Rattle.stomp_frame.specs.ServerFrames.{rendered};
+ghost use Rattle.broker_server.specs.Input.{too_long};
 ghost use Rattle.broker_server.specs.Inner.Steps.{Heard, Sends};
 
 use crate::counting::Counting;
@@ -44,21 +45,6 @@ fn drain<W: Write>(waiting: &mut Octets, writer: &mut Counting<W>) -> Result<(),
     Ok(())
 }
 
-/// Writes all that waits, and flushes.
-fn drain_and_flush<W: Write>(
-    waiting: &mut Octets,
-    writer: &mut Counting<W>,
-) -> Result<(), ProgramFault>
-    ensures sent { OnOk result
-        (Appends (W.contents writer.old.inner) (W.contents writer.new.inner) waiting.old) }
-    ensures flushed { OnOk result (IsTrue writer.new.flushed) }
-    ensures heard { Heard result writer.old writer.new }
-{
-    drain(waiting, writer)?;
-    writer.flush()?;
-    Ok(())
-}
-
 /// Writes all that waits and then the error, if there is one, flushes, and returns the status.
 pub(crate) fn finish<W: Write>(
     error: Option<ServerFrame>,
@@ -80,6 +66,32 @@ pub(crate) fn finish<W: Write>(
         }
         None => 0,
     };
-    drain_and_flush(waiting, writer)?;
+    end(waiting.as_slice(), status, writer)
+}
+
+/// Writes that the input is too long, flushes, and returns the status.
+pub(crate) fn refuse_length<W: Write>(writer: &mut Counting<W>) -> Result<u8, ProgramFault>
+    ensures written { IfOk result (λ status. (status ≡ 2)
+        × Appends (W.contents writer.old.inner) (W.contents writer.new.inner) too_long) }
+    ensures flushed { OnOk result (IsTrue writer.new.flushed) }
+    ensures heard { Heard result writer.old writer.new }
+{
+    end(b"bad 112 TooLong\n", 2, writer)
+}
+
+/// Writes these octets, which are the last, flushes, and returns the status.
+pub(crate) fn end<W: Write>(
+    octets: &[u8],
+    status: u8,
+    writer: &mut Counting<W>,
+) -> Result<u8, ProgramFault>
+    ensures written { OnOk result
+        (Appends (W.contents writer.old.inner) (W.contents writer.new.inner) octets.now) }
+    ensures status { IfOk result (λ own. own ≡ status) }
+    ensures flushed { OnOk result (IsTrue writer.new.flushed) }
+    ensures heard { Heard result writer.old writer.new }
+{
+    writer.write_all(octets)?;
+    writer.flush()?;
     Ok(status)
 }

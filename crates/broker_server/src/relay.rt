@@ -1,30 +1,23 @@
 //! The relay of one topic.
 
-ghost use Rattle.std.specs.Prelude.{◌≡◌, ◌≢◌, ◌⊎◌, ◌≤◌, [], List, ℕ, Err, IfOk, IfSome, IsErrOf, length};
-ghost use Rattle.std.specs.Prelude.{IsTrue, OnOk, vec_len};
+ghost use Rattle.std.specs.Prelude.{◌≡◌, ◌≢◌, ◌≤◌, List, ℕ, Err, IfOk, IsErrOf, length};
+ghost use Rattle.std.specs.Prelude.{IsTrue, OnOk};
 ghost use Rattle.std.specs.Io.KnownBytes.{Appends};
 ghost use Rattle.stomp_frame.specs.ServerFrames.{rendered};
-ghost use Rattle.broker_server.specs.Counts.{plus, max_reads, Fails, FailsNot, RunsOut};
-ghost use Rattle.broker_server.specs.Relay.{input_limit, message, too_long, IsAnswered};
+ghost use Rattle.broker_server.specs.Counts.{plus, max_reads, FailsNot};
+ghost use Rattle.broker_server.specs.Input.{input_limit};
+ghost use Rattle.broker_server.specs.Relay.{message, IsAnswered};
 ghost use Rattle.broker_server.specs.Runs.{Relays, HasCause};
-ghost use Rattle.broker_server.specs.Inner.Steps.{reading, Heard, IsGathered};
+ghost use Rattle.broker_server.specs.Inner.Steps.{reading, Heard};
 
 use crate::counting::Counting;
+use crate::input::gather;
 use crate::next::Next;
-use crate::output::{finish, put};
+use crate::output::{finish, put, refuse_length};
 use crate::program_fault::ProgramFault;
-use std::alloc::{AllocError, Global};
-use std::io::{ErrorKind, Read, Write};
+use std::alloc::Global;
+use std::io::{Read, Write};
 use stomp_frame::{FrameReader, Limits, Octets, RawFrame, ServerFrame};
-
-/// How many octets of input are taken.
-const INPUT_LIMIT: usize = 16_777_216;
-
-/// How often the reader is called at most: once for each octet, once for the octet past the limit, and once for the end.
-const MAX_READS: u64 = 16_777_218;
-
-/// How many octets are read at once.
-const PIECE: usize = 65_536;
 
 /// Relays the SEND frames of the reader's whole input to the topic of this name (one or more octets
 /// from 33 to 126): writes a MESSAGE for each frame before the first that is refused, and then the
@@ -57,60 +50,6 @@ pub fn run_relay<R: Read, W: Write>(
     } else {
         refuse_length(writer)
     }
-}
-
-/// Reads the whole input, and returns whether it is within the limit.
-fn gather<R: Read>(
-    alloc: Global,
-    reader: &mut Counting<R>,
-    frames: &mut FrameReader,
-) -> Result<bool, ProgramFault>
-    requires { frames.old ≡ reading [] }
-    ensures gathered { IfOk result (λ whole.
-        IsGathered whole (R.remaining reader.old.inner) (R.remaining reader.new.inner) frames.new) }
-    ensures io { IsErrOf result ProgramFault.Io
-        → Fails reader.old reader.new ⊎ RunsOut reader.old reader.new
-        (R.remaining reader.old.inner) (R.remaining reader.new.inner) }
-    ensures reads { reader.new.calls ≤ plus reader.old.calls max_reads }
-    ensures heard { (result ≢ Err ProgramFault.Io) → FailsNot reader.old reader.new }
-{
-    let mut piece = zeros(alloc, PIECE)?;
-    let mut total = 0;
-    'reads: for _read in 0..MAX_READS {
-        let count = match reader.read(&mut piece) {
-            Ok(count) => count,
-            Err(e) if e.kind() == ErrorKind::Interrupted => continue 'reads,
-            Err(_) => return Err(ProgramFault::Io),
-        };
-        if count == 0 {
-            return Ok(true);
-        }
-        total += count;
-        if total > INPUT_LIMIT {
-            return Ok(false);
-        }
-        frames.feed(&piece[..count])?;
-    }
-    Err(ProgramFault::Io)
-}
-
-/// A vector of `len` zeros.
-fn zeros(alloc: Global, len: usize) -> Result<Vec<u8>, AllocError>
-    ensures { IfOk result (λ zeros. vec_len zeros ≡ len) }
-{
-    Ok(vec![in alloc; 0u8; len]?)
-}
-
-/// Writes that the input is too long.
-fn refuse_length<W: Write>(writer: &mut Counting<W>) -> Result<u8, ProgramFault>
-    ensures written { IfOk result (λ status. (status ≡ 2)
-        × Appends (W.contents writer.old.inner) (W.contents writer.new.inner) too_long) }
-    ensures flushed { OnOk result (IsTrue writer.new.flushed) }
-    ensures heard { Heard result writer.old writer.new }
-{
-    writer.write_all(b"bad 112 TooLong\n")?;
-    writer.flush()?;
-    Ok(2)
 }
 
 /// The message of a frame, with this number.

@@ -2,9 +2,10 @@
 
 ghost use Rattle.std.specs.Prelude.{◌≡◌, ℕ, None, Result, IfErr, IfOk, IfSome, map, string_bytes};
 ghost use Rattle.broker_server.specs.Ended.{ending_of, usage_end, IsUnreadEnd};
-ghost use Rattle.broker_server.specs.Programs.{relay_name};
+ghost use Rattle.broker_server.specs.Programs.{asked_by};
 ghost use Rattle.broker_server.specs.Runs.{IsRun};
 
+use crate::audit::run_audit;
 use crate::counting::Counting;
 use crate::ended::Ended;
 use crate::program::Program;
@@ -27,13 +28,13 @@ pub fn run_words<R: Read, W: Write>(
 ) -> Ended
     ensures unread { IfErr words (λ error. IsUnreadEnd error result
         × (reader.new ≡ reader.old) × (writer.new ≡ writer.old)) }
-    ensures usage { IfOk words (λ words. relay_name (map string_bytes words.items) ≡ None
+    ensures usage { IfOk words (λ words. asked_by (map string_bytes words.items) ≡ None
         → (result ≡ usage_end) × (reader.new ≡ reader.old) × (writer.new ≡ writer.old)) }
-    // The end is that of what a run of the relay returns, to the name that is asked for.
-    ensures relayed { IfOk words (λ words.
-        IfSome (relay_name (map string_bytes words.items)) (λ name.
+    // The end is that of what a run of the program that is asked for returns.
+    ensures run { IfOk words (λ words.
+        IfSome (asked_by (map string_bytes words.items)) (λ asked.
         (answer : Result ℕ ProgramFault) × (result ≡ ending_of answer)
-        × IsRun R.remaining W.contents name reader.old reader.new writer.old writer.new answer)) }
+        × IsRun R.remaining W.contents asked reader.old reader.new writer.old writer.new answer)) }
 {
     let words = match words {
         Ok(words) => words,
@@ -44,6 +45,7 @@ pub fn run_words<R: Read, W: Write>(
     };
     match Program::parse(words.as_slice()) {
         Some(Program::Relay(name)) => Ended::by(run_relay(alloc, name, reader, writer)),
+        Some(Program::Audit) => Ended::by(run_audit(alloc, reader, writer)),
         None => Ended::by_usage(),
     }
 }

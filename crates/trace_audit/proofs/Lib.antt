@@ -8,6 +8,7 @@ pub mod Indexed
 pub mod Least
 pub mod LogFaults
 pub mod Neighbours
+pub mod OneList
 pub mod OrderLemmas
 pub mod Printing
 pub mod Putting

@@ -5,9 +5,10 @@ use Rattle.std.specs.Fmt.{digits}
 use Rattle.mcast_txn.specs.declared.id.Topic.{Topic}
 use Rattle.mcast_txn.specs.declared.id.TxnId.{TxnId}
 use Rattle.mcast_txn.specs.declared.stamp.Stamp.{Stamp}
-use Rattle.trace_audit.specs.AuditText.{agreed_text, refusal_text}
+use Rattle.trace_audit.specs.AuditText.{agreed_text, bad_text, refusal_text}
 use Rattle.trace_audit.specs.declared.fault.AuditFault.TheVariants as audit
 use Rattle.trace_audit.specs.Parsing.{lines_of, AddsLines, IsBadLine, IsFirstBad}
+use Rattle.trace_audit.specs.declared.text.parse_fault.ParseFault.TheVariants as parse
 use Rattle.trace_audit.specs.Report.{key_lt, print_key}
 use Rattle.trace_audit.specs.Text.{row_text, SpellsRow}
 use Rattle.trace_audit.specs.Trace.{Lines, no_lines}
@@ -102,3 +103,9 @@ a_hole = refl
 two_verdicts : refusal_text audit.TwoVerdicts ≡ codes "no 93 TwoVerdicts\n"
 unfolding digits
 two_verdicts = refl
+
+-- ---- what is written of a text that is no trace
+
+a_bad_row : bad_text (parse.BadRow 2) ≡ codes "bad 90 BadRow 2\n"
+unfolding digits
+a_bad_row = refl

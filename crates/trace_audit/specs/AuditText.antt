@@ -1,11 +1,14 @@
--- What is written of an auditor's answer.
+-- What is written of an auditor's answer, and of a text that is no trace.
 use Rattle.std.specs.Prelude.{ℕ, Bool, List, [], ◌∷◌, ◌++◌, codes, decimal, if◌then◌else◌}
 use Rattle.std.specs.List.{flat_map}
 use Rattle.mcast_txn.specs.Span.{LogRow}
 use Rattle.trace_audit.specs.Text.{spaced, id_text, stamp_text, topics_text}
 use Rattle.trace_audit.specs.Faults.{audit_number}
+use Rattle.trace_audit.specs.Parsing.{parse_number}
 use Rattle.trace_audit.specs.declared.fault.AuditFault.{AuditFault}
 use Rattle.trace_audit.specs.declared.fault.AuditFault.TheVariants as audit
+use Rattle.trace_audit.specs.declared.text.parse_fault.ParseFault.{ParseFault}
+use Rattle.trace_audit.specs.declared.text.parse_fault.ParseFault.TheVariants as parse
 
 -- a transaction that all logs agree on, as `agreed 0 1 2.1 0,1`
 abbrev pub agreed_line : LogRow → List ℕ
@@ -30,3 +33,12 @@ fault_words audit.SameStamp = codes "SameStamp" ∷ []
 -- a no: the fault's number and its name, as `no 95 Hole 1`
 abbrev pub refusal_text : AuditFault → List ℕ
 refusal_text fault = spaced (codes "no" ∷ decimal (audit_number fault) ∷ fault_words fault) ++ 10 ∷ []
+
+-- a fault's name, with its line where it has one
+abbrev pub parse_words : ParseFault → List (List ℕ)
+parse_words (parse.BadRow line) = codes "BadRow" ∷ decimal line ∷ []
+parse_words parse.NoMemory = codes "NoMemory" ∷ []
+
+-- that a text is no trace: the fault's number and its name, as `bad 90 BadRow 2`
+abbrev pub bad_text : ParseFault → List ℕ
+bad_text fault = spaced (codes "bad" ∷ decimal (parse_number fault) ∷ parse_words fault) ++ 10 ∷ []

@@ -1,6 +1,16 @@
 //! Laws: functions that do nothing, whose contracts are theorems about the definitions.
 
+ghost use Rattle.std.specs.Prelude.{◌≡◌, List};
+ghost use Rattle.mcast_txn.specs.Span.{LogRow};
+ghost use Rattle.trace_audit.specs.Explained.{IsExplainedBy};
 ghost use Rattle.trace_audit.specs.Rereading.{PrintedIsRead};
+ghost use Rattle.trace_audit.specs.Trace.{Lines};
+
+/// A trace is explained by one list of transactions at most.
+pub fn one_list()
+    ensures { (trace : Lines) (rows others : List LogRow)
+        → IsExplainedBy rows trace → IsExplainedBy others trace → rows ≡ others }
+{}
 
 /// What is printed of a trace is read again, as a trace with the same logs, spans and queues.
 pub fn printed_is_read()

@@ -19,17 +19,19 @@ use Rattle.broker_server.specs.declared.program_fault.ProgramFault.{ProgramFault
 use Rattle.broker_server.specs.declared.program_fault.ProgramFault.TheVariants.{Io}
 use Rattle.broker_server.specs.Counts.{Fails, FailsNot}
 use Rattle.broker_server.specs.RelayFaults.{relay_fault, relay_fault_title}
-use Rattle.broker_server.specs.Relay.{input_limit, standard, messages, relay_fault_error, ErrorAfterFrames}
+use Rattle.broker_server.specs.Input.{input_limit}
+use Rattle.broker_server.specs.Relay.{standard, messages, relay_fault_error, ErrorAfterFrames}
 
 -- a reader of frames that has this to read and returned no fault yet
 abbrev pub reading : List ℕ → Unread
 reading text = record { limits = standard; text = text; answered = None }
 
--- The whole input was given to the reader of frames; or more than the limit was read.
-abbrev pub IsGathered : Bool → Option (List ℕ) → Option (List ℕ) → Unread → Type 0
-IsGathered true old new r =
-    Consumes old new r.text × IsAtEnd new × (length r.text ≤ input_limit) × (r ≡ reading r.text)
-IsGathered false old new r = (given : List ℕ) × Consumes old new given × (input_limit < length given)
+-- The sink holds the whole input; or more than the limit was read.
+abbrev pub IsGathered : {S : Type 0} → (S → List ℕ → Type 0) → Bool → Option (List ℕ) → Option (List ℕ) → S
+    → Type 0
+IsGathered holds true old new sink =
+    (text : List ℕ) × Consumes old new text × IsAtEnd new × (length text ≤ input_limit) × holds sink text
+IsGathered holds false old new sink = (given : List ℕ) × Consumes old new given × (input_limit < length given)
 
 -- The octets are put after those that wait, and what is then first is written.
 abbrev pub Sends : Option (List ℕ) → List ℕ → Option (List ℕ) → List ℕ → List ℕ → Type 0

@@ -14,6 +14,16 @@ const MESSAGE: &[u8] =
 
 const ERROR: &[u8] = b"ERROR\nmessage:67 UnknownDestination\ncontent-length:0\n\n\0";
 
+const ROW: &[u8] = b"log 0 0 1 1.0 0\n";
+
+const YES: &[u8] = b"agreed 0 1 1.0 0\ncomplete\n";
+
+const SPAN: &[u8] = b"span 7 0 0.0 -\nqueue 7 0 1 1.0\n";
+
+const NO: &[u8] = b"no 96 QueueRow 7\n";
+
+const BAD: &[u8] = b"bad 90 BadRow 1\n";
+
 /// What fails of a run.
 #[derive(Clone, Copy)]
 enum Fails {
@@ -32,7 +42,30 @@ fn relay(
     let mut words = Vec::new(alloc);
     words.push(String::from_str(alloc, "relay")?)?;
     words.push(String::from_str(alloc, name)?)?;
-    let mut reader = Counting::new(Source::of(SEND));
+    run(alloc, words, SEND, fails, output)
+}
+
+/// How `stompd audit` ends over this text, and whether it wrote this.
+fn audited(
+    alloc: Global,
+    text: &[u8],
+    fails: Fails,
+    output: &[u8],
+) -> Result<(Ended, bool), AllocError> {
+    let mut words = Vec::new(alloc);
+    words.push(String::from_str(alloc, "audit")?)?;
+    run(alloc, words, text, fails, output)
+}
+
+/// How these words end over this input, and whether this was written.
+fn run(
+    alloc: Global,
+    words: Vec<String>,
+    input: &[u8],
+    fails: Fails,
+    output: &[u8],
+) -> Result<(Ended, bool), AllocError> {
+    let mut reader = Counting::new(Source::of(input));
     let mut writer = Counting::new(Target::with_room(alloc, 1024)?);
     match fails {
         Fails::Nothing => (),
@@ -98,10 +131,29 @@ fn relays_to_its_name(rt: HostRuntime) -> Result<(), Fail> {
     Ok(())
 }
 
+#[test]
+fn audits_its_input(rt: HostRuntime) -> Result<(), Fail> {
+    for (text, fails, output, status, message) in [
+        (ROW, Fails::Nothing, YES, 0, None),
+        (SPAN, Fails::Nothing, NO, 3, None),
+        (SEND, Fails::Nothing, BAD, 2, None),
+        (ROW, Fails::Read, b"".as_slice(), 5, IO_FAULT.message),
+        (ROW, Fails::Flush, YES, 5, IO_FAULT.message),
+    ] {
+        let (ended, written) = audited(rt.alloc(), text, fails, output)?;
+        assert!(rt; ended == Ended { status, message });
+        assert!(rt; written);
+    }
+    Ok(())
+}
+
 /// Where a growth is refused, the status is 4 with its line, or the run is right.
 #[test]
 fn ends_without_memory(rt: HostRuntime) {
     if let Ok((ended, written)) = relay(rt.alloc(), "B", Fails::Nothing, MESSAGE) {
+        assert!(rt; ended == NO_MEMORY || ended.status == 0 && written);
+    }
+    if let Ok((ended, written)) = audited(rt.alloc(), ROW, Fails::Nothing, YES) {
         assert!(rt; ended == NO_MEMORY || ended.status == 0 && written);
     }
 }

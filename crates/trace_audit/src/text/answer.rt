@@ -2,8 +2,9 @@
 
 ghost use Rattle.std.specs.Prelude.{◌≡◌, ◌++◌, ◌∷◌, IfOk, OnOk};
 ghost use Rattle.std.specs.List.{flat_map};
-ghost use Rattle.trace_audit.specs.AuditText.{agreed_line, agreed_text, refusal_text};
+ghost use Rattle.trace_audit.specs.AuditText.{agreed_line, agreed_text, bad_text, refusal_text};
 
+use super::parse_fault::ParseFault;
 use super::printer::{digits, id, number, stamp, topics};
 use crate::agreed::{Agreed, AgreedRow};
 use crate::fault::AuditFault;
@@ -73,6 +74,26 @@ impl AuditFault {
             AuditFault::Hole(topic) => b" Hole" topic.0 as u64;
             AuditFault::QueueRow(sub) => b" QueueRow" sub;
             AuditFault::SameStamp => b" SameStamp";
+        }
+        text.push(b'\n')?;
+        Ok(text)
+    }
+}
+
+impl ParseFault {
+    /// Its text: a line `bad NUMBER NAME`, with the number of the line where it has one.
+    pub fn print(self, alloc: Global) -> Result<Octets, NoMemory>
+        ensures { IfOk result (λ text. text ≡ bad_text self) }
+    {
+        let mut text = Octets::new(alloc);
+        text.extend(b"bad ")?;
+        digits(&mut text, self.number() as u64)?;
+        match self {
+            ParseFault::BadRow(line) => {
+                text.extend(b" BadRow")?;
+                number(&mut text, line as u64)?;
+            }
+            ParseFault::NoMemory => text.extend(b" NoMemory")?,
         }
         text.push(b'\n')?;
         Ok(text)

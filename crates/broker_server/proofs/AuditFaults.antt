@@ -1,0 +1,15 @@
+-- The faults of an auditor that say something of the trace.
+use Rattle.std.proofs.Common.{◌≡◌, ◌≢◌, false, refl}
+use Rattle.trace_audit.specs.Answers.{says_no_memory}
+use Rattle.trace_audit.specs.declared.fault.AuditFault.{AuditFault}
+use Rattle.trace_audit.specs.declared.fault.AuditFault.TheVariants as audit
+
+-- each but one says another thing than that memory ran out
+pub says_other : (fault : AuditFault) → fault ≢ audit.NoMemory → says_no_memory fault ≡ false
+says_other audit.NoMemory other = absurd (other refl)
+says_other audit.TwoVerdicts other = refl
+says_other audit.SameStamp other = refl
+says_other audit.LogOrder other = refl
+says_other audit.SenderOrder other = refl
+says_other (audit.Hole t) other = refl
+says_other (audit.QueueRow sub) other = refl

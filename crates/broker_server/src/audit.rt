@@ -1,0 +1,128 @@
+//! The audit of a trace.
+
+ghost use Rattle.std.specs.Prelude.{◌≡◌, ◌≢◌, ◌⊎◌, ◌↔◌, ◌≤◌, false, List, ℕ, Err, IfErr, IfOk, IsErrOf, IsTrue, OnOk};
+ghost use Rattle.std.specs.Io.KnownBytes.{Appends};
+ghost use Rattle.trace_audit.specs.Answers.{IsRefusal, says_no_memory};
+ghost use Rattle.trace_audit.specs.AuditText.{refusal_text};
+ghost use Rattle.trace_audit.specs.Explained.{IsExplainedBy, IsCompleteBy};
+ghost use Rattle.trace_audit.specs.Parsing.{lines_of, AddsLines, IsParseFault};
+ghost use Rattle.trace_audit.specs.Trace.{no_lines};
+ghost use Rattle.broker_server.specs.Audit.{IsJudged, IsYes, IsNo};
+ghost use Rattle.broker_server.specs.Counts.{plus, max_reads, FailsNot};
+ghost use Rattle.broker_server.specs.Runs.{Audits, HasCause};
+ghost use Rattle.broker_server.specs.Inner.Steps.{Heard};
+
+use crate::counting::Counting;
+use crate::input::gather;
+use crate::output::{end, refuse_length};
+use crate::program_fault::ProgramFault;
+use std::alloc::Global;
+use std::io::{Read, Write};
+use stomp_frame::Octets;
+use trace_audit::{Agreed, AuditFault, ParseFault, Trace, audit};
+
+/// Audits the trace that the reader's whole input is the text of: writes a line `agreed ..` for each transaction and
+/// then `complete` or `incomplete`, where one list of transactions explains the trace; or `no NUMBER NAME`, with the
+/// topic or the subscription where it has one. The status is 0 or 3. Where the input is no trace, it is 2 and the only
+/// output is the line `bad 90 BadRow LINE`; where it is longer than 16,777,216 octets, `bad 112 TooLong`. Nothing is
+/// written before the whole input was read.
+///
+/// Errors: `Io` (status 5) where a read or a write failed, a write took nothing, or the input hadn't
+/// ended after 16,777,218 reads (a read that is interrupted is one of these, and is tried again);
+/// `NoMemory` (status 4), before anything was written.
+pub fn run_audit<R: Read, W: Write>(
+    alloc: Global,
+    reader: &mut Counting<R>,
+    writer: &mut Counting<W>,
+) -> Result<u8, ProgramFault>
+    ensures audited { Audits (R.remaining reader.old.inner)
+        (W.contents writer.old.inner) (W.contents writer.new.inner) result }
+    ensures flushed { OnOk result (IsTrue writer.new.flushed) }
+    ensures io { IsErrOf result ProgramFault.Io
+        → HasCause R.remaining reader.old reader.new writer.old writer.new }
+    ensures reads { reader.new.calls ≤ plus reader.old.calls max_reads }
+    // A failure is never passed over.
+    ensures heard { (result ≢ Err ProgramFault.Io)
+        → FailsNot reader.old reader.new × FailsNot writer.old writer.new }
+{
+    let mut text = Octets::new(alloc);
+    if gather(alloc, reader, &mut text)? {
+        judge(alloc, text, writer)
+    } else {
+        refuse_length(writer)
+    }
+}
+
+/// Audits the trace of a text, and writes the answer.
+fn judge<W: Write>(
+    alloc: Global,
+    text: Octets,
+    writer: &mut Counting<W>,
+) -> Result<u8, ProgramFault>
+    ensures judged { IfOk result (λ status. (output : List ℕ)
+        × Appends (W.contents writer.old.inner) (W.contents writer.new.inner) output
+        × IsJudged text output status) }
+    ensures flushed { OnOk result (IsTrue writer.new.flushed) }
+    ensures heard { Heard result writer.old writer.new }
+{
+    match read(alloc, text) {
+        Ok(trace) => answer(alloc, trace, writer),
+        Err(ParseFault::NoMemory) => Err(ProgramFault::NoMemory),
+        Err(fault) => end(fault.print(alloc)?.as_slice(), 2, writer),
+    }
+}
+
+/// The trace of a text, which is let go.
+fn read(alloc: Global, text: Octets) -> Result<Trace, ParseFault>
+    ensures found { IfOk result (λ trace. AddsLines (lines_of text) no_lines trace) }
+    ensures fault { IfErr result (λ fault. IsParseFault text fault) }
+{
+    Trace::parse(alloc, text.as_slice())
+}
+
+/// Audits a trace, and writes the answer.
+fn answer<W: Write>(
+    alloc: Global,
+    trace: Trace,
+    writer: &mut Counting<W>,
+) -> Result<u8, ProgramFault>
+    ensures answered { IfOk result (λ status. (output : List ℕ)
+        × Appends (W.contents writer.old.inner) (W.contents writer.new.inner) output
+        × (IsYes trace output status ⊎ IsNo trace output status)) }
+    ensures flushed { OnOk result (IsTrue writer.new.flushed) }
+    ensures heard { Heard result writer.old writer.new }
+{
+    match agreed(alloc, trace) {
+        Ok(agreed) => end(agreed.print(alloc)?.as_slice(), 0, writer),
+        Err(fault) => refuse(alloc, fault, writer),
+    }
+}
+
+/// Writes why the auditor says no, unless memory ran out.
+#[tactic(auto, using(crate::proofs::AuditFaults::says_other))]
+fn refuse<W: Write>(
+    alloc: Global,
+    fault: AuditFault,
+    writer: &mut Counting<W>,
+) -> Result<u8, ProgramFault>
+    ensures written { IfOk result (λ status. (status ≡ 3) × (says_no_memory fault ≡ false)
+        × Appends (W.contents writer.old.inner) (W.contents writer.new.inner) (refusal_text fault)) }
+    ensures flushed { OnOk result (IsTrue writer.new.flushed) }
+    ensures heard { Heard result writer.old writer.new }
+{
+    if fault == AuditFault::NoMemory {
+        return Err(ProgramFault::NoMemory);
+    }
+    end(fault.print(alloc)?.as_slice(), 3, writer)
+}
+
+/// What the auditor says of a trace, which is let go.
+fn agreed(alloc: Global, trace: Trace) -> Result<Agreed, AuditFault>
+    ensures explained { IfOk result (λ agreed. IsExplainedBy agreed.rows.items trace) }
+    ensures complete { IfOk result
+        (λ agreed. IsTrue agreed.complete ↔ IsCompleteBy agreed.rows.items trace) }
+    ensures refused { IfErr result
+        (λ fault. says_no_memory fault ≡ false → IsRefusal fault trace) }
+{
+    audit(alloc, &trace)
+}
