@@ -29,7 +29,7 @@ use trace_audit::{Agreed, AuditFault, ParseFault, Trace, audit};
 ///
 /// Errors: `Io` (status 5) where a read or a write failed, a write took nothing, or the input hadn't
 /// ended after 16,777,218 reads (a read that is interrupted is one of these, and is tried again);
-/// `NoMemory` (status 4), before anything was written.
+/// `NoMemory` (status 4).
 pub fn run_audit<R: Read, W: Write>(
     alloc: Global,
     reader: &mut Counting<R>,
@@ -105,8 +105,10 @@ fn refuse<W: Write>(
     fault: AuditFault,
     writer: &mut Counting<W>,
 ) -> Result<u8, ProgramFault>
-    ensures written { IfOk result (λ status. (status ≡ 3) × (says_no_memory fault ≡ false)
-        × Appends (W.contents writer.old.inner) (W.contents writer.new.inner) (refusal_text fault)) }
+    ensures said { OnOk result (says_no_memory fault ≡ false) }
+    ensures written { OnOk result
+        (Appends (W.contents writer.old.inner) (W.contents writer.new.inner) (refusal_text fault)) }
+    ensures status { IfOk result (λ status. status ≡ 3) }
     ensures flushed { OnOk result (IsTrue writer.new.flushed) }
     ensures heard { Heard result writer.old writer.new }
 {
