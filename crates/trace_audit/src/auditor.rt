@@ -7,7 +7,8 @@ ghost use Rattle.mcast_txn.specs.Span.{row_stamp};
 ghost use Rattle.mcast_txn.specs.Stamp.{same_stamp};
 ghost use Rattle.trace_audit.specs.Answers.{IsRefusal, says_no_memory};
 ghost use Rattle.trace_audit.specs.Explained.{IsCompleteBy, IsExplainedBy};
-ghost use Rattle.trace_audit.specs.Faults.{audit_fault};
+ghost use Rattle.trace_audit.specs.Faults.{audit_fault, is_whole};
+ghost use Rattle.trace_audit.specs.Inner.Chained.{IsIndex};
 ghost use Rattle.trace_audit.specs.Inner.LogFault.{log_fault};
 ghost use Rattle.trace_audit.specs.Inner.Orders.{IsOrdersOf, RisesByStamp, shown};
 ghost use Rattle.trace_audit.specs.Inner.Sorting.{IsAtLeast, IsSortingOf, put_row};
@@ -39,11 +40,10 @@ pub fn audit(alloc: Global, trace: &Trace) -> Result<Agreed, AuditFault>
         Ok(Some(fault)) => return Err(fault),
         Err(NoMemory) => return Err(AuditFault::NoMemory),
     }
-    let Ok(rows) = agreed_rows(alloc, &orders.by_stamp) else {
-        return Err(AuditFault::NoMemory);
-    };
-    let complete = checks::is_whole(&trace.logs, &orders.by_topic);
-    Ok(Agreed { rows, complete })
+    match agree(alloc, &trace.logs, orders) {
+        Ok(agreed) => Ok(agreed),
+        Err(NoMemory) => Err(AuditFault::NoMemory),
+    }
 }
 
 // The first fault.
@@ -55,9 +55,8 @@ fn find_fault(
     requires { IsOrdersOf orders.now.by_id.items orders.now.by_stamp.items orders.now.by_topic.items trace.now.logs }
     ensures { IfOk result (λ fault. fault ≡ audit_fault trace.now) }
 {
-    match find_log_fault(&trace.logs, orders) {
-        Some(fault) => return Ok(Some(fault)),
-        None => {}
+    if let Some(fault) = find_log_fault(&trace.logs, orders) {
+        return Ok(Some(fault));
     }
     match marks::first_astray(alloc, trace, &orders.by_topic)? {
         Some(sub) => Ok(Some(AuditFault::QueueRow(sub))),
@@ -86,6 +85,19 @@ fn find_log_fault(logs: &[LogRow], orders: &Orders<'_>) -> Option<AuditFault>
         Some(topic) => Some(AuditFault::Hole(Topic(topic))),
         None => None,
     }
+}
+
+// The transactions of logs that have no fault, and whether each is in the log of each of its topics.
+fn agree(alloc: Global, logs: &[LogRow], orders: Orders<'_>) -> Result<Agreed, NoMemory>
+    requires orders { IsOrdersOf orders.by_id.items orders.by_stamp.items orders.by_topic.items logs.now }
+    requires index { IsIndex orders.by_topic.items }
+    ensures sorted { IfOk result (λ agreed. IsSortingOf agreed.rows.items (rows_of logs.now)) }
+    ensures complete { IfOk result (λ agreed. agreed.complete ≡ is_whole logs.now) }
+{
+    let complete = checks::is_whole(logs, &orders.by_topic);
+    let by_stamp = orders.into_by_stamp();
+    let rows = agreed_rows(alloc, &by_stamp)?;
+    Ok(Agreed { rows, complete })
 }
 
 // The rows of all logs by rising stamp, one of each stamp.

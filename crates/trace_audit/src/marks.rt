@@ -10,6 +10,7 @@ ghost use Rattle.trace_audit.specs.Inner.Orders.{shown, IsGroupingOf, RisesBySub
 ghost use Rattle.trace_audit.specs.Trace.{marks_in, queue_mark, queue_of, row_mark};
 
 use crate::mark::Mark;
+use crate::references::references;
 use crate::row::{LogRow, QueueRow, SpanRow};
 use crate::trace::Trace;
 use mcast_txn::{NoMemory, Stamp};
@@ -130,13 +131,6 @@ fn queues_by_sub(alloc: Global, queues: &[QueueRow]) -> Result<Vec<&QueueRow>, N
     let mut rows = references(alloc, queues)?;
     rows.sort_by_key(|row| row.sub)?;
     Ok(rows)
-}
-
-// The rows.
-fn references(alloc: Global, queues: &[QueueRow]) -> Result<Vec<&QueueRow>, NoMemory>
-    ensures { IfOk result (λ rows. shown rows.items ≡ queues.now) }
-{
-    Ok(queues.iter().collect(alloc)?)
 }
 
 // The smaller of two numbers, where there are two.

@@ -4,6 +4,7 @@ ghost use Rattle.std.specs.Prelude.{◌≡◌, IfOk};
 ghost use Rattle.std.specs.List.Sorted.{IsPermutation};
 ghost use Rattle.trace_audit.specs.Inner.Orders.{shown, IsOrderedById, RisesByStamp, RisesByTopic, IsGroupingOf, IsOrdersOf};
 
+use crate::references::references;
 use crate::row::LogRow;
 use mcast_txn::NoMemory;
 use std::alloc::Global;
@@ -27,13 +28,13 @@ impl<'a> Orders<'a> {
             by_topic: by_topic(alloc, logs)?,
         })
     }
-}
 
-// The rows.
-fn references(alloc: Global, logs: &[LogRow]) -> Result<Vec<&LogRow>, NoMemory>
-    ensures { IfOk result (λ rows. shown rows.items ≡ logs.now) }
-{
-    Ok(logs.iter().collect(alloc)?)
+    // The rows by stamp. The other orders are let go.
+    pub(crate) fn into_by_stamp(self) -> Vec<&'a LogRow>
+        ensures { result.items ≡ self.entry.by_stamp.items }
+    {
+        self.by_stamp
+    }
 }
 
 // The rows by sender, and each sender's by seq.
