@@ -9,6 +9,7 @@ pub mod Least
 pub mod LogFaults
 pub mod Neighbours
 pub mod OneList
+pub mod OneReport
 pub mod OrderLemmas
 pub mod Printing
 pub mod Putting

@@ -10,7 +10,7 @@ use Rattle.mcast_txn.specs.Lists.{In}
 use Rattle.trace_audit.specs.Line.{LogLine}
 use Rattle.trace_audit.specs.Parsing.{lines_of, AddsLines}
 use Rattle.trace_audit.specs.Report.{rows_in, print_key, has_key, text_of, IsReport}
-use Rattle.trace_audit.specs.Rereading.{AddsRows, AreAlike, PrintedIsRead}
+use Rattle.trace_audit.specs.Rereading.{AddsRows, AreAlike, PrintedIsRead, SortedIsReadAsItself}
 use Rattle.trace_audit.specs.Rows.{is_misfit, with_row}
 use Rattle.trace_audit.specs.Text.{row_text, id_text, stamp_text, end_text, topics_text, IsTopicInRange, IsIdInRange, IsStampInRange, IsRowInRange}
 use Rattle.trace_audit.specs.Trace.{Lines, no_lines, queue_mark, rows_of, has_span}
@@ -19,6 +19,7 @@ use Rattle.trace_audit.specs.declared.row.QueueRow.{QueueRow}
 use Rattle.trace_audit.specs.declared.row.TraceRow.{TraceRow}
 use Rattle.trace_audit.specs.declared.row.TraceRow.TheVariants as row
 use Rattle.trace_audit.proofs.Cuts.{Without, Without-append, lines_first}
+use Rattle.trace_audit.proofs.OneReport.{one_report}
 use Rattle.trace_audit.proofs.Spelling.{number_without}
 
 -- ---- rows that fit, whatever they lead to
@@ -500,15 +501,19 @@ group_is key rows f =
     ∙ ap (λ (z : List TraceRow). map (λ (l : LogLine). row.Log l) (logs_of (filter p rows)) ++ map (λ (s : SpanRow). row.Span s) (spans_of (filter p rows)) ++ z) (group_queues p rows)
     ∙ group_in_turn key (filter p rows) (all_at key rows) (part_fits key rows no_lines no_lines (λ _. refl) f)
 
+-- rows that were added, kind by kind, are the rows of the trace that they made
+turn_is : (rows : List TraceRow) (trace : Lines) → AddsRows rows no_lines trace → in_turn rows ≡ rows_in trace
+turn_is rows trace a =
+    let f = fit_from rows no_lines trace a in
+    ap (λ (z : List LogLine). map (λ (l : LogLine). row.Log l) z ++ map (λ (s : SpanRow). row.Span s) (spans_of rows) ++ map (λ (q : QueueRow). row.Queue q) (queues_of rows)) (sym (ap (λ (z : Lines). z.logs) f.1 ∙ logs_after rows no_lines))
+    ∙ ap (λ (z : List SpanRow). log_rows trace ++ map (λ (s : SpanRow). row.Span s) z ++ map (λ (q : QueueRow). row.Queue q) (queues_of rows)) (sym (ap (λ (z : Lines). z.spans) f.1 ∙ spans_after rows no_lines))
+    ∙ ap (λ (z : List QueueRow). log_rows trace ++ span_rows trace ++ map (λ (q : QueueRow). row.Queue q) z) (sym (ap (λ (z : Lines). z.queues) f.1 ∙ queues_after rows no_lines))
+
 -- the rows of a trace that adding rows made fit in the trace's own order
 fits_in_turn : (rows : List TraceRow) (trace : Lines) → AddsRows rows no_lines trace → Fit (rows_in trace) no_lines
 fits_in_turn rows trace a =
     let f = fit_from rows no_lines trace a in
-    let same : in_turn rows ≡ rows_in trace =
-    ap (λ (z : List LogLine). map (λ (l : LogLine). row.Log l) z ++ map (λ (s : SpanRow). row.Span s) (spans_of rows) ++ map (λ (q : QueueRow). row.Queue q) (queues_of rows)) (sym (ap (λ (z : Lines). z.logs) f.1 ∙ logs_after rows no_lines))
-    ∙ ap (λ (z : List SpanRow). log_rows trace ++ map (λ (s : SpanRow). row.Span s) z ++ map (λ (q : QueueRow). row.Queue q) (queues_of rows)) (sym (ap (λ (z : Lines). z.spans) f.1 ∙ spans_after rows no_lines))
-    ∙ ap (λ (z : List QueueRow). log_rows trace ++ span_rows trace ++ map (λ (q : QueueRow). row.Queue q) z) (sym (ap (λ (z : Lines). z.queues) f.1 ∙ queues_after rows no_lines)) in
-    subst (λ (z : List TraceRow). Fit z no_lines) same
+    subst (λ (z : List TraceRow). Fit z no_lines) (turn_is rows trace a)
     (whole_fits (in_turn rows) no_lines (λ key. subst (λ (z : List TraceRow). Fit z no_lines) (sym (group_is key rows f.0)) (part_fits key rows no_lines no_lines (λ _. refl) f.0)))
 
 -- a report of a trace, when read, gives a trace that is alike
@@ -517,3 +522,12 @@ printed_is_read added printed trace a i s =
     let f = fits_in_turn added trace a in
     let fits = whole_fits printed no_lines (λ key. subst (λ (z : List TraceRow). Fit z no_lines) (sym (s.same key)) (part_fits key (rows_in trace) no_lines no_lines (λ _. refl) f)) in
     (after printed no_lines, text_adds printed no_lines fits (printed_in_range printed trace s i), alike printed trace s)
+
+-- a report of a trace whose rows were added in that order, when read, gives the same trace
+pub sorted_is_read : SortedIsReadAsItself
+sorted_is_read added printed trace a sorted i s =
+    let f = fit_from added no_lines trace a in
+    let same : printed ≡ added = one_report printed added s.ordered sorted
+    (λ key. s.same key ∙ ap (filter (has_key key)) (sym (turn_is added trace a)) ∙ group_is key added f.0) in
+    let read = text_adds printed no_lines (subst (λ (z : List TraceRow). Fit z no_lines) (sym same) f.0) (printed_in_range printed trace s i) in
+    subst (λ (z : Lines). AddsLines (lines_of (text_of printed)) no_lines z) (ap (λ (z : List TraceRow). after z no_lines) same ∙ sym f.1) read

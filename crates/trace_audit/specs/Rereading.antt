@@ -3,7 +3,7 @@ use Rattle.std.specs.Prelude.{◌≡◌, ℕ, false, ◌==◌, List, [], ◌∷�
 use Rattle.std.specs.List.{AllByRecursion, filter}
 use Rattle.mcast_txn.specs.declared.id.Topic.{Topic}
 use Rattle.trace_audit.specs.Parsing.{lines_of, AddsLines}
-use Rattle.trace_audit.specs.Report.{rows_in, text_of, IsReport}
+use Rattle.trace_audit.specs.Report.{rows_in, text_of, IsReport, NeverFalls}
 use Rattle.trace_audit.specs.Rows.{is_misfit, with_row}
 use Rattle.trace_audit.specs.Text.{IsRowInRange}
 use Rattle.trace_audit.specs.Trace.{Lines, no_lines, log_of, queue_of}
@@ -26,3 +26,10 @@ abbrev pub PrintedIsRead : Type 0
 PrintedIsRead = (added printed : List TraceRow) (trace : Lines) → AddsRows added no_lines trace
     → AllByRecursion IsRowInRange (rows_in trace) → IsReport printed trace
     → (again : Lines) × AddsLines (lines_of (text_of printed)) no_lines again × AreAlike trace again
+
+-- Where the rows that made a trace were added in a report's order, the lines of its report are read as the
+-- very same trace.
+abbrev pub SortedIsReadAsItself : Type 0
+SortedIsReadAsItself = (added printed : List TraceRow) (trace : Lines) → AddsRows added no_lines trace
+    → NeverFalls added → AllByRecursion IsRowInRange (rows_in trace) → IsReport printed trace
+    → AddsLines (lines_of (text_of printed)) no_lines trace

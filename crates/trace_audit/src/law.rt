@@ -3,7 +3,7 @@
 ghost use Rattle.std.specs.Prelude.{◌≡◌, List};
 ghost use Rattle.mcast_txn.specs.Span.{LogRow};
 ghost use Rattle.trace_audit.specs.Explained.{IsExplainedBy};
-ghost use Rattle.trace_audit.specs.Rereading.{PrintedIsRead};
+ghost use Rattle.trace_audit.specs.Rereading.{PrintedIsRead, SortedIsReadAsItself};
 ghost use Rattle.trace_audit.specs.Trace.{Lines};
 
 /// A trace is explained by one list of transactions at most.
@@ -15,4 +15,9 @@ pub fn one_list()
 /// What is printed of a trace is read again, as a trace with the same logs, spans and queues.
 pub fn printed_is_read()
     ensures { PrintedIsRead }
+{}
+
+/// What is printed of a trace whose rows were added in a report's order is read again as the very same trace.
+pub fn sorted_is_read_as_itself()
+    ensures { SortedIsReadAsItself }
 {}
