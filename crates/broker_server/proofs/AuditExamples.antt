@@ -1,5 +1,5 @@
 -- Worked examples of the audit's definition.
-use Rattle.std.proofs.Common.{◌≡◌, ◌==◌, ℕ, Bool, true, false, inl, inr, List, [], ◌∷◌, codes, refl, ap, lit≤}
+use Rattle.std.proofs.Common.{◌==◌, ℕ, Bool, true, false, inl, inr, List, [], ◌∷◌, codes, refl, ap, lit≤}
 use Rattle.std.specs.Fmt.{digits}
 use Rattle.std.proofs.lemmas.Bool.{true≢false}
 use Rattle.trace_audit.specs.Explained.{IsExplainedBy}

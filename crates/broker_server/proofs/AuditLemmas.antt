@@ -1,12 +1,12 @@
 -- The audit's definition: each input has one output and one status.
 use Rattle.std.proofs.Common.{◌≡◌, inl, inr, ℕ, Bool, true, false, List, ◌⊎◌, Option, Some, None, Result, Ok, Err, refl, sym, ap, subst, ◌∙◌, arith, length}
-use Rattle.std.specs.Prelude.{IsTrue, ◌↔◌}
+use Rattle.std.specs.Prelude.{IsTrue}
 use Rattle.std.proofs.lemmas.Bool.{cases_lt}
 use Rattle.mcast_txn.specs.Span.{LogRow}
 use Rattle.trace_audit.specs.declared.fault.AuditFault.{AuditFault}
 use Rattle.trace_audit.specs.declared.text.parse_fault.ParseFault.TheVariants.{BadRow}
 use Rattle.trace_audit.specs.AuditText.{agreed_text, refusal_text, bad_text}
-use Rattle.trace_audit.specs.Explained.{IsExplainedBy, IsCompleteBy}
+use Rattle.trace_audit.specs.Explained.{IsCompleteBy}
 use Rattle.trace_audit.specs.Faults.{audit_fault, is_whole}
 use Rattle.trace_audit.specs.Inner.Reading.{read_from}
 use Rattle.trace_audit.specs.Parsing.{lines_of, AddsLines, IsFirstBad}
