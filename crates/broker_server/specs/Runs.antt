@@ -16,12 +16,12 @@ abbrev pub Writes : (List ℕ → List ℕ → ℕ → Type 0) → Option (List 
 Writes IsWritten unread old new answer = IfOk answer (λ status. IfSome unread (λ input.
     (output : List ℕ) × Appends old new output × IsWritten input output status))
 
--- ... the relay of them to the topic of this name
+-- It has then written the relay of all of them to the topic of this name.
 abbrev pub Relays : List ℕ → Option (List ℕ) → Option (List ℕ) → Option (List ℕ) → Result ℕ ProgramFault
     → Type 0
 Relays name unread old new answer = Writes (IsRelayed name) unread old new answer
 
--- ... the audit of them
+-- It has then written the audit of all of them.
 abbrev pub Audits : Option (List ℕ) → Option (List ℕ) → Option (List ℕ) → Result ℕ ProgramFault → Type 0
 Audits unread old new answer = Writes IsAudited unread old new answer
 
