@@ -9,7 +9,7 @@ use Rattle.mcast_txn.proofs.Members.{In-get_or}
 use Rattle.sub_queue.specs.Shown.{Shown}
 use Rattle.mcast_group.specs.declared.subscription.Subscription.{Subscription}
 use Rattle.mcast_group.specs.Sound.{IsSound}
-use Rattle.mcast_group.specs.Machine.{TopicState, Entry, Pending, insert_pending, next_number, propose_fault, after_cancel}
+use Rattle.mcast_group.specs.Machine.{TopicState, Entry, Pending, insert_pending, next_number, propose_fault, after_cancel, after_drain}
 use Rattle.mcast_txn.specs.Ids.{id_lt}
 use Rattle.mcast_group.specs.Group.{after_enter}
 use Rattle.mcast_group.specs.Inner.Copies.{HaveCopies}
@@ -84,3 +84,12 @@ kept_cancelled spare x y capacity copies subs id i h e gone l =
       spares = λ s k n. let r : length x.pending ≤ spare s.outlet = h.spares s k n in omega arith;
       copied = rw gone (copies_remove (length subs) x.pending copies i h.copied);
     }
+
+-- IsKept holds after the log was drained, with room for a row of each pending part
+pub kept_drained : {Q : Type 0} (spare : Q → ℕ) (x : TopicState) (capacity after : ℕ) (copies : List (List TopicPart)) (subs : List (Subscription Q)) → IsKept spare x capacity copies subs → length x.pending ≤ after → IsKept spare (after_drain x) after copies subs
+kept_drained spare x capacity after copies subs h room = record {
+  sound = keeps_sound.drains x h.sound;
+  room = omega arith;
+  spares = h.spares;
+  copied = h.copied;
+}

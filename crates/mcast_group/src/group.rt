@@ -11,12 +11,13 @@ ghost use Rattle.mcast_group.specs.Counted.{group_after_take, queue_item_at, nex
 ghost use Rattle.mcast_group.specs.Inner.Copies.{AreOf, HaveCopies};
 ghost use Rattle.mcast_group.specs.Fitting.{Fits};
 ghost use Rattle.mcast_group.specs.Inner.GroupInvariant.{entry_of};
-ghost use Rattle.mcast_group.specs.Machine.{Pending, cancel_fault, after_cancel, after_turn, decided_stamp, due_part, key, learn_fault, after_learn, new_topic, insert_pending, next_number, propose_fault, after_propose, state_of, subscribe_fault, unsubscribe_fault};
+ghost use Rattle.mcast_group.specs.Machine.{Pending, cancel_fault, after_cancel, after_drain, after_turn, decided_stamp, due_part, key, learn_fault, after_learn, new_topic, insert_pending, next_number, propose_fault, after_propose, state_of, subscribe_fault, unsubscribe_fault};
 
 use crate::copies::{Copies, add_to_each};
 use crate::ended::Ended;
 use crate::fault::{CancelFault, LearnFault, NoSub, ProposeFault, SubFault};
 use crate::law::has_one_row_each;
+use crate::log_rows::LogRows;
 use crate::pending::PendingPart;
 use crate::pending_parts::PendingParts;
 use crate::row::Row;
@@ -27,6 +28,7 @@ use crate::verdicts::Verdicts;
 use mcast_txn::{NoMemory, Part, Released, Stamp, Ticket, Topic, TxnId, Verdict};
 use std::alloc::Global;
 use std::marker::Model;
+use std::mem;
 use std::sync::Arc;
 use sub_queue::{Outlet, VecOutlet};
 
@@ -127,6 +129,19 @@ impl<Q: Outlet + Drop> Group<Q> {
         ensures { option_map (λ row. row.now) result ≡ slice_get self.now.topic.held i }
     {
         self.rows.get(i)
+    }
+
+    /// Drains the log: its rows are moved out, in order. Then it has none, its base is the frontier, and the room that
+    /// is promised to pending parts is there still. Out of memory, nothing has changed.
+    pub fn drain_log(&mut self) -> Result<LogRows, NoMemory>
+        ensures rows { IfOk result (λ rows. rows ≡ self.old.topic.held) }
+        ensures ok { OnOk result (self.new ≡ record self.old { topic = after_drain self.old.topic }) }
+        ensures err { OnErr result (self.new ≡ self.old) }
+    {
+        let mut empty = Vec::new(self.alloc);
+        empty.reserve(self.pending.len())?;
+        self.base = self.frontier;
+        Ok(LogRows::new(mem::replace(&mut self.rows, empty)))
     }
 
     /// Releases the part that is due, if one is: that of least key, once it has learnt its stamp. Each open
