@@ -1,19 +1,21 @@
 -- Subscriptions by rising number: what halving finds among them, and what an edit of them keeps.
-use Rattle.std.proofs.Common.{◌≡◌, ◌≢◌, ℕ, zero, suc, ◌+◌, ◌<◌, ◌≤◌, ◌==◌, ltb, nat_lt, Bool, true, false, cond, List, [], ◌∷◌, map, length, get_or, set, Option, Some, None, Result, Ok, Err, IfOk, IfErr, OnErr, refl, sym, ap, subst, ◌∙◌, arith}
+use Rattle.std.proofs.Common.{◌≡◌, ◌≢◌, ℕ, zero, suc, ◌+◌, ◌<◌, ◌≤◌, ◌==◌, ltb, Bool, true, false, cond, inl, inr, List, [], ◌∷◌, map, length, get_or, set, Option, Some, None, Result, Ok, Err, IfOk, IfErr, OnErr, refl, sym, ap, subst, ◌∙◌, arith}
 use Rattle.std.specs.List.{AllByRecursion, insert, position, position_or_len, remove}
 use Rattle.std.proofs.lemmas.Bool.Decides.{nat_tests}
-use Rattle.mcast_txn.specs.Lists.{RisesBy}
+use Rattle.mcast_txn.specs.Lists.{In, RisesBy}
 use Rattle.mcast_txn.specs.declared.stamp.Stamp.{Stamp}
 use Rattle.mcast_txn.specs.Span.{Item}
-use Rattle.mcast_txn.proofs.Rising.{Finds, IsAt, IsGap, below_later, none_in_gap, rises_alike, rises-map, rises-unmap}
+use Rattle.mcast_txn.proofs.Rising.{Finds, IsAt, IsGap, below_later, none_in_gap, all-map, rises_alike, rises-map, rises-unmap}
 use Rattle.sub_queue.specs.Shown.{Shown}
 use Rattle.mcast_group.specs.declared.subscription.Subscription.{Subscription}
 use Rattle.mcast_group.specs.Machine.{Entry, entry_after}
 use Rattle.mcast_group.specs.Group.{entries_after}
 use Rattle.mcast_group.specs.Inner.GroupInvariant.{Gave, entry_of}
 use Rattle.mcast_group.specs.Inner.Subscriptions.{IsPlaceFor, insert_sub}
-use Rattle.mcast_group.proofs.Numbers.{delivered_number}
+use Rattle.mcast_group.proofs.Numbers.{Numbers-insert}
 use Rattle.mcast_group.proofs.Parts.{map_length}
+use Rattle.mcast_group.proofs.Queues.{delivered_number}
+use Rattle.mcast_group.proofs.Subscribing.{entries_with, isnt_number}
 use Rattle.mcast_group.proofs.Taking.{map_set}
 
 -- the number of a subscription
@@ -38,9 +40,6 @@ found_at_index p xs i l e =
 same_test : (a n : ℕ) → a ≡ n → (a == n) ≡ true
 same_test a n e = grind (arith, nat_tests)
 
-other_test : (a n : ℕ) → a ≢ n → (a == n) ≡ false
-other_test a n e = grind (arith, nat_tests)
-
 -- the subscription at an index has the number: it is the first that has it
 pub number_found : {Q : Type 0} (subs : List (Subscription Q)) (n i : ℕ) → RisesBy number_of subs → IsAt number_of subs n i → position (λ (z : Subscription Q). z.number == n) subs ≡ Some i
 number_found {Q = Q} [] n i rises at = absurd (omega (arith, at.in_range))
@@ -48,12 +47,12 @@ number_found {Q = Q} (s ∷ subs) n i rises at =
     let e : (get_or (s ∷ subs) i s).number ≡ n = at.has_key s in
     found_at_index (λ (z : Subscription Q). z.number == n) (s ∷ subs) i at.in_range
     (first_index (λ (z : Subscription Q). z.number == n) (s ∷ subs) i s at.in_range (same_test (get_or (s ∷ subs) i s).number n e)
-    (λ k l. other_test (get_or (s ∷ subs) k s).number n (λ d. (let m : (get_or (s ∷ subs) k s).number < (get_or (s ∷ subs) i s).number = below_later number_of (s ∷ subs) k i s rises l at.in_range in absurd (omega arith)))))
+    (λ k l. isnt_number (get_or (s ∷ subs) k s).number n (λ d. (let m : (get_or (s ∷ subs) k s).number < (get_or (s ∷ subs) i s).number = below_later number_of (s ∷ subs) k i s rises l at.in_range in absurd (omega arith)))))
 
 end_index : {Q : Type 0} (subs : List (Subscription Q)) (n : ℕ) → AllByRecursion (λ (z : Subscription Q). z.number ≢ n) subs → position_or_len (λ (z : Subscription Q). z.number == n) subs ≡ length subs
 end_index [] n free = refl
 end_index (s ∷ subs) n free =
-    let a : (s.number == n) ≡ false = other_test s.number n free.0 in
+    let a : (s.number == n) ≡ false = isnt_number s.number n free.0 in
     let ih = end_index subs n free.1 in
     rw (a, ih) (omega arith)
 
@@ -83,33 +82,18 @@ place_found {Q = Q} subs n i gap = record {
 
 -- ---- what an edit keeps
 
-all_inserted : {Q : Type 0} (P : Subscription Q → Type 0) (s : Subscription Q) (subs : List (Subscription Q)) → P s → AllByRecursion P subs → AllByRecursion P (insert_sub s subs)
-all_inserted P s [] h all = (h, tt)
-all_inserted {Q = Q} P s (z ∷ zs) h all = go (nat_lt s.number z.number) (all_inserted P s zs h all.1)
-  where
-    go : (b : Bool) → AllByRecursion P (insert_sub s zs) → AllByRecursion P (cond b (s ∷ z ∷ zs) (z ∷ insert_sub s zs))
-    go true ih = (h, all)
-    go false ih = (all.0, ih)
-
-all_higher : {Q : Type 0} (a b : ℕ) (subs : List (Subscription Q)) → a < b → AllByRecursion (λ (z : Subscription Q). b < z.number) subs → AllByRecursion (λ (z : Subscription Q). a < z.number) subs
-all_higher a b [] l all = tt
-all_higher a b (s ∷ subs) l all = (let m : b < s.number = all.0 in omega arith, all_higher a b subs l all.1)
-
-lower_by_test : (a b : ℕ) → nat_lt a b ≡ true → a < b
-lower_by_test a b h = grind (arith, nat_tests)
-
-higher_by_test : (a b : ℕ) → nat_lt a b ≡ false → b ≢ a → b < a
-higher_by_test a b h n = grind (arith, nat_tests)
+each_in : (P : Entry → Type 0) (es : List Entry) → AllByRecursion P es → (e : Entry) → In e es → P e
+each_in P [] all e i = absurd i
+each_in P (x ∷ es) all e (inl k) = subst P k all.0
+each_in P (x ∷ es) all e (inr i) = each_in P es all.1 e i
 
 -- they rise after one whose number is free was put at its place
-pub rises_inserted : {Q : Type 0} (s : Subscription Q) (subs : List (Subscription Q)) → RisesBy number_of subs → AllByRecursion (λ (z : Subscription Q). z.number ≢ s.number) subs → RisesBy number_of (insert_sub s subs)
-rises_inserted s [] rises free = (tt, tt)
-rises_inserted {Q = Q} s (z ∷ zs) rises free = go (nat_lt s.number z.number) refl (rises_inserted s zs rises.1 free.1)
-  where
-    go : (b : Bool) → nat_lt s.number z.number ≡ b → RisesBy number_of (insert_sub s zs) → RisesBy number_of (cond b (s ∷ z ∷ zs) (z ∷ insert_sub s zs))
-    go true k ih = let l = lower_by_test s.number z.number k in ((l, all_higher s.number z.number zs l rises.0), rises)
-    go false k ih =
-        (all_inserted (λ (y : Subscription Q). z.number < y.number) s zs (higher_by_test s.number z.number k free.0) rises.0, ih)
+pub rises_inserted : {Q : Type 0} (shown : Q → Shown) (s : Subscription Q) (subs : List (Subscription Q)) → RisesBy number_of subs → AllByRecursion (λ (z : Subscription Q). z.number ≢ s.number) subs → RisesBy number_of (insert_sub s subs)
+rises_inserted shown s subs rises free =
+    let before = rises-map (λ (z : Entry). z.number) (entry_of shown) subs rises in
+    let others = all-map (λ (z : Entry). z.number ≢ s.number) (entry_of shown) subs free in
+    let after = Numbers-insert (entry_of shown s) (map (entry_of shown) subs) before (each_in (λ (z : Entry). z.number ≢ s.number) (map (entry_of shown) subs) others) in
+    rises-unmap (λ (z : Entry). z.number) (entry_of shown) (insert_sub s subs) (subst (RisesBy (λ (z : Entry). z.number)) (sym (entries_with shown s subs)) after)
 
 all_removed : {Q : Type 0} (P : Subscription Q → Type 0) (subs : List (Subscription Q)) (i : ℕ) → AllByRecursion P subs → AllByRecursion P (remove subs i)
 all_removed P [] zero all = tt
@@ -170,7 +154,7 @@ has_searched subs n (Err i) rises finds = record {
 }
 
 -- they rise after an insertion at its place, and where it was refused
-pub rises_tried : {Q : Type 0} (subs : List (Subscription Q)) (i : ℕ) (s : Subscription Q) (b : Bool) → IsPlaceFor s.number subs i → RisesBy number_of subs → RisesBy number_of (cond b (insert subs i s) subs)
-rises_tried subs i s true place rises =
-    subst (RisesBy number_of) (sym (place.puts s refl)) (rises_inserted s subs rises place.free)
-rises_tried subs i s false place rises = rises
+pub rises_tried : {Q : Type 0} (shown : Q → Shown) (subs : List (Subscription Q)) (i : ℕ) (s : Subscription Q) (b : Bool) → IsPlaceFor s.number subs i → RisesBy number_of subs → RisesBy number_of (cond b (insert subs i s) subs)
+rises_tried shown subs i s true place rises =
+    subst (RisesBy number_of) (sym (place.puts s refl)) (rises_inserted shown s subs rises place.free)
+rises_tried shown subs i s false place rises = rises

@@ -65,10 +65,6 @@ cancel_none id x p e l = rw (e, l) refl
 -- ---- what is stored after a call
 
 module _ (t : Topic) (clock limit : ℕ) (ps : List Pending) (base : Stamp) (rows : List LogRow) (f : Stamp) (es : List Entry) where
-  -- what is stored after a proposal is the machine's topic after it
-  pub proposed_state : (floor : Stamp) (part : TopicPart) (n : ℕ) (after : List Pending) (log : List LogRow) (more : List Entry) → n ≡ max clock floor.n + 1 → after ≡ insert_pending (record { part = part; number = n; learnt = None }) ps → log ≡ rows → more ≡ es → topic_state t n limit after base log f more ≡ after_propose floor part (topic_state t clock limit ps base rows f es)
-  proposed_state floor part n after log more e k l m = rw (k, l, e, m) refl
-
   -- what is stored after a learn is the machine's topic after it
   pub learned_state : (id : TxnId) (stamp : Stamp) (n : ℕ) (after : List Pending) → n ≡ max clock stamp.n → after ≡ map (with_stamp id stamp) ps → topic_state t n limit after base rows f es ≡ after_learn id stamp (topic_state t clock limit ps base rows f es)
   learned_state id stamp n after e k = rw (e, k) refl

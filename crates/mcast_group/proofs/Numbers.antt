@@ -122,19 +122,6 @@ numbers_differ (e ∷ es) h = (other_number e.number es h.0, numbers_differ es h
 
 -- ---- a number that is free
 
-number_case : (b : Bool) (e : Entry) (frontier : Stamp) (item : Item) → (cond b (record e { accepted = e.accepted ++ item ∷ [] }) (record e { to = Some frontier })).number ≡ e.number
-number_case true e frontier item = refl
-number_case false e frontier item = refl
-
-number_by : (takes : Entry → Bool) (frontier : Stamp) (item : Item) (n : ℕ) (from : Stamp) (to : Option Stamp) (accepted : List Item) → (entry_after takes frontier item (record { number = n; from = from; to = to; accepted = accepted })).number ≡ n
-number_by takes frontier item n from None accepted =
-    let e : Entry = record { number = n; from = from; to = None; accepted = accepted } in number_case (takes e) e frontier item
-number_by takes frontier item n from (Some end) accepted = refl
-
--- an entry keeps its number as an item is due to it
-pub delivered_number : (takes : Entry → Bool) (frontier : Stamp) (item : Item) (e : Entry) → (entry_after takes frontier item e).number ≡ e.number
-delivered_number takes frontier item e = number_by takes frontier item e.number e.from e.to e.accepted
-
 unfound_case : (n : ℕ) (e : Entry) (es : List Entry) (b : Bool) → (e.number == n) ≡ b → cond b (Some e) (find_entry n es) ≡ None → (find_entry n es ≡ None → (f : Entry) → In f es → f.number ≢ n) → (f : Entry) → In f (e ∷ es) → f.number ≢ n
 unfound_case n e es true k o ih f i d = none_some e (sym o)
 unfound_case n e es false k o ih f (inl j) d = true≢false (sym (eq-eqb e.number n (ap (λ (z : Entry). z.number) j ∙ d)) ∙ k)

@@ -24,6 +24,7 @@ use Rattle.mcast_group.specs.Sound.{NumbersDiffer}
 use Rattle.mcast_group.specs.Inner.Copies.{HaveCopies}
 use Rattle.mcast_group.specs.Inner.GroupInvariant.{IsKept, entry_of, room_of}
 use Rattle.mcast_group.specs.Inner.Subscriptions.{insert_sub}
+use Rattle.mcast_group.proofs.Giving.{none_of}
 use Rattle.mcast_group.proofs.Indices.{none_at, some_at}
 use Rattle.mcast_group.proofs.Allowed.{keeps_sound}
 
@@ -86,7 +87,7 @@ kept_subscribed shown spare x y capacity copies more subs s h none e left copied
     })
 
 -- the entries after an insertion are the machine's
-entries_with : {Q : Type 0} (shown : Q → Shown) (s : Subscription Q) (subs : List (Subscription Q)) → map (entry_of shown) (insert_sub s subs) ≡ insert_entry (entry_of shown s) (map (entry_of shown) subs)
+pub entries_with : {Q : Type 0} (shown : Q → Shown) (s : Subscription Q) (subs : List (Subscription Q)) → map (entry_of shown) (insert_sub s subs) ≡ insert_entry (entry_of shown s) (map (entry_of shown) subs)
 entries_with shown s [] = refl
 entries_with {Q = Q} shown s (y ∷ ys) = go (nat_lt s.number y.number) (entries_with shown s ys)
   where
@@ -129,7 +130,8 @@ flip_false a b e = grind (arith, nat_tests)
 pub is_number : (a b : ℕ) → (a == b) ≡ true → a ≡ b
 is_number a b e = grind (arith, nat_tests)
 
-isnt_number : (a b : ℕ) → a ≢ b → (a == b) ≡ false
+-- numbers that differ fail the test of equality
+pub isnt_number : (a b : ℕ) → a ≢ b → (a == b) ≡ false
 isnt_number a b h = grind (arith, nat_tests)
 
 others_stay : (n : ℕ) (es : List Entry) → ((e : Entry) → In e es → e.number ≢ n) → filter (λ (e : Entry). not (e.number == n)) es ≡ es
@@ -193,13 +195,9 @@ no_sub {Q = Q} shown x n subs e p =
 
 -- ---- what is asked of one
 
-option_none : {X : Type 0} (o : Option X) → is_some o ≡ false → o ≡ None
-option_none None h = refl
-option_none (Some x) h = absurd (true≢false h)
-
 -- where no subscription has the number, no entry has
 pub no_entry : {Q : Type 0} (shown : Q → Shown) (n : ℕ) (subs : List (Subscription Q)) → position (λ (z : Subscription Q). z.number == n) subs ≡ None → find_entry n (map (entry_of shown) subs) ≡ None
-no_entry {Q = Q} shown n subs p = option_none (find_entry n (map (entry_of shown) subs)) (entry_any shown n subs ∙ none_at (λ (z : Subscription Q). z.number == n) subs p)
+no_entry {Q = Q} shown n subs p = none_of (find_entry n (map (entry_of shown) subs)) (entry_any shown n subs ∙ none_at (λ (z : Subscription Q). z.number == n) subs p)
 
 -- a subscription with an end has lagged there
 pub lag_state : (e : Entry) (end : Stamp) → e.to ≡ Some end → SubState.Lag end ≡ state_of_entry e

@@ -2,6 +2,7 @@
 use Rattle.std.proofs.Common.{◌≡◌, ◌≢◌, ℕ, zero, suc, ◌+◌, ◌<◌, ◌≤◌, ◌==◌, Bool, true, false, cond, not, inl, inr, List, [], ◌∷◌, ◌++◌, length, get_or, set, Option, Some, None, refl, sym, ap, subst, ◌∙◌, arith}
 use Rattle.std.specs.List.{filter}
 use Rattle.std.proofs.lemmas.Bool.{true≢false, not-true, eqb-true, eq-eqb}
+use Rattle.mcast_txn.proofs.Orders.{same_topics}
 use Rattle.mcast_txn.specs.Agreed.{CommitRow}
 use Rattle.mcast_txn.specs.Lists.{In}
 use Rattle.mcast_txn.specs.declared.id.Topic.{Topic}
@@ -16,7 +17,7 @@ use Rattle.mcast_group.proofs.Queues.{Queue-ended}
 use Rattle.mcast_group.proofs.Keeping.{Sound-new, Sound-subscribed, Sound-unsubscribed}
 use Rattle.delivery.specs.Machine.World.{World, Subscription, SenderState, new_sender, no_subscription}
 use Rattle.delivery.proofs.Machine.Invariant.{Tied, topic_in, Serves, sender_in, HasEntry, Owned, IsClosed, sub_in, Subscribes, Inv, Holds}
-use Rattle.delivery.proofs.Machine.TopicSteps.{Serves-topics, same_topic, at_topic, at_topic_from}
+use Rattle.delivery.proofs.Machine.TopicSteps.{Serves-topics, at_topic, at_topic_from}
 
 -- ---- lists with one more at the end
 
@@ -248,7 +249,7 @@ Subscribes-ended ts w s e inv i d =
           (h.live r (let m = set_length subs s v in omega arith) n));
       owned = λ u. at_set_within (λ (z : TopicState). (f : Entry) → In f z.subscriptions → Owned (set subs s v) u f.number f.from) w.topics t.0 u.0 y (new_topic u 0 0) room
           (λ k f j. let m = In-filter_cases (kept_by s) f x.subscriptions j in
-          subst (λ a. Owned (set subs s v) a f.number f.from) (sym (same_topic u t k))
+          subst (λ a. Owned (set subs s v) a f.number f.from) (sym (same_topics u t k))
           (Owned-kept subs s v t f.number f.from (λ q. true≢false (sym (eq-eqb f.number s q) ∙ not-true (f.number == s) m.passes)) (h.owned t f m.stands)))
           (λ ne f j. Owned-kept subs s v u f.number f.from
           (λ q. ne (ap (λ (z : Topic). z.0) (sym (h.owned u f j).topic ∙ ap (λ n. (sub_in subs n).topic) q)))
@@ -336,7 +337,7 @@ Tied-fresh ts cs t log_limit clock h = record {
 pub at_added : (P : Topic → TopicState → Type 0) (topics : List TopicState) (log_limit clock : ℕ) (u : Topic) → (P u (new_topic u 0 0) → P u (new_topic u log_limit clock)) → P u (topic_in topics u) → P u (topic_in (topics ++ new_topic (record { 0 = length topics }) log_limit clock ∷ []) u)
 at_added P topics log_limit clock u h k =
     at_push (P u) topics u.0 (new_topic (record { 0 = length topics }) log_limit clock) (new_topic u 0 0)
-    (λ e o. subst (λ z. P u (new_topic z log_limit clock)) (same_topic u (record { 0 = length topics }) e) (h o)) k
+    (λ e o. subst (λ z. P u (new_topic z log_limit clock)) (same_topics u (record { 0 = length topics }) e) (h o)) k
 
 -- adding a topic keeps the invariant
 pub added_step : (ts : List CommitRow) (w : World) (clock : ℕ) → Holds ts w → Inv ts w.commits w.verdicts (w.topics ++ new_topic (record { 0 = length w.topics }) w.log_limit clock ∷ []) w.senders w.subscriptions

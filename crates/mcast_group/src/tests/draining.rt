@@ -14,24 +14,6 @@ fn topic_answers(alloc: Global, limit: usize, rows: &[(Call, Answer)]) -> bool {
     answers(alloc, &mut group, rows)
 }
 
-/// A topic of one part or row takes the next proposal once its log was drained.
-const ONE: [(Call, Answer); 9] = [
-    (Propose(1, &[0], 0), Answer::Ticket(1)),
-    (Propose(2, &[0], 0), Fault(41)),
-    (Drain, Drained(0, [0; SHOWN])),
-    (Propose(2, &[0], 0), Fault(41)),
-    (Learn(1, &[(0, 1)]), Done),
-    (Release, Released(1, 1, 0)),
-    (Propose(2, &[0], 0), Fault(41)),
-    (Drain, Drained(1, [1, 0, 0, 0, 0, 0, 0, 0])),
-    (Propose(2, &[0], 0), Answer::Ticket(2)),
-];
-
-#[test]
-fn a_drained_topic_takes_proposals(rt: HostRuntime) {
-    assert!(rt; topic_answers(rt.alloc(), 1, &ONE));
-}
-
 /// Of three parts two are released and drained; pending parts count for the limit still, and have room.
 const THREE: [(Call, Answer); 15] = [
     (Propose(1, &[0], 0), Answer::Ticket(1)),

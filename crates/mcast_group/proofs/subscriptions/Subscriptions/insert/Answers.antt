@@ -9,4 +9,4 @@ use Rattle.mcast_group.proofs.subscriptions.Subscriptions.insert.Goals as goal
 pub invariant_of-self : goal.invariant_of-self
 invariant_of-self g c =
     let place = subst (λ (zs : List (Subscription g.row.Q.Denot)). IsPlaceFor c.args.sub.number zs c.args.index) (sym c.self.view_is) c.requires in
-    subst (RisesBy number_of) (sym c.insert.ensures.items) (rises_tried c.self.inside.subs.items c.args.index c.args.sub (is_ok c.insert.result) place c.self.invariant)
+    subst (RisesBy number_of) (sym c.insert.ensures.items) (rises_tried g.Q.Outlet.shown c.self.inside.subs.items c.args.index c.args.sub (is_ok c.insert.result) place c.self.invariant)
