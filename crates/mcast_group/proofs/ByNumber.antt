@@ -1,5 +1,5 @@
 -- Subscriptions by rising number: what halving finds among them, and what an edit of them keeps.
-use Rattle.std.proofs.Common.{◌≡◌, ◌≢◌, ℕ, zero, suc, ◌+◌, ◌<◌, ◌≤◌, ◌==◌, ltb, Bool, true, false, cond, inl, inr, List, [], ◌∷◌, map, length, get_or, set, Option, Some, None, Result, Ok, Err, IfOk, IfErr, OnErr, refl, sym, ap, subst, ◌∙◌, arith}
+use Rattle.std.proofs.Common.{◌≡◌, ◌≢◌, ℕ, zero, suc, ◌<◌, ◌==◌, ltb, Bool, true, false, cond, inl, inr, List, [], ◌∷◌, map, length, get_or, set, Some, None, Result, Ok, Err, IfOk, IfErr, OnErr, refl, sym, ap, subst, ◌∙◌, arith}
 use Rattle.std.specs.List.{AllByRecursion, insert, position, position_or_len, remove}
 use Rattle.std.proofs.lemmas.Bool.Decides.{nat_tests}
 use Rattle.mcast_txn.specs.Lists.{In, RisesBy}
@@ -8,7 +8,7 @@ use Rattle.mcast_txn.specs.Span.{Item}
 use Rattle.mcast_txn.proofs.Rising.{Finds, IsAt, IsGap, below_later, none_in_gap, all-map, rises_alike, rises-map, rises-unmap}
 use Rattle.sub_queue.specs.Shown.{Shown}
 use Rattle.mcast_group.specs.declared.subscription.Subscription.{Subscription}
-use Rattle.mcast_group.specs.Machine.{Entry, entry_after}
+use Rattle.mcast_group.specs.Machine.{Entry}
 use Rattle.mcast_group.specs.Group.{entries_after}
 use Rattle.mcast_group.specs.Inner.GroupInvariant.{Gave, entry_of}
 use Rattle.mcast_group.specs.Inner.Subscriptions.{IsPlaceFor, insert_sub}

@@ -1,5 +1,5 @@
 -- A part that is after_enter.
-use Rattle.std.proofs.Common.{◌≡◌, ℕ, suc, ◌+◌, ◌<◌, ◌≤◌, Bool, true, false, cond, List, [], ◌∷◌, map, length, get_or, None, refl, sym, ap, subst, ◌∙◌, arith}
+use Rattle.std.proofs.Common.{◌≡◌, ℕ, suc, ◌+◌, ◌<◌, ◌≤◌, List, map, length, get_or, None, sym, ap, subst, ◌∙◌, arith}
 use Rattle.mcast_txn.specs.declared.stamp.Stamp.{Stamp}
 use Rattle.std.specs.List.{remove}
 use Rattle.std.proofs.lemmas.List.Edits.{length-remove}
@@ -9,8 +9,7 @@ use Rattle.mcast_txn.proofs.Members.{In-get_or}
 use Rattle.sub_queue.specs.Shown.{Shown}
 use Rattle.mcast_group.specs.declared.subscription.Subscription.{Subscription}
 use Rattle.mcast_group.specs.Sound.{IsSound}
-use Rattle.mcast_group.specs.Machine.{TopicState, Entry, Pending, insert_pending, next_number, propose_fault, after_cancel, after_drain}
-use Rattle.mcast_txn.specs.Ids.{id_lt}
+use Rattle.mcast_group.specs.Machine.{TopicState, Entry, Pending, next_number, propose_fault, after_cancel, after_drain}
 use Rattle.mcast_group.specs.Group.{after_enter}
 use Rattle.mcast_group.specs.Inner.Copies.{HaveCopies}
 use Rattle.mcast_group.specs.Inner.GroupInvariant.{IsKept, entry_of}

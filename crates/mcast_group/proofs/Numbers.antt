@@ -1,16 +1,14 @@
 -- The subscriptions of a topic, by rising number.
-use Rattle.std.proofs.Common.{◌≡◌, ◌≢◌, ℕ, ◌<◌, ◌==◌, nat_lt, Bool, true, false, cond, inl, inr, ◌⊎◌, List, [], ◌∷◌, ◌++◌, map, Option, Some, None, refl, sym, ap, subst, ◌∙◌, arith}
+use Rattle.std.proofs.Common.{◌≡◌, ◌≢◌, ℕ, ◌<◌, ◌==◌, nat_lt, Bool, true, false, cond, inl, inr, ◌⊎◌, List, [], ◌∷◌, map, Option, Some, None, refl, sym, ap, subst, ◌∙◌, arith}
 use Rattle.std.specs.List.{AllByRecursion, filter}
 use Rattle.std.specs.Option.{is_some}
 use Rattle.std.proofs.lemmas.Bool.{eq-eqb, true≢false}
 use Rattle.std.proofs.lemmas.Bool.Decides.{nat_tests}
 use Rattle.mcast_txn.specs.Lists.{In, RisesBy}
-use Rattle.mcast_txn.specs.declared.stamp.Stamp.{Stamp}
 use Rattle.mcast_txn.proofs.Rising.{rises_alike}
 use Rattle.mcast_group.specs.declared.fault.SubFault.{SubFault}
-use Rattle.mcast_txn.specs.Span.{Item}
 use Rattle.mcast_group.specs.Sound.{NumbersDiffer}
-use Rattle.mcast_group.specs.Machine.{TopicState, Entry, find_entry, insert_entry, subscribe_fault, entry_after}
+use Rattle.mcast_group.specs.Machine.{TopicState, Entry, find_entry, insert_entry, subscribe_fault}
 use Rattle.mcast_group.proofs.Parts.{none_some}
 
 -- ---- an entry among others

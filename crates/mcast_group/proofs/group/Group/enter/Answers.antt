@@ -9,7 +9,7 @@ use Rattle.mcast_group.specs.Group.{GroupState, after_enter, topic_state}
 use Rattle.mcast_group.specs.Inner.GroupInvariant.{IsKept, entry_of}
 use Rattle.mcast_group.specs.Machine.{TopicState, Entry, Pending, insert_pending, next_number, propose_fault}
 use Rattle.mcast_group.proofs.Releasing.{copies_length}
-use Rattle.mcast_group.proofs.Entering.{kept_grown, kept_entered, same_many}
+use Rattle.mcast_group.proofs.Entering.{kept_grown, kept_entered}
 use Rattle.mcast_group.proofs.group.Group.enter.Goals as goal
 
 pub invariant_of-self-in_err-reserve_each : goal.invariant_of-self-in_err-reserve_each

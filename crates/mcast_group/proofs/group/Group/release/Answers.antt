@@ -4,7 +4,7 @@ use Rattle.std.specs.Vec.{vec_capacity}
 use Rattle.mcast_txn.specs.Span.{LogRow}
 use Rattle.mcast_group.specs.declared.subscription.Subscription.{Subscription}
 use Rattle.mcast_group.specs.Group.{GroupState, Releases, topic_state}
-use Rattle.mcast_group.specs.Inner.GroupInvariant.{Gave, IsKept, entry_of, room_of}
+use Rattle.mcast_group.specs.Inner.GroupInvariant.{Gave, entry_of, room_of}
 use Rattle.mcast_group.specs.Machine.{Pending, due_part, item_of, key, after_release_of}
 use Rattle.mcast_group.proofs.Indices.{without_at}
 use Rattle.mcast_group.proofs.Groups.{released_state}

@@ -1,4 +1,4 @@
-use Rattle.std.proofs.Common.{◌≡◌, length, List, map, sym, subst, ap, ◌∙◌}
+use Rattle.std.proofs.Common.{◌≡◌, length, List, sym, subst, ap, ◌∙◌}
 use Rattle.std.proofs.lemmas.List.{with_items_is}
 use Rattle.mcast_txn.specs.Lists.{RisesBy}
 use Rattle.mcast_group.specs.declared.subscription.Subscription.{Subscription}
