@@ -189,6 +189,7 @@ fn frames(name: &str, place: usize, numbers: &mut Numbers) -> Option<Vec<u8>> {
         "topic-1" => Some(topic(1, place, numbers)),
         "topic-16" => Some(topic(16, place, numbers)),
         "topic-256" => Some(topic(256, place, numbers)),
+        "topic-1000" => Some(topic(1_000, place, numbers)),
         "one-topic" => Some(one_topic(place)),
         "subscriptions" => Some(subscriptions(place)),
         "many-topics" => Some(many_topics(place)),

@@ -23,7 +23,7 @@ const TRANSACTIONS: Rate = Rate {
     counts: is_transaction,
 };
 const TOPIC: Rate = Rate {
-    inputs: &["topic-1", "topic-16", "topic-256"],
+    inputs: &["topic-1", "topic-16", "topic-256", "topic-1000"],
     unit: "transactions",
     program: "mcast_group",
     counts: is_body,

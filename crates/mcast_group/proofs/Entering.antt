@@ -1,5 +1,5 @@
 -- A part that is after_enter.
-use Rattle.std.proofs.Common.{◌≡◌, ℕ, ◌+◌, ◌<◌, ◌≤◌, Bool, true, false, cond, List, [], ◌∷◌, map, length, get_or, None, refl, sym, ap, subst, ◌∙◌, arith}
+use Rattle.std.proofs.Common.{◌≡◌, ℕ, suc, ◌+◌, ◌<◌, ◌≤◌, List, map, length, get_or, None, sym, ap, subst, ◌∙◌, arith}
 use Rattle.mcast_txn.specs.declared.stamp.Stamp.{Stamp}
 use Rattle.std.specs.List.{remove}
 use Rattle.std.proofs.lemmas.List.Edits.{length-remove}
@@ -9,23 +9,13 @@ use Rattle.mcast_txn.proofs.Members.{In-get_or}
 use Rattle.sub_queue.specs.Shown.{Shown}
 use Rattle.mcast_group.specs.declared.subscription.Subscription.{Subscription}
 use Rattle.mcast_group.specs.Sound.{IsSound}
-use Rattle.mcast_group.specs.Machine.{TopicState, Entry, Pending, insert_pending, next_number, propose_fault, after_cancel}
-use Rattle.mcast_txn.specs.Ids.{id_lt}
+use Rattle.mcast_group.specs.Machine.{TopicState, Entry, Pending, next_number, propose_fault, after_cancel, after_drain}
 use Rattle.mcast_group.specs.Group.{after_enter}
 use Rattle.mcast_group.specs.Inner.Copies.{HaveCopies}
 use Rattle.mcast_group.specs.Inner.GroupInvariant.{IsKept, entry_of}
-use Rattle.mcast_group.proofs.Parts.{map_length}
+use Rattle.mcast_group.proofs.Parts.{insert_length, map_length}
 use Rattle.mcast_group.proofs.Allowed.{keeps_sound}
 use Rattle.mcast_group.proofs.Releasing.{placed_at, map_within, copies_remove}
-
-inserted_case : (p q : Pending) (qs : List Pending) (b : Bool) → length (insert_pending p qs) ≡ length qs + 1 → length (cond b (p ∷ q ∷ qs) (q ∷ insert_pending p qs)) ≡ length (q ∷ qs) + 1
-inserted_case p q qs true e = omega arith
-inserted_case p q qs false e = omega arith
-
--- an insertion adds one to the length
-pub inserted : (p : Pending) (ps : List Pending) → length (insert_pending p ps) ≡ length ps + 1
-inserted p [] = refl
-inserted p (q ∷ qs) = inserted_case p q qs (id_lt p.part.id q.part.id) (inserted p qs)
 
 -- there are as many subscriptions as there were, where their entries are the same
 pub same_many : {Q : Type 0} (shown : Q → Shown) (old new : List (Subscription Q)) → map (entry_of shown) new ≡ map (entry_of shown) old → length new ≡ length old
@@ -58,7 +48,8 @@ kept_grown shown spare x capacity after copies old new h l e grown = record {
 -- IsKept holds after a part has entered, with room, spares and copies for it
 pub kept_entered : {Q : Type 0} (shown : Q → Shown) (spare : Q → ℕ) (x y : TopicState) (capacity after n : ℕ) (copies more : List (List TopicPart)) (old new : List (Subscription Q)) (floor : Stamp) (part : TopicPart) → IsKept spare x capacity copies old → part.topic ≡ x.topic → n ≡ next_number floor x → propose_fault floor part x ≡ None → y ≡ after_enter n part x → length x.held + (length x.pending + 1) ≤ after → map (entry_of shown) new ≡ map (entry_of shown) old → ((k : ℕ) (d : Subscription Q) → k < length old → (get_or new k d).to ≡ None → length x.pending + 1 ≤ spare (get_or new k d).outlet) → HaveCopies (length old) y.pending more → IsKept spare y after more new
 kept_entered shown spare x y capacity after n copies more old new floor part h own next none e room same left copied =
-    let many : length y.pending ≡ length x.pending + 1 = ap (λ (z : TopicState). length z.pending) e ∙ inserted _ x.pending in
+    let grown : length y.pending ≡ suc (length x.pending) = ap (λ (z : TopicState). length z.pending) e ∙ insert_length _ x.pending in
+    let many : length y.pending ≡ length x.pending + 1 = omega arith in
     let held : length y.held ≡ length x.held = ap (λ (z : TopicState). length z.held) e in
     record {
       sound = subst IsSound (sym (e ∙ ap (λ (k : ℕ). after_enter k part x) next)) (keeps_sound.proposes floor part x h.sound own none);
@@ -84,3 +75,12 @@ kept_cancelled spare x y capacity copies subs id i h e gone l =
       spares = λ s k n. let r : length x.pending ≤ spare s.outlet = h.spares s k n in omega arith;
       copied = rw gone (copies_remove (length subs) x.pending copies i h.copied);
     }
+
+-- IsKept holds after the log was drained, with room for a row of each pending part
+pub kept_drained : {Q : Type 0} (spare : Q → ℕ) (x : TopicState) (capacity after : ℕ) (copies : List (List TopicPart)) (subs : List (Subscription Q)) → IsKept spare x capacity copies subs → length x.pending ≤ after → IsKept spare (after_drain x) after copies subs
+kept_drained spare x capacity after copies subs h room = record {
+  sound = keeps_sound.drains x h.sound;
+  room = omega arith;
+  spares = h.spares;
+  copied = h.copied;
+}

@@ -12,7 +12,7 @@ use Rattle.mcast_group.specs.declared.fault.LearnFault.TheVariants.{Foreign, Cla
 use Rattle.mcast_group.specs.declared.fault.CancelFault.TheVariants.{Decided}
 use Rattle.mcast_group.specs.Group.{topic_state}
 use Rattle.mcast_txn.specs.Span.{LogRow}
-use Rattle.mcast_group.specs.Machine.{TopicState, Pending, Entry, key, insert_pending, find_pending, is_pending, parts_without, is_foreign, clashes, last_number, propose_fault, after_propose, learn_fault_of, after_learn, with_stamp, cancel_fault, after_cancel, least_part, due_part, row_of, item_of, entry_after, after_release_of, after_release_if, after_release}
+use Rattle.mcast_group.specs.Machine.{TopicState, Pending, Entry, key, find_pending, is_pending, parts_without, is_foreign, clashes, last_number, propose_fault, learn_fault_of, after_learn, with_stamp, cancel_fault, after_cancel, least_part, due_part, row_of, item_of, entry_after, after_release_of, after_release_if, after_release}
 
 -- ---- what stands against a proposal
 
@@ -65,10 +65,6 @@ cancel_none id x p e l = rw (e, l) refl
 -- ---- what is stored after a call
 
 module _ (t : Topic) (clock limit : ℕ) (ps : List Pending) (base : Stamp) (rows : List LogRow) (f : Stamp) (es : List Entry) where
-  -- what is stored after a proposal is the machine's topic after it
-  pub proposed_state : (floor : Stamp) (part : TopicPart) (n : ℕ) (after : List Pending) (log : List LogRow) (more : List Entry) → n ≡ max clock floor.n + 1 → after ≡ insert_pending (record { part = part; number = n; learnt = None }) ps → log ≡ rows → more ≡ es → topic_state t n limit after base log f more ≡ after_propose floor part (topic_state t clock limit ps base rows f es)
-  proposed_state floor part n after log more e k l m = rw (k, l, e, m) refl
-
   -- what is stored after a learn is the machine's topic after it
   pub learned_state : (id : TxnId) (stamp : Stamp) (n : ℕ) (after : List Pending) → n ≡ max clock stamp.n → after ≡ map (with_stamp id stamp) ps → topic_state t n limit after base rows f es ≡ after_learn id stamp (topic_state t clock limit ps base rows f es)
   learned_state id stamp n after e k = rw (e, k) refl

@@ -18,8 +18,8 @@ use Rattle.mcast_txn.specs.Span.{LogRow, last_stamp, row_stamp}
 use Rattle.mcast_group.specs.Sound.{IsSound, IsQueueOf}
 use Rattle.mcast_group.specs.Machine.{TopicState, Pending, Entry, decided_stamp, key, new_topic, next_number, after_propose, is_pending, has_row, is_foreign, has_learnt_other, clashes, learn_fault, learn_fault_of, find_pending, after_learn, with_stamp, after_cancel, after_release_of, row_of, item_of, entry_after, after_subscribe, after_unsubscribe, after_drain}
 use Rattle.mcast_group.proofs.Parts.{insert_length, insert_one, insert_two, RisesById-insert, RisesById-told, RisesById-without, not_pending, each_told, each_two_told, part_with_stamp, map_length, Due, others, found_part, same_stamp_is, same_stamp_itself}
-use Rattle.mcast_group.proofs.Numbers.{Numbers-push, Numbers-map, Numbers-filter, delivered_number}
-use Rattle.mcast_group.proofs.Queues.{Queue-delivered, Queue-new, Queue-drained, Next}
+use Rattle.mcast_group.proofs.Numbers.{Numbers-insert, Numbers-map, Numbers-filter, entry_one}
+use Rattle.mcast_group.proofs.Queues.{delivered_number, Queue-delivered, Queue-new, Queue-drained, Next}
 
 -- a new topic is sound
 pub Sound-new : (t : Topic) (log_limit clock : ℕ) → IsSound (new_topic t log_limit clock)
@@ -303,8 +303,8 @@ Sound-subscribed number x h free = record {
   above = h.above;
   clock_keys = h.clock_keys;
   clock_frontier = h.clock_frontier;
-  numbers = Numbers-push x.subscriptions _ h.numbers free;
-  queues = push_one (λ (e : Entry). IsQueueOf x.base x.frontier x.held e.from e.to e.accepted) x.subscriptions _ h.queues
+  numbers = Numbers-insert _ x.subscriptions h.numbers free;
+  queues = entry_one (λ (e : Entry). IsQueueOf x.base x.frontier x.held e.from e.to e.accepted) x.subscriptions _ h.queues
       (Queue-new x.base x.frontier x.held h.past);
   limit = h.limit;
 }

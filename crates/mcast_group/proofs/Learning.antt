@@ -42,10 +42,6 @@ kept_learned spare x y capacity copies subs id place stamp h can e =
 
 -- ---- one part
 
--- nothing was found
-pub tried_none : (finds : TopicPart → Option Decision → Type 0) (p : Pending) (g : GroupState) (o : Option Decision) → finds p.part o → o ≡ None → Tries finds p g g
-tried_none finds p g o h e = (None, subst (finds p.part) e h, refl)
-
 -- what was found is refused
 pub tried_fault : (finds : TopicPart → Option Decision → Type 0) (p : Pending) (g : GroupState) (o : Option Decision) (v : Decision) (fault : LearnFault) → finds p.part o → o ≡ Some v → learn_fault p.part.id v g.topic ≡ Some fault → Tries finds p g g
 tried_fault finds p g o v fault h e k =

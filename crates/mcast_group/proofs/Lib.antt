@@ -12,6 +12,7 @@ pub mod Releasing
 pub mod Learning
 pub mod Subscribing
 pub mod Taking
+pub mod ByNumber
 pub mod Entering
 pub mod Counting
 pub mod TurnEmpties

@@ -1,11 +1,8 @@
 -- Subscriptions that begin and end.
-use Rattle.std.proofs.Common.{◌≡◌, ◌≢◌, ℕ, zero, suc, ◌+◌, ◌<◌, ◌≤◌, ◌==◌, Bool, true, false, cond, not, ◌||◌, inl, inr, List, [], ◌∷◌, ◌++◌, map, length, get_or, Option, Some, None, refl, sym, ap, subst, ◌∙◌, arith}
+use Rattle.std.proofs.Common.{◌≡◌, ◌≢◌, ℕ, zero, suc, ◌+◌, ◌<◌, ◌≤◌, ◌==◌, Bool, true, false, cond, not, ◌||◌, inl, inr, ◌⊎◌, nat_lt, List, [], ◌∷◌, map, length, get_or, Some, None, refl, sym, ap, subst, ◌∙◌, arith}
 use Rattle.std.specs.List.{list_any, position, remove, filter}
 use Rattle.std.specs.Option.{is_some}
-use Rattle.std.proofs.lemmas.Bool.{true≢false, false≢true}
 use Rattle.std.proofs.lemmas.Bool.Decides.{nat_tests}
-use Rattle.std.proofs.lemmas.Bool.{true≢false}
-use Rattle.std.proofs.lemmas.List.{length_push, map-append}
 use Rattle.std.proofs.lemmas.List.Edits.{length-remove}
 use Rattle.mcast_group.proofs.Copying.{fewer}
 use Rattle.std.proofs.lemmas.List.Quantifiers.{position-Some}
@@ -14,17 +11,18 @@ use Rattle.mcast_txn.specs.Lists.{In}
 use Rattle.mcast_txn.specs.Transaction.{TopicPart}
 use Rattle.mcast_txn.specs.Span.{LogRow}
 use Rattle.mcast_txn.specs.declared.id.Topic.{Topic}
-use Rattle.mcast_txn.proofs.Members.{In-push_cases}
 use Rattle.sub_queue.specs.Shown.{Shown, Room}
 use Rattle.mcast_group.specs.declared.state.SubState.{SubState}
 use Rattle.mcast_group.specs.Machine.{state_of_entry}
 use Rattle.mcast_group.specs.declared.subscription.Subscription.{Subscription}
 use Rattle.mcast_group.specs.declared.fault.SubFault.TheVariants.{SubInUse}
-use Rattle.mcast_group.specs.Machine.{TopicState, Entry, Pending, find_entry, subscribe_fault, after_subscribe, after_unsubscribe, unsubscribe_fault}
-use Rattle.mcast_group.specs.Group.{topic_state, room_at, rooms_without}
+use Rattle.mcast_group.specs.Machine.{TopicState, Entry, Pending, find_entry, insert_entry, subscribe_fault, after_subscribe, after_unsubscribe, unsubscribe_fault}
+use Rattle.mcast_group.specs.Group.{topic_state, room_at, rooms_with, rooms_without}
 use Rattle.mcast_group.specs.Sound.{NumbersDiffer}
 use Rattle.mcast_group.specs.Inner.Copies.{HaveCopies}
 use Rattle.mcast_group.specs.Inner.GroupInvariant.{IsKept, entry_of, room_of}
+use Rattle.mcast_group.specs.Inner.Subscriptions.{insert_sub}
+use Rattle.mcast_group.proofs.Giving.{none_of}
 use Rattle.mcast_group.proofs.Indices.{none_at, some_at}
 use Rattle.mcast_group.proofs.Allowed.{keeps_sound}
 
@@ -38,40 +36,76 @@ entry_any : {Q : Type 0} (shown : Q → Shown) (n : ℕ) (subs : List (Subscript
 entry_any shown n [] = refl
 entry_any shown n (s ∷ subs) = entry_case shown n s subs (s.number == n) (entry_any shown n subs)
 
--- 47 stands exactly where a place was found
-pub in_use : {Q : Type 0} (shown : Q → Shown) (x : TopicState) (n : ℕ) (subs : List (Subscription Q)) (o : Option ℕ) → x.subscriptions ≡ map (entry_of shown) subs → o ≡ position (λ (z : Subscription Q). z.number == n) subs → is_some o ≡ true → subscribe_fault n x ≡ Some SubInUse
-in_use {Q = Q} shown x n subs None e p s = absurd (false≢true s)
-in_use {Q = Q} shown x n subs (Some i) e p s =
-    let a : is_some (find_entry n x.subscriptions) ≡ true = ap (λ (es : List Entry). is_some (find_entry n es)) e ∙ (entry_any shown n subs ∙ some_at (λ (z : Subscription Q). z.number == n) subs i (sym p)) in
+-- 47 stands exactly where an index was found
+pub in_use : {Q : Type 0} (shown : Q → Shown) (x : TopicState) (n i : ℕ) (subs : List (Subscription Q)) → x.subscriptions ≡ map (entry_of shown) subs → position (λ (z : Subscription Q). z.number == n) subs ≡ Some i → subscribe_fault n x ≡ Some SubInUse
+in_use {Q = Q} shown x n i subs e p =
+    let a : is_some (find_entry n x.subscriptions) ≡ true = ap (λ (es : List Entry). is_some (find_entry n es)) e ∙ (entry_any shown n subs ∙ some_at (λ (z : Subscription Q). z.number == n) subs i p) in
     rw a refl
 
--- a subscription isn't refused where no place is found for its number
-pub not_in_use : {Q : Type 0} (shown : Q → Shown) (x : TopicState) (n : ℕ) (subs : List (Subscription Q)) (o : Option ℕ) → x.subscriptions ≡ map (entry_of shown) subs → o ≡ position (λ (z : Subscription Q). z.number == n) subs → is_some o ≡ false → subscribe_fault n x ≡ None
-not_in_use {Q = Q} shown x n subs (Some i) e p s = absurd (true≢false s)
-not_in_use {Q = Q} shown x n subs None e p s =
-    let a : is_some (find_entry n x.subscriptions) ≡ false = ap (λ (es : List Entry). is_some (find_entry n es)) e ∙ (entry_any shown n subs ∙ none_at (λ (z : Subscription Q). z.number == n) subs (sym p)) in
+-- a subscription isn't refused where no index is found for its number
+pub not_in_use : {Q : Type 0} (shown : Q → Shown) (x : TopicState) (n : ℕ) (subs : List (Subscription Q)) → x.subscriptions ≡ map (entry_of shown) subs → position (λ (z : Subscription Q). z.number == n) subs ≡ None → subscribe_fault n x ≡ None
+not_in_use {Q = Q} shown x n subs e p =
+    let a : is_some (find_entry n x.subscriptions) ≡ false = ap (λ (es : List Entry). is_some (find_entry n es)) e ∙ (entry_any shown n subs ∙ none_at (λ (z : Subscription Q). z.number == n) subs p) in
     rw a refl
 
 -- ---- a new one
 
+-- a subscription after an insertion was there before, or is the new one
+In-sub_cases : {Q : Type 0} (z s : Subscription Q) (subs : List (Subscription Q)) → In z (insert_sub s subs) → In z subs ⊎ (s ≡ z)
+In-sub_cases z s [] (inl e) = inr e
+In-sub_cases z s [] (inr i) = absurd i
+In-sub_cases {Q = Q} z s (y ∷ ys) i = go (nat_lt s.number y.number) (In-sub_cases z s ys) i
+  where
+    go : (b : Bool) → (In z (insert_sub s ys) → In z ys ⊎ (s ≡ z)) → In z (cond b (s ∷ y ∷ ys) (y ∷ insert_sub s ys)) → In z (y ∷ ys) ⊎ (s ≡ z)
+    go true ih (inl e) = inr e
+    go true ih (inr k) = inl k
+    go false ih (inl e) = inl (inl e)
+    go false ih (inr k) = elim (ih k) [ inl o ↦ inl (inr o) | inr e ↦ inr e ]
+
+-- an insertion adds one to the number of subscriptions
+sub_length : {Q : Type 0} (s : Subscription Q) (subs : List (Subscription Q)) → length (insert_sub s subs) ≡ length subs + 1
+sub_length s [] = refl
+sub_length {Q = Q} s (y ∷ ys) = go (nat_lt s.number y.number) (sub_length s ys)
+  where
+    go : (b : Bool) → length (insert_sub s ys) ≡ length ys + 1 → length (cond b (s ∷ y ∷ ys) (y ∷ insert_sub s ys)) ≡ length (y ∷ ys) + 1
+    go true ih = omega arith
+    go false ih = omega arith
+
 -- IsKept holds after a subscription began, with spare and copies for it
-pub kept_subscribed : {Q : Type 0} (shown : Q → Shown) (spare : Q → ℕ) (x y : TopicState) (capacity : ℕ) (copies more : List (List TopicPart)) (subs : List (Subscription Q)) (s : Subscription Q) → IsKept spare x capacity copies subs → subscribe_fault s.number x ≡ None → y ≡ after_subscribe s.number x → (s.to ≡ None → length x.pending ≤ spare s.outlet) → HaveCopies (length subs + 1) x.pending more → IsKept spare y capacity more (subs ++ s ∷ [])
+pub kept_subscribed : {Q : Type 0} (shown : Q → Shown) (spare : Q → ℕ) (x y : TopicState) (capacity : ℕ) (copies more : List (List TopicPart)) (subs : List (Subscription Q)) (s : Subscription Q) → IsKept spare x capacity copies subs → subscribe_fault s.number x ≡ None → y ≡ after_subscribe s.number x → (s.to ≡ None → length x.pending ≤ spare s.outlet) → HaveCopies (length subs + 1) x.pending more → IsKept spare y capacity more (insert_sub s subs)
 kept_subscribed shown spare x y capacity copies more subs s h none e left copied =
-    subst (λ (z : TopicState). IsKept spare z capacity more (subs ++ s ∷ [])) (sym e) (record {
+    subst (λ (z : TopicState). IsKept spare z capacity more (insert_sub s subs)) (sym e) (record {
       sound = keeps_sound.subscribes s.number x h.sound none;
       room = h.room;
-      spares = λ z k n. elim (In-push_cases z s subs k) [
+      spares = λ z k n. elim (In-sub_cases z s subs k) [
         | inl o ↦ h.spares z o n
         | inr m ↦ subst (λ (w : Subscription _). length x.pending ≤ spare w.outlet) m (left (subst (λ (w : Subscription _). w.to ≡ None) (sym m) n))
       ];
-      copied = subst (λ (k : ℕ). HaveCopies k x.pending more) (sym (length_push subs s)) copied;
+      copied = subst (λ (k : ℕ). HaveCopies k x.pending more) (sym (sub_length s subs)) copied;
     })
 
--- a subscription at the end, with nothing accepted, is the machine's new entry
-pub subscribed_state : {Q : Type 0} (shown : Q → Shown) (t : Topic) (clock limit : ℕ) (ps : List Pending) (base : Stamp) (rows : List LogRow) (f : Stamp) (subs : List (Subscription Q)) (s : Subscription Q) → entry_of shown s ≡ record { number = s.number; from = f; to = None; accepted = [] } → topic_state t clock limit ps base rows f (map (entry_of shown) (subs ++ s ∷ [])) ≡ after_subscribe s.number (topic_state t clock limit ps base rows f (map (entry_of shown) subs))
+-- the entries after an insertion are the machine's
+pub entries_with : {Q : Type 0} (shown : Q → Shown) (s : Subscription Q) (subs : List (Subscription Q)) → map (entry_of shown) (insert_sub s subs) ≡ insert_entry (entry_of shown s) (map (entry_of shown) subs)
+entries_with shown s [] = refl
+entries_with {Q = Q} shown s (y ∷ ys) = go (nat_lt s.number y.number) (entries_with shown s ys)
+  where
+    go : (b : Bool) → map (entry_of shown) (insert_sub s ys) ≡ insert_entry (entry_of shown s) (map (entry_of shown) ys) → map (entry_of shown) (cond b (s ∷ y ∷ ys) (y ∷ insert_sub s ys)) ≡ cond b (entry_of shown s ∷ entry_of shown y ∷ map (entry_of shown) ys) (entry_of shown y ∷ insert_entry (entry_of shown s) (map (entry_of shown) ys))
+    go true ih = refl
+    go false ih = ap (λ (es : List Entry). entry_of shown y ∷ es) ih
+
+-- the rooms after an insertion have the new one at its entry's place
+pub rooms_are_with : {Q : Type 0} (shown : Q → Shown) (s : Subscription Q) (subs : List (Subscription Q)) → map (room_of shown) (insert_sub s subs) ≡ rooms_with s.number (room_of shown s) (map (entry_of shown) subs) (map (room_of shown) subs)
+rooms_are_with shown s [] = refl
+rooms_are_with {Q = Q} shown s (y ∷ ys) = go (nat_lt s.number y.number) (rooms_are_with shown s ys)
+  where
+    go : (b : Bool) → map (room_of shown) (insert_sub s ys) ≡ rooms_with s.number (room_of shown s) (map (entry_of shown) ys) (map (room_of shown) ys) → map (room_of shown) (cond b (s ∷ y ∷ ys) (y ∷ insert_sub s ys)) ≡ cond b (room_of shown s ∷ room_of shown y ∷ map (room_of shown) ys) (room_of shown y ∷ rooms_with s.number (room_of shown s) (map (entry_of shown) ys) (map (room_of shown) ys))
+    go true ih = refl
+    go false ih = ap (λ (rs : List Room). room_of shown y ∷ rs) ih
+
+-- a subscription at its place, with nothing accepted, is the machine's new entry
+pub subscribed_state : {Q : Type 0} (shown : Q → Shown) (t : Topic) (clock limit : ℕ) (ps : List Pending) (base : Stamp) (rows : List LogRow) (f : Stamp) (subs : List (Subscription Q)) (s : Subscription Q) → entry_of shown s ≡ record { number = s.number; from = f; to = None; accepted = [] } → topic_state t clock limit ps base rows f (map (entry_of shown) (insert_sub s subs)) ≡ after_subscribe s.number (topic_state t clock limit ps base rows f (map (entry_of shown) subs))
 subscribed_state shown t clock limit ps base rows f subs s e =
-    let m : map (entry_of shown) (subs ++ s ∷ []) ≡ map (entry_of shown) subs ++ entry_of shown s ∷ [] = map-append (entry_of shown) subs (s ∷ []) in
-    ap (λ (es : List Entry). topic_state t clock limit ps base rows f es) (m ∙ ap (λ (z : Entry). map (entry_of shown) subs ++ z ∷ []) e)
+    ap (λ (es : List Entry). topic_state t clock limit ps base rows f es) (entries_with shown s subs ∙ ap (λ (z : Entry). insert_entry z (map (entry_of shown) subs)) e)
 
 -- ---- one that ends
 
@@ -94,7 +128,8 @@ flip_false a b e = grind (arith, nat_tests)
 pub is_number : (a b : ℕ) → (a == b) ≡ true → a ≡ b
 is_number a b e = grind (arith, nat_tests)
 
-isnt_number : (a b : ℕ) → a ≢ b → (a == b) ≡ false
+-- numbers that differ fail the test of equality
+pub isnt_number : (a b : ℕ) → a ≢ b → (a == b) ≡ false
 isnt_number a b h = grind (arith, nat_tests)
 
 others_stay : (n : ℕ) (es : List Entry) → ((e : Entry) → In e es → e.number ≢ n) → filter (λ (e : Entry). not (e.number == n)) es ≡ es
@@ -158,13 +193,9 @@ no_sub {Q = Q} shown x n subs e p =
 
 -- ---- what is asked of one
 
-option_none : {X : Type 0} (o : Option X) → is_some o ≡ false → o ≡ None
-option_none None h = refl
-option_none (Some x) h = absurd (true≢false h)
-
 -- where no subscription has the number, no entry has
 pub no_entry : {Q : Type 0} (shown : Q → Shown) (n : ℕ) (subs : List (Subscription Q)) → position (λ (z : Subscription Q). z.number == n) subs ≡ None → find_entry n (map (entry_of shown) subs) ≡ None
-no_entry {Q = Q} shown n subs p = option_none (find_entry n (map (entry_of shown) subs)) (entry_any shown n subs ∙ none_at (λ (z : Subscription Q). z.number == n) subs p)
+no_entry {Q = Q} shown n subs p = none_of (find_entry n (map (entry_of shown) subs)) (entry_any shown n subs ∙ none_at (λ (z : Subscription Q). z.number == n) subs p)
 
 -- a subscription with an end has lagged there
 pub lag_state : (e : Entry) (end : Stamp) → e.to ≡ Some end → SubState.Lag end ≡ state_of_entry e

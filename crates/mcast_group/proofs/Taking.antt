@@ -4,9 +4,11 @@ use Rattle.std.specs.List.{list_any, position}
 use Rattle.std.proofs.lemmas.Bool.{true≢false}
 use Rattle.std.proofs.lemmas.List.Quantifiers.{position-Some}
 use Rattle.mcast_txn.specs.Lists.{In}
+use Rattle.mcast_txn.specs.Stamp.{zero_stamp}
 use Rattle.mcast_txn.specs.Transaction.{TopicPart}
 use Rattle.mcast_txn.proofs.Members.{In-get_or}
 use Rattle.sub_queue.specs.Shown.{Shown, Room, room_after_take}
+use Rattle.sub_queue.specs.declared.vec_outlet.VecOutlet.{VecOutlet}
 use Rattle.mcast_group.specs.declared.subscription.Subscription.{Subscription}
 use Rattle.mcast_group.specs.Machine.{TopicState}
 use Rattle.mcast_group.specs.Counted.{rooms_after_take}
@@ -14,6 +16,10 @@ use Rattle.mcast_group.specs.Inner.Copies.{HaveCopies}
 use Rattle.mcast_group.specs.Inner.GroupInvariant.{IsKept, entry_of, room_of}
 use Rattle.mcast_group.proofs.Indices.{none_at}
 use Rattle.mcast_group.proofs.Subscribing.{flip_true, flip_false}
+
+-- a subscription that nothing was given to
+abbrev pub some_sub : Subscription VecOutlet
+some_sub = record { number = 0; from = zero_stamp; to = None; outlet = record { accepted = []; capacity = 0; taken = 0; spare = 0 } }
 
 -- what is written at an index shows what was there
 pub map_set : {X Y : Type 0} (f : X → Y) (xs : List X) (i : ℕ) (x d : X) → f x ≡ f (get_or xs i d) → i < length xs → map f (set xs i x) ≡ map f xs

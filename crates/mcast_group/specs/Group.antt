@@ -1,5 +1,5 @@
 -- What a topic's group shows, and what its calls answer.
-use Rattle.std.specs.Prelude.{◌≡◌, ℕ, ◌==◌, Bool, List, [], ◌∷◌, ◌++◌, length, Option, Some, None, Result, Ok, Err, IfSome, if◌then◌else◌}
+use Rattle.std.specs.Prelude.{◌≡◌, ℕ, ◌==◌, nat_lt, Bool, List, [], ◌∷◌, length, Option, Some, None, Result, Ok, Err, IfSome, if◌then◌else◌}
 use Rattle.std.specs.List.{position}
 use Rattle.mcast_txn.specs.declared.id.Topic.{Topic}
 use Rattle.mcast_txn.specs.declared.id.TxnId.{TxnId}
@@ -156,10 +156,19 @@ abbrev pub shown_at : ℕ → GroupState → Option Shown
 shown_at number g =
     shown_with (find_entry number g.topic.subscriptions) (room_at number g.topic.subscriptions g.rooms)
 
+-- the rooms with that of a new subscription of this number, at its entry's place
+abbrev pub rooms_with : ℕ → Room → List Entry → List Room → List Room
+rooms_with number room [] rooms = room ∷ []
+rooms_with number room (e ∷ es) [] = room ∷ []
+rooms_with number room (e ∷ es) (r ∷ rooms) =
+    if nat_lt number e.number then room ∷ r ∷ rooms else r ∷ rooms_with number room es rooms
+
 -- a new subscription, whose outlet shows this room
 abbrev pub group_after_subscribe : ℕ → Room → GroupState → GroupState
-group_after_subscribe number room g =
-    record { topic = after_subscribe number g.topic; rooms = g.rooms ++ room ∷ [] }
+group_after_subscribe number room g = record {
+  topic = after_subscribe number g.topic;
+  rooms = rooms_with number room g.topic.subscriptions g.rooms;
+}
 
 -- why a subscription is refused: its number is in use, or else out of memory
 abbrev pub sub_refusal : Option SubFault → SubFault

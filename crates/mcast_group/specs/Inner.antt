@@ -1,3 +1,4 @@
 -- These modules only serve proofs: no public contract cites them, and nobody need believe them.
 pub mod Copies
 pub mod GroupInvariant
+pub mod Subscriptions

@@ -58,6 +58,7 @@ pub record EntryEnd : Type 0 where
 -- base: the stamp of the last row that was drained, or zero.
 -- held: the rows of the log after it.
 -- frontier: the stamp of the last row that was ever released, or zero.
+-- subscriptions: those that weren't asked to end, by rising number.
 pub record TopicState : Type 0 where
   pub topic : Topic
   pub clock : ℕ
@@ -292,11 +293,16 @@ abbrev pub subscribe_fault : ℕ → TopicState → Option SubFault
 subscribe_fault number x =
     if is_some (find_entry number x.subscriptions) then Some SubFault.SubInUse else None
 
+-- an entry among entries that rise by number
+abbrev pub insert_entry : Entry → List Entry → List Entry
+insert_entry e [] = e ∷ []
+insert_entry e (f ∷ fs) = if nat_lt e.number f.number then e ∷ f ∷ fs else f ∷ insert_entry e fs
+
 -- a subscription begins after the frontier
 abbrev pub after_subscribe : ℕ → TopicState → TopicState
 after_subscribe number x = record x {
   subscriptions =
-      x.subscriptions ++ record { number = number; from = x.frontier; to = None; accepted = [] } ∷ [];
+      insert_entry (record { number = number; from = x.frontier; to = None; accepted = [] }) x.subscriptions;
 }
 
 -- what a subscription leaves: it ends with the frontier, or where it lagged

@@ -3,7 +3,7 @@ use Rattle.std.specs.Prelude.{◌≡◌, ◌≢◌, ◌+◌, ◌≤◌, true, fa
 use Rattle.mcast_txn.specs.declared.stamp.Stamp.{Stamp}
 use Rattle.mcast_txn.specs.Stamp.{stamp_lt}
 use Rattle.mcast_txn.specs.Ids.{same_id, id_lt}
-use Rattle.mcast_txn.specs.Lists.{In, Rises}
+use Rattle.mcast_txn.specs.Lists.{In, Rises, RisesBy}
 use Rattle.mcast_txn.specs.Span.{LogRow, Item, in_span, last_stamp, row_stamp, item_stamp}
 use Rattle.mcast_group.specs.Machine.{TopicState, Pending, Entry, key}
 
@@ -62,7 +62,7 @@ NumbersDiffer (e ∷ es) = ((f : Entry) → In f es → f.number ≢ e.number) �
 -- differ: no two pending parts have one key.
 -- above: each pending part's key is above the frontier.
 -- clock_keys, clock_frontier: the clock is at least the number of each key, and that of the frontier.
--- numbers: the subscriptions' numbers differ.
+-- numbers: the subscriptions rise by number.
 -- queues: each subscription's queue has accepted what its span says.
 -- limit: pending parts and held rows, taken together, are at most the log's limit.
 pub record IsSound (x : TopicState) : Type 0 where
@@ -79,7 +79,7 @@ pub record IsSound (x : TopicState) : Type 0 where
   pub above : (p : Pending) → In p x.pending → stamp_lt x.frontier (key p) ≡ true
   pub clock_keys : (p : Pending) → In p x.pending → (key p).n ≤ x.clock
   pub clock_frontier : x.frontier.n ≤ x.clock
-  pub numbers : NumbersDiffer x.subscriptions
+  pub numbers : RisesBy (λ (e : Entry). e.number) x.subscriptions
   pub queues : (e : Entry) → In e x.subscriptions
       → IsQueueOf x.base x.frontier x.held e.from e.to e.accepted
   pub limit : length x.pending + length x.held ≤ x.log_limit

@@ -11,21 +11,24 @@ ghost use Rattle.mcast_group.specs.Counted.{group_after_take, queue_item_at, nex
 ghost use Rattle.mcast_group.specs.Inner.Copies.{AreOf, HaveCopies};
 ghost use Rattle.mcast_group.specs.Fitting.{Fits};
 ghost use Rattle.mcast_group.specs.Inner.GroupInvariant.{entry_of};
-ghost use Rattle.mcast_group.specs.Machine.{Pending, cancel_fault, after_cancel, after_turn, decided_stamp, due_part, key, learn_fault, after_learn, new_topic, insert_pending, next_number, propose_fault, after_propose, state_of, subscribe_fault, unsubscribe_fault};
+ghost use Rattle.mcast_group.specs.Machine.{Pending, cancel_fault, after_cancel, after_drain, after_turn, decided_stamp, due_part, key, learn_fault, after_learn, new_topic, insert_pending, next_number, propose_fault, after_propose, state_of, subscribe_fault, unsubscribe_fault};
 
 use crate::copies::{Copies, add_to_each};
 use crate::ended::Ended;
 use crate::fault::{CancelFault, LearnFault, NoSub, ProposeFault, SubFault};
 use crate::law::has_one_row_each;
+use crate::log_rows::LogRows;
 use crate::pending::PendingPart;
 use crate::pending_parts::PendingParts;
 use crate::row::Row;
 use crate::state::SubState;
-use crate::subscription::{Subscription, give_all, index_of_sub, reserve_each};
+use crate::subscription::Subscription;
+use crate::subscriptions::Subscriptions;
 use crate::verdicts::Verdicts;
 use mcast_txn::{NoMemory, Part, Released, Stamp, Ticket, Topic, TxnId, Verdict};
 use std::alloc::Global;
 use std::marker::Model;
+use std::mem;
 use std::sync::Arc;
 use sub_queue::{Outlet, VecOutlet};
 
@@ -45,7 +48,7 @@ pub struct Group<Q: Outlet + Drop> {
     /// With room for a row of each pending part.
     rows: Vec<Row>,
     frontier: Stamp,
-    subscriptions: Vec<Subscription<Q>>,
+    subscriptions: Subscriptions<Q>,
 }
 
 impl<Q: Outlet + Drop> Model for Group<Q> {
@@ -57,14 +60,14 @@ impl<Q: Outlet + Drop> Model for Group<Q> {
 
     ghost view = { λ g. record {
       topic = topic_state g.topic g.clock g.log_limit g.pending g.base g.rows.items g.frontier
-          (map (entry_of Q.shown) g.subscriptions.items);
-      rooms = map (room_of Q.shown) g.subscriptions.items;
+          (map (entry_of Q.shown) g.subscriptions);
+      rooms = map (room_of Q.shown) g.subscriptions;
     } };
 
     ghost invariant = { λ g. IsKept Q.spare
         (topic_state g.topic g.clock g.log_limit g.pending g.base g.rows.items g.frontier
-        (map (entry_of Q.shown) g.subscriptions.items))
-        (vec_capacity g.rows) g.copies.items g.subscriptions.items };
+        (map (entry_of Q.shown) g.subscriptions))
+        (vec_capacity g.rows) g.copies.items g.subscriptions };
 }
 
 impl<Q: Outlet + Drop> Group<Q> {
@@ -82,7 +85,7 @@ impl<Q: Outlet + Drop> Group<Q> {
             base: Stamp::ZERO,
             rows: Vec::new(alloc),
             frontier: Stamp::ZERO,
-            subscriptions: Vec::new(alloc),
+            subscriptions: Subscriptions::new(alloc),
         }
     }
 
@@ -128,6 +131,19 @@ impl<Q: Outlet + Drop> Group<Q> {
         self.rows.get(i)
     }
 
+    /// Drains the log: its rows are moved out, in order. Then it has none, its base is the frontier, and the room that
+    /// is promised to pending parts is there still. Out of memory, nothing has changed.
+    pub fn drain_log(&mut self) -> Result<LogRows, NoMemory>
+        ensures rows { IfOk result (λ rows. rows ≡ self.old.topic.held) }
+        ensures ok { OnOk result (self.new ≡ record self.old { topic = after_drain self.old.topic }) }
+        ensures err { OnErr result (self.new ≡ self.old) }
+    {
+        let mut empty = Vec::new(self.alloc);
+        empty.reserve(self.pending.len())?;
+        self.base = self.frontier;
+        Ok(LogRows::new(mem::replace(&mut self.rows, empty)))
+    }
+
     /// Releases the part that is due, if one is: that of least key, once it has learnt its stamp. Each open
     /// subscription gets it as one item, or lags. It takes no memory.
     pub fn release(&mut self, needs: &Q::Needs) -> Option<(TxnId, Stamp)>
@@ -140,13 +156,8 @@ impl<Q: Outlet + Drop> Group<Q> {
         }
         let part = self.pending.remove(index);
         let mut copies = self.copies.remove(index);
-        give_all(
-            &mut self.subscriptions,
-            needs,
-            self.frontier,
-            &part,
-            &mut copies,
-        );
+        self.subscriptions
+            .give_all(needs, self.frontier, &part, &mut copies);
         let row = part.into_row();
         let (id, stamp) = (row.id, row.stamp);
         self.rows.push_reserved(row);
@@ -229,7 +240,7 @@ impl<Q: Outlet + Drop> Group<Q> {
         let entry = PendingPart::new(part, n)?;
         let made = Copies::of(self.alloc, &entry, self.subscriptions.len())?;
         self.rows.reserve(self.pending.len() + 1)?;
-        reserve_each(&mut self.subscriptions, self.pending.len() + 1)?;
+        self.subscriptions.reserve_each(self.pending.len() + 1)?;
         put(&mut self.pending, &mut self.copies, entry, made)?;
         self.clock = n;
         Ok(())
@@ -265,24 +276,21 @@ impl<Q: Outlet + Drop> Group<Q> {
         ensures back { IfErr result (λ e. Q.shown e.1 ≡ Q.shown outlet) }
         ensures err { OnErr result (self.new ≡ self.old) }
     {
-        if index_of_sub(&self.subscriptions, number).is_some() {
+        let Err(index) = self.subscriptions.search(number) else {
             return Err((SubFault::SubInUse, outlet));
-        }
+        };
         let mut sub = Subscription {
             number,
             from: self.frontier,
             to: None,
             outlet,
         };
-        let Ok(()) = make_room(
-            &mut self.subscriptions,
-            &mut sub,
-            &mut self.copies,
-            &self.pending,
-        ) else {
+        let Ok(()) = make_room(&mut sub, &mut self.copies, &self.pending) else {
             return Err((SubFault::NoMemory, sub.outlet));
         };
-        self.subscriptions.push_reserved(sub);
+        if let Err(sub) = self.subscriptions.insert(index, sub) {
+            return Err((SubFault::NoMemory, sub.outlet));
+        }
         Ok(self.frontier)
     }
 
@@ -294,7 +302,7 @@ impl<Q: Outlet + Drop> Group<Q> {
         ensures fault { IfErr result (λ fault. unsubscribe_fault number self.old.topic ≡ Some fault) }
         ensures err { OnErr result (self.new ≡ self.old) }
     {
-        let Some(index) = index_of_sub(&self.subscriptions, number) else {
+        let Some(index) = self.subscriptions.index_of(number) else {
             return Err(NoSub);
         };
         let sub = self.subscriptions.remove(index);
@@ -305,20 +313,20 @@ impl<Q: Outlet + Drop> Group<Q> {
     pub fn state(&self, number: u64) -> Option<SubState>
         ensures { result ≡ state_of number self.now.topic }
     {
-        let Some(index) = index_of_sub(&self.subscriptions, number) else {
+        let Some(index) = self.subscriptions.index_of(number) else {
             return None;
         };
-        Some(self.subscriptions[index].state())
+        Some(self.subscriptions.at(index).state())
     }
 
     /// The outlet of the subscription of this number, if there is one.
     pub fn outlet(&self, number: u64) -> Option<&Q>
         ensures { option_map (λ outlet. Q.shown outlet.now) result ≡ shown_at number self.now }
     {
-        let Some(index) = index_of_sub(&self.subscriptions, number) else {
+        let Some(index) = self.subscriptions.index_of(number) else {
             return None;
         };
-        Some(&self.subscriptions[index].outlet)
+        Some(&self.subscriptions.at(index).outlet)
     }
 
     // Learns once for each pending part, by rising id, the verdict that is found, if it isn't refused.
@@ -394,36 +402,32 @@ impl Group<VecOutlet> {
         ensures next { result ≡ next_at number self.old }
         ensures taken { self.new ≡ group_after_take number self.old }
     {
-        let at = index_of_sub(&self.subscriptions, number)?;
-        self.subscriptions[at].outlet.take()
+        let at = self.subscriptions.index_of(number)?;
+        self.subscriptions.take(at)
     }
 
     /// The item of this index, from 0, among those that the queue of the subscription of this number accepted.
     pub fn item(&self, number: u64, index: usize) -> Option<&Released>
         ensures { option_map (λ item. item.now) result ≡ queue_item_at number index self.now }
     {
-        let at = index_of_sub(&self.subscriptions, number)?;
-        self.subscriptions[at].outlet.get(index)
+        let at = self.subscriptions.index_of(number)?;
+        self.subscriptions.at(at).outlet.get(index)
     }
 }
 
-// Makes room for a subscription: among the others, in its outlet, and a copy of each pending part for it.
+// Makes room for a subscription: in its outlet, and a copy of each pending part for it.
 fn make_room<Q: Outlet + Drop>(
-    subs: &mut Vec<Subscription<Q>>,
     sub: &mut Subscription<Q>,
     copies: &mut Vec<Copies>,
     pending: &PendingParts,
 ) -> Result<(), NoMemory>
     requires { length copies.old.items ≡ length pending.now }
-    ensures subs { subs.new.items ≡ subs.old.items }
     ensures entry { entry_of Q.shown sub.new ≡ entry_of Q.shown sub.old }
     ensures shown { Q.shown sub.new.outlet ≡ Q.shown sub.old.outlet }
-    ensures room { OnOk result (vec_len subs.new < vec_capacity subs.new) }
     ensures spare { OnOk result (sub.new.to ≡ None → length pending.now ≤ Q.spare sub.new.outlet) }
     ensures more { OnOk result ((n : ℕ) → HaveCopies n pending.now copies.old.items → HaveCopies (n + 1) pending.now copies.new.items) }
     ensures kept { (n : ℕ) → HaveCopies n pending.now copies.old.items → HaveCopies n pending.now copies.new.items }
 {
-    subs.reserve(1)?;
     sub.outlet.reserve(pending.len())?;
     add_to_each(copies, pending.by_id())?;
     Ok(())

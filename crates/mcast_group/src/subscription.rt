@@ -1,7 +1,6 @@
 //! A subscription of a topic.
 
-ghost use Rattle.std.specs.Prelude.{◌≡◌, ℕ, ◌+◌, ◌<◌, ◌≤◌, ◌==◌, length, map, slice_index_or, None, OnOk};
-ghost use Rattle.std.specs.List.{position};
+ghost use Rattle.std.specs.Prelude.{◌≡◌, ℕ, ◌+◌, ◌<◌, ◌≤◌, length, map, slice_index_or, None, OnOk};
 ghost use Rattle.mcast_txn.specs.Lists.{In};
 ghost use Rattle.mcast_txn.specs.Transaction.{TopicPart};
 ghost use Rattle.mcast_group.specs.Machine.{entry_after, end_of, item_of, key, state_of_entry};
@@ -144,11 +143,4 @@ pub(crate) fn reserve_each<Q: Outlet + Drop>(
         sub.reserve(more)?;
     }
     Ok(())
-}
-
-// The index of the subscription of this number.
-pub(crate) fn index_of_sub<Q>(subs: &[Subscription<Q>], number: u64) -> Option<usize>
-    ensures { result ≡ position (λ s. s.number == number) subs.now }
-{
-    subs.iter().position(|s| s.number == number)
 }

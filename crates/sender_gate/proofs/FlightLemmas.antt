@@ -14,7 +14,7 @@ use Rattle.mcast_txn.specs.Slots.{Slots, free_slots, with_slot}
 use Rattle.mcast_txn.specs.Stamp.{stamp_lt, greatest}
 use Rattle.mcast_txn.specs.TopicSet.{IsTopicSet}
 use Rattle.mcast_txn.specs.Transaction.{TopicPart, topics_of}
-use Rattle.mcast_txn.proofs.StampLemmas.{lt_trans}
+use Rattle.mcast_txn.proofs.Orders.{lt_trans}
 use Rattle.sender_gate.specs.declared.fault.GateFault.TheVariants.{BelowFloor}
 use Rattle.sender_gate.specs.Gate.{over_floor}
 use Rattle.sender_gate.specs.Inner.Flights.{IsFlying}

@@ -13,7 +13,7 @@ use Rattle.mcast_txn.specs.Ballot.{Decision}
 use Rattle.mcast_txn.specs.declared.id.Topic.{Topic}
 use Rattle.mcast_txn.specs.declared.id.TxnId.{TxnId}
 use Rattle.mcast_txn.specs.declared.stamp.Stamp.{Stamp}
-use Rattle.mcast_txn.proofs.Orders.{lt_by_number, id_equal, id_same, id_turned}
+use Rattle.mcast_txn.proofs.Orders.{lt_by_number, id_equal, id_same, id_turned, same_topics}
 use Rattle.mcast_txn.proofs.Members.{any_from, at_set_within}
 use Rattle.mcast_group.specs.Machine.{TopicState, Pending, new_topic, is_pending, next_number, after_propose}
 use Rattle.mcast_group.proofs.Parts.{Waits, In-insert, insert_one, some_same, none_some}
@@ -21,7 +21,7 @@ use Rattle.mcast_group.proofs.Keeping.{Sound-proposed}
 use Rattle.delivery.specs.Machine.World.{World, Undecided, Leftover, SenderState, new_sender}
 use Rattle.delivery.specs.Machine.Moves.{has_ticket, insert_ticket}
 use Rattle.delivery.proofs.Machine.Invariant.{row, Consistent, Uncommitted, Ticketed, Committed, Tied, topic_in, OneEach, Flies, IsLeft, Serves, sender_in, Voted, Inv, Holds}
-use Rattle.delivery.proofs.Machine.TopicSteps.{flies_uncommitted, Entries-same, same_topic, at_topic_from, Subscribes-topic}
+use Rattle.delivery.proofs.Machine.TopicSteps.{flies_uncommitted, Entries-same, at_topic_from, Subscribes-topic}
 
 -- ---- lists with one more at the head
 
@@ -292,7 +292,7 @@ enter_step ts w s t f inv new =
     let a = heard w s t f in let topics = set w.topics t.0 (topic_after w s t f) in record {
       consistent = Consistent-enter ts w s t f inv new;
       tied = λ u. at_set_within (λ (y : TopicState). Tied (a ∷ ts) w.commits u y) w.topics t.0 u.0 (topic_after w s t f) (new_topic u 0 0) new.room
-          (λ e. subst (λ v. Tied (a ∷ ts) w.commits v (topic_after w s t f)) (sym (same_topic u t e)) (Tied-here ts w s t f inv new))
+          (λ e. subst (λ v. Tied (a ∷ ts) w.commits v (topic_after w s t f)) (sym (same_topics u t e)) (Tied-here ts w s t f inv new))
           (λ ne. Tied-there ts w.commits u (topic_in w.topics u) a (λ e. ne (ap (λ (z : Topic). z.0) (sym e))) (inv.tied u));
       serves = λ d. at_set_within (λ (x : SenderState). Serves (a ∷ ts) w.commits topics d x) w.senders s d (sender_after w s t f) new_sender (within_senders w.senders s f new.flight)
           (λ e. subst (λ v. Serves (a ∷ ts) w.commits topics v (sender_after w s t f)) (sym e) (Serves-here ts w s t f inv new))

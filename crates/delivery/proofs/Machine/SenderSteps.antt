@@ -12,7 +12,7 @@ use Rattle.mcast_txn.specs.declared.id.Topic.{Topic}
 use Rattle.mcast_txn.specs.declared.id.TxnId.{TxnId}
 use Rattle.mcast_txn.specs.declared.draft.sent_message.SentMessage.{SentMessage}
 use Rattle.mcast_txn.specs.declared.stamp.Stamp.{Stamp}
-use Rattle.mcast_txn.proofs.Orders.{lt_irrefl, lt_asym, le_lt, id_equal, id_same}
+use Rattle.mcast_txn.proofs.Orders.{lt_irrefl, lt_asym, le_lt, id_equal, id_same, same_topics}
 use Rattle.mcast_txn.proofs.Members.{In-append_left, In-push, In-map_cases, any_found, all_at, at_set, at_set_within, push_one, push_two}
 use Rattle.mcast_txn.proofs.Sorting.{Apart-push}
 use Rattle.mcast_txn.proofs.Greatest.{greatest_in, greatest_past}
@@ -24,7 +24,7 @@ use Rattle.delivery.specs.Theorem.Due.{log_row}
 use Rattle.delivery.specs.Machine.World.{World, Undecided, Leftover, SenderState, Subscription, new_sender}
 use Rattle.delivery.specs.Machine.Moves.{has_ticket, is_complete, leftover, find_leftover, drop_leftover}
 use Rattle.delivery.proofs.Machine.Invariant.{row, Consistent, Uncommitted, Committed, Itemed, Tied, topic_in, OneEach, LeftApart, Flies, IsLeft, Serves, sender_in, Voted, HasVote, sub_in, Subscribes, Inv, Holds}
-use Rattle.delivery.proofs.Machine.TopicSteps.{flies_uncommitted, Entries-same, same_topic, at_topic, Subscribes-topic}
+use Rattle.delivery.proofs.Machine.TopicSteps.{flies_uncommitted, Entries-same, at_topic, Subscribes-topic}
 use Rattle.delivery.proofs.Machine.ProposeStep.{within_senders}
 
 -- ---- a change of one sender
@@ -184,7 +184,7 @@ complete_at ts w s f g all t n =
       it = row f.txn v.it;
       stands = g.given_in v.it v.stands;
       txn_is = refl;
-      topic_is = same_topic v.it.topic t (eqb-true v.it.topic.0 q.it.0 v.passes ∙ eqb-true q.it.0 t.0 q.passes);
+      topic_is = same_topics v.it.topic t (eqb-true v.it.topic.0 q.it.0 v.passes ∙ eqb-true q.it.0 t.0 q.passes);
     }
 
 decision : (ts : List CommitRow) (w : World) (s : ℕ) (f : Undecided) → Holds ts w → Decides w s f → Deciding ts w s f
@@ -409,7 +409,7 @@ pub record Taken (t : Topic) (k : Leftover) (ks : List Leftover) : Type 0 where
 take_case : (t : Topic) (k l : Leftover) (ks : List Leftover) (b : Bool) → (k.ticket.topic.0 == t.0) ≡ b → (find_leftover t ks ≡ Some l → Taken t l ks) → cond b (Some k) (find_leftover t ks) ≡ Some l → Taken t l (k ∷ ks)
 take_case t k l ks true e ih d =
     let same = some_same k l d in
-    record { stands = inl same; topic = subst (λ (z : Leftover). z.ticket.topic ≡ t) same (same_topic k.ticket.topic t (eqb-true k.ticket.topic.0 t.0 e)) }
+    record { stands = inl same; topic = subst (λ (z : Leftover). z.ticket.topic ≡ t) same (same_topics k.ticket.topic t (eqb-true k.ticket.topic.0 t.0 e)) }
 take_case t k l ks false e ih d = let h = ih d in record { stands = inr h.stands; topic = h.topic }
 
 -- a leftover ticket that is found is in the list, and is of this topic
@@ -468,8 +468,8 @@ Tied-cancelled ts cs t x id un h = record {
 waits_on : (w : World) (t : Topic) (id other : TxnId) (u : Topic) → (other ≡ id → u ≡ t → Prim.⊥) → Waits other (topic_in w.topics u).pending → Waits other (topic_in (set w.topics t.0 (after_cancel id (topic_in w.topics t))) u).pending
 waits_on w t id other u ne v =
     at_set (λ (z : TopicState). Waits other z.pending) w.topics t.0 u.0 (after_cancel id (topic_in w.topics t)) (new_topic u 0 0)
-    (λ e. elim (Waits-without id other (topic_in w.topics t).pending (subst (λ z. Waits other (topic_in w.topics z).pending) (same_topic u t e) v)) [
-      | inl s ↦ absurd (ne (id_equal other id s) (same_topic u t e))
+    (λ e. elim (Waits-without id other (topic_in w.topics t).pending (subst (λ z. Waits other (topic_in w.topics z).pending) (same_topics u t e) v)) [
+      | inl s ↦ absurd (ne (id_equal other id s) (same_topics u t e))
       | inr k ↦ k
     ])
     v

@@ -1,5 +1,5 @@
 -- What each event makes of subscriptions: where they begin and end, and how much their queues hold.
-use Rattle.std.proofs.Common.{◌≡◌, ℕ, ◌+◌, ◌<◌, ◌≤◌, ◌==◌, Bool, true, false, cond, List, [], ◌∷◌, ◌++◌, length, set, get_or, Option, Some, None, refl, sym, ap, subst, ◌∙◌, arith}
+use Rattle.std.proofs.Common.{◌≡◌, ℕ, ◌+◌, ◌<◌, ◌≤◌, ◌==◌, nat_lt, Bool, true, false, cond, List, [], ◌∷◌, ◌++◌, length, set, get_or, Option, Some, None, refl, sym, ap, subst, ◌∙◌, arith}
 use Rattle.mcast_txn.specs.Part.{part_at}
 use Rattle.mcast_txn.specs.Ballot.{Decision}
 use Rattle.mcast_txn.specs.declared.id.Topic.{Topic}
@@ -9,7 +9,7 @@ use Rattle.mcast_txn.specs.declared.stamp.Stamp.{Stamp}
 use Rattle.mcast_txn.proofs.Members.{at_set, at_set_within}
 use Rattle.mcast_group.specs.declared.fault.ProposeFault.{ProposeFault}
 use Rattle.mcast_txn.specs.Span.{Item}
-use Rattle.mcast_group.specs.Machine.{TopicState, Entry, EntryEnd, find_entry, end_of, after_propose, after_cancel, after_learn, after_unsubscribe, decided_stamp}
+use Rattle.mcast_group.specs.Machine.{TopicState, Entry, EntryEnd, find_entry, insert_entry, end_of, after_propose, after_cancel, after_learn, after_unsubscribe, decided_stamp}
 use Rattle.mcast_group.proofs.Parts.{none_some}
 use Rattle.delivery.specs.Machine.World.{World, Leftover, Subscription, no_subscription, topic_at, speaker, subscription_at, entry_at, with_topic}
 use Rattle.delivery.specs.Machine.Observed.{entry_items, entry_to, accepted_at, end_at}
@@ -19,7 +19,7 @@ use Rattle.delivery.proofs.Machine.Invariant.{topic_in, Owned}
 use Rattle.delivery.proofs.Machine.TopicSteps.{at_topic_from}
 use Rattle.delivery.proofs.Machine.SubscriptionSteps.{at_push_two, at_added, set_length, push_length, found_entry, new_subscription, new_entry, topic_with, taken_more}
 use Rattle.delivery.proofs.Machine.InvariantIsKept.{Reached, by_refusal}
-use Rattle.delivery.proofs.Theorem.HandedIsPrefix.{items_by, find_kept, find_pushed, ended_same, open_items}
+use Rattle.delivery.proofs.Theorem.HandedIsPrefix.{items_by, find_kept, find_inserted, ended_same, open_items}
 use Rattle.delivery.proofs.Machine.QueueSteps.{Moves, Moves-same, Goes, Goes-same, release_goes, turned_goes, entry_moves}
 
 -- where a span ends: by what the closed subscription left, or by its entry
@@ -121,13 +121,17 @@ empty_case : (b : Bool) (e : Entry) (o p : Option Entry) → (Empty o → Empty 
 empty_case true e o p ih h = h
 empty_case false e o p ih h = ih h
 
-empty_new : (b : Bool) (new : Entry) → Empty (Some new) → Empty (cond b (Some new) None)
-empty_new true new k = k
-empty_new false new k = (refl, refl)
+empty_first : (b : Bool) (new : Entry) (o : Option Entry) → Empty (Some new) → Empty o → Empty (cond b (Some new) o)
+empty_first true new o k h = k
+empty_first false new o k h = h
 
-empty_pushed : (n : ℕ) (es : List Entry) (new : Entry) → Empty (Some new) → Empty (find_entry n es) → Empty (find_entry n (es ++ new ∷ []))
-empty_pushed n [] new k h = empty_new (new.number == n) new k
-empty_pushed n (e ∷ es) new k h = empty_case (e.number == n) e (find_entry n es) (find_entry n (es ++ new ∷ [])) (empty_pushed n es new k) h
+empty_inserted_case : (b : Bool) (n : ℕ) (e new : Entry) (es : List Entry) → Empty (Some new) → (Empty (find_entry n es) → Empty (find_entry n (insert_entry new es))) → Empty (find_entry n (e ∷ es)) → Empty (find_entry n (cond b (new ∷ e ∷ es) (e ∷ insert_entry new es)))
+empty_inserted_case true n e new es k ih h = empty_first (new.number == n) new (find_entry n (e ∷ es)) k h
+empty_inserted_case false n e new es k ih h = empty_case (e.number == n) e (find_entry n es) (find_entry n (insert_entry new es)) ih h
+
+empty_inserted : (n : ℕ) (es : List Entry) (new : Entry) → Empty (Some new) → Empty (find_entry n es) → Empty (find_entry n (insert_entry new es))
+empty_inserted n [] new k h = empty_first (new.number == n) new None k (refl, refl)
+empty_inserted n (e ∷ es) new k h = empty_inserted_case (nat_lt new.number e.number) n e new es k (empty_inserted n es new k) h
 
 none_case : (past : List Answer) (w : World) (s : ℕ) (t : Topic) → Reached past w → length w.subscriptions ≤ s → (o : Option Entry) → find_entry s (topic_in w.topics t).subscriptions ≡ o → Empty o
 none_case past w s t r l None e = (refl, refl)
@@ -150,10 +154,10 @@ Tells-begun past w c t r =
           (λ ne. let x = subscription_at w s in
           Tell-moves w.capacity x (end_at w s) (end_in v.topics s x) (accepted_at w s) (items_in v.topics s x)
           (moves_set w t (topic_with w t) s
-          (Moves-equal x.taken w.capacity _ _ (find_pushed s (topic_in w.topics t).subscriptions (new_entry w t) (λ e. ne (sym e))))));
+          (Moves-equal x.taken w.capacity _ _ (find_inserted s (topic_in w.topics t).subscriptions (new_entry w t) (λ e. ne (sym e))))));
       fresh = λ s l k. at_push_two (λ (z : Subscription). (end_in v.topics s z ≡ None) × (items_in v.topics s z ≡ [])) w.subscriptions s (new_subscription w c t) no_subscription
           (λ e. at_topic_from (λ u z. Empty (find_entry s z.subscriptions)) w.topics t t (topic_with w t)
-          (λ h. empty_pushed s (topic_in w.topics t).subscriptions (new_entry w t) (refl, refl) h) (none_there past w s t r l))
+          (λ h. empty_inserted s (topic_in w.topics t).subscriptions (new_entry w t) (refl, refl) h) (none_there past w s t r l))
           (λ ne. absurd (omega arith));
     }
 

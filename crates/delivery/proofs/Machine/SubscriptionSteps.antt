@@ -2,6 +2,7 @@
 use Rattle.std.proofs.Common.{◌≡◌, ◌≢◌, ℕ, zero, suc, ◌+◌, ◌<◌, ◌≤◌, ◌==◌, Bool, true, false, cond, not, inl, inr, List, [], ◌∷◌, ◌++◌, length, get_or, set, Option, Some, None, refl, sym, ap, subst, ◌∙◌, arith}
 use Rattle.std.specs.List.{filter}
 use Rattle.std.proofs.lemmas.Bool.{true≢false, not-true, eqb-true, eq-eqb}
+use Rattle.mcast_txn.proofs.Orders.{same_topics}
 use Rattle.mcast_txn.specs.Agreed.{CommitRow}
 use Rattle.mcast_txn.specs.Lists.{In}
 use Rattle.mcast_txn.specs.declared.id.Topic.{Topic}
@@ -9,13 +10,14 @@ use Rattle.mcast_txn.specs.declared.stamp.Stamp.{Stamp}
 use Rattle.mcast_txn.proofs.Members.{In-append_left, In-push, In-push_cases, In-filter, In-filter_cases, at_set, at_set_within, push_one, push_two}
 use Rattle.mcast_txn.specs.Span.{Item}
 use Rattle.mcast_group.specs.Sound.{IsSound, IsQueueOf}
-use Rattle.mcast_group.specs.Machine.{TopicState, Entry, EntryEnd, new_topic, find_entry, after_subscribe, end_of, after_unsubscribe}
+use Rattle.mcast_group.specs.Machine.{TopicState, Entry, EntryEnd, new_topic, find_entry, insert_entry, after_subscribe, end_of, after_unsubscribe}
 use Rattle.mcast_group.proofs.Parts.{Waits, some_same, none_some, not_true}
+use Rattle.mcast_group.proofs.Numbers.{In-entry, In-entry_cases, entry_one, entry_two}
 use Rattle.mcast_group.proofs.Queues.{Queue-ended}
 use Rattle.mcast_group.proofs.Keeping.{Sound-new, Sound-subscribed, Sound-unsubscribed}
 use Rattle.delivery.specs.Machine.World.{World, Subscription, SenderState, new_sender, no_subscription}
 use Rattle.delivery.proofs.Machine.Invariant.{Tied, topic_in, Serves, sender_in, HasEntry, Owned, IsClosed, sub_in, Subscribes, Inv, Holds}
-use Rattle.delivery.proofs.Machine.TopicSteps.{Serves-topics, same_topic, at_topic, at_topic_from}
+use Rattle.delivery.proofs.Machine.TopicSteps.{Serves-topics, at_topic, at_topic_from}
 
 -- ---- lists with one more at the end
 
@@ -79,11 +81,11 @@ topic_with w t = after_subscribe (length w.subscriptions) (topic_in w.topics t)
 Tied-subscribed : (ts : List CommitRow) (w : World) (t : Topic) → Holds ts w → Tied ts w.commits t (topic_with w t)
 Tied-subscribed ts w t inv =
     let x = topic_in w.topics t in let h = inv.tied t in
-    Tied-subs ts w.commits t x (x.subscriptions ++ new_entry w t ∷ []) h (Sound-subscribed (length w.subscriptions) x h.sound
+    Tied-subs ts w.commits t x (insert_entry (new_entry w t) x.subscriptions) h (Sound-subscribed (length w.subscriptions) x h.sound
     (λ e i d. let l : e.number < length w.subscriptions = (inv.subscribes.owned t e i).there in omega arith))
-    (λ e k i l. elim (In-push_cases e (new_entry w t) x.subscriptions k) [
-      | inl o ↦ (e, o, l)
-      | inr d ↦ absurd (subst (λ (z : Entry). In i z.accepted) (sym d) l)
+    (λ e k i l. elim (In-entry_cases e (new_entry w t) x.subscriptions k) [
+      | inl d ↦ absurd (subst (λ (z : Entry). In i z.accepted) (sym d) l)
+      | inr o ↦ (e, o, l)
     ])
 
 Owned-more : (subs : List Subscription) (v : Subscription) (t : Topic) (n : ℕ) (from : Stamp) → Owned subs t n from → Owned (subs ++ v ∷ []) t n from
@@ -108,10 +110,10 @@ Subscribes-begun ts w c t inv room =
     record {
       live = λ s l. at_push_two (λ (z : Subscription). z.closed ≡ None → HasEntry s z.from (topic_in topics z.topic)) subs s v no_subscription
           (λ d n. at_set_within (λ (z : TopicState). HasEntry s x.frontier z) w.topics t.0 t.0 (topic_with w t) (new_topic t 0 0) room
-          (λ i. record { entry = e; stands = In-push e x.subscriptions; number = sym d; from_is = refl }) (λ ne. absurd (ne refl)))
+          (λ i. record { entry = e; stands = In-entry e e x.subscriptions (inl refl); number = sym d; from_is = refl }) (λ ne. absurd (ne refl)))
           (λ ne n. moved s (sub_in subs s).from (sub_in subs s).topic (h.live s (let m = push_length subs v in omega arith) n));
       owned = λ u. at_topic_from (λ y z. (f : Entry) → In f z.subscriptions → Owned (subs ++ v ∷ []) y f.number f.from) w.topics t u (topic_with w t)
-          (λ o. push_one (λ (f : Entry). Owned (subs ++ v ∷ []) t f.number f.from) x.subscriptions e o (record {
+          (λ o. entry_one (λ (f : Entry). Owned (subs ++ v ∷ []) t f.number f.from) x.subscriptions e o (record {
             there = let m = push_length subs v in omega arith;
             topic = at_end (λ (z : Subscription). z.topic ≡ t) subs v no_subscription refl;
             closed = at_end (λ (z : Subscription). z.closed ≡ None) subs v no_subscription refl;
@@ -119,20 +121,20 @@ Subscribes-begun ts w c t inv room =
           }))
           (λ f i. Owned-more subs v u f.number f.from (h.owned u f i));
       one = λ u. at_topic_from (λ y z. (a b : Entry) → In a z.subscriptions → In b z.subscriptions → a.number ≡ b.number → a ≡ b) w.topics t u (topic_with w t)
-          (λ o. push_two (λ (a b : Entry). a.number ≡ b.number → a ≡ b) x.subscriptions e o
+          (λ o. entry_two (λ (a b : Entry). a.number ≡ b.number → a ≡ b) x.subscriptions e o
           (λ a i d. absurd (let k : a.number < length subs = (h.owned t a i).there in omega arith))
           (λ a i d. absurd (let k : a.number < length subs = (h.owned t a i).there in omega arith))
           (λ d. refl))
           (h.one u);
       closed = λ s end. at_push (λ (z : Subscription). z.closed ≡ Some end → IsClosed w.commits z.from end z.topic (topic_in topics z.topic)) subs s v no_subscription
           (λ d o n. none_some end n)
-          (λ n. same_else (λ y z. IsClosed w.commits (sub_in subs s).from end y z) w.topics t (sub_in subs s).topic (x.subscriptions ++ e ∷ [])
-          (λ z k. IsClosed-subs w.commits (sub_in subs s).from end t z (x.subscriptions ++ e ∷ []) k) (h.closed s end n));
+          (λ n. same_else (λ y z. IsClosed w.commits (sub_in subs s).from end y z) w.topics t (sub_in subs s).topic (insert_entry e x.subscriptions)
+          (λ z k. IsClosed-subs w.commits (sub_in subs s).from end t z (insert_entry e x.subscriptions) k) (h.closed s end n));
     }
   where
     moved : (s : ℕ) (from : Stamp) (u : Topic) → HasEntry s from (topic_in w.topics u) → HasEntry s from (topic_in (set w.topics t.0 (topic_with w t)) u)
     moved s from u k = at_topic_from (λ y z. HasEntry s from z) w.topics t u (topic_with w t)
-        (λ o. record { entry = o.entry; stands = In-append_left o.entry (topic_in w.topics t).subscriptions (new_entry w t ∷ []) o.stands; number = o.number; from_is = o.from_is }) k
+        (λ o. record { entry = o.entry; stands = In-entry o.entry (new_entry w t) (topic_in w.topics t).subscriptions (inr o.stands); number = o.number; from_is = o.from_is }) k
 
 -- beginning a subscription keeps the invariant
 pub subscribe_step : (ts : List CommitRow) (w : World) (c : ℕ) (t : Topic) → Holds ts w → t.0 < length w.topics → Inv ts w.commits w.verdicts (set w.topics t.0 (topic_with w t)) w.senders (w.subscriptions ++ new_subscription w c t ∷ [])
@@ -247,7 +249,7 @@ Subscribes-ended ts w s e inv i d =
           (h.live r (let m = set_length subs s v in omega arith) n));
       owned = λ u. at_set_within (λ (z : TopicState). (f : Entry) → In f z.subscriptions → Owned (set subs s v) u f.number f.from) w.topics t.0 u.0 y (new_topic u 0 0) room
           (λ k f j. let m = In-filter_cases (kept_by s) f x.subscriptions j in
-          subst (λ a. Owned (set subs s v) a f.number f.from) (sym (same_topic u t k))
+          subst (λ a. Owned (set subs s v) a f.number f.from) (sym (same_topics u t k))
           (Owned-kept subs s v t f.number f.from (λ q. true≢false (sym (eq-eqb f.number s q) ∙ not-true (f.number == s) m.passes)) (h.owned t f m.stands)))
           (λ ne f j. Owned-kept subs s v u f.number f.from
           (λ q. ne (ap (λ (z : Topic). z.0) (sym (h.owned u f j).topic ∙ ap (λ n. (sub_in subs n).topic) q)))
@@ -335,7 +337,7 @@ Tied-fresh ts cs t log_limit clock h = record {
 pub at_added : (P : Topic → TopicState → Type 0) (topics : List TopicState) (log_limit clock : ℕ) (u : Topic) → (P u (new_topic u 0 0) → P u (new_topic u log_limit clock)) → P u (topic_in topics u) → P u (topic_in (topics ++ new_topic (record { 0 = length topics }) log_limit clock ∷ []) u)
 at_added P topics log_limit clock u h k =
     at_push (P u) topics u.0 (new_topic (record { 0 = length topics }) log_limit clock) (new_topic u 0 0)
-    (λ e o. subst (λ z. P u (new_topic z log_limit clock)) (same_topic u (record { 0 = length topics }) e) (h o)) k
+    (λ e o. subst (λ z. P u (new_topic z log_limit clock)) (same_topics u (record { 0 = length topics }) e) (h o)) k
 
 -- adding a topic keeps the invariant
 pub added_step : (ts : List CommitRow) (w : World) (clock : ℕ) → Holds ts w → Inv ts w.commits w.verdicts (w.topics ++ new_topic (record { 0 = length w.topics }) w.log_limit clock ∷ []) w.senders w.subscriptions

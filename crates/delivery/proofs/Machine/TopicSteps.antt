@@ -9,7 +9,7 @@ use Rattle.mcast_txn.specs.Ballot.{Decision}
 use Rattle.mcast_txn.specs.declared.id.Topic.{Topic}
 use Rattle.mcast_txn.specs.declared.id.TxnId.{TxnId}
 use Rattle.mcast_txn.specs.declared.stamp.Stamp.{Stamp}
-use Rattle.mcast_txn.proofs.Orders.{same_stamps, id_equal, id_same}
+use Rattle.mcast_txn.proofs.Orders.{same_stamps, id_equal, id_same, same_topics}
 use Rattle.mcast_txn.proofs.Members.{In-append_left, In-push, In-map, In-map_cases, at_set, push_one}
 use Rattle.mcast_txn.specs.Span.{LogRow, Item}
 use Rattle.mcast_group.specs.Sound.{IsQueueOf}
@@ -247,23 +247,16 @@ Keeps-turned ts cs t takes find x all finds h =
 
 -- ---- in the world
 
--- topics of one number are equal
-pub same_topic : (t u : Topic) → t.0 ≡ u.0 → t ≡ u
-same_topic t u e = ap (λ (n : ℕ). topic n) e
-  where
-    topic : ℕ → Topic
-    topic n = record { 0 = n }
-
 -- what is read of the topics after one was written
 pub at_topic : (P : Topic → TopicState → Type 0) (topics : List TopicState) (t u : Topic) (y : TopicState) → P t y → P u (topic_in topics u) → P u (topic_in (set topics t.0 y) u)
 at_topic P topics t u y h k =
-    at_set (P u) topics t.0 u.0 y (new_topic u 0 0) (λ e. subst (λ z. P z y) (sym (same_topic u t e)) h) k
+    at_set (P u) topics t.0 u.0 y (new_topic u 0 0) (λ e. subst (λ z. P z y) (sym (same_topics u t e)) h) k
 
 -- so too where what was there before is known
 pub at_topic_from : (P : Topic → TopicState → Type 0) (topics : List TopicState) (t u : Topic) (y : TopicState) → (P t (topic_in topics t) → P t y) → P u (topic_in topics u) → P u (topic_in (set topics t.0 y) u)
 at_topic_from P topics t u y h k =
     at_set (P u) topics t.0 u.0 y (new_topic u 0 0)
-    (λ e. subst (λ z. P z y) (sym (same_topic u t e)) (h (subst (λ z. P z (topic_in topics z)) (same_topic u t e) k))) k
+    (λ e. subst (λ z. P z y) (sym (same_topics u t e)) (h (subst (λ z. P z (topic_in topics z)) (same_topics u t e) k))) k
 
 -- an undecided transaction has no row in the commit list
 pub flies_uncommitted : (ts cs : List CommitRow) (topics : List TopicState) (s seq : ℕ) (floor : Stamp) (f : Undecided) → Flies ts cs topics s seq floor f → Uncommitted cs f.txn.id

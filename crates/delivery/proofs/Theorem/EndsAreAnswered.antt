@@ -25,7 +25,7 @@ use Rattle.delivery.proofs.Machine.TopicSteps.{at_topic_from, at_topic}
 use Rattle.delivery.proofs.Machine.SubscriptionSteps.{at_push_two, at_added, found_entry, new_subscription, new_entry, topic_with, taken_more}
 use Rattle.delivery.proofs.Machine.InvariantIsKept.{Reached, by_refusal, step_reached}
 use Rattle.delivery.proofs.Theorem.AcceptedIsDue.{reached}
-use Rattle.delivery.proofs.Theorem.HandedIsPrefix.{find_kept, find_pushed}
+use Rattle.delivery.proofs.Theorem.HandedIsPrefix.{find_kept, find_inserted}
 use Rattle.delivery.proofs.Machine.QueueSteps.{Goes, release_goes, turned_goes}
 use Rattle.delivery.proofs.Machine.SpanSteps.{end_by, end_in, step_tells, moves_topic}
 use Rattle.delivery.proofs.Theorem.SpansAsAnswered.{known, handing, end_there, within, answer_ends, leave_ends}
@@ -91,7 +91,7 @@ begun_ends w c t s end l new =
     none_some end (sym new.0 ∙ (sym (at_push_two (λ (a : Subscription). end_in v.topics s a ≡ end_at w s) w.subscriptions s (new_subscription w c t) no_subscription
     (λ k. absurd (omega arith))
     (λ ne. ap (end_by z.closed) (at_topic_from (λ u a. find_entry s a.subscriptions ≡ find_entry s (topic_in w.topics u).subscriptions) w.topics t z.topic (topic_with w t)
-    (λ o. find_pushed s (topic_in w.topics t).subscriptions (new_entry w t) (λ e. ne (sym e))) refl))) ∙ new.1))
+    (λ o. find_inserted s (topic_in w.topics t).subscriptions (new_entry w t) (λ e. ne (sym e))) refl))) ∙ new.1))
 
 -- ---- a step of its topic
 

@@ -1,6 +1,6 @@
 -- What was handed on is a prefix of what was accepted.
 use Rattle.std.specs.Prelude.{slice_get}
-use Rattle.std.proofs.Common.{◌≡◌, ◌≢◌, ℕ, ◌+◌, ◌<◌, ◌≤◌, ◌==◌, Bool, true, false, cond, not, List, [], ◌∷◌, ◌++◌, map, length, set, Option, Some, None, refl, sym, ap, subst, ◌∙◌, arith, ltb}
+use Rattle.std.proofs.Common.{◌≡◌, ◌≢◌, ℕ, ◌+◌, ◌<◌, ◌≤◌, ◌==◌, nat_lt, Bool, true, false, cond, not, List, [], ◌∷◌, ◌++◌, map, length, set, Option, Some, None, refl, sym, ap, subst, ◌∙◌, arith, ltb}
 use Rattle.std.specs.List.{filter}
 use Rattle.std.proofs.lemmas.Bool.{eqb-true, eq-eqb, ltb-true}
 use Rattle.mcast_txn.specs.Part.{part_at}
@@ -12,7 +12,7 @@ use Rattle.mcast_txn.specs.declared.stamp.Stamp.{Stamp}
 use Rattle.mcast_txn.proofs.Members.{at_set, at_set_within}
 use Rattle.mcast_group.specs.declared.fault.ProposeFault.{ProposeFault}
 use Rattle.mcast_txn.specs.Span.{Item}
-use Rattle.mcast_group.specs.Machine.{TopicState, Pending, Entry, EntryEnd, find_entry, end_of, after_propose, after_cancel, after_learn, due_part, after_unsubscribe, decided_stamp}
+use Rattle.mcast_group.specs.Machine.{TopicState, Pending, Entry, EntryEnd, find_entry, insert_entry, end_of, after_propose, after_cancel, after_learn, due_part, after_unsubscribe, decided_stamp}
 use Rattle.mcast_group.proofs.Parts.{some_same, none_some, not_true}
 use Rattle.mcast_group.proofs.Queues.{More, More-same}
 use Rattle.delivery.specs.Machine.World.{World, Leftover, Subscription, no_subscription, topic_at, speaker, subscription_at, entry_at, start, with_topic}
@@ -169,13 +169,14 @@ closed_grows past w s h (Some entry) e =
 
 -- ---- a subscription begins
 
-push_case : (b : Bool) (n : ℕ) (e new : Entry) (o p : Option Entry) → p ≡ o → cond b (Some e) p ≡ cond b (Some e) o
-push_case b n e new o p f = ap (λ z. cond b (Some e) z) f
+insert_case : (b : Bool) (n : ℕ) (e new : Entry) (es : List Entry) → new.number ≢ n → find_entry n (insert_entry new es) ≡ find_entry n es → find_entry n (cond b (new ∷ e ∷ es) (e ∷ insert_entry new es)) ≡ find_entry n (e ∷ es)
+insert_case true n e new es ne ih = ap (λ (c : Bool). cond c (Some new) (find_entry n (e ∷ es))) (not_true (new.number == n) refl (λ k. ne (eqb-true new.number n k)))
+insert_case false n e new es ne ih = ap (λ (o : Option Entry). cond (e.number == n) (Some e) o) ih
 
--- an entry of another number at the end leaves the entry that is found
-pub find_pushed : (n : ℕ) (es : List Entry) (new : Entry) → new.number ≢ n → find_entry n (es ++ new ∷ []) ≡ find_entry n es
-find_pushed n [] new ne = ap (λ (c : Bool). cond c (Some new) None) (not_true (new.number == n) refl (λ e. ne (eqb-true new.number n e)))
-find_pushed n (e ∷ es) new ne = push_case (e.number == n) n e new (find_entry n es) (find_entry n (es ++ new ∷ [])) (find_pushed n es new ne)
+-- a new entry of another number hides none
+pub find_inserted : (n : ℕ) (es : List Entry) (new : Entry) → new.number ≢ n → find_entry n (insert_entry new es) ≡ find_entry n es
+find_inserted n [] new ne = ap (λ (c : Bool). cond c (Some new) None) (not_true (new.number == n) refl (λ e. ne (eqb-true new.number n e)))
+find_inserted n (e ∷ es) new ne = insert_case (nat_lt new.number e.number) n e new es ne (find_inserted n es new ne)
 
 begun_handing : (past : List Answer) (w : World) (c : ℕ) (t : Topic) → Handing past w → Handing past (move_effect w (Subscribes c t))
 begun_handing past w c t h =
@@ -189,7 +190,7 @@ begun_handing past w c t h =
           (λ ne. let k : s < length w.subscriptions = (let m = push_length w.subscriptions (new_subscription w c t) in omega arith) in
           IsTaken-more (delivered_items s past) (accepted_at w s) _ (subscription_at w s).taken (subscription_at w s).taken
           (More-topic w t (topic_with w t) s (subscription_at w s)
-          (More-equal _ _ (ap entry_items (find_pushed s (topic_in w.topics t).subscriptions (new_entry w t) (λ e. ne (sym e))))))
+          (More-equal _ _ (ap entry_items (find_inserted s (topic_in w.topics t).subscriptions (new_entry w t) (λ e. ne (sym e))))))
           refl (h.held s k));
       fresh = λ s l. h.fresh s (let m = push_length w.subscriptions (new_subscription w c t) in omega arith);
     }

@@ -14,7 +14,7 @@ use Rattle.mcast_txn.specs.declared.id.Topic.{Topic}
 use Rattle.mcast_txn.specs.declared.id.TxnId.{TxnId}
 use Rattle.mcast_txn.specs.declared.draft.sent_message.SentMessage.{SentMessage}
 use Rattle.mcast_txn.specs.declared.stamp.Stamp.{Stamp}
-use Rattle.mcast_txn.proofs.Orders.{lt_asym, le_lt}
+use Rattle.mcast_txn.proofs.Orders.{lt_asym, le_lt, same_topics}
 use Rattle.mcast_txn.proofs.Members.{In-map, In-map_cases, In-filter, In-filter_cases, at_set}
 use Rattle.mcast_txn.proofs.Sorting.{In-sorted, In-sorted_cases, Rises-sorted, Rises-filter, Rises-map, same_rising}
 use Rattle.mcast_group.specs.declared.fault.ProposeFault.{ProposeFault}
@@ -32,7 +32,7 @@ use Rattle.delivery.specs.Machine.Runs.{run, answers_from, commits_of, released_
 use Rattle.delivery.specs.Theorem.Laws
 use Rattle.delivery.specs.Theorem.Laws.{Run, answers_of, final_world, is_logged}
 use Rattle.delivery.proofs.Machine.Invariant.{topic_in, Holds}
-use Rattle.delivery.proofs.Machine.TopicSteps.{at_topic_from, same_topic}
+use Rattle.delivery.proofs.Machine.TopicSteps.{at_topic_from}
 use Rattle.delivery.proofs.Machine.SubscriptionSteps.{at_added, topic_with}
 use Rattle.delivery.proofs.Machine.InvariantIsKept.{tickets, by_refusal, checked, false_not}
 use Rattle.delivery.proofs.Theorem.AcceptedIsDue.{reached, at_new, frontier_is, in_log}
@@ -90,7 +90,7 @@ beside t past w u y e h = ap (λ (z : List LogRow). length z) (held_beside w u t
 -- a topic's step that adds n rows to its log
 written_case : (t : Topic) (past : List Answer) (w : World) (u : Topic) (y : TopicState) (n : ℕ) → u.0 < length w.topics → length y.held ≡ length (log_at w u) + n → Counts t past w → (b : Bool) → (u.0 == t.0) ≡ b → length (log_at (with_topic w u y) t) ≡ cond b (released_at t past + n) (released_at t past)
 written_case t past w u y n room e h true d =
-    let s = same_topic u t (eqb-true u.0 t.0 d) in
+    let s = same_topics u t (eqb-true u.0 t.0 d) in
     subst (λ z. length (log_at (with_topic w u y) z) ≡ length (log_at w z) + n) s
     (ap (λ (z : TopicState). length z.held) (get_or-set_same w.topics u.0 y (new_topic u 0 0) room) ∙ e)
     ∙ ap (λ (k : ℕ). k + n) h

@@ -3,6 +3,7 @@ use Rattle.std.proofs.Common.{◌≡◌, ℕ, zero, suc, ◌+◌, ◌<◌, ◌�
 use Rattle.std.specs.List.{AllByRecursion}
 use Rattle.std.proofs.lemmas.Bool.{eqb-true}
 use Rattle.std.proofs.lemmas.List.{get_or_past}
+use Rattle.mcast_txn.proofs.Orders.{same_topics}
 use Rattle.mcast_txn.specs.Lists.{RisesBy, In}
 use Rattle.mcast_txn.specs.Agreed.{CommitRow}
 use Rattle.mcast_txn.specs.declared.id.Topic.{Topic}
@@ -22,7 +23,6 @@ use Rattle.delivery.specs.Machine.Runs.{run, answers_from, txn_of_id}
 use Rattle.delivery.specs.Theorem.Laws.{Run, answers_of, final_world}
 use Rattle.delivery.specs.Theorem.Tied.{added_clocks, numbers_at}
 use Rattle.delivery.proofs.Machine.Invariant.{row}
-use Rattle.delivery.proofs.Machine.TopicSteps.{same_topic}
 use Rattle.delivery.proofs.Machine.SubscriptionSteps.{at_push_two, push_length, set_length}
 use Rattle.delivery.proofs.Machine.InvariantIsKept.{Reached, tickets, by_refusal, step_reached}
 use Rattle.delivery.proofs.Theorem.AcceptedIsDue.{start_reached}
@@ -55,7 +55,7 @@ number_more t n ts a h = record { it = h.it; stands = inr h.stands; topic = h.to
 number_case : (t : Topic) (n : ℕ) (id : TxnId) (ticket : Stamp) (past : List Answer) (b : Bool) → (ticket.topic.0 == t.0) ≡ b → (In n (numbers_at t past) → NumberOf t n (tickets past)) → In n (cond b (numbers_at t past ++ ticket.n ∷ []) (numbers_at t past)) → NumberOf t n (row (txn_of_id id past) ticket ∷ tickets past)
 number_case t n id ticket past true e ih i = elim (In-push_cases n ticket.n (numbers_at t past) i) [
   | inl k ↦ number_more t n (tickets past) (row (txn_of_id id past) ticket) (ih k)
-  | inr d ↦ record { it = row (txn_of_id id past) ticket; stands = inl refl; topic = same_topic ticket.topic t (eqb-true ticket.topic.0 t.0 e); number = d }
+  | inr d ↦ record { it = row (txn_of_id id past) ticket; stands = inl refl; topic = same_topics ticket.topic t (eqb-true ticket.topic.0 t.0 e); number = d }
 ]
 number_case t n id ticket past false e ih i = number_more t n (tickets past) (row (txn_of_id id past) ticket) (ih i)
 
@@ -102,7 +102,7 @@ record OneMore (past : List Answer) (w : World) (o : Answer) (t : Topic) : Type 
 
 more_case : (past : List Answer) (w : World) (t : Topic) (id : TxnId) (ticket : Stamp) (b : Bool) → Reached past w → (ticket.topic.0 == t.0) ≡ b → (ticket.topic ≡ t → (topic_at w t).clock < ticket.n) → RisesBy (λ n. n) (numbers_at t past) → RisesBy (λ n. n) (cond b (numbers_at t past ++ ticket.n ∷ []) (numbers_at t past)) × ((n : ℕ) → In n (cond b (numbers_at t past ++ ticket.n ∷ []) (numbers_at t past)) → In n (numbers_at t past) ⊎ ((topic_at w t).clock < n))
 more_case past w t id ticket true h e high r =
-    let l = high (same_topic ticket.topic t (eqb-true ticket.topic.0 t.0 e)) in (
+    let l = high (same_topics ticket.topic t (eqb-true ticket.topic.0 t.0 e)) in (
       rises_push (numbers_at t past) ticket.n r (λ m i. let k : m ≤ (topic_at w t).clock = number_le past w t m h i in let d : (topic_at w t).clock < ticket.n = l in omega arith),
       λ n i. elim (In-push_cases n ticket.n (numbers_at t past) i) [ inl k ↦ inl k | inr d ↦ inr (subst (λ m. (topic_at w t).clock < m) d l) ],
     )

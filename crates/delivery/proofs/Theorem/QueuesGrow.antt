@@ -21,7 +21,7 @@ use Rattle.delivery.proofs.Machine.TopicSteps.{Entries-same, Keeps-release, Keep
 use Rattle.delivery.proofs.Machine.SubscriptionSteps.{at_push_two, at_added, new_subscription, new_entry, topic_with, taken_more}
 use Rattle.delivery.proofs.Machine.InvariantIsKept.{Reached, tickets, by_refusal, finds}
 use Rattle.delivery.proofs.Theorem.AcceptedIsDue.{reached}
-use Rattle.delivery.proofs.Theorem.HandedIsPrefix.{items_by, find_pushed, closed_grows, entries_more, More-topic, More-by, More-equal}
+use Rattle.delivery.proofs.Theorem.HandedIsPrefix.{items_by, find_inserted, closed_grows, entries_more, More-topic, More-by, More-equal}
 
 -- each queue of w has more in v
 abbrev Grow : World → World → Type 0
@@ -48,7 +48,7 @@ begun_grow w c t s l =
     at_push_two (λ (z : Subscription). More (accepted_at w s) (items_by z.closed (find_entry s (topic_in v.topics z.topic).subscriptions))) w.subscriptions s (new_subscription w c t) no_subscription
     (λ k. absurd (omega arith))
     (λ ne. More-topic w t (topic_with w t) s (subscription_at w s)
-    (More-equal _ _ (ap entry_items (find_pushed s (topic_in w.topics t).subscriptions (new_entry w t) (λ e. ne (sym e))))))
+    (More-equal _ _ (ap entry_items (find_inserted s (topic_in w.topics t).subscriptions (new_entry w t) (λ e. ne (sym e))))))
 
 left_grow : (past : List Answer) (w : World) (c : ℕ) (o : Option ℕ) → Reached past w → Grow w (leave_effect w c o)
 left_grow past w c None r = Grow-same w

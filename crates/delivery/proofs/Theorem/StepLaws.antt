@@ -4,6 +4,7 @@ use Rattle.std.specs.Option.{option_map}
 use Rattle.std.proofs.Common.{◌≡◌, ◌≢◌, ℕ, ◌+◌, ◌<◌, ◌==◌, max, Bool, true, false, cond, ◌⊎◌, inl, inr, List, [], ◌∷◌, ◌++◌, map, length, set, Option, Some, None, refl, sym, ap, subst, ◌∙◌, ltb}
 use Rattle.std.specs.Option.{is_some}
 use Rattle.std.proofs.lemmas.Bool.{true≢false, false≢true}
+use Rattle.mcast_txn.proofs.Orders.{same_topics}
 use Rattle.mcast_txn.specs.Transaction.{topics_of}
 use Rattle.mcast_txn.specs.Lists.{In}
 use Rattle.mcast_txn.specs.TopicSet.{names}
@@ -20,7 +21,7 @@ use Rattle.mcast_txn.specs.Checks.{first_refusal}
 use Rattle.mcast_txn.specs.Span.{Item}
 use Rattle.mcast_group.specs.Machine.{TopicState, Pending, Entry, new_topic, find_entry, find_pending, cancel_fault_of, learn_fault, entry_after, due_part, after_release_if, after_release, item_of}
 use Rattle.mcast_group.proofs.Parts.{found_part, some_same, none_some}
-use Rattle.mcast_group.proofs.Numbers.{delivered_number}
+use Rattle.mcast_group.proofs.Queues.{delivered_number}
 use Rattle.delivery.specs.Machine.Objections.{Objection}
 use Rattle.delivery.specs.Machine.World.{World, Leftover, topic_at, speaker, connection_at, subscription_at, entry_at, start}
 use Rattle.delivery.specs.Machine.Moves.{Move, Answer, world_after, answer_to, move_refusal, objections, topic_objection, move_effect, move_answer, undecided_at, find_leftover, find_verdict, oldest_live, commit_effect, commit_answer, proposal_fault, propose_effect, propose_answer, cancel_effect, cancel_objection, cancel_objection_of, cancel_answer, learn_effect, learn_objection, learn_objection_of, release_answer, queue_has_room, take_effect, take_answer, leave_effect, leave_answer, close_effect_of}
@@ -30,7 +31,6 @@ use Rattle.delivery.specs.Machine.Runs.{answers_from}
 use Rattle.delivery.specs.Theorem.Laws
 use Rattle.delivery.specs.Theorem.Laws.{Run, answers_of, final_world, move_topic, live_topic, is_odd, IsGiven}
 use Rattle.delivery.proofs.Machine.Invariant.{topic_in, Inv, Holds, Committed}
-use Rattle.delivery.proofs.Machine.TopicSteps.{same_topic}
 use Rattle.delivery.proofs.Machine.SenderSteps.{leftover_found}
 use Rattle.delivery.proofs.Machine.SubscriptionSteps.{at_old}
 use Rattle.delivery.proofs.Machine.InvariantIsKept.{Reached, tickets, by_refusal, checked, asks_of, Asks, step_reached, false_not}
@@ -92,7 +92,7 @@ refusals_change_nothing w e why =
 
 untouched : (topics : List TopicState) (t u : Topic) (y : TopicState) → (Some t ≡ Some u → Prim.⊥) → topic_in (set topics t.0 y) u ≡ topic_in topics u
 untouched topics t u y ne =
-    at_set (λ z. z ≡ topic_in topics u) topics t.0 u.0 y (new_topic u 0 0) (λ e. absurd (ne (ap Some (sym (same_topic u t e))))) refl
+    at_set (λ z. z ≡ topic_in topics u) topics t.0 u.0 y (new_topic u 0 0) (λ e. absurd (ne (ap Some (sym (same_topics u t e))))) refl
 
 flown_topics : (w : World) (c : ℕ) (sends : List SentMessage) → (commit_effect w c sends).topics ≡ w.topics
 flown_topics w c [] = refl

@@ -119,7 +119,12 @@ pub(super) enum Call {
     Take(u64),
     /// Ask for its state.
     State(u64),
+    /// Drain the log.
+    Drain,
 }
+
+/// At most so many drained rows are compared.
+pub(super) const SHOWN: usize = 8;
 
 /// What a call answered.
 #[derive(Clone, Copy, Debug, PartialEq, Eq)]
@@ -141,12 +146,14 @@ pub(super) enum Answer {
     Open,
     /// A subscription has lagged at the stamp of this number.
     Lagged(u64),
+    /// So many rows were drained: those of the transactions of these seqs, in order, and then zeros.
+    Drained(usize, [u64; SHOWN]),
     /// The fault of this number.
     Fault(u32),
 }
 
-use Answer::{Done, Fault, From, Lagged, Left, Nothing, Open, Released, Took};
-use Call::{Cancel, Learn, Propose, Release, State, Subscribe, Take, Unsubscribe};
+use Answer::{Done, Drained, Fault, From, Lagged, Left, Nothing, Open, Released, Took};
+use Call::{Cancel, Drain, Learn, Propose, Release, State, Subscribe, Take, Unsubscribe};
 
 /// What a proposal answered.
 pub(super) fn proposed(answer: Result<Ticket, ProposeFault>) -> Answer {
@@ -224,6 +231,24 @@ pub(super) fn state(group: &Group<VecOutlet>, number: u64) -> Answer {
     }
 }
 
+/// What a drain answers; nothing where a row that is lent isn't the one that is then taken out.
+pub(super) fn drained(group: &mut Group<VecOutlet>) -> Option<Answer> {
+    let Ok(mut rows) = group.drain_log() else {
+        return Some(Fault(42));
+    };
+    let many = rows.len();
+    let mut seqs = [0; SHOWN];
+    for seq in seqs.iter_mut().take(many) {
+        let lent = rows.row(0)?.stamp;
+        let row = rows.take_first()?;
+        if row.stamp != lent {
+            return None;
+        }
+        *seq = row.id.seq;
+    }
+    Some(Drained(many, seqs))
+}
+
 /// What the topic answers to a call; nothing where memory ran out before it.
 pub(super) fn reply(alloc: Global, group: &mut Group<VecOutlet>, call: Call) -> Option<Answer> {
     match call {
@@ -235,6 +260,7 @@ pub(super) fn reply(alloc: Global, group: &mut Group<VecOutlet>, call: Call) -> 
         Unsubscribe(number) => Some(unsubscribed(group, number)),
         Take(number) => taken(group, number),
         State(number) => Some(state(group, number)),
+        Drain => drained(group),
     }
 }
 

@@ -27,6 +27,7 @@ pub(super) enum MadeCall {
     Unsubscribe(u64),
     Take(u64),
     State(u64),
+    Drain,
 }
 
 /// The draws of a schedule: a linear congruential generator, that begins with the schedule's number.
@@ -92,7 +93,7 @@ impl Draws {
 
     /// The next call.
     pub(super) fn call(&mut self, past: &Past) -> MadeCall {
-        match self.below(16) {
+        match self.below(17) {
             0..=3 => MadeCall::Propose(self.proposal(past), self.below(12) as u64),
             4..=6 => MadeCall::Learn(self.verdict(past)),
             7 => MadeCall::Cancel(self.seq()),
@@ -101,7 +102,8 @@ impl Draws {
             11 => MadeCall::Subscribe(self.number(), self.below(3) as usize),
             12 => MadeCall::Unsubscribe(self.number()),
             13..=14 => MadeCall::Take(self.number()),
-            _ => MadeCall::State(self.number()),
+            15 => MadeCall::State(self.number()),
+            _ => MadeCall::Drain,
         }
     }
 }

@@ -2,8 +2,8 @@
 
 use super::calls::{Answer, Call, id, propose, proposed, reply, state, taken};
 use crate::{Cause, Group, ProposeFault};
-use Answer::{Done, Fault, From, Left, Nothing, Open, Released, Took};
-use Call::{Learn, Propose, Release, Subscribe, Take, Unsubscribe};
+use Answer::{Done, Drained, Fault, From, Left, Nothing, Open, Released, Took};
+use Call::{Drain, Learn, Propose, Release, Subscribe, Take, Unsubscribe};
 use mcast_txn::Topic;
 use std::alloc::Global;
 use sub_queue::VecOutlet;
@@ -49,13 +49,14 @@ fn at_last(
     call: Call,
     open: u64,
 ) -> Option<(Answer, bool)> {
-    let before = (group.clock(), group.pending_len());
+    let before = (group.clock(), group.pending_len(), group.held_len());
     let mut stays = true;
     for _ in 0..4u8 {
         match reply(alloc, group, call) {
             None => {}
             Some(Fault(42)) => {
-                stays = (group.clock(), group.pending_len()) == before && are_open(group, open);
+                stays = (group.clock(), group.pending_len(), group.held_len()) == before
+                    && are_open(group, open);
             }
             Some(answer) => return Some((answer, stays)),
         }
@@ -140,4 +141,25 @@ fn subscriptions_with_pending_parts(rt: HostRuntime) {
     let mut group = Group::new(alloc, Topic(0), 0, 8);
     assert!(rt; answers_at_last(alloc, &mut group, &SUBSCRIPTIONS));
     assert!(rt; each_gets_both(alloc, &mut group));
+}
+
+/// Two pending parts, of which one is released; the log is drained, and so is the other's row after it.
+const DRAINS: [(Call, u64, Answer); 9] = [
+    (Propose(1, &[0], 0), 0, Answer::Ticket(1)),
+    (Propose(2, &[0], 0), 0, Answer::Ticket(2)),
+    (Learn(1, &[(0, 1)]), 0, Done),
+    (Learn(2, &[(0, 2)]), 0, Done),
+    (Release, 0, Released(1, 1, 0)),
+    (Drain, 0, Drained(1, [1, 0, 0, 0, 0, 0, 0, 0])),
+    (Release, 0, Released(2, 2, 0)),
+    (Drain, 0, Drained(1, [2, 0, 0, 0, 0, 0, 0, 0])),
+    (Propose(3, &[0], 0), 0, Answer::Ticket(3)),
+];
+
+/// The same for drains with a part pending: one that is refused leaves the row, and the same drain then hands it out.
+#[test]
+fn drains_with_a_pending_part(rt: HostRuntime) {
+    let alloc = rt.alloc();
+    let mut group = Group::new(alloc, Topic(0), 0, 2);
+    assert!(rt; answers_at_last(alloc, &mut group, &DRAINS));
 }

@@ -1,10 +1,10 @@
 //! What a topic answers, by looking back over the list of what happened: it filters and sorts, and holds no clock and no
 //! queue.
 
-use super::calls::Answer;
+use super::calls::{Answer, SHOWN};
 use super::made::{Drawn, MadeCall};
 use crate::Cause;
-use Answer::{Done, Fault, From, Lagged, Left, Nothing, Open, Released, Took};
+use Answer::{Done, Drained, Fault, From, Lagged, Left, Nothing, Open, Released, Took};
 use mcast_txn::{Stamp, Topic};
 use std::alloc::Global;
 
@@ -22,6 +22,8 @@ enum Fact {
     Ended(u64),
     /// An item of it was taken.
     Taken(u64),
+    /// The log was drained.
+    Drained,
 }
 
 /// The stamp of a verdict of topics 0 and 1: the greater of its rows.
@@ -144,7 +146,8 @@ impl Past {
             .iter()
             .filter(|fact| matches!(**fact, Fact::Proposed(_, _)))
             .count();
-        if entered.saturating_sub(gone) >= self.limit {
+        let drained = self.rows().saturating_sub(self.undrained());
+        if entered.saturating_sub(gone).saturating_sub(drained) >= self.limit {
             return Some(Fault(41));
         }
         let n = self.greatest_number().max(floor).saturating_add(1);
@@ -246,6 +249,33 @@ impl Past {
             .count()
     }
 
+    /// The stamp of the last row that was drained, or zero.
+    fn base(&self) -> Stamp {
+        let drain = self.facts.iter().rposition(|fact| *fact == Fact::Drained);
+        self.frontier_at(drain.unwrap_or(0))
+    }
+
+    /// How many of them weren't drained.
+    pub(super) fn undrained(&self) -> usize {
+        let drain = self.facts.iter().rposition(|fact| *fact == Fact::Drained);
+        self.facts
+            .iter()
+            .skip(drain.unwrap_or(0))
+            .filter(|fact| matches!(**fact, Fact::Released(_)))
+            .count()
+    }
+
+    /// The rows that weren't drained are, by rising stamp.
+    fn drained(&mut self) -> Option<Answer> {
+        let many = self.undrained();
+        let mut seqs = [0; SHOWN];
+        for (i, seq) in seqs.iter_mut().enumerate().take(many) {
+            *seq = self.held(i)?.0;
+        }
+        self.put(Fact::Drained)?;
+        Some(Drained(many, seqs))
+    }
+
     /// The stamp of the row that was released last before this index.
     fn frontier_at(&self, index: usize) -> Stamp {
         let mut frontier = Stamp::ZERO;
@@ -296,7 +326,7 @@ impl Past {
 
     /// The transaction of the log's row of this index, and its stamp.
     pub(super) fn held(&self, index: usize) -> Option<(u64, Stamp)> {
-        let seq = self.row_at(Stamp::ZERO, self.frontier(), index)?;
+        let seq = self.row_at(self.base(), self.frontier(), index)?;
         Some((seq, self.key(seq)))
     }
 
@@ -429,6 +459,7 @@ impl Past {
             MadeCall::Unsubscribe(number) => self.unsubscribed(number),
             MadeCall::Take(number) => self.took(number),
             MadeCall::State(number) => Some(self.state(number)),
+            MadeCall::Drain => self.drained(),
         }
     }
 }

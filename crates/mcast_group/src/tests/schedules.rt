@@ -1,8 +1,8 @@
 //! Made schedules of one topic: what it answers to each of their calls, and what the plain program does.
 
 use super::calls::{
-    Answer, cancelled, id, learnt, propose, proposed, released, state, subscribed, taken, turned,
-    unsubscribed,
+    Answer, SHOWN, cancelled, drained, id, learnt, propose, proposed, released, state, subscribed,
+    taken, turned, unsubscribed,
 };
 use super::made::{Draws, MadeCall};
 use super::plain::Past;
@@ -19,7 +19,7 @@ const CALLS: u32 = 48;
 /// The least clock of a schedule's topic, and its limit of parts and rows.
 const OPENING: u64 = 3;
 
-const LIMIT: usize = 12;
+const LIMIT: usize = SHOWN;
 
 /// What the topic answers to a call; nothing where memory ran out before it.
 fn reply(alloc: Global, group: &mut Group<VecOutlet>, call: MadeCall) -> Option<Answer> {
@@ -47,12 +47,13 @@ fn reply(alloc: Global, group: &mut Group<VecOutlet>, call: MadeCall) -> Option<
         MadeCall::Unsubscribe(number) => Some(unsubscribed(group, number)),
         MadeCall::Take(number) => taken(group, number),
         MadeCall::State(number) => Some(state(group, number)),
+        MadeCall::Drain => drained(group),
     }
 }
 
-/// Whether the log is the released rows sorted by stamp.
+/// Whether the log is the released rows that weren't drained, sorted by stamp.
 fn has_sorted_log(group: &Group<VecOutlet>, past: &Past) -> bool {
-    for i in 0..past.rows() {
+    for i in 0..past.undrained() {
         let Some((seq, stamp)) = past.held(i) else {
             return false;
         };
@@ -61,13 +62,13 @@ fn has_sorted_log(group: &Group<VecOutlet>, past: &Past) -> bool {
             _ => return false,
         }
     }
-    group.held_len() == past.rows()
+    group.held_len() == past.undrained()
 }
 
 /// Which answers came, in the order of `place_of`.
 #[derive(Drop)]
 struct Seen {
-    came: [bool; 18],
+    came: [bool; 20],
 }
 
 /// The place of an answer among those that must come.
@@ -91,6 +92,8 @@ fn place_of(answer: Answer) -> usize {
         Answer::Fault(46) => 15,
         Answer::Fault(47 | 48) => 16,
         Answer::Fault(_) => 17,
+        Answer::Drained(0, _) => 18,
+        Answer::Drained(_, _) => 19,
     }
 }
 
@@ -118,7 +121,7 @@ fn agrees(alloc: Global, schedule: u32, seen: &mut Seen) -> bool {
 #[test]
 fn made_schedules(rt: HostRuntime) {
     let alloc = rt.alloc();
-    let mut seen = Seen { came: [false; 18] };
+    let mut seen = Seen { came: [false; 20] };
     for schedule in 0..SCHEDULES {
         assert!(rt; agrees(alloc, schedule, &mut seen), "schedule {schedule}");
     }

@@ -1,9 +1,9 @@
 //! Subscriptions of a topic: what they get, how they lag, and how they end.
 
-use super::calls::{Answer, Call, answers};
+use super::calls::{Answer, Call, answers, reply};
 use crate::{Cause, Group};
-use Answer::{Done, Fault, From, Lagged, Left, Nothing, Open, Released, Took};
-use Call::{Cancel, Learn, Propose, Release, State, Subscribe, Take, Unsubscribe};
+use Answer::{Done, Drained, Fault, From, Lagged, Left, Nothing, Open, Released, Took};
+use Call::{Cancel, Drain, Learn, Propose, Release, State, Subscribe, Take, Unsubscribe};
 use mcast_txn::Topic;
 use std::alloc::Global;
 use sub_queue::VecOutlet;
@@ -197,8 +197,8 @@ fn a_part_that_is_taken_out_goes_to_nobody(rt: HostRuntime) {
     assert!(rt; topic_answers(rt.alloc(), &CANCELLED));
 }
 
-/// A topic of at most one part or row, with a second subscription of one number.
-const OF_ONE: [(Call, Answer); 9] = [
+/// A topic of at most one part or row, with a second subscription of one number; its log is drained.
+const OF_ONE: [(Call, Answer); 11] = [
     (Subscribe(7, 1), From(0)),
     (Propose(1, &[0], 0), Answer::Ticket(1)),
     (Propose(2, &[0], 0), Fault(41)),
@@ -206,6 +206,8 @@ const OF_ONE: [(Call, Answer); 9] = [
     (Learn(1, &[(0, 1)]), Done),
     (Release, Released(1, 1, 0)),
     (Propose(2, &[0], 0), Fault(41)),
+    (Drain, Drained(1, [1, 0, 0, 0, 0, 0, 0, 0])),
+    (Propose(2, &[0], 0), Answer::Ticket(2)),
     (Take(7), Took(1)),
     (Unsubscribe(7), Left(1, Cause::Asked, 1)),
 ];
@@ -253,4 +255,64 @@ fn a_refused_subscription_returns_its_outlet(rt: HostRuntime) {
             &[(Unsubscribe(7), Left(0, Cause::Asked, 0))]
         )
     );
+}
+
+/// How many subscriptions a topic has at once in `each_has_its_own_queue`, a prime.
+const MANY: u64 = 97;
+
+/// The number of the subscription that begins at this place, and at another step ends there: each once, in no order.
+fn scrambled(place: u64, step: u64) -> u64 {
+    place.wrapping_mul(step) % MANY
+}
+
+/// Whether subscriptions begin in one order, of which those of even numbers have no room.
+fn all_begin(alloc: Global, group: &mut Group<VecOutlet>) -> bool {
+    for place in 0..MANY {
+        let number = scrambled(place, 31);
+        if reply(alloc, group, Subscribe(number, (number % 2) as usize)) != Some(From(0)) {
+            return false;
+        }
+    }
+    true
+}
+
+/// Whether a subscription has taken the row, or lagged before it where its number is even, and ends so.
+fn ends_as_its_own(alloc: Global, group: &mut Group<VecOutlet>, number: u64) -> bool {
+    let calls = if number % 2 == 1 {
+        [
+            (State(number), Open),
+            (Take(number), Took(1)),
+            (Unsubscribe(number), Left(1, Cause::Asked, 1)),
+            (State(number), Nothing),
+        ]
+    } else {
+        [
+            (State(number), Lagged(0)),
+            (Take(number), Nothing),
+            (Unsubscribe(number), Left(0, Cause::Lag, 0)),
+            (Unsubscribe(number), Fault(48)),
+        ]
+    };
+    answers(alloc, group, &calls)
+}
+
+/// Whether they end in another order, each with what its own queue shows.
+fn all_end(alloc: Global, group: &mut Group<VecOutlet>) -> bool {
+    (0..MANY).all(|place| ends_as_its_own(alloc, group, scrambled(place, 58)))
+}
+
+/// A row.
+const ONE_ROW: [(Call, Answer); 3] = [
+    (Propose(1, &[0], 0), Answer::Ticket(1)),
+    (Learn(1, &[(0, 1)]), Done),
+    (Release, Released(1, 1, 0)),
+];
+
+#[test]
+fn each_has_its_own_queue(rt: HostRuntime) {
+    let alloc = rt.alloc();
+    let mut group = Group::new(alloc, Topic(0), 0, 8);
+    assert!(rt; all_begin(alloc, &mut group));
+    assert!(rt; answers(alloc, &mut group, &ONE_ROW));
+    assert!(rt; all_end(alloc, &mut group));
 }

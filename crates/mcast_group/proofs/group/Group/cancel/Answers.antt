@@ -20,7 +20,7 @@ returns-then-is_learnt-clause-answer g c =
     let s = c.self.inside in
     let at = c.index_of.ensures in
     let found = found_at c.args.id s.pending c.in-Some.index c.at.result.now (sym at ∙ c.in-Some.is) c.at.ensures in
-    let e = cancel_decided c.args.id (topic_state s.topic s.clock s.log_limit s.pending s.base s.rows.items s.frontier (map (entry_of g.Q.Outlet.shown) s.subscriptions.items)) c.at.result.now found (sym c.is_learnt.ensures ∙ c.if-is_learnt.true) in
+    let e = cancel_decided c.args.id (topic_state s.topic s.clock s.log_limit s.pending s.base s.rows.items s.frontier (map (entry_of g.Q.Outlet.shown) s.subscriptions)) c.at.result.now found (sym c.is_learnt.ensures ∙ c.if-is_learnt.true) in
     sym (ap (λ (z : GroupState). result_of (cancel_fault c.args.id z.topic)) (sym c.self.view_is) ∙ ap result_of e)
 
 pub remove-requires-2 : goal.remove-requires-2
@@ -28,16 +28,16 @@ remove-requires-2 g c =
     let s = c.self.inside in
     let at = c.index_of.ensures in
     let within = (part_at c.args.id s.pending c.in-Some.index c.remove.result (sym at ∙ c.in-Some.is)).in_range in
-    let many = copies_length (length s.subscriptions.items) s.pending s.copies.items c.self.invariant.copied in
+    let many = copies_length (length s.subscriptions) s.pending s.copies.items c.self.invariant.copied in
     let l = s.copies.ok.0 in
     omega arith
 
 -- the part at the index is gone
-gone : (g : given.Over) (c : goal.After-drop-remove-3 g) → topic_state c.self.inside.topic c.self.inside.clock c.self.inside.log_limit c.remove.new.self c.self.inside.base c.self.inside.rows.items c.self.inside.frontier (map (entry_of g.Q.Outlet.shown) c.self.inside.subscriptions.items) ≡ after_cancel c.args.id (topic_state c.self.inside.topic c.self.inside.clock c.self.inside.log_limit c.self.inside.pending c.self.inside.base c.self.inside.rows.items c.self.inside.frontier (map (entry_of g.Q.Outlet.shown) c.self.inside.subscriptions.items))
+gone : (g : given.Over) (c : goal.After-drop-remove-3 g) → topic_state c.self.inside.topic c.self.inside.clock c.self.inside.log_limit c.remove.new.self c.self.inside.base c.self.inside.rows.items c.self.inside.frontier (map (entry_of g.Q.Outlet.shown) c.self.inside.subscriptions) ≡ after_cancel c.args.id (topic_state c.self.inside.topic c.self.inside.clock c.self.inside.log_limit c.self.inside.pending c.self.inside.base c.self.inside.rows.items c.self.inside.frontier (map (entry_of g.Q.Outlet.shown) c.self.inside.subscriptions))
 gone g c =
     let s = c.self.inside in
     let at = c.index_of.ensures in
-    cancelled_state s.topic s.clock s.log_limit s.pending s.base s.rows.items s.frontier (map (entry_of g.Q.Outlet.shown) s.subscriptions.items) c.args.id _
+    cancelled_state s.topic s.clock s.log_limit s.pending s.base s.rows.items s.frontier (map (entry_of g.Q.Outlet.shown) s.subscriptions) c.args.id _
     (c.remove.ensures.items ∙ without_found c.args.id s.pending c.in-Some.index c.remove.result c.self.invariant.sound.by_id (sym at ∙ c.in-Some.is) c.remove.ensures.value)
 
 pub invariant_of-self : goal.invariant_of-self
@@ -45,17 +45,17 @@ invariant_of-self g c =
     let s = c.self.inside in
     let at = c.index_of.ensures in
     let within = (part_at c.args.id s.pending c.in-Some.index c.remove.result (sym at ∙ c.in-Some.is)).in_range in
-    rw c.remove-2.ensures.items (kept_cancelled g.Q.Outlet.spare (topic_state s.topic s.clock s.log_limit s.pending s.base s.rows.items s.frontier (map (entry_of g.Q.Outlet.shown) s.subscriptions.items)) _ _ s.copies.items s.subscriptions.items c.args.id c.in-Some.index c.self.invariant (gone g c) c.remove.ensures.items within)
+    rw c.remove-2.ensures.items (kept_cancelled g.Q.Outlet.spare (topic_state s.topic s.clock s.log_limit s.pending s.base s.rows.items s.frontier (map (entry_of g.Q.Outlet.shown) s.subscriptions)) _ _ s.copies.items s.subscriptions c.args.id c.in-Some.index c.self.invariant (gone g c) c.remove.ensures.items within)
 
 pub returns-clause-answer : goal.returns-clause-answer
 returns-clause-answer g c =
     let s = c.self.inside in
     let at = c.index_of.ensures in
     let found = found_at c.args.id s.pending c.in-Some.index c.at.result.now (sym at ∙ c.in-Some.is) c.at.ensures in
-    let e = cancel_none c.args.id (topic_state s.topic s.clock s.log_limit s.pending s.base s.rows.items s.frontier (map (entry_of g.Q.Outlet.shown) s.subscriptions.items)) c.at.result.now found (sym c.is_learnt.ensures ∙ c.if-is_learnt.false) in
+    let e = cancel_none c.args.id (topic_state s.topic s.clock s.log_limit s.pending s.base s.rows.items s.frontier (map (entry_of g.Q.Outlet.shown) s.subscriptions)) c.at.result.now found (sym c.is_learnt.ensures ∙ c.if-is_learnt.false) in
     sym (ap (λ (z : GroupState). result_of (cancel_fault c.args.id z.topic)) (sym c.self.view_is) ∙ ap result_of e)
 
 pub returns-clause-ok : goal.returns-clause-ok
 returns-clause-ok g c =
-    ap (λ (x : TopicState). record { topic = x; rooms = map (room_of g.Q.Outlet.shown) c.self.inside.subscriptions.items }) (gone g c)
+    ap (λ (x : TopicState). record { topic = x; rooms = map (room_of g.Q.Outlet.shown) c.self.inside.subscriptions }) (gone g c)
     ∙ ap (λ (z : GroupState). record { topic = after_cancel c.args.id z.topic; rooms = z.rooms }) c.self.view_is

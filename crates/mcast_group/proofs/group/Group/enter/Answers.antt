@@ -1,7 +1,6 @@
 use Rattle.std.proofs.Common.{◌≡◌, ◌<◌, ◌≤◌, ◌+◌, ℕ, List, map, length, get_or, None, refl, sym, ap, subst, ◌∙◌, arith}
 use Rattle.std.specs.Arc.{arc_value}
-use Rattle.std.specs.Vec.{vec_capacity, with_items}
-use Rattle.std.proofs.lemmas.List.{with_items_is}
+use Rattle.std.specs.Vec.{vec_capacity}
 use Rattle.mcast_txn.specs.Part.{data_of}
 use Rattle.mcast_txn.specs.Span.{LogRow}
 use Rattle.mcast_group.specs.declared.subscription.Subscription.{Subscription}
@@ -10,55 +9,50 @@ use Rattle.mcast_group.specs.Group.{GroupState, after_enter, topic_state}
 use Rattle.mcast_group.specs.Inner.GroupInvariant.{IsKept, entry_of}
 use Rattle.mcast_group.specs.Machine.{TopicState, Entry, Pending, insert_pending, next_number, propose_fault}
 use Rattle.mcast_group.proofs.Releasing.{copies_length}
-use Rattle.mcast_group.proofs.Entering.{kept_grown, kept_entered, same_many}
+use Rattle.mcast_group.proofs.Entering.{kept_grown, kept_entered}
 use Rattle.mcast_group.proofs.group.Group.enter.Goals as goal
 
 pub invariant_of-self-in_err-reserve_each : goal.invariant_of-self-in_err-reserve_each
 invariant_of-self-in_err-reserve_each g c =
     let s = c.self.inside in
     let shown = g.Q.Outlet.shown in
-    let olds = s.subscriptions.items in
-    let news = c.reserve_each.new.subs in
-    let entries : map (entry_of shown) news ≡ map (entry_of shown) olds = rw c.deref_mut.ensures.value at c.reserve_each.ensures.entries in
-    let grown : (k : ℕ) (d : Subscription g.row.Q.Denot) → k < length olds → g.Q.Outlet.spare (get_or olds k d).outlet ≤ g.Q.Outlet.spare (get_or news k d).outlet = rw c.deref_mut.ensures.value at c.reserve_each.ensures.spares in
-    let after : (with_items s.subscriptions news).items ≡ news = with_items_is s.subscriptions news (same_many shown olds news entries ∙ sym s.subscriptions.ok.0) in
+    let olds = s.subscriptions in
+    let news = c.reserve_each.new.self in
+    let entries : map (entry_of shown) news ≡ map (entry_of shown) olds = c.reserve_each.ensures.entries in
+    let grown : (k : ℕ) (d : Subscription g.row.Q.Denot) → k < length olds → g.Q.Outlet.spare (get_or olds k d).outlet ≤ g.Q.Outlet.spare (get_or news k d).outlet = c.reserve_each.ensures.spares in
     let x = topic_state s.topic s.clock s.log_limit s.pending s.base s.rows.items s.frontier (map (entry_of shown) olds) in
     let rows : c.reserve.new.self.items ≡ s.rows.items = c.in_ok-reserve.ensures.items in
     let kept = kept_grown shown g.Q.Outlet.spare x (vec_capacity s.rows) (vec_capacity c.reserve.new.self) s.copies.items olds news c.self.invariant c.in_ok-reserve.ensures.capacity entries grown in
     let same : x ≡ topic_state s.topic s.clock s.log_limit s.pending s.base c.reserve.new.self.items s.frontier (map (entry_of shown) news) = ap (λ (zs : List LogRow). topic_state s.topic s.clock s.log_limit s.pending s.base zs s.frontier (map (entry_of shown) olds)) (sym rows) ∙ ap (λ (es : List Entry). topic_state s.topic s.clock s.log_limit s.pending s.base c.reserve.new.self.items s.frontier es) (sym entries) in
-    let here = subst (λ (z : TopicState). IsKept g.Q.Outlet.spare z (vec_capacity c.reserve.new.self) s.copies.items news) same kept in
-    subst (λ (zs : List (Subscription g.row.Q.Denot)). IsKept g.Q.Outlet.spare (topic_state s.topic s.clock s.log_limit s.pending s.base c.reserve.new.self.items s.frontier (map (entry_of shown) zs)) (vec_capacity c.reserve.new.self) s.copies.items zs) (sym after) here
+    subst (λ (z : TopicState). IsKept g.Q.Outlet.spare z (vec_capacity c.reserve.new.self) s.copies.items news) same kept
 
 pub put-requires : goal.put-requires
 put-requires g c =
-    let s = c.self.inside in sym (copies_length (length s.subscriptions.items) s.pending s.copies.items c.self.invariant.copied)
+    let s = c.self.inside in sym (copies_length (length s.subscriptions) s.pending s.copies.items c.self.invariant.copied)
 
 pub invariant_of-self-in_err-put : goal.invariant_of-self-in_err-put
 invariant_of-self-in_err-put g c =
     let s = c.self.inside in
     let shown = g.Q.Outlet.shown in
-    let olds = s.subscriptions.items in
-    let news = c.reserve_each.new.subs in
-    let entries : map (entry_of shown) news ≡ map (entry_of shown) olds = rw c.deref_mut.ensures.value at c.reserve_each.ensures.entries in
-    let grown : (k : ℕ) (d : Subscription g.row.Q.Denot) → k < length olds → g.Q.Outlet.spare (get_or olds k d).outlet ≤ g.Q.Outlet.spare (get_or news k d).outlet = rw c.deref_mut.ensures.value at c.reserve_each.ensures.spares in
-    let after : (with_items s.subscriptions news).items ≡ news = with_items_is s.subscriptions news (same_many shown olds news entries ∙ sym s.subscriptions.ok.0) in
+    let olds = s.subscriptions in
+    let news = c.reserve_each.new.self in
+    let entries : map (entry_of shown) news ≡ map (entry_of shown) olds = c.reserve_each.ensures.entries in
+    let grown : (k : ℕ) (d : Subscription g.row.Q.Denot) → k < length olds → g.Q.Outlet.spare (get_or olds k d).outlet ≤ g.Q.Outlet.spare (get_or news k d).outlet = c.reserve_each.ensures.spares in
     let x = topic_state s.topic s.clock s.log_limit s.pending s.base s.rows.items s.frontier (map (entry_of shown) olds) in
     let rows : c.reserve.new.self.items ≡ s.rows.items = c.in_ok-reserve.ensures.items in
     let kept = kept_grown shown g.Q.Outlet.spare x (vec_capacity s.rows) (vec_capacity c.reserve.new.self) s.copies.items olds news c.self.invariant c.in_ok-reserve.ensures.capacity entries grown in
     let same : x ≡ topic_state s.topic s.clock s.log_limit s.pending s.base c.reserve.new.self.items s.frontier (map (entry_of shown) news) = ap (λ (zs : List LogRow). topic_state s.topic s.clock s.log_limit s.pending s.base zs s.frontier (map (entry_of shown) olds)) (sym rows) ∙ ap (λ (es : List Entry). topic_state s.topic s.clock s.log_limit s.pending s.base c.reserve.new.self.items s.frontier es) (sym entries) in
     let here = subst (λ (z : TopicState). IsKept g.Q.Outlet.spare z (vec_capacity c.reserve.new.self) s.copies.items news) same kept in
-    subst (λ (zs : List (Subscription g.row.Q.Denot)). IsKept g.Q.Outlet.spare (topic_state s.topic s.clock s.log_limit c.put.new.pending s.base c.reserve.new.self.items s.frontier (map (entry_of shown) zs)) (vec_capacity c.reserve.new.self) c.put.new.copies.items zs) (sym after)
-    (rw (c.in_err-put.ensures.err, c.in_err-put.ensures.kept) here)
+    rw (c.in_err-put.ensures.err, c.in_err-put.ensures.kept) here
 
 pub invariant_of-self-2 : goal.invariant_of-self-2
 invariant_of-self-2 g c =
     let s = c.self.inside in
     let shown = g.Q.Outlet.shown in
-    let olds = s.subscriptions.items in
-    let news = c.reserve_each.new.subs in
-    let entries : map (entry_of shown) news ≡ map (entry_of shown) olds = rw c.deref_mut.ensures.value at c.reserve_each.ensures.entries in
-    let grown : (k : ℕ) (d : Subscription g.row.Q.Denot) → k < length olds → g.Q.Outlet.spare (get_or olds k d).outlet ≤ g.Q.Outlet.spare (get_or news k d).outlet = rw c.deref_mut.ensures.value at c.reserve_each.ensures.spares in
-    let after : (with_items s.subscriptions news).items ≡ news = with_items_is s.subscriptions news (same_many shown olds news entries ∙ sym s.subscriptions.ok.0) in
+    let olds = s.subscriptions in
+    let news = c.reserve_each.new.self in
+    let entries : map (entry_of shown) news ≡ map (entry_of shown) olds = c.reserve_each.ensures.entries in
+    let grown : (k : ℕ) (d : Subscription g.row.Q.Denot) → k < length olds → g.Q.Outlet.spare (get_or olds k d).outlet ≤ g.Q.Outlet.spare (get_or news k d).outlet = c.reserve_each.ensures.spares in
     let x = topic_state s.topic s.clock s.log_limit s.pending s.base s.rows.items s.frontier (map (entry_of shown) olds) in
     let rows : c.reserve.new.self.items ≡ s.rows.items = c.in_ok-reserve.ensures.items in
     let part = data_of (arc_value c.args.part) in
@@ -67,11 +61,10 @@ invariant_of-self-2 g c =
     let pending : c.put.new.pending ≡ insert_pending (record { part = part; number = c.args.n; learnt = None }) s.pending = c.in_ok-put.ensures.ok ∙ ap (λ (z : Pending). insert_pending z s.pending) entry in
     let y = topic_state s.topic c.args.n s.log_limit c.put.new.pending s.base c.reserve.new.self.items s.frontier (map (entry_of shown) news) in
     let is : y ≡ after_enter c.args.n part x = rw (pending, rows, entries) refl in
-    let left : (k : ℕ) (d : Subscription g.row.Q.Denot) → k < length olds → (get_or news k d).to ≡ None → length s.pending + 1 ≤ g.Q.Outlet.spare (get_or news k d).outlet = λ k d l o. (let all = rw c.deref_mut.ensures.value at c.in_ok-reserve_each.ensures.ok in let a = all k d l o in let e = c.len-3.ensures in omega arith) in
-    let copied : HaveCopies (length olds) c.put.new.pending c.put.new.copies.items = c.in_ok-put.ensures.copies (length olds) c.self.invariant.copied (let a = c.in_ok-made.ensures.many in let b = s.subscriptions.ok.0 in let e = c.len.ensures in omega arith) c.in_ok-made.ensures.of in
-    subst (λ (zs : List (Subscription g.row.Q.Denot)). IsKept g.Q.Outlet.spare (topic_state s.topic c.args.n s.log_limit c.put.new.pending s.base c.reserve.new.self.items s.frontier (map (entry_of shown) zs)) (vec_capacity c.reserve.new.self) c.put.new.copies.items zs) (sym after)
-    (kept_entered shown g.Q.Outlet.spare x y (vec_capacity s.rows) (vec_capacity c.reserve.new.self) c.args.n s.copies.items c.put.new.copies.items olds news may.0 part c.self.invariant
+    let left : (k : ℕ) (d : Subscription g.row.Q.Denot) → k < length olds → (get_or news k d).to ≡ None → length s.pending + 1 ≤ g.Q.Outlet.spare (get_or news k d).outlet = λ k d l o. (let all = c.in_ok-reserve_each.ensures.ok in let a = all k d l o in let e = c.len-3.ensures in omega arith) in
+    let copied : HaveCopies (length olds) c.put.new.pending c.put.new.copies.items = c.in_ok-put.ensures.copies (length olds) c.self.invariant.copied (let a = c.in_ok-made.ensures.many in let e = c.len.ensures in omega arith) c.in_ok-made.ensures.of in
+    kept_entered shown g.Q.Outlet.spare x y (vec_capacity s.rows) (vec_capacity c.reserve.new.self) c.args.n s.copies.items c.put.new.copies.items olds news may.0 part c.self.invariant
     (c.requires.own ∙ ap (λ (z : GroupState). z.topic.topic) (sym c.self.view_is))
     (may.1 ∙ ap (λ (z : GroupState). next_number may.0 z.topic) (sym c.self.view_is))
     (ap (λ (z : GroupState). propose_fault may.0 part z.topic) c.self.view_is ∙ may.2)
-    is (let a = c.in_ok-reserve.ensures.ok in let b = c.in_ok-reserve.ensures.len in let d = s.rows.ok.0 in let f = c.len-2.ensures in omega arith) entries left copied)
+    is (let a = c.in_ok-reserve.ensures.ok in let b = c.in_ok-reserve.ensures.len in let d = s.rows.ok.0 in let f = c.len-2.ensures in omega arith) entries left copied

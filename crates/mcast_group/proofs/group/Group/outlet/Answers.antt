@@ -9,20 +9,20 @@ use Rattle.mcast_group.proofs.group.Group.outlet.Goals as goal
 pub returns-in_default : goal.returns-in_default
 returns-in_default g c =
     let shown = g.Q.Outlet.shown in
-    let subs = c.self.inside.subscriptions.items in
-    let at = rw c.deref.ensures.value at c.index_of_sub.ensures in
+    let subs = c.self.inside.subscriptions in
+    let at = c.index_of.ensures in
     ap (λ (o : Option Entry). shown_with o (room_at c.args.number (map (entry_of shown) subs) (map (room_of shown) subs))) (sym (no_entry shown c.args.number subs (sym at ∙ c.in_default.is)))
     ∙ ap (shown_at c.args.number) c.self.view_is
 
 pub returns : goal.returns
 returns g c =
     let shown = g.Q.Outlet.shown in
-    let subs = c.self.inside.subscriptions.items in
-    let at = rw c.deref.ensures.value at c.index_of_sub.ensures in
-    let s = c.index.result.now in
+    let subs = c.self.inside.subscriptions in
+    let at = c.index_of.ensures in
+    let s = c.at.result.now in
     let ends = ends_found shown c.args.number subs c.in-Some.index s (sym at ∙ c.in-Some.is) in
     let z = get_or subs c.in-Some.index s in
-    ap (λ (w : Subscription g.row.Q.Denot). Some (shown w.outlet)) c.index.ensures
+    ap (λ (w : Subscription g.row.Q.Denot). Some (shown w.outlet)) c.at.ensures
     ∙ (sym (ap (λ (o : Option Entry). shown_with o (room_at c.args.number (map (entry_of shown) subs) (map (room_of shown) subs))) ends.1.found
     ∙ ap (shown_with (Some (entry_of shown z))) ends.1.roomed)
     ∙ ap (shown_at c.args.number) c.self.view_is)

@@ -1,14 +1,14 @@
 use Rattle.std.proofs.Common.{◌≡◌, ◌<◌, ◌≤◌, ◌+◌, ◌++◌, ◌∷◌, [], ℕ, List, map, length, get_or, Some, refl, sym, ap, subst, ◌∙◌, arith}
 use Rattle.std.specs.Option.{option_map}
-use Rattle.std.specs.Vec.{vec_capacity, with_items}
-use Rattle.std.proofs.lemmas.List.{with_items_is}
+use Rattle.std.specs.Vec.{vec_capacity}
 use Rattle.mcast_txn.specs.Span.{LogRow}
 use Rattle.mcast_group.specs.declared.subscription.Subscription.{Subscription}
 use Rattle.mcast_group.specs.Group.{GroupState, Releases, topic_state}
-use Rattle.mcast_group.specs.Inner.GroupInvariant.{Gave, IsKept, entry_of, room_of}
+use Rattle.mcast_group.specs.Inner.GroupInvariant.{Gave, entry_of, room_of}
 use Rattle.mcast_group.specs.Machine.{Pending, due_part, item_of, key, after_release_of}
 use Rattle.mcast_group.proofs.Indices.{without_at}
 use Rattle.mcast_group.proofs.Groups.{released_state}
+use Rattle.mcast_group.proofs.Numbers.{numbers_differ}
 use Rattle.mcast_group.proofs.Parts.{map_length}
 use Rattle.mcast_group.proofs.Releasing.{Taken, taken, copies_at, copies_length, due_found, kept_released, none_learnt, none_pending, none_released, ready, some_released}
 use Rattle.mcast_group.proofs.group.Group.release.Given as given
@@ -17,14 +17,14 @@ use Rattle.mcast_group.proofs.group.Group.release.Goals as goal
 pub returns-in_err-index-clause-released : goal.returns-in_err-index-clause-released
 returns-in_err-index-clause-released g c =
     let s = c.self.inside in
-    let x = topic_state s.topic s.clock s.log_limit s.pending s.base s.rows.items s.frontier (map (entry_of g.Q.Outlet.shown) s.subscriptions.items) in
+    let x = topic_state s.topic s.clock s.log_limit s.pending s.base s.rows.items s.frontier (map (entry_of g.Q.Outlet.shown) s.subscriptions) in
     let none = none_pending x c.in_err-index.ensures in
     none_released g.Q.Outlet.may_accept c.args.self.now (subst (λ (z : GroupState). due_part z.topic ≡ _) c.self.view_is none)
 
 pub returns-then-not-is_learnt-clause-released : goal.returns-then-not-is_learnt-clause-released
 returns-then-not-is_learnt-clause-released g c =
     let s = c.self.inside in
-    let x = topic_state s.topic s.clock s.log_limit s.pending s.base s.rows.items s.frontier (map (entry_of g.Q.Outlet.shown) s.subscriptions.items) in
+    let x = topic_state s.topic s.clock s.log_limit s.pending s.base s.rows.items s.frontier (map (entry_of g.Q.Outlet.shown) s.subscriptions) in
     let none = none_learnt x c.in_ok-index.index c.at.result.now (c.in_ok-index.ensures.1) c.at.ensures (sym c.is_learnt.ensures ∙ c.if-not-is_learnt.true) in
     none_released g.Q.Outlet.may_accept c.args.self.now (subst (λ (z : GroupState). due_part z.topic ≡ _) c.self.view_is none)
 
@@ -32,62 +32,59 @@ pub remove-copies-requires : goal.remove-copies-requires
 remove-copies-requires g c =
     let s = c.self.inside in
     let within : c.in_ok-index.index < length s.pending = c.in_ok-index.ensures.0 in
-    let many = copies_length (length s.subscriptions.items) s.pending s.copies.items c.self.invariant.copied in
+    let many = copies_length (length s.subscriptions) s.pending s.copies.items c.self.invariant.copied in
     let l : s.copies.len ≡ length s.copies.items = s.copies.ok.0 in
     omega arith
 
 pub give_all-requires-clause-ready : goal.give_all-requires-clause-ready
 give_all-requires-clause-ready g c =
     let s = c.self.inside in
-    let x = topic_state s.topic s.clock s.log_limit s.pending s.base s.rows.items s.frontier (map (entry_of g.Q.Outlet.shown) s.subscriptions.items) in
+    let x = topic_state s.topic s.clock s.log_limit s.pending s.base s.rows.items s.frontier (map (entry_of g.Q.Outlet.shown) s.subscriptions) in
     let within : c.in_ok-index.index < length s.pending = c.in_ok-index.ensures.0 in
     let due = due_found x c.in_ok-index.index c.at.result.now c.remove-part.result (c.in_ok-index.ensures.1) within c.at.ensures c.remove-part.ensures.value (sym c.is_learnt.ensures ∙ c.if-not-is_learnt.false) in
-    rw c.deref_mut.ensures.value (ready g.Q.Outlet.shown g.Q.Outlet.spare x (vec_capacity s.rows) s.copies.items s.subscriptions.items c.self.invariant refl c.remove-part.result due)
+    (ready g.Q.Outlet.shown g.Q.Outlet.spare x (vec_capacity s.rows) s.copies.items s.subscriptions c.self.invariant refl c.remove-part.result due)
 
 pub give_all-requires-clause-copies : goal.give_all-requires-clause-copies
 give_all-requires-clause-copies g c =
     let s = c.self.inside in
     let within : c.in_ok-index.index < length s.pending = c.in_ok-index.ensures.0 in
-    (copies_at (length s.subscriptions.items) s.pending s.copies.items c.in_ok-index.index c.remove-part.result c.remove-copies.result c.self.invariant.copied within c.remove-part.ensures.value c.remove-copies.ensures.value).1
+    (copies_at (length s.subscriptions) s.pending s.copies.items c.in_ok-index.index c.remove-part.result c.remove-copies.result c.self.invariant.copied within c.remove-part.ensures.value c.remove-copies.ensures.value).1
 
 pub give_all-requires-clause-many : goal.give_all-requires-clause-many
 give_all-requires-clause-many g c =
     let s = c.self.inside in
     let within : c.in_ok-index.index < length s.pending = c.in_ok-index.ensures.0 in
-    rw c.deref_mut.ensures.value (copies_at (length s.subscriptions.items) s.pending s.copies.items c.in_ok-index.index c.remove-part.result c.remove-copies.result c.self.invariant.copied within c.remove-part.ensures.value c.remove-copies.ensures.value).0
+    (copies_at (length s.subscriptions) s.pending s.copies.items c.in_ok-index.index c.remove-part.result c.remove-copies.result c.self.invariant.copied within c.remove-part.ensures.value c.remove-copies.ensures.value).0
 
 -- the part that was taken out was due
-due : (g : given.Over) (c : goal.After-drop-copies-inside g) → due_part (topic_state c.self.inside.topic c.self.inside.clock c.self.inside.log_limit c.self.inside.pending c.self.inside.base c.self.inside.rows.items c.self.inside.frontier (map (entry_of g.Q.Outlet.shown) c.self.inside.subscriptions.items)) ≡ Some c.remove-part.result
+due : (g : given.Over) (c : goal.After-drop-copies-inside g) → due_part (topic_state c.self.inside.topic c.self.inside.clock c.self.inside.log_limit c.self.inside.pending c.self.inside.base c.self.inside.rows.items c.self.inside.frontier (map (entry_of g.Q.Outlet.shown) c.self.inside.subscriptions)) ≡ Some c.remove-part.result
 due g c =
     let s = c.self.inside in
-    let x = topic_state s.topic s.clock s.log_limit s.pending s.base s.rows.items s.frontier (map (entry_of g.Q.Outlet.shown) s.subscriptions.items) in
+    let x = topic_state s.topic s.clock s.log_limit s.pending s.base s.rows.items s.frontier (map (entry_of g.Q.Outlet.shown) s.subscriptions) in
     let within : c.in_ok-index.index < length s.pending = c.in_ok-index.ensures.0 in
     due_found x c.in_ok-index.index c.at.result.now c.remove-part.result (c.in_ok-index.ensures.1) within c.at.ensures c.remove-part.ensures.value (sym c.is_learnt.ensures ∙ c.if-not-is_learnt.false)
 
 -- each subscription got its item, and nothing else changed
-gave : (g : given.Over) (c : goal.After-drop-copies-inside g) → Gave g.Q.Outlet.shown g.Q.Outlet.may_accept c.self.inside.frontier (item_of c.remove-part.result) c.self.inside.subscriptions.items c.give_all.new.subs
-gave g c = subst (λ (zs : List (Subscription g.row.Q.Denot)). Gave g.Q.Outlet.shown g.Q.Outlet.may_accept c.self.inside.frontier (item_of c.remove-part.result) zs c.give_all.new.subs) c.deref_mut.ensures.value c.give_all.ensures.gave
+gave : (g : given.Over) (c : goal.After-drop-copies-inside g) → Gave g.Q.Outlet.shown g.Q.Outlet.may_accept c.self.inside.frontier (item_of c.remove-part.result) c.self.inside.subscriptions c.give_all.new.self
+gave g c = c.give_all.ensures.gave
 
-many : (g : given.Over) (c : goal.After-drop-copies-inside g) → length c.give_all.new.subs ≡ length c.self.inside.subscriptions.items
+many : (g : given.Over) (c : goal.After-drop-copies-inside g) → length c.give_all.new.self ≡ length c.self.inside.subscriptions
 many g c =
-    sym (map_length (room_of g.Q.Outlet.shown) c.give_all.new.subs) ∙ (ap (λ (rs : List _). length rs) (gave g c).rooms ∙ map_length (room_of g.Q.Outlet.shown) c.self.inside.subscriptions.items)
+    sym (map_length (room_of g.Q.Outlet.shown) c.give_all.new.self) ∙ (ap (λ (rs : List _). length rs) (gave g c).rooms ∙ map_length (room_of g.Q.Outlet.shown) c.self.inside.subscriptions)
 
-after : (g : given.Over) (c : goal.After-drop-copies-inside g) → (with_items c.self.inside.subscriptions c.give_all.new.subs).items ≡ c.give_all.new.subs
-after g c = with_items_is c.self.inside.subscriptions c.give_all.new.subs (many g c ∙ sym c.self.inside.subscriptions.ok.0)
-
-took : (g : given.Over) (c : goal.After-drop-copies-inside g) → Taken g.Q.Outlet.may_accept c.self.inside.frontier (item_of c.remove-part.result) (map (entry_of g.Q.Outlet.shown) c.self.inside.subscriptions.items) (map (entry_of g.Q.Outlet.shown) c.give_all.new.subs) (map (room_of g.Q.Outlet.shown) c.self.inside.subscriptions.items)
-took g c = taken g.Q.Outlet.shown g.Q.Outlet.may_accept c.self.inside.frontier (item_of c.remove-part.result) c.self.inside.subscriptions.items c.give_all.new.subs c.self.invariant.sound.numbers (gave g c)
+took : (g : given.Over) (c : goal.After-drop-copies-inside g) → Taken g.Q.Outlet.may_accept c.self.inside.frontier (item_of c.remove-part.result) (map (entry_of g.Q.Outlet.shown) c.self.inside.subscriptions) (map (entry_of g.Q.Outlet.shown) c.give_all.new.self) (map (room_of g.Q.Outlet.shown) c.self.inside.subscriptions)
+took g c = taken g.Q.Outlet.shown g.Q.Outlet.may_accept c.self.inside.frontier (item_of c.remove-part.result) c.self.inside.subscriptions c.give_all.new.self (numbers_differ _ c.self.invariant.sound.numbers) (gave g c)
 
 gone : (g : given.Over) (c : goal.After-drop-copies-inside g) → c.in_ok-index.index < length c.self.inside.pending
 gone g c = c.in_ok-index.ensures.0
 
 -- the machine's release
-moved : (g : given.Over) (c : goal.After-drop-copies-inside g) → topic_state c.self.inside.topic c.self.inside.clock c.self.inside.log_limit c.remove-part.new.self c.self.inside.base c.push_reserved.new.self.items c.row.inside.stamp (map (entry_of g.Q.Outlet.shown) c.give_all.new.subs) ≡ after_release_of (took g c).takes c.remove-part.result (topic_state c.self.inside.topic c.self.inside.clock c.self.inside.log_limit c.self.inside.pending c.self.inside.base c.self.inside.rows.items c.self.inside.frontier (map (entry_of g.Q.Outlet.shown) c.self.inside.subscriptions.items))
+moved : (g : given.Over) (c : goal.After-drop-copies-inside g) → topic_state c.self.inside.topic c.self.inside.clock c.self.inside.log_limit c.remove-part.new.self c.self.inside.base c.push_reserved.new.self.items c.row.inside.stamp (map (entry_of g.Q.Outlet.shown) c.give_all.new.self) ≡ after_release_of (took g c).takes c.remove-part.result (topic_state c.self.inside.topic c.self.inside.clock c.self.inside.log_limit c.self.inside.pending c.self.inside.base c.self.inside.rows.items c.self.inside.frontier (map (entry_of g.Q.Outlet.shown) c.self.inside.subscriptions))
 moved g c =
     let s = c.self.inside in
     let p = c.remove-part.result in
     let row = c.row.view_is ∙ c.into_row-row.ensures in
-    released_state s.topic s.clock s.log_limit s.pending s.base s.rows.items s.frontier (map (entry_of g.Q.Outlet.shown) s.subscriptions.items) (took g c).takes p _ _ _ _
+    released_state s.topic s.clock s.log_limit s.pending s.base s.rows.items s.frontier (map (entry_of g.Q.Outlet.shown) s.subscriptions) (took g c).takes p _ _ _ _
     (c.remove-part.ensures.items ∙ sym (without_at s.pending c.in_ok-index.index p c.self.invariant.sound.by_id (gone g c) (sym c.remove-part.ensures.value)))
     (c.push_reserved.ensures.items ∙ ap (λ (r : LogRow). s.rows.items ++ r ∷ []) c.into_row-row.ensures)
     (ap (λ (r : LogRow). r.stamp) row)
@@ -96,13 +93,12 @@ moved g c =
 pub invariant_of-self : goal.invariant_of-self
 invariant_of-self g c =
     let s = c.self.inside in
-    let x = topic_state s.topic s.clock s.log_limit s.pending s.base s.rows.items s.frontier (map (entry_of g.Q.Outlet.shown) s.subscriptions.items) in
+    let x = topic_state s.topic s.clock s.log_limit s.pending s.base s.rows.items s.frontier (map (entry_of g.Q.Outlet.shown) s.subscriptions) in
     let y = λ (zs : List (Subscription g.row.Q.Denot)). topic_state s.topic s.clock s.log_limit c.remove-part.new.self s.base c.push_reserved.new.self.items c.row.inside.stamp (map (entry_of g.Q.Outlet.shown) zs) in
-    let left : (k : ℕ) (d : Subscription g.row.Q.Denot) → k < length s.subscriptions.items → g.Q.Outlet.spare (get_or s.subscriptions.items k d).outlet ≤ g.Q.Outlet.spare (get_or c.give_all.new.subs k d).outlet + 1 =
-    rw c.deref_mut.ensures.value at c.give_all.ensures.spare in
-    let kept = kept_released g.Q.Outlet.shown g.Q.Outlet.spare x (vec_capacity s.rows) s.copies.items s.subscriptions.items c.self.invariant refl (took g c).takes c.remove-part.result c.in_ok-index.index (y c.give_all.new.subs) c.give_all.new.subs (due g c) (gone g c) (moved g c) c.remove-part.ensures.items refl (many g c) left in
-    subst (λ (zs : List (Subscription g.row.Q.Denot)). IsKept g.Q.Outlet.spare (y zs) (vec_capacity c.push_reserved.new.self) c.remove-copies.new.self.items zs) (sym (after g c))
-    (rw (c.push_reserved.ensures.capacity, c.remove-copies.ensures.items) kept)
+    let left : (k : ℕ) (d : Subscription g.row.Q.Denot) → k < length s.subscriptions → g.Q.Outlet.spare (get_or s.subscriptions k d).outlet ≤ g.Q.Outlet.spare (get_or c.give_all.new.self k d).outlet + 1 =
+    c.give_all.ensures.spare in
+    let kept = kept_released g.Q.Outlet.shown g.Q.Outlet.spare x (vec_capacity s.rows) s.copies.items s.subscriptions c.self.invariant refl (took g c).takes c.remove-part.result c.in_ok-index.index (y c.give_all.new.self) c.give_all.new.self (due g c) (gone g c) (moved g c) c.remove-part.ensures.items refl (many g c) left in
+    rw (c.push_reserved.ensures.capacity, c.remove-copies.ensures.items) kept
 
 pub returns-clause-due : goal.returns-clause-due
 returns-clause-due g c =
@@ -113,8 +109,7 @@ pub returns-clause-released : goal.returns-clause-released
 returns-clause-released g c =
     let s = c.self.inside in
     let shown = g.Q.Outlet.shown in
-    let x = topic_state s.topic s.clock s.log_limit s.pending s.base s.rows.items s.frontier (map (entry_of shown) s.subscriptions.items) in
+    let x = topic_state s.topic s.clock s.log_limit s.pending s.base s.rows.items s.frontier (map (entry_of shown) s.subscriptions) in
     let y = λ (zs : List (Subscription g.row.Q.Denot)). topic_state s.topic s.clock s.log_limit c.remove-part.new.self s.base c.push_reserved.new.self.items c.row.inside.stamp (map (entry_of shown) zs) in
-    let done = some_released g.Q.Outlet.may_accept x (y c.give_all.new.subs) (map (room_of shown) s.subscriptions.items) (map (room_of shown) c.give_all.new.subs) c.remove-part.result (map (entry_of shown) c.give_all.new.subs) (due g c) (took g c) (moved g c) (gave g c).rooms in
-    subst (λ (zs : List (Subscription g.row.Q.Denot)). Releases g.Q.Outlet.may_accept c.args.self.now (record { topic = y zs; rooms = map (room_of shown) zs })) (sym (after g c))
-    (subst (λ (z : GroupState). Releases g.Q.Outlet.may_accept z (record { topic = y c.give_all.new.subs; rooms = map (room_of shown) c.give_all.new.subs })) c.self.view_is done)
+    let done = some_released g.Q.Outlet.may_accept x (y c.give_all.new.self) (map (room_of shown) s.subscriptions) (map (room_of shown) c.give_all.new.self) c.remove-part.result (map (entry_of shown) c.give_all.new.self) (due g c) (took g c) (moved g c) (gave g c).rooms in
+    subst (λ (z : GroupState). Releases g.Q.Outlet.may_accept z (record { topic = y c.give_all.new.self; rooms = map (room_of shown) c.give_all.new.self })) c.self.view_is done

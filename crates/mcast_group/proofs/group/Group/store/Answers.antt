@@ -11,13 +11,13 @@ use Rattle.mcast_group.proofs.group.Group.store.Given as given
 use Rattle.mcast_group.proofs.group.Group.store.Goals as goal
 
 -- the part at the index has learnt the stamp
-written : (g : given.Over) (c : goal.After-self-1 g) → topic_state c.self.inside.topic c.max-self-inside.result c.self.inside.log_limit c.learn.new.self c.self.inside.base c.self.inside.rows.items c.self.inside.frontier (map (entry_of g.Q.Outlet.shown) c.self.inside.subscriptions.items) ≡ after_learn c.args.id c.args.stamp (topic_state c.self.inside.topic c.self.inside.clock c.self.inside.log_limit c.self.inside.pending c.self.inside.base c.self.inside.rows.items c.self.inside.frontier (map (entry_of g.Q.Outlet.shown) c.self.inside.subscriptions.items))
+written : (g : given.Over) (c : goal.After-self-1 g) → topic_state c.self.inside.topic c.max-self-inside.result c.self.inside.log_limit c.learn.new.self c.self.inside.base c.self.inside.rows.items c.self.inside.frontier (map (entry_of g.Q.Outlet.shown) c.self.inside.subscriptions) ≡ after_learn c.args.id c.args.stamp (topic_state c.self.inside.topic c.self.inside.clock c.self.inside.log_limit c.self.inside.pending c.self.inside.base c.self.inside.rows.items c.self.inside.frontier (map (entry_of g.Q.Outlet.shown) c.self.inside.subscriptions))
 written g c =
     let s = c.self.inside in
     let can = subst (λ (z : GroupState). CanLearn c.args.id c.args.index c.args.stamp z.topic) (sym c.self.view_is) c.requires in
     let within = (part_at c.args.id s.pending c.args.index some_part can.at).in_range in
     let p = get_or s.pending c.args.index some_part in
-    learned_state s.topic s.clock s.log_limit s.pending s.base s.rows.items s.frontier (map (entry_of g.Q.Outlet.shown) s.subscriptions.items) c.args.id c.args.stamp c.max-self-inside.result _
+    learned_state s.topic s.clock s.log_limit s.pending s.base s.rows.items s.frontier (map (entry_of g.Q.Outlet.shown) s.subscriptions) c.args.id c.args.stamp c.max-self-inside.result _
     c.max-self-inside.ensures
     (c.learn.ensures some_part ∙ told_found c.args.id c.args.stamp s.pending c.args.index p (record p { learnt = Some c.args.stamp }) c.self.invariant.sound.by_id can.at (get_or_default s.pending c.args.index some_part p within) refl)
 
@@ -25,9 +25,9 @@ pub invariant_of-self : goal.invariant_of-self
 invariant_of-self g c =
     let s = c.self.inside in
     let can = subst (λ (z : GroupState). CanLearn c.args.id c.args.index c.args.stamp z.topic) (sym c.self.view_is) c.requires in
-    kept_learned g.Q.Outlet.spare (topic_state s.topic s.clock s.log_limit s.pending s.base s.rows.items s.frontier (map (entry_of g.Q.Outlet.shown) s.subscriptions.items)) _ _ _ _ c.args.id c.args.index c.args.stamp c.self.invariant can (written g c)
+    kept_learned g.Q.Outlet.spare (topic_state s.topic s.clock s.log_limit s.pending s.base s.rows.items s.frontier (map (entry_of g.Q.Outlet.shown) s.subscriptions)) _ _ _ _ c.args.id c.args.index c.args.stamp c.self.invariant can (written g c)
 
 pub returns : goal.returns
 returns g c =
-    ap (λ (x : TopicState). record { topic = x; rooms = map (room_of g.Q.Outlet.shown) c.self.inside.subscriptions.items }) (written g c)
+    ap (λ (x : TopicState). record { topic = x; rooms = map (room_of g.Q.Outlet.shown) c.self.inside.subscriptions }) (written g c)
     ∙ ap (λ (z : GroupState). record { topic = after_learn c.args.id c.args.stamp z.topic; rooms = z.rooms }) c.self.view_is

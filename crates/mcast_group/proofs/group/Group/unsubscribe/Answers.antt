@@ -6,6 +6,7 @@ use Rattle.mcast_group.specs.declared.subscription.Subscription.{Subscription}
 use Rattle.mcast_group.specs.Group.{GroupState, HasLeft, topic_state, group_after_unsubscribe}
 use Rattle.mcast_group.specs.Inner.GroupInvariant.{IsKept, entry_of, room_of}
 use Rattle.mcast_group.specs.Machine.{Entry, unsubscribe_fault}
+use Rattle.mcast_group.proofs.Numbers.{numbers_differ}
 use Rattle.mcast_group.proofs.Subscribing.{ends_found, kept_unsubscribed, no_sub}
 use Rattle.mcast_group.proofs.group.Group.unsubscribe.Goals as goal
 
@@ -13,32 +14,32 @@ pub returns-in_default-clause-fault : goal.returns-in_default-clause-fault
 returns-in_default-clause-fault g c =
     let s = c.self.inside in
     let shown = g.Q.Outlet.shown in
-    let subs = s.subscriptions.items in
+    let subs = s.subscriptions in
     let x = topic_state s.topic s.clock s.log_limit s.pending s.base s.rows.items s.frontier (map (entry_of shown) subs) in
-    let at = rw c.deref.ensures.value at c.index_of_sub.ensures in
+    let at = c.index_of.ensures in
     ap (λ (z : GroupState). unsubscribe_fault c.args.number z.topic) (sym c.self.view_is) ∙ no_sub shown x c.args.number subs refl (sym at ∙ c.in_default.is)
 
 pub invariant_of-self : goal.invariant_of-self
 invariant_of-self g c =
     let s = c.self.inside in
     let shown = g.Q.Outlet.shown in
-    let subs = s.subscriptions.items in
+    let subs = s.subscriptions in
     let x = topic_state s.topic s.clock s.log_limit s.pending s.base s.rows.items s.frontier (map (entry_of shown) subs) in
-    let at = rw c.deref.ensures.value at c.index_of_sub.ensures in
+    let at = c.index_of.ensures in
     let ends = ends_found shown c.args.number subs c.in-Some.index c.remove-sub.result (sym at ∙ c.in-Some.is) in
-    let es : map (entry_of shown) c.remove-sub.new.self.items ≡ filter (λ (e : Entry). not (e.number == c.args.number)) (map (entry_of shown) subs) = ap (map (entry_of shown)) c.remove-sub.ensures.items ∙ sym (ends.1.left c.self.invariant.sound.numbers) in
+    let es : map (entry_of shown) c.remove-sub.new.self ≡ filter (λ (e : Entry). not (e.number == c.args.number)) (map (entry_of shown) subs) = ap (map (entry_of shown)) c.remove-sub.ensures.items ∙ sym (ends.1.left (numbers_differ _ c.self.invariant.sound.numbers)) in
     let kept = kept_unsubscribed shown g.Q.Outlet.spare x _ (vec_capacity s.rows) s.copies.items subs c.args.number c.in-Some.index c.self.invariant (ap (λ (zs : List Entry). topic_state s.topic s.clock s.log_limit s.pending s.base s.rows.items s.frontier zs) es) ends.0 in
-    subst (λ (zs : List (Subscription g.row.Q.Denot)). IsKept g.Q.Outlet.spare (topic_state s.topic s.clock s.log_limit s.pending s.base s.rows.items s.frontier (map (entry_of shown) c.remove-sub.new.self.items)) (vec_capacity s.rows) s.copies.items zs) (sym c.remove-sub.ensures.items) kept
+    subst (λ (zs : List (Subscription g.row.Q.Denot)). IsKept g.Q.Outlet.spare (topic_state s.topic s.clock s.log_limit s.pending s.base s.rows.items s.frontier (map (entry_of shown) c.remove-sub.new.self)) (vec_capacity s.rows) s.copies.items zs) (sym c.remove-sub.ensures.items) kept
 
 pub returns-clause-left : goal.returns-clause-left
 returns-clause-left g c =
     let s = c.self.inside in
     let shown = g.Q.Outlet.shown in
-    let subs = s.subscriptions.items in
+    let subs = s.subscriptions in
     let x = topic_state s.topic s.clock s.log_limit s.pending s.base s.rows.items s.frontier (map (entry_of shown) subs) in
-    let at = rw c.deref.ensures.value at c.index_of_sub.ensures in
+    let at = c.index_of.ensures in
     let ends = ends_found shown c.args.number subs c.in-Some.index c.remove-sub.result (sym at ∙ c.in-Some.is) in
-    let es : map (entry_of shown) c.remove-sub.new.self.items ≡ filter (λ (e : Entry). not (e.number == c.args.number)) (map (entry_of shown) subs) = ap (map (entry_of shown)) c.remove-sub.ensures.items ∙ sym (ends.1.left c.self.invariant.sound.numbers) in
+    let es : map (entry_of shown) c.remove-sub.new.self ≡ filter (λ (e : Entry). not (e.number == c.args.number)) (map (entry_of shown) subs) = ap (map (entry_of shown)) c.remove-sub.ensures.items ∙ sym (ends.1.left (numbers_differ _ c.self.invariant.sound.numbers)) in
     let sub = c.remove-sub.result in
     let v : get_or subs c.in-Some.index sub ≡ sub = sym c.remove-sub.ensures.value in
     subst (λ (z : GroupState). HasLeft c.args.number z (shown c.end.result.outlet) c.end.result.to c.end.result.cause) c.self.view_is (record {
@@ -55,12 +56,12 @@ pub returns-clause-ok : goal.returns-clause-ok
 returns-clause-ok g c =
     let s = c.self.inside in
     let shown = g.Q.Outlet.shown in
-    let subs = s.subscriptions.items in
+    let subs = s.subscriptions in
     let x = topic_state s.topic s.clock s.log_limit s.pending s.base s.rows.items s.frontier (map (entry_of shown) subs) in
-    let at = rw c.deref.ensures.value at c.index_of_sub.ensures in
+    let at = c.index_of.ensures in
     let ends = ends_found shown c.args.number subs c.in-Some.index c.remove-sub.result (sym at ∙ c.in-Some.is) in
-    let es : map (entry_of shown) c.remove-sub.new.self.items ≡ filter (λ (e : Entry). not (e.number == c.args.number)) (map (entry_of shown) subs) = ap (map (entry_of shown)) c.remove-sub.ensures.items ∙ sym (ends.1.left c.self.invariant.sound.numbers) in
+    let es : map (entry_of shown) c.remove-sub.new.self ≡ filter (λ (e : Entry). not (e.number == c.args.number)) (map (entry_of shown) subs) = ap (map (entry_of shown)) c.remove-sub.ensures.items ∙ sym (ends.1.left (numbers_differ _ c.self.invariant.sound.numbers)) in
     let rooms = ap (map (room_of shown)) c.remove-sub.ensures.items ∙ sym ends.1.rooms in
-    ap (λ (zs : List Entry). record { topic = topic_state s.topic s.clock s.log_limit s.pending s.base s.rows.items s.frontier zs; rooms = map (room_of shown) c.remove-sub.new.self.items }) es
+    ap (λ (zs : List Entry). record { topic = topic_state s.topic s.clock s.log_limit s.pending s.base s.rows.items s.frontier zs; rooms = map (room_of shown) c.remove-sub.new.self }) es
     ∙ (ap (λ (rs : List Room). record { topic = topic_state s.topic s.clock s.log_limit s.pending s.base s.rows.items s.frontier (filter (λ (e : Entry). not (e.number == c.args.number)) (map (entry_of shown) subs)); rooms = rs }) rooms
     ∙ ap (group_after_unsubscribe c.args.number) c.self.view_is)

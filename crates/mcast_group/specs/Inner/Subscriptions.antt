@@ -1,0 +1,18 @@
+-- Subscriptions by rising number. It only serves proofs.
+use Rattle.std.specs.Prelude.{◌≡◌, ◌≢◌, ℕ, ◌≤◌, nat_lt, List, [], ◌∷◌, length, if◌then◌else◌}
+use Rattle.std.specs.List.{AllByRecursion, insert}
+use Rattle.mcast_group.specs.declared.subscription.Subscription.{Subscription}
+
+-- a subscription among others that rise by number
+abbrev pub insert_sub : {Q : Type 0} → Subscription Q → List (Subscription Q) → List (Subscription Q)
+insert_sub s [] = s ∷ []
+insert_sub s (z ∷ zs) = if nat_lt s.number z.number then s ∷ z ∷ zs else z ∷ insert_sub s zs
+
+-- The index at which a subscription of this number comes among others.
+-- within: it is at most their length.
+-- free: none has the number.
+-- puts: one that has it, put there, is at its place.
+pub record IsPlaceFor {Q : Type 0} (number : ℕ) (subs : List (Subscription Q)) (i : ℕ) : Type 0 where
+  pub within : i ≤ length subs
+  pub free : AllByRecursion (λ z. z.number ≢ number) subs
+  pub puts : (s : Subscription Q) → s.number ≡ number → insert subs i s ≡ insert_sub s subs
