@@ -14,3 +14,4 @@ pub mod ByRun
 pub mod Started
 pub mod AccountOfRun
 pub mod DeliversOfRun
+pub mod ReadingsShown

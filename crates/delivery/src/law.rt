@@ -1,5 +1,6 @@
 //! Laws: functions that do nothing, whose contracts are theorems about every run or step of the core.
 
+ghost use Rattle.delivery.specs.Core.Delivery.{ReadingsAreShown, RunsDeliver};
 ghost use Rattle.delivery.specs.Theorem.Answers.{MovesAreAnswered};
 ghost use Rattle.delivery.specs.Theorem.Examples.{WorkedRows};
 ghost use Rattle.delivery.specs.Theorem.Laws.{AcceptedIsDue, AgreedInSenderOrder, AgreedOnce};
@@ -186,4 +187,12 @@ pub fn tied()
 /// and a lag. What comes of each event, what logs and queues hold, and how each span ends, is computed.
 pub fn examples()
     ensures { WorkedRows }
+{}
+
+/// Every run of the core delivers what its account says: the account is read off the steps alone, their events, what was
+/// read and what came of it, and the report is of what the core holds. So each commit, log, queue and span that is
+/// reported is the one that the steps tell, and each step shows whether it read a frame.
+pub fn delivery()
+    ensures delivers { RunsDeliver }
+    ensures shown { ReadingsAreShown }
 {}

@@ -94,7 +94,8 @@ spoken r = run_spoken r.events [] (start r.capacity r.log_limit r.clocks) (start
 
 -- ---- answers and outcomes
 
-answer_is : (w : World) (e : Move) → move_refusal w e ≡ None → answer_to w e ≡ move_answer w e
+-- what isn't refused is answered
+pub answer_is : (w : World) (e : Move) → move_refusal w e ≡ None → answer_to w e ≡ move_answer w e
 answer_is w e n = ap (λ (o : Option Objection). elim o [ None ↦ move_answer w e | Some why ↦ Answer.Refused why ]) n
 
 world_moved : (w : World) (e : Move) → move_refusal w e ≡ None → world_after w e ≡ move_effect w e
@@ -104,16 +105,18 @@ answer_refused : (w : World) (e : Move) (why : Objection) → move_refusal w e �
 answer_refused w e why n = ap (λ (o : Option Objection). elim o [ None ↦ move_answer w e | Some why ↦ Answer.Refused why ]) n
 
 -- the outcome is a refusal
-record IsRefusal (o : Outcome) : Type 0 where
-  why : Refusal
-  is : Outcome.Refused why ≡ o
+pub record IsRefusal (o : Outcome) : Type 0 where
+  pub why : Refusal
+  pub is : Outcome.Refused why ≡ o
 
-in_option : {X : Type 0} (x : X) (o : Option X) → In x (option_to_list o) → o ≡ Some x
+-- what is in the list of an option is what it has
+pub in_option : {X : Type 0} (x : X) (o : Option X) → In x (option_to_list o) → o ≡ Some x
 in_option x None i = absurd i
 in_option x (Some y) (inl e) = ap Some e
 in_option x (Some y) (inr i) = absurd i
 
-refusal_some : (r : Option Refusal) (o : Outcome) → option_map Outcome.Refused r ≡ Some o → IsRefusal o
+-- an outcome of a refusal that is reported is that refusal
+pub refusal_some : (r : Option Refusal) (o : Outcome) → option_map Outcome.Refused r ≡ Some o → IsRefusal o
 refusal_some None o e = none_some o e
 refusal_some (Some why) o e = record { why = why; is = some_same _ o e }
 

@@ -1,0 +1,138 @@
+-- A step shows whether it read a frame: its outcome says so.
+use Rattle.std.proofs.Common.{◌≡◌, ℕ, Bool, true, false, cond, not, ◌&&◌, inl, inr, List, [], ◌∷◌, ◌++◌, length, Option, Some, None, refl, sym, ap, subst, ◌∙◌}
+use Rattle.std.specs.List.{list_all}
+use Rattle.std.specs.Option.{is_some, option_map, option_map_or, option_and_then, option_or, option_to_list}
+use Rattle.stomp_frame.specs.declared.raw_frame.RawFrame.{RawFrame}
+use Rattle.stomp_frame.specs.declared.case_fault.CaseFault.{CaseFault}
+use Rattle.stomp_frame.specs.Cases.{case_fault}
+use Rattle.stomp_frame.specs.Reader.{Unread}
+use Rattle.mcast_txn.specs.declared.draft.sent_message.SentMessage.{SentMessage}
+use Rattle.mcast_txn.specs.Checks.{first_refusal}
+use Rattle.mcast_txn.specs.Lists.{In}
+use Rattle.mcast_group.proofs.Parts.{some_same, none_some}
+use Rattle.stomp_session.specs.declared.action.Action.{Action}
+use Rattle.stomp_session.specs.declared.action.Action.TheVariants as actions
+use Rattle.stomp_session.specs.declared.fault.SessionFault.{SessionFault}
+use Rattle.stomp_session.specs.Answers.{action_by}
+use Rattle.stomp_session.specs.Refusals.{refusal}
+use Rattle.delivery.specs.Topics.{TopicList}
+use Rattle.delivery.specs.declared.event.Event.{Event}
+use Rattle.delivery.specs.declared.outcome.Outcome.{Outcome}
+use Rattle.delivery.specs.declared.refusal.Refusal.{Refusal}
+use Rattle.delivery.specs.declared.connection_fault.ConnectionFault.{ConnectionFault}
+use Rattle.delivery.specs.Machine.Objections.{Objection, refusal_of}
+use Rattle.delivery.specs.Machine.World.{World, topic_at}
+use Rattle.delivery.specs.Machine.Moves.{Move, Answer, needs_idle, move_refusal, move_answer, answer_to, commit_answer, end_now}
+use Rattle.delivery.specs.Machine.Moves.Move.{Commits, Subscribes, Unsubscribes, Disconnects}
+use Rattle.delivery.specs.Core.Steps.{CoreStep, Reading, frame_in, has_frame, says_frame, reads_as_said, shows_reading, number_by}
+use Rattle.delivery.specs.Core.State.{Core, core_of, IsReadBy, unread_at, session_at, frame_move}
+use Rattle.delivery.specs.Core.Outcomes.{outcome_of, move_outcome, unless, frame_no_memory, frame_fault, fault_outcomes, frame_outcome, reading_outcomes, outcomes, IsReadAt, MayStep, IsCoreRun}
+use Rattle.delivery.proofs.Machine.SenderSteps.{In-append_cases}
+use Rattle.delivery.proofs.Core.AccountOfRun.{IsRefusal, in_option, refusal_some, answer_is}
+
+-- a Next that read this shows it
+abbrev Shows : Reading → Outcome → Type 0
+Shows rd o = cond (says_frame o) (is_some (frame_in rd)) (not (is_some (frame_in rd))) ≡ true
+
+-- a fault of a frame is of a frame that was read
+framed : (a : Option CaseFault) (b : Option SessionFault) (c : Option Objection) (fault : ConnectionFault)
+    → option_or (option_map ConnectionFault.Frame a) (option_or (option_map ConnectionFault.Session b) (option_map (λ why. frame_no_memory) c)) ≡ Some fault
+    → has_frame fault ≡ true
+framed (Some x) b c fault e = ap has_frame (sym (some_same _ fault e))
+framed None (Some x) c fault e = ap has_frame (sym (some_same _ fault e))
+framed None None (Some x) fault e = ap has_frame (sym (some_same _ fault e))
+framed None None None fault e = none_some fault e
+
+-- where there is none, the frame's move isn't refused
+unrefused : (a : Option CaseFault) (b : Option SessionFault) (c : Option Objection)
+    → option_or (option_map ConnectionFault.Frame a) (option_or (option_map ConnectionFault.Session b) (option_map (λ why. frame_no_memory) c)) ≡ None
+    → c ≡ None
+unrefused (Some x) b c e = none_some _ (sym e)
+unrefused None (Some x) c e = none_some _ (sym e)
+unrefused None None (Some x) e = none_some _ (sym e)
+unrefused None None None e = refl
+
+committed_said : (w : World) (c : ℕ) (sends : List SentMessage) (o : Outcome) → outcome_of (commit_answer w c sends) ≡ Some o → says_frame o ≡ true
+committed_said w c [] o d = ap says_frame (sym (some_same _ o d))
+committed_said w c (first ∷ others) o d = ap says_frame (sym (some_same _ o d))
+
+effect_of : (w : World) (mv : Move) (o : Outcome) → move_refusal w mv ≡ None → In o (option_to_list (outcome_of (answer_to w mv))) → outcome_of (move_answer w mv) ≡ Some o
+effect_of w mv o n i = ap outcome_of (sym (answer_is w mv n)) ∙ in_option o _ i
+
+-- the outcome of an accepted frame says that it was read
+accepted_said : (k : Core) (c : ℕ) (action : Action) (o : Outcome) → option_and_then (λ mv. move_refusal k.world mv) (frame_move k c action) ≡ None
+    → In o (option_map_or (move_outcome k) (frame_move k c action) (Outcome.Done ∷ [])) → says_frame o ≡ true
+accepted_said k c actions.Connected o n i = elim i [ | inl e ↦ ap says_frame (sym e) | inr j ↦ absurd j ]
+accepted_said k c actions.Nothing o n i = elim i [ | inl e ↦ ap says_frame (sym e) | inr j ↦ absurd j ]
+accepted_said k c (actions.Subscribe id t) o n i =
+    ap says_frame (sym (some_same (Outcome.Subscribed (length k.world.subscriptions) (topic_at k.world t).frontier) o (effect_of k.world (Subscribes c t) o n i)))
+accepted_said k c (actions.Unsubscribe id) o n i =
+    let s = number_by c id k.steps in
+    ap says_frame (sym (some_same (Outcome.Unsubscribed s (end_now k.world s)) o (effect_of k.world (Unsubscribes c s) o n i)))
+accepted_said k c (actions.Commit sends) o n i = committed_said k.world c sends o (effect_of k.world (Commits c sends) o n i)
+accepted_said k c actions.Disconnect o n i = ap says_frame (sym (some_same Outcome.Leaving o (effect_of k.world (Disconnects c) o n i)))
+
+
+read : (rd : Reading) (o : Outcome) (b : Bool) → says_frame o ≡ b → is_some (frame_in rd) ≡ b → Shows rd o
+read rd o true e f = ap (λ b. cond b (is_some (frame_in rd)) (not (is_some (frame_in rd)))) e ∙ f
+read rd o false e f = ap (λ b. cond b (is_some (frame_in rd)) (not (is_some (frame_in rd)))) e ∙ ap not f
+
+faulted : (rd : Reading) (fault : ConnectionFault) (o : Outcome) → has_frame fault ≡ is_some (frame_in rd) → In o (fault_outcomes fault) → Shows rd o
+faulted rd fault o h i = elim i [
+  | inl e ↦ read rd o (is_some (frame_in rd)) (ap says_frame (sym e) ∙ h) refl
+  | inr j ↦ elim j [ | inl e ↦ read rd o (is_some (frame_in rd)) (ap says_frame (sym e) ∙ h) refl | inr k ↦ absurd k ]
+]
+
+found : (k : Core) (c : ℕ) (f : RawFrame) (left : Unread) (o : Outcome) (why : Option ConnectionFault) → frame_fault k c f ≡ why
+    → In o (option_map_or fault_outcomes why (frame_outcome k c f ++ fault_outcomes frame_no_memory)) → Shows (Reading.Finds f left) o
+found k c f left o (Some fault) e i =
+    faulted (Reading.Finds f left) fault o (framed (case_fault f) (refusal (session_at k c) f) (option_and_then (λ mv. move_refusal k.world mv) (frame_move k c (action_by f.command (session_at k c) f))) fault e) i
+found k c f left o None e i = elim (In-append_cases o (frame_outcome k c f) _ i) [
+  | inl j ↦ read (Reading.Finds f left) o true
+      (accepted_said k c (action_by f.command (session_at k c) f) o
+      (unrefused (case_fault f) (refusal (session_at k c) f) (option_and_then (λ mv. move_refusal k.world mv) (frame_move k c (action_by f.command (session_at k c) f))) e) j) refl
+  | inr j ↦ faulted (Reading.Finds f left) frame_no_memory o refl j
+]
+
+idle : (k : Core) (c : ℕ) (rd : Reading) (o : Outcome) → In o (reading_outcomes k c rd) → Shows rd o
+idle k c Reading.Nothing o i = faulted Reading.Nothing ConnectionFault.ReaderNoMemory o refl i
+idle k c (Reading.Waits left) o (inl e) = read (Reading.Waits left) o false (ap says_frame (sym e)) refl
+idle k c (Reading.Waits left) o (inr i) = absurd i
+idle k c (Reading.Finds f left) o i = found k c f left o (frame_fault k c f) refl i
+idle k c (Reading.Fails check left) o i = faulted (Reading.Fails check left) (ConnectionFault.Stream check) o refl i
+
+-- a Next reads what its reader gives, unless it is refused
+abbrev ReadsUnless : Core → ℕ → Reading → Option Objection → Type 0
+ReadsUnless k c rd why = elim why [ | None ↦ IsReadBy (unread_at c k.steps) rd | Some w ↦ rd ≡ Reading.Nothing ]
+
+next_shows : (k : Core) (c : ℕ) (rd : Reading) (o : Outcome) (why : Option Objection) → ReadsUnless k c rd why
+    → In o (unless why (reading_outcomes k c rd)) → Shows rd o
+next_shows k c rd o None h i = idle k c rd o i
+next_shows k c rd o (Some why) h i =
+    let r = refusal_some (refusal_of why) o (in_option o _ i) in
+    read rd o false (ap says_frame (sym r.is)) (ap (λ z. is_some (frame_in z)) h)
+
+nothing_read : (e : Event) (rd : Reading) (o : Outcome) → rd ≡ Reading.Nothing → reads_as_said e false o ≡ true → reads_as_said e (is_some (frame_in rd)) o ≡ true
+nothing_read e rd o h g = subst (λ z. reads_as_said e (is_some (frame_in z)) o ≡ true) (sym h) g
+
+event_shows : (k : Core) (e : Event) (rd : Reading) (o : Outcome) → IsReadAt k e rd → In o (outcomes k e rd) → reads_as_said e (is_some (frame_in rd)) o ≡ true
+event_shows k (Event.Next c) rd o h i = next_shows k c rd o (first_refusal (needs_idle k.world c)) h i
+event_shows k Event.Open rd o h i = nothing_read Event.Open rd o h refl
+event_shows k (Event.Piece c octets) rd o h i = nothing_read (Event.Piece c octets) rd o h refl
+event_shows k (Event.Propose c t) rd o h i = nothing_read (Event.Propose c t) rd o h refl
+event_shows k (Event.Decide c) rd o h i = nothing_read (Event.Decide c) rd o h refl
+event_shows k (Event.Withdraw c) rd o h i = nothing_read (Event.Withdraw c) rd o h refl
+event_shows k (Event.Cancel c t) rd o h i = nothing_read (Event.Cancel c t) rd o h refl
+event_shows k (Event.Learn t id) rd o h i = nothing_read (Event.Learn t id) rd o h refl
+event_shows k (Event.Release t) rd o h i = nothing_read (Event.Release t) rd o h refl
+event_shows k (Event.Turn t) rd o h i = nothing_read (Event.Turn t) rd o h refl
+event_shows k (Event.Take s) rd o h i = nothing_read (Event.Take s) rd o h refl
+event_shows k (Event.Leave c) rd o h i = nothing_read (Event.Leave c) rd o h refl
+event_shows k (Event.Lost c) rd o h i = nothing_read (Event.Lost c) rd o h refl
+
+-- each step of a run shows what it read
+pub all_shown : (topics : TopicList) (capacity : ℕ) (steps : List CoreStep) → IsCoreRun topics capacity steps → list_all shows_reading steps ≡ true
+all_shown topics capacity [] run = refl
+all_shown topics capacity (step ∷ older) run =
+    ap (λ b. b && list_all shows_reading older) (event_shows (core_of topics capacity older) step.event step.reading step.outcome run.0.reading run.0.outcome)
+    ∙ all_shown topics capacity older run.1
