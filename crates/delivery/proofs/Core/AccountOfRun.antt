@@ -1,26 +1,26 @@
 -- The account of a run's steps is what the machine answered to its moves, refusals and what was merely done aside.
-use Rattle.std.proofs.Common.{◌≡◌, ◌≢◌, ℕ, zero, suc, ◌+◌, ◌<◌, ◌≤◌, ◌==◌, Bool, true, false, cond, not, ◌||◌, ◌&&◌, ◌⊎◌, inl, inr, List, [], ◌∷◌, ◌++◌, map, length, get_or, Option, Some, None, refl, sym, ap, subst, ◌∙◌, true≢false, arith, ltb}
-use Rattle.std.proofs.lemmas.Bool.{eqb-true, eq-eqb, ltb-true, false≢true}
+use Rattle.std.proofs.Common.{◌≡◌, ℕ, zero, suc, ◌+◌, ◌<◌, ◌==◌, Bool, true, false, cond, not, ◌&&◌, ◌⊎◌, inl, inr, List, [], ◌∷◌, ◌++◌, map, length, Option, Some, None, refl, sym, ap, subst, ◌∙◌, true≢false, ltb}
+use Rattle.std.proofs.lemmas.Bool.{ltb-true, false≢true}
 use Rattle.std.specs.Prelude.{take, slice_get, codes}
 use Rattle.std.specs.List.{filter}
-use Rattle.std.specs.Option.{is_some, option_map, option_map_or, option_and_then, option_or, option_to_list, unwrap_or}
+use Rattle.std.specs.Option.{is_some, option_map, option_map_or, option_or, option_to_list, unwrap_or}
 use Rattle.stomp_frame.specs.declared.raw_frame.RawFrame.{RawFrame}
 use Rattle.mcast_txn.specs.declared.id.Topic.{Topic}
 use Rattle.mcast_txn.specs.declared.id.TxnId.{TxnId}
 use Rattle.mcast_txn.specs.declared.draft.sent_message.SentMessage.{SentMessage}
 use Rattle.mcast_txn.specs.declared.stamp.Stamp.{Stamp}
 use Rattle.mcast_txn.specs.Stamp.{stamp_lt, greatest}
-use Rattle.mcast_txn.specs.Agreed.{Transaction, CommitRow, agreed, stamp_of}
+use Rattle.mcast_txn.specs.Agreed.{CommitRow, agreed, stamp_of}
 use Rattle.mcast_txn.specs.Checks.{first_refusal}
 use Rattle.mcast_txn.specs.Lists.{In, Rises}
-use Rattle.mcast_txn.specs.Span.{Item, in_span, up_to}
+use Rattle.mcast_txn.specs.Span.{Item}
 use Rattle.mcast_txn.specs.Transaction.{topics_of}
 use Rattle.mcast_txn.specs.TopicSet.{names as names_topic}
 use Rattle.std.proofs.lemmas.List.{take-map}
 use Rattle.mcast_txn.proofs.Sorting.{Rises-sorted}
 use Rattle.mcast_group.specs.declared.fault.ProposeFault.{ProposeFault}
 use Rattle.mcast_group.specs.Machine.{Pending, due_part}
-use Rattle.mcast_group.proofs.Parts.{some_same, none_some, not_true}
+use Rattle.mcast_group.proofs.Parts.{some_same, none_some}
 use Rattle.stomp_session.specs.declared.action.Action.{Action}
 use Rattle.stomp_session.specs.declared.action.Action.TheVariants as actions
 use Rattle.stomp_frame.specs.declared.command.Command.{Command}
@@ -39,19 +39,19 @@ use Rattle.delivery.specs.declared.connection_fault.ConnectionFault.{ConnectionF
 use Rattle.delivery.specs.Theorem.Due.{due, is_due, item_at}
 use Rattle.delivery.specs.Theorem.Laws.{Run, answers_of, final_world}
 use Rattle.delivery.specs.Machine.Objections.{Objection, refusal_of}
-use Rattle.delivery.specs.Machine.Observed.{accepted_at, end_at, span_at, frontier_at}
-use Rattle.delivery.specs.Machine.World.{World, Undecided, Leftover, Subscription, is_reading, is_gone, nobody, topic_at, connection_at, subscription_at, speaker, start}
-use Rattle.delivery.specs.Machine.Moves.{Move, Answer, world_after, answer_to, move_refusal, move_effect, move_answer, needs_open, needs_idle, objections, undecided_at, find_leftover, oldest_live, or_out_of_memory, commit_answer, proposal_fault, propose_answer, cancel_answer, release_answer, take_answer, leave_answer, next_ticket, end_now}
-use Rattle.delivery.specs.Machine.Moves.Move.{Opens, Commits, Subscribes, Unsubscribes, Disconnects, Errs, Lost, Leaves, Proposes, Decides, Withdraws, Cancels, Learns, Releases, Turns, Takes}
-use Rattle.delivery.specs.Machine.Runs.{run, answers_from, commits_of, delivered_items, txn_count}
-use Rattle.delivery.specs.Core.Steps.{CoreStep, Reading, frame_in, has_effect, accepted_of, number_by}
-use Rattle.delivery.specs.Core.Account.{Beginning, no_item, beginning_of, due_to, next_item, last_id, released_frontier, sends_at, committed_by, account_of, account_of_frame, account_of_no_frame, account_of_next, account_of_step}
-use Rattle.delivery.specs.Core.Output.{has_closed, is_cut, replies_to}
-use Rattle.delivery.specs.Core.State.{Core, core_of, moves, next_moves, session_at, frame_move, is_out_of_memory}
-use Rattle.delivery.specs.Core.Outcomes.{outcome_of, move_outcome, unless, frame_no_memory, frame_fault, fault_outcomes, frame_outcome, reading_outcomes, cut_of, is_any, reply_outcomes, outcomes, MayStep, IsCoreRun}
+use Rattle.delivery.specs.Machine.Observed.{accepted_at, end_at, frontier_at}
+use Rattle.delivery.specs.Machine.World.{World, Leftover, topic_at, connection_at, subscription_at, speaker, start}
+use Rattle.delivery.specs.Machine.Moves.{Move, Answer, world_after, answer_to, move_refusal, move_effect, move_answer, needs_open, needs_idle, undecided_at, find_leftover, oldest_live, or_out_of_memory, commit_answer, proposal_fault, propose_answer, cancel_answer, release_answer, take_answer, leave_answer, next_ticket, end_now}
+use Rattle.delivery.specs.Machine.Moves.Move.{Commits, Subscribes, Unsubscribes, Disconnects, Errs, Lost, Leaves, Proposes, Decides, Withdraws, Cancels, Learns, Releases, Turns, Takes}
+use Rattle.delivery.specs.Machine.Runs.{run, answers_from, commits_of, delivered_items}
+use Rattle.delivery.specs.Core.Steps.{CoreStep, Reading, frame_in, number_by}
+use Rattle.delivery.specs.Core.Account.{Beginning, no_item, beginning_of, due_to, next_item, last_id, released_frontier, committed_by, account_of, account_of_next, account_of_step}
+use Rattle.delivery.specs.Core.Output.{has_closed, replies_to}
+use Rattle.delivery.specs.Core.State.{Core, core_of, moves, session_at, frame_move, is_out_of_memory}
+use Rattle.delivery.specs.Core.Outcomes.{outcome_of, move_outcome, unless, frame_no_memory, frame_fault, fault_outcomes, frame_outcome, reading_outcomes, cut_of, is_any, reply_outcomes, outcomes, IsCoreRun}
 use Rattle.delivery.proofs.Machine.Invariant.{sender_in}
 use Rattle.delivery.proofs.Machine.SenderSteps.{leftover_found, In-append_cases}
-use Rattle.delivery.proofs.Machine.InvariantIsKept.{NoneHolds, checked, passes, false_not, in_flight}
+use Rattle.delivery.proofs.Machine.InvariantIsKept.{NoneHolds, checked, false_not, in_flight}
 use Rattle.delivery.proofs.Theorem.AcceptedIsDue.{reached, accepted_is_due}
 use Rattle.delivery.proofs.Theorem.LogIsOfAnswers.{front}
 use Rattle.delivery.proofs.Theorem.SpansAsAnswered.{handing}
@@ -261,7 +261,7 @@ cancelled_case names r older rd c t None z l e a d =
 cancelled_case names r older rd c t (Some k) z l e a d =
     let w = final_world r in let past = answers_of r in let s = (connection_at w c).sender in
     let id : k.id ≡ last_id c (said past) =
-        ((spoken r).speaking.left s k (leftover_found t (sender_in w.senders s).leftovers k e).stands).0 ∙ last_is r c l in
+    ((spoken r).speaking.left s k (leftover_found t (sender_in w.senders s).leftovers k e).stands).0 ∙ last_is r c l in
     subst (Says names r older (Event.Cancel c t) rd) (some_same _ z d)
     (ap (λ q. Answer.Cancelled q t ∷ said past) (sym id) ∙ ap (λ b. said (b ∷ past)) (sym a))
 
@@ -391,7 +391,7 @@ decided_says names r older rd c o acc i =
     cut n a due =
         let g = greatest (undecided_at w c).given in let past = answers_of r in
         let open_still : has_closed c past ≡ false =
-            sym (has_closed_said c past) ∙ (ap (λ z. has_closed c z) (sym acc) ∙ not_closed (c == c) (has_closed c (account_of names older)) (unguarded _ _ due)) in
+        sym (has_closed_said c past) ∙ (ap (λ z. has_closed c z) (sym acc) ∙ not_closed (c == c) (has_closed c (account_of names older)) (unguarded _ _ due)) in
         ap (λ q. Answer.Leaving c ∷ Answer.Decided q g ∷ said past) (sym (id_is n))
         ∙ (ap (λ b. said (Answer.Leaving c ∷ b ∷ past)) (sym a)
         ∙ ap (λ b. said (b ∷ answer_to w (Decides c) ∷ past)) (sym (lost_after r c n open_still)))
@@ -440,8 +440,8 @@ due_front t from (Some end) f rows up i item e =
     let some : CommitRow → Bool = is_due (record { topic = t; from = from; to = Some end }) f in
     let q : CommitRow → Bool = λ r. all r && not (stamp_lt end r.stamp) in
     let a : filter some (agreed rows) ≡ filter q (agreed rows) =
-        filter_same some q (agreed rows)
-        (λ r. bound_last (names_topic t (topics_of r.txn.sends)) (stamp_lt from r.stamp) (not (stamp_lt end r.stamp)) (not (stamp_lt f r.stamp))) in
+    filter_same some q (agreed rows)
+    (λ r. bound_last (names_topic t (topics_of r.txn.sends)) (stamp_lt from r.stamp) (not (stamp_lt end r.stamp)) (not (stamp_lt f r.stamp))) in
     let n = length (filter q (agreed rows)) in
     let b : filter some (agreed rows) ≡ take n (filter all (agreed rows)) = a ∙ front all end (agreed rows) up in
     in_front n i (map (item_at t) (filter all (agreed rows))) item
@@ -456,15 +456,15 @@ next_item_is r s item l e =
     let up : Rises stamp_of (agreed cs) = subst (λ z. Rises stamp_of (agreed z)) (sym h.commits) (Rises-sorted stamp_of w.commits h.inv.consistent.apart) in
     let b : beginning_of s (said past) ≡ begin_of x = beginning_said s past ∙ beginning_is r s in
     let n : length (delivered_items s (said past)) ≡ x.taken =
-        ap (λ (z : List Item). length z) (delivered_said s past) ∙ sym ((handing r).held s l).count in
+    ap (λ (z : List Item). length z) (delivered_said s past) ∙ sym ((handing r).held s l).count in
     let dues : due_to s (said past) ≡ due cs (record { topic = x.topic; from = x.from; to = None }) (frontier_at w x.topic) =
-        ap (λ z. due z (record { topic = (beginning_of s (said past)).topic; from = (beginning_of s (said past)).from; to = None })
-        (released_frontier (beginning_of s (said past)).topic (said past))) (commits_said past)
-        ∙ (ap (λ (z : Beginning). due cs (record { topic = z.topic; from = z.from; to = None }) (released_frontier z.topic (said past))) b
-        ∙ ap (λ z. due cs (record { topic = x.topic; from = x.from; to = None }) z) (released_frontier_said x.topic past ∙ sym (frontier_of r x.topic))) in
+    ap (λ z. due z (record { topic = (beginning_of s (said past)).topic; from = (beginning_of s (said past)).from; to = None })
+    (released_frontier (beginning_of s (said past)).topic (said past))) (commits_said past)
+    ∙ (ap (λ (z : Beginning). due cs (record { topic = z.topic; from = z.from; to = None }) (released_frontier z.topic (said past))) b
+    ∙ ap (λ z. due cs (record { topic = x.topic; from = x.from; to = None }) z) (released_frontier_said x.topic past ∙ sym (frontier_of r x.topic))) in
     let here : slice_get (due cs (record { topic = x.topic; from = x.from; to = None }) (frontier_at w x.topic)) x.taken ≡ Some item =
-        due_front x.topic x.from (end_at w s) (frontier_at w x.topic) cs up x.taken item
-        (subst (λ z. slice_get z x.taken ≡ Some item) (accepted_is_due r s l) e) in
+    due_front x.topic x.from (end_at w s) (frontier_at w x.topic) cs up x.taken item
+    (subst (λ z. slice_get z x.taken ≡ Some item) (accepted_is_due r s l) e) in
     ap (λ z. unwrap_or (slice_get z (length (delivered_items s (said past)))) no_item) dues
     ∙ (ap (λ (k : ℕ). unwrap_or (slice_get (due cs (record { topic = x.topic; from = x.from; to = None }) (frontier_at w x.topic)) k) no_item) n
     ∙ ap (λ z. unwrap_or z no_item) here)
@@ -499,7 +499,7 @@ taken_says names r older rd s o i = by_case (move_refusal (final_world r) (Takes
       | inl j ↦ by_answer P (final_world r) (Takes s) o (λ why x a. unsaid _ (answers_of r) why a)
           (λ m a z d. taken_case names r older rd s _ z (ltb-true s (length (final_world r).subscriptions) (false_not _ (checked (final_world r) (Takes s) n).0)) refl a d)
           (in_option o _ j)
-      | inr j ↦ elim j [ | inl e ↦ subst P e refl | inr k ↦ absurd k ]
+      | inr j ↦ elim j [ inl e ↦ subst P e refl | inr k ↦ absurd k ]
     ]
 
 -- ---- a frame
@@ -634,7 +634,7 @@ faulted_says : (names : List (List ℕ)) (r : Run) (older : List CoreStep) (rd :
     → first_refusal (needs_idle (final_world r) c) ≡ None → In o (fault_outcomes fault) → Says names r older (Event.Next c) rd o
 faulted_says names r older rd c fault o n i = elim i [
   | inl e ↦ subst P e (errs false)
-  | inr j ↦ elim j [ | inl e ↦ subst P e (errs true) | inr k ↦ absurd k ]
+  | inr j ↦ elim j [ inl e ↦ subst P e (errs true) | inr k ↦ absurd k ]
 ]
   where
     P : Outcome → Type 0
@@ -676,7 +676,7 @@ opened_says : (names : List (List ℕ)) (r : Run) (older : List CoreStep) (rd : 
     → In o (outcomes (core_at names r older) Event.Open rd) → Says names r older Event.Open rd o
 opened_says names r older rd o i = elim i [
   | inl e ↦ subst (Says names r older Event.Open rd) e refl
-  | inr j ↦ elim j [ | inl e ↦ subst (Says names r older Event.Open rd) e refl | inr k ↦ absurd k ]
+  | inr j ↦ elim j [ inl e ↦ subst (Says names r older Event.Open rd) e refl | inr k ↦ absurd k ]
 ]
 
 event_says : (names : List (List ℕ)) (r : Run) (older : List CoreStep) (e : Event) (rd : Reading) (o : Outcome) → account_of names older ≡ said (answers_of r)
@@ -713,7 +713,7 @@ account_is topics capacity (step ∷ older) run =
     let r = run_of topics capacity older in let k = core_of topics capacity older in
     let acc = account_is topics capacity older run.1 in let c = core_is topics capacity older in
     let i : In step.outcome (outcomes (core_at topics.names r older) step.event step.reading) =
-        subst (λ z. In step.outcome (outcomes z step.event step.reading)) c run.0.outcome in
+    subst (λ z. In step.outcome (outcomes z step.event step.reading)) c run.0.outcome in
     let ms = moves k step.event step.reading step.outcome in
     ap (λ z. account_of_step topics.names older z step.event step.reading step.outcome ++ z) acc
     ∙ (event_says topics.names r older step.event step.reading step.outcome acc i

@@ -1,5 +1,5 @@
 -- Runs one event after another, so that what is shown of one event may use the laws of the run before it.
-use Rattle.std.proofs.Common.{◌≡◌, ℕ, List, [], ◌∷◌, ◌++◌, refl, sym, ap, subst, ◌∙◌}
+use Rattle.std.proofs.Common.{◌≡◌, ℕ, List, [], ◌∷◌, ◌++◌, refl, sym, subst}
 use Rattle.delivery.specs.Machine.World.{World, start}
 use Rattle.delivery.specs.Machine.Moves.{Move, Answer, world_after, answer_to}
 use Rattle.delivery.specs.Machine.Runs.{run, answers_from}
@@ -27,7 +27,7 @@ go P step (e ∷ es) r h =
     let a : answers_of q ≡ answer_to (final_world r) e ∷ answers_of r = answers_append r.events (e ∷ []) s [] in
     let b : final_world q ≡ world_after (final_world r) e = run_append r.events (e ∷ []) s in
     let k : P (answers_of q) (final_world q) =
-        subst (λ z. P z (final_world q)) (sym a) (subst (λ z. P (answer_to (final_world r) e ∷ answers_of r) z) (sym b) (step r e h)) in
+    subst (λ z. P z (final_world q)) (sym a) (subst (λ z. P (answer_to (final_world r) e ∷ answers_of r) z) (sym b) (step r e h)) in
     subst (λ z. P (answers_from es z (answer_to (final_world r) e ∷ answers_of r)) (run es z)) b
     (subst (λ z. P (answers_from es (final_world q) z) (run es (final_world q))) a (go P step es q k))
 

@@ -1,41 +1,38 @@
 -- What every run of the core delivers: the laws of the machine's run, said of the account and of the report.
-use Rattle.std.proofs.Common.{◌≡◌, ◌≢◌, ℕ, zero, suc, ◌+◌, ◌<◌, ◌≤◌, Bool, true, false, cond, ◌⊎◌, inl, inr, List, [], ◌∷◌, ◌++◌, map, length, get_or, Option, Some, None, refl, sym, ap, subst, ◌∙◌, arith}
+use Rattle.std.proofs.Common.{◌≡◌, ℕ, zero, suc, ◌+◌, ◌<◌, ◌≤◌, inl, inr, List, [], ◌∷◌, ◌++◌, map, length, get_or, Option, Some, None, refl, sym, ap, subst, ◌∙◌, arith}
 use Rattle.std.specs.Prelude.{take}
 use Rattle.std.specs.List.{filter, list_any}
-use Rattle.std.specs.Option.{is_some, option_map}
+use Rattle.std.specs.Option.{option_map}
 use Rattle.mcast_txn.specs.declared.id.Topic.{Topic}
 use Rattle.mcast_txn.specs.declared.stamp.Stamp.{Stamp}
 use Rattle.mcast_txn.specs.Stamp.{zero_stamp}
-use Rattle.mcast_txn.specs.Agreed.{CommitRow, agreed, EachOnce, SenderOrder}
+use Rattle.mcast_txn.specs.Agreed.{agreed, EachOnce, SenderOrder}
 use Rattle.mcast_txn.specs.Ids.{same_id}
 use Rattle.mcast_txn.specs.Lists.{In}
 use Rattle.mcast_txn.specs.Span.{Item, LogRow, last_stamp}
-use Rattle.mcast_txn.specs.Transaction.{topics_of}
-use Rattle.mcast_txn.specs.TopicSet.{names as names_topic}
 use Rattle.mcast_group.specs.declared.cause.Cause.{Cause}
 use Rattle.mcast_group.specs.declared.cause.Cause.TheVariants.{Asked, Lag}
-use Rattle.mcast_group.specs.Machine.{TopicState, Entry, EntryEnd, new_topic}
+use Rattle.mcast_group.specs.Machine.{TopicState, EntryEnd, new_topic}
 use Rattle.delivery.specs.Topics.{TopicList}
 use Rattle.delivery.specs.Theorem.Due.{due, log_row}
 use Rattle.delivery.specs.Theorem.Laws.{Run, answers_of, final_world, mark_of, Mark, shared_marks}
-use Rattle.delivery.specs.Theorem.Settled.{IsSettled}
-use Rattle.delivery.specs.Machine.Observed.{accepted_at, end_at, span_at, log_at, frontier_at, entry_to}
-use Rattle.delivery.specs.Machine.World.{World, Subscription, no_subscription, topic_at, subscription_at, entry_at}
+use Rattle.delivery.specs.Machine.Observed.{accepted_at, span_at, log_at, frontier_at, entry_to}
+use Rattle.delivery.specs.Machine.World.{World, Subscription, no_subscription, subscription_at, entry_at}
 use Rattle.delivery.specs.Machine.Moves.{Answer}
 use Rattle.delivery.specs.Machine.Runs.{commits_of, delivered_items}
 use Rattle.delivery.specs.Core.Steps.{CoreStep}
-use Rattle.delivery.specs.Core.Account.{beginning_of, Beginning, released_log, released_frontier, account_of}
-use Rattle.delivery.specs.Core.State.{Core, core_of}
+use Rattle.delivery.specs.Core.Account.{beginning_of, Beginning, released_frontier, account_of}
+use Rattle.delivery.specs.Core.State.{core_of}
 use Rattle.delivery.specs.Core.Outcomes.{IsCoreRun}
-use Rattle.delivery.specs.Core.Reports.{QueueReport, Report, report_of, queue_report, cause_at, each_number, no_queue, queue_in, log_in, span_of}
-use Rattle.delivery.specs.Core.Delivery.{Begun, begun_in, reported_begun, EndsAtFrontier, EndsByCause, Delivers}
+use Rattle.delivery.specs.Core.Reports.{QueueReport, Report, report_of, queue_report, each_number, no_queue, queue_in, log_in, span_of}
+use Rattle.delivery.specs.Core.Delivery.{Begun, reported_begun, EndsAtFrontier, EndsByCause, Delivers}
 use Rattle.delivery.proofs.Theorem.AcceptedIsDue.{reached, accepted_is_due, shared_in_one_order, agreed_once, agreed_in_sender_order}
 use Rattle.delivery.proofs.Theorem.LogIsOfAnswers.{log_is_of_outcomes}
 use Rattle.delivery.proofs.Theorem.SettledLeavesNoneOut.{settled_in_log}
 use Rattle.delivery.proofs.Theorem.ClosedIsSilent.{closed_is_silent}
 use Rattle.delivery.proofs.Theorem.SpansAsAnswered.{handing, beyond, within}
 use Rattle.delivery.proofs.Core.Said.{said, commits_said, delivered_said, beginning_said, released_log_said, released_frontier_said, begun_said, settled_said, silent_said}
-use Rattle.delivery.proofs.Core.Started.{begin_of, begins_in, numbered, begun_is, asked_at_frontier}
+use Rattle.delivery.proofs.Core.Started.{begin_of, numbered, begun_is, asked_at_frontier}
 use Rattle.delivery.proofs.Core.AccountOfRun.{run_of, core_at, core_is, account_is}
 
 -- ---- numbered lists
@@ -104,11 +101,14 @@ said_split (Answer.Handed r item ∷ later) s to before = ap (λ z. Answer.Hande
 
 end_said : (s : ℕ) (past : List Answer) (to : Stamp) → EndsAtFrontier s past to → EndsAtFrontier s (said past) to
 end_said s past to h =
-    let before = h.1 in
-    (said h.0, said before, ap said h.2 ∙ said_split h.0 s to before,
-    h.3
-    ∙ (sym (released_frontier_said (beginning_of s before).topic before)
-    ∙ ap (λ (z : Beginning). released_frontier z.topic (said before)) (sym (beginning_said s before))))
+    let before = h.1 in (
+      said h.0,
+      said before,
+      ap said h.2 ∙ said_split h.0 s to before,
+      h.3
+          ∙ (sym (released_frontier_said (beginning_of s before).topic before)
+          ∙ ap (λ (z : Beginning). released_frontier z.topic (said before)) (sym (beginning_said s before))),
+    )
 
 ends_open : (s : ℕ) (account : List Answer) (o : Option Stamp) → EndsByCause s account (option_map (λ end. Lag) o) o
 ends_open s account None = refl

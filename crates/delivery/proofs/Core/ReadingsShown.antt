@@ -18,17 +18,16 @@ use Rattle.stomp_session.specs.Refusals.{refusal}
 use Rattle.delivery.specs.Topics.{TopicList}
 use Rattle.delivery.specs.declared.event.Event.{Event}
 use Rattle.delivery.specs.declared.outcome.Outcome.{Outcome}
-use Rattle.delivery.specs.declared.refusal.Refusal.{Refusal}
 use Rattle.delivery.specs.declared.connection_fault.ConnectionFault.{ConnectionFault}
 use Rattle.delivery.specs.Machine.Objections.{Objection, refusal_of}
 use Rattle.delivery.specs.Machine.World.{World, topic_at}
-use Rattle.delivery.specs.Machine.Moves.{Move, Answer, needs_idle, move_refusal, move_answer, answer_to, commit_answer, end_now}
+use Rattle.delivery.specs.Machine.Moves.{Move, needs_idle, move_refusal, move_answer, answer_to, commit_answer, end_now}
 use Rattle.delivery.specs.Machine.Moves.Move.{Commits, Subscribes, Unsubscribes, Disconnects}
 use Rattle.delivery.specs.Core.Steps.{CoreStep, Reading, frame_in, has_frame, says_frame, reads_as_said, shows_reading, number_by}
 use Rattle.delivery.specs.Core.State.{Core, core_of, IsReadBy, unread_at, session_at, frame_move}
-use Rattle.delivery.specs.Core.Outcomes.{outcome_of, move_outcome, unless, frame_no_memory, frame_fault, fault_outcomes, frame_outcome, reading_outcomes, outcomes, IsReadAt, MayStep, IsCoreRun}
+use Rattle.delivery.specs.Core.Outcomes.{outcome_of, move_outcome, unless, frame_no_memory, frame_fault, fault_outcomes, frame_outcome, reading_outcomes, outcomes, IsReadAt, IsCoreRun}
 use Rattle.delivery.proofs.Machine.SenderSteps.{In-append_cases}
-use Rattle.delivery.proofs.Core.AccountOfRun.{IsRefusal, in_option, refusal_some, answer_is}
+use Rattle.delivery.proofs.Core.AccountOfRun.{in_option, refusal_some, answer_is}
 
 -- a Next that read this shows it
 abbrev Shows : Reading → Outcome → Type 0
@@ -62,8 +61,8 @@ effect_of w mv o n i = ap outcome_of (sym (answer_is w mv n)) ∙ in_option o _ 
 -- the outcome of an accepted frame says that it was read
 accepted_said : (k : Core) (c : ℕ) (action : Action) (o : Outcome) → option_and_then (λ mv. move_refusal k.world mv) (frame_move k c action) ≡ None
     → In o (option_map_or (move_outcome k) (frame_move k c action) (Outcome.Done ∷ [])) → says_frame o ≡ true
-accepted_said k c actions.Connected o n i = elim i [ | inl e ↦ ap says_frame (sym e) | inr j ↦ absurd j ]
-accepted_said k c actions.Nothing o n i = elim i [ | inl e ↦ ap says_frame (sym e) | inr j ↦ absurd j ]
+accepted_said k c actions.Connected o n i = elim i [ inl e ↦ ap says_frame (sym e) | inr j ↦ absurd j ]
+accepted_said k c actions.Nothing o n i = elim i [ inl e ↦ ap says_frame (sym e) | inr j ↦ absurd j ]
 accepted_said k c (actions.Subscribe id t) o n i =
     ap says_frame (sym (some_same (Outcome.Subscribed (length k.world.subscriptions) (topic_at k.world t).frontier) o (effect_of k.world (Subscribes c t) o n i)))
 accepted_said k c (actions.Unsubscribe id) o n i =
@@ -72,7 +71,6 @@ accepted_said k c (actions.Unsubscribe id) o n i =
 accepted_said k c (actions.Commit sends) o n i = committed_said k.world c sends o (effect_of k.world (Commits c sends) o n i)
 accepted_said k c actions.Disconnect o n i = ap says_frame (sym (some_same Outcome.Leaving o (effect_of k.world (Disconnects c) o n i)))
 
-
 read : (rd : Reading) (o : Outcome) (b : Bool) → says_frame o ≡ b → is_some (frame_in rd) ≡ b → Shows rd o
 read rd o true e f = ap (λ b. cond b (is_some (frame_in rd)) (not (is_some (frame_in rd)))) e ∙ f
 read rd o false e f = ap (λ b. cond b (is_some (frame_in rd)) (not (is_some (frame_in rd)))) e ∙ ap not f
@@ -80,7 +78,7 @@ read rd o false e f = ap (λ b. cond b (is_some (frame_in rd)) (not (is_some (fr
 faulted : (rd : Reading) (fault : ConnectionFault) (o : Outcome) → has_frame fault ≡ is_some (frame_in rd) → In o (fault_outcomes fault) → Shows rd o
 faulted rd fault o h i = elim i [
   | inl e ↦ read rd o (is_some (frame_in rd)) (ap says_frame (sym e) ∙ h) refl
-  | inr j ↦ elim j [ | inl e ↦ read rd o (is_some (frame_in rd)) (ap says_frame (sym e) ∙ h) refl | inr k ↦ absurd k ]
+  | inr j ↦ elim j [ inl e ↦ read rd o (is_some (frame_in rd)) (ap says_frame (sym e) ∙ h) refl | inr k ↦ absurd k ]
 ]
 
 found : (k : Core) (c : ℕ) (f : RawFrame) (left : Unread) (o : Outcome) (why : Option ConnectionFault) → frame_fault k c f ≡ why
@@ -103,7 +101,7 @@ idle k c (Reading.Fails check left) o i = faulted (Reading.Fails check left) (Co
 
 -- a Next reads what its reader gives, unless it is refused
 abbrev ReadsUnless : Core → ℕ → Reading → Option Objection → Type 0
-ReadsUnless k c rd why = elim why [ | None ↦ IsReadBy (unread_at c k.steps) rd | Some w ↦ rd ≡ Reading.Nothing ]
+ReadsUnless k c rd why = elim why [ None ↦ IsReadBy (unread_at c k.steps) rd | Some w ↦ rd ≡ Reading.Nothing ]
 
 next_shows : (k : Core) (c : ℕ) (rd : Reading) (o : Outcome) (why : Option Objection) → ReadsUnless k c rd why
     → In o (unless why (reading_outcomes k c rd)) → Shows rd o

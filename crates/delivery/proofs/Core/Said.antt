@@ -1,6 +1,6 @@
 -- The readers of an account take nothing from refusals, nor from what was merely done: they read the same of
 -- all that a machine answered and of what of it an account says.
-use Rattle.std.proofs.Common.{◌≡◌, ◌≢◌, ℕ, ◌+◌, ◌==◌, Bool, true, false, cond, ◌||◌, ◌⊎◌, List, [], ◌∷◌, ◌++◌, refl, sym, ap, subst, ◌∙◌, inl, inr}
+use Rattle.std.proofs.Common.{◌≡◌, ℕ, ◌+◌, ◌==◌, Bool, true, false, cond, ◌||◌, List, [], ◌∷◌, ◌++◌, refl, ap, subst, ◌∙◌, inl, inr}
 use Rattle.std.proofs.lemmas.Bool.{false≢true}
 use Rattle.mcast_txn.specs.declared.id.Topic.{Topic}
 use Rattle.mcast_txn.specs.declared.id.TxnId.{TxnId}
@@ -238,28 +238,27 @@ begun_said (Answer.Handed r item ∷ past) = begun_said past
 
 -- ---- what stands in it
 
-
 -- what an account says was answered
 pub said_from : (o : Answer) (past : List Answer) → In o (said past) → In o past
 said_from o [] h = absurd h
 said_from o (Answer.Refused why ∷ past) h = inr (said_from o past h)
 said_from o (Answer.Done ∷ past) h = inr (said_from o past h)
-said_from o (Answer.Opened c ∷ past) h = elim h [ | inl e ↦ inl e | inr k ↦ inr (said_from o past k) ]
-said_from o (Answer.Begun txn ∷ past) h = elim h [ | inl e ↦ inl e | inr k ↦ inr (said_from o past k) ]
-said_from o (Answer.Subscribed r c u from ∷ past) h = elim h [ | inl e ↦ inl e | inr k ↦ inr (said_from o past k) ]
-said_from o (Answer.Unsubscribed r to ∷ past) h = elim h [ | inl e ↦ inl e | inr k ↦ inr (said_from o past k) ]
-said_from o (Answer.Leaving c ∷ past) h = elim h [ | inl e ↦ inl e | inr k ↦ inr (said_from o past k) ]
-said_from o (Answer.Error c ∷ past) h = elim h [ | inl e ↦ inl e | inr k ↦ inr (said_from o past k) ]
-said_from o (Answer.Gone c ∷ past) h = elim h [ | inl e ↦ inl e | inr k ↦ inr (said_from o past k) ]
-said_from o (Answer.Ticket i ticket ∷ past) h = elim h [ | inl e ↦ inl e | inr k ↦ inr (said_from o past k) ]
-said_from o (Answer.Failed i why ∷ past) h = elim h [ | inl e ↦ inl e | inr k ↦ inr (said_from o past k) ]
-said_from o (Answer.Decided i stamp ∷ past) h = elim h [ | inl e ↦ inl e | inr k ↦ inr (said_from o past k) ]
-said_from o (Answer.Withdrawn i c ∷ past) h = elim h [ | inl e ↦ inl e | inr k ↦ inr (said_from o past k) ]
-said_from o (Answer.Cancelled i u ∷ past) h = elim h [ | inl e ↦ inl e | inr k ↦ inr (said_from o past k) ]
-said_from o (Answer.Learnt i u ∷ past) h = elim h [ | inl e ↦ inl e | inr k ↦ inr (said_from o past k) ]
-said_from o (Answer.Released u i ∷ past) h = elim h [ | inl e ↦ inl e | inr k ↦ inr (said_from o past k) ]
-said_from o (Answer.Turned u n ∷ past) h = elim h [ | inl e ↦ inl e | inr k ↦ inr (said_from o past k) ]
-said_from o (Answer.Handed r item ∷ past) h = elim h [ | inl e ↦ inl e | inr k ↦ inr (said_from o past k) ]
+said_from o (Answer.Opened c ∷ past) h = elim h [ inl e ↦ inl e | inr k ↦ inr (said_from o past k) ]
+said_from o (Answer.Begun txn ∷ past) h = elim h [ inl e ↦ inl e | inr k ↦ inr (said_from o past k) ]
+said_from o (Answer.Subscribed r c u from ∷ past) h = elim h [ inl e ↦ inl e | inr k ↦ inr (said_from o past k) ]
+said_from o (Answer.Unsubscribed r to ∷ past) h = elim h [ inl e ↦ inl e | inr k ↦ inr (said_from o past k) ]
+said_from o (Answer.Leaving c ∷ past) h = elim h [ inl e ↦ inl e | inr k ↦ inr (said_from o past k) ]
+said_from o (Answer.Error c ∷ past) h = elim h [ inl e ↦ inl e | inr k ↦ inr (said_from o past k) ]
+said_from o (Answer.Gone c ∷ past) h = elim h [ inl e ↦ inl e | inr k ↦ inr (said_from o past k) ]
+said_from o (Answer.Ticket i ticket ∷ past) h = elim h [ inl e ↦ inl e | inr k ↦ inr (said_from o past k) ]
+said_from o (Answer.Failed i why ∷ past) h = elim h [ inl e ↦ inl e | inr k ↦ inr (said_from o past k) ]
+said_from o (Answer.Decided i stamp ∷ past) h = elim h [ inl e ↦ inl e | inr k ↦ inr (said_from o past k) ]
+said_from o (Answer.Withdrawn i c ∷ past) h = elim h [ inl e ↦ inl e | inr k ↦ inr (said_from o past k) ]
+said_from o (Answer.Cancelled i u ∷ past) h = elim h [ inl e ↦ inl e | inr k ↦ inr (said_from o past k) ]
+said_from o (Answer.Learnt i u ∷ past) h = elim h [ inl e ↦ inl e | inr k ↦ inr (said_from o past k) ]
+said_from o (Answer.Released u i ∷ past) h = elim h [ inl e ↦ inl e | inr k ↦ inr (said_from o past k) ]
+said_from o (Answer.Turned u n ∷ past) h = elim h [ inl e ↦ inl e | inr k ↦ inr (said_from o past k) ]
+said_from o (Answer.Handed r item ∷ past) h = elim h [ inl e ↦ inl e | inr k ↦ inr (said_from o past k) ]
 
 -- what was answered an account says, where it says such answers
 pub said_in : (o : Answer) (past : List Answer) → is_said o ≡ true → In o past → In o (said past)
@@ -272,30 +271,32 @@ said_in o (Answer.Done ∷ past) s h = elim h [
   | inl e ↦ absurd (false≢true (ap (λ z. is_said z) e ∙ s))
   | inr k ↦ said_in o past s k
 ]
-said_in o (Answer.Opened c ∷ past) s h = elim h [ | inl e ↦ inl e | inr k ↦ inr (said_in o past s k) ]
-said_in o (Answer.Begun txn ∷ past) s h = elim h [ | inl e ↦ inl e | inr k ↦ inr (said_in o past s k) ]
-said_in o (Answer.Subscribed r c u from ∷ past) s h = elim h [ | inl e ↦ inl e | inr k ↦ inr (said_in o past s k) ]
-said_in o (Answer.Unsubscribed r to ∷ past) s h = elim h [ | inl e ↦ inl e | inr k ↦ inr (said_in o past s k) ]
-said_in o (Answer.Leaving c ∷ past) s h = elim h [ | inl e ↦ inl e | inr k ↦ inr (said_in o past s k) ]
-said_in o (Answer.Error c ∷ past) s h = elim h [ | inl e ↦ inl e | inr k ↦ inr (said_in o past s k) ]
-said_in o (Answer.Gone c ∷ past) s h = elim h [ | inl e ↦ inl e | inr k ↦ inr (said_in o past s k) ]
-said_in o (Answer.Ticket i ticket ∷ past) s h = elim h [ | inl e ↦ inl e | inr k ↦ inr (said_in o past s k) ]
-said_in o (Answer.Failed i why ∷ past) s h = elim h [ | inl e ↦ inl e | inr k ↦ inr (said_in o past s k) ]
-said_in o (Answer.Decided i stamp ∷ past) s h = elim h [ | inl e ↦ inl e | inr k ↦ inr (said_in o past s k) ]
-said_in o (Answer.Withdrawn i c ∷ past) s h = elim h [ | inl e ↦ inl e | inr k ↦ inr (said_in o past s k) ]
-said_in o (Answer.Cancelled i u ∷ past) s h = elim h [ | inl e ↦ inl e | inr k ↦ inr (said_in o past s k) ]
-said_in o (Answer.Learnt i u ∷ past) s h = elim h [ | inl e ↦ inl e | inr k ↦ inr (said_in o past s k) ]
-said_in o (Answer.Released u i ∷ past) s h = elim h [ | inl e ↦ inl e | inr k ↦ inr (said_in o past s k) ]
-said_in o (Answer.Turned u n ∷ past) s h = elim h [ | inl e ↦ inl e | inr k ↦ inr (said_in o past s k) ]
-said_in o (Answer.Handed r item ∷ past) s h = elim h [ | inl e ↦ inl e | inr k ↦ inr (said_in o past s k) ]
+said_in o (Answer.Opened c ∷ past) s h = elim h [ inl e ↦ inl e | inr k ↦ inr (said_in o past s k) ]
+said_in o (Answer.Begun txn ∷ past) s h = elim h [ inl e ↦ inl e | inr k ↦ inr (said_in o past s k) ]
+said_in o (Answer.Subscribed r c u from ∷ past) s h = elim h [ inl e ↦ inl e | inr k ↦ inr (said_in o past s k) ]
+said_in o (Answer.Unsubscribed r to ∷ past) s h = elim h [ inl e ↦ inl e | inr k ↦ inr (said_in o past s k) ]
+said_in o (Answer.Leaving c ∷ past) s h = elim h [ inl e ↦ inl e | inr k ↦ inr (said_in o past s k) ]
+said_in o (Answer.Error c ∷ past) s h = elim h [ inl e ↦ inl e | inr k ↦ inr (said_in o past s k) ]
+said_in o (Answer.Gone c ∷ past) s h = elim h [ inl e ↦ inl e | inr k ↦ inr (said_in o past s k) ]
+said_in o (Answer.Ticket i ticket ∷ past) s h = elim h [ inl e ↦ inl e | inr k ↦ inr (said_in o past s k) ]
+said_in o (Answer.Failed i why ∷ past) s h = elim h [ inl e ↦ inl e | inr k ↦ inr (said_in o past s k) ]
+said_in o (Answer.Decided i stamp ∷ past) s h = elim h [ inl e ↦ inl e | inr k ↦ inr (said_in o past s k) ]
+said_in o (Answer.Withdrawn i c ∷ past) s h = elim h [ inl e ↦ inl e | inr k ↦ inr (said_in o past s k) ]
+said_in o (Answer.Cancelled i u ∷ past) s h = elim h [ inl e ↦ inl e | inr k ↦ inr (said_in o past s k) ]
+said_in o (Answer.Learnt i u ∷ past) s h = elim h [ inl e ↦ inl e | inr k ↦ inr (said_in o past s k) ]
+said_in o (Answer.Released u i ∷ past) s h = elim h [ inl e ↦ inl e | inr k ↦ inr (said_in o past s k) ]
+said_in o (Answer.Turned u n ∷ past) s h = elim h [ inl e ↦ inl e | inr k ↦ inr (said_in o past s k) ]
+said_in o (Answer.Handed r item ∷ past) s h = elim h [ inl e ↦ inl e | inr k ↦ inr (said_in o past s k) ]
 
 -- ---- settled topics
 
 resolved_said : (t : Topic) (past : List Answer) (txn : Transaction) → IsResolved t (said past) txn → IsResolved t past txn
 resolved_said t past txn (inl d) = inl (d.0, said_from (Answer.Decided txn.id d.0) past d.1)
 resolved_said t past txn (inr d) =
-    inr ((d.0.0, said_from (Answer.Withdrawn txn.id d.0.0) past d.0.1),
-    (λ ticket i e. said_from (Answer.Cancelled txn.id t) past (d.1 ticket (said_in (Answer.Ticket txn.id ticket) past refl i) e)))
+    inr (
+      (d.0.0, said_from (Answer.Withdrawn txn.id d.0.0) past d.0.1),
+      (λ ticket i e. said_from (Answer.Cancelled txn.id t) past (d.1 ticket (said_in (Answer.Ticket txn.id ticket) past refl i) e)),
+    )
 
 all_resolved_said : (t : Topic) (past : List Answer) → AllResolved t (said past) → AllResolved t past
 all_resolved_said t past h txn i n = resolved_said t past txn (h txn (said_in (Answer.Begun txn) past refl i) n)

@@ -1,11 +1,10 @@
 -- What every run keeps of connections and their senders: a sender's number of transactions, whose its undecided
 -- transaction and its leftover tickets are, and that a connection which isn't open was closed.
-use Rattle.std.proofs.Common.{◌≡◌, ◌≢◌, ℕ, ◌+◌, ◌<◌, ◌≤◌, ◌==◌, Bool, true, false, cond, not, ◌||◌, ◌⊎◌, inl, inr, List, [], ◌∷◌, ◌++◌, map, length, get_or, set, Option, Some, None, refl, sym, ap, subst, ◌∙◌, true≢false, arith, ltb}
-use Rattle.std.proofs.lemmas.Bool.{eqb-true, eq-eqb, ltb-true, false≢true}
+use Rattle.std.proofs.Common.{◌≡◌, ℕ, ◌+◌, ◌<◌, ◌==◌, Bool, true, false, cond, not, ◌||◌, inl, inr, List, [], ◌∷◌, ◌++◌, map, length, get_or, set, Option, Some, None, refl, sym, ap, subst, ◌∙◌, true≢false, arith, ltb}
+use Rattle.std.proofs.lemmas.Bool.{eqb-true, eq-eqb, ltb-true}
 use Rattle.mcast_txn.specs.declared.id.Topic.{Topic}
 use Rattle.mcast_txn.specs.declared.id.TxnId.{TxnId}
 use Rattle.mcast_txn.specs.declared.draft.sent_message.SentMessage.{SentMessage}
-use Rattle.mcast_txn.specs.declared.stamp.Stamp.{Stamp}
 use Rattle.mcast_txn.specs.Agreed.{Transaction}
 use Rattle.mcast_txn.specs.Ballot.{Decision}
 use Rattle.mcast_txn.specs.Lists.{In}
@@ -14,10 +13,10 @@ use Rattle.mcast_txn.proofs.Members.{at_set, at_set_within, In-map_cases}
 use Rattle.mcast_group.specs.declared.fault.ProposeFault.{ProposeFault}
 use Rattle.mcast_group.specs.Machine.{Pending, Entry, due_part}
 use Rattle.mcast_group.proofs.Parts.{some_same, none_some, not_true}
-use Rattle.delivery.specs.Machine.World.{World, Connection, Undecided, Leftover, SenderState, Standing, is_reading, is_gone, nobody, new_sender, topic_at, connection_at, subscription_at, speaker, entry_at, start}
-use Rattle.delivery.specs.Machine.Moves.{Move, Answer, world_after, answer_to, move_refusal, move_effect, move_answer, undecided_at, find_leftover, drop_leftover, leftover, find_verdict, oldest_live, next_txn, commit_effect, commit_answer, proposal_fault, propose_effect, propose_answer, cancel_effect, cancel_answer, learn_effect, release_answer, take_effect, take_answer, leave_effect, leave_answer, close_effect, close_effect_of}
+use Rattle.delivery.specs.Machine.World.{World, Connection, Undecided, Leftover, SenderState, Standing, is_reading, nobody, new_sender, topic_at, connection_at, subscription_at, speaker, entry_at, start}
+use Rattle.delivery.specs.Machine.Moves.{Move, Answer, world_after, answer_to, move_refusal, move_effect, move_answer, undecided_at, find_leftover, leftover, find_verdict, oldest_live, next_txn, commit_effect, commit_answer, proposal_fault, propose_effect, propose_answer, cancel_effect, cancel_answer, learn_effect, release_answer, take_effect, take_answer, leave_effect, leave_answer, close_effect_of}
 use Rattle.delivery.specs.Machine.Moves.Move.{AddsTopic, Opens, Commits, Subscribes, Unsubscribes, Disconnects, Errs, Lost, Leaves, Proposes, Decides, Withdraws, Cancels, Learns, Releases, Turns, Takes}
-use Rattle.delivery.specs.Machine.Moves.Answer.{Refused, Done, Opened, Learnt}
+use Rattle.delivery.specs.Machine.Moves.Answer.{Refused, Done, Opened}
 use Rattle.delivery.specs.Machine.Runs.{run, answers_from, txn_count}
 use Rattle.delivery.specs.Theorem.Settled.{closes}
 use Rattle.delivery.specs.Core.Output.{has_closed}
@@ -213,7 +212,7 @@ withdrawn past w c l own e h =
     (λ k i. elim (In-append_cases k (sender_in w.senders s).leftovers (map (leftover f.txn.id) f.given) i) [
       | inl j ↦ g.left s k j
       | inr j ↦ (let m = In-map_cases (leftover f.txn.id) k f.given j in
-      (ap (λ (z : Leftover). z.id) (sym m.is) ∙ g.flying s f e, shut_there))
+          (ap (λ (z : Leftover). z.id) (sym m.is) ∙ g.flying s f e, shut_there))
     ]) g
   where
     shut_there : open_in (move_effect w (Withdraws c)).connections (connection_at w c).sender ≡ false

@@ -7,7 +7,7 @@ use Rattle.mcast_txn.specs.Agreed.{CommitRow}
 use Rattle.mcast_txn.specs.Lists.{In}
 use Rattle.mcast_txn.specs.declared.id.Topic.{Topic}
 use Rattle.mcast_txn.specs.declared.stamp.Stamp.{Stamp}
-use Rattle.mcast_txn.proofs.Members.{In-append_left, In-push, In-push_cases, In-filter, In-filter_cases, at_set, at_set_within, push_one, push_two}
+use Rattle.mcast_txn.proofs.Members.{In-filter, In-filter_cases, at_set, at_set_within}
 use Rattle.mcast_txn.specs.Span.{Item}
 use Rattle.mcast_group.specs.Sound.{IsSound, IsQueueOf}
 use Rattle.mcast_group.specs.Machine.{TopicState, Entry, EntryEnd, new_topic, find_entry, insert_entry, after_subscribe, end_of, after_unsubscribe}
