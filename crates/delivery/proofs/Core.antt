@@ -15,3 +15,4 @@ pub mod Started
 pub mod AccountOfRun
 pub mod DeliversOfRun
 pub mod ReadingsShown
+pub mod Counts

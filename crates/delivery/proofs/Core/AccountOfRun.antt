@@ -277,17 +277,18 @@ cancelled_says names r older rd c t o i =
 -- ---- replies that may be left out
 
 -- the outcome, or the same with its reply left out, where one is due
-record IsReplied (k : Core) (c : ℕ) (e : Event) (x : Option Outcome) (o : Outcome) : Type 0 where
-  base : Outcome
-  is : x ≡ Some base
-  cut : (base ≡ o) ⊎ ((cut_of base ≡ o) × (is_any (replies_to c k.steps (account_of k.names k.steps) e Reading.Nothing base) ≡ true))
+pub record IsReplied (k : Core) (c : ℕ) (e : Event) (x : Option Outcome) (o : Outcome) : Type 0 where
+  pub base : Outcome
+  pub is : x ≡ Some base
+  pub cut : (base ≡ o) ⊎ ((cut_of base ≡ o) × (is_any (replies_to c k.steps (account_of k.names k.steps) e Reading.Nothing base) ≡ true))
 
 guarded : {X : Type 0} (x y : X) (b : Bool) → In x (cond b (y ∷ []) []) → (y ≡ x) × (b ≡ true)
 guarded x y true (inl e) = (e, refl)
 guarded x y true (inr i) = absurd i
 guarded x y false i = absurd i
 
-replied : (k : Core) (c : ℕ) (e : Event) (x : Option Outcome) (o : Outcome) → In o (reply_outcomes k c e (option_to_list x)) → IsReplied k c e x o
+-- a reply's outcome is that of its move, or the same cut
+pub replied : (k : Core) (c : ℕ) (e : Event) (x : Option Outcome) (o : Outcome) → In o (reply_outcomes k c e (option_to_list x)) → IsReplied k c e x o
 replied k c e None o i = absurd i
 replied k c e (Some b) o (inl d) = record { base = b; is = refl; cut = inl d }
 replied k c e (Some b) o (inr i) = record { base = b; is = refl; cut = inr (guarded o (cut_of b) _ i) }
@@ -303,7 +304,7 @@ left_case names r older rd c (Some s) z a d =
     (ap (λ b. said (b ∷ answers_of r)) (sym a), ap (λ b. said (b ∷ answers_of r)) (sym a))
 
 -- an outcome, cut or not
-either_cut : (P : Outcome → Type 0) (b o : Outcome) {Q : Type 0} → P b × P (cut_of b) → (b ≡ o) ⊎ ((cut_of b ≡ o) × Q) → P o
+pub either_cut : (P : Outcome → Type 0) (b o : Outcome) {Q : Type 0} → P b × P (cut_of b) → (b ≡ o) ⊎ ((cut_of b ≡ o) × Q) → P o
 either_cut P b o h (inl e) = subst P e h.0
 either_cut P b o h (inr e) = subst P e.0 h.1
 
