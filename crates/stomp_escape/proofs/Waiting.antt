@@ -1,7 +1,7 @@
 -- What was written or read, and what waits to be copied behind it.
-use Rattle.std.proofs.Common.{◌≡◌, ℕ, ◌+◌, ◌<◌, ◌≤◌, List, [], ◌∷◌, ◌++◌, length, take, drop, get_or, Some, None, Result, Ok, Err, refl, sym, ap, ◌∙◌, append_assoc, arith}
+use Rattle.std.proofs.Common.{◌≡◌, ℕ, ◌+◌, ◌<◌, List, [], ◌∷◌, ◌++◌, length, take, drop, get_or, Some, None, Result, Ok, Err, refl, sym, ap, ◌∙◌, append_assoc}
 use Rattle.std.specs.Prelude.{OnErr}
-use Rattle.std.proofs.lemmas.List.{append-nil, take_more, take_all, take-append-drop}
+use Rattle.std.proofs.lemmas.List.{append-nil, take_more, take-append-drop}
 use Rattle.std.proofs.lemmas.Grind.{flat_map-append}
 use Rattle.stomp_escape.specs.Escape.{letter_of, escaped_octet, escaped, AppendsFront}
 use Rattle.stomp_escape.specs.declared.fault.EscapeFault.{EscapeFault}
@@ -18,17 +18,6 @@ escaped_more : (text : List ℕ) (at : ℕ) → at < length text → escaped (ta
 escaped_more text at lt =
     let b = get_or text at 0 in
     ap escaped (take_more text at 0 lt) ∙ flat_map-append escaped_octet (take at text) (b ∷ []) ∙ ap (λ (w : List ℕ). escaped (take at text) ++ w) (append-nil (escaped_octet b))
-
--- An octet with no escape goes on what is written as it stands.
-pub plain_more : (text : List ℕ) (at : ℕ) → at < length text → letter_of (get_or text at 0) ≡ None → escaped (take at text) ≡ take at text → escaped (take (at + 1) text) ≡ take (at + 1) text
-plain_more text at lt none plain =
-    let b = get_or text at 0 in
-    let one : escaped_octet b ≡ b ∷ [] = rw none refl in
-    escaped_more text at lt ∙ ap (λ (w : List ℕ). escaped (take at text) ++ w) one ∙ ap (λ (w : List ℕ). w ++ b ∷ []) plain ∙ sym (take_more text at 0 lt)
-
--- At first nothing waits.
-pub begins : (old out text : List ℕ) (n : ℕ) → out ≡ old ++ take n text → escaped (take n text) ≡ take n text → IsEscaped old out [] text n
-begins old out text n e plain = record { front = take n text; written = e; so_far = append-nil (take n text) ∙ sym plain }
 
 -- What waits is written.
 pub flushes : (old out new waiting text : List ℕ) (at : ℕ) → new ≡ out ++ waiting → IsEscaped old out waiting text at → IsEscaped old new [] text at
@@ -63,30 +52,16 @@ waits_escaped old out waiting more new text at letter lt some e f w =
       so_far = ap (λ (l : List ℕ). w.front ++ l) both ∙ sym (append_assoc w.front waiting (92 ∷ letter ∷ [])) ∙ ap (λ (l : List ℕ). l ++ 92 ∷ letter ∷ []) w.so_far ∙ sym (escaped_more text at lt ∙ ap (λ (l : List ℕ). escaped (take at text) ++ l) one);
     }
 
--- At the end what waits is written, and then all is.
-pub ends_written : (old out new waiting text : List ℕ) (at : ℕ) → length text ≤ at → new ≡ out ++ waiting → IsEscaped old out waiting text at → new ≡ old ++ escaped text
-ends_written old out new waiting text at le e w =
-    e ∙ ap (λ (l : List ℕ). l ++ waiting) w.written ∙ append_assoc old w.front waiting ∙ ap (λ (l : List ℕ). old ++ l) (w.so_far ∙ ap escaped (take_all at text le))
-
 -- Where memory ran out, a front of the escaped text is written.
 pub front_written : (old out new waiting text : List ℕ) (at : ℕ) → new ≡ out → IsEscaped old out waiting text at → AppendsFront (escaped text) old new
 front_written old out new waiting text at e w =
     let whole : escaped text ≡ escaped (take at text) ++ escaped (drop at text) = ap escaped (sym (take-append-drop at text)) ∙ flat_map-append escaped_octet (take at text) (drop at text) in
     (w.front, waiting ++ escaped (drop at text), whole ∙ ap (λ (l : List ℕ). l ++ escaped (drop at text)) (sym w.so_far) ∙ append_assoc w.front waiting (escaped (drop at text)), e ∙ w.written)
 
--- Where memory ran out at once, nothing is written.
-pub none_written : (old new text : List ℕ) → new ≡ old → AppendsFront (escaped text) old new
-none_written old new text e = ([], escaped text, refl, e ∙ sym (append-nil old))
-
 -- what holds anyway holds of an answer that is an error
 pub on_err : {T E P : Type 0} (r : Result T E) → P → OnErr r P
 on_err (Ok v) p = tt
 on_err (Err e) p = p
-
--- Before anything is read, all is still read.
-pub reads_all : (r : Result (List ℕ) EscapeFault) → with_front [] r ≡ r
-reads_all (Ok v) = refl
-reads_all (Err e) = refl
 
 -- An octet other than a backslash is read as itself.
 pub reads_plain : (text : List ℕ) (at : ℕ) → at < length text → (get_or text at 0 ≡ 92 → ⊥) → with_front (take at text) (unescaped_from at (drop at text)) ≡ unescaped text

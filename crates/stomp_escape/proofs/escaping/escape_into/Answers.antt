@@ -1,4 +1,4 @@
-use Rattle.std.proofs.Common.{◌≡◌, ℕ, ◌+◌, ◌≤◌, length, take, get_or, set, sym, ◌∙◌, arith, length-set}
+use Rattle.std.proofs.Common.{◌+◌, ◌≤◌, take, get_or, set, sym, ◌∙◌, arith, length-set}
 use Rattle.std.proofs.lemmas.List.{take_more_set}
 use Rattle.std.proofs.lemmas.Grind.{take-set_at}
 use Rattle.stomp_escape.proofs.Waiting.{IsEscaped, flushes, waits_plain, waits_escaped, front_written, on_err}

@@ -1,4 +1,4 @@
-use Rattle.std.proofs.Common.{◌≡◌, ℕ, ◌+◌, ◌≤◌, ◌++◌, [], List, length, take, drop, get_or, set, Ok, refl, sym, ap, ◌∙◌, arith, length-set}
+use Rattle.std.proofs.Common.{◌≡◌, ℕ, ◌+◌, ◌≤◌, ◌++◌, [], List, take, drop, get_or, set, Ok, refl, sym, ap, ◌∙◌, arith, length-set}
 use Rattle.std.proofs.lemmas.List.{take_more_set}
 use Rattle.stomp_escape.specs.Inner.Unescaping.{unescaped, unescaped_after}
 use Rattle.stomp_escape.proofs.Steps.{ends_undefined, ends_cut, ends}
