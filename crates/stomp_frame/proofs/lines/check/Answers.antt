@@ -1,5 +1,4 @@
-use Rattle.std.proofs.Common.{sym, ◌∙◌, rules}
-use Rattle.stomp_frame.specs.Inner.Parser.{checked}
+use Rattle.std.proofs.Common.{sym, ◌∙◌}
 use Rattle.stomp_frame.proofs.Plain.{plain_passes}
 use Rattle.stomp_frame.proofs.lines.check.Goals as goal
 
