@@ -8,8 +8,8 @@ use Rattle.std.proofs.lemmas.List.{append-nil}
 use Rattle.stomp_escape.specs.declared.fault.EscapeFault.{EscapeFault}
 use Rattle.stomp_escape.specs.declared.fault.EscapeFault.TheVariants.{Undefined, Cut, NoMemory}
 use Rattle.stomp_escape.specs.Escape.{letter_of, escaped_octet, escaped, Spells, IsFirstFault, IsSpelled, IsFaulty, IsUnbroken, Gives}
-use Rattle.stomp_escape.specs.Inner.Unescaping.{octet_of, before, unescaped_from, unescaped}
-use Rattle.stomp_escape.proofs.Steps.{with_front, plain_at, escape_at, undefined_at, cut_at, nothing_at}
+use Rattle.stomp_escape.specs.Inner.Unescaping.{octet_of, before, unescaped_from, unescaped, with_front}
+use Rattle.stomp_escape.proofs.Steps.{plain_at, escape_at, undefined_at, cut_at, nothing_at}
 
 -- An escaped text spells what was escaped.
 pub Spells-escaped : (v : List ℕ) → Spells (escaped v) v
@@ -144,10 +144,6 @@ pub Spells-plain : (text : List ℕ) → AllByRecursion (λ (b : ℕ). b ≢ 92)
 Spells-plain [] all = refl
 Spells-plain (b ∷ text) all = (text, Spells-plain text all.1, inr (all.0, refl))
 
--- A text without a backslash is read as itself.
-pub plain_unescaped : (text : List ℕ) → AllByRecursion (λ (b : ℕ). b ≢ 92) text → unescaped text ≡ Ok text
-plain_unescaped text all = read_again text text (Spells-plain text all)
-
 -- Each text spells a value or has a first fault, never both, and only one.
 pub spelled_or_fault : (text : List ℕ) → IsSpelled text ⊎ IsFaulty text
 spelled_or_fault text = by_reading text (unescaped text) (found text 0)
@@ -167,15 +163,6 @@ pub fault-only : (text : List ℕ) (e f : EscapeFault) → IsFirstFault text e �
 fault-only text e f g h =
     let same : Err e ≡ Err f = sym (fault_again text e g) ∙ fault_again text f h in
     cc
-
--- What a call's answer tells of the text fixes the answer of the one reading.
-pub gives_again : (text : List ℕ) (r : Result (List ℕ) EscapeFault) → IfOk r (λ v. Spells text v) → IfErr r (λ e. (e ≡ NoMemory) ⊎ IsFirstFault text e) → Gives r (unescaped text)
-gives_again text (Ok v) s f = read_again text v s
-gives_again text (Err NoMemory) s f = tt
-gives_again text (Err (Undefined at)) s (inr f) = fault_again text (Undefined at) f
-gives_again text (Err (Undefined at)) s (inl same) = absurd (cc)
-gives_again text (Err Cut) s (inr f) = fault_again text Cut f
-gives_again text (Err Cut) s (inl same) = absurd (cc)
 
 -- What is escaped has no CR, LF or colon.
 letter_unbroken : (b c : ℕ) → letter_of b ≡ Some c → (c ≢ 13) × (c ≢ 10) × (c ≢ 58)

@@ -4,12 +4,7 @@ use Rattle.std.proofs.lemmas.Bool.{eq-eqb, ne_eqb}
 use Rattle.std.proofs.lemmas.List.{append-nil, drop_more, nil_from_length, length-drop}
 use Rattle.stomp_escape.specs.declared.fault.EscapeFault.{EscapeFault}
 use Rattle.stomp_escape.specs.declared.fault.EscapeFault.TheVariants.{Undefined, Cut}
-use Rattle.stomp_escape.specs.Inner.Unescaping.{octet_of, before, unescaped_from}
-
--- what was read before, and what is still read
-abbrev pub with_front : List ℕ → Result (List ℕ) EscapeFault → Result (List ℕ) EscapeFault
-with_front front (Ok v) = Ok (front ++ v)
-with_front front (Err e) = Err e
+use Rattle.stomp_escape.specs.Inner.Unescaping.{octet_of, before, unescaped_from, with_front}
 
 -- An octet before what is read is the last of the front before it.
 pub with_front-before : (front : List ℕ) (b : ℕ) (r : Result (List ℕ) EscapeFault) → with_front front (before b r) ≡ with_front (front ++ b ∷ []) r

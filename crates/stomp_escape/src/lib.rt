@@ -7,6 +7,8 @@ mod fault;
 pub mod law;
 mod no_memory;
 mod octets;
+mod room;
+mod short_octets;
 mod unescaping;
 
 pub use escaping::{escape, escape_into};

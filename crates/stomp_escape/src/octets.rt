@@ -3,19 +3,29 @@
 ghost use Rattle.std.specs.Prelude.{◌≡◌, ◌↔◌, ◌++◌, ◌∷◌, [], List, ℕ, length, take, IsTrue, IfOk, OnOk, OnErr};
 
 use crate::no_memory::NoMemory;
+use crate::room::Room;
+use crate::short_octets::{ROOM, ShortOctets};
 use std::alloc::Global;
 use std::marker::Model;
 
-/// A list of octets. In contracts it is that list, of numbers below 256.
+/// How many octets a list that outgrows the value has room for at first, beside those that are appended.
+const FIRST_ROOM: usize = 64;
+
+/// A list of octets; up to 24 lie in the value itself, and take no memory. In contracts it is that list, of numbers
+/// below 256.
 #[derive(Drop)]
 pub struct Octets {
-    bytes: Vec<u8>,
+    alloc: Global,
+    room: Room,
 }
 
 impl Model for Octets {
+    ghost use Rattle.std.specs.Prelude.{List, ℕ};
+    ghost use Rattle.stomp_escape.specs.Inner.Rooms.{octets_in};
+
     ghost Value = { List ℕ };
 
-    ghost view = { λ o. o.bytes.items };
+    ghost view = { λ o. octets_in o.room };
 }
 
 impl Octets {
@@ -24,7 +34,8 @@ impl Octets {
         ensures { result ≡ [] }
     {
         Octets {
-            bytes: Vec::new(alloc),
+            alloc,
+            room: Room::Short(ShortOctets::new()),
         }
     }
 
@@ -33,18 +44,25 @@ impl Octets {
     pub fn with_capacity(alloc: Global, capacity: usize) -> Result<Octets, NoMemory>
         ensures { IfOk result (λ o. o ≡ []) }
     {
-        Ok(Octets {
-            bytes: Vec::with_capacity(alloc, capacity)?,
-        })
+        if capacity <= ROOM {
+            return Ok(Octets::new(alloc));
+        }
+        let room = Room::Long(Vec::with_capacity(alloc, capacity)?);
+        Ok(Octets { alloc, room })
     }
 
     /// A copy of the octets.
     pub fn from_slice(alloc: Global, octets: &[u8]) -> Result<Octets, NoMemory>
         ensures { IfOk result (λ o. o ≡ octets.now) }
     {
-        Ok(Octets {
-            bytes: Vec::from_slice(alloc, octets)?,
-        })
+        if octets.len() > ROOM {
+            let room = Room::Long(Vec::from_slice(alloc, octets)?);
+            return Ok(Octets { alloc, room });
+        }
+        let mut short = ShortOctets::new();
+        short.extend(octets);
+        let room = Room::Short(short);
+        Ok(Octets { alloc, room })
     }
 
     /// Appends one octet. After `NoMemory` the list is what it was.
@@ -52,8 +70,17 @@ impl Octets {
         ensures ok { OnOk result (self.new ≡ self.old ++ octet ∷ []) }
         ensures err { OnErr result (self.new ≡ self.old) }
     {
-        self.bytes.push(octet)?;
-        Ok(())
+        match &mut self.room {
+            Room::Long(octets) => {
+                octets.push(octet)?;
+                Ok(())
+            }
+            Room::Short(octets) if octets.has_room(1) => {
+                octets.push(octet);
+                Ok(())
+            }
+            Room::Short(_) => self.outgrow(&[octet]),
+        }
     }
 
     /// Appends the octets. After `NoMemory` the list is what it was.
@@ -61,7 +88,28 @@ impl Octets {
         ensures ok { OnOk result (self.new ≡ self.old ++ octets.now) }
         ensures err { OnErr result (self.new ≡ self.old) }
     {
-        self.bytes.extend_from_slice(octets)?;
+        match &mut self.room {
+            Room::Long(them) => {
+                them.extend_from_slice(octets)?;
+                Ok(())
+            }
+            Room::Short(them) if them.has_room(octets.len()) => {
+                them.extend(octets);
+                Ok(())
+            }
+            Room::Short(_) => self.outgrow(octets),
+        }
+    }
+
+    /// Appends the octets in memory of the list's own, and moves there those that it has.
+    fn outgrow(&mut self, octets: &[u8]) -> Result<(), NoMemory>
+        ensures ok { OnOk result (self.new ≡ self.old ++ octets.now) }
+        ensures err { OnErr result (self.new ≡ self.old) }
+    {
+        let mut grown = Vec::with_capacity(self.alloc, octets.len().saturating_add(FIRST_ROOM))?;
+        grown.extend_from_slice(self.as_slice())?;
+        grown.extend_from_slice(octets)?;
+        self.room = Room::Long(grown);
         Ok(())
     }
 
@@ -69,7 +117,10 @@ impl Octets {
     pub fn as_slice(&self) -> &[u8]
         ensures { result.now ≡ self.now }
     {
-        self.bytes.as_slice()
+        match &self.room {
+            Room::Short(octets) => octets.as_slice(),
+            Room::Long(octets) => octets.as_slice(),
+        }
     }
 
     /// Keeps the first `len` octets, or all where there are no more, and drops the others. It takes
@@ -77,20 +128,26 @@ impl Octets {
     pub fn truncate(&mut self, len: usize)
         ensures { self.new ≡ take len self.old }
     {
-        self.bytes.truncate(len);
+        match &mut self.room {
+            Room::Short(octets) => octets.truncate(len),
+            Room::Long(octets) => octets.truncate(len),
+        }
     }
 
     /// The number of its octets.
     pub fn len(&self) -> usize
         ensures { result ≡ length self.now }
     {
-        self.bytes.len()
+        match &self.room {
+            Room::Short(octets) => octets.len(),
+            Room::Long(octets) => octets.len(),
+        }
     }
 
     /// Whether it has no octet.
     pub fn is_empty(&self) -> bool
         ensures { IsTrue result ↔ (self.now ≡ []) }
     {
-        self.bytes.is_empty()
+        self.len() == 0
     }
 }

@@ -120,6 +120,43 @@ fn faults_say_what_to_do(rt: HostRuntime) -> Result<(), Fail> {
     Ok(())
 }
 
+/// The letters, as many as a list holds in its own value and one more.
+const LETTERS: &[u8] = b"abcdefghijklmnopqrstuvwxy";
+
+/// Whether a list of the first `len` letters, and then of two more octets, holds just these.
+fn grows_from(alloc: Global, len: usize) -> Result<bool, NoMemory> {
+    let front = &LETTERS[..len.min(LETTERS.len())];
+    let mut octets = Octets::from_slice(alloc, front)?;
+    let made = is(&octets, front);
+    octets.push(b'-')?;
+    octets.extend(b":")?;
+    let last = &octets.as_slice()[octets.len().saturating_sub(2)..];
+    let grown = last == b"-:".as_slice() && octets.len() == front.len() + 2;
+    octets.truncate(front.len());
+    Ok(made && grown && is(&octets, front))
+}
+
+/// Whether a list that is made with room for `len` octets takes all letters, one by one and at once.
+fn takes_letters(alloc: Global, len: usize) -> Result<bool, NoMemory> {
+    let mut pushed = Octets::with_capacity(alloc, len)?;
+    for letter in LETTERS {
+        pushed.push(*letter)?;
+    }
+    let mut extended = Octets::with_capacity(alloc, len)?;
+    extended.extend(LETTERS)?;
+    Ok(is(&pushed, LETTERS) && is(&extended, LETTERS))
+}
+
+/// Up to 24 octets lie in a list's own value: it stays what it is where it outgrows that.
+#[test]
+fn octets_outgrow_their_value(rt: HostRuntime) -> Result<(), Fail> {
+    for len in 21..=25 {
+        assert!(rt; grows_from(rt.alloc(), len)?);
+        assert!(rt; takes_letters(rt.alloc(), len)?);
+    }
+    Ok(())
+}
+
 /// Octets that repeat a piece.
 fn repeated(alloc: Global, piece: &[u8], count: usize) -> Result<Octets, NoMemory> {
     let mut octets = Octets::new(alloc);
@@ -143,23 +180,29 @@ fn memory_is_enough_for_long_escapes(rt: HostRuntime) -> Result<(), Fail> {
     Ok(())
 }
 
+/// Forty octets that have escapes, and the text that spells them: neither fits in a list's own value.
+const LONG_VALUE: &[u8] = b"\r\n:\\\r\n:\\\r\n:\\\r\n:\\\r\n:\\\r\n:\\\r\n:\\\r\n:\\\r\n:\\\r\n:\\";
+
+const LONG_TEXT: &[u8] =
+    b"\\r\\n\\c\\\\\\r\\n\\c\\\\\\r\\n\\c\\\\\\r\\n\\c\\\\\\r\\n\\c\\\\\\r\\n\\c\\\\\\r\\n\\c\\\\\\r\\n\\c\\\\\\r\\n\\c\\\\\\r\\n\\c\\\\";
+
 /// Holds whichever allocation fails: the answer is then `NoMemory`, and never another one.
 #[test]
 fn out_of_memory_changes_no_answer(rt: HostRuntime) {
     let alloc = rt.alloc();
-    if let Ok(text) = escape(alloc, ESCAPED_OCTETS) {
-        assert!(rt; is(&text, FOUR_ESCAPES));
+    if let Ok(text) = escape(alloc, LONG_VALUE) {
+        assert!(rt; is(&text, LONG_TEXT));
     }
-    match unescape(alloc, FOUR_ESCAPES) {
-        Ok(value) => assert!(rt; is(&value, ESCAPED_OCTETS)),
+    match unescape(alloc, LONG_TEXT) {
+        Ok(value) => assert!(rt; is(&value, LONG_VALUE)),
         Err(fault) => assert_eq!(rt; fault, EscapeFault::NoMemory),
     }
     for (text, fault, _) in FAULTY {
         let found = unescape(alloc, text).err();
         assert!(rt; found == Some(fault) || found == Some(EscapeFault::NoMemory));
     }
-    if let Ok(copy) = Octets::from_slice(alloc, FOUR_ESCAPES) {
-        assert!(rt; is(&copy, FOUR_ESCAPES));
+    if let Ok(copy) = Octets::from_slice(alloc, LONG_TEXT) {
+        assert!(rt; is(&copy, LONG_TEXT));
     }
 }
 

@@ -1,14 +1,17 @@
 //! Reading escapes.
 
-ghost use Rattle.std.specs.Prelude.{◌≡◌, ◌⊎◌, ℕ, List, IfOk, IfErr, Ok, Err};
+ghost use Rattle.std.specs.Prelude.{◌≡◌, ◌≤◌, ◌⊎◌, ℕ, List, length, take, drop, IfOk, IfErr, Ok, Err};
 ghost use Rattle.stomp_escape.specs.declared.fault.EscapeFault.{EscapeFault};
 ghost use Rattle.stomp_escape.specs.declared.fault.EscapeFault.TheVariants.{NoMemory};
 ghost use Rattle.stomp_escape.specs.Escape.{Spells, IsFirstFault, Gives};
-ghost use Rattle.stomp_escape.specs.Inner.Unescaping.{octet_of, unescaped};
+ghost use Rattle.stomp_escape.specs.Inner.Unescaping.{octet_of, unescaped, unescaped_after};
 
 use crate::fault::EscapeFault;
 use crate::octets::Octets;
 use std::alloc::Global;
+
+/// How many octets wait at most to be copied at once.
+const WAITING: usize = 64;
 
 /// The octet whose escape has this letter, if there is one.
 fn octet_for(letter: u8) -> Option<u8>
@@ -23,16 +26,38 @@ fn octet_for(letter: u8) -> Option<u8>
     }
 }
 
+/// The number of octets before the first backslash.
+fn plain_front(text: &[u8]) -> usize
+    ensures within { result ≤ length text.now }
+    ensures plain { unescaped_after (take result text.now) result (drop result text.now) ≡ unescaped text.now }
+{
+    for at in 0..text.len() {
+        if text[at] == b'\\' {
+            return at;
+        }
+    }
+    text.len()
+}
+
 /// Reads the text from left to right, up to its first fault.
 fn read(alloc: Global, text: &[u8]) -> Result<Octets, EscapeFault>
     ensures { Gives result (unescaped text.now) }
 {
-    let mut out = Octets::with_capacity(alloc, text.len())?;
-    // The octets from `start` up to `at` are read as themselves, and wait to be copied at once.
-    let mut start = 0;
-    let mut at = 0;
+    let mut at = plain_front(text);
+    let mut out = Octets::from_slice(alloc, &text[..at])?;
+    if at == text.len() {
+        return Ok(out);
+    }
+    // What was read, and waits to be copied at once: `n` octets.
+    let mut waiting = [0u8; WAITING];
+    let mut n = 0;
     while at < text.len() {
+        if n == WAITING {
+            out.extend(&waiting[..n])?;
+            n = 0;
+        }
         if text[at] != b'\\' {
+            waiting[n] = text[at];
             at += 1;
         } else if at + 1 == text.len() {
             return Err(EscapeFault::Cut);
@@ -40,13 +65,12 @@ fn read(alloc: Global, text: &[u8]) -> Result<Octets, EscapeFault>
             let Some(octet) = octet_for(text[at + 1]) else {
                 return Err(EscapeFault::Undefined(at));
             };
-            out.extend(&text[start..at])?;
-            out.push(octet)?;
+            waiting[n] = octet;
             at += 2;
-            start = at;
         }
+        n += 1;
     }
-    out.extend(&text[start..])?;
+    out.extend(&waiting[..n])?;
     Ok(out)
 }
 

@@ -9,6 +9,7 @@ pub mod Unfound
 pub mod PartialFrames
 pub mod Pieces
 pub mod Breaks
+pub mod Plain
 pub mod Eols
 pub mod Loop
 pub mod Steady

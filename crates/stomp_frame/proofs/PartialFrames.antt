@@ -88,14 +88,6 @@ eols_more rest more =
     let front = flat_map eol t.0 in
     ap (λ (r : List ℕ). after_eols (r ++ more)) t.1 ∙ ap after_eols (append_assoc front (after_eols rest) more) ∙ eols_again t.0 (after_eols rest ++ more)
 
--- the frame begins after the end-of-lines
-pub front_later : (limits : Limits) (text : List ℕ) (awaited : Awaited) (headers : List Header) (parsed searched front start : ℕ) → awaited ≡ awaits.CommandLine → IsReadUpTo limits (drop front text) awaited headers parsed searched → IsReadUpTo limits (drop start text) awaited headers parsed 0
-front_later limits text awaited headers parsed searched front start s h =
-    let begun = subst (λ (s : Awaited). HasBegun (drop front text) s headers parsed) s h.begun in
-    subst (λ (s : Awaited). IsReadUpTo limits (drop start text) s headers parsed 0) (sym s)
-    (subst (λ (hs : List Header). IsReadUpTo limits (drop start text) awaits.CommandLine hs parsed 0) (sym begun.0)
-    (subst (λ (k : ℕ). IsReadUpTo limits (drop start text) awaits.CommandLine [] k 0) (sym begun.1) (read_up_to_none limits (drop start text))))
-
 shorter : (text : List ℕ) (front start : ℕ) → front ≤ length text → start ≤ length text → drop start text ≡ after_eols (drop front text) → front ≤ start
 shorter text front start w v e =
     let t = eols_take (drop front text) in

@@ -5,6 +5,7 @@ use Rattle.std.specs.List.{list_any}
 use Rattle.std.specs.Str.{bytes_eq}
 use Rattle.std.proofs.lemmas.Grind.{flat_map-append}
 use Rattle.std.proofs.lemmas.List.Folds.{list_any-append}
+use Rattle.stomp_escape.specs.Escape.{escaped}
 use Rattle.stomp_frame.specs.Headers.{Header}
 use Rattle.stomp_frame.specs.Writing.{header_line, header_lines, spelled, Extends}
 use Rattle.stomp_frame.specs.ServerFrames.{optional, first_entries, kept_back, message_id, receipt_frame, error_frame}
@@ -52,36 +53,39 @@ split : (xs ys : List Header) (tail : List ℕ) → lines (xs ++ ys) ++ tail ≡
 split xs ys tail = ap (λ (t : List ℕ). t ++ tail) (flat_map-append (λ h. header_line true h ++ 10 ∷ []) xs ys) ∙ append_assoc (lines xs) (lines ys) tail
 
 -- a RECEIPT, appended in parts
-pub receipt_put : (old a b e id : List ℕ) → a ≡ old ++ (codes "RECEIPT" ++ 10 ∷ []) → b ≡ a ++ line_of (codes "receipt-id") id → e ≡ b ++ 10 ∷ 0 ∷ [] → e ≡ old ++ spelled (receipt_frame id)
-receipt_put old a b e id p q r =
+pub receipt_put : (old b e id : List ℕ) → b ≡ old ++ (codes "RECEIPT\nreceipt-id:" ++ (escaped id ++ 10 ∷ [])) → e ≡ b ++ 10 ∷ 0 ∷ [] → e ≡ old ++ spelled (receipt_frame id)
+receipt_put old b e id p q =
     let word = codes "RECEIPT" ++ 10 ∷ [] in
     let line = line_of (codes "receipt-id") id in
     let tail = 10 ∷ 0 ∷ [] in
-    r ∙ ap (λ (t : List ℕ). t ++ tail) (q ∙ ap (λ (t : List ℕ). t ++ line) p)
-    ∙ append_assoc (old ++ word) line tail ∙ append_assoc old word (line ++ tail)
-    ∙ ap (λ (t : List ℕ). old ++ (word ++ t)) (sym (append_assoc line [] tail))
+    let first : codes "RECEIPT\nreceipt-id:" ++ (escaped id ++ 10 ∷ []) ≡ word ++ line = ap (λ (t : List ℕ). codes "RECEIPT\nreceipt-id:" ++ t) refl in
+    q ∙ ap (λ (t : List ℕ). t ++ tail) (p ∙ ap (λ (t : List ℕ). old ++ t) first)
+    ∙ append_assoc old (word ++ line) tail
+    ∙ ap (λ (t : List ℕ). old ++ t) (append_assoc word line tail ∙ ap (λ (t : List ℕ). word ++ t) (sym (append_assoc line [] tail)))
 
 -- a MESSAGE's headers, appended in parts
-pub headers_put : (old a b c d e subscription id : List ℕ) (destination : Option (List ℕ)) (size : List ℕ) (others : List Header) → a ≡ old ++ line_of (codes "subscription") subscription → b ≡ a ++ line_of (codes "message-id") id
+pub headers_put : (old a b c d e subscription id : List ℕ) (destination : Option (List ℕ)) (size : List ℕ) (others : List Header) → a ≡ old ++ (codes "MESSAGE\nsubscription:" ++ (escaped subscription ++ 10 ∷ [])) → b ≡ a ++ line_of (codes "message-id") id
     → c ≡ b ++ lines (optional (codes "destination") destination) → d ≡ c ++ line_of (codes "content-length") size → e ≡ d ++ lines others
-    → e ≡ old ++ lines ((codes "subscription", subscription) ∷ (codes "message-id", id) ∷ (optional (codes "destination") destination ++ (codes "content-length", size) ∷ others))
+    → e ≡ old ++ (codes "MESSAGE\n" ++ lines ((codes "subscription", subscription) ∷ (codes "message-id", id) ∷ (optional (codes "destination") destination ++ (codes "content-length", size) ∷ others)))
 headers_put old a b c d e subscription id destination size others pa pb pc pd pe =
     let s = line_of (codes "subscription") subscription in
+    let word = codes "MESSAGE\n" in
     let i = line_of (codes "message-id") id in
     let own = optional (codes "destination") destination in
     let l = line_of (codes "content-length") size in
     let last = lines others in
     pe ∙ ap (λ (t : List ℕ). t ++ last) (pd ∙ ap (λ (t : List ℕ). t ++ l) (pc ∙ ap (λ (t : List ℕ). t ++ lines own) (pb ∙ ap (λ (t : List ℕ). t ++ i) pa)))
-    ∙ append_assoc (((old ++ s) ++ i) ++ lines own) l last
-    ∙ append_assoc ((old ++ s) ++ i) (lines own) (l ++ last)
-    ∙ append_assoc (old ++ s) i (lines own ++ (l ++ last))
-    ∙ append_assoc old s (i ++ (lines own ++ (l ++ last)))
-    ∙ ap (λ (t : List ℕ). old ++ (s ++ (i ++ t))) (sym (flat_map-append (λ h. header_line true h ++ 10 ∷ []) own ((codes "content-length", size) ∷ others)))
+    ∙ append_assoc (((old ++ (word ++ s)) ++ i) ++ lines own) l last
+    ∙ append_assoc ((old ++ (word ++ s)) ++ i) (lines own) (l ++ last)
+    ∙ append_assoc (old ++ (word ++ s)) i (lines own ++ (l ++ last))
+    ∙ append_assoc old (word ++ s) (i ++ (lines own ++ (l ++ last)))
+    ∙ ap (λ (t : List ℕ). old ++ t) (append_assoc word s (i ++ (lines own ++ (l ++ last))))
+    ∙ ap (λ (t : List ℕ). old ++ (word ++ (s ++ (i ++ t)))) (sym (flat_map-append (λ h. header_line true h ++ 10 ∷ []) own ((codes "content-length", size) ∷ others)))
 
 -- an ERROR, appended in parts
-pub error_put : (old a b c d e message : List ℕ) (receipt : Option (List ℕ)) (version : Bool) → a ≡ old ++ (codes "ERROR" ++ 10 ∷ []) → b ≡ a ++ line_of (codes "message") message → c ≡ b ++ lines (optional (codes "receipt-id") receipt)
+pub error_put : (old b c d e message : List ℕ) (receipt : Option (List ℕ)) (version : Bool) → b ≡ old ++ (codes "ERROR\nmessage:" ++ (escaped message ++ 10 ∷ [])) → c ≡ b ++ lines (optional (codes "receipt-id") receipt)
     → d ≡ c ++ lines (optional (codes "version") (if version then Some (codes "1.2") else None)) → e ≡ d ++ (codes "content-length:0" ++ 10 ∷ 10 ∷ 0 ∷ []) → e ≡ old ++ spelled (error_frame message receipt version)
-error_put old a b c d e message receipt version pa pb pc pd pe =
+error_put old b c d e message receipt version pb pc pd pe =
     let word = codes "ERROR" ++ 10 ∷ [] in
     let asked = optional (codes "receipt-id") receipt in
     let told = optional (codes "version") (if version then Some (codes "1.2") else None) in
@@ -89,7 +93,7 @@ error_put old a b c d e message receipt version pa pb pc pd pe =
     let tail = 10 ∷ 0 ∷ [] in
     let first = line_of (codes "message") message in
     let ending = lines last ++ tail in
-    pe ∙ ap (λ (t : List ℕ). t ++ ending) (pd ∙ ap (λ (t : List ℕ). t ++ lines told) (pc ∙ ap (λ (t : List ℕ). t ++ lines asked) (pb ∙ ap (λ (t : List ℕ). t ++ first) pa)))
+    pe ∙ ap (λ (t : List ℕ). t ++ ending) (pd ∙ ap (λ (t : List ℕ). t ++ lines told) (pc ∙ ap (λ (t : List ℕ). t ++ lines asked) (pb ∙ sym (append_assoc old word first))))
     ∙ append_assoc ((((old ++ word) ++ first) ++ lines asked)) (lines told) ending
     ∙ append_assoc ((old ++ word) ++ first) (lines asked) (lines told ++ ending)
     ∙ append_assoc (old ++ word) first (lines asked ++ (lines told ++ ending))

@@ -1,15 +1,18 @@
 //! Cutting a text into lines.
 
 ghost use Rattle.std.specs.Prelude.{◌≡◌, ◌<◌, ◌≤◌, ◌+◌, length, take, drop, slice_index, ◌==◌, ◌&&◌, ◌||◌, Some, IfOk, IfSome, IsNone};
-ghost use Rattle.std.specs.List.{list_any};
+ghost use Rattle.std.specs.List.{list_all, list_any};
 ghost use Rattle.std.specs.Option.{option_map};
 ghost use Rattle.std.specs.Str.{is_utf8};
-ghost use Rattle.stomp_frame.specs.Inner.Parser.{Returns, cut, without_cr, checked, line_at, after_eols};
+ghost use Rattle.stomp_frame.specs.Inner.Parser.{Returns, cut, without_cr, is_plain, checked, line_at, after_eols};
 ghost use Rattle.stomp_frame.specs.Inner.PartialFrames.{IsUnfound};
 
 use crate::fault::{Check, Stop};
 use crate::limits::Limits;
 use memchr::{memchr, memchr2};
+
+/// A content of fewer octets is looked at octet by octet at first; a search for many at once begins at this length.
+const SHORT: usize = 32;
 
 /// What comes before the first such octet, and what comes after it.
 pub(crate) fn split_at_first(octet: u8, text: &[u8]) -> Option<(&[u8], &[u8])>
@@ -43,6 +46,13 @@ fn has_cr_or_null(content: &[u8]) -> bool
     memchr2(b'\r', 0, content).is_some()
 }
 
+/// Whether each octet is of ASCII, and none is CR or NULL.
+fn is_plain(content: &[u8]) -> bool
+    ensures { result ≡ list_all is_plain content.now }
+{
+    content.iter().all(|b| *b < 128 && *b != b'\r' && *b != 0)
+}
+
 /// The content of a line, if it passes the checks of any line.
 #[tactic(auto, unfolding(crate::specs::Inner::Parser::checked))]
 fn check<'a>(limits: &Limits, content: &'a [u8]) -> Result<&'a [u8], Stop>
@@ -50,6 +60,9 @@ fn check<'a>(limits: &Limits, content: &'a [u8]) -> Result<&'a [u8], Stop>
 {
     if content.len() > limits.line {
         return Err(Stop::Fault(Check::LineTooLong));
+    }
+    if content.len() < SHORT && is_plain(content) {
+        return Ok(content);
     }
     if has_cr_or_null(content) {
         return Err(Stop::Fault(Check::BadLine));

@@ -16,15 +16,12 @@ use crate::writer::put_header;
 use itoa::Buffer;
 use stomp_escape::{NoMemory, Octets, escape_into};
 
-/// Appends a header whose name has nothing to escape.
-fn put_plain_name(name: &[u8], value: &[u8], out: &mut Octets) -> Result<(), NoMemory>
-    requires { escaped name.now ≡ name.now }
-    ensures ok { OnOk result
-        (out.new ≡ out.old ++ (header_line true (name.now, value.now) ++ 10 ∷ [])) }
+/// Appends what stands before a value, the value with its escapes, and LF.
+fn put_value(front: &[u8], value: &[u8], out: &mut Octets) -> Result<(), NoMemory>
+    ensures ok { OnOk result (out.new ≡ out.old ++ (front.now ++ (escaped value.now ++ 10 ∷ []))) }
     ensures err { OnErr result (Extends out.old out.new) }
 {
-    out.extend(name)?;
-    out.push(b':')?;
+    out.extend(front)?;
     escape_into(value, out)?;
     out.push(b'\n')
 }
@@ -87,12 +84,12 @@ fn put_destination(sent: &Headers, out: &mut Octets) -> Result<(), NoMemory>
     ensures err { OnErr result (Extends out.old out.new) }
 {
     match sent.first(b"destination") {
-        Some(destination) => put_plain_name(b"destination", destination, out),
+        Some(destination) => put_value(b"destination:", destination, out),
         None => Ok(()),
     }
 }
 
-/// Appends the headers of a MESSAGE.
+/// Appends the command and the headers of a MESSAGE.
 fn put_message_headers(
     subscription: &[u8],
     n: u64,
@@ -102,11 +99,11 @@ fn put_message_headers(
     len: usize,
     out: &mut Octets,
 ) -> Result<(), NoMemory>
-    ensures ok { OnOk result (out.new ≡ out.old ++ header_lines true
-        (message_headers subscription.now (message_id n topic index) sent.now len)) }
+    ensures ok { OnOk result (out.new ≡ out.old ++ (codes "MESSAGE\n" ++ header_lines true
+        (message_headers subscription.now (message_id n topic index) sent.now len))) }
     ensures err { OnErr result (Extends out.old out.new) }
 {
-    put_plain_name(b"subscription", subscription, out)?;
+    put_value(b"MESSAGE\nsubscription:", subscription, out)?;
     put_message_id(n, topic, index, out)?;
     put_destination(sent, out)?;
     put_content_length(len, out)?;
@@ -127,7 +124,6 @@ fn put_message(
         (message_frame subscription.now (message_id n topic index) sent.now body.now)) }
     ensures err { OnErr result (Extends out.old out.new) }
 {
-    out.extend(b"MESSAGE\n")?;
     put_message_headers(subscription, n, topic, index, sent, body.len(), out)?;
     out.push(b'\n')?;
     out.extend(body)?;
@@ -139,8 +135,7 @@ fn put_receipt(id: &[u8], out: &mut Octets) -> Result<(), NoMemory>
     ensures ok { OnOk result (out.new ≡ out.old ++ spelled (receipt_frame id.now)) }
     ensures err { OnErr result (Extends out.old out.new) }
 {
-    out.extend(b"RECEIPT\n")?;
-    put_plain_name(b"receipt-id", id, out)?;
+    put_value(b"RECEIPT\nreceipt-id:", id, out)?;
     out.extend(b"\n\0")
 }
 
@@ -151,7 +146,7 @@ fn put_receipt_id(receipt: Option<&[u8]>, out: &mut Octets) -> Result<(), NoMemo
     ensures err { OnErr result (Extends out.old out.new) }
 {
     match receipt {
-        Some(receipt) => put_plain_name(b"receipt-id", receipt, out),
+        Some(receipt) => put_value(b"receipt-id:", receipt, out),
         None => Ok(()),
     }
 }
@@ -180,8 +175,7 @@ fn put_error(
         (error_frame message.now (option_map (λ r. r.now) receipt.entry) version)) }
     ensures err { OnErr result (Extends out.old out.new) }
 {
-    out.extend(b"ERROR\n")?;
-    put_plain_name(b"message", message, out)?;
+    put_value(b"ERROR\nmessage:", message, out)?;
     put_receipt_id(receipt, out)?;
     put_version(version, out)?;
     out.extend(b"content-length:0\n\n\0")

@@ -1,7 +1,7 @@
 -- Only serves proofs: reading a spelling from left to right, up to the first fault. No public contract
 -- names this reading. What a text means is said by Spells and IsFirstFault (specs/Escape.antt);
 -- proofs/Laws.antt ties the two.
-use Rattle.std.specs.Prelude.{ℕ, ◌+◌, List, [], ◌∷◌, Option, Some, None, Result, Ok, Err, ◌==◌, if◌then◌else◌}
+use Rattle.std.specs.Prelude.{ℕ, ◌+◌, List, [], ◌∷◌, ◌++◌, Option, Some, None, Result, Ok, Err, ◌==◌, if◌then◌else◌}
 use Rattle.std.specs.Option.{option_map_or}
 use Rattle.stomp_escape.specs.declared.fault.EscapeFault.{EscapeFault}
 use Rattle.stomp_escape.specs.declared.fault.EscapeFault.TheVariants.{Undefined, Cut}
@@ -32,3 +32,12 @@ unescaped_from at (b ∷ c ∷ rest) =
 -- the reading of a whole text
 abbrev pub unescaped : List ℕ → Result (List ℕ) EscapeFault
 unescaped text = unescaped_from 0 text
+
+-- what was read, and what is read of the text after it
+abbrev pub with_front : List ℕ → Result (List ℕ) EscapeFault → Result (List ℕ) EscapeFault
+with_front front (Ok v) = Ok (front ++ v)
+with_front front (Err e) = Err e
+
+-- the reading of a text whose octets before this place are read as this front
+abbrev pub unescaped_after : List ℕ → ℕ → List ℕ → Result (List ℕ) EscapeFault
+unescaped_after front at rest = with_front front (unescaped_from at rest)

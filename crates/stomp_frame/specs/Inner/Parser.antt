@@ -1,6 +1,6 @@
 -- Only serves proofs: the reading of a text as a function, with the first check that fails. No public
 -- contract speaks of it: those speak of Grammar and Checks, to which proofs tie it.
-use Rattle.std.specs.Prelude.{◌≡◌, ℕ, ◌+◌, ◌-◌, zero, suc, Bool, true, false, ◌&&◌, ◌||◌, ◌==◌, nat_lt, nat_le, List, [], ◌∷◌, length, take, drop, slice_index, Option, Some, None, Result, Ok, Err, find, if◌then◌else◌}
+use Rattle.std.specs.Prelude.{◌≡◌, ℕ, ◌+◌, ◌-◌, zero, suc, Bool, true, false, not, ◌&&◌, ◌||◌, ◌==◌, nat_lt, nat_le, List, [], ◌∷◌, length, take, drop, slice_index, Option, Some, None, Result, Ok, Err, find, if◌then◌else◌}
 use Rattle.std.specs.List.{list_any}
 use Rattle.std.specs.Option.{option_map, option_map_or}
 use Rattle.std.specs.Str.{is_utf8, bytes_eq}
@@ -46,6 +46,10 @@ cut b (x ∷ text) = if x == b then Some ([], text) else option_map (λ p. (x �
 -- without one CR at its end
 abbrev pub without_cr : List ℕ → List ℕ
 without_cr line = if slice_index line (length line - 1) == 13 then take (length line - 1) line else line
+
+-- an octet of ASCII, other than CR and NULL
+abbrev pub is_plain : ℕ → Bool
+is_plain b = nat_lt b 128 && not (b == 13) && not (b == 0)
 
 -- a line's content, if it passes
 unfoldable pub checked : Limits → List ℕ → Result (List ℕ) Halt

@@ -18,6 +18,18 @@ const EXAMPLES: [Row; 2] = [
     ),
 ];
 
+/// What a client sends that commits a transaction to two topics, and the MESSAGE that a subscriber of one of them gets.
+const TRANSACTION: [Row; 2] = [
+    (
+        b"CONNECT\naccept-version:1.2\nhost:h\n\n\0SUBSCRIBE\nid:b\ndestination:B\n\n\0BEGIN\ntransaction:x\n\n\0SEND\ndestination:A\ntransaction:x\n\nm1\0SEND\ndestination:B\ntransaction:x\n\nm1\0COMMIT\ntransaction:x\nreceipt:r1\n\n\0",
+        b"CONNECT[accept-version=1.2][host=h]()SUBSCRIBE[id=b][destination=B]()BEGIN[transaction=x]()SEND[destination=A][transaction=x](m1)SEND[destination=B][transaction=x](m1)COMMIT[transaction=x][receipt=r1]().",
+    ),
+    (
+        b"MESSAGE\nsubscription:b\nmessage-id:10.0.1\ndestination:B\ncontent-length:2\n\nm1\0",
+        b"MESSAGE[subscription=b][message-id=10.0.1][destination=B][content-length=2](m1).",
+    ),
+];
+
 /// A frame of each command, with escapes, end-of-lines of both forms, and bodies of both kinds.
 const FRAMES: [Row; 15] = [
     (
@@ -258,6 +270,9 @@ fn streams_cut_anywhere(rt: HostRuntime) -> Result<(), Fail> {
     for row in EXAMPLES {
         assert!(rt; holds(rt.alloc(), Limits::standard(), row)?);
     }
+    for row in TRANSACTION {
+        assert!(rt; holds(rt.alloc(), Limits::standard(), row)?);
+    }
     Ok(())
 }
 
@@ -372,6 +387,11 @@ fn next_length(alloc: Global, reader: &mut FrameReader) -> Result<Option<usize>,
     }
 }
 
+/// Two frames with bodies of 32 and of 34 octets. Names, values and bodies are longer than what an `Octets` holds in
+/// its own value.
+const LONG_FRAMES: &[u8] =
+    b"\r\nSEND\r\na-name-that-is-rather-long:\\ca-value-that-is-rather-long\nm:\xe2\x82\xac\n\na body of thirty-two octets, all\0\nSEND\ncontent-length:34\n\na\0body\0of\0thirty-four octets, all.\0\n";
+
 /// Holds whichever allocation fails, in each state of the reader: the call answers out of memory, and succeeds when it
 /// is made again.
 #[test]
@@ -379,13 +399,13 @@ fn out_of_memory_at_each_octet(rt: HostRuntime) -> Result<(), Fail> {
     let alloc = rt.alloc();
     let mut reader = FrameReader::new(alloc, Limits::standard());
     let mut lengths = 0;
-    for octet in b"\r\nSEND\r\nk:\\c\nm:\xe2\x82\xac\n\nhi\0\nSEND\ncontent-length:3\n\na\0b\0\n" {
+    for octet in LONG_FRAMES {
         assert!(rt; feeds(&mut reader, *octet));
         if let Some(length) = next_length(alloc, &mut reader)? {
             lengths = (lengths % 10) * 10 + length % 10;
         }
     }
-    assert_eq!(rt; lengths, 23);
+    assert_eq!(rt; lengths, 24);
     assert!(rt; reader.clean());
     Ok(())
 }

@@ -351,14 +351,19 @@ fn out_of_memory_leaves_nothing(rt: HostRuntime) {
     let alloc = rt.alloc();
     let mut out = Octets::new(alloc);
     for _ in 0..20u8 {
-        let Ok(frame) = raw(alloc, Command::Begin, &[(b"a", b":"), (b"bc", b"d\n")], b"") else {
+        let Ok(frame) = raw(
+            alloc,
+            Command::Begin,
+            &[(b"a", b":"), (b"bc", b"a value that is rather long\n")],
+            b"",
+        ) else {
             continue;
         };
         assert!(rt; writable(&frame));
         let before = out.len();
         let whole = write_frame(&frame, &mut out).is_ok();
         let want = if whole {
-            b"BEGIN\na:\\c\nbc:d\\n\n\n\0".as_slice()
+            b"BEGIN\na:\\c\nbc:a value that is rather long\\n\n\n\0".as_slice()
         } else {
             b""
         };

@@ -8,6 +8,9 @@ use std::process::Abort;
 use std::test::Fail;
 use stomp_frame::{ClientFrame, Command, Headers, NoMemory};
 
+/// A text that doesn't fit in an `Octets` itself, so that its list takes memory.
+const LONG: &[u8] = b"a text that is rather long";
+
 /// A frame, and the script of the frames before it.
 #[derive(Clone, Copy)]
 struct Row {
@@ -86,7 +89,7 @@ fn a_subscribe_without_memory(rt: HostRuntime) {
     let row = Row {
         script: b"c..",
         command: Command::Subscribe,
-        pairs: &[(b"id", b"a"), (b"destination", b"A"), (b"receipt", b"r")],
+        pairs: &[(b"id", LONG), (b"destination", b"A"), (b"receipt", LONG)],
         body: b"",
     };
     is_refused_once(&rt, rt.alloc(), &row);
@@ -97,7 +100,7 @@ fn a_begin_without_memory(rt: HostRuntime) {
     let row = Row {
         script: b"c..",
         command: Command::Begin,
-        pairs: &[(b"transaction", b"x"), (b"receipt", b"r")],
+        pairs: &[(b"transaction", LONG), (b"receipt", LONG)],
         body: b"",
     };
     is_refused_once(&rt, rt.alloc(), &row);
@@ -108,8 +111,8 @@ fn a_lone_send_without_memory(rt: HostRuntime) {
     let row = Row {
         script: b"c..",
         command: Command::Send,
-        pairs: &[(b"destination", b"A"), (b"receipt", b"r")],
-        body: b"hi",
+        pairs: &[(b"destination", b"A"), (b"receipt", LONG)],
+        body: LONG,
     };
     is_refused_once(&rt, rt.alloc(), &row);
 }
@@ -122,9 +125,9 @@ fn a_send_in_a_transaction_without_memory(rt: HostRuntime) {
         pairs: &[
             (b"destination", b"A"),
             (b"transaction", b"x"),
-            (b"receipt", b"r"),
+            (b"receipt", LONG),
         ],
-        body: b"hi",
+        body: LONG,
     };
     is_refused_once(&rt, rt.alloc(), &row);
 }
@@ -134,7 +137,7 @@ fn a_commit_without_memory(rt: HostRuntime) {
     let row = Row {
         script: b"c..,bx.,mAx,mBx",
         command: Command::Commit,
-        pairs: &[(b"transaction", b"x"), (b"receipt", b"r")],
+        pairs: &[(b"transaction", b"x"), (b"receipt", LONG)],
         body: b"",
     };
     is_refused_once(&rt, rt.alloc(), &row);
@@ -145,7 +148,7 @@ fn a_commit_without_sends_takes_none(rt: HostRuntime) {
     let row = Row {
         script: b"c..,bx.",
         command: Command::Commit,
-        pairs: &[(b"transaction", b"x"), (b"receipt", b"r")],
+        pairs: &[(b"transaction", b"x"), (b"receipt", LONG)],
         body: b"",
     };
     assert!(rt; !is_refused_once(&rt, rt.alloc(), &row));
@@ -167,7 +170,7 @@ fn an_unsubscribe_takes_none(rt: HostRuntime) {
     let row = Row {
         script: b"c..,saA,sbB",
         command: Command::Unsubscribe,
-        pairs: &[(b"id", b"a"), (b"receipt", b"r")],
+        pairs: &[(b"id", b"a"), (b"receipt", LONG)],
         body: b"",
     };
     assert!(rt; !is_refused_once(&rt, rt.alloc(), &row));
@@ -178,7 +181,7 @@ fn an_abort_takes_none(rt: HostRuntime) {
     let row = Row {
         script: b"c..,bx.,mAx",
         command: Command::Abort,
-        pairs: &[(b"transaction", b"x"), (b"receipt", b"r")],
+        pairs: &[(b"transaction", b"x"), (b"receipt", LONG)],
         body: b"",
     };
     assert!(rt; !is_refused_once(&rt, rt.alloc(), &row));
@@ -189,7 +192,7 @@ fn a_disconnect_takes_none(rt: HostRuntime) {
     let row = Row {
         script: b"c..,saA,bx.,mAx",
         command: Command::Disconnect,
-        pairs: &[(b"receipt", b"r")],
+        pairs: &[(b"receipt", LONG)],
         body: b"",
     };
     assert!(rt; !is_refused_once(&rt, rt.alloc(), &row));

@@ -1,32 +1,42 @@
-use Rattle.std.proofs.Common.{◌≡◌, ◌+◌, ◌++◌, arith, sym, ap, ◌∙◌, List, ℕ, ◌∷◌, []}
-use Rattle.stomp_escape.proofs.Runs.{joins_run, ends_run, with_run, nothing_waits, front_written, on_err, run}
-use Rattle.stomp_escape.proofs.escaping.escape_into.Goals.{in-Some+in_ok-extend+in_ok-extend-2, in_default}
+use Rattle.std.proofs.Common.{◌+◌, ◌≤◌, take, get_or, set, sym, ◌∙◌, arith, length-set}
+use Rattle.std.proofs.lemmas.List.{take_more_set}
+use Rattle.std.proofs.lemmas.Grind.{take-set_at}
+use Rattle.stomp_escape.proofs.Waiting.{IsEscaped, flushes, waits_plain, waits_escaped, front_written, on_err}
+use Rattle.stomp_escape.proofs.escaping.escape_into.Goals.{then-n-gt-WAITING+in_ok-extend-2, else-n-gt-WAITING, in-Some, in_default}
 use Rattle.stomp_escape.proofs.escaping.escape_into.Goals as goal
 
-pub returns-in_err-extend-clause-err : goal.returns-in_err-extend-clause-err
-returns-in_err-extend-clause-err c =
-    let same = c.in_err-extend.ensures.err ∙ c.loop-at.invariant.written in
-    on_err c.from_residual.result (front_written c.args.out.now c.extend.new.self c.args.text.now c.loop-at.start same)
-
 pub returns-in_err-extend-2-clause-err : goal.returns-in_err-extend-2-clause-err
-returns-in_err-extend-2-clause-err c =
-    let more = with_run c.args.out.now c.loop-at.out c.args.text.now c.loop-at.start c.loop-at.at c.loop-at.invariant.written c.loop-at.invariant.plain in
-    let same = c.in_err-extend-2.ensures.err ∙ c.in_ok-extend.ensures.ok ∙ more in
-    on_err c.from_residual-in_err-extend-2.result (front_written c.args.out.now c.extend-in-Some.new.self c.args.text.now c.loop-at.at same)
+returns-in_err-extend-2-clause-err c = on_err c.from_residual-in_err-extend-2.result (front_written c.args.out.now c.loop-at.out c.extend-then-n-gt-WAITING.new.self (take c.loop-at.n c.loop-at.waiting) c.args.text.now c.loop-at.at c.in_err-extend-2.ensures.err c.loop-at.invariant.waits)
 
 pub loop-at-preserved : goal.loop-at-preserved
-loop-at-preserved c = elim c.match-letter_for.branch [
-  | in-Some+in_ok-extend+in_ok-extend-2 w ↦ record {
-    ordered = omega arith;
-    written =
-        let front : w.extend.new.self ≡ c.loop-at.out ++ run c.args.text.now c.loop-at.start c.loop-at.at = w.in_ok-extend.ensures.ok in
-        let all = ends_run c.args.out.now c.loop-at.out c.args.text.now c.loop-at.start c.loop-at.at w.in-Some.letter c.loop-at-test.true (sym w.in-Some.ensures) c.loop-at.invariant.written c.loop-at.invariant.plain in
-        rw (w.out-is, w.start-is) (w.in_ok-extend-2.ensures.ok ∙ ap (λ (l : List ℕ). l ++ 92 ∷ w.in-Some.letter ∷ []) front ∙ all);
-    plain = rw w.start-is (nothing_waits c.args.text.now (c.loop-at.at + 1));
-  }
-  | in_default w ↦ record {
-    ordered = omega arith;
-    written = rw (w.out-is, w.start-is) c.loop-at.invariant.written;
-    plain = rw w.start-is (joins_run c.args.text.now c.loop-at.start c.loop-at.at c.loop-at.invariant.ordered c.loop-at-test.true (sym w.in_default.ensures) c.loop-at.invariant.plain);
-  }
-]
+loop-at-preserved c =
+    let old = c.args.out.now in
+    let text = c.args.text.now in
+    let at = c.loop-at.at in
+    let waiting = c.loop-at.waiting in
+    let n = c.if-n-gt-WAITING.n in
+    let out = c.if-n-gt-WAITING.out in
+    let now : (n + 2 ≤ 64) × IsEscaped old out (take n waiting) text at = elim c.if-n-gt-WAITING.branch [
+      | then-n-gt-WAITING+in_ok-extend-2 w ↦ rw (w.out-is, w.n-is) (omega arith, flushes old c.loop-at.out w.extend-then-n-gt-WAITING.new.self (take c.loop-at.n waiting) text at w.in_ok-extend-2.ensures.ok c.loop-at.invariant.waits)
+      | else-n-gt-WAITING w ↦ rw (w.out-is, w.n-is) (omega arith, c.loop-at.invariant.waits)
+    ] in
+    elim c.match-letter_for.branch [
+      | in-Some w ↦
+          let letter = w.in-Some.letter in
+          let one = set waiting n 92 in
+          let size = length-set waiting n 92 in
+          let more = take_more_set waiting n 92 (omega (arith, now.0, c.loop-at.invariant.sized)) in
+          let both = take-set_at one (n + 1) (n + 2) letter (omega arith) (omega (arith, size, now.0, c.loop-at.invariant.sized)) in
+          rw (w.waiting-is, w.n-is) (record {
+            room = now.0;
+            sized = length-set one (n + 1) letter ∙ size ∙ c.loop-at.invariant.sized;
+            waits = waits_escaped old out (take n waiting) (take (n + 1) one) (take (n + 2) (set one (n + 1) letter)) text at letter c.loop-at-test.true (sym w.in-Some.ensures) more both now.1;
+          })
+      | in_default w ↦
+          let b = get_or text at 0 in
+          rw (w.waiting-is, w.n-is) (record {
+            room = omega (arith, now.0);
+            sized = length-set waiting n b ∙ c.loop-at.invariant.sized;
+            waits = waits_plain old out (take n waiting) (take (n + 1) (set waiting n b)) text at c.loop-at-test.true (sym w.in_default.ensures) (take_more_set waiting n b (omega (arith, now.0, c.loop-at.invariant.sized))) now.1;
+          })
+    ]

@@ -1,13 +1,13 @@
 use Rattle.std.proofs.Common.{length, ◌-◌, ◌≡◌, ◌≤◌, ◌++◌, take, drop}
-use Rattle.stomp_escape.specs.Inner.Unescaping.{unescaped_from, unescaped}
-use Rattle.stomp_escape.proofs.Steps.{with_front}
+use Rattle.stomp_escape.specs.Inner.Unescaping.{unescaped, unescaped_after}
 use Rattle.stomp_escape.proofs.unescaping.read.Given as goal
 
 abbrev pub invariant-loop-at : goal.invariant-loop-at
 invariant-loop-at l = record {
-  ordered : l.start ≤ l.at;
   within : l.at ≤ length l.text;
-  reads : with_front (l.out ++ take (l.at - l.start) (drop l.start l.text)) (unescaped_from l.at (drop l.at l.text)) ≡ unescaped l.text;
+  room : l.n ≤ 64;
+  sized : length l.waiting ≡ 64;
+  reads : unescaped_after (l.out ++ take l.n l.waiting) l.at (drop l.at l.text) ≡ unescaped l.text;
 }
 
 abbrev pub decreases-loop-at : goal.decreases-loop-at
