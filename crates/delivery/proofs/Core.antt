@@ -7,3 +7,5 @@ pub mod OctetsRow
 pub mod DeliveredRow
 pub mod StepRows
 pub mod GreetedRow
+-- The delivery of every run.
+pub mod Said
