@@ -9,3 +9,4 @@ pub mod StepRows
 pub mod GreetedRow
 -- The delivery of every run.
 pub mod Said
+pub mod Speaking
