@@ -10,3 +10,5 @@ pub mod GreetedRow
 -- The delivery of every run.
 pub mod Said
 pub mod Speaking
+pub mod ByRun
+pub mod Started
