@@ -12,3 +12,4 @@ pub mod Said
 pub mod Speaking
 pub mod ByRun
 pub mod Started
+pub mod AccountOfRun
