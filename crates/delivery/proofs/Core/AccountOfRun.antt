@@ -1,7 +1,7 @@
 -- The account of a run's steps is what the machine answered to its moves, refusals and what was merely done aside.
 use Rattle.std.proofs.Common.{◌≡◌, ◌≢◌, ℕ, zero, suc, ◌+◌, ◌<◌, ◌≤◌, ◌==◌, Bool, true, false, cond, not, ◌||◌, ◌&&◌, ◌⊎◌, inl, inr, List, [], ◌∷◌, ◌++◌, map, length, get_or, Option, Some, None, refl, sym, ap, subst, ◌∙◌, true≢false, arith, ltb}
 use Rattle.std.proofs.lemmas.Bool.{eqb-true, eq-eqb, ltb-true, false≢true}
-use Rattle.std.specs.Prelude.{take, slice_get}
+use Rattle.std.specs.Prelude.{take, slice_get, codes}
 use Rattle.std.specs.List.{filter}
 use Rattle.std.specs.Option.{is_some, option_map, option_map_or, option_and_then, option_or, option_to_list, unwrap_or}
 use Rattle.stomp_frame.specs.declared.raw_frame.RawFrame.{RawFrame}
@@ -23,8 +23,14 @@ use Rattle.mcast_group.specs.Machine.{Pending, due_part}
 use Rattle.mcast_group.proofs.Parts.{some_same, none_some, not_true}
 use Rattle.stomp_session.specs.declared.action.Action.{Action}
 use Rattle.stomp_session.specs.declared.action.Action.TheVariants as actions
-use Rattle.stomp_session.specs.Answers.{action_by}
-use Rattle.stomp_session.specs.Frames.{topic_of, id_of}
+use Rattle.stomp_frame.specs.declared.command.Command.{Command}
+use Rattle.stomp_frame.specs.declared.command.Command.TheVariants as commands
+use Rattle.stomp_frame.specs.Headers.{first_of}
+use Rattle.stomp_frame.specs.Reader.{Unread}
+use Rattle.stomp_session.specs.Answers.{action_by, commit}
+use Rattle.stomp_session.specs.Open.{Held}
+use Rattle.stomp_session.specs.Refusals.{sends_in}
+use Rattle.stomp_session.specs.Frames.{topic_of, id_of, transaction_of, send_of}
 use Rattle.delivery.specs.Topics.{TopicList}
 use Rattle.delivery.specs.declared.event.Event.{Event}
 use Rattle.delivery.specs.declared.outcome.Outcome.{Outcome}
@@ -35,7 +41,7 @@ use Rattle.delivery.specs.Theorem.Laws.{Run, answers_of, final_world}
 use Rattle.delivery.specs.Machine.Objections.{Objection, refusal_of}
 use Rattle.delivery.specs.Machine.Observed.{accepted_at, end_at, span_at, frontier_at}
 use Rattle.delivery.specs.Machine.World.{World, Undecided, Leftover, Subscription, is_reading, is_gone, nobody, topic_at, connection_at, subscription_at, speaker, start}
-use Rattle.delivery.specs.Machine.Moves.{Move, Answer, world_after, answer_to, move_refusal, move_effect, move_answer, needs_open, needs_idle, objections, undecided_at, find_leftover, oldest_live, or_out_of_memory, commit_answer, proposal_fault, propose_answer, cancel_answer, release_answer, take_answer, leave_answer, next_txn, next_ticket}
+use Rattle.delivery.specs.Machine.Moves.{Move, Answer, world_after, answer_to, move_refusal, move_effect, move_answer, needs_open, needs_idle, objections, undecided_at, find_leftover, oldest_live, or_out_of_memory, commit_answer, proposal_fault, propose_answer, cancel_answer, release_answer, take_answer, leave_answer, next_ticket, end_now}
 use Rattle.delivery.specs.Machine.Moves.Move.{Opens, Commits, Subscribes, Unsubscribes, Disconnects, Errs, Lost, Leaves, Proposes, Decides, Withdraws, Cancels, Learns, Releases, Turns, Takes}
 use Rattle.delivery.specs.Machine.Runs.{run, answers_from, commits_of, delivered_items, txn_count}
 use Rattle.delivery.specs.Core.Steps.{CoreStep, Reading, frame_in, has_effect, accepted_of, number_by}
@@ -74,9 +80,13 @@ world_is topics capacity (step ∷ older) =
     let k = core_of topics capacity older in let ms = moves k step.event step.reading step.outcome in
     ap (run ms) (world_is topics capacity older) ∙ sym (run_append (all_moves topics capacity older) ms (start capacity 65536 topics.clocks))
 
--- the core of a run of the machine, with these steps
+-- the core of this machine, with these steps
+abbrev core_with : List (List ℕ) → World → List CoreStep → Core
+core_with names w steps = record { names = names; world = w; steps = steps }
+
+-- that of a run of the machine
 abbrev pub core_at : List (List ℕ) → Run → List CoreStep → Core
-core_at names r steps = record { names = names; world = final_world r; steps = steps }
+core_at names r steps = core_with names (final_world r) steps
 
 -- what a run keeps of connections and senders
 pub spoken : (r : Run) → Spoken (answers_of r) (final_world r)
@@ -491,7 +501,218 @@ taken_says names r older rd s o i = by_case (move_refusal (final_world r) (Takes
 
 -- ---- a frame
 
--- an action as the account of its frame has it: a SUBSCRIBE's topic and an UNSUBSCRIBE's id are the frame's
-record Shows (names : List (List ℕ)) (f : RawFrame) (action : Action) : Type 0 where
-  subscribed : (id : List ℕ) (t : Topic) → action ≡ actions.Subscribe id t → topic_of names f ≡ t
-  unsubscribed : (id : List ℕ) → action ≡ actions.Unsubscribe id → id_of f ≡ id
+-- what an action is of a frame: a SUBSCRIBE's topic and an UNSUBSCRIBE's id are the frame's
+
+no_subscribe_sent : (s : Held) (f : RawFrame) (o : Option (List ℕ)) (id : List ℕ) (t : Topic) → option_map_or (λ transaction. actions.Nothing) o (commit (send_of s.names f ∷ [])) ≡ actions.Subscribe id t → Prim.⊥
+no_subscribe_sent s f None id t e = cc
+no_subscribe_sent s f (Some x) id t e = cc
+
+no_subscribe_committed : (sends : List SentMessage) (id : List ℕ) (t : Topic) → commit sends ≡ actions.Subscribe id t → Prim.⊥
+no_subscribe_committed [] id t e = cc
+no_subscribe_committed (x ∷ xs) id t e = cc
+
+-- the topic of a SUBSCRIBE is that of its frame
+subscribed_topic : (command : Command) (s : Held) (f : RawFrame) (id : List ℕ) (t : Topic) → action_by command s f ≡ actions.Subscribe id t → topic_of s.names f ≡ t
+subscribed_topic commands.Send s f id t e = absurd (no_subscribe_sent s f (first_of (codes "transaction") f.headers) id t e)
+subscribed_topic commands.Subscribe s f id t e = cc
+subscribed_topic commands.Unsubscribe s f id t e = cc
+subscribed_topic commands.Begin s f id t e = cc
+subscribed_topic commands.Commit s f id t e = absurd (no_subscribe_committed (sends_in (transaction_of f) s.transactions) id t e)
+subscribed_topic commands.Abort s f id t e = cc
+subscribed_topic commands.Ack s f id t e = cc
+subscribed_topic commands.Nack s f id t e = cc
+subscribed_topic commands.Disconnect s f id t e = cc
+subscribed_topic commands.Connect s f id t e = cc
+subscribed_topic commands.Stomp s f id t e = cc
+subscribed_topic commands.Connected s f id t e = cc
+subscribed_topic commands.Message s f id t e = cc
+subscribed_topic commands.Receipt s f id t e = cc
+subscribed_topic commands.Error s f id t e = cc
+
+no_unsubscribe_sent : (s : Held) (f : RawFrame) (o : Option (List ℕ)) (id : List ℕ) → option_map_or (λ transaction. actions.Nothing) o (commit (send_of s.names f ∷ [])) ≡ actions.Unsubscribe id → Prim.⊥
+no_unsubscribe_sent s f None id e = cc
+no_unsubscribe_sent s f (Some x) id e = cc
+
+no_unsubscribe_committed : (sends : List SentMessage) (id : List ℕ) → commit sends ≡ actions.Unsubscribe id → Prim.⊥
+no_unsubscribe_committed [] id e = cc
+no_unsubscribe_committed (x ∷ xs) id e = cc
+
+-- the id of an UNSUBSCRIBE is that of its frame
+unsubscribed_id : (command : Command) (s : Held) (f : RawFrame) (id : List ℕ) → action_by command s f ≡ actions.Unsubscribe id → id_of f ≡ id
+unsubscribed_id commands.Send s f id e = absurd (no_unsubscribe_sent s f (first_of (codes "transaction") f.headers) id e)
+unsubscribed_id commands.Subscribe s f id e = cc
+unsubscribed_id commands.Unsubscribe s f id e = cc
+unsubscribed_id commands.Begin s f id e = cc
+unsubscribed_id commands.Commit s f id e = absurd (no_unsubscribe_committed (sends_in (transaction_of f) s.transactions) id e)
+unsubscribed_id commands.Abort s f id e = cc
+unsubscribed_id commands.Ack s f id e = cc
+unsubscribed_id commands.Nack s f id e = cc
+unsubscribed_id commands.Disconnect s f id e = cc
+unsubscribed_id commands.Connect s f id e = cc
+unsubscribed_id commands.Stomp s f id e = cc
+unsubscribed_id commands.Connected s f id e = cc
+unsubscribed_id commands.Message s f id e = cc
+unsubscribed_id commands.Receipt s f id e = cc
+unsubscribed_id commands.Error s f id e = cc
+
+flown_case : (names : List (List ℕ)) (r : Run) (older : List CoreStep) (c : ℕ) (f : RawFrame) (left : Unread) (sends : List SentMessage) (z : Outcome)
+    → c < length (final_world r).connections → action_by f.command (session_at (core_at names r older) c) f ≡ actions.Commit sends
+    → answer_to (final_world r) (Commits c sends) ≡ commit_answer (final_world r) c sends → outcome_of (commit_answer (final_world r) c sends) ≡ Some z
+    → Says names r older (Event.Next c) (Reading.Finds f left) z
+flown_case names r older c f left [] z l e a d =
+    subst (Says names r older (Event.Next c) (Reading.Finds f left)) (some_same _ z d)
+    (ap (λ b. said (b ∷ answers_of r)) (sym a)
+    ∙ ap (λ b. said (answers_from (option_to_list (frame_move (core_at names r older) c b)) (final_world r) (answers_of r))) (sym e))
+flown_case names r older c f left (first ∷ others) z l e a d =
+    let past = answers_of r in let last = last_id c (said past) in
+    subst (Says names r older (Event.Next c) (Reading.Finds f left)) (some_same _ z d)
+    (ap (λ b. Answer.Begun (record { id = record last { seq = last.seq + 1 }; sends = committed_by b }) ∷ said past) e
+    ∙ (ap (λ (b : TxnId). Answer.Begun (record { id = record b { seq = b.seq + 1 }; sends = first ∷ others }) ∷ said past) (sym (last_is r c l))
+    ∙ (ap (λ b. said (b ∷ past)) (sym a)
+    ∙ ap (λ b. said (answers_from (option_to_list (frame_move (core_at names r older) c b)) (final_world r) past)) (sym e))))
+
+accepted_says : (names : List (List ℕ)) (r : Run) (older : List CoreStep) (c : ℕ) (f : RawFrame) (left : Unread) (o : Outcome) (action : Action)
+    → action_by f.command (session_at (core_at names r older) c) f ≡ action
+    → In o (option_map_or (move_outcome (core_at names r older)) (frame_move (core_at names r older) c action) (Outcome.Done ∷ []))
+    → Says names r older (Event.Next c) (Reading.Finds f left) o
+accepted_says names r older c f left o actions.Connected e (inl d) =
+    subst (Says names r older (Event.Next c) (Reading.Finds f left)) d
+    (ap (λ b. said (answers_from (option_to_list (frame_move (core_at names r older) c b)) (final_world r) (answers_of r))) (sym e))
+accepted_says names r older c f left o actions.Connected e (inr i) = absurd i
+accepted_says names r older c f left o actions.Nothing e (inl d) =
+    subst (Says names r older (Event.Next c) (Reading.Finds f left)) d
+    (ap (λ b. said (answers_from (option_to_list (frame_move (core_at names r older) c b)) (final_world r) (answers_of r))) (sym e))
+accepted_says names r older c f left o actions.Nothing e (inr i) = absurd i
+accepted_says names r older c f left o (actions.Subscribe id t) e i =
+    let w = final_world r in let past = answers_of r in let P = Says names r older (Event.Next c) (Reading.Finds f left) in
+    by_answer P w (Subscribes c t) o (λ why x a. refl)
+    (λ n a z d. subst P (some_same _ z d)
+    (ap (λ u. Answer.Subscribed (length w.subscriptions) c u (topic_at w t).frontier ∷ said past)
+    (subscribed_topic f.command (session_at (core_at names r older) c) f id t e)
+    ∙ (ap (λ b. said (b ∷ past)) (sym a)
+    ∙ ap (λ b. said (answers_from (option_to_list (frame_move (core_at names r older) c b)) w past)) (sym e))))
+    (in_option o _ i)
+accepted_says names r older c f left o (actions.Unsubscribe id) e i =
+    let w = final_world r in let past = answers_of r in let P = Says names r older (Event.Next c) (Reading.Finds f left) in
+    let s = number_by c id older in
+    by_answer P w (Unsubscribes c s) o (λ why x a. refl)
+    (λ n a z d. subst P (some_same _ z d)
+    (ap (λ b. Answer.Unsubscribed (number_by c b older) (end_now w s) ∷ said past) (unsubscribed_id f.command (session_at (core_at names r older) c) f id e)
+    ∙ (ap (λ b. said (b ∷ past)) (sym a)
+    ∙ ap (λ b. said (answers_from (option_to_list (frame_move (core_at names r older) c b)) w past)) (sym e))))
+    (in_option o _ i)
+accepted_says names r older c f left o (actions.Commit sends) e i =
+    let w = final_world r in let P = Says names r older (Event.Next c) (Reading.Finds f left) in
+    by_answer P w (Commits c sends) o (λ why x a. refl)
+    (λ n a z d. flown_case names r older c f left sends z (there w c (checked w (Commits c sends) n).0) e a d)
+    (in_option o _ i)
+accepted_says names r older c f left o actions.Disconnect e i =
+    let w = final_world r in let past = answers_of r in let P = Says names r older (Event.Next c) (Reading.Finds f left) in
+    by_answer P w (Disconnects c) o (λ why x a. refl)
+    (λ n a z d. subst P (some_same _ z d)
+    (ap (λ b. said (b ∷ past)) (sym a)
+    ∙ ap (λ b. said (answers_from (option_to_list (frame_move (core_at names r older) c b)) w past)) (sym e)))
+    (in_option o _ i)
+
+-- ---- a Next
+
+-- what an ERROR adds, whatever was read
+fault_account : (names : List (List ℕ)) (older : List CoreStep) (past : List Answer) (c : ℕ) (read : Option RawFrame) (fault : ConnectionFault) (cut : Bool)
+    → account_of_next names c older read past (Outcome.Faulted fault cut) ≡ Answer.Error c ∷ []
+fault_account names older past c None fault cut = refl
+fault_account names older past c (Some f) fault cut = refl
+
+refused_account : (names : List (List ℕ)) (older : List CoreStep) (past : List Answer) (c : ℕ) (read : Option RawFrame) (why : Refusal)
+    → account_of_next names c older read past (Outcome.Refused why) ≡ []
+refused_account names older past c None why = refl
+refused_account names older past c (Some f) why = refl
+
+faulted_says : (names : List (List ℕ)) (r : Run) (older : List CoreStep) (rd : Reading) (c : ℕ) (fault : ConnectionFault) (o : Outcome)
+    → first_refusal (needs_idle (final_world r) c) ≡ None → In o (fault_outcomes fault) → Says names r older (Event.Next c) rd o
+faulted_says names r older rd c fault o n i = elim i [
+  | inl e ↦ subst P e (errs false)
+  | inr j ↦ elim j [ | inl e ↦ subst P e (errs true) | inr k ↦ absurd k ]
+]
+  where
+    P : Outcome → Type 0
+    P = Says names r older (Event.Next c) rd
+
+    errs : (cut : Bool) → P (Outcome.Faulted fault cut)
+    errs cut =
+        ap (λ z. z ++ said (answers_of r)) (fault_account names older (said (answers_of r)) c (frame_in rd) fault cut)
+        ∙ ap (λ b. said (b ∷ answers_of r)) (sym (answer_is (final_world r) (Errs c) (ap (λ (z : Option Objection). option_or z None) n)))
+
+found_says : (names : List (List ℕ)) (r : Run) (older : List CoreStep) (c : ℕ) (f : RawFrame) (left : Unread) (o : Outcome) (why : Option ConnectionFault)
+    → first_refusal (needs_idle (final_world r) c) ≡ None
+    → In o (option_map_or fault_outcomes why (frame_outcome (core_at names r older) c f ++ fault_outcomes frame_no_memory))
+    → Says names r older (Event.Next c) (Reading.Finds f left) o
+found_says names r older c f left o (Some fault) n i = faulted_says names r older (Reading.Finds f left) c fault o n i
+found_says names r older c f left o None n i = elim (In-append_cases o (frame_outcome (core_at names r older) c f) _ i) [
+  | inl j ↦ accepted_says names r older c f left o (action_by f.command (session_at (core_at names r older) c) f) refl j
+  | inr j ↦ faulted_says names r older (Reading.Finds f left) c frame_no_memory o n j
+]
+
+read_says : (names : List (List ℕ)) (r : Run) (older : List CoreStep) (rd : Reading) (c : ℕ) (o : Outcome) → first_refusal (needs_idle (final_world r) c) ≡ None
+    → In o (reading_outcomes (core_at names r older) c rd) → Says names r older (Event.Next c) rd o
+read_says names r older Reading.Nothing c o n i = faulted_says names r older Reading.Nothing c ConnectionFault.ReaderNoMemory o n i
+read_says names r older (Reading.Waits left) c o n (inl e) = subst (Says names r older (Event.Next c) (Reading.Waits left)) e refl
+read_says names r older (Reading.Waits left) c o n (inr i) = absurd i
+read_says names r older (Reading.Finds f left) c o n i = found_says names r older c f left o (frame_fault (core_at names r older) c f) n i
+read_says names r older (Reading.Fails check left) c o n i = faulted_says names r older (Reading.Fails check left) c (ConnectionFault.Stream check) o n i
+
+next_says : (names : List (List ℕ)) (r : Run) (older : List CoreStep) (rd : Reading) (c : ℕ) (o : Outcome) (why : Option Objection)
+    → first_refusal (needs_idle (final_world r) c) ≡ why → In o (unless why (reading_outcomes (core_at names r older) c rd)) → Says names r older (Event.Next c) rd o
+next_says names r older rd c o None n i = read_says names r older rd c o n i
+next_says names r older rd c o (Some why) n i =
+    let k = refusal_some (refusal_of why) o (in_option o _ i) in
+    subst (Says names r older (Event.Next c) rd) k.is (ap (λ z. z ++ said (answers_of r)) (refused_account names older (said (answers_of r)) c (frame_in rd) k.why))
+
+-- ---- every event
+
+opened_says : (names : List (List ℕ)) (r : Run) (older : List CoreStep) (rd : Reading) (o : Outcome)
+    → In o (outcomes (core_at names r older) Event.Open rd) → Says names r older Event.Open rd o
+opened_says names r older rd o i = elim i [
+  | inl e ↦ subst (Says names r older Event.Open rd) e refl
+  | inr j ↦ elim j [ | inl e ↦ subst (Says names r older Event.Open rd) e refl | inr k ↦ absurd k ]
+]
+
+event_says : (names : List (List ℕ)) (r : Run) (older : List CoreStep) (e : Event) (rd : Reading) (o : Outcome) → account_of names older ≡ said (answers_of r)
+    → In o (outcomes (core_at names r older) e rd) → Says names r older e rd o
+event_says names r older Event.Open rd o acc i = opened_says names r older rd o i
+event_says names r older (Event.Piece c octets) rd o acc i = refl
+event_says names r older (Event.Next c) rd o acc i = next_says names r older rd c o (first_refusal (needs_idle (final_world r) c)) refl i
+event_says names r older (Event.Propose c t) rd o acc i = proposed_says names r older rd c t o i
+event_says names r older (Event.Decide c) rd o acc i = decided_says names r older rd c o acc i
+event_says names r older (Event.Withdraw c) rd o acc i = withdrawn_says names r older rd c o i
+event_says names r older (Event.Cancel c t) rd o acc i = cancelled_says names r older rd c t o i
+event_says names r older (Event.Learn t id) rd o acc i = learnt_says names r older rd t id o i
+event_says names r older (Event.Release t) rd o acc i = released_says names r older rd t o i
+event_says names r older (Event.Turn t) rd o acc i = turned_says names r older rd t o i
+event_says names r older (Event.Take s) rd o acc i = taken_says names r older rd s o i
+event_says names r older (Event.Leave c) rd o acc i = left_says names r older rd c o i
+event_says names r older (Event.Lost c) rd o acc i = lost_says names r older rd c o i
+
+-- a run of the core is one of the machine
+pub core_is : (topics : TopicList) (capacity : ℕ) (steps : List CoreStep) → core_of topics capacity steps ≡ core_at topics.names (run_of topics capacity steps) steps
+core_is topics capacity [] = refl
+core_is topics capacity (step ∷ older) =
+    ap (λ (n : List (List ℕ)). record { names = n; world = (core_of topics capacity (step ∷ older)).world; steps = step ∷ (core_of topics capacity older).steps })
+    (ap (λ (k : Core). k.names) (core_is topics capacity older))
+    ∙ (ap (λ (s : List CoreStep). record { names = topics.names; world = (core_of topics capacity (step ∷ older)).world; steps = step ∷ s })
+    (ap (λ (k : Core). k.steps) (core_is topics capacity older))
+    ∙ ap (λ w. core_with topics.names w (step ∷ older)) (world_is topics capacity (step ∷ older)))
+
+-- the account of a run of the core is what the machine answered
+pub account_is : (topics : TopicList) (capacity : ℕ) (steps : List CoreStep) → IsCoreRun topics capacity steps
+    → account_of topics.names steps ≡ said (answers_of (run_of topics capacity steps))
+account_is topics capacity [] run = refl
+account_is topics capacity (step ∷ older) run =
+    let r = run_of topics capacity older in let k = core_of topics capacity older in
+    let acc = account_is topics capacity older run.1 in let c = core_is topics capacity older in
+    let i : In step.outcome (outcomes (core_at topics.names r older) step.event step.reading) =
+        subst (λ z. In step.outcome (outcomes z step.event step.reading)) c run.0.outcome in
+    let ms = moves k step.event step.reading step.outcome in
+    ap (λ z. account_of_step topics.names older z step.event step.reading step.outcome ++ z) acc
+    ∙ (event_says topics.names r older step.event step.reading step.outcome acc i
+    ∙ (ap (λ z. said (answers_from (moves z step.event step.reading step.outcome) (final_world r) (answers_of r))) (sym c)
+    ∙ ap said (sym (answers_append (all_moves topics capacity older) ms (start capacity 65536 topics.clocks) []))))
