@@ -1,0 +1,4 @@
+-- Laws that the code of the core rests on.
+pub mod ListLemmas
+pub mod ViewLemmas
+pub mod Needs
