@@ -2,3 +2,4 @@
 pub mod ListLemmas
 pub mod ViewLemmas
 pub mod Needs
+pub mod QuietSteps

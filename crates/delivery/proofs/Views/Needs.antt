@@ -165,5 +165,10 @@ number_is k c s reached reading live = ?
 -- N13: a connection has at most one DISCONNECT
 pub parting_is : (k : Core) (c : ℕ) → IsReached k
     → flat_map receipts_of (filter (λ f. is_disconnect f.command) (accepted_of c k.steps))
-    ≡ option_map_or (λ id. receipt_frame id ∷ []) (parting_receipt k c) []
+    ≡ option_map_or (λ id. receipt_frame id ∷ []) (parting_receipt (accepted_of c k.steps)) []
 parting_is k c reached = ?
+
+-- N14: an open connection has none
+pub not_parting : (k : Core) (c : ℕ) → IsReached k → is_reading (connection_at k.world c).standing ≡ true
+    → find (λ f. is_disconnect f.command) (accepted_of c k.steps) ≡ None
+not_parting k c reached reading = ?

@@ -4,6 +4,7 @@
 use Rattle.std.specs.Prelude.{ℕ, ◌+◌, List, [], ◌∷◌, map, Option, Some, None, if◌then◌else◌}
 use Rattle.std.specs.List.{find, range_with_len}
 use Rattle.std.specs.Option.{option_map, option_and_then}
+use Rattle.stomp_frame.specs.declared.raw_frame.RawFrame.{RawFrame}
 use Rattle.stomp_frame.specs.Reader.{Unread}
 use Rattle.stomp_frame.specs.Receipts.{receipt_of}
 use Rattle.mcast_txn.specs.declared.id.Topic.{Topic}
@@ -24,7 +25,7 @@ use Rattle.mcast_group.specs.declared.ended.Ended.{Ended}
 use Rattle.mcast_group.specs.declared.fault.ProposeFault.{ProposeFault}
 use Rattle.mcast_group.specs.Group.{GroupState}
 use Rattle.mcast_group.specs.Machine.{TopicState, EntryEnd}
-use Rattle.stomp_session.specs.Open.{Held}
+use Rattle.stomp_session.specs.Open.{held_after}
 use Rattle.stomp_session.specs.Frames.{is_disconnect}
 use Rattle.delivery.specs.declared.sending.Sending.{Sending}
 use Rattle.delivery.specs.declared.stage.Stage.{Stage}
@@ -34,7 +35,7 @@ use Rattle.delivery.specs.Machine.Moves.{has_ticket, find_verdict, is_live}
 use Rattle.delivery.specs.Core.Steps.{CoreStep, accepted_of}
 use Rattle.delivery.specs.Core.Output.{receipt_asked, commit_frame, sub_id_text, text_out}
 use Rattle.delivery.specs.Core.Reports.{each_number}
-use Rattle.delivery.specs.Core.State.{Core, unread_at, session_at}
+use Rattle.delivery.specs.Core.State.{Core, unread_at}
 
 -- ---- topics
 
@@ -109,25 +110,24 @@ verdict_list w s =
 
 -- ---- connections
 
--- the receipt that the connection's undecided transaction asked for
-abbrev pub pending_receipt : Core → ℕ → Option Undecided → Option (List ℕ)
-pending_receipt k c None = None
-pending_receipt k c (Some f) = receipt_asked (commit_frame (accepted_of c k.steps))
+-- the receipt that an undecided transaction asked for: that of the last accepted frame
+abbrev pub pending_receipt : List RawFrame → Option Undecided → Option (List ℕ)
+pending_receipt accepted None = None
+pending_receipt accepted (Some f) = receipt_asked (commit_frame accepted)
 
--- the receipt that its DISCONNECT asked for
-abbrev pub parting_receipt : Core → ℕ → Option (List ℕ)
-parting_receipt k c =
-    option_and_then receipt_of (find (λ f. is_disconnect f.command) (accepted_of c k.steps))
+-- the receipt that a DISCONNECT among the accepted frames asked for
+abbrev pub parting_receipt : List RawFrame → Option (List ℕ)
+parting_receipt accepted = option_and_then receipt_of (find (λ f. is_disconnect f.command) accepted)
 
--- how far the connection is
-abbrev pub stage_view : Core → ℕ → Standing → Stage
-stage_view k c Standing.Open = Stage.Open (record {
-  reader = unread_at c k.steps;
-  session = session_at k c;
-  receipt = pending_receipt k c (speaker k.world c).flight;
+-- how far a connection is that accepted these frames and whose reader stands for this
+abbrev pub stage_view : List (List ℕ) → Standing → Option Undecided → List RawFrame → Unread → Stage
+stage_view names Standing.Open flight accepted unread = Stage.Open (record {
+  reader = unread;
+  session = held_after names accepted;
+  receipt = pending_receipt accepted flight;
 })
-stage_view k c Standing.Leaving = Stage.Leaving (parting_receipt k c)
-stage_view k c Standing.Gone = Stage.Gone
+stage_view names Standing.Leaving flight accepted unread = Stage.Leaving (parting_receipt accepted)
+stage_view names Standing.Gone flight accepted unread = Stage.Gone
 
 -- the numbers of the connection's subscriptions that aren't closed, where the first has number i
 abbrev pub live_numbers : ℕ → ℕ → List Subscription → List ℕ
@@ -142,13 +142,14 @@ pub record LineView : Type 0 where
   pub live : List ℕ
   pub output : List ℕ
 
--- the line of connection c
-abbrev pub line_view : Core → ℕ → LineView
-line_view k c = record {
-  sender = (connection_at k.world c).sender;
-  stage = stage_view k c (connection_at k.world c).standing;
-  live = live_numbers c 0 k.world.subscriptions;
-  output = text_out k.names c k.steps;
+-- the line of connection c, which accepted these frames, whose reader stands for this, and whose text out is
+-- this
+abbrev pub line_view : List (List ℕ) → World → ℕ → List RawFrame → Unread → List ℕ → LineView
+line_view names w c accepted unread text = record {
+  sender = (connection_at w c).sender;
+  stage = stage_view names (connection_at w c).standing (speaker w c).flight accepted unread;
+  live = live_numbers c 0 w.subscriptions;
+  output = text;
 }
 
 -- ---- subscriptions
@@ -182,13 +183,13 @@ pub record SubView : Type 0 where
   pub from : Stamp
   pub left : Option LeftView
 
--- subscription s
-abbrev pub sub_view : Core → ℕ → SubView
-sub_view k s =
-    let x = subscription_at k.world s in
+-- subscription s, which has this id
+abbrev pub sub_view : World → ℕ → List ℕ → SubView
+sub_view w s id =
+    let x = subscription_at w s in
     record {
       connection = x.connection;
-      id = sub_id_text s k.steps;
+      id = id;
       topic = x.topic;
       from = x.from;
       left = option_map (left_view x.taken) x.closed;
@@ -207,15 +208,27 @@ pub record View : Type 0 where
   pub subs : List SubView
   pub commits : List LogRow
 
+-- what it holds of this machine, where each connection accepted these frames, its reader stands for this and
+-- its text out is this, and each subscription has this id
+abbrev pub view_with : List (List ℕ) → World → (ℕ → List RawFrame) → (ℕ → Unread) → (ℕ → List ℕ)
+    → (ℕ → List ℕ) → View
+view_with names w accepted unread text ids = record {
+  names = names;
+  capacity = w.capacity;
+  groups = map (group_view w) w.topics;
+  senders = each_number (sender_view w) 0 w.senders;
+  verdicts = each_number (verdict_list w) 0 w.senders;
+  lines = each_number (λ c. line_view names w c (accepted c) (unread c) (text c)) 0 w.connections;
+  subs = each_number (λ s. sub_view w s (ids s)) 0 w.subscriptions;
+  commits = map log_row w.commits;
+}
+
+-- what it holds after these steps
+abbrev pub view_after : List (List ℕ) → World → List CoreStep → View
+view_after names w steps =
+    view_with names w (λ c. accepted_of c steps) (λ c. unread_at c steps) (λ c. text_out names c steps)
+    (λ s. sub_id_text s steps)
+
 -- what it holds of this core
 abbrev pub view_of : Core → View
-view_of k = record {
-  names = k.names;
-  capacity = k.world.capacity;
-  groups = map (group_view k.world) k.world.topics;
-  senders = each_number (sender_view k.world) 0 k.world.senders;
-  verdicts = each_number (verdict_list k.world) 0 k.world.senders;
-  lines = each_number (line_view k) 0 k.world.connections;
-  subs = each_number (sub_view k) 0 k.world.subscriptions;
-  commits = map log_row k.world.commits;
-}
+view_of k = view_after k.names k.world k.steps
