@@ -2,4 +2,6 @@
 pub mod ListLemmas
 pub mod ViewLemmas
 pub mod Needs
+pub mod LostStep
 pub mod QuietSteps
+pub mod StepLemmas

@@ -1,16 +1,18 @@
 //! What the core holds.
 
-ghost use Rattle.std.specs.Prelude.{◌≡◌, ◌≤◌, ◌<◌, [], ◌∷◌, length, map, IfOk};
+ghost use Rattle.std.specs.Prelude.{◌≡◌, ◌≤◌, ◌<◌, [], length, map, get_or, set, slice_get, IfOk};
 ghost use Rattle.delivery.specs.Topics.{max_topics};
 ghost use Rattle.delivery.specs.Machine.World.{new_topics};
 ghost use Rattle.delivery.specs.Core.State.{Core, log_limit, new_core};
-ghost use Rattle.delivery.specs.Inner.Stands.{IsReached, Makes};
-ghost use Rattle.delivery.specs.Inner.View.{view_of, new_group};
+ghost use Rattle.delivery.specs.Inner.Stands.{IsReached, Makes, IsChecked, line_objection};
+ghost use Rattle.delivery.specs.Inner.View.{LineView, view_of, new_group, leaving_line};
 ghost use Rattle.delivery.specs.declared.event.Event.{Event as Asked};
 
 use crate::line::Line;
 use crate::outcome::Outcome;
+use crate::refusal::Refusal;
 use crate::sender_state::SenderState;
+use crate::stage::Stage;
 use crate::sub::Sub;
 use crate::table::Table;
 use mcast_group::{Group, Row};
@@ -18,7 +20,7 @@ use mcast_txn::Topic;
 use std::alloc::Global;
 use std::marker::Model;
 use std::sync::Arc;
-use stomp_frame::NoMemory;
+use stomp_frame::{NoMemory, Octets};
 use stomp_session::Names;
 use sub_queue::VecOutlet;
 
@@ -94,5 +96,44 @@ impl NetState {
             subs: Vec::new(alloc),
             commits: Vec::new(alloc),
         })
+    }
+
+    /// Whether the connection's octets and frames may be read: 80 where there is none, 87 where it is gone, 81 where it is
+    /// leaving.
+    fn check_open(&self, c: u64) -> Result<(), Refusal>
+        ensures { IsChecked result (line_objection (slice_get self.now.lines c)) }
+    {
+        let Some(line) = self.lines.get(c as usize) else {
+            return Err(Refusal::NoConn);
+        };
+        match line.stage {
+            Stage::Open(_) => Ok(()),
+            Stage::Leaving(_) => Err(Refusal::Busy),
+            Stage::Gone => Err(Refusal::Gone),
+        }
+    }
+
+    /// The connection is leaving; with it is the receipt that its DISCONNECT asked for.
+    fn leave(&mut self, c: u64, parting: Option<Octets>)
+        requires { c < length self.old.lines }
+        ensures { (d : LineView) → self.new ≡ record self.old {
+          lines = set self.old.lines c (leaving_line parting (get_or self.old.lines c d));
+        } }
+    {
+        let line = &mut self.lines[c as usize];
+        line.stage = Stage::Leaving(parting);
+    }
+
+    /// The connection is lost: 80 where there is none, 87 where it is gone, 81 where it is leaving. It takes no memory.
+    pub(crate) fn lost(&mut self, c: u64) -> Outcome
+        ensures { (k : Core) → IsReached k → self.old ≡ view_of k → Makes k (Asked.Lost c) result self.new }
+    {
+        match self.check_open(c) {
+            Ok(()) => {
+                self.leave(c, None);
+                Outcome::Leaving
+            }
+            Err(refusal) => Outcome::Refused(refusal),
+        }
     }
 }

@@ -152,6 +152,14 @@ line_view names w c accepted unread text = record {
   output = text;
 }
 
+-- what stands for a line that there never was
+abbrev pub no_line : LineView
+no_line = record { sender = 0; stage = Stage.Gone; live = []; output = [] }
+
+-- a line that is leaving; with it is the receipt that its DISCONNECT asked for
+abbrev pub leaving_line : Option (List ℕ) → LineView → LineView
+leaving_line parting line = record line { stage = Stage.Leaving parting }
+
 -- ---- subscriptions
 
 -- what a closed subscription has left: where its span ends and why, and its queue
