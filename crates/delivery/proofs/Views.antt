@@ -1,0 +1,7 @@
+-- Laws that the code of the core rests on.
+pub mod ListLemmas
+pub mod ViewLemmas
+pub mod Needs
+pub mod LostStep
+pub mod QuietSteps
+pub mod StepLemmas

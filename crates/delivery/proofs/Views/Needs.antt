@@ -1,0 +1,174 @@
+-- What the code of the core needs of a run's core: laws of its definitions. (Holes: to be proved.)
+use Rattle.std.specs.Prelude.{◌≡◌, ◌≢◌, ℕ, zero, suc, ◌+◌, ◌-◌, ◌<◌, ◌≤◌, Bool, true, false, not, List, [], ◌∷◌, ◌++◌, map, filter, length, slice_get, Option, Some, None}
+use Rattle.std.specs.List.{flat_map, find}
+use Rattle.std.specs.Option.{option_map, option_map_or}
+use Rattle.stomp_frame.specs.Reader.{unread_of}
+use Rattle.stomp_frame.specs.ServerFrames.{receipt_frame}
+use Rattle.mcast_txn.specs.declared.id.Topic.{Topic}
+use Rattle.mcast_txn.specs.declared.id.TxnId.{TxnId}
+use Rattle.mcast_txn.specs.declared.stamp.Stamp.{Stamp}
+use Rattle.mcast_txn.specs.Lists.{In, RisesBy}
+use Rattle.mcast_txn.specs.Ballot.{Decision, row_at, slots_of_rows, ticket_rows}
+use Rattle.mcast_txn.specs.Transaction.{topics_of}
+use Rattle.mcast_group.specs.Machine.{TopicState, Pending, Entry, after_turn, after_release, find_entry}
+use Rattle.mcast_group.specs.Faults.{propose_title}
+use Rattle.mcast_group.specs.declared.fault.ProposeFault.{ProposeFault}
+use Rattle.stomp_session.specs.Frames.{is_disconnect}
+use Rattle.delivery.specs.Topics.{TopicList}
+use Rattle.delivery.specs.Theorem.Laws.{Run, answers_of, final_world}
+use Rattle.delivery.specs.Machine.World.{World, Undecided, topic_at, sender_at, speaker, connection_at, is_reading, subscription_at, entry_at}
+use Rattle.delivery.specs.Machine.Moves.{Move, Answer, find_verdict, is_complete}
+use Rattle.delivery.specs.Machine.Observed.{accepted_at}
+use Rattle.delivery.specs.Core.Steps.{CoreStep, accepted_of, number_by, reader_limits}
+use Rattle.delivery.specs.Core.Account.{account_of, last_id, beginning_of, next_item}
+use Rattle.delivery.specs.Core.Output.{has_closed, failed_title, receipts_of, sub_id_text, text_out}
+use Rattle.delivery.specs.Core.State.{Core, core_of, moves, unread_at, session_at}
+use Rattle.delivery.specs.Core.Outcomes.{IsCoreRun}
+use Rattle.delivery.specs.Inner.Stands.{IsReached}
+use Rattle.delivery.specs.Inner.Verdicts.{verdict_at}
+use Rattle.delivery.specs.Inner.View.{view_of, parting_receipt, live_numbers}
+
+-- ---- the run of the machine that a run of the core is
+
+-- all moves of these steps
+abbrev pub all_moves : TopicList → ℕ → List CoreStep → List Move
+all_moves topics capacity [] = []
+all_moves topics capacity (step ∷ older) =
+    all_moves topics capacity older
+    ++ moves (core_of topics capacity older) step.event step.reading step.outcome
+
+-- the run of the machine
+abbrev pub run_of : TopicList → ℕ → List CoreStep → Run
+run_of topics capacity steps = record {
+  capacity = capacity;
+  log_limit = 65536;
+  clocks = topics.clocks;
+  events = all_moves topics capacity steps;
+}
+
+-- N0: its world is the core's
+pub world_is : (topics : TopicList) (capacity : ℕ) (steps : List CoreStep)
+    → (core_of topics capacity steps).world ≡ final_world (run_of topics capacity steps)
+world_is topics capacity steps = ?
+
+-- an account has it: not a refusal, and not a frame that only its session needs
+abbrev pub is_told : Answer → Bool
+is_told (Answer.Refused why) = false
+is_told Answer.Done = false
+is_told o = true
+
+-- N1: the account of a run's steps is what its moves are answered
+pub account_is : (topics : TopicList) (capacity : ℕ) (steps : List CoreStep) → IsCoreRun topics capacity steps
+    → account_of topics.names steps ≡ filter is_told (answers_of (run_of topics capacity steps))
+account_is topics capacity steps run = ?
+
+-- ---- connections
+
+-- N2: nothing came of a connection that isn't there yet
+pub record IsUntouched (k : Core) (c : ℕ) : Type 0 where
+  pub accepted : accepted_of c k.steps ≡ []
+  pub unread : unread_at c k.steps ≡ unread_of reader_limits
+  pub text : text_out k.names c k.steps ≡ []
+  pub live : live_numbers c 0 k.world.subscriptions ≡ []
+
+pub untouched : (k : Core) (c : ℕ) → IsReached k → length k.world.connections ≤ c → IsUntouched k c
+untouched k c reached none = ?
+
+-- N3: a connection speaks for the sender of its number; there are as many senders as connections
+pub own_sender : (k : Core) (c : ℕ) → IsReached k → c < length k.world.connections
+    → (connection_at k.world c).sender ≡ c
+own_sender k c reached there = ?
+
+pub as_many : (k : Core) → IsReached k → length k.world.senders ≡ length k.world.connections
+as_many k reached = ?
+
+-- N4: a connection was closed where it isn't open
+pub closed_is : (k : Core) (c : ℕ) → IsReached k → c < length k.world.connections
+    → has_closed c (account_of k.names k.steps) ≡ not (is_reading (connection_at k.world c).standing)
+closed_is k c reached there = ?
+
+-- ---- topics and verdicts
+
+-- N5: a turn asks only about entries of these numbers and about pending parts (over mcast_group's definitions)
+pub turn_same : (takes takes' : Entry → Bool) (finds finds' : TxnId → Option Decision) (x : TopicState)
+    → ((e f : Entry) → In f x.subscriptions → e.number ≡ f.number → takes e ≡ takes' e)
+    → ((p : Pending) → In p x.pending → finds p.part.id ≡ finds' p.part.id)
+    → after_turn takes finds x ≡ after_turn takes' finds' x
+turn_same takes takes' finds finds' x same found = ?
+
+pub release_same : (takes takes' : Entry → Bool) (x : TopicState)
+    → ((e f : Entry) → In f x.subscriptions → e.number ≡ f.number → takes e ≡ takes' e)
+    → after_release takes x ≡ after_release takes' x
+release_same takes takes' x same = ?
+
+-- N6: the verdict that is found by sender and seq is the one that is found by a search
+pub verdict_is : (k : Core) (id : TxnId) → IsReached k
+    → verdict_at id (view_of k).verdicts ≡ find_verdict id k.world.verdicts
+verdict_is k id reached = ?
+
+-- ---- undecided transactions
+
+-- N7: the id of a sender's undecided transaction is its last, and its tickets rise by topic and are named
+pub flight_id : (k : Core) (s : ℕ) (f : Undecided) → IsReached k → (sender_at k.world s).flight ≡ Some f
+    → f.txn.id ≡ record { sender = record { 0 = s }; seq = (sender_at k.world s).seq }
+flight_id k s f reached flight = ?
+
+pub tickets_are : (k : Core) (s : ℕ) (f : Undecided) → IsReached k → (sender_at k.world s).flight ≡ Some f
+    → ticket_rows (map (λ t. (t, row_at t f.given)) (topics_of f.txn.sends)) ≡ f.given
+tickets_are k s f reached flight = ?
+
+pub complete_is : (k : Core) (s : ℕ) (f : Undecided) (rows : List Stamp) → IsReached k
+    → (sender_at k.world s).flight ≡ Some f
+    → slots_of_rows rows ≡ map (λ t. (t, row_at t f.given)) (topics_of f.txn.sends) → rows ≡ f.given
+complete_is k s f rows reached flight same = ?
+
+-- N8: what the account says of it
+pub last_is : (k : Core) (c : ℕ) (f : Undecided) → IsReached k → c < length k.world.connections
+    → (speaker k.world c).flight ≡ Some f → last_id c (account_of k.names k.steps) ≡ f.txn.id
+last_is k c f reached there flight = ?
+
+pub failed_is : (k : Core) (c : ℕ) (f : Undecided) (fault : ProposeFault) → IsReached k
+    → (speaker k.world c).flight ≡ Some f → f.mark ≡ Some fault
+    → failed_title f.txn.id (account_of k.names k.steps) ≡ propose_title fault
+failed_is k c f fault reached flight mark = ?
+
+-- ---- subscriptions
+
+-- N9: what the account says of a subscription
+pub begins_as : (k : Core) (s : ℕ) → IsReached k → s < length k.world.subscriptions
+    → (beginning_of s (account_of k.names k.steps)).connection ≡ (subscription_at k.world s).connection
+begins_as k s reached there = ?
+
+pub next_is : (k : Core) (s : ℕ) → IsReached k → s < length k.world.subscriptions
+    → (subscription_at k.world s).taken < length (accepted_at k.world s)
+    → Some (next_item s (account_of k.names k.steps)) ≡ slice_get (accepted_at k.world s) (subscription_at k.world s).taken
+next_is k s reached there due = ?
+
+-- N10: one that isn't closed has its entry, of its topic
+pub has_entry : (k : Core) (s : ℕ) → IsReached k → s < length k.world.subscriptions
+    → (subscription_at k.world s).closed ≡ None → entry_at k.world s ≢ None
+has_entry k s reached there unclosed = ?
+
+-- N11: the session's subscriptions are the connection's that aren't closed, with their ids and topics
+pub session_subs : (k : Core) (c : ℕ) → IsReached k → is_reading (connection_at k.world c).standing ≡ true
+    → (session_at k c).subscriptions
+    ≡ map (λ s. (sub_id_text s k.steps, (subscription_at k.world s).topic)) (live_numbers c 0 k.world.subscriptions)
+session_subs k c reached reading = ?
+
+-- N12: a live subscription is the one that its id names
+pub number_is : (k : Core) (c s : ℕ) → IsReached k → is_reading (connection_at k.world c).standing ≡ true
+    → In s (live_numbers c 0 k.world.subscriptions) → number_by c (sub_id_text s k.steps) k.steps ≡ s
+number_is k c s reached reading live = ?
+
+-- ---- receipts
+
+-- N13: a connection has at most one DISCONNECT
+pub parting_is : (k : Core) (c : ℕ) → IsReached k
+    → flat_map receipts_of (filter (λ f. is_disconnect f.command) (accepted_of c k.steps))
+    ≡ option_map_or (λ id. receipt_frame id ∷ []) (parting_receipt (accepted_of c k.steps)) []
+parting_is k c reached = ?
+
+-- N14: an open connection has none
+pub not_parting : (k : Core) (c : ℕ) → IsReached k → is_reading (connection_at k.world c).standing ≡ true
+    → find (λ f. is_disconnect f.command) (accepted_of c k.steps) ≡ None
+not_parting k c reached reading = ?
