@@ -1,6 +1,9 @@
 -- Laws that the code of the core rests on.
 pub mod ListLemmas
 pub mod ViewLemmas
+pub mod OfRuns
+pub mod Standings
+pub mod Connections
 pub mod Needs
 pub mod LostStep
 pub mod QuietSteps

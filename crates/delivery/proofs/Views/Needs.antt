@@ -28,40 +28,6 @@ use Rattle.delivery.specs.Inner.Stands.{IsReached}
 use Rattle.delivery.specs.Inner.Verdicts.{verdict_at}
 use Rattle.delivery.specs.Inner.View.{view_of, parting_receipt, live_numbers}
 
--- ---- the run of the machine that a run of the core is
-
--- all moves of these steps
-abbrev pub all_moves : TopicList → ℕ → List CoreStep → List Move
-all_moves topics capacity [] = []
-all_moves topics capacity (step ∷ older) =
-    all_moves topics capacity older
-    ++ moves (core_of topics capacity older) step.event step.reading step.outcome
-
--- the run of the machine
-abbrev pub run_of : TopicList → ℕ → List CoreStep → Run
-run_of topics capacity steps = record {
-  capacity = capacity;
-  log_limit = 65536;
-  clocks = topics.clocks;
-  events = all_moves topics capacity steps;
-}
-
--- N0: its world is the core's
-pub world_is : (topics : TopicList) (capacity : ℕ) (steps : List CoreStep)
-    → (core_of topics capacity steps).world ≡ final_world (run_of topics capacity steps)
-world_is topics capacity steps = ?
-
--- an account has it: not a refusal, and not a frame that only its session needs
-abbrev pub is_told : Answer → Bool
-is_told (Answer.Refused why) = false
-is_told Answer.Done = false
-is_told o = true
-
--- N1: the account of a run's steps is what its moves are answered
-pub account_is : (topics : TopicList) (capacity : ℕ) (steps : List CoreStep) → IsCoreRun topics capacity steps
-    → account_of topics.names steps ≡ filter is_told (answers_of (run_of topics capacity steps))
-account_is topics capacity steps run = ?
-
 -- ---- connections
 
 -- N2: nothing came of a connection that isn't there yet
@@ -73,19 +39,6 @@ pub record IsUntouched (k : Core) (c : ℕ) : Type 0 where
 
 pub untouched : (k : Core) (c : ℕ) → IsReached k → length k.world.connections ≤ c → IsUntouched k c
 untouched k c reached none = ?
-
--- N3: a connection speaks for the sender of its number; there are as many senders as connections
-pub own_sender : (k : Core) (c : ℕ) → IsReached k → c < length k.world.connections
-    → (connection_at k.world c).sender ≡ c
-own_sender k c reached there = ?
-
-pub as_many : (k : Core) → IsReached k → length k.world.senders ≡ length k.world.connections
-as_many k reached = ?
-
--- N4: a connection was closed where it isn't open
-pub closed_is : (k : Core) (c : ℕ) → IsReached k → c < length k.world.connections
-    → has_closed c (account_of k.names k.steps) ≡ not (is_reading (connection_at k.world c).standing)
-closed_is k c reached there = ?
 
 -- ---- topics and verdicts
 
