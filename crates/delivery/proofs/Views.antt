@@ -4,6 +4,10 @@ pub mod ViewLemmas
 pub mod OfRuns
 pub mod Standings
 pub mod Connections
+pub mod Accounts
+pub mod Partings
+pub mod Untouched
+pub mod Turns
 pub mod Needs
 pub mod LostStep
 pub mod QuietSteps

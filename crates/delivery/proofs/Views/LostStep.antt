@@ -14,7 +14,7 @@ use Rattle.delivery.specs.Core.Steps.{Reading, accepted_of}
 use Rattle.delivery.specs.Core.State.{Core}
 use Rattle.delivery.specs.Inner.Stands.{IsReached, Makes, step_of, line_objection}
 use Rattle.delivery.specs.Inner.View.{View, LineView, view_of, view_after, leaving_line, parting_receipt}
-use Rattle.delivery.proofs.Views.Needs.{not_parting}
+use Rattle.delivery.proofs.Views.Partings.{not_parting}
 use Rattle.delivery.proofs.Views.QuietSteps.{quiet_view, lost_is_quiet}
 use Rattle.delivery.proofs.Views.StepLemmas.{made_world, made_answer, in_outcome, refused_makes, open_checked, checked_there, checked_open, left_view}
 

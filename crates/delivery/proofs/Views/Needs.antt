@@ -28,31 +28,7 @@ use Rattle.delivery.specs.Inner.Stands.{IsReached}
 use Rattle.delivery.specs.Inner.Verdicts.{verdict_at}
 use Rattle.delivery.specs.Inner.View.{view_of, parting_receipt, live_numbers}
 
--- ---- connections
-
--- N2: nothing came of a connection that isn't there yet
-pub record IsUntouched (k : Core) (c : ℕ) : Type 0 where
-  pub accepted : accepted_of c k.steps ≡ []
-  pub unread : unread_at c k.steps ≡ unread_of reader_limits
-  pub text : text_out k.names c k.steps ≡ []
-  pub live : live_numbers c 0 k.world.subscriptions ≡ []
-
-pub untouched : (k : Core) (c : ℕ) → IsReached k → length k.world.connections ≤ c → IsUntouched k c
-untouched k c reached none = ?
-
 -- ---- topics and verdicts
-
--- N5: a turn asks only about entries of these numbers and about pending parts (over mcast_group's definitions)
-pub turn_same : (takes takes' : Entry → Bool) (finds finds' : TxnId → Option Decision) (x : TopicState)
-    → ((e f : Entry) → In f x.subscriptions → e.number ≡ f.number → takes e ≡ takes' e)
-    → ((p : Pending) → In p x.pending → finds p.part.id ≡ finds' p.part.id)
-    → after_turn takes finds x ≡ after_turn takes' finds' x
-turn_same takes takes' finds finds' x same found = ?
-
-pub release_same : (takes takes' : Entry → Bool) (x : TopicState)
-    → ((e f : Entry) → In f x.subscriptions → e.number ≡ f.number → takes e ≡ takes' e)
-    → after_release takes x ≡ after_release takes' x
-release_same takes takes' x same = ?
 
 -- N6: the verdict that is found by sender and seq is the one that is found by a search
 pub verdict_is : (k : Core) (id : TxnId) → IsReached k
@@ -61,11 +37,7 @@ verdict_is k id reached = ?
 
 -- ---- undecided transactions
 
--- N7: the id of a sender's undecided transaction is its last, and its tickets rise by topic and are named
-pub flight_id : (k : Core) (s : ℕ) (f : Undecided) → IsReached k → (sender_at k.world s).flight ≡ Some f
-    → f.txn.id ≡ record { sender = record { 0 = s }; seq = (sender_at k.world s).seq }
-flight_id k s f reached flight = ?
-
+-- N7: its tickets rise by topic and are named
 pub tickets_are : (k : Core) (s : ℕ) (f : Undecided) → IsReached k → (sender_at k.world s).flight ≡ Some f
     → ticket_rows (map (λ t. (t, row_at t f.given)) (topics_of f.txn.sends)) ≡ f.given
 tickets_are k s f reached flight = ?
@@ -76,31 +48,12 @@ pub complete_is : (k : Core) (s : ℕ) (f : Undecided) (rows : List Stamp) → I
 complete_is k s f rows reached flight same = ?
 
 -- N8: what the account says of it
-pub last_is : (k : Core) (c : ℕ) (f : Undecided) → IsReached k → c < length k.world.connections
-    → (speaker k.world c).flight ≡ Some f → last_id c (account_of k.names k.steps) ≡ f.txn.id
-last_is k c f reached there flight = ?
-
 pub failed_is : (k : Core) (c : ℕ) (f : Undecided) (fault : ProposeFault) → IsReached k
     → (speaker k.world c).flight ≡ Some f → f.mark ≡ Some fault
     → failed_title f.txn.id (account_of k.names k.steps) ≡ propose_title fault
 failed_is k c f fault reached flight mark = ?
 
 -- ---- subscriptions
-
--- N9: what the account says of a subscription
-pub begins_as : (k : Core) (s : ℕ) → IsReached k → s < length k.world.subscriptions
-    → (beginning_of s (account_of k.names k.steps)).connection ≡ (subscription_at k.world s).connection
-begins_as k s reached there = ?
-
-pub next_is : (k : Core) (s : ℕ) → IsReached k → s < length k.world.subscriptions
-    → (subscription_at k.world s).taken < length (accepted_at k.world s)
-    → Some (next_item s (account_of k.names k.steps)) ≡ slice_get (accepted_at k.world s) (subscription_at k.world s).taken
-next_is k s reached there due = ?
-
--- N10: one that isn't closed has its entry, of its topic
-pub has_entry : (k : Core) (s : ℕ) → IsReached k → s < length k.world.subscriptions
-    → (subscription_at k.world s).closed ≡ None → entry_at k.world s ≢ None
-has_entry k s reached there unclosed = ?
 
 -- N11: the session's subscriptions are the connection's that aren't closed, with their ids and topics
 pub session_subs : (k : Core) (c : ℕ) → IsReached k → is_reading (connection_at k.world c).standing ≡ true
@@ -112,16 +65,3 @@ session_subs k c reached reading = ?
 pub number_is : (k : Core) (c s : ℕ) → IsReached k → is_reading (connection_at k.world c).standing ≡ true
     → In s (live_numbers c 0 k.world.subscriptions) → number_by c (sub_id_text s k.steps) k.steps ≡ s
 number_is k c s reached reading live = ?
-
--- ---- receipts
-
--- N13: a connection has at most one DISCONNECT
-pub parting_is : (k : Core) (c : ℕ) → IsReached k
-    → flat_map receipts_of (filter (λ f. is_disconnect f.command) (accepted_of c k.steps))
-    ≡ option_map_or (λ id. receipt_frame id ∷ []) (parting_receipt (accepted_of c k.steps)) []
-parting_is k c reached = ?
-
--- N14: an open connection has none
-pub not_parting : (k : Core) (c : ℕ) → IsReached k → is_reading (connection_at k.world c).standing ≡ true
-    → find (λ f. is_disconnect f.command) (accepted_of c k.steps) ≡ None
-not_parting k c reached reading = ?

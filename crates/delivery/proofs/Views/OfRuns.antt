@@ -7,7 +7,7 @@ use Rattle.delivery.specs.Core.Account.{account_of}
 use Rattle.delivery.specs.Core.State.{Core, core_of}
 use Rattle.delivery.specs.Inner.Stands.{IsReached}
 use Rattle.delivery.proofs.Core.Said.{said}
-use Rattle.delivery.proofs.Core.AccountOfRun.{run_of, world_is, account_is}
+use Rattle.delivery.proofs.Core.AccountOfRun.{run_of, world_is, core_is, account_is}
 
 -- the run of the machine that a core's run is
 abbrev pub machine_run : {k : Core} → IsReached k → Run
@@ -21,13 +21,10 @@ world_of k reached = ap (λ (z : Core). z.world) reached.is ∙ world_is reached
 pub by_world : (P : World → Type 0) (k : Core) → IsReached k → ((r : Run) → P (final_world r)) → P k.world
 by_world P k reached h = subst P (sym (world_of k reached)) (h (machine_run reached))
 
-steps_are : (topics : Rattle.delivery.specs.Topics.TopicList) (capacity : ℕ) (steps : List Rattle.delivery.specs.Core.Steps.CoreStep) → (core_of topics capacity steps).steps ≡ steps
-steps_are topics capacity steps = ap (λ (z : Core). z.steps) (Rattle.delivery.proofs.Core.AccountOfRun.core_is topics capacity steps)
-
 -- a core's account says what its run of the machine answered
 pub account_of_core : (k : Core) (reached : IsReached k) → account_of k.names k.steps ≡ said (answers_of (machine_run reached))
 account_of_core k reached =
-    ap (λ (z : Core). account_of z.names z.steps) (reached.is ∙ Rattle.delivery.proofs.Core.AccountOfRun.core_is reached.topics reached.capacity reached.steps)
+    ap (λ (z : Core). account_of z.names z.steps) (reached.is ∙ core_is reached.topics reached.capacity reached.steps)
     ∙ account_is reached.topics reached.capacity reached.steps reached.run
 
 -- what holds of what is said and the world after each run holds of a core's account and world

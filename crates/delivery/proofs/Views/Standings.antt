@@ -153,7 +153,8 @@ stands_after w e = by_refusal (λ v o. Stands w.connections v.connections o) w e
 
 -- ---- there are never fewer, and none opens again
 
-grown_once : (before after : List Connection) (o : Answer) → Stands before after o → length before ≤ length after
+-- after one move there are no fewer connections
+pub grown_once : (before after : List Connection) (o : Answer) → Stands before after o → length before ≤ length after
 grown_once before after o (inl h) = let m = ap (λ (z : List Connection). length z) h.same in omega arith
 grown_once before after o (inr (inl h)) = let m = ap (λ (z : List Connection). length z) h.set_to ∙ set_length before h.number h.new in omega arith
 grown_once before after o (inr (inr h)) = let m = ap (λ (z : List Connection). length z) h.pushed ∙ push_length before h.new in omega arith
