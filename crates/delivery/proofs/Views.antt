@@ -8,6 +8,8 @@ pub mod Accounts
 pub mod Partings
 pub mod Untouched
 pub mod Turns
+pub mod Verdicts
+pub mod Failures
 pub mod Needs
 pub mod LostStep
 pub mod QuietSteps

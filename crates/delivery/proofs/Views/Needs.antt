@@ -28,13 +28,6 @@ use Rattle.delivery.specs.Inner.Stands.{IsReached}
 use Rattle.delivery.specs.Inner.Verdicts.{verdict_at}
 use Rattle.delivery.specs.Inner.View.{view_of, parting_receipt, live_numbers}
 
--- ---- topics and verdicts
-
--- N6: the verdict that is found by sender and seq is the one that is found by a search
-pub verdict_is : (k : Core) (id : TxnId) → IsReached k
-    → verdict_at id (view_of k).verdicts ≡ find_verdict id k.world.verdicts
-verdict_is k id reached = ?
-
 -- ---- undecided transactions
 
 -- N7: its tickets rise by topic and are named
@@ -46,12 +39,6 @@ pub complete_is : (k : Core) (s : ℕ) (f : Undecided) (rows : List Stamp) → I
     → (sender_at k.world s).flight ≡ Some f
     → slots_of_rows rows ≡ map (λ t. (t, row_at t f.given)) (topics_of f.txn.sends) → rows ≡ f.given
 complete_is k s f rows reached flight same = ?
-
--- N8: what the account says of it
-pub failed_is : (k : Core) (c : ℕ) (f : Undecided) (fault : ProposeFault) → IsReached k
-    → (speaker k.world c).flight ≡ Some f → f.mark ≡ Some fault
-    → failed_title f.txn.id (account_of k.names k.steps) ≡ propose_title fault
-failed_is k c f fault reached flight mark = ?
 
 -- ---- subscriptions
 
