@@ -1,5 +1,6 @@
 pub mod Faults
 pub mod Topics
+pub mod Nets
 pub mod Machine
 pub mod Theorem
 pub mod Core

@@ -1,6 +1,6 @@
 //! The topics that a core begins with.
 
-ghost use Rattle.std.specs.Prelude.{◌≡◌, ◌≢◌, ◌↔◌, ◌<◌, ◌++◌, ◌∷◌, [], false, IsTrue, length, slice_get, Some, OnOk, OnErr};
+ghost use Rattle.std.specs.Prelude.{◌≡◌, ◌≢◌, ◌↔◌, ◌<◌, ◌≤◌, ◌++◌, ◌∷◌, [], false, IsTrue, length, slice_get, Some, OnOk, OnErr};
 ghost use Rattle.stomp_session.specs.Names.{is_known};
 ghost use Rattle.delivery.specs.Topics.{TopicList, no_topics, max_topics, MayAdd};
 
@@ -41,6 +41,16 @@ impl Topics {
             names: Names::new(alloc),
             clocks: Vec::new(alloc),
         }
+    }
+
+    /// Its names and its clocks.
+    pub(crate) fn into_parts(self) -> (Names, Vec<u64>)
+        ensures names { result.0 ≡ self.names }
+        ensures clocks { result.1.items ≡ self.clocks }
+        ensures few { length self.clocks ≤ max_topics }
+    {
+        let Topics { names, clocks } = self;
+        (names, clocks)
     }
 
     /// Whether a topic of this name may be added: the name isn't empty, no topic has it, and there are fewer than 1,024.

@@ -121,7 +121,7 @@ refusal_some None o e = none_some o e
 refusal_some (Some why) o e = record { why = why; is = some_same _ o e }
 
 -- what comes of a move: it is refused, or it has its answer
-by_answer : (P : Outcome → Type 0) (w : World) (e : Move) (o : Outcome)
+pub by_answer : (P : Outcome → Type 0) (w : World) (e : Move) (o : Outcome)
     → ((why : Objection) (x : Refusal) → answer_to w e ≡ Answer.Refused why → P (Outcome.Refused x))
     → (move_refusal w e ≡ None → answer_to w e ≡ move_answer w e → (z : Outcome) → outcome_of (move_answer w e) ≡ Some z → P z)
     → outcome_of (answer_to w e) ≡ Some o → P o

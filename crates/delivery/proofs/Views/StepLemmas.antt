@@ -1,0 +1,225 @@
+-- Steps of one move: its world, its answer, and a refused one.
+use Rattle.std.proofs.Common.{◌≡◌, ◌≢◌, ℕ, ◌+◌, ◌<◌, ◌≤◌, Bool, true, false, not, nat_lt, List, [], ◌∷◌, ◌++◌, length, get_or, set, Option, Some, None, refl, sym, ap, ◌∙◌, arith}
+use Rattle.std.proofs.Common.{◌⊎◌, inl, inr}
+use Rattle.std.specs.Prelude.{slice_get}
+use Rattle.std.proofs.lemmas.Bool.{ltb-true, ltb-false}
+use Rattle.std.proofs.lemmas.Option.{slice_get-get_or, slice_get_past}
+use Rattle.std.specs.Option.{option_or, option_map, option_to_list}
+use Rattle.std.proofs.lemmas.List.{get_or-set_same, get_or-set_other}
+use Rattle.mcast_txn.specs.Lists.{In}
+use Rattle.mcast_txn.specs.Checks.{first_refusal}
+use Rattle.stomp_frame.specs.declared.raw_frame.RawFrame.{RawFrame}
+use Rattle.stomp_frame.specs.Reader.{Unread}
+use Rattle.delivery.specs.declared.event.Event.{Event}
+use Rattle.delivery.specs.declared.outcome.Outcome.{Outcome}
+use Rattle.delivery.specs.declared.refusal.Refusal.{Refusal}
+use Rattle.delivery.specs.Machine.Objections.{Objection, refusal_of}
+use Rattle.delivery.specs.Machine.World.{World, Undecided, Connection, SenderState, Subscription, Standing, nobody, new_sender, connection_at, sender_at, speaker, with_standing, is_reading, is_gone}
+use Rattle.delivery.specs.Machine.Moves.{Move, Answer, move_refusal, move_effect, move_answer, answer_to, world_after, topic_objection, needs_open, with_leaving}
+use Rattle.delivery.specs.Machine.Runs.{run}
+use Rattle.delivery.specs.Core.Steps.{Reading, accepted_of}
+use Rattle.delivery.specs.Core.Output.{text_out}
+use Rattle.delivery.specs.Core.State.{Core, core_after, moves, unread_at}
+use Rattle.delivery.specs.Core.Outcomes.{outcomes, outcome_of, move_outcome, IsReadAt}
+use Rattle.delivery.specs.Core.Reports.{each_number}
+use Rattle.delivery.specs.Inner.Stands.{Makes, step_of, stage_objection, line_objection}
+use Rattle.delivery.specs.Inner.View.{View, LineView, view_of, view_after, stage_view, line_view, live_numbers, leaving_line, parting_receipt}
+use Rattle.delivery.proofs.Views.ListLemmas.{each_number-set, get_or-each_number, length-each_number, each_number-same}
+use Rattle.delivery.proofs.Views.QuietSteps.{IsQuiet, quiet_view, refused_is_quiet}
+
+-- ---- one move
+
+-- the world after a move that isn't refused
+pub made_world : (w : World) (e : Move) → move_refusal w e ≡ None → run (e ∷ []) w ≡ move_effect w e
+made_world w e free = ap (λ (why : Option Objection). elim why [ None ↦ move_effect w e | Some o ↦ w ]) free
+
+-- its answer
+pub made_answer : (w : World) (e : Move) → move_refusal w e ≡ None → answer_to w e ≡ move_answer w e
+made_answer w e free = ap (λ (why : Option Objection). elim why [ None ↦ move_answer w e | Some o ↦ Answer.Refused o ]) free
+
+-- the world after one that is refused
+pub same_world : (w : World) (e : Move) (why : Objection) → move_refusal w e ≡ Some why → run (e ∷ []) w ≡ w
+same_world w e why refused = ap (λ (o : Option Objection). elim o [ None ↦ move_effect w e | Some p ↦ w ]) refused
+
+-- its answer
+pub refused_answer : (w : World) (e : Move) (why : Objection) → move_refusal w e ≡ Some why → answer_to w e ≡ Answer.Refused why
+refused_answer w e why refused = ap (λ (o : Option Objection). elim o [ None ↦ move_answer w e | Some p ↦ Answer.Refused p ]) refused
+
+-- an outcome is the only one of a list
+in_one : (o : Outcome) (os : List Outcome) → os ≡ o ∷ [] → In o os
+in_one o os e = rw e (inl refl)
+
+-- the outcome of a move
+pub in_outcome : (k : Core) (move : Move) (o : Outcome) (a : Answer) → answer_to k.world move ≡ a → outcome_of a ≡ Some o
+    → In o (move_outcome k move)
+in_outcome k move o a answered is =
+    in_one o (move_outcome k move) (ap (λ (b : Answer). option_to_list (outcome_of b)) answered ∙ ap (λ (p : Option Outcome). option_to_list p) is)
+
+-- an event of one move that is refused changes nothing that is held
+pub refused_makes : (k : Core) (e : Event) (why : Refusal) (move : Move) (objection : Objection)
+    → moves k e Reading.Nothing (Outcome.Refused why) ≡ move ∷ []
+    → outcomes k e Reading.Nothing ≡ move_outcome k move
+    → move_refusal k.world move ≡ Some objection → refusal_of objection ≡ Some why
+    → IsReadAt k e Reading.Nothing
+    → Makes k e (Outcome.Refused why) (view_of k)
+refused_makes k e why move objection are may refused reported read =
+    let step = step_of e Reading.Nothing (Outcome.Refused why) in
+    let world : run (moves k e Reading.Nothing (Outcome.Refused why)) k.world ≡ k.world =
+        ap (λ (ms : List Move). run ms k.world) are ∙ same_world k.world move objection refused in
+    let answered : In (Outcome.Refused why) (move_outcome k move) =
+        in_outcome k move (Outcome.Refused why) (Answer.Refused objection) (refused_answer k.world move objection refused) (ap (λ (r : Option Refusal). option_map Outcome.Refused r) reported) in
+    record {
+      reading = Reading.Nothing;
+      may = record { reading = read; outcome = rw may answered };
+      view = sym (ap (λ (w : World). view_after k.names w (step ∷ k.steps)) world
+          ∙ quiet_view k.names step k.steps k.world (refused_is_quiet k.names e why k.steps));
+    }
+
+-- ---- lines
+
+-- a line is that of its connection and its sender
+pub same_line : (names : List (List ℕ)) (w v : World) (c : ℕ) (accepted : List RawFrame) (unread : Unread) (text : List ℕ)
+    → connection_at w c ≡ connection_at v c → w.senders ≡ v.senders → w.subscriptions ≡ v.subscriptions
+    → line_view names w c accepted unread text ≡ line_view names v c accepted unread text
+same_line names w v c accepted unread text connection senders subscriptions =
+    λ i. record {
+      sender = (connection i).sender;
+      stage = stage_view names (connection i).standing (get_or (senders i) (connection i).sender new_sender).flight accepted unread;
+      live = live_numbers c 0 (subscriptions i);
+      output = text;
+    }
+
+-- the world with another connection in its place
+abbrev pub with_connection : World → ℕ → Connection → World
+with_connection w c x = record w { connections = set w.connections c x }
+
+-- one line of the view, by its number
+pub line_at : (k : Core) (c : ℕ) (d : LineView) → (line : ℕ → LineView) → c < length k.world.connections
+    → get_or (each_number line 0 k.world.connections) c d ≡ line c
+line_at k c d line there =
+    let e : 0 + c ≡ c = omega arith in
+    get_or-each_number line 0 k.world.connections c d there ∙ ap line e
+
+-- where one connection is another, one line is
+pub lines_with : (names : List (List ℕ)) (w : World) (c : ℕ) (x : Connection)
+    (accepted : ℕ → List RawFrame) (unread : ℕ → Unread) (text : ℕ → List ℕ) → c < length w.connections
+    → set (each_number (λ n. line_view names w n (accepted n) (unread n) (text n)) 0 w.connections) c
+    (line_view names (with_connection w c x) c (accepted c) (unread c) (text c))
+    ≡ each_number (λ n. line_view names (with_connection w c x) n (accepted n) (unread n) (text n)) 0 (set w.connections c x)
+lines_with names w c x accepted unread text there =
+    let f = λ (n : ℕ). line_view names w n (accepted n) (unread n) (text n) in
+    let g = λ (n : ℕ). line_view names (with_connection w c x) n (accepted n) (unread n) (text n) in
+    let e : c ≡ 0 + c = omega arith in
+    ap (λ (n : ℕ). set (each_number f 0 w.connections) c (g n)) e
+    ∙ each_number-set f g 0 w.connections c x there
+    (λ n low high other. same_line names w (with_connection w c x) n (accepted n) (unread n) (text n)
+    (sym (get_or-set_other w.connections c n x nobody (λ same. other (same ∙ e)))) refl refl)
+
+-- ---- checks
+
+-- a test is true or false
+pub bool_cases : (b : Bool) → (b ≡ true) ⊎ (b ≡ false)
+bool_cases true = inl refl
+bool_cases false = inr refl
+
+standing_objection : (names : List (List ℕ)) (standing : Standing) (flight : Option Undecided) (accepted : List RawFrame) (unread : Unread)
+    → stage_objection (stage_view names standing flight accepted unread)
+    ≡ first_refusal ((is_gone standing, Objection.Gone) ∷ (not (is_reading standing), Objection.Busy) ∷ [])
+standing_objection names Standing.Open flight accepted unread = refl
+standing_objection names Standing.Leaving flight accepted unread = refl
+standing_objection names Standing.Gone flight accepted unread = refl
+
+some_is_none : {X : Type 0} {Y : Type 0} {x : X} → Some x ≡ None → Y
+some_is_none e = absurd (cc)
+
+-- the line of a connection that is there
+pub line_is : (k : Core) (c : ℕ) → c < length k.world.connections
+    → slice_get (view_of k).lines c
+    ≡ Some (line_view k.names k.world c (accepted_of c k.steps) (unread_at c k.steps) (text_out k.names c k.steps))
+line_is k c there =
+    let f = λ (n : ℕ). line_view k.names k.world n (accepted_of n k.steps) (unread_at n k.steps) (text_out k.names n k.steps) in
+    let n : c < length (each_number f 0 k.world.connections) = omega (arith, there, length-each_number f 0 k.world.connections) in
+    slice_get-get_or (each_number f 0 k.world.connections) c (f c) n ∙ ap (λ (x : LineView). Some x) (line_at k c (f c) f there)
+
+-- there is none of one that isn't
+pub no_line : (k : Core) (c : ℕ) → length k.world.connections ≤ c → slice_get (view_of k).lines c ≡ None
+no_line k c none =
+    let f = λ (n : ℕ). line_view k.names k.world n (accepted_of n k.steps) (unread_at n k.steps) (text_out k.names n k.steps) in
+    let n : length (each_number f 0 k.world.connections) ≤ c = omega (arith, none, length-each_number f 0 k.world.connections) in
+    slice_get_past (each_number f 0 k.world.connections) c n
+
+-- what stands against the line stands against its connection
+pub open_checked : (k : Core) (c : ℕ) → line_objection (slice_get (view_of k).lines c) ≡ first_refusal (needs_open k.world c)
+open_checked k c =
+    let x = connection_at k.world c in
+    let checks = λ (b : Bool). first_refusal ((not b, Objection.NoConn) ∷ (is_gone x.standing, Objection.Gone) ∷ (not (is_reading x.standing), Objection.Busy) ∷ []) in
+    elim (bool_cases (nat_lt c (length k.world.connections))) [
+      | inl t ↦
+          ap line_objection (line_is k c (ltb-true c (length k.world.connections) t))
+          ∙ (standing_objection k.names x.standing (speaker k.world c).flight (accepted_of c k.steps) (unread_at c k.steps)
+          ∙ ap checks (sym t))
+      | inr f ↦ ap line_objection (no_line k c (ltb-false c (length k.world.connections) f)) ∙ ap checks (sym f)
+    ]
+
+-- where nothing stands against it, it is there and open
+pub checked_there : (k : Core) (c : ℕ) → line_objection (slice_get (view_of k).lines c) ≡ None → c < length k.world.connections
+checked_there k c free =
+    elim (bool_cases (nat_lt c (length k.world.connections))) [
+      | inl t ↦ ltb-true c (length k.world.connections) t
+      | inr f ↦ some_is_none (sym (ap line_objection (no_line k c (ltb-false c (length k.world.connections) f))) ∙ free)
+    ]
+
+gone_or_busy : (standing : Standing) → first_refusal ((is_gone standing, Objection.Gone) ∷ (not (is_reading standing), Objection.Busy) ∷ []) ≡ None
+    → is_reading standing ≡ true
+gone_or_busy Standing.Open e = refl
+gone_or_busy Standing.Leaving e = absurd (cc)
+gone_or_busy Standing.Gone e = absurd (cc)
+
+-- and it is open
+pub checked_open : (k : Core) (c : ℕ) → line_objection (slice_get (view_of k).lines c) ≡ None → is_reading (connection_at k.world c).standing ≡ true
+checked_open k c free =
+    let x = connection_at k.world c in
+    gone_or_busy x.standing
+    (sym (standing_objection k.names x.standing (speaker k.world c).flight (accepted_of c k.steps) (unread_at c k.steps))
+    ∙ (sym (ap line_objection (line_is k c (checked_there k c free))) ∙ free))
+
+-- ---- lines of a list
+
+-- there is no line beyond the last
+pub line_missing : (lines : List LineView) (c : ℕ) → length lines ≤ c → line_objection (slice_get lines c) ≡ Some Objection.NoConn
+line_missing lines c none = ap line_objection (slice_get_past lines c none)
+
+-- the line that was read
+pub line_read : (lines : List LineView) (c : ℕ) (line : LineView) → c < length lines → line ≡ get_or lines c line
+    → slice_get lines c ≡ Some line
+line_read lines c line there is = slice_get-get_or lines c line there ∙ ap (λ (x : LineView). Some x) (sym is)
+
+-- ---- a line that is leaving
+
+-- what is held once this connection is leaving
+pub left_view : (k : Core) (c : ℕ) (parting : Option (List ℕ)) (d : LineView) → c < length k.world.connections
+    → parting_receipt (accepted_of c k.steps) ≡ parting
+    → record (view_of k) { lines = set (view_of k).lines c (leaving_line parting (get_or (view_of k).lines c d)) }
+    ≡ view_after k.names (with_leaving k.world c) k.steps
+left_view k c parting d there is =
+    let x : Connection = record { sender = (connection_at k.world c).sender; standing = Standing.Leaving } in
+    let accepted = λ (n : ℕ). accepted_of n k.steps in
+    let unread = λ (n : ℕ). unread_at n k.steps in
+    let text = λ (n : ℕ). text_out k.names n k.steps in
+    let f = λ (n : ℕ). line_view k.names k.world n (accepted n) (unread n) (text n) in
+    let w = with_connection k.world c x in
+    let now : connection_at w c ≡ x = get_or-set_same k.world.connections c x nobody there in
+    let line : leaving_line (parting_receipt (accepted c)) (f c) ≡ line_view k.names w c (accepted c) (unread c) (text c) =
+        λ i. record {
+          sender = (sym now i).sender;
+          stage = stage_view k.names (sym now i).standing (sender_at k.world (sym now i).sender).flight (accepted c) (unread c);
+          live = live_numbers c 0 k.world.subscriptions;
+          output = text c;
+        } in
+    let parted : leaving_line parting (f c) ≡ leaving_line (parting_receipt (accepted c)) (f c) = ap (λ (p : Option (List ℕ)). leaving_line p (f c)) (sym is) in
+    let old : leaving_line parting (get_or (view_of k).lines c d) ≡ leaving_line parting (f c) = ap (leaving_line parting) (line_at k c d f there) in
+    let lines : set (view_of k).lines c (leaving_line parting (get_or (view_of k).lines c d))
+        ≡ each_number (λ n. line_view k.names w n (accepted n) (unread n) (text n)) 0 w.connections =
+        ap (λ (l : LineView). set (view_of k).lines c l) (old ∙ (parted ∙ line))
+        ∙ lines_with k.names k.world c x accepted unread text there in
+    ap (λ (ls : List LineView). record (view_of k) { lines = ls }) lines

@@ -1,0 +1,18 @@
+use Rattle.std.proofs.Common.{◌≡◌, ◌<◌, ◌++◌, ◌∷◌, [], ℕ, List, length, map, take, get_or, sym, ap, ◌∙◌, arith}
+use Rattle.mcast_group.specs.Group.{GroupState}
+use Rattle.mcast_group.specs.Machine.{new_topic}
+use Rattle.delivery.specs.Machine.World.{new_topics}
+use Rattle.delivery.specs.Core.State.{log_limit}
+use Rattle.delivery.specs.Inner.View.{new_group}
+use Rattle.delivery.proofs.Views.ListLemmas.{new_groups-push}
+use Rattle.delivery.proofs.net_state.new_groups.Goals as goal
+
+pub loop-i-preserved : goal.loop-i-preserved
+loop-i-preserved c =
+    let cs = c.args.clocks.now in
+    let i = c.loop-i.i in
+    let h : i < length cs = omega arith in
+    c.in_ok-push.ensures.items
+    ∙ (ap (λ (xs : List GroupState). xs ++ c.new.result ∷ []) c.loop-i.invariant
+    ∙ (ap (λ (g : GroupState). map new_group (new_topics 0 log_limit (take i cs)) ++ g ∷ []) c.new.ensures
+    ∙ sym (new_groups-push log_limit i cs h)))

@@ -1,0 +1,16 @@
+-- Only serves proofs: what a net keeps.
+use Rattle.std.specs.Prelude.{◌≡◌, ℕ, List, map, reverse}
+use Rattle.delivery.specs.declared.kept.Kept.{Kept}
+use Rattle.delivery.specs.Topics.{TopicList}
+use Rattle.delivery.specs.Core.Steps.{CoreStep, kept_of}
+use Rattle.delivery.specs.Core.State.{core_of}
+use Rattle.delivery.specs.Core.Outcomes.{IsCoreRun}
+use Rattle.delivery.specs.Inner.View.{View, view_of}
+
+-- The kept run is one of a core, and what is held is the view of that core.
+-- steps: its steps, each a kept event with what it read, the newest first.
+pub record KeepsRun (topics : TopicList) (capacity : ℕ) (kept : List Kept) (held : View) : Type 0 where
+  pub steps : List CoreStep
+  pub are_kept : kept ≡ reverse (map kept_of steps)
+  pub is_run : IsCoreRun topics capacity steps
+  pub view : held ≡ view_of (core_of topics capacity steps)

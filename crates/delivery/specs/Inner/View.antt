@@ -1,0 +1,242 @@
+-- Only serves proofs: what the code of the core holds, as a function of a core (its names, its machine and its
+-- steps). It isn't the core itself: rows of the commit list have no SENDs, an undecided transaction has lost the
+-- parts that were taken out, verdicts are found by sender and seq, and each connection has its line.
+use Rattle.std.specs.Prelude.{ℕ, ◌+◌, List, [], ◌∷◌, map, Option, Some, None, if◌then◌else◌}
+use Rattle.std.specs.List.{find, range_with_len}
+use Rattle.std.specs.Option.{option_map, option_and_then}
+use Rattle.stomp_frame.specs.declared.raw_frame.RawFrame.{RawFrame}
+use Rattle.stomp_frame.specs.Reader.{Unread}
+use Rattle.stomp_frame.specs.Receipts.{receipt_of}
+use Rattle.mcast_txn.specs.declared.id.Topic.{Topic}
+use Rattle.mcast_txn.specs.declared.ballot.ticket.Ticket.{Ticket}
+use Rattle.mcast_txn.specs.declared.id.TxnId.{TxnId}
+use Rattle.mcast_txn.specs.declared.stamp.Stamp.{Stamp}
+use Rattle.mcast_txn.specs.Ballot.{Decision, row_at}
+use Rattle.mcast_txn.specs.Part.{part_at}
+use Rattle.mcast_txn.specs.Slots.{Slots}
+use Rattle.mcast_txn.specs.Span.{LogRow, Item}
+use Rattle.mcast_txn.specs.Stamp.{zero_stamp}
+use Rattle.mcast_txn.specs.Transaction.{TopicPart, topics_of}
+use Rattle.sub_queue.specs.Shown.{Room}
+use Rattle.sub_queue.specs.VecQueue.{VecQueue}
+use Rattle.sender_gate.specs.Gate.{GateState, FlightState}
+use Rattle.mcast_group.specs.declared.cause.Cause.{Cause}
+use Rattle.mcast_group.specs.declared.ended.Ended.{Ended}
+use Rattle.mcast_group.specs.declared.fault.ProposeFault.{ProposeFault}
+use Rattle.mcast_group.specs.Group.{GroupState}
+use Rattle.mcast_group.specs.Machine.{TopicState, EntryEnd}
+use Rattle.stomp_session.specs.Open.{held_after}
+use Rattle.stomp_session.specs.Frames.{is_disconnect}
+use Rattle.delivery.specs.declared.sending.Sending.{Sending}
+use Rattle.delivery.specs.declared.stage.Stage.{Stage}
+use Rattle.delivery.specs.Theorem.Due.{log_row}
+use Rattle.delivery.specs.Machine.World.{World, Undecided, Leftover, Subscription, Standing, connection_at, sender_at, speaker, subscription_at}
+use Rattle.delivery.specs.Machine.Moves.{has_ticket, find_verdict, is_live}
+use Rattle.delivery.specs.Core.Steps.{CoreStep, accepted_of}
+use Rattle.delivery.specs.Core.Output.{receipt_asked, commit_frame, sub_id_text, text_out}
+use Rattle.delivery.specs.Core.Reports.{each_number}
+use Rattle.delivery.specs.Core.State.{Core, unread_at}
+
+-- ---- topics
+
+-- the room of the queue of subscription s
+abbrev pub queue_room : World → ℕ → Room
+queue_room w s = record { capacity = w.capacity; taken = Some (subscription_at w s).taken }
+
+-- a topic's group
+abbrev pub group_view : World → TopicState → GroupState
+group_view w x = record { topic = x; rooms = map (λ e. queue_room w e.number) x.subscriptions }
+
+-- the group of a topic without subscriptions
+abbrev pub new_group : TopicState → GroupState
+new_group x = record { topic = x; rooms = [] }
+
+-- ---- senders
+
+-- an undecided transaction, of a sender with this floor: a part was taken out where its topic gave a ticket
+abbrev pub flight_view : Stamp → Undecided → FlightState
+flight_view floor f = record {
+  id = f.txn.id;
+  floor = floor;
+  tickets = map (λ t. (t, row_at t f.given)) (topics_of f.txn.sends);
+  parts = map
+      (λ t. (t, if has_ticket t f.given then None else Some (part_at f.txn.id f.txn.sends t)))
+      (topics_of f.txn.sends);
+}
+
+-- the row of the commit list that the transaction will be, without its stamp
+abbrev pub blank_row : Undecided → LogRow
+blank_row f = record { id = f.txn.id; topics = topics_of f.txn.sends; stamp = zero_stamp }
+
+-- the gate of a sender whose last transaction is this
+abbrev pub gate_view : Stamp → TxnId → GateState
+gate_view floor id = record { sender = id.sender; seq = id.seq; floor = floor }
+
+-- a stamp of a transaction as its ticket
+abbrev pub ticket_of : TxnId → Stamp → Ticket
+ticket_of id a = record { id = id; topic = a.topic; n = a.n }
+
+-- what an undecided transaction is to its sender: on its way, or marked
+abbrev pub undecided_view : Stamp → Undecided → Option ProposeFault → Sending
+undecided_view floor f None = Sending.Flying (flight_view floor f) (blank_row f)
+undecided_view floor f (Some fault) =
+    Sending.Marked (gate_view floor f.txn.id) (map (ticket_of f.txn.id) f.given) fault
+
+-- what sender s, of this seq and floor, does with its transaction, if one is undecided
+abbrev pub sending_view : ℕ → ℕ → Stamp → Option Undecided → Sending
+sending_view s seq floor None =
+    Sending.Idle (record { sender = record { 0 = s }; seq = seq; floor = floor })
+sending_view s seq floor (Some f) = undecided_view floor f f.mark
+
+-- a sender: its transaction, and the tickets that it has to cancel
+pub record SenderView : Type 0 where
+  pub sending : Sending
+  pub leftovers : List Ticket
+
+-- sender s
+abbrev pub sender_view : World → ℕ → SenderView
+sender_view w s =
+    let x = sender_at w s in
+    record {
+      sending = sending_view s x.seq x.floor x.flight;
+      leftovers = map (λ k. ticket_of k.id k.ticket) x.leftovers;
+    }
+
+-- the verdicts of sender s, by the seqs of its transactions so far
+abbrev pub verdict_list : World → ℕ → List (Option Decision)
+verdict_list w s =
+    map (λ q. find_verdict (record { sender = record { 0 = s }; seq = q }) w.verdicts)
+    (range_with_len 1 (sender_at w s).seq)
+
+-- ---- connections
+
+-- the receipt that an undecided transaction asked for: that of the last accepted frame
+abbrev pub pending_receipt : List RawFrame → Option Undecided → Option (List ℕ)
+pending_receipt accepted None = None
+pending_receipt accepted (Some f) = receipt_asked (commit_frame accepted)
+
+-- the receipt that a DISCONNECT among the accepted frames asked for
+abbrev pub parting_receipt : List RawFrame → Option (List ℕ)
+parting_receipt accepted = option_and_then receipt_of (find (λ f. is_disconnect f.command) accepted)
+
+-- how far a connection is that accepted these frames and whose reader stands for this
+abbrev pub stage_view : List (List ℕ) → Standing → Option Undecided → List RawFrame → Unread → Stage
+stage_view names Standing.Open flight accepted unread = Stage.Open (record {
+  reader = unread;
+  session = held_after names accepted;
+  receipt = pending_receipt accepted flight;
+})
+stage_view names Standing.Leaving flight accepted unread = Stage.Leaving (parting_receipt accepted)
+stage_view names Standing.Gone flight accepted unread = Stage.Gone
+
+-- the numbers of the connection's subscriptions that aren't closed, where the first has number i
+abbrev pub live_numbers : ℕ → ℕ → List Subscription → List ℕ
+live_numbers c i [] = []
+live_numbers c i (x ∷ xs) =
+    if is_live c x then i ∷ live_numbers c (i + 1) xs else live_numbers c (i + 1) xs
+
+-- a connection's line: its sender, how far it is, its subscriptions and its octets out
+pub record LineView : Type 0 where
+  pub sender : ℕ
+  pub stage : Stage
+  pub live : List ℕ
+  pub output : List ℕ
+
+-- the line of connection c, which accepted these frames, whose reader stands for this, and whose text out is
+-- this
+abbrev pub line_view : List (List ℕ) → World → ℕ → List RawFrame → Unread → List ℕ → LineView
+line_view names w c accepted unread text = record {
+  sender = (connection_at w c).sender;
+  stage = stage_view names (connection_at w c).standing (speaker w c).flight accepted unread;
+  live = live_numbers c 0 w.subscriptions;
+  output = text;
+}
+
+-- what stands for a line that there never was
+abbrev pub no_line : LineView
+no_line = record { sender = 0; stage = Stage.Gone; live = []; output = [] }
+
+-- a line that is leaving; with it is the receipt that its DISCONNECT asked for
+abbrev pub leaving_line : Option (List ℕ) → LineView → LineView
+leaving_line parting line = record line { stage = Stage.Leaving parting }
+
+-- ---- subscriptions
+
+-- what a closed subscription has left: where its span ends and why, and its queue
+pub record LeftView : Type 0 where
+  pub to : Stamp
+  pub cause : Cause
+  pub accepted : List Item
+  pub taken : ℕ
+
+-- what the code keeps of it
+abbrev pub left_of : Ended VecQueue → LeftView
+left_of left = record {
+  to = left.to;
+  cause = left.cause;
+  accepted = left.outlet.accepted;
+  taken = left.outlet.taken;
+}
+
+-- what the machine keeps of it
+abbrev pub left_view : ℕ → EntryEnd → LeftView
+left_view taken end =
+    record { to = end.to; cause = end.cause; accepted = end.accepted; taken = taken }
+
+-- a subscription: whose it is, its id, its topic, where its span begins, and what it left if it was closed
+pub record SubView : Type 0 where
+  pub connection : ℕ
+  pub id : List ℕ
+  pub topic : Topic
+  pub from : Stamp
+  pub left : Option LeftView
+
+-- subscription s, which has this id
+abbrev pub sub_view : World → ℕ → List ℕ → SubView
+sub_view w s id =
+    let x = subscription_at w s in
+    record {
+      connection = x.connection;
+      id = id;
+      topic = x.topic;
+      from = x.from;
+      left = option_map (left_view x.taken) x.closed;
+    }
+
+-- ---- all together
+
+-- what the code of the core holds
+pub record View : Type 0 where
+  pub names : List (List ℕ)
+  pub capacity : ℕ
+  pub groups : List GroupState
+  pub senders : List SenderView
+  pub verdicts : List (List (Option Decision))
+  pub lines : List LineView
+  pub subs : List SubView
+  pub commits : List LogRow
+
+-- what it holds of this machine, where each connection accepted these frames, its reader stands for this and
+-- its text out is this, and each subscription has this id
+abbrev pub view_with : List (List ℕ) → World → (ℕ → List RawFrame) → (ℕ → Unread) → (ℕ → List ℕ)
+    → (ℕ → List ℕ) → View
+view_with names w accepted unread text ids = record {
+  names = names;
+  capacity = w.capacity;
+  groups = map (group_view w) w.topics;
+  senders = each_number (sender_view w) 0 w.senders;
+  verdicts = each_number (verdict_list w) 0 w.senders;
+  lines = each_number (λ c. line_view names w c (accepted c) (unread c) (text c)) 0 w.connections;
+  subs = each_number (λ s. sub_view w s (ids s)) 0 w.subscriptions;
+  commits = map log_row w.commits;
+}
+
+-- what it holds after these steps
+abbrev pub view_after : List (List ℕ) → World → List CoreStep → View
+view_after names w steps =
+    view_with names w (λ c. accepted_of c steps) (λ c. unread_at c steps) (λ c. text_out names c steps)
+    (λ s. sub_id_text s steps)
+
+-- what it holds of this core
+abbrev pub view_of : Core → View
+view_of k = view_after k.names k.world k.steps

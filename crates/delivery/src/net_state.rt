@@ -1,0 +1,139 @@
+//! What the core holds.
+
+ghost use Rattle.std.specs.Prelude.{◌≡◌, ◌≤◌, ◌<◌, [], length, map, get_or, set, slice_get, IfOk};
+ghost use Rattle.delivery.specs.Topics.{max_topics};
+ghost use Rattle.delivery.specs.Machine.World.{new_topics};
+ghost use Rattle.delivery.specs.Core.State.{Core, log_limit, new_core};
+ghost use Rattle.delivery.specs.Inner.Stands.{IsReached, Makes, IsChecked, line_objection};
+ghost use Rattle.delivery.specs.Inner.View.{LineView, view_of, new_group, leaving_line};
+ghost use Rattle.delivery.specs.declared.event.Event.{Event as Asked};
+
+use crate::line::Line;
+use crate::outcome::Outcome;
+use crate::refusal::Refusal;
+use crate::sender_state::SenderState;
+use crate::stage::Stage;
+use crate::sub::Sub;
+use crate::table::Table;
+use mcast_group::{Group, Row};
+use mcast_txn::Topic;
+use std::alloc::Global;
+use std::marker::Model;
+use std::sync::Arc;
+use stomp_frame::{NoMemory, Octets};
+use stomp_session::Names;
+use sub_queue::VecOutlet;
+
+/// The most parts and rows of a topic, taken together.
+const LOG_LIMIT: usize = 65_536;
+
+/// What the core holds: of each topic its group, of each sender its transaction and its verdicts, of each connection its
+/// line, each subscription, and the rows of the commit list. In contracts it is the view of a core.
+#[derive(Drop)]
+pub(crate) struct NetState {
+    alloc: Global,
+    names: Arc<Names>,
+    capacity: usize,
+    groups: Vec<Group<VecOutlet>>,
+    senders: Vec<SenderState>,
+    table: Table,
+    lines: Vec<Line>,
+    subs: Vec<Sub>,
+    commits: Vec<Row>,
+}
+
+impl Model for NetState {
+    ghost use Rattle.std.specs.Arc.{arc_value};
+    ghost use Rattle.delivery.specs.Inner.View.{View};
+
+    ghost Value = { View };
+
+    ghost view = { λ n. record {
+      names = arc_value n.names;
+      capacity = n.capacity;
+      groups = n.groups.items;
+      senders = n.senders.items;
+      verdicts = n.table;
+      lines = n.lines.items;
+      subs = n.subs.items;
+      commits = n.commits.items;
+    } };
+}
+
+/// A group of each topic, with the number that its clock begins at.
+fn new_groups(alloc: Global, clocks: &[u64]) -> Result<Vec<Group<VecOutlet>>, NoMemory>
+    requires { length clocks.now ≤ max_topics }
+    ensures { IfOk result (λ groups. groups.items ≡ map new_group (new_topics 0 log_limit clocks.now)) }
+{
+    let mut groups = Vec::with_capacity(alloc, clocks.len())?;
+    for i in 0..clocks.len() {
+        let topic = Topic(i as u32);
+        groups.push(Group::new(alloc, topic, clocks[i], LOG_LIMIT))?;
+    }
+    Ok(groups)
+}
+
+impl NetState {
+    /// Topics of these names and opening clocks, whose queues have this capacity, and nobody there.
+    pub(crate) fn new(
+        alloc: Global,
+        names: Names,
+        clocks: &[u64],
+        capacity: usize,
+    ) -> Result<NetState, NoMemory>
+        requires { length clocks.now ≤ max_topics }
+        ensures { IfOk result (λ state. state ≡ view_of (new_core (record { names = names; clocks = clocks.now }) capacity)) }
+    {
+        let groups = new_groups(alloc, clocks)?;
+        Ok(NetState {
+            alloc,
+            names: Arc::new(alloc, names)?,
+            capacity,
+            groups,
+            senders: Vec::new(alloc),
+            table: Table::new(alloc),
+            lines: Vec::new(alloc),
+            subs: Vec::new(alloc),
+            commits: Vec::new(alloc),
+        })
+    }
+
+    /// Whether the connection's octets and frames may be read: 80 where there is none, 87 where it is gone, 81 where it is
+    /// leaving.
+    fn check_open(&self, c: u64) -> Result<(), Refusal>
+        ensures { IsChecked result (line_objection (slice_get self.now.lines c)) }
+    {
+        let Some(line) = self.lines.get(c as usize) else {
+            return Err(Refusal::NoConn);
+        };
+        match line.stage {
+            Stage::Open(_) => Ok(()),
+            Stage::Leaving(_) => Err(Refusal::Busy),
+            Stage::Gone => Err(Refusal::Gone),
+        }
+    }
+
+    /// The connection is leaving; with it is the receipt that its DISCONNECT asked for.
+    fn leave(&mut self, c: u64, parting: Option<Octets>)
+        requires { c < length self.old.lines }
+        ensures { (d : LineView) → self.new ≡ record self.old {
+          lines = set self.old.lines c (leaving_line parting (get_or self.old.lines c d));
+        } }
+    {
+        let line = &mut self.lines[c as usize];
+        line.stage = Stage::Leaving(parting);
+    }
+
+    /// The connection is lost: 80 where there is none, 87 where it is gone, 81 where it is leaving. It takes no memory.
+    pub(crate) fn lost(&mut self, c: u64) -> Outcome
+        ensures { (k : Core) → IsReached k → self.old ≡ view_of k → Makes k (Asked.Lost c) result self.new }
+    {
+        match self.check_open(c) {
+            Ok(()) => {
+                self.leave(c, None);
+                Outcome::Leaving
+            }
+            Err(refusal) => Outcome::Refused(refusal),
+        }
+    }
+}

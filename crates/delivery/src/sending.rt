@@ -1,0 +1,16 @@
+//! What a sender does with its transaction.
+
+use mcast_group::{ProposeFault, Row};
+use mcast_txn::Tickets;
+use sender_gate::{Flying, Gate};
+
+/// What a sender does with its transaction, if one is undecided.
+#[derive(Drop)]
+pub(crate) enum Sending {
+    /// None is undecided.
+    Idle(Gate),
+    /// One is on its way. With it is the row that the commit list is to have of it, whose stamp isn't known yet.
+    Flying(Flying, Row),
+    /// A topic refused it, and why: its tickets are to be cancelled.
+    Marked(Gate, Tickets, ProposeFault),
+}

@@ -1,0 +1,60 @@
+//! The verdicts of transactions.
+
+ghost use Rattle.std.specs.Prelude.{◌≡◌, []};
+ghost use Rattle.std.specs.Option.{option_map};
+ghost use Rattle.delivery.specs.Inner.Verdicts.{verdict_at};
+
+use mcast_group::{Found, Verdicts};
+use mcast_txn::{Part, TxnId, Verdict};
+use std::alloc::Global;
+use std::marker::Model;
+
+/// The verdicts of transactions, by sender and seq. In contracts it is, for each sender, the verdicts of its transactions
+/// so far, of which the first has seq 1.
+#[derive(Drop)]
+pub(crate) struct Table {
+    senders: Vec<Vec<Option<Box<Verdict>>>>,
+}
+
+impl Model for Table {
+    ghost use Rattle.std.specs.Prelude.{List, map, Option};
+    ghost use Rattle.std.specs.Option.{option_map};
+    ghost use Rattle.mcast_txn.specs.Ballot.{Decision};
+
+    ghost Value = { List (List (Option Decision)) };
+
+    ghost view = { λ t. map (λ verdicts. map (option_map (λ verdict. verdict.value)) verdicts.items) t.senders.items };
+}
+
+impl Table {
+    /// No senders. It takes no memory.
+    pub(crate) fn new(alloc: Global) -> Table
+        ensures { result ≡ [] }
+    {
+        Table {
+            senders: Vec::new(alloc),
+        }
+    }
+
+    /// The verdict of this transaction, if it was decided: found without a search.
+    pub(crate) fn verdict(&self, id: TxnId) -> Option<&Verdict>
+        ensures { option_map (λ verdict. verdict.now) result ≡ verdict_at id self.now }
+    {
+        let index = id.seq.checked_sub(1)?;
+        let verdicts = self.senders.get(id.sender.0 as usize)?;
+        match verdicts.get(index as usize)? {
+            Some(verdict) => Some(verdict),
+            None => None,
+        }
+    }
+}
+
+impl Verdicts for Table {
+    ghost finds = { λ table part found. found ≡ verdict_at part.id table };
+
+    /// The verdict of the part's transaction, if it was decided.
+    fn find<'a>(&'a self, part: &'a Part) -> Option<Found<'a>> {
+        let verdict = self.verdict(part.id)?;
+        Some(Found { verdict })
+    }
+}
