@@ -10,6 +10,7 @@ pub mod Untouched
 pub mod Turns
 pub mod Verdicts
 pub mod Failures
+pub mod Tickets
 pub mod Needs
 pub mod LostStep
 pub mod QuietSteps

@@ -28,18 +28,6 @@ use Rattle.delivery.specs.Inner.Stands.{IsReached}
 use Rattle.delivery.specs.Inner.Verdicts.{verdict_at}
 use Rattle.delivery.specs.Inner.View.{view_of, parting_receipt, live_numbers}
 
--- ---- undecided transactions
-
--- N7: its tickets rise by topic and are named
-pub tickets_are : (k : Core) (s : ℕ) (f : Undecided) → IsReached k → (sender_at k.world s).flight ≡ Some f
-    → ticket_rows (map (λ t. (t, row_at t f.given)) (topics_of f.txn.sends)) ≡ f.given
-tickets_are k s f reached flight = ?
-
-pub complete_is : (k : Core) (s : ℕ) (f : Undecided) (rows : List Stamp) → IsReached k
-    → (sender_at k.world s).flight ≡ Some f
-    → slots_of_rows rows ≡ map (λ t. (t, row_at t f.given)) (topics_of f.txn.sends) → rows ≡ f.given
-complete_is k s f rows reached flight same = ?
-
 -- ---- subscriptions
 
 -- N11: the session's subscriptions are the connection's that aren't closed, with their ids and topics
