@@ -2,6 +2,8 @@
 pub mod ListLemmas
 pub mod ViewLemmas
 pub mod Needs
+pub mod OpenStep
+pub mod PieceStep
 pub mod LostStep
 pub mod QuietSteps
 pub mod StepLemmas

@@ -81,6 +81,12 @@ not_fed : (b : Bool) (u v : Unread) → cond (b && false) u v ≡ v
 not_fed true u v = refl
 not_fed false u v = refl
 
+-- want of memory at a Piece
+pub piece_without_is_quiet : (names : List (List ℕ)) (c : ℕ) (octets : List ℕ) (older : List CoreStep)
+    → IsQuiet names (step_of (Event.Piece c octets) Reading.Nothing Outcome.NoMemory) older
+piece_without_is_quiet names c octets older =
+    quiet_from names (Event.Piece c octets) Outcome.NoMemory older (λ d. refl) (λ d. not_fed (c == d) _ _) (λ d. refl) (λ s. refl)
+
 -- a refused event
 pub refused_is_quiet : (names : List (List ℕ)) (e : Event) (why : Refusal) (older : List CoreStep)
     → IsQuiet names (step_of e Reading.Nothing (Outcome.Refused why)) older

@@ -46,7 +46,7 @@ pub refused_answer : (w : World) (e : Move) (why : Objection) → move_refusal w
 refused_answer w e why refused = ap (λ (o : Option Objection). elim o [ None ↦ move_answer w e | Some p ↦ Answer.Refused p ]) refused
 
 -- an outcome is the only one of a list
-in_one : (o : Outcome) (os : List Outcome) → os ≡ o ∷ [] → In o os
+pub in_one : (o : Outcome) (os : List Outcome) → os ≡ o ∷ [] → In o os
 in_one o os e = rw e (inl refl)
 
 -- the outcome of a move
