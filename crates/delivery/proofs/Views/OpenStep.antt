@@ -66,37 +66,37 @@ open_makes k reached =
     let last : sender_at new s ≡ new_sender = get_or-push_last w.senders new_sender new_sender s refl in
     let many : length (view_of k).senders ≡ s = length-each_number (λ n. sender_view n (sender_at w n)) 0 w.senders in
     let senders : (view_of k).senders ++ sender_view (length (view_of k).senders) new_sender ∷ []
-        ≡ each_number (λ n. sender_view n (sender_at new n)) 0 new.senders =
-        pushed (λ n. sender_view n (sender_at w n)) (λ n. sender_view n (sender_at new n)) w.senders new_sender (sender_view (length (view_of k).senders) new_sender)
-        (λ n h. ap (sender_view n) (sym (state n)))
-        (ap (sender_view s) last ∙ ap (λ (n : ℕ). sender_view n new_sender) (sym many)) in
+    ≡ each_number (λ n. sender_view n (sender_at new n)) 0 new.senders =
+    pushed (λ n. sender_view n (sender_at w n)) (λ n. sender_view n (sender_at new n)) w.senders new_sender (sender_view (length (view_of k).senders) new_sender)
+    (λ n h. ap (sender_view n) (sym (state n)))
+    (ap (sender_view s) last ∙ ap (λ (n : ℕ). sender_view n new_sender) (sym many)) in
     let verdicts : (view_of k).verdicts ++ [] ∷ [] ≡ each_number (λ n. verdict_list w.verdicts n (sender_at new n).seq) 0 new.senders =
-        pushed (λ n. verdict_list w.verdicts n (sender_at w n).seq) (λ n. verdict_list w.verdicts n (sender_at new n).seq) w.senders new_sender []
-        (λ n h. ap (λ (z : SenderState). verdict_list w.verdicts n z.seq) (sym (state n)))
-        (ap (λ (z : SenderState). verdict_list w.verdicts s z.seq) last) in
+    pushed (λ n. verdict_list w.verdicts n (sender_at w n).seq) (λ n. verdict_list w.verdicts n (sender_at new n).seq) w.senders new_sender []
+    (λ n h. ap (λ (z : SenderState). verdict_list w.verdicts n z.seq) (sym (state n)))
+    (ap (λ (z : SenderState). verdict_list w.verdicts s z.seq) last) in
     let f = λ (n : ℕ). line_view k.names w n (accepted_of n k.steps) (unread_at n k.steps) (text_out k.names n k.steps) in
     let g = λ (n : ℕ). line_view k.names new n (accepted_of n k.steps) (unread_at n k.steps) (text_out k.names n k.steps) in
     let same : (n : ℕ) → n < length w.connections → f n ≡ g n = λ n h.
-        let conn : connection_at w n ≡ connection_at new n = sym (get_or_append_left w.connections (x ∷ []) nobody n h) in
-        let speaks : sender_at w (connection_at w n).sender ≡ sender_at new (connection_at new n).sender =
-            sym (state (connection_at w n).sender) ∙ ap (λ (z : Connection). sender_at new z.sender) conn in
-        λ i. record {
-          sender = (conn i).sender;
-          stage = stage_view k.names (conn i).standing (speaks i).flight (accepted_of n k.steps) (unread_at n k.steps);
-          live = live_numbers n 0 w.subscriptions;
-          output = text_out k.names n k.steps;
-        } in
+    let conn : connection_at w n ≡ connection_at new n = sym (get_or_append_left w.connections (x ∷ []) nobody n h) in
+    let speaks : sender_at w (connection_at w n).sender ≡ sender_at new (connection_at new n).sender =
+    sym (state (connection_at w n).sender) ∙ ap (λ (z : Connection). sender_at new z.sender) conn in
+    λ i. record {
+      sender = (conn i).sender;
+      stage = stage_view k.names (conn i).standing (speaks i).flight (accepted_of n k.steps) (unread_at n k.steps);
+      live = live_numbers n 0 w.subscriptions;
+      output = text_out k.names n k.steps;
+    } in
     let line : g c ≡ new_line k.names (length (view_of k).senders) =
-        let speaks : sender_at new (connection_at new c).sender ≡ new_sender = ap (λ (z : Connection). sender_at new z.sender) there ∙ last in
-        (λ i. record {
-          sender = (there i).sender;
-          stage = stage_view k.names (there i).standing (speaks i).flight (nothing.accepted i) (nothing.unread i);
-          live = nothing.live i;
-          output = nothing.text i;
-        })
-        ∙ ap (new_line k.names) (sym many) in
+    let speaks : sender_at new (connection_at new c).sender ≡ new_sender = ap (λ (z : Connection). sender_at new z.sender) there ∙ last in
+    (λ i. record {
+      sender = (there i).sender;
+      stage = stage_view k.names (there i).standing (speaks i).flight (nothing.accepted i) (nothing.unread i);
+      live = nothing.live i;
+      output = nothing.text i;
+    })
+    ∙ ap (new_line k.names) (sym many) in
     let lines : (view_of k).lines ++ new_line k.names (length (view_of k).senders) ∷ [] ≡ each_number g 0 new.connections =
-        pushed f g w.connections x (new_line k.names (length (view_of k).senders)) same line in
+    pushed f g w.connections x (new_line k.names (length (view_of k).senders)) same line in
     record {
       reading = Reading.Nothing;
       may = record { reading = refl; outcome = inl refl };

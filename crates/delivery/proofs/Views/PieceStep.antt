@@ -98,17 +98,17 @@ piece_makes k c octets d is =
     let there = checked_there k c is in
     let x = connection_at w c in
     let line : fed_line octets (f c) ≡ g c =
-        ap (λ (s : Rattle.delivery.specs.declared.stage.Stage.Stage). record (f c) { stage = s }) (fed_standing k.names x.standing (speaker w c).flight (accepted c) (unread c) octets (checked_open k c is))
-        ∙ ap (λ (u : Unread). line_view k.names w c (accepted c) u (text c)) (sym (own unread c octets)) in
+    ap (λ (s : Rattle.delivery.specs.declared.stage.Stage.Stage). record (f c) { stage = s }) (fed_standing k.names x.standing (speaker w c).flight (accepted c) (unread c) octets (checked_open k c is))
+    ∙ ap (λ (u : Unread). line_view k.names w c (accepted c) u (text c)) (sym (own unread c octets)) in
     let old : get_or (view_of k).lines c d ≡ f c = line_at k c d f there in
     let e : c ≡ 0 + c = omega arith in
     let lines : set (view_of k).lines c (fed_line octets (get_or (view_of k).lines c d)) ≡ each_number g 0 w.connections =
-        ap (λ (l : LineView). set (view_of k).lines c (fed_line octets l)) old
-        ∙ (ap (λ (l : LineView). set (view_of k).lines c l) line
-        ∙ (ap (λ (n : ℕ). set (each_number f 0 w.connections) c (g n)) e
-        ∙ (each_number-set f g 0 w.connections c x there
-        (λ n low high differ. ap (λ (u : Unread). line_view k.names w n (accepted n) u (text n)) (sym (other unread c octets n (λ same. differ (same ∙ e)))))
-        ∙ ap (λ (xs : List Connection). each_number g 0 xs) (set-get_or w.connections c nobody)))) in
+    ap (λ (l : LineView). set (view_of k).lines c (fed_line octets l)) old
+    ∙ (ap (λ (l : LineView). set (view_of k).lines c l) line
+    ∙ (ap (λ (n : ℕ). set (each_number f 0 w.connections) c (g n)) e
+    ∙ (each_number-set f g 0 w.connections c x there
+    (λ n low high differ. ap (λ (u : Unread). line_view k.names w n (accepted n) u (text n)) (sym (other unread c octets n (λ same. differ (same ∙ e)))))
+    ∙ ap (λ (xs : List Connection). each_number g 0 xs) (set-get_or w.connections c nobody)))) in
     record {
       reading = Reading.Nothing;
       may = record { reading = refl; outcome = rw (ap piece_outcomes (sym (open_checked k c) ∙ is)) (inl refl) };

@@ -16,7 +16,7 @@ returns-in-Ok c k reached is =
     let many : c.len-c.result ≡ length c.self.inside.lines.items = omega (arith, c.self.inside.lines.ok.0, c.len-c.ensures) in
     let f = λ (n : ℕ). line_view k.names k.world n (accepted_of n k.steps) (unread_at n k.steps) (text_out k.names n k.steps) in
     let number : c.len-c.result ≡ length k.world.connections =
-        many ∙ (ap (λ (v : View). length v.lines) (c.self.view_is ∙ is) ∙ length-each_number f 0 k.world.connections) in
+    many ∙ (ap (λ (v : View). length v.lines) (c.self.view_is ∙ is) ∙ length-each_number f 0 k.world.connections) in
     let new = c.in-Ok.ensures.ok ∙ ap with_new_line is in
     subst (λ (v : View). Makes k Event.Open (Outcome.Opened c.len-c.result) v) (sym new)
     (subst (λ (n : ℕ). Makes k Event.Open (Outcome.Opened n) (with_new_line (view_of k))) (sym number) (open_makes k reached))
