@@ -13,3 +13,4 @@ pub mod Speaking
 pub mod ByRun
 pub mod Started
 pub mod AccountOfRun
+pub mod DeliversOfRun
