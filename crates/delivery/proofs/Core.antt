@@ -7,3 +7,10 @@ pub mod OctetsRow
 pub mod DeliveredRow
 pub mod StepRows
 pub mod GreetedRow
+-- The delivery of every run.
+pub mod Said
+pub mod Speaking
+pub mod ByRun
+pub mod Started
+pub mod AccountOfRun
+pub mod DeliversOfRun

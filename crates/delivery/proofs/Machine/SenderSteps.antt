@@ -353,7 +353,8 @@ decide_step ts w s f inv is = decision_step ts w s f inv is (decision ts w s f i
 
 -- ---- a withdrawal
 
-In-append_cases : {X : Type 0} (x : X) (xs ys : List X) → In x (xs ++ ys) → In x xs ⊎ In x ys
+-- what is in two lists is in the one or in the other
+pub In-append_cases : {X : Type 0} (x : X) (xs ys : List X) → In x (xs ++ ys) → In x xs ⊎ In x ys
 In-append_cases x [] ys h = inr h
 In-append_cases x (y ∷ xs) ys (inl e) = inl (inl e)
 In-append_cases x (y ∷ xs) ys (inr h) = elim (In-append_cases x xs ys h) [ inl k ↦ inl (inr k) | inr k ↦ inr k ]
@@ -422,7 +423,8 @@ drop_case t k l ks true ih i = inr i
 drop_case t k l ks false ih (inl e) = inl e
 drop_case t k l ks false ih (inr i) = inr (ih i)
 
-In-drop : (t : Topic) (l : Leftover) (ks : List Leftover) → In l (drop_leftover t ks) → In l ks
+-- what is left without the first of a topic was there
+pub In-drop : (t : Topic) (l : Leftover) (ks : List Leftover) → In l (drop_leftover t ks) → In l ks
 In-drop t l [] i = i
 In-drop t l (k ∷ ks) i = drop_case t k l ks (k.ticket.topic.0 == t.0) (In-drop t l ks) i
 

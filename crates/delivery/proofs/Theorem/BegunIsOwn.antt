@@ -81,9 +81,9 @@ flying_is_own w e txn =
 -- ---- the sender
 
 -- there are as many senders as connections, and each connection speaks for that of its number
-record Speak (senders : List SenderState) (connections : List Connection) : Type 0 where
-  same : length senders ≡ length connections
-  own : (c : ℕ) → c < length connections → (get_or connections c nobody).sender ≡ c
+pub record Speak (senders : List SenderState) (connections : List Connection) : Type 0 where
+  pub same : length senders ≡ length connections
+  pub own : (c : ℕ) → c < length connections → (get_or connections c nobody).sender ≡ c
 
 sender_kept : (senders : List SenderState) (connections : List Connection) (s : ℕ) (x : SenderState) → Speak senders connections → Speak (set senders s x) connections
 sender_kept senders connections s x h = record { same = set_length senders s x ∙ h.same; own = h.own }
@@ -97,7 +97,8 @@ standing_kept senders connections c standing h =
           (λ e. subst (λ n. (get_or connections n nobody).sender ≡ d) e k) k;
     }
 
-abbrev Speaks : World → Type 0
+-- each connection of a core speaks for a sender of its own
+abbrev pub Speaks : World → Type 0
 Speaks w = Speak w.senders w.connections
 
 flown_speaks : (w : World) (c : ℕ) (sends : List SentMessage) → Speaks w → Speaks (commit_effect w c sends)
@@ -128,7 +129,8 @@ handed_speaks : (w : World) (s : ℕ) (o : Option Item) → Speaks w → Speaks 
 handed_speaks w s None h = standing_kept w.senders w.connections (subscription_at w s).connection Standing.Leaving h
 handed_speaks w s (Some item) h = h
 
-effect_speaks : (w : World) (e : Move) → Speaks w → Speaks (move_effect w e)
+-- each move keeps it
+pub effect_speaks : (w : World) (e : Move) → Speaks w → Speaks (move_effect w e)
 effect_speaks w (AddsTopic clock) h = h
 effect_speaks w Opens h =
     let new : Connection = record { sender = length w.senders; standing = Standing.Open } in

@@ -187,7 +187,7 @@ none_pass q [] h = refl
 none_pass q (x ∷ xs) h = ap (λ (b : Bool). cond b (x ∷ filter q xs) (filter q xs)) (h x (inl refl)) ∙ none_pass q xs (λ y i. h y (inr i))
 
 -- of rows that rise those up to f that pass are a front of those that pass
-abbrev IsFront : (CommitRow → Bool) → Stamp → List CommitRow → Type 0
+abbrev pub IsFront : (CommitRow → Bool) → Stamp → List CommitRow → Type 0
 IsFront p f rows = let q : CommitRow → Bool = λ r. p r && not (stamp_lt f r.stamp) in filter q rows ≡ take (length (filter q rows)) (filter p rows)
 
 and_false : (a b : Bool) → b ≡ false → (a && b) ≡ false
@@ -202,7 +202,8 @@ front_case p f x xs up h true true e =
     (λ y i. and_false (p y) (not (stamp_lt f y.stamp)) (ap not (le_lt f x.stamp y.stamp (lt_asym f x.stamp e) (up y i)))) in
     n ∙ sym (ap (λ (z : List CommitRow). take (length z) (x ∷ filter p xs)) n)
 
-front : (p : CommitRow → Bool) (f : Stamp) (rows : List CommitRow) → Rises stamp_of rows → IsFront p f rows
+-- of rows that rise, those up to a stamp are a front
+pub front : (p : CommitRow → Bool) (f : Stamp) (rows : List CommitRow) → Rises stamp_of rows → IsFront p f rows
 front p f [] up = refl
 front p f (x ∷ xs) up = front_case p f x xs up.0 (front p f xs up.1) (p x) (stamp_lt f x.stamp) refl
 

@@ -172,7 +172,8 @@ ends_now past w e s to r =
 
 -- ---- a run
 
-beyond : {X : Type 0} (xs : List X) (j : ℕ) (d : X) → length xs ≤ j → get_or xs j d ≡ d
+-- beyond a list's end there is what stands for nothing
+pub beyond : {X : Type 0} (xs : List X) (j : ℕ) (d : X) → length xs ≤ j → get_or xs j d ≡ d
 beyond [] j d l = refl
 beyond (x ∷ xs) zero d l = absurd (omega arith)
 beyond (x ∷ xs) (suc j) d l = beyond xs j d (omega arith)

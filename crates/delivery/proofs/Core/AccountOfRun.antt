@@ -1,0 +1,718 @@
+-- The account of a run's steps is what the machine answered to its moves, refusals and what was merely done aside.
+use Rattle.std.proofs.Common.{◌≡◌, ◌≢◌, ℕ, zero, suc, ◌+◌, ◌<◌, ◌≤◌, ◌==◌, Bool, true, false, cond, not, ◌||◌, ◌&&◌, ◌⊎◌, inl, inr, List, [], ◌∷◌, ◌++◌, map, length, get_or, Option, Some, None, refl, sym, ap, subst, ◌∙◌, true≢false, arith, ltb}
+use Rattle.std.proofs.lemmas.Bool.{eqb-true, eq-eqb, ltb-true, false≢true}
+use Rattle.std.specs.Prelude.{take, slice_get, codes}
+use Rattle.std.specs.List.{filter}
+use Rattle.std.specs.Option.{is_some, option_map, option_map_or, option_and_then, option_or, option_to_list, unwrap_or}
+use Rattle.stomp_frame.specs.declared.raw_frame.RawFrame.{RawFrame}
+use Rattle.mcast_txn.specs.declared.id.Topic.{Topic}
+use Rattle.mcast_txn.specs.declared.id.TxnId.{TxnId}
+use Rattle.mcast_txn.specs.declared.draft.sent_message.SentMessage.{SentMessage}
+use Rattle.mcast_txn.specs.declared.stamp.Stamp.{Stamp}
+use Rattle.mcast_txn.specs.Stamp.{stamp_lt, greatest}
+use Rattle.mcast_txn.specs.Agreed.{Transaction, CommitRow, agreed, stamp_of}
+use Rattle.mcast_txn.specs.Checks.{first_refusal}
+use Rattle.mcast_txn.specs.Lists.{In, Rises}
+use Rattle.mcast_txn.specs.Span.{Item, in_span, up_to}
+use Rattle.mcast_txn.specs.Transaction.{topics_of}
+use Rattle.mcast_txn.specs.TopicSet.{names as names_topic}
+use Rattle.std.proofs.lemmas.List.{take-map}
+use Rattle.mcast_txn.proofs.Sorting.{Rises-sorted}
+use Rattle.mcast_group.specs.declared.fault.ProposeFault.{ProposeFault}
+use Rattle.mcast_group.specs.Machine.{Pending, due_part}
+use Rattle.mcast_group.proofs.Parts.{some_same, none_some, not_true}
+use Rattle.stomp_session.specs.declared.action.Action.{Action}
+use Rattle.stomp_session.specs.declared.action.Action.TheVariants as actions
+use Rattle.stomp_frame.specs.declared.command.Command.{Command}
+use Rattle.stomp_frame.specs.declared.command.Command.TheVariants as commands
+use Rattle.stomp_frame.specs.Headers.{first_of}
+use Rattle.stomp_frame.specs.Reader.{Unread}
+use Rattle.stomp_session.specs.Answers.{action_by, commit}
+use Rattle.stomp_session.specs.Open.{Held}
+use Rattle.stomp_session.specs.Refusals.{sends_in}
+use Rattle.stomp_session.specs.Frames.{topic_of, id_of, transaction_of, send_of}
+use Rattle.delivery.specs.Topics.{TopicList}
+use Rattle.delivery.specs.declared.event.Event.{Event}
+use Rattle.delivery.specs.declared.outcome.Outcome.{Outcome}
+use Rattle.delivery.specs.declared.refusal.Refusal.{Refusal}
+use Rattle.delivery.specs.declared.connection_fault.ConnectionFault.{ConnectionFault}
+use Rattle.delivery.specs.Theorem.Due.{due, is_due, item_at}
+use Rattle.delivery.specs.Theorem.Laws.{Run, answers_of, final_world}
+use Rattle.delivery.specs.Machine.Objections.{Objection, refusal_of}
+use Rattle.delivery.specs.Machine.Observed.{accepted_at, end_at, span_at, frontier_at}
+use Rattle.delivery.specs.Machine.World.{World, Undecided, Leftover, Subscription, is_reading, is_gone, nobody, topic_at, connection_at, subscription_at, speaker, start}
+use Rattle.delivery.specs.Machine.Moves.{Move, Answer, world_after, answer_to, move_refusal, move_effect, move_answer, needs_open, needs_idle, objections, undecided_at, find_leftover, oldest_live, or_out_of_memory, commit_answer, proposal_fault, propose_answer, cancel_answer, release_answer, take_answer, leave_answer, next_ticket, end_now}
+use Rattle.delivery.specs.Machine.Moves.Move.{Opens, Commits, Subscribes, Unsubscribes, Disconnects, Errs, Lost, Leaves, Proposes, Decides, Withdraws, Cancels, Learns, Releases, Turns, Takes}
+use Rattle.delivery.specs.Machine.Runs.{run, answers_from, commits_of, delivered_items, txn_count}
+use Rattle.delivery.specs.Core.Steps.{CoreStep, Reading, frame_in, has_effect, accepted_of, number_by}
+use Rattle.delivery.specs.Core.Account.{Beginning, no_item, beginning_of, due_to, next_item, last_id, released_frontier, sends_at, committed_by, account_of, account_of_frame, account_of_no_frame, account_of_next, account_of_step}
+use Rattle.delivery.specs.Core.Output.{has_closed, is_cut, replies_to}
+use Rattle.delivery.specs.Core.State.{Core, core_of, moves, next_moves, session_at, frame_move, is_out_of_memory}
+use Rattle.delivery.specs.Core.Outcomes.{outcome_of, move_outcome, unless, frame_no_memory, frame_fault, fault_outcomes, frame_outcome, reading_outcomes, cut_of, is_any, reply_outcomes, outcomes, MayStep, IsCoreRun}
+use Rattle.delivery.proofs.Machine.Invariant.{sender_in}
+use Rattle.delivery.proofs.Machine.SenderSteps.{leftover_found, In-append_cases}
+use Rattle.delivery.proofs.Machine.InvariantIsKept.{NoneHolds, checked, passes, false_not, in_flight}
+use Rattle.delivery.proofs.Theorem.AcceptedIsDue.{reached, accepted_is_due}
+use Rattle.delivery.proofs.Theorem.LogIsOfAnswers.{front}
+use Rattle.delivery.proofs.Theorem.SpansAsAnswered.{handing}
+use Rattle.delivery.proofs.Core.ByRun.{run_append, answers_append}
+use Rattle.delivery.proofs.Core.Said.{said, commits_said, txn_count_said, delivered_said, beginning_said, has_closed_said, released_frontier_said}
+use Rattle.delivery.proofs.Core.Speaking.{Spoken, id_at, open_in, run_spoken, start_spoken}
+use Rattle.delivery.proofs.Core.Started.{begin_of, beginning_is, frontier_of}
+
+-- ---- the run of the machine that a run of the core is
+
+-- all moves of these steps
+abbrev pub all_moves : TopicList → ℕ → List CoreStep → List Move
+all_moves topics capacity [] = []
+all_moves topics capacity (step ∷ older) =
+    all_moves topics capacity older ++ moves (core_of topics capacity older) step.event step.reading step.outcome
+
+-- the run of the machine
+abbrev pub run_of : TopicList → ℕ → List CoreStep → Run
+run_of topics capacity steps =
+    record { capacity = capacity; log_limit = 65536; clocks = topics.clocks; events = all_moves topics capacity steps }
+
+-- its world is the core's
+pub world_is : (topics : TopicList) (capacity : ℕ) (steps : List CoreStep) → (core_of topics capacity steps).world ≡ final_world (run_of topics capacity steps)
+world_is topics capacity [] = refl
+world_is topics capacity (step ∷ older) =
+    let k = core_of topics capacity older in let ms = moves k step.event step.reading step.outcome in
+    ap (run ms) (world_is topics capacity older) ∙ sym (run_append (all_moves topics capacity older) ms (start capacity 65536 topics.clocks))
+
+-- the core of this machine, with these steps
+abbrev core_with : List (List ℕ) → World → List CoreStep → Core
+core_with names w steps = record { names = names; world = w; steps = steps }
+
+-- that of a run of the machine
+abbrev pub core_at : List (List ℕ) → Run → List CoreStep → Core
+core_at names r steps = core_with names (final_world r) steps
+
+-- what a run keeps of connections and senders
+pub spoken : (r : Run) → Spoken (answers_of r) (final_world r)
+spoken r = run_spoken r.events [] (start r.capacity r.log_limit r.clocks) (start_spoken r.capacity r.log_limit r.clocks)
+
+-- ---- answers and outcomes
+
+answer_is : (w : World) (e : Move) → move_refusal w e ≡ None → answer_to w e ≡ move_answer w e
+answer_is w e n = ap (λ (o : Option Objection). elim o [ None ↦ move_answer w e | Some why ↦ Answer.Refused why ]) n
+
+world_moved : (w : World) (e : Move) → move_refusal w e ≡ None → world_after w e ≡ move_effect w e
+world_moved w e n = ap (λ (o : Option Objection). elim o [ None ↦ move_effect w e | Some why ↦ w ]) n
+
+answer_refused : (w : World) (e : Move) (why : Objection) → move_refusal w e ≡ Some why → answer_to w e ≡ Answer.Refused why
+answer_refused w e why n = ap (λ (o : Option Objection). elim o [ None ↦ move_answer w e | Some why ↦ Answer.Refused why ]) n
+
+-- the outcome is a refusal
+record IsRefusal (o : Outcome) : Type 0 where
+  why : Refusal
+  is : Outcome.Refused why ≡ o
+
+in_option : {X : Type 0} (x : X) (o : Option X) → In x (option_to_list o) → o ≡ Some x
+in_option x None i = absurd i
+in_option x (Some y) (inl e) = ap Some e
+in_option x (Some y) (inr i) = absurd i
+
+refusal_some : (r : Option Refusal) (o : Outcome) → option_map Outcome.Refused r ≡ Some o → IsRefusal o
+refusal_some None o e = none_some o e
+refusal_some (Some why) o e = record { why = why; is = some_same _ o e }
+
+-- what comes of a move: it is refused, or it has its answer
+by_answer : (P : Outcome → Type 0) (w : World) (e : Move) (o : Outcome)
+    → ((why : Objection) (x : Refusal) → answer_to w e ≡ Answer.Refused why → P (Outcome.Refused x))
+    → (move_refusal w e ≡ None → answer_to w e ≡ move_answer w e → (z : Outcome) → outcome_of (move_answer w e) ≡ Some z → P z)
+    → outcome_of (answer_to w e) ≡ Some o → P o
+by_answer P w e o h g d = by_case (move_refusal w e) refl
+  where
+    by_case : (r : Option Objection) → move_refusal w e ≡ r → P o
+    by_case None n = g n (answer_is w e n) o (ap outcome_of (sym (answer_is w e n)) ∙ d)
+    by_case (Some why) n =
+        let a = answer_refused w e why n in let k = refusal_some (refusal_of why) o (ap outcome_of (sym a) ∙ d) in
+        subst P k.is (h why k.why a)
+
+-- the account says after these moves what the machine answered to them
+abbrev Says : List (List ℕ) → Run → List CoreStep → Event → Reading → Outcome → Type 0
+Says names r older e rd o =
+    account_of_step names older (said (answers_of r)) e rd o ++ said (answers_of r)
+    ≡ said (answers_from (moves (core_at names r older) e rd o) (final_world r) (answers_of r))
+
+-- a refused answer says nothing
+unsaid : (a : Answer) (past : List Answer) (why : Objection) → a ≡ Answer.Refused why → said past ≡ said (a ∷ past)
+unsaid a past why e = ap (λ z. said (z ∷ past)) (sym e)
+
+-- ---- topics' own moves
+
+learnt_says : (names : List (List ℕ)) (r : Run) (older : List CoreStep) (rd : Reading) (t : Topic) (id : TxnId) (o : Outcome)
+    → In o (move_outcome (core_at names r older) (Learns t id)) → Says names r older (Event.Learn t id) rd o
+learnt_says names r older rd t id o i =
+    let w = final_world r in let past = answers_of r in
+    by_answer (Says names r older (Event.Learn t id) rd) w (Learns t id) o
+    (λ why x a. unsaid _ past why a)
+    (λ n a z d. subst (Says names r older (Event.Learn t id) rd) (some_same Outcome.Learnt z d) (ap (λ b. said (b ∷ past)) (sym a)))
+    (in_option o _ i)
+
+turned_says : (names : List (List ℕ)) (r : Run) (older : List CoreStep) (rd : Reading) (t : Topic) (o : Outcome)
+    → In o (move_outcome (core_at names r older) (Turns t)) → Says names r older (Event.Turn t) rd o
+turned_says names r older rd t o i =
+    let w = final_world r in let past = answers_of r in
+    by_answer (Says names r older (Event.Turn t) rd) w (Turns t) o
+    (λ why x a. unsaid _ past why a)
+    (λ n a z d. subst (Says names r older (Event.Turn t) rd) (some_same _ z d) (ap (λ b. said (b ∷ past)) (sym a)))
+    (in_option o _ i)
+
+lost_says : (names : List (List ℕ)) (r : Run) (older : List CoreStep) (rd : Reading) (c : ℕ) (o : Outcome)
+    → In o (move_outcome (core_at names r older) (Lost c)) → Says names r older (Event.Lost c) rd o
+lost_says names r older rd c o i =
+    let w = final_world r in let past = answers_of r in
+    by_answer (Says names r older (Event.Lost c) rd) w (Lost c) o
+    (λ why x a. unsaid _ past why a)
+    (λ n a z d. subst (Says names r older (Event.Lost c) rd) (some_same _ z d) (ap (λ b. said (b ∷ past)) (sym a)))
+    (in_option o _ i)
+
+released_case : (names : List (List ℕ)) (r : Run) (older : List CoreStep) (rd : Reading) (t : Topic) (p : Option Pending) (z : Outcome)
+    → answer_to (final_world r) (Releases t) ≡ release_answer t p → outcome_of (release_answer t p) ≡ Some z → Says names r older (Event.Release t) rd z
+released_case names r older rd t None z a d =
+    subst (Says names r older (Event.Release t) rd) (some_same _ z d) (ap (λ b. said (b ∷ answers_of r)) (sym a))
+released_case names r older rd t (Some p) z a d =
+    subst (Says names r older (Event.Release t) rd) (some_same _ z d) (ap (λ b. said (b ∷ answers_of r)) (sym a))
+
+released_says : (names : List (List ℕ)) (r : Run) (older : List CoreStep) (rd : Reading) (t : Topic) (o : Outcome)
+    → In o (move_outcome (core_at names r older) (Releases t)) → Says names r older (Event.Release t) rd o
+released_says names r older rd t o i =
+    let w = final_world r in
+    by_answer (Says names r older (Event.Release t) rd) w (Releases t) o
+    (λ why x a. unsaid _ (answers_of r) why a)
+    (λ n a z d. released_case names r older rd t (due_part (topic_at w t)) z a d)
+    (in_option o _ i)
+
+-- ---- transactions
+
+there : (w : World) (c : ℕ) → not (ltb c (length w.connections)) ≡ false → c < length w.connections
+there w c e = ltb-true c (length w.connections) (false_not (ltb c (length w.connections)) e)
+
+-- the id of the last transaction of a connection's sender, as the account counts it
+last_is : (r : Run) (c : ℕ) → c < length (final_world r).connections
+    → id_at (connection_at (final_world r) c).sender (speaker (final_world r) c).seq ≡ last_id c (said (answers_of r))
+last_is r c l =
+    let w = final_world r in let h = spoken r in let own : (connection_at w c).sender ≡ c = h.speaks.own c l in
+    ap (λ n. id_at n (sender_in w.senders n).seq) own
+    ∙ ap (λ n. id_at c n) (h.speaking.seqs c ∙ sym (txn_count_said c (answers_of r)))
+
+-- so is that of its undecided one
+pub undecided_is : (r : Run) (c : ℕ) → c < length (final_world r).connections → not (is_some (speaker (final_world r) c).flight) ≡ false
+    → (undecided_at (final_world r) c).txn.id ≡ last_id c (said (answers_of r))
+undecided_is r c l f =
+    let w = final_world r in let fl = in_flight w c f in
+    (spoken r).speaking.flying (connection_at w c).sender (undecided_at w c) (fl.is ∙ ap Some (sym fl.at)) ∙ last_is r c l
+
+proposed_case : (names : List (List ℕ)) (r : Run) (older : List CoreStep) (rd : Reading) (c : ℕ) (t : Topic) (m : Bool) (f : Option ProposeFault) (z : Outcome)
+    → (undecided_at (final_world r) c).txn.id ≡ last_id c (said (answers_of r))
+    → m ≡ not (is_out_of_memory z) → answer_to (final_world r) (Proposes c t m) ≡ propose_answer (final_world r) c t f → outcome_of (propose_answer (final_world r) c t f) ≡ Some z
+    → Says names r older (Event.Propose c t) rd z
+proposed_case names r older rd c t m None z id e a d =
+    let w = final_world r in let past = answers_of r in
+    ap (λ q. account_of_step names older (said past) (Event.Propose c t) rd q ++ said past) (sym (some_same _ z d))
+    ∙ (ap (λ q. Answer.Ticket q (next_ticket w c t) ∷ said past) (sym id)
+    ∙ (ap (λ b. said (b ∷ past)) (sym a) ∙ ap (λ q. said (answer_to w (Proposes c t q) ∷ past)) e))
+proposed_case names r older rd c t m (Some fault) z id e a d =
+    let w = final_world r in let past = answers_of r in
+    ap (λ q. account_of_step names older (said past) (Event.Propose c t) rd q ++ said past) (sym (some_same _ z d))
+    ∙ (ap (λ q. Answer.Failed q fault ∷ said past) (sym id)
+    ∙ (ap (λ b. said (b ∷ past)) (sym a) ∙ ap (λ q. said (answer_to w (Proposes c t q) ∷ past)) e))
+
+-- a proposal that found no memory where the move says so, or found some
+same_memory : (w : World) (c : ℕ) (t : Topic) (m : Bool) (o : Outcome) (r : Option Objection) (f : Option ProposeFault)
+    → outcome_of (elim r [ None ↦ propose_answer w c t (or_out_of_memory m f) | Some why ↦ Answer.Refused why ]) ≡ Some o
+    → outcome_of (elim r [ None ↦ propose_answer w c t (or_out_of_memory (not (is_out_of_memory o)) f) | Some why ↦ Answer.Refused why ]) ≡ Some o
+same_memory w c t m o (Some why) f d = d
+same_memory w c t true o None None d =
+    subst (λ z. outcome_of (propose_answer w c t (or_out_of_memory (not (is_out_of_memory z)) None)) ≡ Some z) (some_same _ o d) refl
+same_memory w c t false o None None d =
+    subst (λ z. outcome_of (propose_answer w c t (or_out_of_memory (not (is_out_of_memory z)) None)) ≡ Some z) (some_same _ o d) refl
+same_memory w c t m o None (Some fault) d = d
+
+proposed_says : (names : List (List ℕ)) (r : Run) (older : List CoreStep) (rd : Reading) (c : ℕ) (t : Topic) (o : Outcome)
+    → In o (move_outcome (core_at names r older) (Proposes c t true) ++ move_outcome (core_at names r older) (Proposes c t false))
+    → Says names r older (Event.Propose c t) rd o
+proposed_says names r older rd c t o i = elim (In-append_cases o _ _ i) [
+  | inl k ↦ by_memory true (in_option o _ k)
+  | inr k ↦ by_memory false (in_option o _ k)
+]
+  where
+    by_memory : (m : Bool) → outcome_of (answer_to (final_world r) (Proposes c t m)) ≡ Some o → Says names r older (Event.Propose c t) rd o
+    by_memory m d =
+        let w = final_world r in let past = answers_of r in let q = not (is_out_of_memory o) in
+        let fault = proposal_fault w c t q in
+        by_answer (λ z. z ≡ o → Says names r older (Event.Propose c t) rd z) w (Proposes c t q) o
+        (λ why x a e. unsaid _ past why (ap (λ y. answer_to w (Proposes c t (not (is_out_of_memory y)))) e ∙ a))
+        (λ n a z d e.
+        (let k = checked w (Proposes c t q) n in
+        proposed_case names r older rd c t q fault z (undecided_is r c (there w c k.0) k.1.1.0) (ap (λ y. not (is_out_of_memory y)) (sym e)) a d))
+        (same_memory w c t m o (move_refusal w (Proposes c t m)) _ d) refl
+
+cancelled_case : (names : List (List ℕ)) (r : Run) (older : List CoreStep) (rd : Reading) (c : ℕ) (t : Topic) (o : Option Leftover) (z : Outcome)
+    → c < length (final_world r).connections → find_leftover t (speaker (final_world r) c).leftovers ≡ o
+    → answer_to (final_world r) (Cancels c t) ≡ cancel_answer t o → outcome_of (cancel_answer t o) ≡ Some z → Says names r older (Event.Cancel c t) rd z
+cancelled_case names r older rd c t None z l e a d =
+    subst (Says names r older (Event.Cancel c t) rd) (some_same _ z d) (ap (λ b. said (b ∷ answers_of r)) (sym a))
+cancelled_case names r older rd c t (Some k) z l e a d =
+    let w = final_world r in let past = answers_of r in let s = (connection_at w c).sender in
+    let id : k.id ≡ last_id c (said past) =
+        ((spoken r).speaking.left s k (leftover_found t (sender_in w.senders s).leftovers k e).stands).0 ∙ last_is r c l in
+    subst (Says names r older (Event.Cancel c t) rd) (some_same _ z d)
+    (ap (λ q. Answer.Cancelled q t ∷ said past) (sym id) ∙ ap (λ b. said (b ∷ past)) (sym a))
+
+cancelled_says : (names : List (List ℕ)) (r : Run) (older : List CoreStep) (rd : Reading) (c : ℕ) (t : Topic) (o : Outcome)
+    → In o (move_outcome (core_at names r older) (Cancels c t)) → Says names r older (Event.Cancel c t) rd o
+cancelled_says names r older rd c t o i =
+    let w = final_world r in
+    by_answer (Says names r older (Event.Cancel c t) rd) w (Cancels c t) o
+    (λ why x a. unsaid _ (answers_of r) why a)
+    (λ n a z d. cancelled_case names r older rd c t (find_leftover t (speaker w c).leftovers) z (there w c (checked w (Cancels c t) n).0) refl a d)
+    (in_option o _ i)
+
+-- ---- replies that may be left out
+
+-- the outcome, or the same with its reply left out, where one is due
+record IsReplied (k : Core) (c : ℕ) (e : Event) (x : Option Outcome) (o : Outcome) : Type 0 where
+  base : Outcome
+  is : x ≡ Some base
+  cut : (base ≡ o) ⊎ ((cut_of base ≡ o) × (is_any (replies_to c k.steps (account_of k.names k.steps) e Reading.Nothing base) ≡ true))
+
+guarded : {X : Type 0} (x y : X) (b : Bool) → In x (cond b (y ∷ []) []) → (y ≡ x) × (b ≡ true)
+guarded x y true (inl e) = (e, refl)
+guarded x y true (inr i) = absurd i
+guarded x y false i = absurd i
+
+replied : (k : Core) (c : ℕ) (e : Event) (x : Option Outcome) (o : Outcome) → In o (reply_outcomes k c e (option_to_list x)) → IsReplied k c e x o
+replied k c e None o i = absurd i
+replied k c e (Some b) o (inl d) = record { base = b; is = refl; cut = inl d }
+replied k c e (Some b) o (inr i) = record { base = b; is = refl; cut = inr (guarded o (cut_of b) _ i) }
+
+left_case : (names : List (List ℕ)) (r : Run) (older : List CoreStep) (rd : Reading) (c : ℕ) (s : Option ℕ) (z : Outcome)
+    → answer_to (final_world r) (Leaves c) ≡ leave_answer (final_world r) c s → outcome_of (leave_answer (final_world r) c s) ≡ Some z
+    → Says names r older (Event.Leave c) rd z × Says names r older (Event.Leave c) rd (cut_of z)
+left_case names r older rd c None z a d =
+    subst (λ q. Says names r older (Event.Leave c) rd q × Says names r older (Event.Leave c) rd (cut_of q)) (some_same _ z d)
+    (ap (λ b. said (b ∷ answers_of r)) (sym a), ap (λ b. said (b ∷ answers_of r)) (sym a))
+left_case names r older rd c (Some s) z a d =
+    subst (λ q. Says names r older (Event.Leave c) rd q × Says names r older (Event.Leave c) rd (cut_of q)) (some_same _ z d)
+    (ap (λ b. said (b ∷ answers_of r)) (sym a), ap (λ b. said (b ∷ answers_of r)) (sym a))
+
+-- an outcome, cut or not
+either_cut : (P : Outcome → Type 0) (b o : Outcome) {Q : Type 0} → P b × P (cut_of b) → (b ≡ o) ⊎ ((cut_of b ≡ o) × Q) → P o
+either_cut P b o h (inl e) = subst P e h.0
+either_cut P b o h (inr e) = subst P e.0 h.1
+
+left_says : (names : List (List ℕ)) (r : Run) (older : List CoreStep) (rd : Reading) (c : ℕ) (o : Outcome)
+    → In o (reply_outcomes (core_at names r older) c (Event.Leave c) (move_outcome (core_at names r older) (Leaves c))) → Says names r older (Event.Leave c) rd o
+left_says names r older rd c o i =
+    let w = final_world r in let P = Says names r older (Event.Leave c) rd in
+    let h = replied (core_at names r older) c (Event.Leave c) _ o i in
+    either_cut P h.base o
+    (by_answer (λ z. P z × P (cut_of z)) w (Leaves c) h.base
+    (λ why x a. (unsaid _ (answers_of r) why a, unsaid _ (answers_of r) why a))
+    (λ n a z d. left_case names r older rd c (oldest_live c 0 w.subscriptions) z a d) h.is) h.cut
+
+withdrawn_says : (names : List (List ℕ)) (r : Run) (older : List CoreStep) (rd : Reading) (c : ℕ) (o : Outcome)
+    → In o (reply_outcomes (core_at names r older) c (Event.Withdraw c) (move_outcome (core_at names r older) (Withdraws c))) → Says names r older (Event.Withdraw c) rd o
+withdrawn_says names r older rd c o i =
+    let w = final_world r in let past = answers_of r in let P = Says names r older (Event.Withdraw c) rd in
+    let h = replied (core_at names r older) c (Event.Withdraw c) _ o i in
+    either_cut P h.base o
+    (by_answer (λ z. P z × P (cut_of z)) w (Withdraws c) h.base
+    (λ why x a. (unsaid _ past why a, unsaid _ past why a))
+    (λ n a z d.
+    (let k = checked w (Withdraws c) n in
+    let e = ap (λ q. Answer.Withdrawn q c ∷ said past) (sym (undecided_is r c (there w c k.0) k.1.1.0)) ∙ ap (λ b. said (b ∷ past)) (sym a) in
+    subst (λ q. P q × P (cut_of q)) (some_same _ z d) (e, e))) h.is) h.cut
+
+-- ---- a decision
+
+-- none of these tests holds, so nothing is refused
+unpassed : {F : Type 0} (cs : List (Bool × F)) → NoneHolds cs → first_refusal cs ≡ None
+unpassed [] h = refl
+unpassed (c ∷ cs) h = ap (λ b. cond b (Some c.1) (first_refusal cs)) h.0 ∙ unpassed cs h.1
+
+unguarded : {X : Type 0} (b : Bool) (xs : List X) → is_any (cond b xs []) ≡ true → b ≡ true
+unguarded true xs e = refl
+unguarded false xs e = absurd (false≢true e)
+
+not_closed : (a b : Bool) → (a && not b) ≡ true → b ≡ false
+not_closed true false e = refl
+not_closed true true e = absurd (false≢true e)
+not_closed false b e = absurd (false≢true e)
+
+open_case : (r : Run) (c : ℕ) → c < length (final_world r).connections → has_closed c (answers_of r) ≡ false → (b : Bool) → open_in (final_world r).connections c ≡ b
+    → open_in (final_world r).connections c ≡ true
+open_case r c l h true e = e
+open_case r c l h false e = absurd (true≢false (sym ((spoken r).speaking.shut c l e) ∙ h))
+
+-- a connection that wasn't closed is open
+still_open : (r : Run) (c : ℕ) → c < length (final_world r).connections → has_closed c (answers_of r) ≡ false → open_in (final_world r).connections c ≡ true
+still_open r c l h = open_case r c l h (open_in (final_world r).connections c) refl
+
+-- with its RECEIPT left out, a decision is also its connection's loss
+lost_after : (r : Run) (c : ℕ) → move_refusal (final_world r) (Decides c) ≡ None → has_closed c (answers_of r) ≡ false
+    → answer_to (world_after (final_world r) (Decides c)) (Lost c) ≡ Answer.Leaving c
+lost_after r c n h =
+    let w = final_world r in let k = checked w (Decides c) n in let v = move_effect w (Decides c) in
+    let o = still_open r c (there w c k.0) h in
+    ap (λ z. answer_to z (Lost c)) (world_moved w (Decides c) n)
+    ∙ answer_is v (Lost c)
+    (ap (λ (z : Option Objection). option_or z None) (unpassed (needs_open v c) (k.0, (k.1.0, (ap not o, tt)))))
+
+decided_says : (names : List (List ℕ)) (r : Run) (older : List CoreStep) (rd : Reading) (c : ℕ) (o : Outcome) → account_of names older ≡ said (answers_of r)
+    → In o (reply_outcomes (core_at names r older) c (Event.Decide c) (move_outcome (core_at names r older) (Decides c))) → Says names r older (Event.Decide c) rd o
+decided_says names r older rd c o acc i =
+    let h = replied (core_at names r older) c (Event.Decide c) _ o i in by_cut h.base h.is h.cut
+  where
+    w : World
+    w = final_world r
+
+    P : Outcome → Type 0
+    P = Says names r older (Event.Decide c) rd
+
+    Due : Outcome → Type 0
+    Due z = is_any (replies_to c older (account_of names older) (Event.Decide c) Reading.Nothing z) ≡ true
+
+    id_is : move_refusal w (Decides c) ≡ None → (undecided_at w c).txn.id ≡ last_id c (said (answers_of r))
+    id_is n = let k = checked w (Decides c) n in undecided_is r c (there w c k.0) k.1.1.0
+
+    uncut : move_refusal w (Decides c) ≡ None → answer_to w (Decides c) ≡ move_answer w (Decides c) → P (Outcome.Decided (greatest (undecided_at w c).given) false)
+    uncut n a =
+        ap (λ q. Answer.Decided q (greatest (undecided_at w c).given) ∷ said (answers_of r)) (sym (id_is n)) ∙ ap (λ b. said (b ∷ answers_of r)) (sym a)
+
+    cut : move_refusal w (Decides c) ≡ None → answer_to w (Decides c) ≡ move_answer w (Decides c) → Due (Outcome.Decided (greatest (undecided_at w c).given) false)
+        → P (Outcome.Decided (greatest (undecided_at w c).given) true)
+    cut n a due =
+        let g = greatest (undecided_at w c).given in let past = answers_of r in
+        let open_still : has_closed c past ≡ false =
+            sym (has_closed_said c past) ∙ (ap (λ z. has_closed c z) (sym acc) ∙ not_closed (c == c) (has_closed c (account_of names older)) (unguarded _ _ due)) in
+        ap (λ q. Answer.Leaving c ∷ Answer.Decided q g ∷ said past) (sym (id_is n))
+        ∙ (ap (λ b. said (Answer.Leaving c ∷ b ∷ past)) (sym a)
+        ∙ ap (λ b. said (b ∷ answer_to w (Decides c) ∷ past)) (sym (lost_after r c n open_still)))
+
+    by_cut : (b : Outcome) → outcome_of (answer_to w (Decides c)) ≡ Some b → (b ≡ o) ⊎ ((cut_of b ≡ o) × Due b) → P o
+    by_cut b d (inl e) =
+        subst P e
+        (by_answer P w (Decides c) b (λ why x a. unsaid _ (answers_of r) why a)
+        (λ n a z f. subst P (some_same _ z f) (uncut n a)) d)
+    by_cut b d (inr e) =
+        subst P e.0
+        (by_answer (λ z. Due z → P (cut_of z)) w (Decides c) b (λ why x a due. unsaid _ (answers_of r) why a)
+        (λ n a z f. subst (λ q. Due q → P (cut_of q)) (some_same _ z f) (cut n a)) d e.1)
+
+-- ---- a delivery
+
+filter_same : {X : Type 0} (p q : X → Bool) (xs : List X) → ((x : X) → p x ≡ q x) → filter p xs ≡ filter q xs
+filter_same p q [] h = refl
+filter_same p q (x ∷ xs) h =
+    ap (λ (b : Bool). cond b (x ∷ filter p xs) (filter p xs)) (h x) ∙ ap (λ z. cond (q x) (x ∷ z) z) (filter_same p q xs h)
+
+bound_last : (a b c d : Bool) → (a && (b && c) && d) ≡ ((a && (b && true) && d) && c)
+bound_last true true true true = refl
+bound_last true true true false = refl
+bound_last true true false true = refl
+bound_last true true false false = refl
+bound_last true false true true = refl
+bound_last true false true false = refl
+bound_last true false false true = refl
+bound_last true false false false = refl
+bound_last false b c d = refl
+
+-- what is in a front of a list is at the same place in the list
+in_front : {X : Type 0} (n i : ℕ) (xs : List X) (x : X) → slice_get (take n xs) i ≡ Some x → slice_get xs i ≡ Some x
+in_front zero i xs x e = none_some x e
+in_front (suc n) i [] x e = e
+in_front (suc n) zero (y ∷ ys) x e = e
+in_front (suc n) (suc i) (y ∷ ys) x e = in_front n i ys x e
+
+-- what is due up to an end is the front of what is due
+due_front : (t : Topic) (from : Stamp) (to : Option Stamp) (f : Stamp) (rows : List CommitRow) → Rises stamp_of (agreed rows) → (i : ℕ) (item : Item)
+    → slice_get (due rows (record { topic = t; from = from; to = to }) f) i ≡ Some item → slice_get (due rows (record { topic = t; from = from; to = None }) f) i ≡ Some item
+due_front t from None f rows up i item e = e
+due_front t from (Some end) f rows up i item e =
+    let all : CommitRow → Bool = is_due (record { topic = t; from = from; to = None }) f in
+    let some : CommitRow → Bool = is_due (record { topic = t; from = from; to = Some end }) f in
+    let q : CommitRow → Bool = λ r. all r && not (stamp_lt end r.stamp) in
+    let a : filter some (agreed rows) ≡ filter q (agreed rows) =
+        filter_same some q (agreed rows)
+        (λ r. bound_last (names_topic t (topics_of r.txn.sends)) (stamp_lt from r.stamp) (not (stamp_lt end r.stamp)) (not (stamp_lt f r.stamp))) in
+    let n = length (filter q (agreed rows)) in
+    let b : filter some (agreed rows) ≡ take n (filter all (agreed rows)) = a ∙ front all end (agreed rows) up in
+    in_front n i (map (item_at t) (filter all (agreed rows))) item
+    (subst (λ z. slice_get z i ≡ Some item) (ap (map (item_at t)) b ∙ sym (take-map (item_at t) n (filter all (agreed rows)))) e)
+
+-- the item that is handed on is the next that is due, as the account counts
+pub next_item_is : (r : Run) (s : ℕ) (item : Item) → s < length (final_world r).subscriptions
+    → slice_get (accepted_at (final_world r) s) (subscription_at (final_world r) s).taken ≡ Some item → next_item s (said (answers_of r)) ≡ item
+next_item_is r s item l e =
+    let w = final_world r in let past = answers_of r in let x = subscription_at w s in let h = reached r in
+    let cs = commits_of past in
+    let up : Rises stamp_of (agreed cs) = subst (λ z. Rises stamp_of (agreed z)) (sym h.commits) (Rises-sorted stamp_of w.commits h.inv.consistent.apart) in
+    let b : beginning_of s (said past) ≡ begin_of x = beginning_said s past ∙ beginning_is r s in
+    let n : length (delivered_items s (said past)) ≡ x.taken =
+        ap (λ (z : List Item). length z) (delivered_said s past) ∙ sym ((handing r).held s l).count in
+    let dues : due_to s (said past) ≡ due cs (record { topic = x.topic; from = x.from; to = None }) (frontier_at w x.topic) =
+        ap (λ z. due z (record { topic = (beginning_of s (said past)).topic; from = (beginning_of s (said past)).from; to = None })
+        (released_frontier (beginning_of s (said past)).topic (said past))) (commits_said past)
+        ∙ (ap (λ (z : Beginning). due cs (record { topic = z.topic; from = z.from; to = None }) (released_frontier z.topic (said past))) b
+        ∙ ap (λ z. due cs (record { topic = x.topic; from = x.from; to = None }) z) (released_frontier_said x.topic past ∙ sym (frontier_of r x.topic))) in
+    let here : slice_get (due cs (record { topic = x.topic; from = x.from; to = None }) (frontier_at w x.topic)) x.taken ≡ Some item =
+        due_front x.topic x.from (end_at w s) (frontier_at w x.topic) cs up x.taken item
+        (subst (λ z. slice_get z x.taken ≡ Some item) (accepted_is_due r s l) e) in
+    ap (λ z. unwrap_or (slice_get z (length (delivered_items s (said past)))) no_item) dues
+    ∙ (ap (λ (k : ℕ). unwrap_or (slice_get (due cs (record { topic = x.topic; from = x.from; to = None }) (frontier_at w x.topic)) k) no_item) n
+    ∙ ap (λ z. unwrap_or z no_item) here)
+
+-- whose a subscription is, as the account has it
+pub connection_is : (r : Run) (s : ℕ) → (beginning_of s (said (answers_of r))).connection ≡ (subscription_at (final_world r) s).connection
+connection_is r s = ap (λ (z : Beginning). z.connection) (beginning_said s (answers_of r) ∙ beginning_is r s)
+
+taken_case : (names : List (List ℕ)) (r : Run) (older : List CoreStep) (rd : Reading) (s : ℕ) (o : Option Item) (z : Outcome)
+    → s < length (final_world r).subscriptions → slice_get (accepted_at (final_world r) s) (subscription_at (final_world r) s).taken ≡ o
+    → answer_to (final_world r) (Takes s) ≡ take_answer (final_world r) s o → outcome_of (take_answer (final_world r) s o) ≡ Some z → Says names r older (Event.Take s) rd z
+taken_case names r older rd s None z l e a d =
+    subst (Says names r older (Event.Take s) rd) (some_same _ z d)
+    (ap (λ q. Answer.Error q ∷ said (answers_of r)) (connection_is r s) ∙ ap (λ b. said (b ∷ answers_of r)) (sym a))
+taken_case names r older rd s (Some item) z l e a d =
+    subst (Says names r older (Event.Take s) rd) (some_same _ z d)
+    (ap (λ q. Answer.Handed s q ∷ said (answers_of r)) (next_item_is r s item l e) ∙ ap (λ b. said (b ∷ answers_of r)) (sym a))
+
+taken_says : (names : List (List ℕ)) (r : Run) (older : List CoreStep) (rd : Reading) (s : ℕ) (o : Outcome)
+    → In o (outcomes (core_at names r older) (Event.Take s) rd) → Says names r older (Event.Take s) rd o
+taken_says names r older rd s o i = by_case (move_refusal (final_world r) (Takes s)) refl i
+  where
+    P : Outcome → Type 0
+    P = Says names r older (Event.Take s) rd
+
+    by_case : (why : Option Objection) → move_refusal (final_world r) (Takes s) ≡ why
+        → In o (unless why (move_outcome (core_at names r older) (Takes s) ++ Outcome.NoMemory ∷ [])) → P o
+    by_case (Some why) n i =
+        let k = refusal_some (refusal_of why) o (in_option o _ i) in
+        subst P k.is (unsaid _ (answers_of r) why (answer_refused (final_world r) (Takes s) why n))
+    by_case None n i = elim (In-append_cases o _ _ i) [
+      | inl j ↦ by_answer P (final_world r) (Takes s) o (λ why x a. unsaid _ (answers_of r) why a)
+          (λ m a z d. taken_case names r older rd s _ z (ltb-true s (length (final_world r).subscriptions) (false_not _ (checked (final_world r) (Takes s) n).0)) refl a d)
+          (in_option o _ j)
+      | inr j ↦ elim j [ | inl e ↦ subst P e refl | inr k ↦ absurd k ]
+    ]
+
+-- ---- a frame
+
+-- what an action is of a frame: a SUBSCRIBE's topic and an UNSUBSCRIBE's id are the frame's
+
+no_subscribe_sent : (s : Held) (f : RawFrame) (o : Option (List ℕ)) (id : List ℕ) (t : Topic) → option_map_or (λ transaction. actions.Nothing) o (commit (send_of s.names f ∷ [])) ≡ actions.Subscribe id t → Prim.⊥
+no_subscribe_sent s f None id t e = cc
+no_subscribe_sent s f (Some x) id t e = cc
+
+no_subscribe_committed : (sends : List SentMessage) (id : List ℕ) (t : Topic) → commit sends ≡ actions.Subscribe id t → Prim.⊥
+no_subscribe_committed [] id t e = cc
+no_subscribe_committed (x ∷ xs) id t e = cc
+
+-- the topic of a SUBSCRIBE is that of its frame
+subscribed_topic : (command : Command) (s : Held) (f : RawFrame) (id : List ℕ) (t : Topic) → action_by command s f ≡ actions.Subscribe id t → topic_of s.names f ≡ t
+subscribed_topic commands.Send s f id t e = absurd (no_subscribe_sent s f (first_of (codes "transaction") f.headers) id t e)
+subscribed_topic commands.Subscribe s f id t e = cc
+subscribed_topic commands.Unsubscribe s f id t e = cc
+subscribed_topic commands.Begin s f id t e = cc
+subscribed_topic commands.Commit s f id t e = absurd (no_subscribe_committed (sends_in (transaction_of f) s.transactions) id t e)
+subscribed_topic commands.Abort s f id t e = cc
+subscribed_topic commands.Ack s f id t e = cc
+subscribed_topic commands.Nack s f id t e = cc
+subscribed_topic commands.Disconnect s f id t e = cc
+subscribed_topic commands.Connect s f id t e = cc
+subscribed_topic commands.Stomp s f id t e = cc
+subscribed_topic commands.Connected s f id t e = cc
+subscribed_topic commands.Message s f id t e = cc
+subscribed_topic commands.Receipt s f id t e = cc
+subscribed_topic commands.Error s f id t e = cc
+
+no_unsubscribe_sent : (s : Held) (f : RawFrame) (o : Option (List ℕ)) (id : List ℕ) → option_map_or (λ transaction. actions.Nothing) o (commit (send_of s.names f ∷ [])) ≡ actions.Unsubscribe id → Prim.⊥
+no_unsubscribe_sent s f None id e = cc
+no_unsubscribe_sent s f (Some x) id e = cc
+
+no_unsubscribe_committed : (sends : List SentMessage) (id : List ℕ) → commit sends ≡ actions.Unsubscribe id → Prim.⊥
+no_unsubscribe_committed [] id e = cc
+no_unsubscribe_committed (x ∷ xs) id e = cc
+
+-- the id of an UNSUBSCRIBE is that of its frame
+unsubscribed_id : (command : Command) (s : Held) (f : RawFrame) (id : List ℕ) → action_by command s f ≡ actions.Unsubscribe id → id_of f ≡ id
+unsubscribed_id commands.Send s f id e = absurd (no_unsubscribe_sent s f (first_of (codes "transaction") f.headers) id e)
+unsubscribed_id commands.Subscribe s f id e = cc
+unsubscribed_id commands.Unsubscribe s f id e = cc
+unsubscribed_id commands.Begin s f id e = cc
+unsubscribed_id commands.Commit s f id e = absurd (no_unsubscribe_committed (sends_in (transaction_of f) s.transactions) id e)
+unsubscribed_id commands.Abort s f id e = cc
+unsubscribed_id commands.Ack s f id e = cc
+unsubscribed_id commands.Nack s f id e = cc
+unsubscribed_id commands.Disconnect s f id e = cc
+unsubscribed_id commands.Connect s f id e = cc
+unsubscribed_id commands.Stomp s f id e = cc
+unsubscribed_id commands.Connected s f id e = cc
+unsubscribed_id commands.Message s f id e = cc
+unsubscribed_id commands.Receipt s f id e = cc
+unsubscribed_id commands.Error s f id e = cc
+
+flown_case : (names : List (List ℕ)) (r : Run) (older : List CoreStep) (c : ℕ) (f : RawFrame) (left : Unread) (sends : List SentMessage) (z : Outcome)
+    → c < length (final_world r).connections → action_by f.command (session_at (core_at names r older) c) f ≡ actions.Commit sends
+    → answer_to (final_world r) (Commits c sends) ≡ commit_answer (final_world r) c sends → outcome_of (commit_answer (final_world r) c sends) ≡ Some z
+    → Says names r older (Event.Next c) (Reading.Finds f left) z
+flown_case names r older c f left [] z l e a d =
+    subst (Says names r older (Event.Next c) (Reading.Finds f left)) (some_same _ z d)
+    (ap (λ b. said (b ∷ answers_of r)) (sym a)
+    ∙ ap (λ b. said (answers_from (option_to_list (frame_move (core_at names r older) c b)) (final_world r) (answers_of r))) (sym e))
+flown_case names r older c f left (first ∷ others) z l e a d =
+    let past = answers_of r in let last = last_id c (said past) in
+    subst (Says names r older (Event.Next c) (Reading.Finds f left)) (some_same _ z d)
+    (ap (λ b. Answer.Begun (record { id = record last { seq = last.seq + 1 }; sends = committed_by b }) ∷ said past) e
+    ∙ (ap (λ (b : TxnId). Answer.Begun (record { id = record b { seq = b.seq + 1 }; sends = first ∷ others }) ∷ said past) (sym (last_is r c l))
+    ∙ (ap (λ b. said (b ∷ past)) (sym a)
+    ∙ ap (λ b. said (answers_from (option_to_list (frame_move (core_at names r older) c b)) (final_world r) past)) (sym e))))
+
+accepted_says : (names : List (List ℕ)) (r : Run) (older : List CoreStep) (c : ℕ) (f : RawFrame) (left : Unread) (o : Outcome) (action : Action)
+    → action_by f.command (session_at (core_at names r older) c) f ≡ action
+    → In o (option_map_or (move_outcome (core_at names r older)) (frame_move (core_at names r older) c action) (Outcome.Done ∷ []))
+    → Says names r older (Event.Next c) (Reading.Finds f left) o
+accepted_says names r older c f left o actions.Connected e (inl d) =
+    subst (Says names r older (Event.Next c) (Reading.Finds f left)) d
+    (ap (λ b. said (answers_from (option_to_list (frame_move (core_at names r older) c b)) (final_world r) (answers_of r))) (sym e))
+accepted_says names r older c f left o actions.Connected e (inr i) = absurd i
+accepted_says names r older c f left o actions.Nothing e (inl d) =
+    subst (Says names r older (Event.Next c) (Reading.Finds f left)) d
+    (ap (λ b. said (answers_from (option_to_list (frame_move (core_at names r older) c b)) (final_world r) (answers_of r))) (sym e))
+accepted_says names r older c f left o actions.Nothing e (inr i) = absurd i
+accepted_says names r older c f left o (actions.Subscribe id t) e i =
+    let w = final_world r in let past = answers_of r in let P = Says names r older (Event.Next c) (Reading.Finds f left) in
+    by_answer P w (Subscribes c t) o (λ why x a. refl)
+    (λ n a z d. subst P (some_same _ z d)
+    (ap (λ u. Answer.Subscribed (length w.subscriptions) c u (topic_at w t).frontier ∷ said past)
+    (subscribed_topic f.command (session_at (core_at names r older) c) f id t e)
+    ∙ (ap (λ b. said (b ∷ past)) (sym a)
+    ∙ ap (λ b. said (answers_from (option_to_list (frame_move (core_at names r older) c b)) w past)) (sym e))))
+    (in_option o _ i)
+accepted_says names r older c f left o (actions.Unsubscribe id) e i =
+    let w = final_world r in let past = answers_of r in let P = Says names r older (Event.Next c) (Reading.Finds f left) in
+    let s = number_by c id older in
+    by_answer P w (Unsubscribes c s) o (λ why x a. refl)
+    (λ n a z d. subst P (some_same _ z d)
+    (ap (λ b. Answer.Unsubscribed (number_by c b older) (end_now w s) ∷ said past) (unsubscribed_id f.command (session_at (core_at names r older) c) f id e)
+    ∙ (ap (λ b. said (b ∷ past)) (sym a)
+    ∙ ap (λ b. said (answers_from (option_to_list (frame_move (core_at names r older) c b)) w past)) (sym e))))
+    (in_option o _ i)
+accepted_says names r older c f left o (actions.Commit sends) e i =
+    let w = final_world r in let P = Says names r older (Event.Next c) (Reading.Finds f left) in
+    by_answer P w (Commits c sends) o (λ why x a. refl)
+    (λ n a z d. flown_case names r older c f left sends z (there w c (checked w (Commits c sends) n).0) e a d)
+    (in_option o _ i)
+accepted_says names r older c f left o actions.Disconnect e i =
+    let w = final_world r in let past = answers_of r in let P = Says names r older (Event.Next c) (Reading.Finds f left) in
+    by_answer P w (Disconnects c) o (λ why x a. refl)
+    (λ n a z d. subst P (some_same _ z d)
+    (ap (λ b. said (b ∷ past)) (sym a)
+    ∙ ap (λ b. said (answers_from (option_to_list (frame_move (core_at names r older) c b)) w past)) (sym e)))
+    (in_option o _ i)
+
+-- ---- a Next
+
+-- what an ERROR adds, whatever was read
+fault_account : (names : List (List ℕ)) (older : List CoreStep) (past : List Answer) (c : ℕ) (read : Option RawFrame) (fault : ConnectionFault) (cut : Bool)
+    → account_of_next names c older read past (Outcome.Faulted fault cut) ≡ Answer.Error c ∷ []
+fault_account names older past c None fault cut = refl
+fault_account names older past c (Some f) fault cut = refl
+
+refused_account : (names : List (List ℕ)) (older : List CoreStep) (past : List Answer) (c : ℕ) (read : Option RawFrame) (why : Refusal)
+    → account_of_next names c older read past (Outcome.Refused why) ≡ []
+refused_account names older past c None why = refl
+refused_account names older past c (Some f) why = refl
+
+faulted_says : (names : List (List ℕ)) (r : Run) (older : List CoreStep) (rd : Reading) (c : ℕ) (fault : ConnectionFault) (o : Outcome)
+    → first_refusal (needs_idle (final_world r) c) ≡ None → In o (fault_outcomes fault) → Says names r older (Event.Next c) rd o
+faulted_says names r older rd c fault o n i = elim i [
+  | inl e ↦ subst P e (errs false)
+  | inr j ↦ elim j [ | inl e ↦ subst P e (errs true) | inr k ↦ absurd k ]
+]
+  where
+    P : Outcome → Type 0
+    P = Says names r older (Event.Next c) rd
+
+    errs : (cut : Bool) → P (Outcome.Faulted fault cut)
+    errs cut =
+        ap (λ z. z ++ said (answers_of r)) (fault_account names older (said (answers_of r)) c (frame_in rd) fault cut)
+        ∙ ap (λ b. said (b ∷ answers_of r)) (sym (answer_is (final_world r) (Errs c) (ap (λ (z : Option Objection). option_or z None) n)))
+
+found_says : (names : List (List ℕ)) (r : Run) (older : List CoreStep) (c : ℕ) (f : RawFrame) (left : Unread) (o : Outcome) (why : Option ConnectionFault)
+    → first_refusal (needs_idle (final_world r) c) ≡ None
+    → In o (option_map_or fault_outcomes why (frame_outcome (core_at names r older) c f ++ fault_outcomes frame_no_memory))
+    → Says names r older (Event.Next c) (Reading.Finds f left) o
+found_says names r older c f left o (Some fault) n i = faulted_says names r older (Reading.Finds f left) c fault o n i
+found_says names r older c f left o None n i = elim (In-append_cases o (frame_outcome (core_at names r older) c f) _ i) [
+  | inl j ↦ accepted_says names r older c f left o (action_by f.command (session_at (core_at names r older) c) f) refl j
+  | inr j ↦ faulted_says names r older (Reading.Finds f left) c frame_no_memory o n j
+]
+
+read_says : (names : List (List ℕ)) (r : Run) (older : List CoreStep) (rd : Reading) (c : ℕ) (o : Outcome) → first_refusal (needs_idle (final_world r) c) ≡ None
+    → In o (reading_outcomes (core_at names r older) c rd) → Says names r older (Event.Next c) rd o
+read_says names r older Reading.Nothing c o n i = faulted_says names r older Reading.Nothing c ConnectionFault.ReaderNoMemory o n i
+read_says names r older (Reading.Waits left) c o n (inl e) = subst (Says names r older (Event.Next c) (Reading.Waits left)) e refl
+read_says names r older (Reading.Waits left) c o n (inr i) = absurd i
+read_says names r older (Reading.Finds f left) c o n i = found_says names r older c f left o (frame_fault (core_at names r older) c f) n i
+read_says names r older (Reading.Fails check left) c o n i = faulted_says names r older (Reading.Fails check left) c (ConnectionFault.Stream check) o n i
+
+next_says : (names : List (List ℕ)) (r : Run) (older : List CoreStep) (rd : Reading) (c : ℕ) (o : Outcome) (why : Option Objection)
+    → first_refusal (needs_idle (final_world r) c) ≡ why → In o (unless why (reading_outcomes (core_at names r older) c rd)) → Says names r older (Event.Next c) rd o
+next_says names r older rd c o None n i = read_says names r older rd c o n i
+next_says names r older rd c o (Some why) n i =
+    let k = refusal_some (refusal_of why) o (in_option o _ i) in
+    subst (Says names r older (Event.Next c) rd) k.is (ap (λ z. z ++ said (answers_of r)) (refused_account names older (said (answers_of r)) c (frame_in rd) k.why))
+
+-- ---- every event
+
+opened_says : (names : List (List ℕ)) (r : Run) (older : List CoreStep) (rd : Reading) (o : Outcome)
+    → In o (outcomes (core_at names r older) Event.Open rd) → Says names r older Event.Open rd o
+opened_says names r older rd o i = elim i [
+  | inl e ↦ subst (Says names r older Event.Open rd) e refl
+  | inr j ↦ elim j [ | inl e ↦ subst (Says names r older Event.Open rd) e refl | inr k ↦ absurd k ]
+]
+
+event_says : (names : List (List ℕ)) (r : Run) (older : List CoreStep) (e : Event) (rd : Reading) (o : Outcome) → account_of names older ≡ said (answers_of r)
+    → In o (outcomes (core_at names r older) e rd) → Says names r older e rd o
+event_says names r older Event.Open rd o acc i = opened_says names r older rd o i
+event_says names r older (Event.Piece c octets) rd o acc i = refl
+event_says names r older (Event.Next c) rd o acc i = next_says names r older rd c o (first_refusal (needs_idle (final_world r) c)) refl i
+event_says names r older (Event.Propose c t) rd o acc i = proposed_says names r older rd c t o i
+event_says names r older (Event.Decide c) rd o acc i = decided_says names r older rd c o acc i
+event_says names r older (Event.Withdraw c) rd o acc i = withdrawn_says names r older rd c o i
+event_says names r older (Event.Cancel c t) rd o acc i = cancelled_says names r older rd c t o i
+event_says names r older (Event.Learn t id) rd o acc i = learnt_says names r older rd t id o i
+event_says names r older (Event.Release t) rd o acc i = released_says names r older rd t o i
+event_says names r older (Event.Turn t) rd o acc i = turned_says names r older rd t o i
+event_says names r older (Event.Take s) rd o acc i = taken_says names r older rd s o i
+event_says names r older (Event.Leave c) rd o acc i = left_says names r older rd c o i
+event_says names r older (Event.Lost c) rd o acc i = lost_says names r older rd c o i
+
+-- a run of the core is one of the machine
+pub core_is : (topics : TopicList) (capacity : ℕ) (steps : List CoreStep) → core_of topics capacity steps ≡ core_at topics.names (run_of topics capacity steps) steps
+core_is topics capacity [] = refl
+core_is topics capacity (step ∷ older) =
+    ap (λ (n : List (List ℕ)). record { names = n; world = (core_of topics capacity (step ∷ older)).world; steps = step ∷ (core_of topics capacity older).steps })
+    (ap (λ (k : Core). k.names) (core_is topics capacity older))
+    ∙ (ap (λ (s : List CoreStep). record { names = topics.names; world = (core_of topics capacity (step ∷ older)).world; steps = step ∷ s })
+    (ap (λ (k : Core). k.steps) (core_is topics capacity older))
+    ∙ ap (λ w. core_with topics.names w (step ∷ older)) (world_is topics capacity (step ∷ older)))
+
+-- the account of a run of the core is what the machine answered
+pub account_is : (topics : TopicList) (capacity : ℕ) (steps : List CoreStep) → IsCoreRun topics capacity steps
+    → account_of topics.names steps ≡ said (answers_of (run_of topics capacity steps))
+account_is topics capacity [] run = refl
+account_is topics capacity (step ∷ older) run =
+    let r = run_of topics capacity older in let k = core_of topics capacity older in
+    let acc = account_is topics capacity older run.1 in let c = core_is topics capacity older in
+    let i : In step.outcome (outcomes (core_at topics.names r older) step.event step.reading) =
+        subst (λ z. In step.outcome (outcomes z step.event step.reading)) c run.0.outcome in
+    let ms = moves k step.event step.reading step.outcome in
+    ap (λ z. account_of_step topics.names older z step.event step.reading step.outcome ++ z) acc
+    ∙ (event_says topics.names r older step.event step.reading step.outcome acc i
+    ∙ (ap (λ z. said (answers_from (moves z step.event step.reading step.outcome) (final_world r) (answers_of r))) (sym c)
+    ∙ ap said (sym (answers_append (all_moves topics capacity older) ms (start capacity 65536 topics.clocks) []))))

@@ -1,0 +1,275 @@
+-- What every run keeps of connections and their senders: a sender's number of transactions, whose its undecided
+-- transaction and its leftover tickets are, and that a connection which isn't open was closed.
+use Rattle.std.proofs.Common.{◌≡◌, ◌≢◌, ℕ, ◌+◌, ◌<◌, ◌≤◌, ◌==◌, Bool, true, false, cond, not, ◌||◌, ◌⊎◌, inl, inr, List, [], ◌∷◌, ◌++◌, map, length, get_or, set, Option, Some, None, refl, sym, ap, subst, ◌∙◌, true≢false, arith, ltb}
+use Rattle.std.proofs.lemmas.Bool.{eqb-true, eq-eqb, ltb-true, false≢true}
+use Rattle.mcast_txn.specs.declared.id.Topic.{Topic}
+use Rattle.mcast_txn.specs.declared.id.TxnId.{TxnId}
+use Rattle.mcast_txn.specs.declared.draft.sent_message.SentMessage.{SentMessage}
+use Rattle.mcast_txn.specs.declared.stamp.Stamp.{Stamp}
+use Rattle.mcast_txn.specs.Agreed.{Transaction}
+use Rattle.mcast_txn.specs.Ballot.{Decision}
+use Rattle.mcast_txn.specs.Lists.{In}
+use Rattle.mcast_txn.specs.Span.{Item}
+use Rattle.mcast_txn.proofs.Members.{at_set, at_set_within, In-map_cases}
+use Rattle.mcast_group.specs.declared.fault.ProposeFault.{ProposeFault}
+use Rattle.mcast_group.specs.Machine.{Pending, Entry, due_part}
+use Rattle.mcast_group.proofs.Parts.{some_same, none_some, not_true}
+use Rattle.delivery.specs.Machine.World.{World, Connection, Undecided, Leftover, SenderState, Standing, is_reading, is_gone, nobody, new_sender, topic_at, connection_at, subscription_at, speaker, entry_at, start}
+use Rattle.delivery.specs.Machine.Moves.{Move, Answer, world_after, answer_to, move_refusal, move_effect, move_answer, undecided_at, find_leftover, drop_leftover, leftover, find_verdict, oldest_live, next_txn, commit_effect, commit_answer, proposal_fault, propose_effect, propose_answer, cancel_effect, cancel_answer, learn_effect, release_answer, take_effect, take_answer, leave_effect, leave_answer, close_effect, close_effect_of}
+use Rattle.delivery.specs.Machine.Moves.Move.{AddsTopic, Opens, Commits, Subscribes, Unsubscribes, Disconnects, Errs, Lost, Leaves, Proposes, Decides, Withdraws, Cancels, Learns, Releases, Turns, Takes}
+use Rattle.delivery.specs.Machine.Moves.Answer.{Refused, Done, Opened, Learnt}
+use Rattle.delivery.specs.Machine.Runs.{run, answers_from, txn_count}
+use Rattle.delivery.specs.Theorem.Settled.{closes}
+use Rattle.delivery.specs.Core.Output.{has_closed}
+use Rattle.delivery.proofs.Machine.Invariant.{sender_in}
+use Rattle.delivery.proofs.Machine.SenderSteps.{In-append_cases, In-drop}
+use Rattle.delivery.proofs.Machine.SubscriptionSteps.{at_push_two, at_old, push_length, set_length}
+use Rattle.delivery.proofs.Machine.InvariantIsKept.{by_refusal, checked, false_not, in_flight}
+use Rattle.delivery.proofs.Theorem.BegunIsOwn.{Speaks, effect_speaks}
+use Rattle.delivery.proofs.Theorem.SpansAsAnswered.{beyond, within}
+
+-- the id of the transaction of this sender and this number
+abbrev pub id_at : ℕ → ℕ → TxnId
+id_at s n = record { sender = record { 0 = s }; seq = n }
+
+-- the connection of this number is open; beyond the last, it isn't
+abbrev pub open_in : List Connection → ℕ → Bool
+open_in connections c = is_reading (get_or connections c nobody).standing
+
+-- A sender has made as many transactions as were answered, its undecided one is the last of them, and so is that
+-- of its leftover tickets, whose connection isn't open; a connection that isn't open was closed.
+pub record Speaking (past : List Answer) (senders : List SenderState) (connections : List Connection) : Type 0 where
+  pub seqs : (s : ℕ) → (sender_in senders s).seq ≡ txn_count s past
+  pub flying : (s : ℕ) (f : Undecided) → (sender_in senders s).flight ≡ Some f → f.txn.id ≡ id_at s (sender_in senders s).seq
+  pub left : (s : ℕ) (k : Leftover) → In k (sender_in senders s).leftovers → (k.id ≡ id_at s (sender_in senders s).seq) × (open_in connections s ≡ false)
+  pub shut : (c : ℕ) → c < length connections → open_in connections c ≡ false → has_closed c past ≡ true
+
+-- ---- writing
+
+-- a sender is written with its number as it was
+written : (past : List Answer) (senders : List SenderState) (connections : List Connection) (s : ℕ) (x : SenderState) → x.seq ≡ (sender_in senders s).seq
+    → ((f : Undecided) → x.flight ≡ Some f → f.txn.id ≡ id_at s (sender_in senders s).seq)
+    → ((k : Leftover) → In k x.leftovers → (k.id ≡ id_at s (sender_in senders s).seq) × (open_in connections s ≡ false))
+    → Speaking past senders connections → Speaking past (set senders s x) connections
+written past senders connections s x e g l h = record {
+  seqs = λ r. at_set (λ (z : SenderState). z.seq ≡ txn_count r past) senders s r x new_sender
+      (λ k. e ∙ (h.seqs s ∙ ap (λ n. txn_count n past) (sym k))) (h.seqs r);
+  flying = λ r f. at_set (λ (z : SenderState). z.flight ≡ Some f → f.txn.id ≡ id_at r z.seq) senders s r x new_sender
+      (λ k d. g f d ∙ (ap (λ n. id_at s n) (sym e) ∙ ap (λ m. id_at m x.seq) (sym k))) (h.flying r f);
+  left = λ r k. at_set (λ (z : SenderState). In k z.leftovers → (k.id ≡ id_at r z.seq) × (open_in connections r ≡ false)) senders s r x new_sender
+      (λ j i. (let a = l k i in
+      (a.0 ∙ (ap (λ n. id_at s n) (sym e) ∙ ap (λ m. id_at m x.seq) (sym j)), subst (λ m. open_in connections m ≡ false) (sym j) a.1)))
+      (h.left r k);
+  shut = h.shut;
+}
+
+-- with its flight and its leftover tickets as they were too
+same_id_flies : (past : List Answer) (senders : List SenderState) (connections : List Connection) (s : ℕ) (f g : Undecided) → (sender_in senders s).flight ≡ Some f → g.txn ≡ f.txn
+    → Speaking past senders connections → Speaking past (set senders s (record (sender_in senders s) { flight = Some g })) connections
+same_id_flies past senders connections s f g e t h =
+    written past senders connections s (record (sender_in senders s) { flight = Some g }) refl
+    (λ y d. ap (λ (z : Undecided). z.txn.id) (sym (some_same g y d)) ∙ (ap (λ (z : Transaction). z.id) t ∙ h.flying s f e)) (h.left s) h
+
+-- a connection isn't open any more, and was closed
+stood : (past : List Answer) (senders : List SenderState) (connections : List Connection) (c : ℕ) (x : Connection) → is_reading x.standing ≡ false → has_closed c past ≡ true
+    → Speaking past senders connections → Speaking past senders (set connections c x)
+stood past senders connections c x n t h = record {
+  seqs = h.seqs;
+  flying = h.flying;
+  left = λ s k i. (let a = h.left s k i in
+      (a.0, at_set (λ (z : Connection). is_reading z.standing ≡ false) connections c s x nobody (λ j. n) a.1));
+  shut = λ d l. at_set (λ (z : Connection). is_reading z.standing ≡ false → has_closed d past ≡ true) connections c d x nobody
+      (λ j e. subst (λ m. has_closed m past ≡ true) (sym j) t)
+      (h.shut d (let m : length (set connections c x) ≡ length connections = set_length connections c x in omega arith));
+}
+
+or_true : (a b : Bool) → b ≡ true → (a || b) ≡ true
+or_true true b e = refl
+or_true false b e = e
+
+-- another answer than a new transaction
+noted : (past : List Answer) (senders : List SenderState) (connections : List Connection) (o : Answer) → ((s : ℕ) → txn_count s (o ∷ past) ≡ txn_count s past)
+    → Speaking past senders connections → Speaking (o ∷ past) senders connections
+noted past senders connections o a h = record {
+  seqs = λ s. h.seqs s ∙ sym (a s);
+  flying = h.flying;
+  left = h.left;
+  shut = λ c l e. or_true (closes c o) (has_closed c past) (h.shut c l e);
+}
+
+closed_now : (c : ℕ) (past : List Answer) → ((c == c) || has_closed c past) ≡ true
+closed_now c past = ap (λ b. b || has_closed c past) (eq-eqb c c refl)
+
+-- a connection is leaving, as it is answered
+leaving : (past : List Answer) (w : World) (c : ℕ) (o : Answer) → ((s : ℕ) → txn_count s (o ∷ past) ≡ txn_count s past) → has_closed c (o ∷ past) ≡ true
+    → Speaking past w.senders w.connections → Speaking (o ∷ past) w.senders (set w.connections c (record { sender = (connection_at w c).sender; standing = Standing.Leaving }))
+leaving past w c o a t h = stood (o ∷ past) w.senders w.connections c _ refl t (noted past w.senders w.connections o a h)
+
+-- ---- each move
+
+made_case : (s t n : ℕ) (b : Bool) → (t == s) ≡ b → cond b (n + 1) n ≡ cond (t == s) (n + 1) n
+made_case s t n b e = ap (λ (c : Bool). cond c (n + 1) n) (sym e)
+
+flown : (past : List Answer) (w : World) (c : ℕ) (sends : List SentMessage) → c < length w.senders → (connection_at w c).sender ≡ c → open_in w.connections c ≡ true
+    → Speaking past w.senders w.connections → Speaking (commit_answer w c sends ∷ past) (commit_effect w c sends).senders (commit_effect w c sends).connections
+flown past w c [] l own o h = noted past w.senders w.connections Done (λ s. refl) h
+flown past w c (first ∷ others) l own o h =
+    let t = (connection_at w c).sender in let x = sender_in w.senders t in
+    let y : SenderState = record x { seq = x.seq + 1; flight = Some (record { txn = next_txn w c (first ∷ others); given = []; mark = None }) } in
+    record {
+      seqs = λ s. at_set_within (λ (z : SenderState). z.seq ≡ cond (t == s) (txn_count s past + 1) (txn_count s past)) w.senders t s y new_sender
+          (subst (λ n. n < length w.senders) (sym own) l)
+          (λ e. ap (λ (n : ℕ). n + 1) (h.seqs t ∙ ap (λ n. txn_count n past) (sym e)) ∙ made_case s t (txn_count s past) true (eq-eqb t s (sym e)))
+          (λ ne. h.seqs s ∙ made_case s t (txn_count s past) false (not_true (t == s) refl (λ e. ne (sym (eqb-true t s e)))));
+      flying = λ s f. at_set (λ (z : SenderState). z.flight ≡ Some f → f.txn.id ≡ id_at s z.seq) w.senders t s y new_sender
+          (λ k d. ap (λ (z : Undecided). z.txn.id) (sym (some_same _ f d)) ∙ ap (λ m. id_at m (x.seq + 1)) (sym k)) (h.flying s f);
+      left = λ s k. at_set (λ (z : SenderState). In k z.leftovers → (k.id ≡ id_at s z.seq) × (open_in w.connections s ≡ false)) w.senders t s y new_sender
+          (λ j i. absurd (true≢false (sym o ∙ subst (λ m. open_in w.connections m ≡ false) own (h.left t k i).1))) (h.left s k);
+      shut = h.shut;
+    }
+
+proposed : (past : List Answer) (w : World) (c : ℕ) (t : Topic) (o : Option ProposeFault) → (speaker w c).flight ≡ Some (undecided_at w c)
+    → Speaking past w.senders w.connections → Speaking (propose_answer w c t o ∷ past) (propose_effect w c t o).senders (propose_effect w c t o).connections
+proposed past w c t None e h =
+    noted past _ w.connections (propose_answer w c t None) (λ s. refl)
+    (same_id_flies past w.senders w.connections (connection_at w c).sender (undecided_at w c) _ e refl h)
+proposed past w c t (Some fault) e h =
+    noted past _ w.connections (propose_answer w c t (Some fault)) (λ s. refl)
+    (same_id_flies past w.senders w.connections (connection_at w c).sender (undecided_at w c) _ e refl h)
+
+cancelled : (past : List Answer) (w : World) (c : ℕ) (t : Topic) (o : Option Leftover) → Speaking past w.senders w.connections
+    → Speaking (cancel_answer t o ∷ past) (cancel_effect w c t o).senders (cancel_effect w c t o).connections
+cancelled past w c t None h = noted past w.senders w.connections Done (λ s. refl) h
+cancelled past w c t (Some k) h =
+    let s = (connection_at w c).sender in
+    noted past _ w.connections (cancel_answer t (Some k)) (λ s. refl)
+    (written past w.senders w.connections s _ refl (h.flying s) (λ l i. h.left s l (In-drop t l (sender_in w.senders s).leftovers i)) h)
+
+learned : (past : List Answer) (w : World) (t : Topic) (id : TxnId) (o : Option Decision) → Speaking past w.senders w.connections
+    → Speaking past (learn_effect w t id o).senders (learn_effect w t id o).connections
+learned past w t id None h = h
+learned past w t id (Some v) h = h
+
+closed : (past : List Answer) (w : World) (s : ℕ) (o : Option Entry) → Speaking past w.senders w.connections
+    → Speaking past (close_effect_of w s o).senders (close_effect_of w s o).connections
+closed past w s None h = h
+closed past w s (Some e) h = h
+
+gone : (past : List Answer) (w : World) (c : ℕ) (o : Option ℕ) → has_closed c past ≡ true → Speaking past w.senders w.connections
+    → Speaking (leave_answer w c o ∷ past) (leave_effect w c o).senders (leave_effect w c o).connections
+gone past w c None t h = noted past w.senders _ (leave_answer w c None) (λ s. refl) (stood past w.senders w.connections c _ refl t h)
+gone past w c (Some s) t h = noted past _ _ (leave_answer w c (Some s)) (λ s. refl) (closed past w s (entry_at w s) h)
+
+released : (past : List Answer) (w : World) (t : Topic) (o : Option Pending) → Speaking past w.senders w.connections
+    → Speaking (release_answer t o ∷ past) w.senders w.connections
+released past w t None h = noted past w.senders w.connections Done (λ s. refl) h
+released past w t (Some p) h = noted past w.senders w.connections _ (λ s. refl) h
+
+taken : (past : List Answer) (w : World) (s : ℕ) (o : Option Item) → Speaking past w.senders w.connections
+    → Speaking (take_answer w s o ∷ past) (take_effect w s o).senders (take_effect w s o).connections
+taken past w s None h =
+    leaving past w (subscription_at w s).connection (take_answer w s None) (λ s. refl) (closed_now (subscription_at w s).connection past) h
+taken past w s (Some item) h = noted past w.senders w.connections (take_answer w s (Some item)) (λ s. refl) h
+
+opened : (past : List Answer) (w : World) → length w.senders ≡ length w.connections → Speaking past w.senders w.connections
+    → Speaking (move_answer w Opens ∷ past) (move_effect w Opens).senders (move_effect w Opens).connections
+opened past w same h =
+    let new : Connection = record { sender = length w.senders; standing = Standing.Open } in
+    let n = push_length w.connections new in
+    noted past (move_effect w Opens).senders (move_effect w Opens).connections (Opened (length w.connections)) (λ s. refl) (record {
+      seqs = λ s. subst (λ (z : SenderState). z.seq ≡ txn_count s past) (sym (same_sender s)) (h.seqs s);
+      flying = λ s f. subst (λ (z : SenderState). z.flight ≡ Some f → f.txn.id ≡ id_at s z.seq) (sym (same_sender s)) (h.flying s f);
+      left = λ s k. subst (λ (z : SenderState). In k z.leftovers → (k.id ≡ id_at s z.seq) × (open_in (move_effect w Opens).connections s ≡ false)) (sym (same_sender s))
+          (λ i. (let a = h.left s k i in (a.0, still_shut s k i a.1)));
+      shut = λ c l. at_push_two (λ (z : Connection). is_reading z.standing ≡ false → has_closed c past ≡ true) w.connections c new nobody
+          (λ e d. absurd (true≢false d)) (λ ne. h.shut c (omega arith));
+    })
+  where
+    same_sender : (s : ℕ) → sender_in (w.senders ++ new_sender ∷ []) s ≡ sender_in w.senders s
+    same_sender s = elim (within s (length w.senders)) [
+      | inl l ↦ at_old (λ (z : SenderState). z ≡ sender_in w.senders s) w.senders s new_sender new_sender l refl
+      | inr l ↦ at_push_two (λ (z : SenderState). z ≡ sender_in w.senders s) w.senders s new_sender new_sender (λ e. sym (beyond w.senders s new_sender l)) (λ ne. refl)
+    ]
+
+    still_shut : (s : ℕ) (k : Leftover) → In k (sender_in w.senders s).leftovers → open_in w.connections s ≡ false → open_in (move_effect w Opens).connections s ≡ false
+    still_shut s k i e = elim (within s (length w.senders)) [
+      | inl l ↦ at_old (λ (z : Connection). is_reading z.standing ≡ false) w.connections s _ nobody (omega arith) e
+      | inr l ↦ absurd (subst (λ (z : SenderState). In k z.leftovers) (beyond w.senders s new_sender l) i)
+    ]
+
+there : (w : World) (c : ℕ) → not (ltb c (length w.connections)) ≡ false → c < length w.connections
+there w c e = ltb-true c (length w.connections) (false_not (ltb c (length w.connections)) e)
+
+or_left : (a b : Bool) → (a || b) ≡ false → a ≡ false
+or_left true b e = e
+or_left false b e = refl
+
+withdrawn : (past : List Answer) (w : World) (c : ℕ) → c < length w.connections → (connection_at w c).sender ≡ c → (speaker w c).flight ≡ Some (undecided_at w c)
+    → Speaking past w.senders w.connections → Speaking (move_answer w (Withdraws c) ∷ past) (move_effect w (Withdraws c)).senders (move_effect w (Withdraws c)).connections
+withdrawn past w c l own e h =
+    let f = undecided_at w c in let o = move_answer w (Withdraws c) in let s = (connection_at w c).sender in
+    let g = leaving past w c o (λ s. refl) (closed_now c past) h in
+    written (o ∷ past) w.senders (move_effect w (Withdraws c)).connections s _ refl (λ y d. none_some y d)
+    (λ k i. elim (In-append_cases k (sender_in w.senders s).leftovers (map (leftover f.txn.id) f.given) i) [
+      | inl j ↦ g.left s k j
+      | inr j ↦ (let m = In-map_cases (leftover f.txn.id) k f.given j in
+      (ap (λ (z : Leftover). z.id) (sym m.is) ∙ g.flying s f e, shut_there))
+    ]) g
+  where
+    shut_there : open_in (move_effect w (Withdraws c)).connections (connection_at w c).sender ≡ false
+    shut_there =
+        at_set_within (λ (z : Connection). is_reading z.standing ≡ false) w.connections c (connection_at w c).sender _ nobody l (λ k. refl) (λ ne. absurd (ne own))
+
+happens : (past : List Answer) (w : World) (e : Move) → Speaks w → Speaking past w.senders w.connections → move_refusal w e ≡ None
+    → Speaking (move_answer w e ∷ past) (move_effect w e).senders (move_effect w e).connections
+happens past w (AddsTopic clock) p h e = noted past w.senders w.connections Done (λ s. refl) h
+happens past w Opens p h e = opened past w p.same h
+happens past w (Commits c sends) p h e =
+    let k = checked w (Commits c sends) e in let l = there w c k.0 in
+    flown past w c sends (let m = p.same in omega arith) (p.own c l) (false_not _ (or_left _ _ k.1.1.0)) h
+happens past w (Subscribes c t) p h e = noted past w.senders w.connections _ (λ s. refl) h
+happens past w (Unsubscribes c s) p h e = noted past _ _ (move_answer w (Unsubscribes c s)) (λ s. refl) (closed past w s (entry_at w s) h)
+happens past w (Disconnects c) p h e = leaving past w c _ (λ s. refl) (closed_now c past) h
+happens past w (Errs c) p h e = leaving past w c _ (λ s. refl) (closed_now c past) h
+happens past w (Lost c) p h e = leaving past w c _ (λ s. refl) (closed_now c past) h
+happens past w (Leaves c) p h e =
+    let k = checked w (Leaves c) e in
+    gone past w c (oldest_live c 0 w.subscriptions) (h.shut c (there w c k.0) k.1.1.0) h
+happens past w (Proposes c t memory) p h e =
+    let k = checked w (Proposes c t memory) e in let fl = in_flight w c k.1.1.0 in
+    proposed past w c t (proposal_fault w c t memory) (fl.is ∙ ap Some (sym fl.at)) h
+happens past w (Decides c) p h e =
+    let s = (connection_at w c).sender in
+    noted past _ w.connections (move_answer w (Decides c)) (λ s. refl) (written past w.senders w.connections s _ refl (λ f d. none_some f d) (h.left s) h)
+happens past w (Withdraws c) p h e =
+    let k = checked w (Withdraws c) e in let fl = in_flight w c k.1.1.0 in let l = there w c k.0 in
+    withdrawn past w c l (p.own c l) (fl.is ∙ ap Some (sym fl.at)) h
+happens past w (Cancels c t) p h e = cancelled past w c t (find_leftover t (speaker w c).leftovers) h
+happens past w (Learns t id) p h e = noted past _ _ (move_answer w (Learns t id)) (λ s. refl) (learned past w t id (find_verdict id w.verdicts) h)
+happens past w (Releases t) p h e = released past w t (due_part (topic_at w t)) h
+happens past w (Turns t) p h e = noted past w.senders w.connections _ (λ s. refl) h
+happens past w (Takes s) p h e = taken past w s _ h
+
+-- a world that answers led to
+pub record Spoken (past : List Answer) (w : World) : Type 0 where
+  pub speaks : Speaks w
+  pub speaking : Speaking past w.senders w.connections
+
+-- each event keeps it
+pub step_spoken : (past : List Answer) (w : World) (e : Move) → Spoken past w → Spoken (answer_to w e ∷ past) (world_after w e)
+step_spoken past w e h =
+    by_refusal (λ v o. Spoken (o ∷ past) v) w e
+    (λ why. record { speaks = h.speaks; speaking = noted past w.senders w.connections (Refused why) (λ s. refl) h.speaking })
+    (λ n. record { speaks = effect_speaks w e h.speaks; speaking = happens past w e h.speaks h.speaking n })
+
+-- each run does
+pub run_spoken : (es : List Move) (past : List Answer) (w : World) → Spoken past w → Spoken (answers_from es w past) (run es w)
+run_spoken [] past w h = h
+run_spoken (e ∷ es) past w h = run_spoken es (answer_to w e ∷ past) (world_after w e) (step_spoken past w e h)
+
+-- it holds at the start
+pub start_spoken : (capacity log_limit : ℕ) (clocks : List ℕ) → Spoken [] (start capacity log_limit clocks)
+start_spoken capacity log_limit clocks = record {
+  speaks = record { same = refl; own = λ c l. absurd (omega arith) };
+  speaking = record { seqs = λ s. refl; flying = λ s f e. none_some f e; left = λ s k i. absurd i; shut = λ c l. absurd (omega arith) };
+}
