@@ -1,6 +1,10 @@
 //! What the core holds.
 
 ghost use Rattle.std.specs.Prelude.{◌≡◌, ◌≤◌, ◌<◌, [], length, map, get_or, set, slice_get, IfOk, OnOk, OnErr};
+ghost use Rattle.std.specs.Option.{option_map};
+ghost use Rattle.mcast_group.specs.Counted.{takes_of};
+ghost use Rattle.mcast_group.specs.Group.{GroupState, group_after_release};
+ghost use Rattle.mcast_group.specs.Machine.{due_part};
 ghost use Rattle.delivery.specs.Topics.{max_topics};
 ghost use Rattle.delivery.specs.Machine.World.{new_topics};
 ghost use Rattle.delivery.specs.Core.State.{Core, log_limit, new_core};
@@ -16,7 +20,7 @@ use crate::stage::Stage;
 use crate::sub::Sub;
 use crate::table::Table;
 use mcast_group::{Group, Row};
-use mcast_txn::{Sender, Topic};
+use mcast_txn::{Sender, Topic, TxnId};
 use std::alloc::Global;
 use std::marker::Model;
 use std::sync::Arc;
@@ -124,19 +128,6 @@ impl NetState {
         line.stage = Stage::Leaving(parting);
     }
 
-    /// The connection is lost: 80 where there is none, 87 where it is gone, 81 where it is leaving. It takes no memory.
-    pub(crate) fn lost(&mut self, c: u64) -> Outcome
-        ensures { (k : Core) → IsReached k → self.old ≡ view_of k → Makes k (Asked.Lost c) result self.new }
-    {
-        match self.check_open(c) {
-            Ok(()) => {
-                self.leave(c, None);
-                Outcome::Leaving
-            }
-            Err(refusal) => Outcome::Refused(refusal),
-        }
-    }
-
     /// One more sender and its connection. After `NoMemory` all is what it was.
     fn add_line(&mut self) -> Result<(), NoMemory>
         ensures ok { OnOk result (self.new ≡ with_new_line self.old) }
@@ -152,17 +143,6 @@ impl NetState {
         self.senders
             .push_reserved(SenderState::new(self.alloc, Sender(sender)));
         Ok(())
-    }
-
-    /// A connection is opened, and with it a sender of its own. Out of memory all is what it was.
-    pub(crate) fn open(&mut self) -> Outcome
-        ensures { (k : Core) → IsReached k → self.old ≡ view_of k → Makes k Asked.Open result self.new }
-    {
-        let c = self.lines.len() as u64;
-        match self.add_line() {
-            Ok(()) => Outcome::Opened(c),
-            Err(NoMemory) => Outcome::NoMemory,
-        }
     }
 
     /// Feeds these octets to the connection's reader. After `NoMemory` all is what it was.
@@ -188,6 +168,37 @@ impl NetState {
                 Err(NoMemory) => Outcome::NoMemory,
             },
             Err(refusal) => Outcome::Refused(refusal),
+        }
+    }
+
+    /// Releases the part that is due at the topic of this index, if one is: of which transaction it was.
+    fn release_at(&mut self, index: usize) -> Option<TxnId>
+        requires { index < length self.old.groups }
+        ensures due { (d : GroupState) → result ≡ option_map (λ p. p.part.id) (due_part (get_or self.old.groups index d).topic) }
+        ensures groups { (d : GroupState) → self.new ≡ record self.old {
+          groups = set self.old.groups index
+              (group_after_release (takes_of (get_or self.old.groups index d)) (get_or self.old.groups index d));
+        } }
+    {
+        let group = &mut self.groups[index];
+        match group.release_counted() {
+            Some((id, _)) => Some(id),
+            None => None,
+        }
+    }
+
+    /// The topic releases the part that is due: 84 where there is no such topic, 86 where nothing is due. It takes no
+    /// memory.
+    pub(crate) fn release(&mut self, t: Topic) -> Outcome
+        ensures { (k : Core) → IsReached k → self.old ≡ view_of k → Makes k (Asked.Release t) result self.new }
+    {
+        let index = t.0 as usize;
+        if index >= self.groups.len() {
+            return Outcome::Refused(Refusal::NotNamed);
+        }
+        match self.release_at(index) {
+            Some(id) => Outcome::Released(id),
+            None => Outcome::Refused(Refusal::NothingDue),
         }
     }
 }
