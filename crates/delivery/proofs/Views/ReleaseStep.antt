@@ -8,7 +8,7 @@ use Rattle.mcast_txn.specs.Ballot.{Decision}
 use Rattle.sub_queue.specs.Shown.{Room, has_room}
 use Rattle.mcast_group.specs.Counted.{takes_in, takes_of, takes_with}
 use Rattle.mcast_group.specs.Group.{GroupState, room_at}
-use Rattle.mcast_group.specs.Machine.{TopicState, Entry, Pending, new_topic, after_release, after_release_if, due_part, item_of, key, entry_after}
+use Rattle.mcast_group.specs.Machine.{TopicState, Entry, Pending, new_topic, after_release, after_release_if, due_part, item_of, entry_after}
 use Rattle.mcast_group.specs.Group.{group_after_release}
 use Rattle.std.proofs.Common.{not}
 use Rattle.std.specs.Option.{is_some, option_or, option_map}
@@ -27,7 +27,7 @@ use Rattle.delivery.specs.Machine.Moves.{Move, Answer, move_refusal, move_effect
 use Rattle.delivery.specs.Core.Steps.{Reading}
 use Rattle.delivery.specs.Core.State.{Core}
 use Rattle.delivery.specs.Inner.Stands.{Makes, step_of}
-use Rattle.delivery.specs.Inner.View.{View, view_of, view_after, group_view, queue_room}
+use Rattle.delivery.specs.Inner.View.{View, view_of, view_after, group_view, new_group, queue_room}
 use Rattle.delivery.proofs.Machine.QueueSteps.{Goes, release_goes}
 use Rattle.delivery.proofs.Views.QuietSteps.{quiet_view, release_is_quiet}
 use Rattle.delivery.proofs.Views.StepLemmas.{bool_cases, made_world, made_answer, in_outcome, refused_makes}
@@ -42,10 +42,10 @@ room_found room (e ∷ es) n f here same =
       | inl t ↦
           ap (λ (b : Bool). cond b (Some (room e.number)) rest) t
           ∙ ap (λ (m : ℕ). Some (room m)) (sym (eqb-true n e.number t))
-      | inr no ↦
-          ap (λ (b : Bool). cond b (Some (room e.number)) rest) no
+      | inr off ↦
+          ap (λ (b : Bool). cond b (Some (room e.number)) rest) off
           ∙ elim here [
-            | inl first ↦ absurd (true≢false (sym (eq-eqb n e.number (same ∙ sym (ap (λ (x : Entry). x.number) first))) ∙ no))
+            | inl first ↦ absurd (true≢false (sym (eq-eqb n e.number (same ∙ sym (ap (λ (x : Entry). x.number) first))) ∙ off))
             | inr later ↦ room_found room es n f later same
           ]
     ]
@@ -91,22 +91,13 @@ pub released_group : (w : World) (x : TopicState)
     → group_after_release (takes_of (group_view w x)) (group_view w x) ≡ group_view w (after_release (queue_has_room w) x)
 released_group w x =
     let same : after_release (takes_of (group_view w x)) x ≡ after_release (queue_has_room w) x =
-        released_same (takes_of (group_view w x)) (queue_has_room w) x (due_part x) (λ e here. takes_same w x e e here refl) in
+    released_same (takes_of (group_view w x)) (queue_has_room w) x (due_part x) (λ e here. takes_same w x e e here refl) in
     λ i. record { topic = same i; rooms = rooms_stay w x (after_release (queue_has_room w) x) (release_goes w x) i }
 
 -- the group of a topic that is there
 pub group_at : (k : Core) (t : Topic) (d : GroupState) → t.0 < length k.world.topics
     → get_or (view_of k).groups t.0 d ≡ group_view k.world (topic_at k.world t)
 group_at k t d there = get_or-map (group_view k.world) k.world.topics t.0 (new_topic t 0 0) d there
-
--- the transaction of a part, of the answer of a release
-pub released_id : (o : Option Pending) (r : Option (TxnId × Stamp)) → r ≡ option_map (λ p. (p.part.id, key p)) o
-    → option_map (λ q. q.0) r ≡ option_map (λ p. p.part.id) o
-released_id o r is = ap (λ (z : Option (TxnId × Stamp)). option_map (λ q. q.0) z) is ∙ twice o
-  where
-    twice : (o : Option Pending) → option_map (λ q. q.0) (option_map (λ p. (p.part.id, key p)) o) ≡ option_map (λ p. p.part.id) o
-    twice None = refl
-    twice (Some p) = refl
 
 -- ---- the event
 
@@ -122,7 +113,7 @@ release_unnamed k t none =
     (release_refusal k.world t false (is_some (due_part (topic_at k.world t))) (not_lt t.0 (length k.world.topics) none) refl) refl refl
   where
     not_lt : (a b : ℕ) → b ≤ a → nat_lt a b ≡ false
-    not_lt a b h = elim (bool_cases (nat_lt a b)) [ | inl yes ↦ absurd (omega (arith, ltb-true a b yes)) | inr no ↦ no ]
+    not_lt a b h = elim (bool_cases (nat_lt a b)) [ inl on ↦ absurd (omega (arith, h, ltb-true a b on)) | inr off ↦ off ]
 
 -- nothing is due
 pub release_nothing : (k : Core) (t : Topic) (d : GroupState) → t.0 < length k.world.topics → due_part (topic_at k.world t) ≡ None
@@ -132,10 +123,10 @@ release_nothing k t d there due =
     let w = k.world in
     let x = topic_at w t in
     let none : group_after_release (takes_of (group_view w x)) (group_view w x) ≡ group_view w x =
-        ap (λ (o : Option Pending). record (group_view w x) { topic = after_release_if (takes_of (group_view w x)) x o }) due in
+    ap (λ (o : Option Pending). record (group_view w x) { topic = after_release_if (takes_of (group_view w x)) x o }) due in
     let at = group_at k t d there in
     let group : group_after_release (takes_of (get_or (view_of k).groups t.0 d)) (get_or (view_of k).groups t.0 d) ≡ get_or (view_of k).groups t.0 d =
-        ap (λ (g : GroupState). group_after_release (takes_of g) g) at ∙ (none ∙ sym at) in
+    ap (λ (g : GroupState). group_after_release (takes_of g) g) at ∙ (none ∙ sym at) in
     let groups = ap (λ (g : GroupState). set (view_of k).groups t.0 g) group ∙ set-get_or (view_of k).groups t.0 d in
     subst (λ (gs : List GroupState). Makes k (Event.Release t) (Outcome.Refused Refusal.NothingDue) (record (view_of k) { groups = gs })) (sym groups)
     (refused_makes k (Event.Release t) Refusal.NothingDue (Move.Releases t) Objection.NothingDue refl refl
@@ -152,10 +143,10 @@ release_makes k t p d there due =
     let step = step_of (Event.Release t) Reading.Nothing (Outcome.Released p.part.id) in
     let free = release_refusal w t true true (lt-ltb t.0 (length w.topics) there) (ap (λ (o : Option Pending). is_some o) due) in
     let groups : set (view_of k).groups t.0 (group_after_release (takes_of (get_or (view_of k).groups t.0 d)) (get_or (view_of k).groups t.0 d))
-        ≡ map (group_view w) (set w.topics t.0 y) =
-        ap (λ (g : GroupState). set (view_of k).groups t.0 (group_after_release (takes_of g) g)) (group_at k t d there)
-        ∙ (ap (λ (g : GroupState). set (view_of k).groups t.0 g) (released_group w x)
-        ∙ sym (map-set (group_view w) w.topics t.0 y)) in
+    ≡ map (group_view w) (set w.topics t.0 y) =
+    ap (λ (g : GroupState). set (view_of k).groups t.0 (group_after_release (takes_of g) g)) (group_at k t d there)
+    ∙ (ap (λ (g : GroupState). set (view_of k).groups t.0 g) (released_group w x)
+    ∙ sym (map-set (group_view w) w.topics t.0 y)) in
     record {
       reading = Reading.Nothing;
       may = record {
@@ -167,3 +158,47 @@ release_makes k t p d there due =
           ∙ (sym (quiet_view k.names step k.steps (with_topic w t y) (release_is_quiet k.names t p.part.id k.steps))
           ∙ ap (λ (v : World). view_after k.names v (step ∷ k.steps)) (sym (made_world w (Move.Releases t) free)));
     }
+
+-- what stands for a group that there is none of
+abbrev pub no_group : GroupState
+no_group = new_group (new_topic (record { 0 = 0 }) 0 0)
+
+-- the same by the transaction that was answered
+pub release_some : (k : Core) (t : Topic) (id : TxnId) → t.0 < length k.world.topics
+    → Some id ≡ option_map (λ p. p.part.id) (due_part (get_or (view_of k).groups t.0 no_group).topic)
+    → Makes k (Event.Release t) (Outcome.Released id)
+    (record (view_of k) { groups = set (view_of k).groups t.0 (group_after_release (takes_of (get_or (view_of k).groups t.0 no_group)) (get_or (view_of k).groups t.0 no_group)) })
+release_some k t id there is = go (due_part (topic_at k.world t)) refl (is ∙ ap (λ (g : GroupState). option_map (λ (p : Pending). p.part.id) (due_part g.topic)) (group_at k t no_group there))
+  where
+    go : (o : Option Pending) → due_part (topic_at k.world t) ≡ o → Some id ≡ option_map (λ (p : Pending). p.part.id) o
+        → Makes k (Event.Release t) (Outcome.Released id)
+        (record (view_of k) { groups = set (view_of k).groups t.0 (group_after_release (takes_of (get_or (view_of k).groups t.0 no_group)) (get_or (view_of k).groups t.0 no_group)) })
+    go None e h = absurd (cc)
+    go (Some p) e h =
+        let same : p.part.id ≡ id = cc in
+        subst (λ (i : TxnId). Makes k (Event.Release t) (Outcome.Released i)
+        (record (view_of k) { groups = set (view_of k).groups t.0 (group_after_release (takes_of (get_or (view_of k).groups t.0 no_group)) (get_or (view_of k).groups t.0 no_group)) }))
+        same (release_makes k t p no_group there e)
+
+-- the same where none was answered
+pub release_none : (k : Core) (t : Topic) → t.0 < length k.world.topics
+    → None ≡ option_map (λ p. p.part.id) (due_part (get_or (view_of k).groups t.0 no_group).topic)
+    → Makes k (Event.Release t) (Outcome.Refused Refusal.NothingDue)
+    (record (view_of k) { groups = set (view_of k).groups t.0 (group_after_release (takes_of (get_or (view_of k).groups t.0 no_group)) (get_or (view_of k).groups t.0 no_group)) })
+release_none k t there is = go (due_part (topic_at k.world t)) refl (is ∙ ap (λ (g : GroupState). option_map (λ (p : Pending). p.part.id) (due_part g.topic)) (group_at k t no_group there))
+  where
+    go : (o : Option Pending) → due_part (topic_at k.world t) ≡ o → None ≡ option_map (λ (p : Pending). p.part.id) o
+        → Makes k (Event.Release t) (Outcome.Refused Refusal.NothingDue)
+        (record (view_of k) { groups = set (view_of k).groups t.0 (group_after_release (takes_of (get_or (view_of k).groups t.0 no_group)) (get_or (view_of k).groups t.0 no_group)) })
+    go None e h = release_nothing k t no_group there e
+    go (Some p) e h = absurd (cc)
+
+-- a view after a release at this topic's group
+abbrev pub released_at : View → Topic → View
+released_at v t = record v {
+  groups = set v.groups t.0 (group_after_release (takes_of (get_or v.groups t.0 no_group)) (get_or v.groups t.0 no_group));
+}
+
+-- whose part is due there
+abbrev pub due_id_at : View → Topic → Option TxnId
+due_id_at v t = option_map (λ (p : Pending). p.part.id) (due_part (get_or v.groups t.0 no_group).topic)
