@@ -128,6 +128,19 @@ impl NetState {
         line.stage = Stage::Leaving(parting);
     }
 
+    /// The connection is lost: 80 where there is none, 87 where it is gone, 81 where it is leaving. It takes no memory.
+    pub(crate) fn lost(&mut self, c: u64) -> Outcome
+        ensures { (k : Core) → IsReached k → self.old ≡ view_of k → Makes k (Asked.Lost c) result self.new }
+    {
+        match self.check_open(c) {
+            Ok(()) => {
+                self.leave(c, None);
+                Outcome::Leaving
+            }
+            Err(refusal) => Outcome::Refused(refusal),
+        }
+    }
+
     /// One more sender and its connection. After `NoMemory` all is what it was.
     fn add_line(&mut self) -> Result<(), NoMemory>
         ensures ok { OnOk result (self.new ≡ with_new_line self.old) }
@@ -143,6 +156,17 @@ impl NetState {
         self.senders
             .push_reserved(SenderState::new(self.alloc, Sender(sender)));
         Ok(())
+    }
+
+    /// A connection is opened, and with it a sender of its own. Out of memory all is what it was.
+    pub(crate) fn open(&mut self) -> Outcome
+        ensures { (k : Core) → IsReached k → self.old ≡ view_of k → Makes k Asked.Open result self.new }
+    {
+        let c = self.lines.len() as u64;
+        match self.add_line() {
+            Ok(()) => Outcome::Opened(c),
+            Err(NoMemory) => Outcome::NoMemory,
+        }
     }
 
     /// Feeds these octets to the connection's reader. After `NoMemory` all is what it was.

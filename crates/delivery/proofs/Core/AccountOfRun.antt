@@ -104,21 +104,23 @@ answer_refused : (w : World) (e : Move) (why : Objection) → move_refusal w e �
 answer_refused w e why n = ap (λ (o : Option Objection). elim o [ None ↦ move_answer w e | Some why ↦ Answer.Refused why ]) n
 
 -- the outcome is a refusal
-record IsRefusal (o : Outcome) : Type 0 where
-  why : Refusal
-  is : Outcome.Refused why ≡ o
+pub record IsRefusal (o : Outcome) : Type 0 where
+  pub why : Refusal
+  pub is : Outcome.Refused why ≡ o
 
-in_option : {X : Type 0} (x : X) (o : Option X) → In x (option_to_list o) → o ≡ Some x
+-- the member of an option
+pub in_option : {X : Type 0} (x : X) (o : Option X) → In x (option_to_list o) → o ≡ Some x
 in_option x None i = absurd i
 in_option x (Some y) (inl e) = ap Some e
 in_option x (Some y) (inr i) = absurd i
 
-refusal_some : (r : Option Refusal) (o : Outcome) → option_map Outcome.Refused r ≡ Some o → IsRefusal o
+-- what comes of an objection that is reported is a refusal
+pub refusal_some : (r : Option Refusal) (o : Outcome) → option_map Outcome.Refused r ≡ Some o → IsRefusal o
 refusal_some None o e = none_some o e
 refusal_some (Some why) o e = record { why = why; is = some_same _ o e }
 
 -- what comes of a move: it is refused, or it has its answer
-by_answer : (P : Outcome → Type 0) (w : World) (e : Move) (o : Outcome)
+pub by_answer : (P : Outcome → Type 0) (w : World) (e : Move) (o : Outcome)
     → ((why : Objection) (x : Refusal) → answer_to w e ≡ Answer.Refused why → P (Outcome.Refused x))
     → (move_refusal w e ≡ None → answer_to w e ≡ move_answer w e → (z : Outcome) → outcome_of (move_answer w e) ≡ Some z → P z)
     → outcome_of (answer_to w e) ≡ Some o → P o
@@ -274,17 +276,18 @@ cancelled_says names r older rd c t o i =
 -- ---- replies that may be left out
 
 -- the outcome, or the same with its reply left out, where one is due
-record IsReplied (k : Core) (c : ℕ) (e : Event) (x : Option Outcome) (o : Outcome) : Type 0 where
-  base : Outcome
-  is : x ≡ Some base
-  cut : (base ≡ o) ⊎ ((cut_of base ≡ o) × (is_any (replies_to c k.steps (account_of k.names k.steps) e Reading.Nothing base) ≡ true))
+pub record IsReplied (k : Core) (c : ℕ) (e : Event) (x : Option Outcome) (o : Outcome) : Type 0 where
+  pub base : Outcome
+  pub is : x ≡ Some base
+  pub cut : (base ≡ o) ⊎ ((cut_of base ≡ o) × (is_any (replies_to c k.steps (account_of k.names k.steps) e Reading.Nothing base) ≡ true))
 
 guarded : {X : Type 0} (x y : X) (b : Bool) → In x (cond b (y ∷ []) []) → (y ≡ x) × (b ≡ true)
 guarded x y true (inl e) = (e, refl)
 guarded x y true (inr i) = absurd i
 guarded x y false i = absurd i
 
-replied : (k : Core) (c : ℕ) (e : Event) (x : Option Outcome) (o : Outcome) → In o (reply_outcomes k c e (option_to_list x)) → IsReplied k c e x o
+-- one of the outcomes of a move with a reply is so
+pub replied : (k : Core) (c : ℕ) (e : Event) (x : Option Outcome) (o : Outcome) → In o (reply_outcomes k c e (option_to_list x)) → IsReplied k c e x o
 replied k c e None o i = absurd i
 replied k c e (Some b) o (inl d) = record { base = b; is = refl; cut = inl d }
 replied k c e (Some b) o (inr i) = record { base = b; is = refl; cut = inr (guarded o (cut_of b) _ i) }
@@ -300,7 +303,7 @@ left_case names r older rd c (Some s) z a d =
     (ap (λ b. said (b ∷ answers_of r)) (sym a), ap (λ b. said (b ∷ answers_of r)) (sym a))
 
 -- an outcome, cut or not
-either_cut : (P : Outcome → Type 0) (b o : Outcome) {Q : Type 0} → P b × P (cut_of b) → (b ≡ o) ⊎ ((cut_of b ≡ o) × Q) → P o
+pub either_cut : (P : Outcome → Type 0) (b o : Outcome) {Q : Type 0} → P b × P (cut_of b) → (b ≡ o) ⊎ ((cut_of b ≡ o) × Q) → P o
 either_cut P b o h (inl e) = subst P e h.0
 either_cut P b o h (inr e) = subst P e.0 h.1
 

@@ -1,7 +1,7 @@
 -- What every run keeps of subscriptions, beside its answers: how each began, and where one that was asked to end
 -- has ended.
-use Rattle.std.proofs.Common.{◌≡◌, ◌≢◌, ℕ, zero, suc, ◌+◌, ◌<◌, ◌==◌, Bool, true, false, cond, List, [], ◌∷◌, ◌++◌, map, length, get_or, set, Option, Some, None, refl, sym, ap, subst, ◌∙◌, arith}
-use Rattle.std.proofs.lemmas.Bool.{eqb-true, eq-eqb}
+use Rattle.std.proofs.Common.{◌≡◌, ◌≢◌, ℕ, zero, suc, ◌+◌, ◌<◌, ◌==◌, Bool, true, false, cond, not, ◌⊎◌, inl, inr, List, [], ◌∷◌, ◌++◌, map, length, get_or, set, Option, Some, None, refl, sym, ap, subst, ◌∙◌, arith, ltb}
+use Rattle.std.proofs.lemmas.Bool.{eqb-true, eq-eqb, ltb-true}
 use Rattle.mcast_txn.specs.declared.id.Topic.{Topic}
 use Rattle.mcast_txn.specs.declared.id.TxnId.{TxnId}
 use Rattle.mcast_txn.specs.declared.draft.sent_message.SentMessage.{SentMessage}
@@ -25,7 +25,7 @@ use Rattle.delivery.specs.Theorem.Spans.{cause_of}
 use Rattle.delivery.specs.Core.Account.{Beginning, no_beginning, beginning_of, released_frontier}
 use Rattle.delivery.specs.Core.Delivery.{Begun, begun_in, EndsAtFrontier}
 use Rattle.delivery.proofs.Machine.SubscriptionSteps.{at_push_two}
-use Rattle.delivery.proofs.Machine.InvariantIsKept.{tickets, by_refusal}
+use Rattle.delivery.proofs.Machine.InvariantIsKept.{tickets, by_refusal, checked, false_not}
 use Rattle.delivery.proofs.Theorem.LogIsOfAnswers.{log_is_of_outcomes}
 use Rattle.delivery.proofs.Theorem.AcceptedIsDue.{reached, frontier_is}
 use Rattle.delivery.proofs.Theorem.ClosedAsAnswered.{spans_end_at_frontier, closed_as_told, closes_are_told, closed_stays}
@@ -245,3 +245,38 @@ pub asked_at_frontier : (r : Run) → AskedEnds (answers_of r) (final_world r)
 asked_at_frontier =
     by_run AskedEnds (λ capacity log_limit clocks s end k c. none_some end k)
     (λ r e h s end k c. asked_case r e s end h (subscription_at (final_world r) s).closed refl k c)
+
+-- ---- what a move does to beginnings
+
+there : (w : World) (c : ℕ) → not (ltb c (length w.connections)) ≡ false → c < length w.connections
+there w c e = ltb-true c (length w.connections) (false_not (ltb c (length w.connections)) e)
+
+-- a move changes no beginning, and adds at most one, of a connection that is there
+pub begins_more : (w : World) (e : Move) → move_refusal w e ≡ None
+    → (begins_in (move_effect w e) ≡ begins_in w) ⊎ ((x : Beginning) × (x.connection < length w.connections) × (begins_in (move_effect w e) ≡ begins_in w ++ x ∷ []))
+begins_more w (AddsTopic clock) n = inl refl
+begins_more w Opens n = inl refl
+begins_more w (Commits c sends) n = inl (flown_same w c sends)
+begins_more w (Subscribes c t) n =
+    inr (record { connection = c; topic = t; from = (topic_at w t).frontier }, there w c (checked w (Subscribes c t) n).0, map_push w.subscriptions _)
+begins_more w (Unsubscribes c s) n = inl (closed_same w s (entry_at w s))
+begins_more w (Disconnects c) n = inl refl
+begins_more w (Errs c) n = inl refl
+begins_more w (Lost c) n = inl refl
+begins_more w (Leaves c) n = inl (left_same w c (oldest_live c 0 w.subscriptions))
+begins_more w (Proposes c t memory) n = inl (proposed_same w c t (proposal_fault w c t memory))
+begins_more w (Decides c) n = inl refl
+begins_more w (Withdraws c) n = inl refl
+begins_more w (Cancels c t) n = inl (cancelled_same w c t (find_leftover t (speaker w c).leftovers))
+begins_more w (Learns t id) n = inl (learned_same w t id (find_verdict id w.verdicts))
+begins_more w (Releases t) n = inl refl
+begins_more w (Turns t) n = inl refl
+begins_more w (Takes s) n = inl (taken_same w s _)
+
+-- there are as many beginnings as subscriptions
+pub begins_count : (w : World) → length (begins_in w) ≡ length w.subscriptions
+begins_count w = map_count w.subscriptions
+
+-- each is its subscription's
+pub begins_at : (w : World) (s : ℕ) → get_or (begins_in w) s no_beginning ≡ begin_of (subscription_at w s)
+begins_at w s = get_map w.subscriptions s

@@ -2,19 +2,20 @@
 use Rattle.std.proofs.Common.{◌≡◌, ℕ, zero, suc, ◌+◌, ◌<◌, ◌≤◌, List, [], ◌∷◌, ◌++◌, length, get_or, Option, Some, None, inl, inr, refl, sym, ap, ◌∙◌, arith}
 use Rattle.std.proofs.lemmas.List.{get_or_append_left}
 use Rattle.stomp_frame.specs.declared.raw_frame.RawFrame.{RawFrame}
-use Rattle.stomp_frame.specs.Reader.{Unread, unread_of}
+use Rattle.stomp_frame.specs.Reader.{Unread}
 use Rattle.mcast_txn.specs.Ballot.{Decision}
 use Rattle.delivery.specs.declared.event.Event.{Event}
 use Rattle.delivery.specs.declared.outcome.Outcome.{Outcome}
 use Rattle.delivery.specs.Machine.World.{World, Undecided, SenderState, Connection, Subscription, Standing, nobody, new_sender, connection_at, sender_at, speaker}
 use Rattle.delivery.specs.Machine.Moves.{Move, move_effect}
-use Rattle.delivery.specs.Core.Steps.{Reading, accepted_of, reader_limits}
+use Rattle.delivery.specs.Core.Steps.{Reading, accepted_of}
 use Rattle.delivery.specs.Core.Output.{text_out}
 use Rattle.delivery.specs.Core.State.{Core, unread_at}
 use Rattle.delivery.specs.Core.Reports.{each_number}
 use Rattle.delivery.specs.Inner.Stands.{Makes, step_of}
 use Rattle.delivery.specs.Inner.View.{View, SenderView, LineView, view_of, view_after, stage_view, sender_view, verdict_list, live_numbers, line_view, new_line, with_new_line}
 use Rattle.delivery.proofs.Views.ListLemmas.{each_number-push, each_number-same, length-each_number}
+use Rattle.delivery.proofs.Views.Untouched.{IsUntouched}
 use Rattle.delivery.proofs.Views.QuietSteps.{quiet_view, open_is_quiet, open_without_is_quiet}
 
 -- beyond the last the default stands, also where it is put at the end
@@ -49,13 +50,6 @@ pushed {Y = Y} f g xs x y same last =
     ap (λ (zs : List Y). zs ++ y ∷ []) (each_number-same f g 0 xs (λ n low high. same n (omega (arith, high))))
     ∙ (ap (λ (z : Y). each_number g 0 xs ++ z ∷ []) (sym (ap g e ∙ last))
     ∙ sym (each_number-push g 0 xs x))
-
--- nothing came of a connection that isn't there yet
-pub record IsUntouched (k : Core) (c : ℕ) : Type 0 where
-  pub accepted : accepted_of c k.steps ≡ []
-  pub unread : unread_at c k.steps ≡ unread_of reader_limits
-  pub text : text_out k.names c k.steps ≡ []
-  pub live : live_numbers c 0 k.world.subscriptions ≡ []
 
 -- a connection and its sender are opened
 pub open_makes : (k : Core) → IsUntouched k (length k.world.connections) → Makes k Event.Open (Outcome.Opened (length k.world.connections)) (with_new_line (view_of k))

@@ -1,0 +1,222 @@
+-- How each move changes the connections: one more is open, one isn't open any more, or none is changed. So a
+-- connection is closed where its standing says so, and never opens again.
+use Rattle.std.proofs.Common.{◌≡◌, ◌≢◌, ℕ, suc, ◌<◌, ◌≤◌, ◌==◌, Bool, true, false, not, ◌||◌, ◌⊎◌, inl, inr, List, [], ◌∷◌, ◌++◌, length, get_or, set, Option, Some, None, refl, sym, ap, subst, ◌∙◌, true≢false, arith, ltb}
+use Rattle.std.proofs.lemmas.Bool.{eqb-true, eq-eqb, ltb-true, false≢true}
+use Rattle.mcast_txn.specs.declared.id.Topic.{Topic}
+use Rattle.mcast_txn.specs.declared.id.TxnId.{TxnId}
+use Rattle.mcast_txn.specs.declared.draft.sent_message.SentMessage.{SentMessage}
+use Rattle.mcast_txn.specs.Ballot.{Decision}
+use Rattle.mcast_txn.specs.Span.{Item}
+use Rattle.mcast_txn.proofs.Members.{at_set, at_set_within}
+use Rattle.mcast_group.specs.declared.fault.ProposeFault.{ProposeFault}
+use Rattle.mcast_group.specs.Machine.{Pending, Entry, due_part}
+use Rattle.mcast_group.proofs.Parts.{not_true}
+use Rattle.delivery.specs.Machine.World.{World, Connection, Leftover, Standing, is_reading, nobody, topic_at, connection_at, subscription_at, speaker, entry_at, start}
+use Rattle.delivery.specs.Machine.Observed.{accepted_at}
+use Rattle.delivery.specs.Machine.Moves.{Move, Answer, world_after, answer_to, move_refusal, move_effect, move_answer, find_leftover, find_verdict, oldest_live, commit_effect, commit_answer, proposal_fault, propose_effect, propose_answer, cancel_effect, cancel_answer, learn_effect, release_answer, take_effect, take_answer, leave_effect, leave_answer, close_effect_of}
+use Rattle.delivery.specs.Machine.Moves.Move.{AddsTopic, Opens, Commits, Subscribes, Unsubscribes, Disconnects, Errs, Lost, Leaves, Proposes, Decides, Withdraws, Cancels, Learns, Releases, Turns, Takes}
+use Rattle.delivery.specs.Machine.Moves.Answer.{Refused}
+use Rattle.delivery.specs.Machine.Runs.{run}
+use Rattle.delivery.specs.Theorem.Laws.{Run, answers_of, final_world}
+use Rattle.delivery.specs.Theorem.Settled.{closes}
+use Rattle.delivery.specs.Core.Output.{has_closed}
+use Rattle.delivery.proofs.Machine.SubscriptionSteps.{at_push_two, at_old, push_length, set_length}
+use Rattle.delivery.proofs.Machine.InvariantIsKept.{by_refusal, checked, false_not}
+use Rattle.delivery.proofs.Theorem.SpansAsAnswered.{beyond, within}
+use Rattle.delivery.proofs.Core.ByRun.{by_run}
+use Rattle.delivery.proofs.Core.Speaking.{open_in}
+use Rattle.delivery.proofs.Core.AccountOfRun.{spoken}
+
+-- two numbers are one, or they aren't
+pub same_or : (m n : ℕ) → (m ≡ n) ⊎ (m ≢ n)
+same_or m n = by_case (m == n) refl
+  where
+    by_case : (b : Bool) → (m == n) ≡ b → (m ≡ n) ⊎ (m ≢ n)
+    by_case true e = inl (eqb-true m n e)
+    by_case false e = inr (λ d. false≢true (sym e ∙ eq-eqb m n d))
+
+-- an open connection is there
+pub open_there : (cs : List Connection) (c : ℕ) → open_in cs c ≡ true → c < length cs
+open_there cs c e = elim (within c (length cs)) [
+  | inl l ↦ l
+  | inr l ↦ absurd (false≢true (ap (λ (z : Connection). is_reading z.standing) (sym (beyond cs c nobody l)) ∙ e))
+]
+
+-- an answer that closes no connection
+abbrev pub ClosesNone : Answer → Type 0
+ClosesNone o = (d : ℕ) → closes d o ≡ false
+
+-- no connection is changed, and none is closed
+pub record AreSame (before after : List Connection) (o : Answer) : Type 0 where
+  pub same : after ≡ before
+  pub none : ClosesNone o
+
+-- this connection is changed, is not open any more, and no other is closed
+pub record IsShut (before after : List Connection) (o : Answer) : Type 0 where
+  pub number : ℕ
+  pub new : Connection
+  pub there : number < length before
+  pub set_to : after ≡ set before number new
+  pub shut : is_reading new.standing ≡ false
+  pub others : (d : ℕ) → number ≢ d → closes d o ≡ false
+
+-- there is one more, and none is closed
+pub record IsNew (before after : List Connection) (o : Answer) : Type 0 where
+  pub new : Connection
+  pub pushed : after ≡ before ++ new ∷ []
+  pub none : ClosesNone o
+
+-- how connections stand after an answer
+abbrev pub Stands : List Connection → List Connection → Answer → Type 0
+Stands before after o = AreSame before after o ⊎ (IsShut before after o ⊎ IsNew before after o)
+
+stay : (cs : List Connection) (o : Answer) → ClosesNone o → Stands cs cs o
+stay cs o n = inl (record { same = refl; none = n })
+
+shuts : (cs : List Connection) (c : ℕ) (x : Connection) (o : Answer) → c < length cs → is_reading x.standing ≡ false → ((d : ℕ) → c ≢ d → closes d o ≡ false) → Stands cs (set cs c x) o
+shuts cs c x o l n h = inr (inl (record { number = c; new = x; there = l; set_to = refl; shut = n; others = h }))
+
+-- two numbers that differ aren't compared equal
+pub differ : (c d : ℕ) → c ≢ d → (c == d) ≡ false
+differ c d n = not_true (c == d) refl (λ e. n (eqb-true c d e))
+
+there : (w : World) (c : ℕ) → not (ltb c (length w.connections)) ≡ false → c < length w.connections
+there w c e = ltb-true c (length w.connections) (false_not (ltb c (length w.connections)) e)
+
+-- ---- each move
+
+flown : (w : World) (c : ℕ) (sends : List SentMessage) → Stands w.connections (commit_effect w c sends).connections (commit_answer w c sends)
+flown w c [] = stay w.connections _ (λ d. refl)
+flown w c (first ∷ others) = stay w.connections _ (λ d. refl)
+
+proposed : (w : World) (c : ℕ) (t : Topic) (o : Option ProposeFault) → Stands w.connections (propose_effect w c t o).connections (propose_answer w c t o)
+proposed w c t None = stay w.connections _ (λ d. refl)
+proposed w c t (Some fault) = stay w.connections _ (λ d. refl)
+
+cancelled : (w : World) (c : ℕ) (t : Topic) (o : Option Leftover) → Stands w.connections (cancel_effect w c t o).connections (cancel_answer t o)
+cancelled w c t None = stay w.connections _ (λ d. refl)
+cancelled w c t (Some k) = stay w.connections _ (λ d. refl)
+
+learned : (w : World) (t : Topic) (id : TxnId) (o : Option Decision) → (a : Answer) → ClosesNone a → Stands w.connections (learn_effect w t id o).connections a
+learned w t id None a n = stay w.connections a n
+learned w t id (Some v) a n = stay w.connections a n
+
+closed : (w : World) (s : ℕ) (o : Option Entry) → (a : Answer) → ClosesNone a → Stands w.connections (close_effect_of w s o).connections a
+closed w s None a n = stay w.connections a n
+closed w s (Some e) a n = stay w.connections a n
+
+gone : (w : World) (c : ℕ) (o : Option ℕ) → c < length w.connections → Stands w.connections (leave_effect w c o).connections (leave_answer w c o)
+gone w c None l = shuts w.connections c _ _ l refl (λ d n. refl)
+gone w c (Some s) l = closed w s (entry_at w s) _ (λ d. refl)
+
+released : (w : World) (t : Topic) (o : Option Pending) → Stands w.connections w.connections (release_answer t o)
+released w t None = stay w.connections _ (λ d. refl)
+released w t (Some p) = stay w.connections _ (λ d. refl)
+
+taken : (w : World) (s : ℕ) (o : Option Item) → (subscription_at w s).connection < length w.connections → Stands w.connections (take_effect w s o).connections (take_answer w s o)
+taken w s None l = shuts w.connections _ _ _ l refl (λ d n. differ _ d n)
+taken w s (Some item) l = stay w.connections _ (λ d. refl)
+
+or_left : (a b : Bool) → (a || b) ≡ false → a ≡ false
+or_left true b e = e
+or_left false b e = refl
+
+or_right : (a b : Bool) → (a || b) ≡ false → b ≡ false
+or_right true b e = absurd (true≢false e)
+or_right false b e = e
+
+happens : (w : World) (e : Move) → move_refusal w e ≡ None → Stands w.connections (move_effect w e).connections (move_answer w e)
+happens w (AddsTopic clock) n = stay w.connections _ (λ d. refl)
+happens w Opens n = inr (inr (record { new = record { sender = length w.senders; standing = Standing.Open }; pushed = refl; none = λ d. refl }))
+happens w (Commits c sends) n = flown w c sends
+happens w (Subscribes c t) n = stay w.connections _ (λ d. refl)
+happens w (Unsubscribes c s) n = closed w s (entry_at w s) _ (λ d. refl)
+happens w (Disconnects c) n = shuts w.connections c _ _ (there w c (checked w (Disconnects c) n).0) refl (λ d k. differ c d k)
+happens w (Errs c) n = shuts w.connections c _ _ (there w c (checked w (Errs c) n).0) refl (λ d k. differ c d k)
+happens w (Lost c) n = shuts w.connections c _ _ (there w c (checked w (Lost c) n).0) refl (λ d k. differ c d k)
+happens w (Leaves c) n = gone w c (oldest_live c 0 w.subscriptions) (there w c (checked w (Leaves c) n).0)
+happens w (Proposes c t memory) n = proposed w c t (proposal_fault w c t memory)
+happens w (Decides c) n = stay w.connections _ (λ d. refl)
+happens w (Withdraws c) n = shuts w.connections c _ _ (there w c (checked w (Withdraws c) n).0) refl (λ d k. differ c d k)
+happens w (Cancels c t) n = cancelled w c t (find_leftover t (speaker w c).leftovers)
+happens w (Learns t id) n = learned w t id (find_verdict id w.verdicts) _ (λ d. refl)
+happens w (Releases t) n = released w t (due_part (topic_at w t))
+happens w (Turns t) n = stay w.connections _ (λ d. refl)
+happens w (Takes s) n =
+    let k = checked w (Takes s) n in
+    let c = (subscription_at w s).connection in
+    taken w s _ (open_there w.connections c (false_not (open_in w.connections c) (or_right _ _ k.1.0)))
+
+-- each move changes connections so
+pub stands_after : (w : World) (e : Move) → Stands w.connections (world_after w e).connections (answer_to w e)
+stands_after w e = by_refusal (λ v o. Stands w.connections v.connections o) w e (λ why. stay w.connections _ (λ d. refl)) (λ n. happens w e n)
+
+-- ---- there are never fewer, and none opens again
+
+-- after one move there are no fewer connections
+pub grown_once : (before after : List Connection) (o : Answer) → Stands before after o → length before ≤ length after
+grown_once before after o (inl h) = let m = ap (λ (z : List Connection). length z) h.same in omega arith
+grown_once before after o (inr (inl h)) = let m = ap (λ (z : List Connection). length z) h.set_to ∙ set_length before h.number h.new in omega arith
+grown_once before after o (inr (inr h)) = let m = ap (λ (z : List Connection). length z) h.pushed ∙ push_length before h.new in omega arith
+
+-- after these moves there are no fewer connections
+pub grown : (es : List Move) (w : World) → length w.connections ≤ length (run es w).connections
+grown [] w = omega arith
+grown (e ∷ es) w =
+    let a = grown_once w.connections (world_after w e).connections (answer_to w e) (stands_after w e) in let b = grown es (world_after w e) in omega arith
+
+shut_once : (before after : List Connection) (o : Answer) (c : ℕ) → Stands before after o → c < length before → open_in before c ≡ false → open_in after c ≡ false
+shut_once before after o c (inl h) l e = subst (λ z. open_in z c ≡ false) (sym h.same) e
+shut_once before after o c (inr (inl h)) l e =
+    subst (λ z. open_in z c ≡ false) (sym h.set_to)
+    (at_set (λ (z : Connection). is_reading z.standing ≡ false) before h.number c h.new nobody (λ k. h.shut) e)
+shut_once before after o c (inr (inr h)) l e =
+    subst (λ z. open_in z c ≡ false) (sym h.pushed) (at_old (λ (z : Connection). is_reading z.standing ≡ false) before c h.new nobody l e)
+
+-- a connection that isn't open is never open again
+pub stays_shut : (es : List Move) (w : World) (c : ℕ) → c < length w.connections → open_in w.connections c ≡ false → open_in (run es w).connections c ≡ false
+stays_shut [] w c l e = e
+stays_shut (m ∷ es) w c l e =
+    let a = grown_once w.connections (world_after w m).connections (answer_to w m) (stands_after w m) in
+    stays_shut es (world_after w m) c (omega arith) (shut_once w.connections _ (answer_to w m) c (stands_after w m) l e)
+
+-- ---- a connection that wasn't closed
+
+abbrev Calm : List Answer → World → Type 0
+Calm past w = (c : ℕ) → (c < length w.connections → open_in w.connections c ≡ true) → has_closed c past ≡ false
+
+unclosed : (c : ℕ) (o : Answer) (past : List Answer) → closes c o ≡ false → has_closed c past ≡ false → has_closed c (o ∷ past) ≡ false
+unclosed c o past e h = ap (λ b. b || has_closed c past) e ∙ h
+
+calm_once : (before after : List Connection) (o : Answer) (past : List Answer) → Stands before after o
+    → ((c : ℕ) → (c < length before → open_in before c ≡ true) → has_closed c past ≡ false)
+    → (c : ℕ) → (c < length after → open_in after c ≡ true) → has_closed c (o ∷ past) ≡ false
+calm_once before after o past (inl s) h c p =
+    unclosed c o past (s.none c) (h c (subst (λ z. c < length z → open_in z c ≡ true) s.same p))
+calm_once before after o past (inr (inl s)) h c p =
+    let q : c < length (set before s.number s.new) → open_in (set before s.number s.new) c ≡ true = subst (λ z. c < length z → open_in z c ≡ true) s.set_to p in
+    let m = set_length before s.number s.new in let t = s.there in
+    elim (same_or s.number c) [
+      | inl e ↦ absurd (false≢true (sym (at_set_within (λ (z : Connection). is_reading z.standing ≡ false) before s.number c s.new nobody t (λ k. s.shut) (λ ne. absurd (ne (sym e)))) ∙ q (omega arith)))
+      | inr ne ↦ unclosed c o past (s.others c ne)
+          (h c (λ l. at_set (λ (z : Connection). is_reading z.standing ≡ true → open_in before c ≡ true) before s.number c s.new nobody
+          (λ e. absurd (ne (sym e))) (λ k. k) (q (omega arith))))
+    ]
+calm_once before after o past (inr (inr s)) h c p =
+    let q : c < length (before ++ s.new ∷ []) → open_in (before ++ s.new ∷ []) c ≡ true = subst (λ z. c < length z → open_in z c ≡ true) s.pushed p in
+    let m = push_length before s.new in
+    unclosed c o past (s.none c)
+    (h c (λ l. at_old (λ (z : Connection). is_reading z.standing ≡ true → open_in before c ≡ true) before c s.new nobody l (λ k. k) (q (omega arith))))
+
+-- a connection that is open was never closed
+pub calm : (r : Run) → Calm (answers_of r) (final_world r)
+calm = by_run Calm (λ capacity log_limit clocks c p. refl)
+    (λ r e h. calm_once (final_world r).connections (world_after (final_world r) e).connections (answer_to (final_world r) e) (answers_of r) (stands_after (final_world r) e) h)
+
+-- a connection was closed where it isn't open
+pub closed_where_shut : (r : Run) (c : ℕ) → c < length (final_world r).connections → has_closed c (answers_of r) ≡ not (open_in (final_world r).connections c)
+closed_where_shut r c l = by_case (open_in (final_world r).connections c) refl
+  where
+    by_case : (b : Bool) → open_in (final_world r).connections c ≡ b → has_closed c (answers_of r) ≡ not b
+    by_case true e = calm r c (λ k. e)
+    by_case false e = (spoken r).speaking.shut c l e
