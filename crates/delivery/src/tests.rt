@@ -2,7 +2,6 @@
 
 mod event_list;
 mod faults;
-mod net;
 mod topics;
 
 use crate::{CommitRow, QueueItem, agreed, due};
