@@ -11,7 +11,9 @@ pub mod Turns
 pub mod Verdicts
 pub mod Failures
 pub mod Tickets
-pub mod Needs
-pub mod LostStep
 pub mod QuietSteps
 pub mod StepLemmas
+pub mod OpenStep
+pub mod PieceStep
+pub mod LostStep
+pub mod ReleaseStep

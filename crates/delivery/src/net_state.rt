@@ -1,11 +1,15 @@
 //! What the core holds.
 
-ghost use Rattle.std.specs.Prelude.{◌≡◌, ◌≤◌, ◌<◌, [], length, map, get_or, set, slice_get, IfOk};
+ghost use Rattle.std.specs.Prelude.{◌≡◌, ◌≤◌, ◌<◌, [], length, map, get_or, set, slice_get, IfOk, OnOk, OnErr};
+ghost use Rattle.std.specs.Option.{option_map};
+ghost use Rattle.mcast_group.specs.Counted.{takes_of};
+ghost use Rattle.mcast_group.specs.Group.{GroupState, group_after_release};
+ghost use Rattle.mcast_group.specs.Machine.{due_part};
 ghost use Rattle.delivery.specs.Topics.{max_topics};
 ghost use Rattle.delivery.specs.Machine.World.{new_topics};
 ghost use Rattle.delivery.specs.Core.State.{Core, log_limit, new_core};
 ghost use Rattle.delivery.specs.Inner.Stands.{IsReached, Makes, IsChecked, line_objection};
-ghost use Rattle.delivery.specs.Inner.View.{LineView, view_of, new_group, leaving_line};
+ghost use Rattle.delivery.specs.Inner.View.{LineView, view_of, new_group, leaving_line, fed_line, with_new_line};
 ghost use Rattle.delivery.specs.declared.event.Event.{Event as Asked};
 
 use crate::line::Line;
@@ -16,7 +20,7 @@ use crate::stage::Stage;
 use crate::sub::Sub;
 use crate::table::Table;
 use mcast_group::{Group, Row};
-use mcast_txn::Topic;
+use mcast_txn::{Sender, Topic, TxnId};
 use std::alloc::Global;
 use std::marker::Model;
 use std::sync::Arc;
@@ -134,6 +138,91 @@ impl NetState {
                 Outcome::Leaving
             }
             Err(refusal) => Outcome::Refused(refusal),
+        }
+    }
+
+    /// One more sender and its connection. After `NoMemory` all is what it was.
+    fn add_line(&mut self) -> Result<(), NoMemory>
+        ensures ok { OnOk result (self.new ≡ with_new_line self.old) }
+        ensures err { OnErr result (self.new ≡ self.old) }
+    {
+        self.lines.reserve(1)?;
+        self.senders.reserve(1)?;
+        let names = self.names.clone()?;
+        self.table.add_sender(self.alloc)?;
+        let sender = self.senders.len() as u64;
+        self.lines
+            .push_reserved(Line::new(self.alloc, names, sender));
+        self.senders
+            .push_reserved(SenderState::new(self.alloc, Sender(sender)));
+        Ok(())
+    }
+
+    /// A connection is opened, and with it a sender of its own. Out of memory all is what it was.
+    pub(crate) fn open(&mut self) -> Outcome
+        ensures { (k : Core) → IsReached k → self.old ≡ view_of k → Makes k Asked.Open result self.new }
+    {
+        let c = self.lines.len() as u64;
+        match self.add_line() {
+            Ok(()) => Outcome::Opened(c),
+            Err(NoMemory) => Outcome::NoMemory,
+        }
+    }
+
+    /// Feeds these octets to the connection's reader. After `NoMemory` all is what it was.
+    fn feed(&mut self, c: u64, octets: &[u8]) -> Result<(), NoMemory>
+        requires { c < length self.old.lines }
+        ensures ok { OnOk result ((d : LineView) → self.new ≡ record self.old {
+          lines = set self.old.lines c (fed_line octets.now (get_or self.old.lines c d));
+        }) }
+        ensures err { OnErr result (self.new ≡ self.old) }
+    {
+        let line = &mut self.lines[c as usize];
+        line.feed(octets)
+    }
+
+    /// The connection is fed these octets: 80 where there is none, 87 where it is gone, 81 where it is leaving.
+    pub(crate) fn piece(&mut self, c: u64, octets: &[u8]) -> Outcome
+        ensures { (k : Core) → IsReached k → self.old ≡ view_of k
+            → Makes k (Asked.Piece c octets.now) result self.new }
+    {
+        match self.check_open(c) {
+            Ok(()) => match self.feed(c, octets) {
+                Ok(()) => Outcome::Fed,
+                Err(NoMemory) => Outcome::NoMemory,
+            },
+            Err(refusal) => Outcome::Refused(refusal),
+        }
+    }
+
+    /// Releases the part that is due at the topic of this index, if one is: of which transaction it was.
+    fn release_at(&mut self, index: usize) -> Option<TxnId>
+        requires { index < length self.old.groups }
+        ensures due { (d : GroupState) → result ≡ option_map (λ p. p.part.id) (due_part (get_or self.old.groups index d).topic) }
+        ensures groups { (d : GroupState) → self.new ≡ record self.old {
+          groups = set self.old.groups index
+              (group_after_release (takes_of (get_or self.old.groups index d)) (get_or self.old.groups index d));
+        } }
+    {
+        let group = &mut self.groups[index];
+        match group.release_counted() {
+            Some((id, _)) => Some(id),
+            None => None,
+        }
+    }
+
+    /// The topic releases the part that is due: 84 where there is no such topic, 86 where nothing is due. It takes no
+    /// memory.
+    pub(crate) fn release(&mut self, t: Topic) -> Outcome
+        ensures { (k : Core) → IsReached k → self.old ≡ view_of k → Makes k (Asked.Release t) result self.new }
+    {
+        let index = t.0 as usize;
+        if index >= self.groups.len() {
+            return Outcome::Refused(Refusal::NotNamed);
+        }
+        match self.release_at(index) {
+            Some(id) => Outcome::Released(id),
+            None => Outcome::Refused(Refusal::NothingDue),
         }
     }
 }

@@ -1,6 +1,6 @@
 //! The verdicts of transactions.
 
-ghost use Rattle.std.specs.Prelude.{◌≡◌, []};
+ghost use Rattle.std.specs.Prelude.{◌≡◌, ◌∷◌, [], ◌++◌, OnOk, OnErr};
 ghost use Rattle.std.specs.Option.{option_map};
 ghost use Rattle.delivery.specs.Inner.Verdicts.{verdict_at};
 
@@ -8,6 +8,7 @@ use mcast_group::{Found, Verdicts};
 use mcast_txn::{Part, TxnId, Verdict};
 use std::alloc::Global;
 use std::marker::Model;
+use stomp_frame::NoMemory;
 
 /// The verdicts of transactions, by sender and seq. In contracts it is, for each sender, the verdicts of its transactions
 /// so far, of which the first has seq 1.
@@ -34,6 +35,16 @@ impl Table {
         Table {
             senders: Vec::new(alloc),
         }
+    }
+
+    /// One more sender, which has made no transaction. After `NoMemory` the table is what it was.
+    pub(crate) fn add_sender(&mut self, alloc: Global) -> Result<(), NoMemory>
+        ensures ok { OnOk result (self.new ≡ self.old ++ [] ∷ []) }
+        ensures err { OnErr result (self.new ≡ self.old) }
+    {
+        self.senders.reserve(1)?;
+        self.senders.push_reserved(Vec::new(alloc));
+        Ok(())
     }
 
     /// The verdict of this transaction, if it was decided: found without a search.

@@ -2,6 +2,7 @@
 
 mod event_list;
 mod faults;
+mod net;
 mod topics;
 
 use crate::{CommitRow, QueueItem, agreed, due};

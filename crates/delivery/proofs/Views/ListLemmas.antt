@@ -86,7 +86,7 @@ each_number-set {Y = Y} f g i (y ∷ xs) (suc k) x h same =
     let e : i + suc k ≡ (i + 1) + k = omega arith in
     let first : f i ≡ g i = same i (omega arith) (omega arith) (λ z. omega arith) in
     let rest : set (each_number f (i + 1) xs) k (g ((i + 1) + k)) ≡ each_number g (i + 1) (set xs k x) =
-        each_number-set f g (i + 1) xs k x (omega arith) (λ n a b c. same n (omega arith) (omega arith) (λ z. c (omega arith))) in
+    each_number-set f g (i + 1) xs k x (omega arith) (λ n a b c. same n (omega arith) (omega arith) (λ z. c (omega arith))) in
     ap (λ (y : Y). y ∷ set (each_number f (i + 1) xs) k (g (i + suc k))) first
     ∙ (ap (λ (n : ℕ). g i ∷ set (each_number f (i + 1) xs) k (g n)) e
     ∙ ap (λ (zs : List Y). g i ∷ zs) rest)

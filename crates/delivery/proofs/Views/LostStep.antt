@@ -1,9 +1,11 @@
 -- The loss of a connection.
-use Rattle.std.proofs.Common.{◌≡◌, ℕ, ◌<◌, List, [], ◌∷◌, length, get_or, set, Option, Some, None, refl, sym, ap, ◌∙◌}
+use Rattle.std.proofs.Common.{◌≡◌, ℕ, true, List, [], ◌∷◌, get_or, set, Option, Some, None, refl, sym, ap, ◌∙◌}
 use Rattle.std.specs.Prelude.{slice_get}
+use Rattle.std.specs.List.{find}
 use Rattle.std.specs.Option.{option_or, option_and_then}
 use Rattle.stomp_frame.specs.declared.raw_frame.RawFrame.{RawFrame}
 use Rattle.stomp_frame.specs.Receipts.{receipt_of}
+use Rattle.stomp_session.specs.Frames.{is_disconnect}
 use Rattle.delivery.specs.declared.event.Event.{Event}
 use Rattle.delivery.specs.declared.outcome.Outcome.{Outcome}
 use Rattle.delivery.specs.declared.refusal.Refusal.{Refusal}
@@ -12,9 +14,8 @@ use Rattle.delivery.specs.Machine.World.{World, connection_at, is_reading}
 use Rattle.delivery.specs.Machine.Moves.{Move, Answer, move_refusal, with_leaving}
 use Rattle.delivery.specs.Core.Steps.{Reading, accepted_of}
 use Rattle.delivery.specs.Core.State.{Core}
-use Rattle.delivery.specs.Inner.Stands.{IsReached, Makes, step_of, line_objection}
+use Rattle.delivery.specs.Inner.Stands.{Makes, step_of, line_objection}
 use Rattle.delivery.specs.Inner.View.{View, LineView, view_of, view_after, leaving_line, parting_receipt}
-use Rattle.delivery.proofs.Views.Partings.{not_parting}
 use Rattle.delivery.proofs.Views.QuietSteps.{quiet_view, lost_is_quiet}
 use Rattle.delivery.proofs.Views.StepLemmas.{made_world, made_answer, in_outcome, refused_makes, open_checked, checked_there, checked_open, left_view}
 
@@ -29,13 +30,15 @@ pub lost_refused : (k : Core) (c : ℕ) (why : Objection) (refusal : Refusal) �
 lost_refused k c why refusal is reported =
     refused_makes k (Event.Lost c) refusal (Move.Lost c) why refl refl (lost_refusal k c (Some why) is) reported refl
 
--- after another the connection is leaving, and nothing is written to it
-pub lost_makes : (k : Core) (c : ℕ) (d : LineView) → IsReached k → line_objection (slice_get (view_of k).lines c) ≡ None
+-- after another the connection is leaving, and nothing is written to it: an open connection accepted no DISCONNECT
+pub lost_makes : (k : Core) (c : ℕ) (d : LineView)
+    → (is_reading (connection_at k.world c).standing ≡ true → find (λ f. is_disconnect f.command) (accepted_of c k.steps) ≡ None)
+    → line_objection (slice_get (view_of k).lines c) ≡ None
     → Makes k (Event.Lost c) Outcome.Leaving (record (view_of k) { lines = set (view_of k).lines c (leaving_line None (get_or (view_of k).lines c d)) })
-lost_makes k c d reached is =
+lost_makes k c d not_parting is =
     let step = step_of (Event.Lost c) Reading.Nothing Outcome.Leaving in
     let free = lost_refusal k c None is in
-    let parting : parting_receipt (accepted_of c k.steps) ≡ None = ap (λ (f : Option RawFrame). option_and_then receipt_of f) (not_parting k c reached (checked_open k c is)) in
+    let parting : parting_receipt (accepted_of c k.steps) ≡ None = ap (λ (f : Option RawFrame). option_and_then receipt_of f) (not_parting (checked_open k c is)) in
     record {
       reading = Reading.Nothing;
       may = record {

@@ -5,6 +5,8 @@ use Rattle.std.specs.List.{flat_map}
 use Rattle.stomp_frame.specs.declared.raw_frame.RawFrame.{RawFrame}
 use Rattle.stomp_frame.specs.Writing.{spelled}
 use Rattle.stomp_frame.specs.Reader.{Unread}
+use Rattle.mcast_txn.specs.declared.id.Topic.{Topic}
+use Rattle.mcast_txn.specs.declared.id.TxnId.{TxnId}
 use Rattle.delivery.specs.declared.event.Event.{Event}
 use Rattle.delivery.specs.declared.outcome.Outcome.{Outcome}
 use Rattle.delivery.specs.declared.refusal.Refusal.{Refusal}
@@ -62,10 +64,16 @@ open_is_quiet names c older =
     quiet_from names Event.Open (Outcome.Opened c) older (λ d. refl) (λ d. refl) (λ d. refl) (λ s. refl)
 
 -- a turn
-pub turn_is_quiet : (names : List (List ℕ)) (t : Rattle.mcast_txn.specs.declared.id.Topic.Topic) (n : ℕ) (older : List CoreStep)
+pub turn_is_quiet : (names : List (List ℕ)) (t : Topic) (n : ℕ) (older : List CoreStep)
     → IsQuiet names (step_of (Event.Turn t) Reading.Nothing (Outcome.Turned n)) older
 turn_is_quiet names t n older =
     quiet_from names (Event.Turn t) (Outcome.Turned n) older (λ d. refl) (λ d. refl) (λ d. refl) (λ s. refl)
+
+-- a release
+pub release_is_quiet : (names : List (List ℕ)) (t : Topic) (id : TxnId) (older : List CoreStep)
+    → IsQuiet names (step_of (Event.Release t) Reading.Nothing (Outcome.Released id)) older
+release_is_quiet names t id older =
+    quiet_from names (Event.Release t) (Outcome.Released id) older (λ d. refl) (λ d. refl) (λ d. refl) (λ s. refl)
 
 -- want of memory at an Open
 pub open_without_is_quiet : (names : List (List ℕ)) (older : List CoreStep)
@@ -80,6 +88,12 @@ no_reply false = refl
 not_fed : (b : Bool) (u v : Unread) → cond (b && false) u v ≡ v
 not_fed true u v = refl
 not_fed false u v = refl
+
+-- want of memory at a Piece
+pub piece_without_is_quiet : (names : List (List ℕ)) (c : ℕ) (octets : List ℕ) (older : List CoreStep)
+    → IsQuiet names (step_of (Event.Piece c octets) Reading.Nothing Outcome.NoMemory) older
+piece_without_is_quiet names c octets older =
+    quiet_from names (Event.Piece c octets) Outcome.NoMemory older (λ d. refl) (λ d. not_fed (c == d) _ _) (λ d. refl) (λ s. refl)
 
 -- a refused event
 pub refused_is_quiet : (names : List (List ℕ)) (e : Event) (why : Refusal) (older : List CoreStep)

@@ -46,7 +46,7 @@ pub refused_answer : (w : World) (e : Move) (why : Objection) → move_refusal w
 refused_answer w e why refused = ap (λ (o : Option Objection). elim o [ None ↦ move_answer w e | Some p ↦ Answer.Refused p ]) refused
 
 -- an outcome is the only one of a list
-in_one : (o : Outcome) (os : List Outcome) → os ≡ o ∷ [] → In o os
+pub in_one : (o : Outcome) (os : List Outcome) → os ≡ o ∷ [] → In o os
 in_one o os e = rw e (inl refl)
 
 -- the outcome of a move
@@ -65,9 +65,9 @@ pub refused_makes : (k : Core) (e : Event) (why : Refusal) (move : Move) (object
 refused_makes k e why move objection are may refused reported read =
     let step = step_of e Reading.Nothing (Outcome.Refused why) in
     let world : run (moves k e Reading.Nothing (Outcome.Refused why)) k.world ≡ k.world =
-        ap (λ (ms : List Move). run ms k.world) are ∙ same_world k.world move objection refused in
+    ap (λ (ms : List Move). run ms k.world) are ∙ same_world k.world move objection refused in
     let answered : In (Outcome.Refused why) (move_outcome k move) =
-        in_outcome k move (Outcome.Refused why) (Answer.Refused objection) (refused_answer k.world move objection refused) (ap (λ (r : Option Refusal). option_map Outcome.Refused r) reported) in
+    in_outcome k move (Outcome.Refused why) (Answer.Refused objection) (refused_answer k.world move objection refused) (ap (λ (r : Option Refusal). option_map Outcome.Refused r) reported) in
     record {
       reading = Reading.Nothing;
       may = record { reading = read; outcome = rw may answered };
@@ -210,16 +210,16 @@ left_view k c parting d there is =
     let w = with_connection k.world c x in
     let now : connection_at w c ≡ x = get_or-set_same k.world.connections c x nobody there in
     let line : leaving_line (parting_receipt (accepted c)) (f c) ≡ line_view k.names w c (accepted c) (unread c) (text c) =
-        λ i. record {
-          sender = (sym now i).sender;
-          stage = stage_view k.names (sym now i).standing (sender_at k.world (sym now i).sender).flight (accepted c) (unread c);
-          live = live_numbers c 0 k.world.subscriptions;
-          output = text c;
-        } in
+    λ i. record {
+      sender = (sym now i).sender;
+      stage = stage_view k.names (sym now i).standing (sender_at k.world (sym now i).sender).flight (accepted c) (unread c);
+      live = live_numbers c 0 k.world.subscriptions;
+      output = text c;
+    } in
     let parted : leaving_line parting (f c) ≡ leaving_line (parting_receipt (accepted c)) (f c) = ap (λ (p : Option (List ℕ)). leaving_line p (f c)) (sym is) in
     let old : leaving_line parting (get_or (view_of k).lines c d) ≡ leaving_line parting (f c) = ap (leaving_line parting) (line_at k c d f there) in
     let lines : set (view_of k).lines c (leaving_line parting (get_or (view_of k).lines c d))
-        ≡ each_number (λ n. line_view k.names w n (accepted n) (unread n) (text n)) 0 w.connections =
-        ap (λ (l : LineView). set (view_of k).lines c l) (old ∙ (parted ∙ line))
-        ∙ lines_with k.names k.world c x accepted unread text there in
+    ≡ each_number (λ n. line_view k.names w n (accepted n) (unread n) (text n)) 0 w.connections =
+    ap (λ (l : LineView). set (view_of k).lines c l) (old ∙ (parted ∙ line))
+    ∙ lines_with k.names k.world c x accepted unread text there in
     ap (λ (ls : List LineView). record (view_of k) { lines = ls }) lines

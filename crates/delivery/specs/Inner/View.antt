@@ -1,11 +1,11 @@
 -- Only serves proofs: what the code of the core holds, as a function of a core (its names, its machine and its
 -- steps). It isn't the core itself: rows of the commit list have no SENDs, an undecided transaction has lost the
 -- parts that were taken out, verdicts are found by sender and seq, and each connection has its line.
-use Rattle.std.specs.Prelude.{ℕ, ◌+◌, List, [], ◌∷◌, map, Option, Some, None, if◌then◌else◌}
+use Rattle.std.specs.Prelude.{ℕ, ◌+◌, List, [], ◌∷◌, ◌++◌, map, length, Option, Some, None, if◌then◌else◌}
 use Rattle.std.specs.List.{find, range_with_len}
 use Rattle.std.specs.Option.{option_map, option_and_then}
 use Rattle.stomp_frame.specs.declared.raw_frame.RawFrame.{RawFrame}
-use Rattle.stomp_frame.specs.Reader.{Unread}
+use Rattle.stomp_frame.specs.Reader.{Unread, unread_of, fed}
 use Rattle.stomp_frame.specs.Receipts.{receipt_of}
 use Rattle.mcast_txn.specs.declared.id.Topic.{Topic}
 use Rattle.mcast_txn.specs.declared.ballot.ticket.Ticket.{Ticket}
@@ -30,9 +30,9 @@ use Rattle.stomp_session.specs.Frames.{is_disconnect}
 use Rattle.delivery.specs.declared.sending.Sending.{Sending}
 use Rattle.delivery.specs.declared.stage.Stage.{Stage}
 use Rattle.delivery.specs.Theorem.Due.{log_row}
-use Rattle.delivery.specs.Machine.World.{World, Undecided, Leftover, Subscription, Standing, connection_at, sender_at, speaker, subscription_at}
+use Rattle.delivery.specs.Machine.World.{World, Undecided, SenderState, Leftover, Subscription, Standing, new_sender, connection_at, sender_at, speaker, subscription_at}
 use Rattle.delivery.specs.Machine.Moves.{has_ticket, find_verdict, is_live}
-use Rattle.delivery.specs.Core.Steps.{CoreStep, accepted_of}
+use Rattle.delivery.specs.Core.Steps.{CoreStep, accepted_of, reader_limits}
 use Rattle.delivery.specs.Core.Output.{receipt_asked, commit_frame, sub_id_text, text_out}
 use Rattle.delivery.specs.Core.Reports.{each_number}
 use Rattle.delivery.specs.Core.State.{Core, unread_at}
@@ -93,20 +93,17 @@ pub record SenderView : Type 0 where
   pub sending : Sending
   pub leftovers : List Ticket
 
--- sender s
-abbrev pub sender_view : World → ℕ → SenderView
-sender_view w s =
-    let x = sender_at w s in
-    record {
-      sending = sending_view s x.seq x.floor x.flight;
-      leftovers = map (λ k. ticket_of k.id k.ticket) x.leftovers;
-    }
+-- sender s in this state
+abbrev pub sender_view : ℕ → SenderState → SenderView
+sender_view s x = record {
+  sending = sending_view s x.seq x.floor x.flight;
+  leftovers = map (λ k. ticket_of k.id k.ticket) x.leftovers;
+}
 
--- the verdicts of sender s, by the seqs of its transactions so far
-abbrev pub verdict_list : World → ℕ → List (Option Decision)
-verdict_list w s =
-    map (λ q. find_verdict (record { sender = record { 0 = s }; seq = q }) w.verdicts)
-    (range_with_len 1 (sender_at w s).seq)
+-- of these verdicts those of sender s, by the seqs of as many transactions
+abbrev pub verdict_list : List Decision → ℕ → ℕ → List (Option Decision)
+verdict_list verdicts s seq =
+    map (λ q. find_verdict (record { sender = record { 0 = s }; seq = q }) verdicts) (range_with_len 1 seq)
 
 -- ---- connections
 
@@ -224,8 +221,8 @@ view_with names w accepted unread text ids = record {
   names = names;
   capacity = w.capacity;
   groups = map (group_view w) w.topics;
-  senders = each_number (sender_view w) 0 w.senders;
-  verdicts = each_number (verdict_list w) 0 w.senders;
+  senders = each_number (λ s. sender_view s (sender_at w s)) 0 w.senders;
+  verdicts = each_number (λ s. verdict_list w.verdicts s (sender_at w s).seq) 0 w.senders;
   lines = each_number (λ c. line_view names w c (accepted c) (unread c) (text c)) 0 w.connections;
   subs = each_number (λ s. sub_view w s (ids s)) 0 w.subscriptions;
   commits = map log_row w.commits;
@@ -240,3 +237,36 @@ view_after names w steps =
 -- what it holds of this core
 abbrev pub view_of : Core → View
 view_of k = view_after k.names k.world k.steps
+
+-- ---- a new connection, and octets that one is fed
+
+-- the line of a connection that has just been opened, which speaks for this sender
+abbrev pub new_line : List (List ℕ) → ℕ → LineView
+new_line names sender = record {
+  sender = sender;
+  stage = Stage.Open (record {
+    reader = unread_of reader_limits;
+    session = held_after names [];
+    receipt = None;
+  });
+  live = [];
+  output = [];
+}
+
+-- with one more sender and its connection
+abbrev pub with_new_line : View → View
+with_new_line v = record v {
+  senders = v.senders ++ sender_view (length v.senders) new_sender ∷ [];
+  verdicts = v.verdicts ++ [] ∷ [];
+  lines = v.lines ++ new_line v.names (length v.senders) ∷ [];
+}
+
+-- an open connection is fed these octets
+abbrev pub fed_stage : List ℕ → Stage → Stage
+fed_stage octets (Stage.Open line) = Stage.Open (record line { reader = fed line.reader octets })
+fed_stage octets (Stage.Leaving parting) = Stage.Leaving parting
+fed_stage octets Stage.Gone = Stage.Gone
+
+-- the same of its line
+abbrev pub fed_line : List ℕ → LineView → LineView
+fed_line octets line = record line { stage = fed_stage octets line.stage }

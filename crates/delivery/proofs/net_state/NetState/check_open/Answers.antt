@@ -22,15 +22,21 @@ returns-in-Open c =
 pub returns-in-Leaving : goal.returns-in-Leaving
 returns-in-Leaving c =
     let lines : c.args.self.now.lines ≡ c.deref.result.now = ap (λ (v : View). v.lines) (sym c.self.view_is) ∙ sym c.deref.ensures.value in
-    let h = c.in-Some.ensures.lookup in
-    (Objection.Busy, ap (λ (ls : List LineView). line_objection (slice_get ls c.args.c)) lines
-    ∙ (ap line_objection (line_read c.deref.result.now c.args.c c.in-Some.line.now h.3.0 h.1)
-    ∙ (ap (λ (l : LineView). stage_objection l.stage) (sym c.line.view_is) ∙ ap stage_objection c.in-Leaving.is)), refl)
+    let h = c.in-Some.ensures.lookup in (
+      Objection.Busy,
+      ap (λ (ls : List LineView). line_objection (slice_get ls c.args.c)) lines
+          ∙ (ap line_objection (line_read c.deref.result.now c.args.c c.in-Some.line.now h.3.0 h.1)
+          ∙ (ap (λ (l : LineView). stage_objection l.stage) (sym c.line.view_is) ∙ ap stage_objection c.in-Leaving.is)),
+      refl,
+    )
 
 pub returns-in-Gone : goal.returns-in-Gone
 returns-in-Gone c =
     let lines : c.args.self.now.lines ≡ c.deref.result.now = ap (λ (v : View). v.lines) (sym c.self.view_is) ∙ sym c.deref.ensures.value in
-    let h = c.in-Some.ensures.lookup in
-    (Objection.Gone, ap (λ (ls : List LineView). line_objection (slice_get ls c.args.c)) lines
-    ∙ (ap line_objection (line_read c.deref.result.now c.args.c c.in-Some.line.now h.3.0 h.1)
-    ∙ (ap (λ (l : LineView). stage_objection l.stage) (sym c.line.view_is) ∙ ap stage_objection c.in-Gone.is)), refl)
+    let h = c.in-Some.ensures.lookup in (
+      Objection.Gone,
+      ap (λ (ls : List LineView). line_objection (slice_get ls c.args.c)) lines
+          ∙ (ap line_objection (line_read c.deref.result.now c.args.c c.in-Some.line.now h.3.0 h.1)
+          ∙ (ap (λ (l : LineView). stage_objection l.stage) (sym c.line.view_is) ∙ ap stage_objection c.in-Gone.is)),
+      refl,
+    )

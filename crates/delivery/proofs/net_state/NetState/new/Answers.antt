@@ -3,8 +3,6 @@ use Rattle.delivery.specs.Core.State.{new_core, log_limit}
 use Rattle.delivery.specs.Inner.View.{view_of}
 use Rattle.delivery.proofs.Views.ListLemmas.{new_groups_view}
 use Rattle.delivery.proofs.Views.ViewLemmas.{same_view}
-use Rattle.delivery.proofs.Views.StepLemmas.{made_world}
-use Rattle.delivery.proofs.Views.QuietSteps.{quiet_view}
 use Rattle.delivery.proofs.net_state.NetState.new.Goals as goal
 
 pub returns : goal.returns
