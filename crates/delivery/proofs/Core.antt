@@ -16,3 +16,4 @@ pub mod AccountOfRun
 pub mod DeliversOfRun
 pub mod ReadingsShown
 pub mod Counts
+pub mod FramesRead

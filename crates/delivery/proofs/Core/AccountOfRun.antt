@@ -98,7 +98,8 @@ spoken r = run_spoken r.events [] (start r.capacity r.log_limit r.clocks) (start
 pub answer_is : (w : World) (e : Move) → move_refusal w e ≡ None → answer_to w e ≡ move_answer w e
 answer_is w e n = ap (λ (o : Option Objection). elim o [ None ↦ move_answer w e | Some why ↦ Answer.Refused why ]) n
 
-world_moved : (w : World) (e : Move) → move_refusal w e ≡ None → world_after w e ≡ move_effect w e
+-- the world after what isn't refused
+pub world_moved : (w : World) (e : Move) → move_refusal w e ≡ None → world_after w e ≡ move_effect w e
 world_moved w e n = ap (λ (o : Option Objection). elim o [ None ↦ move_effect w e | Some why ↦ w ]) n
 
 answer_refused : (w : World) (e : Move) (why : Objection) → move_refusal w e ≡ Some why → answer_to w e ≡ Answer.Refused why

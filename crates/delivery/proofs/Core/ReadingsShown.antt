@@ -100,7 +100,7 @@ idle k c (Reading.Finds f left) o i = found k c f left o (frame_fault k c f) ref
 idle k c (Reading.Fails check left) o i = faulted (Reading.Fails check left) (ConnectionFault.Stream check) o refl i
 
 -- a Next reads what its reader gives, unless it is refused
-abbrev ReadsUnless : Core → ℕ → Reading → Option Objection → Type 0
+abbrev pub ReadsUnless : Core → ℕ → Reading → Option Objection → Type 0
 ReadsUnless k c rd why = elim why [ None ↦ IsReadBy (unread_at c k.steps) rd | Some w ↦ rd ≡ Reading.Nothing ]
 
 next_shows : (k : Core) (c : ℕ) (rd : Reading) (o : Outcome) (why : Option Objection) → ReadsUnless k c rd why

@@ -170,38 +170,42 @@ found_stands r id u e =
       last = last;
     }
 
+-- the verdicts of a sender in a world
+abbrev list_in : World → ℕ → List (Option Decision)
+list_in w s = verdict_list w.verdicts s (sender_at w s).seq
+
 -- what is held of verdicts
 abbrev table : World → List (List (Option Decision))
-table w = each_number (verdict_list w) 0 w.senders
+table w = each_number (list_in w) 0 w.senders
 
-list_of : (w : World) (s : ℕ) → s < length w.senders → slice_get (table w) s ≡ Some (verdict_list w s)
+list_of : (w : World) (s : ℕ) → s < length w.senders → slice_get (table w) s ≡ Some (list_in w s)
 list_of w s l =
-    let n = length-each_number (verdict_list w) 0 w.senders in
+    let n = length-each_number (list_in w) 0 w.senders in
     let z : 0 + s ≡ s = omega arith in
     slice_get-get_or (table w) s [] (omega arith)
-    ∙ (ap Some (get_or-each_number (verdict_list w) 0 w.senders s [] l) ∙ ap (λ (m : ℕ). Some (verdict_list w m)) z)
+    ∙ (ap Some (get_or-each_number (list_in w) 0 w.senders s [] l) ∙ ap (λ (m : ℕ). Some (list_in w m)) z)
 
 no_list : (w : World) (s : ℕ) → length w.senders ≤ s → slice_get (table w) s ≡ None
-no_list w s l = let n = length-each_number (verdict_list w) 0 w.senders in slice_get_past (table w) s (omega arith)
+no_list w s l = let n = length-each_number (list_in w) 0 w.senders in slice_get_past (table w) s (omega arith)
 
 -- the verdict of this sender and this seq
 abbrev verdict_of : World → ℕ → ℕ → Option Decision
 verdict_of w s q = find_verdict (record { sender = record { 0 = s }; seq = q }) w.verdicts
 
-in_list : (w : World) (s q : ℕ) → q ≢ 0 → q ≤ (sender_at w s).seq → slice_get (verdict_list w s) (q - 1) ≡ Some (verdict_of w s q)
+in_list : (w : World) (s q : ℕ) → q ≢ 0 → q ≤ (sender_at w s).seq → slice_get (list_in w s) (q - 1) ≡ Some (verdict_of w s q)
 in_list w s q z l =
     let n = length-map-range_with_len (verdict_of w s) 1 (sender_at w s).seq in
     let p : 0 < q = positive q z in
-    slice_get-get_or (verdict_list w s) (q - 1) None (omega arith)
+    slice_get-get_or (list_in w s) (q - 1) None (omega arith)
     ∙ ap Some (get_or-map-range_with_len (verdict_of w s) 1 (sender_at w s).seq (q - 1) q None (omega arith) (omega arith))
   where
     positive : (m : ℕ) → m ≢ 0 → 0 < m
     positive zero h = absurd (h refl)
     positive (suc m) h = omega arith
 
-not_in_list : (w : World) (s q : ℕ) → (sender_at w s).seq < q → slice_get (verdict_list w s) (q - 1) ≡ None
+not_in_list : (w : World) (s q : ℕ) → (sender_at w s).seq < q → slice_get (list_in w s) (q - 1) ≡ None
 not_in_list w s q l =
-    let n = length-map-range_with_len (verdict_of w s) 1 (sender_at w s).seq in slice_get_past (verdict_list w s) (q - 1) (omega arith)
+    let n = length-map-range_with_len (verdict_of w s) 1 (sender_at w s).seq in slice_get_past (list_in w s) (q - 1) (omega arith)
 
 -- what isn't found where it can't stand
 none_found : (r : Run) (id : TxnId) → (Stands (final_world r) id → Prim.⊥) → None ≡ find_verdict id (final_world r).verdicts
