@@ -17,3 +17,4 @@ pub mod DeliversOfRun
 pub mod ReadingsShown
 pub mod Counts
 pub mod FramesRead
+pub mod DeliveryOfRun

@@ -1,6 +1,6 @@
 //! Laws: functions that do nothing, whose contracts are theorems about every run or step of the core.
 
-ghost use Rattle.delivery.specs.Core.Delivery.{ReadingsAreShown, RunsDeliver};
+ghost use Rattle.delivery.specs.Core.Delivery.{RunsDeliver};
 ghost use Rattle.delivery.specs.Theorem.Answers.{MovesAreAnswered};
 ghost use Rattle.delivery.specs.Theorem.Examples.{WorkedRows};
 ghost use Rattle.delivery.specs.Theorem.Laws.{AcceptedIsDue, AgreedInSenderOrder, AgreedOnce};
@@ -189,10 +189,9 @@ pub fn examples()
     ensures { WorkedRows }
 {}
 
-/// Every run of the core delivers what its account says: the account is read off the steps alone, their events, what was
-/// read and what came of it, and the report is of what the core holds. So each commit, log, queue and span that is
-/// reported is the one that the steps tell, and each step shows whether it read a frame.
+/// Every run of the core is delivered: what was read are the first frames of each connection's octets; the account of the
+/// run is read off its events, these frames and the outcomes alone; and each commit, log, span, queue and octet out that the
+/// core reports is the one that they tell. The steps may be refused, may find no memory, and may cut a stream anywhere.
 pub fn delivery()
-    ensures delivers { RunsDeliver }
-    ensures shown { ReadingsAreShown }
+    ensures { RunsDeliver }
 {}

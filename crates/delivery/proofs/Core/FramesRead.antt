@@ -1,17 +1,16 @@
 -- What a run read of a connection are the first frames of its octets, by the grammar.
-use Rattle.std.proofs.Common.{◌≡◌, ◌≢◌, ℕ, ◌<◌, ◌==◌, Bool, true, false, cond, not, ◌&&◌, ◌||◌, ◌⊎◌, inl, inr, true≢false, List, [], ◌∷◌, ◌++◌, length, Option, Some, None, refl, sym, ap, subst, ◌∙◌, append_assoc, append-nil, arith}
+use Rattle.std.proofs.Common.{◌≡◌, ℕ, ◌<◌, ◌==◌, Bool, true, false, cond, ◌&&◌, ◌||◌, ◌⊎◌, inl, inr, true≢false, List, [], ◌∷◌, ◌++◌, length, Option, Some, None, refl, sym, ap, subst, ◌∙◌, append_assoc, append-nil, arith}
 use Rattle.std.proofs.lemmas.Bool.{eqb-true, ltb-true, false≢true}
 use Rattle.std.proofs.lemmas.Grind.{flat_map-append}
 use Rattle.std.specs.List.{flat_map}
-use Rattle.std.specs.Option.{is_some, option_map, option_map_or, option_to_list, option_or}
+use Rattle.std.specs.Option.{option_map_or, option_to_list, option_or}
 use Rattle.stomp_frame.specs.declared.limits.Limits.{Limits}
 use Rattle.stomp_frame.specs.declared.raw_frame.RawFrame.{RawFrame}
 use Rattle.stomp_frame.specs.declared.fault.Check.{Check}
-use Rattle.stomp_frame.specs.Grammar.{AreEols, BeginsWith, Leaves, eol}
-use Rattle.stomp_frame.specs.Reader.{Unread, unread_of, fed}
+use Rattle.stomp_frame.specs.Grammar.{AreEols, BeginsWith, eol}
+use Rattle.stomp_frame.specs.Reader.{Unread, fed}
 use Rattle.mcast_txn.specs.Checks.{first_refusal}
 use Rattle.mcast_txn.specs.Lists.{In}
-use Rattle.mcast_group.proofs.Parts.{none_some}
 use Rattle.delivery.specs.Topics.{TopicList}
 use Rattle.delivery.specs.declared.event.Event.{Event}
 use Rattle.delivery.specs.declared.outcome.Outcome.{Outcome}
@@ -21,9 +20,9 @@ use Rattle.delivery.specs.Machine.World.{World, Connection, Standing, is_reading
 use Rattle.delivery.specs.Machine.Moves.{Move, needs_open, needs_idle}
 use Rattle.delivery.specs.Machine.Moves.Move.{Errs}
 use Rattle.delivery.specs.Machine.Runs.{run}
-use Rattle.delivery.specs.Core.Steps.{CoreStep, Reading, frame_in, is_fed, is_next, piece_to, fed_octets, frame_from, frames_of, reader_limits, BeginsWithFrames, AreReadings}
+use Rattle.delivery.specs.Core.Steps.{CoreStep, Reading, frame_in, is_fed, is_next, piece_to, fed_octets, frames_of, reader_limits, BeginsWithFrames, AreReadings}
 use Rattle.delivery.specs.Core.State.{Core, core_of, moves, left_by, unread_after, unread_at, IsReadBy}
-use Rattle.delivery.specs.Core.Outcomes.{unless, fault_outcomes, reading_outcomes, outcomes, IsReadAt, MayStep, IsCoreRun}
+use Rattle.delivery.specs.Core.Outcomes.{unless, fault_outcomes, reading_outcomes, outcomes, IsReadAt, IsCoreRun}
 use Rattle.mcast_txn.proofs.Members.{at_set_within}
 use Rattle.delivery.proofs.Machine.SubscriptionSteps.{set_length}
 use Rattle.delivery.proofs.Machine.InvariantIsKept.{passes, false_not}
@@ -69,14 +68,17 @@ front_shorter limits text (f ∷ fs) tail rest eols k e h = (h.0, h.1, front_sho
 
 -- one frame more
 front_next : (limits : Limits) (text : List ℕ) (fs : List RawFrame) (tail : List ℕ) (f : RawFrame) (others : List ℕ) → BeginsWith limits tail f others → Front limits text fs tail → Front limits text (fs ++ f ∷ []) others
-front_next limits text [] tail f others b h =
-    (others, record {
-      eols = h.0 ++ b.eols;
-      spelling = b.spelling;
-      are_eols = are_eols_two h.0 b.eols h.1 b.are_eols;
-      is_spelling = b.is_spelling;
-      parts = h.2 ∙ (ap (λ (z : List ℕ). h.0 ++ z) b.parts ∙ sym (append_assoc h.0 b.eols (b.spelling ++ others)));
-    }, ([], ([], refl), refl))
+front_next limits text [] tail f others b h = (
+  others,
+  record {
+    eols = h.0 ++ b.eols;
+    spelling = b.spelling;
+    are_eols = are_eols_two h.0 b.eols h.1 b.are_eols;
+    is_spelling = b.is_spelling;
+    parts = h.2 ∙ (ap (λ (z : List ℕ). h.0 ++ z) b.parts ∙ sym (append_assoc h.0 b.eols (b.spelling ++ others)));
+  },
+  ([], ([], refl), refl),
+)
 front_next limits text (g ∷ gs) tail f others b h = (h.0, h.1, front_next limits h.0 gs tail f others b h.2)
 
 -- ---- a connection's reader
@@ -95,7 +97,7 @@ Reads text fs u Shut =
 reads_same : (text text' : List ℕ) (fs fs' : List RawFrame) (u u' : Unread) (S T : Type 0) → text' ≡ text → fs' ≡ fs → u' ≡ u → (S → T) → Reads text fs u S → Reads text' fs' u' T
 reads_same text text' fs fs' u u' S T a b c d h =
     subst (λ t. Reads t fs' u' T) (sym a) (subst (λ z. Reads text z u' T) (sym b) (subst (λ z. Reads text fs z T) (sym c)
-    (h.0, elim h.1 [ | inl k ↦ inl k | inr k ↦ inr (d k.0, k.1) ])))
+    (h.0, elim h.1 [ inl k ↦ inl k | inr k ↦ inr (d k.0, k.1) ])))
 
 same_branch : {X : Type 0} (b : Bool) (x : X) → cond b x x ≡ x
 same_branch true x = refl
@@ -135,9 +137,14 @@ piece_read k c octets ms n h =
     let u = unread_at c k.steps in elim h.1 [
       | inr j ↦ absurd (not_shut k.world c n j.0)
       | inl j ↦ subst (λ (v : Unread). ReadsAfter k c octets [] v (run ms k.world))
-          (ap (λ (a : Option Check). option_map_or (λ x. u) a (record u { text = u.text ++ octets })) (sym j.0))
-          (h.0, inl (j.0, subst (λ z. Front reader_limits (fed_octets c k.steps ++ octets) z (u.text ++ octets)) (sym (append-nil (frames_of c k.steps)))
-          (front_longer reader_limits (fed_octets c k.steps) (frames_of c k.steps) u.text octets j.1)))
+          (ap (λ (a : Option Check). option_map_or (λ x. u) a (record u { text = u.text ++ octets })) (sym j.0)) (
+            h.0,
+            inl (
+              j.0,
+              subst (λ z. Front reader_limits (fed_octets c k.steps ++ octets) z (u.text ++ octets)) (sym (append-nil (frames_of c k.steps)))
+                  (front_longer reader_limits (fed_octets c k.steps) (frames_of c k.steps) u.text octets j.1),
+            ),
+          )
     ]
 
 piece_case : (k : Core) (c d : ℕ) (octets : List ℕ) (o : Outcome) (ms : List Move) (a b : Bool) → (d == c) ≡ a → is_fed o ≡ b
@@ -165,9 +172,10 @@ idle_open w c n h =
 shut_by_error : (w : World) (c : ℕ) → first_refusal (needs_idle w c) ≡ None → IsShut (run (Errs c ∷ []) w) c
 shut_by_error w c n =
     let l : c < length w.connections = ltb-true c (length w.connections) (false_not _ (passes (needs_idle w c) n).0) in
-    subst (λ v. IsShut v c) (sym (world_moved w (Errs c) (ap (λ (z : Option Objection). option_or z None) n)))
-    ((let m = set_length w.connections c (record { sender = (connection_at w c).sender; standing = Standing.Leaving }) in omega arith),
-    at_set_within (λ (z : Connection). is_reading z.standing ≡ false) w.connections c c _ nobody l (λ j. refl) (λ ne. absurd (ne refl)))
+    subst (λ v. IsShut v c) (sym (world_moved w (Errs c) (ap (λ (z : Option Objection). option_or z None) n))) (
+      (let m = set_length w.connections c (record { sender = (connection_at w c).sender; standing = Standing.Leaving }) in omega arith),
+      at_set_within (λ (z : Connection). is_reading z.standing ≡ false) w.connections c c _ nobody l (λ j. refl) (λ ne. absurd (ne refl)),
+    )
 
 fails_shut : (k : Core) (c : ℕ) (check : Check) (left : Unread) (o : Outcome) → first_refusal (needs_idle k.world c) ≡ None → In o (fault_outcomes (ConnectionFault.Stream check))
     → IsShut (run (moves k (Event.Next c) (Reading.Fails check left) o) k.world) c
@@ -185,28 +193,40 @@ next_read k c Reading.Nothing o ms m n r i h = quiet k c ms [] refl h
 next_read k c (Reading.Waits left) o ms m n r i h =
     let u = unread_at c k.steps in let l = r.1 in elim h.1 [
       | inr j ↦ absurd (idle_open k.world c n j.0)
-      | inl j ↦ subst (λ (v : Unread). ReadsAfter k c [] [] v (run ms k.world)) (sym r.3)
-          (h.0, inl (j.0,
+      | inl j ↦ subst (λ (v : Unread). ReadsAfter k c [] [] v (run ms k.world)) (sym r.3) (
+        h.0,
+        inl (
+          j.0,
           subst (λ z. Front reader_limits z (frames_of c k.steps ++ []) r.0) (sym (append-nil (fed_octets c k.steps)))
-          (subst (λ z. Front reader_limits (fed_octets c k.steps) z r.0) (sym (append-nil (frames_of c k.steps)))
-          (front_shorter reader_limits (fed_octets c k.steps) (frames_of c k.steps) u.text r.0 l.eols l.are_eols l.parts j.1))))
+              (subst (λ z. Front reader_limits (fed_octets c k.steps) z r.0) (sym (append-nil (frames_of c k.steps)))
+              (front_shorter reader_limits (fed_octets c k.steps) (frames_of c k.steps) u.text r.0 l.eols l.are_eols l.parts j.1)),
+        ),
+      )
     ]
 next_read k c (Reading.Finds f left) o ms m n r i h =
     let u = unread_at c k.steps in elim h.1 [
       | inr j ↦ absurd (idle_open k.world c n j.0)
-      | inl j ↦ subst (λ (v : Unread). ReadsAfter k c [] (f ∷ []) v (run ms k.world)) (sym r.2)
-          (h.0, inl (j.0,
+      | inl j ↦ subst (λ (v : Unread). ReadsAfter k c [] (f ∷ []) v (run ms k.world)) (sym r.2) (
+        h.0,
+        inl (
+          j.0,
           subst (λ z. Front reader_limits z (frames_of c k.steps ++ f ∷ []) r.0) (sym (append-nil (fed_octets c k.steps)))
-          (front_next reader_limits (fed_octets c k.steps) (frames_of c k.steps) u.text f r.0 (subst (λ z. BeginsWith z u.text f r.0) h.0 r.1) j.1)))
+              (front_next reader_limits (fed_octets c k.steps) (frames_of c k.steps) u.text f r.0 (subst (λ z. BeginsWith z u.text f r.0) h.0 r.1) j.1),
+        ),
+      )
     ]
 next_read k c (Reading.Fails check left) o ms m n r i h =
     let u = unread_at c k.steps in elim h.1 [
       | inr j ↦ absurd (idle_open k.world c n j.0)
-      | inl j ↦ subst (λ (v : Unread). ReadsAfter k c [] [] v (run ms k.world)) (sym r.5)
-          (h.0, inr (subst (λ z. IsShut (run z k.world) c) m (fails_shut k c check left o n i),
+      | inl j ↦ subst (λ (v : Unread). ReadsAfter k c [] [] v (run ms k.world)) (sym r.5) (
+        h.0,
+        inr (
+          subst (λ z. IsShut (run z k.world) c) m (fails_shut k c check left o n i),
           subst (λ z. BeginsWithFrames reader_limits z (frames_of c k.steps ++ [])) (sym (append-nil (fed_octets c k.steps)))
-          (subst (λ z. BeginsWithFrames reader_limits (fed_octets c k.steps) z) (sym (append-nil (frames_of c k.steps)))
-          (front_begins reader_limits (fed_octets c k.steps) (frames_of c k.steps) u.text j.1))))
+              (subst (λ z. BeginsWithFrames reader_limits (fed_octets c k.steps) z) (sym (append-nil (frames_of c k.steps)))
+              (front_begins reader_limits (fed_octets c k.steps) (frames_of c k.steps) u.text j.1)),
+        ),
+      )
     ]
 
 next_case : (k : Core) (c : ℕ) (rd : Reading) (o : Outcome) (ms : List Move) → moves k (Event.Next c) rd o ≡ ms → (why : Option Objection) → first_refusal (needs_idle k.world c) ≡ why

@@ -1,6 +1,6 @@
 -- What every run keeps of subscriptions, beside its answers: how each began, and where one that was asked to end
 -- has ended.
-use Rattle.std.proofs.Common.{◌≡◌, ◌≢◌, ℕ, zero, suc, ◌+◌, ◌<◌, ◌==◌, Bool, true, false, cond, not, ◌⊎◌, inl, inr, List, [], ◌∷◌, ◌++◌, map, length, get_or, set, Option, Some, None, refl, sym, ap, subst, ◌∙◌, arith, ltb}
+use Rattle.std.proofs.Common.{◌≡◌, ℕ, zero, suc, ◌+◌, ◌<◌, ◌==◌, Bool, false, cond, not, ◌⊎◌, inl, inr, List, [], ◌∷◌, ◌++◌, map, length, get_or, set, Option, Some, None, refl, sym, ap, ◌∙◌, arith, ltb}
 use Rattle.std.proofs.lemmas.Bool.{eqb-true, eq-eqb, ltb-true}
 use Rattle.mcast_txn.specs.declared.id.Topic.{Topic}
 use Rattle.mcast_txn.specs.declared.id.TxnId.{TxnId}
@@ -9,17 +9,16 @@ use Rattle.mcast_txn.specs.declared.stamp.Stamp.{Stamp}
 use Rattle.mcast_txn.specs.Stamp.{zero_stamp}
 use Rattle.mcast_txn.specs.Ballot.{Decision}
 use Rattle.mcast_txn.specs.Span.{LogRow, Item, last_stamp}
-use Rattle.mcast_group.specs.declared.cause.Cause.{Cause}
-use Rattle.mcast_group.specs.declared.cause.Cause.TheVariants.{Asked, Lag}
+use Rattle.mcast_group.specs.declared.cause.Cause.TheVariants.{Asked}
 use Rattle.mcast_group.specs.declared.fault.ProposeFault.{ProposeFault}
 use Rattle.mcast_group.specs.Machine.{Pending, Entry, EntryEnd, due_part}
 use Rattle.mcast_group.proofs.Parts.{some_same, none_some, not_true}
-use Rattle.delivery.specs.Machine.World.{World, Leftover, Subscription, no_subscription, topic_at, connection_at, subscription_at, speaker, entry_at, start}
+use Rattle.delivery.specs.Machine.World.{World, Leftover, Subscription, no_subscription, topic_at, subscription_at, speaker, entry_at}
 use Rattle.delivery.specs.Machine.Observed.{frontier_at, end_at}
 use Rattle.delivery.specs.Machine.Objections.{Objection}
-use Rattle.delivery.specs.Machine.Moves.{Move, Answer, world_after, answer_to, move_refusal, move_effect, move_answer, find_leftover, find_verdict, oldest_live, commit_effect, commit_answer, proposal_fault, propose_effect, propose_answer, cancel_effect, cancel_answer, learn_effect, release_answer, take_effect, take_answer, leave_effect, leave_answer, close_effect, close_effect_of}
+use Rattle.delivery.specs.Machine.Moves.{Move, Answer, world_after, answer_to, move_refusal, move_effect, move_answer, find_leftover, find_verdict, oldest_live, commit_effect, commit_answer, proposal_fault, propose_effect, propose_answer, cancel_effect, cancel_answer, learn_effect, release_answer, take_effect, take_answer, leave_effect, leave_answer, close_effect_of}
 use Rattle.delivery.specs.Machine.Moves.Move.{AddsTopic, Opens, Commits, Subscribes, Unsubscribes, Disconnects, Errs, Lost, Leaves, Proposes, Decides, Withdraws, Cancels, Learns, Releases, Turns, Takes}
-use Rattle.delivery.specs.Machine.Moves.Answer.{Refused, Done, Subscribed, Unsubscribed}
+use Rattle.delivery.specs.Machine.Moves.Answer.{Refused, Done}
 use Rattle.delivery.specs.Theorem.Laws.{Run, answers_of, final_world}
 use Rattle.delivery.specs.Theorem.Spans.{cause_of}
 use Rattle.delivery.specs.Core.Account.{Beginning, no_beginning, beginning_of, released_frontier}
@@ -227,11 +226,14 @@ ended_now : (r : Run) (e : Move) (s : ℕ) (end : EntryEnd) → (subscription_at
 ended_now r e s end n k c =
     let w = final_world r in let a = closes_are_told r e s end n k in
     let left = some_same _ end (sym (closed_as_told r e s end.to a) ∙ k) in
-    let unended : end_at w s ≡ None = none_asked (end_at w s) (ap (λ (z : EntryEnd). z.cause) left ∙ c) in
-    ([], answers_of r, ap (λ z. z ∷ answers_of r) a,
-    spans_end_at_frontier r e s end.to a unended
-    ∙ (frontier_of r (subscription_at w s).topic
-    ∙ ap (λ (z : Beginning). released_frontier z.topic (answers_of r)) (sym (beginning_is r s))))
+    let unended : end_at w s ≡ None = none_asked (end_at w s) (ap (λ (z : EntryEnd). z.cause) left ∙ c) in (
+      [],
+      answers_of r,
+      ap (λ z. z ∷ answers_of r) a,
+      spans_end_at_frontier r e s end.to a unended
+          ∙ (frontier_of r (subscription_at w s).topic
+          ∙ ap (λ (z : Beginning). released_frontier z.topic (answers_of r)) (sym (beginning_is r s))),
+    )
 
 asked_case : (r : Run) (e : Move) (s : ℕ) (end : EntryEnd) → AskedEnds (answers_of r) (final_world r) → (o : Option EntryEnd) → (subscription_at (final_world r) s).closed ≡ o
     → (subscription_at (world_after (final_world r) e) s).closed ≡ Some end → end.cause ≡ Asked → EndsAtFrontier s (answer_to (final_world r) e ∷ answers_of r) end.to

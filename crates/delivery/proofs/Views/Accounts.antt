@@ -1,14 +1,12 @@
 -- What the account of a core that a run leads to says of its undecided transactions and its subscriptions.
-use Rattle.std.proofs.Common.{◌≡◌, ◌≢◌, ℕ, ◌<◌, ◌≤◌, Bool, true, false, cond, not, ◌⊎◌, List, length, get_or, Option, Some, None, sym, ap, subst, ◌∙◌}
+use Rattle.std.proofs.Common.{◌≡◌, ◌≢◌, ℕ, ◌<◌, cond, not, length, Option, Some, None, sym, ap, ◌∙◌}
 use Rattle.std.specs.Prelude.{slice_get}
 use Rattle.std.specs.Option.{is_some}
 use Rattle.std.proofs.lemmas.Option.{slice_get-get_or}
-use Rattle.mcast_txn.specs.declared.id.TxnId.{TxnId}
-use Rattle.mcast_txn.specs.Span.{Item}
 use Rattle.mcast_group.specs.declared.fault.NoSub.{NoSub}
 use Rattle.mcast_group.specs.Machine.{Entry}
 use Rattle.mcast_group.proofs.Parts.{none_some}
-use Rattle.delivery.specs.Machine.World.{World, Undecided, connection_at, sender_at, speaker, subscription_at, entry_at}
+use Rattle.delivery.specs.Machine.World.{Undecided, sender_at, speaker, subscription_at, entry_at}
 use Rattle.delivery.specs.Machine.Moves.{undecided_or_none}
 use Rattle.delivery.specs.Machine.Observed.{accepted_at}
 use Rattle.delivery.specs.Theorem.Laws.{final_world}

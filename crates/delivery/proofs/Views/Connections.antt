@@ -1,7 +1,6 @@
 -- Connections of a core that a run leads to: whose they are, and which were closed.
-use Rattle.std.proofs.Common.{◌≡◌, ℕ, ◌<◌, List, not, length, ◌∙◌}
-use Rattle.delivery.specs.Machine.World.{World, is_reading, connection_at}
-use Rattle.delivery.specs.Machine.Moves.{Answer}
+use Rattle.std.proofs.Common.{◌≡◌, ℕ, ◌<◌, not, length, ◌∙◌}
+use Rattle.delivery.specs.Machine.World.{is_reading, connection_at}
 use Rattle.delivery.specs.Theorem.Laws.{answers_of}
 use Rattle.delivery.specs.Core.Account.{account_of}
 use Rattle.delivery.specs.Core.Output.{has_closed}

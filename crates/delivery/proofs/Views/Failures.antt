@@ -1,5 +1,5 @@
 -- The account has why an undecided transaction is marked: the last of its proposals that failed.
-use Rattle.std.proofs.Common.{◌≡◌, ◌≢◌, ℕ, ◌+◌, ◌<◌, ◌==◌, Bool, true, false, cond, not, List, [], ◌∷◌, ◌++◌, map, length, set, Option, Some, None, refl, sym, ap, subst, ◌∙◌, arith, ltb}
+use Rattle.std.proofs.Common.{◌≡◌, ℕ, ◌+◌, ◌<◌, Bool, false, cond, not, List, [], ◌∷◌, ◌++◌, length, set, Option, Some, None, refl, sym, ap, subst, ◌∙◌, arith, ltb}
 use Rattle.std.proofs.lemmas.Bool.{ltb-true}
 use Rattle.std.specs.Prelude.{slice_get}
 use Rattle.mcast_txn.specs.declared.id.Topic.{Topic}
@@ -14,9 +14,9 @@ use Rattle.mcast_group.specs.Faults.{propose_title}
 use Rattle.mcast_group.specs.declared.fault.ProposeFault.{ProposeFault}
 use Rattle.mcast_group.specs.Machine.{Pending, Entry, due_part}
 use Rattle.mcast_group.proofs.Parts.{some_same, none_some, not_true}
-use Rattle.delivery.specs.Machine.World.{World, Undecided, Leftover, SenderState, new_sender, topic_at, connection_at, subscription_at, speaker, entry_at, start}
+use Rattle.delivery.specs.Machine.World.{World, Undecided, Leftover, SenderState, new_sender, topic_at, connection_at, subscription_at, speaker, entry_at}
 use Rattle.delivery.specs.Machine.Observed.{accepted_at}
-use Rattle.delivery.specs.Machine.Moves.{Move, Answer, world_after, answer_to, move_refusal, move_effect, move_answer, undecided_at, next_txn, next_ticket, insert_ticket, find_leftover, find_verdict, oldest_live, commit_effect, commit_answer, proposal_fault, propose_effect, propose_answer, cancel_effect, cancel_answer, learn_effect, release_answer, take_effect, take_answer, leave_effect, leave_answer, close_effect_of}
+use Rattle.delivery.specs.Machine.Moves.{Move, Answer, move_refusal, move_effect, move_answer, undecided_at, next_txn, next_ticket, insert_ticket, find_leftover, find_verdict, oldest_live, commit_effect, commit_answer, proposal_fault, propose_effect, propose_answer, cancel_effect, cancel_answer, learn_effect, release_answer, take_effect, take_answer, leave_effect, leave_answer, close_effect_of}
 use Rattle.delivery.specs.Machine.Moves.Move.{AddsTopic, Opens, Commits, Subscribes, Unsubscribes, Disconnects, Errs, Lost, Leaves, Proposes, Decides, Withdraws, Cancels, Learns, Releases, Turns, Takes}
 use Rattle.delivery.specs.Theorem.Laws.{Run, answers_of, final_world}
 use Rattle.delivery.specs.Core.Account.{account_of}

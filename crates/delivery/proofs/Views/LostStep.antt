@@ -1,5 +1,5 @@
 -- The loss of a connection.
-use Rattle.std.proofs.Common.{◌≡◌, ℕ, true, List, [], ◌∷◌, get_or, set, Option, Some, None, refl, sym, ap, ◌∙◌}
+use Rattle.std.proofs.Common.{◌≡◌, ℕ, true, ◌∷◌, get_or, set, Option, Some, None, refl, sym, ap, ◌∙◌}
 use Rattle.std.specs.Prelude.{slice_get}
 use Rattle.std.specs.List.{find}
 use Rattle.std.specs.Option.{option_or, option_and_then}
@@ -15,7 +15,7 @@ use Rattle.delivery.specs.Machine.Moves.{Move, Answer, move_refusal, with_leavin
 use Rattle.delivery.specs.Core.Steps.{Reading, accepted_of}
 use Rattle.delivery.specs.Core.State.{Core}
 use Rattle.delivery.specs.Inner.Stands.{Makes, step_of, line_objection}
-use Rattle.delivery.specs.Inner.View.{View, LineView, view_of, view_after, leaving_line, parting_receipt}
+use Rattle.delivery.specs.Inner.View.{LineView, view_of, view_after, leaving_line, parting_receipt}
 use Rattle.delivery.proofs.Views.QuietSteps.{quiet_view, lost_is_quiet}
 use Rattle.delivery.proofs.Views.StepLemmas.{made_world, made_answer, in_outcome, refused_makes, open_checked, checked_there, checked_open, left_view}
 

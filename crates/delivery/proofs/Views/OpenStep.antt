@@ -1,19 +1,16 @@
 -- A connection that is opened.
-use Rattle.std.proofs.Common.{◌≡◌, ℕ, zero, suc, ◌+◌, ◌<◌, ◌≤◌, List, [], ◌∷◌, ◌++◌, length, get_or, Option, Some, None, inl, inr, refl, sym, ap, ◌∙◌, arith}
+use Rattle.std.proofs.Common.{◌≡◌, ℕ, zero, suc, ◌+◌, ◌<◌, List, [], ◌∷◌, ◌++◌, length, get_or, inl, inr, refl, sym, ap, ◌∙◌, arith}
 use Rattle.std.proofs.lemmas.List.{get_or_append_left}
-use Rattle.stomp_frame.specs.declared.raw_frame.RawFrame.{RawFrame}
-use Rattle.stomp_frame.specs.Reader.{Unread}
-use Rattle.mcast_txn.specs.Ballot.{Decision}
 use Rattle.delivery.specs.declared.event.Event.{Event}
 use Rattle.delivery.specs.declared.outcome.Outcome.{Outcome}
-use Rattle.delivery.specs.Machine.World.{World, Undecided, SenderState, Connection, Subscription, Standing, nobody, new_sender, connection_at, sender_at, speaker}
+use Rattle.delivery.specs.Machine.World.{SenderState, Connection, Standing, nobody, new_sender, connection_at, sender_at}
 use Rattle.delivery.specs.Machine.Moves.{Move, move_effect}
 use Rattle.delivery.specs.Core.Steps.{Reading, accepted_of}
 use Rattle.delivery.specs.Core.Output.{text_out}
 use Rattle.delivery.specs.Core.State.{Core, unread_at}
 use Rattle.delivery.specs.Core.Reports.{each_number}
 use Rattle.delivery.specs.Inner.Stands.{Makes, step_of}
-use Rattle.delivery.specs.Inner.View.{View, SenderView, LineView, view_of, view_after, stage_view, sender_view, verdict_list, live_numbers, line_view, new_line, with_new_line}
+use Rattle.delivery.specs.Inner.View.{view_of, stage_view, sender_view, verdict_list, live_numbers, line_view, new_line, with_new_line}
 use Rattle.delivery.proofs.Views.ListLemmas.{each_number-push, each_number-same, length-each_number}
 use Rattle.delivery.proofs.Views.Untouched.{IsUntouched}
 use Rattle.delivery.proofs.Views.QuietSteps.{quiet_view, open_is_quiet, open_without_is_quiet}

@@ -1,10 +1,10 @@
 -- The frames of a connection that a core accepted: of one that isn't there none, and a DISCONNECT only of one that
 -- isn't open any more, and then only one.
-use Rattle.std.proofs.Common.{◌≡◌, ℕ, ◌<◌, ◌≤◌, ◌==◌, Bool, true, false, cond, not, ◌||◌, ◌⊎◌, inl, inr, List, [], ◌∷◌, ◌++◌, filter, length, Option, Some, None, refl, sym, ap, subst, ◌∙◌, arith}
+use Rattle.std.proofs.Common.{◌≡◌, ℕ, ◌≤◌, ◌==◌, Bool, true, false, cond, ◌||◌, ◌⊎◌, inl, inr, List, [], ◌∷◌, ◌++◌, filter, length, Option, Some, None, refl, sym, ap, subst, ◌∙◌, arith}
 use Rattle.std.proofs.lemmas.Bool.{eqb-true, false≢true}
 use Rattle.std.proofs.lemmas.List.{append-nil}
 use Rattle.std.specs.List.{flat_map, find}
-use Rattle.std.specs.Option.{option_map, option_map_or, option_and_then, option_or, option_to_list}
+use Rattle.std.specs.Option.{option_map_or, option_and_then, option_or, option_to_list}
 use Rattle.stomp_frame.specs.declared.raw_frame.RawFrame.{RawFrame}
 use Rattle.stomp_frame.specs.declared.command.Command.{Command}
 use Rattle.stomp_frame.specs.declared.command.Command.TheVariants as commands
@@ -22,15 +22,14 @@ use Rattle.stomp_session.specs.Frames.{is_disconnect}
 use Rattle.delivery.specs.Topics.{TopicList}
 use Rattle.delivery.specs.declared.event.Event.{Event}
 use Rattle.delivery.specs.declared.outcome.Outcome.{Outcome}
-use Rattle.delivery.specs.declared.refusal.Refusal.{Refusal}
 use Rattle.delivery.specs.Machine.Objections.{Objection, refusal_of}
-use Rattle.delivery.specs.Machine.World.{World, Connection, nobody, is_reading, connection_at, speaker}
+use Rattle.delivery.specs.Machine.World.{World, Connection, nobody, is_reading, connection_at}
 use Rattle.delivery.specs.Machine.Moves.{Move, move_effect, needs_idle}
 use Rattle.delivery.specs.Machine.Runs.{run}
-use Rattle.delivery.specs.Core.Steps.{CoreStep, Reading, frame_in, is_next, has_effect, frame_from, accepted_of}
+use Rattle.delivery.specs.Core.Steps.{CoreStep, Reading, frame_in, has_effect, frame_from, accepted_of}
 use Rattle.delivery.specs.Core.Output.{receipts_of}
 use Rattle.delivery.specs.Core.State.{Core, core_of, core_after, moves, frame_move, session_at, is_faulted}
-use Rattle.delivery.specs.Core.Outcomes.{MayStep, IsCoreRun, outcomes, unless, reading_outcomes}
+use Rattle.delivery.specs.Core.Outcomes.{IsCoreRun, outcomes, unless, reading_outcomes}
 use Rattle.delivery.specs.Inner.Stands.{IsReached}
 use Rattle.delivery.specs.Inner.View.{parting_receipt}
 use Rattle.delivery.proofs.Machine.InvariantIsKept.{passes, false_not}

@@ -1,10 +1,9 @@
 -- Octets that a connection is fed.
-use Rattle.std.proofs.Common.{◌≡◌, ◌≢◌, ℕ, ◌+◌, ◌<◌, ◌==◌, Bool, true, false, ◌&&◌, cond, List, [], ◌∷◌, ◌++◌, length, get_or, set, Option, Some, None, inl, inr, refl, sym, ap, ◌∙◌, arith, eq-eqb}
+use Rattle.std.proofs.Common.{◌≡◌, ◌≢◌, ℕ, ◌+◌, ◌==◌, Bool, true, false, ◌&&◌, cond, List, [], ◌∷◌, get_or, set, Option, Some, None, inl, inr, refl, sym, ap, ◌∙◌, arith, eq-eqb}
 use Rattle.std.specs.Prelude.{slice_get}
-use Rattle.std.specs.Option.{option_or, option_map, option_to_list, option_map_or}
+use Rattle.std.specs.Option.{option_map, option_to_list}
 use Rattle.std.proofs.lemmas.Bool.{eqb-true}
 use Rattle.std.proofs.lemmas.List.{append-nil, set-get_or}
-use Rattle.mcast_txn.specs.Lists.{In}
 use Rattle.mcast_txn.specs.Checks.{first_refusal}
 use Rattle.stomp_frame.specs.declared.raw_frame.RawFrame.{RawFrame}
 use Rattle.stomp_frame.specs.Reader.{Unread, fed}
@@ -12,15 +11,15 @@ use Rattle.delivery.specs.declared.event.Event.{Event}
 use Rattle.delivery.specs.declared.outcome.Outcome.{Outcome}
 use Rattle.delivery.specs.declared.refusal.Refusal.{Refusal}
 use Rattle.delivery.specs.Machine.Objections.{Objection, refusal_of}
-use Rattle.delivery.specs.Machine.World.{World, Undecided, Connection, Standing, nobody, connection_at, speaker, is_reading}
+use Rattle.delivery.specs.Machine.World.{Undecided, Connection, Standing, nobody, connection_at, speaker, is_reading}
 use Rattle.delivery.specs.Machine.Moves.{needs_open}
-use Rattle.delivery.specs.Core.Steps.{CoreStep, Reading, accepted_of}
+use Rattle.delivery.specs.Core.Steps.{Reading, accepted_of}
 use Rattle.delivery.specs.Core.Output.{text_out}
 use Rattle.delivery.specs.Core.State.{Core, unread_at}
 use Rattle.delivery.specs.Core.Outcomes.{unless}
 use Rattle.delivery.specs.Core.Reports.{each_number}
-use Rattle.delivery.specs.Inner.Stands.{IsReached, Makes, step_of, line_objection}
-use Rattle.delivery.specs.Inner.View.{View, LineView, view_of, view_with, stage_view, line_view, fed_line, fed_stage}
+use Rattle.delivery.specs.Inner.Stands.{Makes, step_of, line_objection}
+use Rattle.delivery.specs.Inner.View.{LineView, view_of, view_with, stage_view, line_view, fed_line, fed_stage}
 use Rattle.delivery.proofs.Views.ListLemmas.{each_number-set}
 use Rattle.delivery.proofs.Views.QuietSteps.{quiet_view, refused_is_quiet, piece_without_is_quiet}
 use Rattle.delivery.proofs.Views.StepLemmas.{bool_cases, in_one, line_at, open_checked, checked_there, checked_open}

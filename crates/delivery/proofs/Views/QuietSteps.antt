@@ -1,5 +1,5 @@
 -- Steps that leave lines as they are, but for what the machine says of them.
-use Rattle.std.proofs.Common.{◌≡◌, ℕ, Bool, true, false, ◌==◌, ◌&&◌, List, [], ◌∷◌, ◌++◌, Option, Some, None, cond, refl, sym, ap, ◌∙◌}
+use Rattle.std.proofs.Common.{◌≡◌, ℕ, Bool, true, false, ◌==◌, ◌&&◌, List, [], ◌∷◌, ◌++◌, cond, refl, ap, ◌∙◌}
 use Rattle.std.proofs.lemmas.List.{append-nil}
 use Rattle.std.specs.List.{flat_map}
 use Rattle.stomp_frame.specs.declared.raw_frame.RawFrame.{RawFrame}
@@ -14,10 +14,9 @@ use Rattle.delivery.specs.Machine.World.{World}
 use Rattle.delivery.specs.Core.Steps.{CoreStep, Reading, accepted_of, has_effect, frame_from}
 use Rattle.delivery.specs.Core.Account.{account_of}
 use Rattle.delivery.specs.Core.Output.{text_out, sub_id_text, replies_to, is_cut}
-use Rattle.delivery.specs.Core.State.{Core, core_after, unread_at, unread_after, moves}
-use Rattle.delivery.specs.Machine.Runs.{run}
+use Rattle.delivery.specs.Core.State.{unread_at, unread_after}
 use Rattle.delivery.specs.Inner.Stands.{step_of}
-use Rattle.delivery.specs.Inner.View.{View, view_with, view_after, view_of}
+use Rattle.delivery.specs.Inner.View.{view_with, view_after}
 
 -- one of two that are the same
 pub if_same : {X : Type 0} (b : Bool) (x : X) → cond b x x ≡ x

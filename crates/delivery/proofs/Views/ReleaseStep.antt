@@ -1,12 +1,11 @@
 -- A release of a topic's group.
-use Rattle.std.proofs.Common.{◌≡◌, ℕ, suc, zero, ◌-◌, ◌<◌, ◌==◌, Bool, true, false, cond, nat_lt, List, [], ◌∷◌, map, length, get_or, set, Option, Some, None, ◌⊎◌, inl, inr, refl, sym, ap, subst, ◌∙◌, ◌≤◌, arith}
+use Rattle.std.proofs.Common.{◌≡◌, ℕ, ◌<◌, ◌==◌, Bool, true, false, cond, nat_lt, List, [], ◌∷◌, map, length, get_or, set, Option, Some, None, inl, inr, refl, sym, ap, subst, ◌∙◌, ◌≤◌, arith}
 use Rattle.std.proofs.Common.{eq-eqb}
 use Rattle.std.proofs.lemmas.Bool.{eqb-true, true≢false}
 use Rattle.mcast_txn.specs.Lists.{In}
 use Rattle.mcast_txn.specs.declared.id.TxnId.{TxnId}
-use Rattle.mcast_txn.specs.Ballot.{Decision}
-use Rattle.sub_queue.specs.Shown.{Room, has_room}
-use Rattle.mcast_group.specs.Counted.{takes_in, takes_of, takes_with}
+use Rattle.sub_queue.specs.Shown.{Room}
+use Rattle.mcast_group.specs.Counted.{takes_in, takes_of}
 use Rattle.mcast_group.specs.Group.{GroupState, room_at}
 use Rattle.mcast_group.specs.Machine.{TopicState, Entry, Pending, new_topic, after_release, after_release_if, due_part, item_of, entry_after}
 use Rattle.mcast_group.specs.Group.{group_after_release}
@@ -22,8 +21,8 @@ use Rattle.delivery.specs.declared.event.Event.{Event}
 use Rattle.delivery.specs.declared.outcome.Outcome.{Outcome}
 use Rattle.delivery.specs.declared.refusal.Refusal.{Refusal}
 use Rattle.delivery.specs.Machine.Objections.{Objection}
-use Rattle.delivery.specs.Machine.World.{World, subscription_at, topic_at, with_topic}
-use Rattle.delivery.specs.Machine.Moves.{Move, Answer, move_refusal, move_effect, queue_has_room, release_answer}
+use Rattle.delivery.specs.Machine.World.{World, topic_at, with_topic}
+use Rattle.delivery.specs.Machine.Moves.{Move, Answer, move_refusal, queue_has_room, release_answer}
 use Rattle.delivery.specs.Core.Steps.{Reading}
 use Rattle.delivery.specs.Core.State.{Core}
 use Rattle.delivery.specs.Inner.Stands.{Makes, step_of}

@@ -1,10 +1,10 @@
 -- Steps of one move: its world, its answer, and a refused one.
-use Rattle.std.proofs.Common.{◌≡◌, ◌≢◌, ℕ, ◌+◌, ◌<◌, ◌≤◌, Bool, true, false, not, nat_lt, List, [], ◌∷◌, ◌++◌, length, get_or, set, Option, Some, None, refl, sym, ap, ◌∙◌, arith}
+use Rattle.std.proofs.Common.{◌≡◌, ℕ, ◌+◌, ◌<◌, ◌≤◌, Bool, true, false, not, nat_lt, List, [], ◌∷◌, length, get_or, set, Option, Some, None, refl, sym, ap, ◌∙◌, arith}
 use Rattle.std.proofs.Common.{◌⊎◌, inl, inr}
 use Rattle.std.specs.Prelude.{slice_get}
 use Rattle.std.proofs.lemmas.Bool.{ltb-true, ltb-false}
 use Rattle.std.proofs.lemmas.Option.{slice_get-get_or, slice_get_past}
-use Rattle.std.specs.Option.{option_or, option_map, option_to_list}
+use Rattle.std.specs.Option.{option_map, option_to_list}
 use Rattle.std.proofs.lemmas.List.{get_or-set_same, get_or-set_other}
 use Rattle.mcast_txn.specs.Lists.{In}
 use Rattle.mcast_txn.specs.Checks.{first_refusal}
@@ -14,18 +14,18 @@ use Rattle.delivery.specs.declared.event.Event.{Event}
 use Rattle.delivery.specs.declared.outcome.Outcome.{Outcome}
 use Rattle.delivery.specs.declared.refusal.Refusal.{Refusal}
 use Rattle.delivery.specs.Machine.Objections.{Objection, refusal_of}
-use Rattle.delivery.specs.Machine.World.{World, Undecided, Connection, SenderState, Subscription, Standing, nobody, new_sender, connection_at, sender_at, speaker, with_standing, is_reading, is_gone}
-use Rattle.delivery.specs.Machine.Moves.{Move, Answer, move_refusal, move_effect, move_answer, answer_to, world_after, topic_objection, needs_open, with_leaving}
+use Rattle.delivery.specs.Machine.World.{World, Undecided, Connection, Standing, nobody, new_sender, connection_at, sender_at, speaker, is_reading, is_gone}
+use Rattle.delivery.specs.Machine.Moves.{Move, Answer, move_refusal, move_effect, move_answer, answer_to, needs_open, with_leaving}
 use Rattle.delivery.specs.Machine.Runs.{run}
 use Rattle.delivery.specs.Core.Steps.{Reading, accepted_of}
 use Rattle.delivery.specs.Core.Output.{text_out}
-use Rattle.delivery.specs.Core.State.{Core, core_after, moves, unread_at}
+use Rattle.delivery.specs.Core.State.{Core, moves, unread_at}
 use Rattle.delivery.specs.Core.Outcomes.{outcomes, outcome_of, move_outcome, IsReadAt}
 use Rattle.delivery.specs.Core.Reports.{each_number}
 use Rattle.delivery.specs.Inner.Stands.{Makes, step_of, stage_objection, line_objection}
-use Rattle.delivery.specs.Inner.View.{View, LineView, view_of, view_after, stage_view, line_view, live_numbers, leaving_line, parting_receipt}
-use Rattle.delivery.proofs.Views.ListLemmas.{each_number-set, get_or-each_number, length-each_number, each_number-same}
-use Rattle.delivery.proofs.Views.QuietSteps.{IsQuiet, quiet_view, refused_is_quiet}
+use Rattle.delivery.specs.Inner.View.{LineView, view_of, view_after, stage_view, line_view, live_numbers, leaving_line, parting_receipt}
+use Rattle.delivery.proofs.Views.ListLemmas.{each_number-set, get_or-each_number, length-each_number}
+use Rattle.delivery.proofs.Views.QuietSteps.{quiet_view, refused_is_quiet}
 
 -- ---- one move
 

@@ -1,7 +1,7 @@
 -- The tickets of an undecided transaction rise by topic and are of named topics: so they are those of its topics, in
 -- their order.
-use Rattle.std.proofs.Common.{◌≡◌, ◌≢◌, ℕ, ◌+◌, ◌<◌, ◌==◌, Bool, true, false, cond, nat_lt, ◌||◌, ◌⊎◌, inl, inr, List, [], ◌∷◌, ◌++◌, map, set, Option, Some, None, refl, sym, ap, subst, ◌∙◌, arith}
-use Rattle.std.proofs.lemmas.Bool.{eqb-true, eq-eqb, ltb-true, ltb-false, false≢true}
+use Rattle.std.proofs.Common.{◌≡◌, ◌≢◌, ℕ, ◌+◌, ◌<◌, ◌==◌, Bool, true, false, cond, nat_lt, ◌||◌, inl, inr, List, [], ◌∷◌, ◌++◌, map, set, Option, Some, None, refl, sym, ap, subst, ◌∙◌, arith}
+use Rattle.std.proofs.lemmas.Bool.{eq-eqb, ltb-true, ltb-false, false≢true}
 use Rattle.std.specs.Prelude.{slice_get}
 use Rattle.std.specs.List.{AllByRecursion, find}
 use Rattle.std.specs.Option.{option_map, option_to_list}
@@ -9,7 +9,6 @@ use Rattle.mcast_txn.specs.declared.id.Topic.{Topic}
 use Rattle.mcast_txn.specs.declared.id.TxnId.{TxnId}
 use Rattle.mcast_txn.specs.declared.draft.sent_message.SentMessage.{SentMessage}
 use Rattle.mcast_txn.specs.declared.stamp.Stamp.{Stamp}
-use Rattle.mcast_txn.specs.Agreed.{Transaction}
 use Rattle.mcast_txn.specs.Ballot.{Decision, row_at, slots_of_rows, ticket_rows}
 use Rattle.mcast_txn.specs.Lists.{In, RisesBy}
 use Rattle.mcast_txn.specs.Slots.{Slots}
@@ -21,17 +20,17 @@ use Rattle.mcast_txn.proofs.TopicLemmas.{topics_rise}
 use Rattle.mcast_group.specs.declared.fault.ProposeFault.{ProposeFault}
 use Rattle.mcast_group.specs.Machine.{Entry}
 use Rattle.mcast_group.proofs.Parts.{some_same, none_some}
-use Rattle.delivery.specs.Machine.World.{World, Undecided, Leftover, SenderState, new_sender, topic_at, connection_at, subscription_at, sender_at, speaker, entry_at, start}
+use Rattle.delivery.specs.Machine.World.{World, Undecided, Leftover, SenderState, new_sender, connection_at, subscription_at, sender_at, speaker, entry_at}
 use Rattle.delivery.specs.Machine.Observed.{accepted_at}
-use Rattle.delivery.specs.Machine.Moves.{Move, world_after, answer_to, move_refusal, move_effect, undecided_at, find_leftover, find_verdict, oldest_live, has_ticket, insert_ticket, next_ticket, next_txn, commit_effect, proposal_fault, propose_effect, cancel_effect, learn_effect, take_effect, leave_effect, close_effect_of}
+use Rattle.delivery.specs.Machine.Moves.{Move, move_refusal, move_effect, undecided_at, find_leftover, find_verdict, oldest_live, insert_ticket, next_ticket, next_txn, commit_effect, proposal_fault, propose_effect, cancel_effect, learn_effect, take_effect, leave_effect, close_effect_of}
 use Rattle.delivery.specs.Machine.Moves.Move.{AddsTopic, Opens, Commits, Subscribes, Unsubscribes, Disconnects, Errs, Lost, Leaves, Proposes, Decides, Withdraws, Cancels, Learns, Releases, Turns, Takes}
-use Rattle.delivery.specs.Theorem.Laws.{Run, answers_of, final_world}
+use Rattle.delivery.specs.Theorem.Laws.{Run, final_world}
 use Rattle.delivery.specs.Core.State.{Core}
 use Rattle.delivery.specs.Inner.Stands.{IsReached}
 use Rattle.delivery.proofs.Machine.Invariant.{sender_in}
 use Rattle.delivery.proofs.Machine.ProposeStep.{In-ticket_cases, not_given}
 use Rattle.delivery.proofs.Machine.SubscriptionSteps.{at_push_two}
-use Rattle.delivery.proofs.Machine.InvariantIsKept.{Asks, asks_of, by_refusal, checked, in_flight}
+use Rattle.delivery.proofs.Machine.InvariantIsKept.{Asks, asks_of, by_refusal}
 use Rattle.delivery.proofs.Core.ByRun.{by_run}
 use Rattle.delivery.proofs.Views.OfRuns.{by_world}
 use Rattle.delivery.proofs.Views.Standings.{same_or, differ}
@@ -47,13 +46,15 @@ insert_rises : (a b : Stamp) (bs : List Stamp) (c : Bool) → nat_lt a.topic.0 b
     → Rising (cond c (a ∷ b ∷ bs) (b ∷ insert_ticket a bs))
 insert_rises a b bs true e ne h g =
     let l = ltb-true a.topic.0 b.topic.0 e in
-    ((λ d i. elim i [ | inl q ↦ subst (λ (z : Stamp). a.topic.0 < z.topic.0) q l | inr j ↦ (let m = h.0 d j in omega arith) ]), h)
+    ((λ d i. elim i [ inl q ↦ subst (λ (z : Stamp). a.topic.0 < z.topic.0) q l | inr j ↦ (let m = h.0 d j in omega arith) ]), h)
 insert_rises a b bs false e ne h g =
-    let l = ltb-false a.topic.0 b.topic.0 e in
-    ((λ d i. elim (In-ticket_cases d a bs i) [
-      | inl q ↦ subst (λ (z : Stamp). b.topic.0 < z.topic.0) q (omega arith)
-      | inr j ↦ h.0 d j
-    ]), g)
+    let l = ltb-false a.topic.0 b.topic.0 e in (
+      (λ d i. elim (In-ticket_cases d a bs i) [
+        | inl q ↦ subst (λ (z : Stamp). b.topic.0 < z.topic.0) q (omega arith)
+        | inr j ↦ h.0 d j
+      ]),
+      g,
+    )
 
 rises_insert : (a : Stamp) (bs : List Stamp) → ((g : Stamp) → In g bs → a.topic.0 ≢ g.topic.0) → Rising bs → Rising (insert_ticket a bs)
 rises_insert a [] ne h = ((λ b i. absurd i), tt)

@@ -1,35 +1,34 @@
 -- Nothing came of a connection that isn't there yet.
-use Rattle.std.proofs.Common.{◌≡◌, ◌≢◌, ℕ, zero, suc, ◌+◌, ◌<◌, ◌≤◌, ◌==◌, Bool, true, false, cond, not, ◌||◌, ◌&&◌, ◌⊎◌, inl, inr, List, [], ◌∷◌, ◌++◌, length, get_or, Option, Some, None, refl, sym, ap, subst, ◌∙◌, true≢false, arith, ltb}
-use Rattle.std.proofs.lemmas.Bool.{eqb-true, eq-eqb, ltb-true, false≢true}
+use Rattle.std.proofs.Common.{◌≡◌, ◌≢◌, ℕ, zero, suc, ◌+◌, ◌<◌, ◌≤◌, ◌==◌, Bool, true, false, cond, not, ◌||◌, ◌&&◌, inl, inr, List, [], ◌∷◌, ◌++◌, length, get_or, Option, Some, None, refl, sym, ap, subst, ◌∙◌, true≢false, arith, ltb}
+use Rattle.std.proofs.lemmas.Bool.{eqb-true, ltb-true}
 use Rattle.std.specs.List.{flat_map}
-use Rattle.std.specs.Option.{is_some, option_or, option_to_list, option_map}
+use Rattle.std.specs.Option.{is_some}
 use Rattle.stomp_frame.specs.declared.raw_frame.RawFrame.{RawFrame}
 use Rattle.stomp_frame.specs.Reader.{Unread, unread_of, fed}
 use Rattle.stomp_frame.specs.Writing.{spelled}
-use Rattle.mcast_txn.specs.Checks.{first_refusal}
 use Rattle.mcast_txn.specs.Lists.{In}
-use Rattle.mcast_group.proofs.Parts.{some_same, none_some, not_true}
+use Rattle.mcast_group.proofs.Parts.{some_same, not_true}
 use Rattle.delivery.specs.Topics.{TopicList}
 use Rattle.delivery.specs.declared.event.Event.{Event}
 use Rattle.delivery.specs.declared.outcome.Outcome.{Outcome}
 use Rattle.delivery.specs.declared.refusal.Refusal.{Refusal}
 use Rattle.delivery.specs.Machine.Objections.{Objection, refusal_of}
-use Rattle.delivery.specs.Machine.World.{World, Subscription, no_subscription, connection_at, subscription_at}
-use Rattle.delivery.specs.Machine.Moves.{Move, Answer, world_after, answer_to, move_refusal, move_effect, needs_connection, needs_open, needs_idle, oldest_live, leave_answer, is_live}
+use Rattle.delivery.specs.Machine.World.{World, Subscription, no_subscription, subscription_at}
+use Rattle.delivery.specs.Machine.Moves.{Move, Answer, world_after, answer_to, move_refusal, move_effect, oldest_live, leave_answer}
 use Rattle.delivery.specs.Machine.Moves.Move.{Decides, Withdraws, Leaves, Takes}
 use Rattle.delivery.specs.Theorem.Laws.{Run, answers_of, final_world}
 use Rattle.delivery.specs.Core.Account.{Beginning, no_beginning, account_of, beginning_of}
 use Rattle.delivery.specs.Core.Output.{next_replies, take_replies, replies_to, is_cut, text_out}
 use Rattle.delivery.specs.Core.State.{Core, IsReadBy, core_of, moves, unread_at, unread_after, left_by}
 use Rattle.delivery.specs.Core.Steps.{CoreStep, Reading, frame_in, is_fed, accepted_of, reader_limits}
-use Rattle.delivery.specs.Core.Outcomes.{outcomes, unless, outcome_of, move_outcome, reading_outcomes, cut_of, IsReadAt, MayStep, IsCoreRun}
+use Rattle.delivery.specs.Core.Outcomes.{outcomes, unless, outcome_of, move_outcome, reading_outcomes, cut_of, IsReadAt, IsCoreRun}
 use Rattle.delivery.specs.Inner.Stands.{IsReached}
 use Rattle.delivery.specs.Inner.View.{live_numbers}
 use Rattle.delivery.proofs.Machine.SubscriptionSteps.{at_push_two, push_length}
 use Rattle.delivery.proofs.Machine.InvariantIsKept.{by_refusal, checked, false_not}
 use Rattle.delivery.proofs.Core.ByRun.{by_run}
 use Rattle.delivery.proofs.Core.Speaking.{open_in}
-use Rattle.delivery.proofs.Core.Started.{begin_of, begins_in, begins_more, begins_count, begins_at}
+use Rattle.delivery.proofs.Core.Started.{begins_in, begins_more, begins_count, begins_at}
 use Rattle.delivery.proofs.Core.AccountOfRun.{IsRefusal, run_of, core_is, world_is, account_is, connection_is, in_option, refusal_some, by_answer, replied, either_cut}
 use Rattle.delivery.proofs.Views.OfRuns.{by_world}
 use Rattle.delivery.proofs.Views.QuietSteps.{if_same}
@@ -69,7 +68,7 @@ piece_refused k c octets rd o l i =
 
 -- it reads so where this stands against it
 abbrev ReadsSo : Unread → Reading → Option Objection → Type 0
-ReadsSo u rd why = elim why [ | None ↦ IsReadBy u rd | Some o ↦ rd ≡ Reading.Nothing ]
+ReadsSo u rd why = elim why [ None ↦ IsReadBy u rd | Some o ↦ rd ≡ Reading.Nothing ]
 
 next_unread : (k : Core) (c : ℕ) (rd : Reading) → length k.world.connections ≤ c → IsReadAt k (Event.Next c) rd → rd ≡ Reading.Nothing
 next_unread k c rd l h =

@@ -1,10 +1,9 @@
 -- The verdict of a transaction by its sender and seq is the one that a search finds.
-use Rattle.std.proofs.Common.{◌≡◌, ◌≢◌, ℕ, zero, suc, ◌+◌, ◌-◌, ◌<◌, ◌≤◌, ◌==◌, Bool, true, false, cond, ◌⊎◌, inl, inr, List, [], ◌∷◌, ◌++◌, map, length, get_or, Option, Some, None, refl, sym, ap, subst, ◌∙◌, arith}
+use Rattle.std.proofs.Common.{◌≡◌, ◌≢◌, ℕ, zero, suc, ◌+◌, ◌-◌, ◌<◌, ◌≤◌, ◌==◌, Bool, true, false, cond, inl, inr, List, [], ◌∷◌, length, Option, Some, None, refl, sym, ap, subst, ◌∙◌, arith}
 use Rattle.std.proofs.lemmas.Bool.{eqb-true, eq-eqb, false≢true}
 use Rattle.std.proofs.lemmas.Option.{slice_get-get_or, slice_get_past}
 use Rattle.std.proofs.lemmas.List.FromFn.{length-map-range_with_len, get_or-map-range_with_len}
 use Rattle.std.specs.Prelude.{slice_get}
-use Rattle.std.specs.List.{range_with_len}
 use Rattle.std.specs.Option.{option_and_then}
 use Rattle.mcast_txn.specs.declared.id.Topic.{Topic}
 use Rattle.mcast_txn.specs.declared.id.TxnId.{TxnId}
@@ -18,11 +17,10 @@ use Rattle.mcast_txn.specs.Transaction.{topics_of}
 use Rattle.mcast_txn.specs.TopicSet.{names}
 use Rattle.mcast_txn.proofs.Orders.{id_equal}
 use Rattle.mcast_group.specs.declared.fault.ProposeFault.{ProposeFault}
-use Rattle.mcast_group.specs.Machine.{Pending, Entry, due_part}
-use Rattle.mcast_group.proofs.Parts.{none_some, not_true}
-use Rattle.delivery.specs.Machine.World.{World, Undecided, Leftover, SenderState, new_sender, topic_at, connection_at, subscription_at, sender_at, speaker, entry_at, start}
+use Rattle.mcast_group.specs.Machine.{Entry}
+use Rattle.delivery.specs.Machine.World.{World, Undecided, Leftover, SenderState, new_sender, connection_at, subscription_at, sender_at, speaker, entry_at}
 use Rattle.delivery.specs.Machine.Observed.{accepted_at}
-use Rattle.delivery.specs.Machine.Moves.{Move, Answer, world_after, answer_to, move_refusal, move_effect, undecided_at, find_leftover, find_verdict, oldest_live, commit_effect, proposal_fault, propose_effect, cancel_effect, learn_effect, take_effect, leave_effect, close_effect_of}
+use Rattle.delivery.specs.Machine.Moves.{Move, Answer, move_refusal, move_effect, undecided_at, find_leftover, find_verdict, oldest_live, commit_effect, proposal_fault, propose_effect, cancel_effect, learn_effect, take_effect, leave_effect, close_effect_of}
 use Rattle.delivery.specs.Machine.Moves.Move.{AddsTopic, Opens, Commits, Subscribes, Unsubscribes, Disconnects, Errs, Lost, Leaves, Proposes, Decides, Withdraws, Cancels, Learns, Releases, Turns, Takes}
 use Rattle.delivery.specs.Machine.Runs.{Numbered, txn_of_id, txn_count}
 use Rattle.delivery.specs.Theorem.Laws.{Run, answers_of, final_world}
@@ -128,9 +126,9 @@ happens r (Decides c) h n =
     λ v i. elim (In-append_cases v w.verdicts (record { id = (undecided_at w c).txn.id; rows = (undecided_at w c).given } ∷ []) i) [
       | inl j ↦ h v j
       | inr j ↦ elim j [
-          | inl e ↦ subst (λ (z : Decision). z.id.seq ≢ 0) e (flight_seq r (connection_at w c).sender (undecided_at w c) (fl.is ∙ ap Some (sym fl.at)))
-          | inr k ↦ absurd k
-        ]
+        | inl e ↦ subst (λ (z : Decision). z.id.seq ≢ 0) e (flight_seq r (connection_at w c).sender (undecided_at w c) (fl.is ∙ ap Some (sym fl.at)))
+        | inr k ↦ absurd k
+      ]
     ]
 happens r (Withdraws c) h n = h
 happens r (Cancels c t) h n = let w = final_world r in same_verdicts w (move_effect w (Cancels c t)) (cancelled w c t (find_leftover t (speaker w c).leftovers)) h
@@ -158,7 +156,7 @@ found_stands r id u e =
     let inv = (reached r).inv in let v = inv.voted u f.0 in
     let same : v.row.txn.id ≡ id = v.id_is ∙ f.1 in
     let used : v.row.txn.id.seq ≤ (sender_in w.senders v.row.txn.id.sender.0).seq =
-        (inv.serves v.row.txn.id.sender.0).used v.row (inv.consistent.from_ticket v.row v.stands) refl in
+    (inv.serves v.row.txn.id.sender.0).used v.row (inv.consistent.from_ticket v.row v.stands) refl in
     let last : id.seq ≤ (sender_in w.senders id.sender.0).seq = subst (λ (z : TxnId). z.seq ≤ (sender_in w.senders z.sender.0).seq) same used in
     let first : id.seq ≢ 0 = subst (λ (z : TxnId). z.seq ≢ 0) f.1 (of_transactions r u f.0) in
     record {

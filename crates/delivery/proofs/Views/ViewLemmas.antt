@@ -1,10 +1,6 @@
 -- Views of cores.
-use Rattle.std.proofs.Common.{◌≡◌, ℕ, List}
-use Rattle.std.specs.Prelude.{Option}
-use Rattle.mcast_txn.specs.Ballot.{Decision}
-use Rattle.mcast_txn.specs.Span.{LogRow}
-use Rattle.mcast_group.specs.Group.{GroupState}
-use Rattle.delivery.specs.Inner.View.{View, SenderView, LineView, SubView}
+use Rattle.std.proofs.Common.{◌≡◌}
+use Rattle.delivery.specs.Inner.View.{View}
 
 -- views with the same fields
 pub same_view : (u v : View) → u.names ≡ v.names → u.capacity ≡ v.capacity → u.groups ≡ v.groups

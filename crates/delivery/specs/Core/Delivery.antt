@@ -1,7 +1,6 @@
 -- What the core is to deliver: the statement over the kept run and the report alone, and that each run of the
 -- core's definitions meets it. It mentions no clock, no floor and no pending part.
 use Rattle.std.specs.Prelude.{◌≡◌, ℕ, ◌+◌, ◌<◌, true, List, [], ◌∷◌, ◌++◌, map, length, reverse, Option, Some, None}
-use Rattle.std.specs.List.{list_all}
 use Rattle.std.specs.Option.{is_some}
 use Rattle.mcast_txn.specs.declared.id.Topic.{Topic}
 use Rattle.mcast_txn.specs.declared.stamp.Stamp.{Stamp}
@@ -21,7 +20,7 @@ use Rattle.delivery.specs.Machine.Runs.{commits_of, delivered_items}
 use Rattle.delivery.specs.Theorem.Due.{log_row, due}
 use Rattle.delivery.specs.Theorem.Laws.{shared_marks}
 use Rattle.delivery.specs.Theorem.Settled.{IsSettled, SilentAfterClose}
-use Rattle.delivery.specs.Core.Steps.{CoreStep, kept_of, shows_reading, AreReadings}
+use Rattle.delivery.specs.Core.Steps.{CoreStep, kept_of, AreReadings}
 use Rattle.delivery.specs.Core.Account.{released_log, released_frontier, beginning_of, account_of}
 use Rattle.delivery.specs.Core.Output.{text_out}
 use Rattle.delivery.specs.Core.State.{core_of}
@@ -114,15 +113,15 @@ pub record Delivery (topics : TopicList) (kept : List Kept) (r : Report) : Type 
 
 -- ---- of every run
 
--- What each run of the core reports is what its account delivers, over all topics, opening clocks, capacities
--- and lists of steps that the core may make, refused ones and those without memory among them.
+-- the kept run of these steps, the oldest event first
+abbrev pub kept_run : List CoreStep → List Kept
+kept_run steps = reverse (map kept_of steps)
+
+-- What each run of the core reports is the delivery of its kept run, over all topics with their opening clocks,
+-- all capacities and all lists of steps that the core may make, refused ones and those without memory among
+-- them.
 abbrev pub RunsDeliver : Type 0
 RunsDeliver =
-    (topics : TopicList) (capacity : ℕ) (steps : List CoreStep) → IsCoreRun topics capacity steps
-    → Delivers (account_of topics.names steps) (report_of (core_of topics capacity steps))
-
--- each step of a run shows whether it read a frame
-abbrev pub ReadingsAreShown : Type 0
-ReadingsAreShown =
-    (topics : TopicList) (capacity : ℕ) (steps : List CoreStep) → IsCoreRun topics capacity steps
-    → list_all shows_reading steps ≡ true
+    (topics : TopicList) (capacity : ℕ) (steps : List CoreStep) → length topics.clocks ≡ length topics.names
+    → IsCoreRun topics capacity steps
+    → Delivery topics (kept_run steps) (report_of (core_of topics capacity steps))

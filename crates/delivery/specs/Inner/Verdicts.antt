@@ -1,5 +1,5 @@
 -- Only serves proofs: verdicts by sender and seq.
-use Rattle.std.specs.Prelude.{ℕ, zero, ◌-◌, ◌==◌, List, slice_get, Option, None, if◌then◌else◌}
+use Rattle.std.specs.Prelude.{◌-◌, ◌==◌, List, slice_get, Option, None, if◌then◌else◌}
 use Rattle.std.specs.Option.{option_and_then}
 use Rattle.mcast_txn.specs.declared.id.TxnId.{TxnId}
 use Rattle.mcast_txn.specs.Ballot.{Decision}

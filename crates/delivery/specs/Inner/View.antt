@@ -13,10 +13,9 @@ use Rattle.mcast_txn.specs.declared.id.TxnId.{TxnId}
 use Rattle.mcast_txn.specs.declared.stamp.Stamp.{Stamp}
 use Rattle.mcast_txn.specs.Ballot.{Decision, row_at}
 use Rattle.mcast_txn.specs.Part.{part_at}
-use Rattle.mcast_txn.specs.Slots.{Slots}
 use Rattle.mcast_txn.specs.Span.{LogRow, Item}
 use Rattle.mcast_txn.specs.Stamp.{zero_stamp}
-use Rattle.mcast_txn.specs.Transaction.{TopicPart, topics_of}
+use Rattle.mcast_txn.specs.Transaction.{topics_of}
 use Rattle.sub_queue.specs.Shown.{Room}
 use Rattle.sub_queue.specs.VecQueue.{VecQueue}
 use Rattle.sender_gate.specs.Gate.{GateState, FlightState}
@@ -30,7 +29,7 @@ use Rattle.stomp_session.specs.Frames.{is_disconnect}
 use Rattle.delivery.specs.declared.sending.Sending.{Sending}
 use Rattle.delivery.specs.declared.stage.Stage.{Stage}
 use Rattle.delivery.specs.Theorem.Due.{log_row}
-use Rattle.delivery.specs.Machine.World.{World, Undecided, SenderState, Leftover, Subscription, Standing, new_sender, connection_at, sender_at, speaker, subscription_at}
+use Rattle.delivery.specs.Machine.World.{World, Undecided, SenderState, Subscription, Standing, new_sender, connection_at, sender_at, speaker, subscription_at}
 use Rattle.delivery.specs.Machine.Moves.{has_ticket, find_verdict, is_live}
 use Rattle.delivery.specs.Core.Steps.{CoreStep, accepted_of, reader_limits}
 use Rattle.delivery.specs.Core.Output.{receipt_asked, commit_frame, sub_id_text, text_out}

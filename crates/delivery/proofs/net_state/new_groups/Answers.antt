@@ -1,6 +1,5 @@
-use Rattle.std.proofs.Common.{◌≡◌, ◌<◌, ◌++◌, ◌∷◌, [], ℕ, List, length, map, take, get_or, sym, ap, ◌∙◌, arith}
+use Rattle.std.proofs.Common.{◌<◌, ◌++◌, ◌∷◌, [], List, length, map, take, sym, ap, ◌∙◌, arith}
 use Rattle.mcast_group.specs.Group.{GroupState}
-use Rattle.mcast_group.specs.Machine.{new_topic}
 use Rattle.delivery.specs.Machine.World.{new_topics}
 use Rattle.delivery.specs.Core.State.{log_limit}
 use Rattle.delivery.specs.Inner.View.{new_group}

@@ -1,9 +1,9 @@
-use Rattle.std.proofs.Common.{◌≡◌, ℕ, List, get_or, set, Option, None, refl, sym, ap, subst, ◌∙◌}
+use Rattle.std.proofs.Common.{get_or, set, None, sym, ap, subst, ◌∙◌}
 use Rattle.std.specs.Prelude.{slice_get}
 use Rattle.delivery.specs.declared.event.Event.{Event}
 use Rattle.delivery.specs.declared.outcome.Outcome.{Outcome}
 use Rattle.delivery.specs.Inner.Stands.{Makes, line_objection}
-use Rattle.delivery.specs.Inner.View.{View, view_of, leaving_line, no_line}
+use Rattle.delivery.specs.Inner.View.{View, leaving_line, no_line}
 use Rattle.delivery.proofs.Views.Partings.{not_parting}
 use Rattle.delivery.proofs.Views.LostStep.{lost_makes, lost_refused}
 use Rattle.delivery.proofs.net_state.NetState.lost.Goals as goal

@@ -1,4 +1,4 @@
-use Rattle.std.proofs.Common.{◌≡◌, ℕ, List, map, refl, ◌∙◌}
+use Rattle.std.proofs.Common.{refl, ◌∙◌}
 use Rattle.delivery.specs.Core.State.{new_core, log_limit}
 use Rattle.delivery.specs.Inner.View.{view_of}
 use Rattle.delivery.proofs.Views.ListLemmas.{new_groups_view}

@@ -1,9 +1,9 @@
-use Rattle.std.proofs.Common.{◌≡◌, ℕ, List, get_or, set, Option, None, refl, sym, ap, subst, ◌∙◌}
+use Rattle.std.proofs.Common.{get_or, set, sym, ap, subst, ◌∙◌}
 use Rattle.std.specs.Prelude.{slice_get}
 use Rattle.delivery.specs.declared.event.Event.{Event}
 use Rattle.delivery.specs.declared.outcome.Outcome.{Outcome}
 use Rattle.delivery.specs.Inner.Stands.{Makes, line_objection}
-use Rattle.delivery.specs.Inner.View.{View, view_of, fed_line, no_line}
+use Rattle.delivery.specs.Inner.View.{View, fed_line, no_line}
 use Rattle.delivery.proofs.Views.PieceStep.{piece_makes, piece_without, piece_refused}
 use Rattle.delivery.proofs.net_state.NetState.piece.Goals as goal
 

@@ -1,13 +1,10 @@
-use Rattle.std.proofs.Common.{◌≡◌, ℕ, ◌<◌, ◌≤◌, List, map, length, get_or, set, Option, Some, None, refl, sym, ap, subst, ◌∙◌, arith}
+use Rattle.std.proofs.Common.{◌≡◌, ◌<◌, ◌≤◌, length, sym, ap, subst, ◌∙◌, arith}
 use Rattle.std.proofs.lemmas.List.{length-map}
-use Rattle.mcast_group.specs.Counted.{takes_of}
-use Rattle.mcast_group.specs.Group.{GroupState, group_after_release}
-use Rattle.mcast_group.specs.Machine.{due_part}
 use Rattle.delivery.specs.declared.event.Event.{Event}
 use Rattle.delivery.specs.declared.outcome.Outcome.{Outcome}
 use Rattle.delivery.specs.declared.refusal.Refusal.{Refusal}
 use Rattle.delivery.specs.Inner.Stands.{Makes}
-use Rattle.delivery.specs.Inner.View.{View, view_of, group_view}
+use Rattle.delivery.specs.Inner.View.{View, group_view}
 use Rattle.delivery.proofs.Views.ReleaseStep.{no_group, release_some, release_none, release_unnamed, released_at, due_id_at}
 use Rattle.delivery.proofs.net_state.NetState.release.Goals as goal
 

@@ -1,0 +1,35 @@
+-- The delivery of every run of the core.
+use Rattle.std.proofs.Common.{◌≡◌, ℕ, ◌<◌, List, [], length, refl, sym, ap, subst, ◌∙◌, arith}
+use Rattle.mcast_group.proofs.Parts.{map_length}
+use Rattle.mcast_group.specs.Machine.{TopicState}
+use Rattle.delivery.specs.Topics.{TopicList}
+use Rattle.delivery.specs.Core.Steps.{CoreStep}
+use Rattle.delivery.specs.Core.Output.{text_out}
+use Rattle.delivery.specs.Core.State.{Core, core_of}
+use Rattle.delivery.specs.Core.Reports.{report_of, out_in}
+use Rattle.delivery.specs.Core.Delivery.{RunsDeliver}
+use Rattle.delivery.proofs.Core.AccountOfRun.{run_of, core_at, core_is}
+use Rattle.delivery.proofs.Core.DeliversOfRun.{each_at, each_length, delivers}
+use Rattle.delivery.proofs.Core.Counts.{counted}
+use Rattle.delivery.proofs.Core.FramesRead.{are_readings}
+
+-- the octets out of each connection are those that the steps say
+written : (topics : TopicList) (capacity : ℕ) (steps : List CoreStep) (c : ℕ) → c < length (report_of (core_of topics capacity steps)).outs
+    → out_in (report_of (core_of topics capacity steps)) c ≡ text_out topics.names c steps
+written topics capacity steps =
+    subst (λ (k : Core). (c : ℕ) → c < length (report_of k).outs → out_in (report_of k) c ≡ text_out topics.names c steps) (sym (core_is topics capacity steps))
+    (λ c l. (let w = (core_at topics.names (run_of topics capacity steps) steps).world in
+    let m = each_length (λ n. text_out topics.names n steps) 0 w.connections in
+    each_at (λ n. text_out topics.names n steps) 0 w.connections c [] (omega arith) ∙ ap (λ n. text_out topics.names n steps) (omega arith)))
+
+-- every run of the core is delivered
+pub delivery : RunsDeliver
+delivery topics capacity steps same run =
+    let k = core_of topics capacity steps in let n = counted topics capacity steps run in record {
+      steps = steps;
+      are_kept = refl;
+      are_read = are_readings topics capacity steps run;
+      delivers = delivers topics capacity steps run;
+      output = written topics capacity steps;
+      counts = (map_length (λ (x : TopicState). x.held) k.world.topics ∙ (n.0 ∙ same), each_length (λ c. text_out k.names c k.steps) 0 k.world.connections ∙ n.1);
+    }
