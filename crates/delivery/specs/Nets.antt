@@ -3,8 +3,8 @@ use Rattle.std.specs.Prelude.{ℕ, List}
 use Rattle.delivery.specs.declared.kept.Kept.{Kept}
 use Rattle.delivery.specs.Topics.{TopicList}
 
--- the topics that it began with, the capacity of its queues, its kept run, the oldest event first, and how many
--- more events it has room to keep
+-- the topics that it began with, the capacity of its queues, its kept run, the oldest event first, and how
+-- many more events it has room to keep
 pub record KeptRun : Type 0 where
   pub topics : TopicList
   pub capacity : ℕ

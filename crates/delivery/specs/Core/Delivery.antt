@@ -117,9 +117,9 @@ pub record Delivery (topics : TopicList) (kept : List Kept) (r : Report) : Type 
 abbrev pub kept_run : List CoreStep → List Kept
 kept_run steps = reverse (map kept_of steps)
 
--- What each run of the core reports is the delivery of its kept run, over all topics with their opening clocks,
--- all capacities and all lists of steps that the core may make, refused ones and those without memory among
--- them.
+-- What each run of the core reports is the delivery of its kept run, over all topics with their opening
+-- clocks, all capacities and all lists of steps that the core may make, refused ones and those without memory
+-- among them.
 abbrev pub RunsDeliver : Type 0
 RunsDeliver =
     (topics : TopicList) (capacity : ℕ) (steps : List CoreStep) → length topics.clocks ≡ length topics.names

@@ -1,6 +1,7 @@
--- Only serves proofs: what the code of the core holds, as a function of a core (its names, its machine and its
--- steps). It isn't the core itself: rows of the commit list have no SENDs, an undecided transaction has lost the
--- parts that were taken out, verdicts are found by sender and seq, and each connection has its line.
+-- Only serves proofs: what the code of the core holds, as a function of a core (its names, its machine and
+-- its steps). It isn't the core itself: rows of the commit list have no SENDs, an undecided transaction
+-- has lost the parts that were taken out, verdicts are found by sender and seq, and each connection has
+-- its line.
 use Rattle.std.specs.Prelude.{ℕ, ◌+◌, List, [], ◌∷◌, ◌++◌, map, length, Option, Some, None, if◌then◌else◌}
 use Rattle.std.specs.List.{find, range_with_len}
 use Rattle.std.specs.Option.{option_map, option_and_then}
