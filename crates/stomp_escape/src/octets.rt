@@ -13,10 +13,17 @@ const FIRST_ROOM: usize = 64;
 
 /// A list of octets; up to 24 lie in the value itself, and take no memory. In contracts it is that list, of numbers
 /// below 256.
-#[derive(Drop)]
 pub struct Octets {
     alloc: Global,
     room: Room,
+}
+
+impl Drop for Octets {
+    /// Written out, so that letting a list go is one call for the prover wherever it happens.
+    fn drop(self) {
+        let Octets { alloc: _, room } = self;
+        drop(room);
+    }
 }
 
 impl Model for Octets {

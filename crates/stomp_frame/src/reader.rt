@@ -18,7 +18,6 @@ const KEPT_ROOM: usize = 16_384;
 
 /// Reads the frames of a stream from its front. It is seen as its limits, the text that it was fed and hasn't read,
 /// and the fault that it returned.
-#[derive(Drop)]
 pub struct FrameReader {
     limits: Limits,
     text: Vec<u8>,
@@ -28,6 +27,22 @@ pub struct FrameReader {
     front: usize,
     partial: PartialFrame,
     answered: Option<Check>,
+}
+
+impl Drop for FrameReader {
+    /// Written out, so that letting a reader go is one call for the prover wherever it happens.
+    fn drop(self) {
+        let FrameReader {
+            limits: _,
+            text,
+            start: _,
+            front: _,
+            partial,
+            answered: _,
+        } = self;
+        drop(text);
+        drop(partial);
+    }
 }
 
 impl Model for FrameReader {

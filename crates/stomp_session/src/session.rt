@@ -32,13 +32,28 @@ use stomp_frame::{
 };
 
 /// The session of one connection: how far it is, and what its frames have opened. In contracts it is what it holds.
-#[derive(Drop)]
 pub struct Session {
     alloc: Global,
     names: Arc<Names>,
     phase: Phase,
     subscriptions: Opened<Topic>,
     transactions: Opened<Draft>,
+}
+
+/// Written out, so that letting a session go is one call for the prover wherever it happens.
+impl Drop for Session {
+    fn drop(self) {
+        let Session {
+            alloc: _,
+            names,
+            phase: _,
+            subscriptions,
+            transactions,
+        } = self;
+        drop(names);
+        drop(subscriptions);
+        drop(transactions);
+    }
 }
 
 impl Model for Session {

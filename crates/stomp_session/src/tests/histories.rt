@@ -97,14 +97,19 @@ impl History {
         })
     }
 
+    /// Whether the session answers this frame as the list of the frames before it says.
+    fn agrees_on(&mut self, alloc: Global, made: &Made, seen: &mut Seen) -> Result<bool, Fail> {
+        let told = session_answer(alloc, &mut self.client, made)?;
+        seen.note(&told);
+        Ok(self.past.is_answer(made, &told)?)
+    }
+
     /// Whether the session answers the next frame as the list of the frames before it says.
     fn agrees(&mut self, alloc: Global, place: u8, seen: &mut Seen) -> Result<bool, Fail> {
         let made = next_frame(&mut self.draws, &self.past, place);
-        let told = session_answer(alloc, &mut self.client, &made)?;
-        let want = self.past.answer(&made)?;
-        seen.note(&told);
+        let agrees = self.agrees_on(alloc, &made, seen)?;
         self.past.put(&made)?;
-        Ok(told == want)
+        Ok(agrees)
     }
 
     /// The place of the first frame that is answered otherwise; `FRAMES` if there is none.

@@ -203,7 +203,7 @@ impl Past {
     }
 
     /// What the frame is answered. Any but a CONNECT or a STOMP has the receipt that it asks for.
-    pub(super) fn answer(&self, frame: &Made) -> Result<PlainAnswer, NoMemory> {
+    fn answer(&self, frame: &Made) -> Result<PlainAnswer, NoMemory> {
         if let Some(number) = self.refusal(frame) {
             return Ok(PlainAnswer::Refused(number));
         }
@@ -213,6 +213,11 @@ impl Past {
             frame.receipt
         };
         Ok(PlainAnswer::Accepted(self.action(frame)?, receipt))
+    }
+
+    /// Whether the frame is answered this.
+    pub(super) fn is_answer(&self, frame: &Made, told: &PlainAnswer) -> Result<bool, NoMemory> {
+        Ok(self.answer(frame)? == *told)
     }
 
     /// Puts an accepted frame behind the others; a refused one closes all.

@@ -4,6 +4,7 @@ ghost use Rattle.stomp_frame.specs.Headers.{IsText};
 
 use super::client::{Client, has, last_number};
 use crate::{Action, SessionFault, Step};
+use mcast_txn::Topic;
 use std::alloc::Global;
 use std::test::Fail;
 use stomp_frame::{Command, NoMemory, Octets, ServerFrame, render, write_frame};
@@ -136,19 +137,27 @@ fn at_most_sixty_four(rt: HostRuntime) -> Result<(), Fail> {
     Ok(())
 }
 
+/// Whether the action is to open a subscription of this id at this topic.
+fn subscribes(action: &Action, id: &[u8], topic: Topic) -> bool {
+    match action {
+        Action::Subscribe(own, at) => own.as_slice() == id && *at == topic,
+        _ => false,
+    }
+}
+
+/// Whether the step opens a subscription of this id at this topic, and has this receipt.
+fn subscribes_with(step: &Step, id: &[u8], topic: Topic, receipt: &[u8]) -> bool {
+    subscribes(&step.action, id, topic) && has(&step.receipt, receipt)
+}
+
 #[test]
 fn a_subscription_has_its_receipt(rt: HostRuntime) -> Result<(), Fail> {
     let mut client = Client::begun(rt.alloc())?;
-    let Step { action, receipt } = client.step(
+    let step = client.step(
         Command::Subscribe,
         &[(b"id", b"s"), (b"destination", b"B"), (b"receipt", b"r")],
     )?;
-    assert!(rt; has(&receipt, b"r"));
-    let Action::Subscribe(id, topic) = action else {
-        return Err(Fail::new("no Subscribe"));
-    };
-    assert!(rt; id.as_slice() == b"s".as_slice());
-    assert_eq!(rt; topic.0, 1);
+    assert!(rt; subscribes_with(&step, b"s", Topic(1), b"r"));
     Ok(())
 }
 
