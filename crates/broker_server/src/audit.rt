@@ -4,7 +4,6 @@ ghost use Rattle.std.specs.Prelude.{◌≡◌, ◌≢◌, ◌⊎◌, ◌↔◌, 
 ghost use Rattle.std.specs.Io.KnownBytes.{Appends};
 ghost use Rattle.trace_audit.specs.Answers.{IsRefusal, says_no_memory};
 ghost use Rattle.trace_audit.specs.AuditText.{refusal_text};
-ghost use Rattle.trace_audit.specs.Explained.{IsExplainedBy, IsCompleteBy};
 ghost use Rattle.trace_audit.specs.Parsing.{lines_of, AddsLines, IsParseFault};
 ghost use Rattle.trace_audit.specs.Trace.{no_lines};
 ghost use Rattle.broker_server.specs.Audit.{IsJudged, IsYes, IsNo};
@@ -18,8 +17,8 @@ use crate::output::{end, refuse_length};
 use crate::program_fault::ProgramFault;
 use std::alloc::Global;
 use std::io::{Read, Write};
-use stomp_frame::Octets;
-use trace_audit::{Agreed, AuditFault, ParseFault, Trace, audit};
+use stomp_frame::{NoMemory, Octets};
+use trace_audit::{AuditFault, ParseFault, Trace, audit};
 
 /// Audits the trace that the reader's whole input is the text of: writes a line `agreed ..` for each transaction and
 /// then `complete` or `incomplete`, where one list of transactions explains the trace; or `no NUMBER NAME`, with the
@@ -92,9 +91,22 @@ fn answer<W: Write>(
     ensures flushed { OnOk result (IsTrue writer.new.flushed) }
     ensures heard { Heard result writer.old writer.new }
 {
-    match agreed(alloc, trace) {
-        Ok(agreed) => end(agreed.print(alloc)?.as_slice(), 0, writer),
+    match yes(alloc, trace) {
+        Ok(text) => end(text.as_slice(), 0, writer),
         Err(fault) => refuse(alloc, fault, writer),
+    }
+}
+
+/// The text of a yes to a trace, which is let go; or what the auditor says against it.
+fn yes(alloc: Global, trace: Trace) -> Result<Octets, AuditFault>
+    ensures yes { IfOk result (λ text. IsYes trace text 0) }
+    ensures refused { IfErr result
+        (λ fault. says_no_memory fault ≡ false → IsRefusal fault trace) }
+{
+    let agreed = audit(alloc, &trace)?;
+    match agreed.print(alloc) {
+        Ok(text) => Ok(text),
+        Err(NoMemory) => Err(AuditFault::NoMemory),
     }
 }
 
@@ -116,15 +128,4 @@ fn refuse<W: Write>(
         return Err(ProgramFault::NoMemory);
     }
     end(fault.print(alloc)?.as_slice(), 3, writer)
-}
-
-/// What the auditor says of a trace, which is let go.
-fn agreed(alloc: Global, trace: Trace) -> Result<Agreed, AuditFault>
-    ensures explained { IfOk result (λ agreed. IsExplainedBy agreed.rows.items trace) }
-    ensures complete { IfOk result
-        (λ agreed. IsTrue agreed.complete ↔ IsCompleteBy agreed.rows.items trace) }
-    ensures refused { IfErr result
-        (λ fault. says_no_memory fault ≡ false → IsRefusal fault trace) }
-{
-    audit(alloc, &trace)
 }

@@ -16,6 +16,10 @@ pub record LogRow : Type 0 where
 abbrev pub row_stamp : LogRow → Stamp
 row_stamp row = row.stamp
 
+-- a row's id
+abbrev pub row_id : LogRow → TxnId
+row_id row = row.id
+
 -- an item of a subscription's queue: a transaction, its stamp, and its part at that topic
 pub record Item : Type 0 where
   pub id : TxnId

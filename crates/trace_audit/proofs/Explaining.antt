@@ -6,15 +6,16 @@ use lib.Pointwise.{pointwise}
 use Rattle.mcast_txn.specs.declared.id.Topic.{Topic}
 use Rattle.mcast_txn.specs.declared.id.TxnId.{TxnId}
 use Rattle.mcast_txn.specs.declared.stamp.Stamp.{Stamp}
+use Rattle.mcast_txn.specs.Agreed.{SenderOrder}
 use Rattle.mcast_txn.specs.Ids.{same_id}
 use Rattle.mcast_txn.specs.Lists.{In, Rises}
-use Rattle.mcast_txn.specs.Span.{LogRow, row_stamp, last_stamp, up_to}
+use Rattle.mcast_txn.specs.Span.{LogRow, row_id, row_stamp, last_stamp, up_to}
 use Rattle.mcast_txn.specs.Stamp.{same_stamp, stamp_lt, zero_stamp}
 use Rattle.mcast_txn.specs.TopicSet.{names}
 use Rattle.mcast_txn.proofs.Members.{In-append_left, In-map, In-map_cases, In-filter, In-filter_cases, any_found, any_from, all_at}
 use Rattle.mcast_txn.proofs.Orders.{lt_irrefl, lt_asym, le_trans, same_topics, equal_stamps, id_equal}
 use Rattle.mcast_txn.proofs.Sorting.{Rises-filter, same_rising}
-use Rattle.trace_audit.specs.Explained.{SeqsRise, rows_at, IsExplainedBy}
+use Rattle.trace_audit.specs.Explained.{rows_at, IsExplainedBy}
 use Rattle.trace_audit.specs.Faults.{differ, collide, overtake, some_two, falls, out_of_order, log_has_row, reaches, is_hole, holes, same_mark, is_astray, astray, lesser, least, audit_fault}
 use Rattle.trace_audit.specs.Line.{LogLine}
 use Rattle.trace_audit.specs.Inner.Sorting.{IsSortingOf}
@@ -136,7 +137,7 @@ all_in rows logs h k sorting q i =
     let e : f.it ≡ q = one_stamp logs f.it q h k (sorting.of_all f.it f.stands) i f.passes in
     subst (λ (z : LogRow). In z rows) e f.stands
 
-seqs : (rows : List LogRow) (logs : List LogLine) → some_two overtake logs ≡ false → ((q : LogRow) → In q rows → In q (rows_of logs)) → Rises row_stamp rows → SeqsRise rows
+seqs : (rows : List LogRow) (logs : List LogLine) → some_two overtake logs ≡ false → ((q : LogRow) → In q rows → In q (rows_of logs)) → Rises row_stamp rows → SenderOrder row_id rows
 seqs [] logs h from up = tt
 seqs (x ∷ xs) logs h from up = (
   (λ y k e.

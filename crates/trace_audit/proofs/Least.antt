@@ -34,13 +34,9 @@ least_append [] ys = refl
 least_append (x ∷ xs) ys =
     ap (lesser (Some x)) (least_append xs ys) ∙ sym (lesser_assoc (Some x) (least xs) (least ys))
 
--- one more that passes, and one that doesn't
+-- one more that passes
 pub one_passes : {X : Type 0} (number : X → ℕ) (p : X → Bool) (best : Option ℕ) (x : X) (xs : List X) → p x ≡ true → lesser (lesser best (Some (number x))) (least (map number (filter p xs))) ≡ lesser best (least (map number (filter p (x ∷ xs))))
 one_passes number p best x xs h = rw h (lesser_assoc best (Some (number x)) (least (map number (filter p xs))))
-
--- an item that doesn't pass changes no least
-pub one_fails : {X : Type 0} (number : X → ℕ) (p : X → Bool) (best : Option ℕ) (x : X) (xs : List X) → p x ≡ false → lesser best (least (map number (filter p xs))) ≡ lesser best (least (map number (filter p (x ∷ xs))))
-one_fails number p best x xs h = rw h refl
 
 -- the numbers of one item more
 pub one_more : {X : Type 0} (f : X → List ℕ) (best : Option ℕ) (x : X) (xs : List X) → lesser (lesser best (least (f x))) (least (flat_map f xs)) ≡ lesser best (least (flat_map f (x ∷ xs)))

@@ -1,11 +1,12 @@
 -- Rows put among others that rise.
-use Rattle.std.proofs.Common.{◌≡◌, ℕ, zero, suc, ◌+◌, ◌-◌, ◌<◌, Bool, true, false, cond, inl, inr, List, [], ◌∷◌, ◌++◌, length, get_or, take, Bor, Some, refl, sym, ap, subst, ◌∙◌, arith}
+use Rattle.std.proofs.Common.{◌≡◌, ℕ, zero, suc, ◌+◌, ◌-◌, ◌<◌, Bool, true, false, cond, inl, inr, List, [], ◌∷◌, ◌++◌, length, get_or, take, Bor, Option, Some, refl, sym, ap, subst, ◌∙◌, arith}
 use Rattle.std.specs.List.{list_any, slice_get}
+use Rattle.std.specs.Option.{option_map}
 use Rattle.std.specs.List.Sorted.{IsPermutation}
 use Rattle.std.proofs.lemmas.Bool.{true≢false}
 use Rattle.std.proofs.lemmas.Bool.Decides.{nat_tests}
-use Rattle.std.proofs.lemmas.List.{take_more, map-append}
-use Rattle.std.proofs.lemmas.Option.{slice_get_within, slice_get-get_or}
+use Rattle.std.proofs.lemmas.List.{take_more, map-append, length-map}
+use Rattle.std.proofs.lemmas.Option.{slice_get_within, slice_get-get_or, slice_get-map}
 use Rattle.std.proofs.lemmas.List.Sorted.{IsPermutation-sym, All-permutation}
 use Rattle.mcast_txn.specs.declared.stamp.Stamp.{Stamp}
 use Rattle.mcast_txn.specs.Lists.{In, Rises, insert_by}
@@ -16,7 +17,7 @@ use Rattle.mcast_txn.proofs.Orders.{lt_irrefl, lt_asym, le_trans, same_stamps}
 use Rattle.mcast_txn.proofs.Sorting.{In-insert, In-insert_cases, Rises-insert}
 use Rattle.trace_audit.specs.Line.{LogLine}
 use Rattle.trace_audit.specs.Inner.Chained.{Chained}
-use Rattle.trace_audit.specs.Inner.Orders.{shown, RisesByStamp}
+use Rattle.trace_audit.specs.Inner.Orders.{shown, told, RisesByStamp}
 use Rattle.trace_audit.specs.Inner.Sorting.{IsSortingOf, IsAtLeast, put_row}
 use Rattle.trace_audit.specs.Trace.{rows_of}
 use Rattle.trace_audit.proofs.OrderLemmas.{chain_shown}
@@ -72,6 +73,14 @@ last_told s xs y up least e =
     let l = slice_get_within xs (length xs - 1) y (sym e) in
     let same : y ≡ get_or xs (length xs - 1) y = some_is _ _ (e ∙ slice_get-get_or xs (length xs - 1) y l) in
     ap (λ (z : LogRow). same_stamp z.stamp s) same ∙ last_is s xs (length xs - 1) y up least (omega arith)
+
+-- the same of the reference that `last` gives
+pub last_shown : (s : Stamp) (rows : List (Bor LogLine)) (y : Bor LogLine) → Rises row_stamp (told rows) → IsAtLeast s (told rows) → Some y ≡ slice_get rows (length rows - 1) → same_stamp y.now.row.stamp s ≡ list_any (λ own. same_stamp own.stamp s) (told rows)
+last_shown s rows y up least e =
+    last_told s (told rows) y.now.row up least
+    (ap (λ (o : Option (Bor LogLine)). option_map (λ (r : Bor LogLine). r.now.row) o) e
+    ∙ (sym (slice_get-map (λ (r : Bor LogLine). r.now.row) rows (length rows - 1))
+    ∙ ap (λ (n : ℕ). slice_get (told rows) (n - 1)) (sym (length-map rows (λ (r : Bor LogLine). r.now.row)))))
 
 -- a row above all others, of a stamp that none has
 pub put_last : (r : LogRow) (xs : List LogRow) → IsAtLeast r.stamp xs → list_any (λ own. same_stamp own.stamp r.stamp) xs ≡ false → put_row r xs ≡ xs ++ r ∷ []

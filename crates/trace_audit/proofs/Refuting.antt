@@ -7,15 +7,16 @@ use lib.Pointwise.{pointwise}
 use Rattle.mcast_txn.specs.declared.id.Topic.{Topic}
 use Rattle.mcast_txn.specs.declared.id.Sender.{Sender}
 use Rattle.mcast_txn.specs.declared.stamp.Stamp.{Stamp}
+use Rattle.mcast_txn.specs.Agreed.{SenderOrder}
 use Rattle.mcast_txn.specs.Ids.{same_id}
 use Rattle.mcast_txn.specs.Lists.{In, Rises}
-use Rattle.mcast_txn.specs.Span.{LogRow, row_stamp, last_stamp, up_to}
+use Rattle.mcast_txn.specs.Span.{LogRow, row_id, row_stamp, last_stamp, up_to}
 use Rattle.mcast_txn.specs.Stamp.{same_stamp, stamp_lt, zero_stamp}
 use Rattle.mcast_txn.specs.TopicSet.{names}
 use Rattle.mcast_txn.proofs.Members.{In-map, In-map_cases, In-filter, any_found, any_from, all_at, filter_none}
 use Rattle.mcast_txn.proofs.Orders.{lt_irrefl, lt_trans, le_trans, id_itself, id_same, id_turned}
 use Rattle.mcast_txn.proofs.Sorting.{Rises-filter, one_member}
-use Rattle.trace_audit.specs.Explained.{SeqsRise, IsExplainedBy, IsCompleteBy}
+use Rattle.trace_audit.specs.Explained.{IsExplainedBy, IsCompleteBy}
 use Rattle.trace_audit.specs.Faults.{differ, collide, overtake, some_two, falls, out_of_order, log_has_row, reaches, is_hole, holes, same_mark, is_astray, astray, least, audit_fault, is_whole}
 use Rattle.trace_audit.specs.Line.{LogLine}
 use Rattle.trace_audit.specs.Trace.{Lines, rows_of, log_of, queue_of, marks_in, fits}
@@ -73,7 +74,7 @@ id_turned_row : (a b : LogRow) → same_id a.id b.id ≡ true → same_id b.id a
 id_turned_row a b e = id_turned a.id b.id e
 
 -- a transaction has one row in a list in which each sender's seqs rise
-one_by_id : (rows : List LogRow) (a b : LogRow) → SeqsRise rows → In a rows → In b rows → same_id a.id b.id ≡ true → a ≡ b
+one_by_id : (rows : List LogRow) (a b : LogRow) → SenderOrder row_id rows → In a rows → In b rows → same_id a.id b.id ≡ true → a ≡ b
 one_by_id [] a b up i j e = absurd i
 one_by_id (x ∷ xs) a b up (inl h) (inl k) e = sym h ∙ k
 one_by_id (x ∷ xs) a b up (inl h) (inr k) e =
@@ -83,7 +84,7 @@ one_by_id (x ∷ xs) a b up (inr h) (inl k) e =
 one_by_id (x ∷ xs) a b up (inr h) (inr k) e = one_by_id xs a b up.1 h k e
 
 -- of two rows of one sender the first in stamp is the first in seq
-seq_below : (rows : List LogRow) (a b : LogRow) → Rises row_stamp rows → SeqsRise rows → In a rows → In b rows → stamp_lt a.stamp b.stamp ≡ true → a.id.sender ≡ b.id.sender → nat_lt a.id.seq b.id.seq ≡ true
+seq_below : (rows : List LogRow) (a b : LogRow) → Rises row_stamp rows → SenderOrder row_id rows → In a rows → In b rows → stamp_lt a.stamp b.stamp ≡ true → a.id.sender ≡ b.id.sender → nat_lt a.id.seq b.id.seq ≡ true
 seq_below [] a b up sq i j l e = absurd i
 seq_below (x ∷ xs) a b up sq (inl h) (inl k) l e =
     absurd (true≢false (sym l ∙ (ap (λ (z : LogRow). stamp_lt z.stamp b.stamp) (sym h ∙ k) ∙ lt_irrefl b.stamp)))
@@ -95,7 +96,7 @@ seq_below (x ∷ xs) a b up sq (inr h) (inr k) l e = seq_below xs a b up.1 sq.1 
 
 -- ---- the first four
 
-not_differ : (rows : List LogRow) (a b : LogRow) → SeqsRise rows → In a rows → In b rows → differ a b ≡ false
+not_differ : (rows : List LogRow) (a b : LogRow) → SenderOrder row_id rows → In a rows → In b rows → differ a b ≡ false
 not_differ rows a b sq i j = refuted (differ a b) go
   where
     go : differ a b ≡ true → Prim.⊥
@@ -116,7 +117,7 @@ not_collide rows a b up i j = refuted (collide a b) go
         let e : a ≡ b = one_member row_stamp rows a b up i j (stamps_equal a.stamp b.stamp p.1) in
         true≢false (sym (id_same a.id b.id (ap (λ (z : LogRow). z.id) e)) ∙ not_false (same_id a.id b.id) p.0)
 
-not_overtake : (rows : List LogRow) (a b : LogRow) → Rises row_stamp rows → SeqsRise rows → In a rows → In b rows → overtake a b ≡ false
+not_overtake : (rows : List LogRow) (a b : LogRow) → Rises row_stamp rows → SenderOrder row_id rows → In a rows → In b rows → overtake a b ≡ false
 not_overtake rows a b up sq i j = refuted (overtake a b) go
   where
     go : overtake a b ≡ true → Prim.⊥

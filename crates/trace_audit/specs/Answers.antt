@@ -1,4 +1,4 @@
--- What an auditor's refusal says.
+-- What an auditor's answer says.
 use Rattle.std.specs.Prelude.{◌≡◌, Bool, true, false, List, Some}
 use Rattle.mcast_txn.specs.Span.{LogRow}
 use Rattle.trace_audit.specs.Explained.{IsExplainedBy}
@@ -6,6 +6,11 @@ use Rattle.trace_audit.specs.Faults.{audit_fault}
 use Rattle.trace_audit.specs.Trace.{Lines}
 use Rattle.trace_audit.specs.declared.fault.AuditFault.{AuditFault}
 use Rattle.trace_audit.specs.declared.fault.AuditFault.TheVariants as audit
+
+-- a yes: the rows that explain a trace, and whether each is in the log of each of its topics
+pub record Agreement : Type 0 where
+  pub rows : List LogRow
+  pub complete : Bool
 
 -- the fault says that memory ran out
 abbrev pub says_no_memory : AuditFault → Bool

@@ -1,19 +1,14 @@
 -- What it is that a list of transactions explains a trace. Nothing here knows of a checker.
-use Rattle.std.specs.Prelude.{◌≡◌, ◌≢◌, ◌&&◌, nat_lt, true, List, [], ◌∷◌, Some}
+use Rattle.std.specs.Prelude.{◌≡◌, ◌≢◌, ◌&&◌, true, List, [], Some}
 use Rattle.std.specs.List.{filter}
 use Rattle.mcast_txn.specs.declared.id.Topic.{Topic}
+use Rattle.mcast_txn.specs.Agreed.{SenderOrder}
 use Rattle.mcast_txn.specs.Lists.{In, Rises}
-use Rattle.mcast_txn.specs.Span.{LogRow, row_stamp, last_stamp, up_to}
+use Rattle.mcast_txn.specs.Span.{LogRow, row_id, row_stamp, last_stamp, up_to}
 use Rattle.mcast_txn.specs.Stamp.{zero_stamp}
 use Rattle.mcast_txn.specs.TopicSet.{names}
 use Rattle.trace_audit.specs.declared.row.SpanRow.{SpanRow}
 use Rattle.trace_audit.specs.Trace.{Lines, rows_of, log_of, queue_of, marks_in}
-
--- each sender's transactions have seqs that rise along the list
-abbrev pub SeqsRise : List LogRow → Type 0
-SeqsRise [] = Unit {0}
-SeqsRise (x ∷ xs) =
-    ((y : LogRow) → In y xs → x.id.sender ≡ y.id.sender → nat_lt x.id.seq y.id.seq ≡ true) × SeqsRise xs
 
 -- of a list of rows those that name t, up to the last stamp of a log
 abbrev pub rows_at : Topic → List LogRow → List LogRow → List LogRow
@@ -30,8 +25,8 @@ pub record IsExplainedBy (rows : List LogRow) (lines : Lines) : Type 0 where
   pub of_logs : (row : LogRow) → In row rows → In row (rows_of lines.logs)
   -- each row of a log is in it
   pub all : (row : LogRow) → In row (rows_of lines.logs) → In row rows
-  -- each sender's seqs rise along it
-  pub senders : SeqsRise rows
+  -- each sender's transactions come in its order
+  pub senders : SenderOrder row_id rows
   -- each log that isn't empty is the list restricted to its topic, up to the log's last stamp
   pub logs : (t : Topic) → log_of t lines.logs ≢ [] →
       log_of t lines.logs ≡ rows_at t (log_of t lines.logs) rows

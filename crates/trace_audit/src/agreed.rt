@@ -1,27 +1,21 @@
 //! What an auditor's yes gives.
 
-use mcast_txn::{Stamp, Topic, TxnId};
+use crate::row::LogRow;
 use std::marker::Model;
 
-/// A transaction that all logs of a trace agree on: its id, all its topics, and its stamp.
+/// The transactions of a trace by rising stamp, each by a row of one of its logs, and whether each is in the log of each of
+/// its topics. It lends the trace's own rows. In contracts it is the rows, and whether they are complete.
 #[derive(Drop)]
-pub struct AgreedRow {
-    pub id: TxnId,
-    pub topics: Vec<Topic>,
-    pub stamp: Stamp,
-}
-
-impl Model for AgreedRow {
-    ghost use Rattle.mcast_txn.specs.Span.{LogRow};
-
-    ghost Value = { LogRow };
-
-    ghost view = { λ r. record { id = r.id; topics = r.topics.items; stamp = r.stamp } };
-}
-
-/// The transactions of a trace by rising stamp, and whether each is in the log of each of its topics.
-#[derive(Drop)]
-pub struct Agreed {
-    pub rows: Vec<AgreedRow>,
+pub struct Agreed<'a> {
+    pub rows: Vec<&'a LogRow>,
     pub complete: bool,
+}
+
+impl<'a> Model for Agreed<'a> {
+    ghost use Rattle.std.specs.Prelude.{map};
+    ghost use Rattle.trace_audit.specs.Answers.{Agreement};
+
+    ghost Value = { Agreement };
+
+    ghost view = { λ a. record { rows = map (λ r. r.now.row) a.rows.items; complete = a.complete } };
 }

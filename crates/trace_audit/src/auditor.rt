@@ -10,11 +10,11 @@ ghost use Rattle.trace_audit.specs.Explained.{IsCompleteBy, IsExplainedBy};
 ghost use Rattle.trace_audit.specs.Faults.{audit_fault, is_whole};
 ghost use Rattle.trace_audit.specs.Inner.Chained.{IsIndex};
 ghost use Rattle.trace_audit.specs.Inner.LogFault.{log_fault};
-ghost use Rattle.trace_audit.specs.Inner.Orders.{IsOrdersOf, RisesByStamp, shown};
+ghost use Rattle.trace_audit.specs.Inner.Orders.{IsOrdersOf, RisesByStamp, shown, told};
 ghost use Rattle.trace_audit.specs.Inner.Sorting.{IsAtLeast, IsSortingOf, put_row};
 ghost use Rattle.trace_audit.specs.Trace.{rows_of};
 
-use crate::agreed::{Agreed, AgreedRow};
+use crate::agreed::Agreed;
 use crate::fault::AuditFault;
 use crate::orders::Orders;
 use crate::row::LogRow;
@@ -24,10 +24,10 @@ use mcast_txn::{NoMemory, Stamp, Topic};
 use std::alloc::Global;
 
 /// Judges a trace: the list of transactions that explains it, or the first fault, where none does.
-pub fn audit(alloc: Global, trace: &Trace) -> Result<Agreed, AuditFault>
-    ensures explained { IfOk result (λ agreed. IsExplainedBy agreed.rows.items trace.now) }
+pub fn audit<'a>(alloc: Global, trace: &'a Trace) -> Result<Agreed<'a>, AuditFault>
+    ensures explained { IfOk result (λ agreed. IsExplainedBy agreed.rows trace.now) }
     ensures complete { IfOk result
-        (λ agreed. IsTrue agreed.complete ↔ IsCompleteBy agreed.rows.items trace.now) }
+        (λ agreed. IsTrue agreed.complete ↔ IsCompleteBy agreed.rows trace.now) }
     ensures faultless { OnOk result (audit_fault trace.now ≡ None) }
     ensures refused { IfErr result
         (λ fault. says_no_memory fault ≡ false → IsRefusal fault trace.now) }
@@ -88,10 +88,10 @@ fn find_log_fault(logs: &[LogRow], orders: &Orders<'_>) -> Option<AuditFault>
 }
 
 // The transactions of logs that have no fault, and whether each is in the log of each of its topics.
-fn agree(alloc: Global, logs: &[LogRow], orders: Orders<'_>) -> Result<Agreed, NoMemory>
+fn agree<'a>(alloc: Global, logs: &[LogRow], orders: Orders<'a>) -> Result<Agreed<'a>, NoMemory>
     requires orders { IsOrdersOf orders.by_id.items orders.by_stamp.items orders.by_topic.items logs.now }
     requires index { IsIndex orders.by_topic.items }
-    ensures sorted { IfOk result (λ agreed. IsSortingOf agreed.rows.items (rows_of logs.now)) }
+    ensures sorted { IfOk result (λ agreed. IsSortingOf agreed.rows (rows_of logs.now)) }
     ensures complete { IfOk result (λ agreed. agreed.complete ≡ is_whole logs.now) }
 {
     let complete = checks::is_whole(logs, &orders.by_topic);
@@ -101,9 +101,9 @@ fn agree(alloc: Global, logs: &[LogRow], orders: Orders<'_>) -> Result<Agreed, N
 }
 
 // The rows of all logs by rising stamp, one of each stamp.
-fn agreed_rows(alloc: Global, by_stamp: &[&LogRow]) -> Result<Vec<AgreedRow>, NoMemory>
+fn agreed_rows<'a>(alloc: Global, by_stamp: &[&'a LogRow]) -> Result<Vec<&'a LogRow>, NoMemory>
     requires { RisesByStamp by_stamp.now }
-    ensures { IfOk result (λ rows. IsSortingOf rows.items (rows_of (shown by_stamp.now))) }
+    ensures { IfOk result (λ rows. IsSortingOf (told rows.items) (rows_of (shown by_stamp.now))) }
 {
     let mut rows = Vec::new(alloc);
     for &row in by_stamp {
@@ -113,25 +113,25 @@ fn agreed_rows(alloc: Global, by_stamp: &[&LogRow]) -> Result<Vec<AgreedRow>, No
 }
 
 // Puts a row at the end of others that rise, unless its stamp is there.
-fn put(rows: &mut Vec<AgreedRow>, row: &LogRow) -> Result<(), NoMemory>
-    requires rises { Rises row_stamp rows.old.items }
-    requires below { IsAtLeast row.now.row.stamp rows.old.items }
-    ensures { OnOk result (rows.new.items ≡ put_row row.now.row rows.old.items) }
+fn put<'a>(rows: &mut Vec<&'a LogRow>, row: &'a LogRow) -> Result<(), NoMemory>
+    requires rises { Rises row_stamp (told rows.old.items) }
+    requires below { IsAtLeast row.now.row.stamp (told rows.old.items) }
+    ensures { OnOk result (told rows.new.items ≡ put_row row.now.row (told rows.old.items)) }
 {
     if !ends_at(rows, row.stamp) {
-        rows.push(row.agreed()?)?;
+        rows.push(row)?;
     }
     Ok(())
 }
 
 // Whether the last row has the stamp, and so whether any has it.
-fn ends_at(rows: &[AgreedRow], stamp: Stamp) -> bool
-    requires rises { Rises row_stamp rows.now }
-    requires below { IsAtLeast stamp rows.now }
-    ensures { result ≡ list_any (λ own. same_stamp own.stamp stamp) rows.now }
+fn ends_at(rows: &[&LogRow], stamp: Stamp) -> bool
+    requires rises { Rises row_stamp (told rows.now) }
+    requires below { IsAtLeast stamp (told rows.now) }
+    ensures { result ≡ list_any (λ own. same_stamp own.stamp stamp) (told rows.now) }
 {
     match rows.last() {
-        Some(own) => own.stamp == stamp,
+        Some(&own) => own.stamp == stamp,
         None => false,
     }
 }

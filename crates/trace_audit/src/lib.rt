@@ -15,7 +15,7 @@ mod row;
 mod text;
 mod trace;
 
-pub use agreed::{Agreed, AgreedRow};
+pub use agreed::Agreed;
 pub use auditor::audit;
 pub use fault::{AddFault, AuditFault};
 pub use mcast_txn::{NoMemory, Sender, Stamp, Topic, TxnId};

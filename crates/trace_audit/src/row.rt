@@ -1,9 +1,6 @@
 //! Rows of a trace.
 
-ghost use Rattle.std.specs.Prelude.{◌≡◌, IfOk};
-
-use crate::agreed::AgreedRow;
-use mcast_txn::{NoMemory, Stamp, Topic, TxnId};
+use mcast_txn::{Stamp, Topic, TxnId};
 use std::marker::Model;
 
 /// A row of a topic's log: whose log it is, the transaction, all its topics, and its stamp.
@@ -21,19 +18,6 @@ impl Model for LogRow {
     ghost Value = { LogLine };
 
     ghost view = { λ r. record { topic = r.topic; row = record { id = r.id; topics = r.topics.items; stamp = r.stamp } } };
-}
-
-impl LogRow {
-    // The row without its log's topic.
-    pub(crate) fn agreed(&self) -> Result<AgreedRow, NoMemory>
-        ensures { IfOk result (λ own. own ≡ self.now.row) }
-    {
-        Ok(AgreedRow {
-            id: self.id,
-            topics: self.topics.clone()?,
-            stamp: self.stamp,
-        })
-    }
 }
 
 /// A subscription: its number, its topic, the stamp after which it begins, and its last stamp, once it has ended.

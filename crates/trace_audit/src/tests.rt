@@ -1,8 +1,8 @@
 //! Traces that are audited, and rows that don't fit.
 
 use crate::{
-    AddFault, Agreed, AuditFault, LogRow, QueueRow, Sender, SpanRow, Stamp, Topic, Trace, TraceRow,
-    TxnId, audit,
+    AddFault, AuditFault, LogRow, QueueRow, Sender, SpanRow, Stamp, Topic, Trace, TraceRow, TxnId,
+    audit,
 };
 use std::alloc::Global;
 use std::test::Fail;
@@ -84,13 +84,16 @@ fn add_fault(alloc: Global, rows: &[Row]) -> Option<AddFault> {
     fault
 }
 
-/// The answer to these rows.
-fn answer(alloc: Global, rows: &[Row]) -> Option<Result<Agreed, AuditFault>> {
+/// The answer to these rows: whether they are complete, or why they are refused.
+fn answer(alloc: Global, rows: &[Row]) -> Option<Result<bool, AuditFault>> {
     let (trace, fault) = trace_of(alloc, rows)?;
     if fault.is_some() {
         return None;
     }
-    Some(audit(alloc, &trace))
+    match audit(alloc, &trace) {
+        Ok(agreed) => Some(Ok(agreed.complete)),
+        Err(fault) => Some(Err(fault)),
+    }
 }
 
 /// Why these rows are refused.
@@ -100,8 +103,7 @@ fn fault_of(alloc: Global, rows: &[Row]) -> Option<AuditFault> {
 
 /// Whether these rows are complete, where they are explained.
 fn completeness(alloc: Global, rows: &[Row]) -> Option<bool> {
-    let agreed = answer(alloc, rows)?.ok()?;
-    Some(agreed.complete)
+    answer(alloc, rows)?.ok()
 }
 
 const BOTH: &[u32] = &[0, 1];
@@ -121,7 +123,10 @@ fn crossing_is_complete(rt: HostRuntime) {
 
 #[test]
 fn agreed_rows_rise_in_stamp(rt: HostRuntime) -> Result<(), Fail> {
-    let Some(Ok(agreed)) = answer(rt.alloc(), &CROSSING) else {
+    let Some((trace, None)) = trace_of(rt.alloc(), &CROSSING) else {
+        return Err(Fail::new("a row doesn't fit"));
+    };
+    let Ok(agreed) = audit(rt.alloc(), &trace) else {
         return Err(Fail::new("not explained"));
     };
     let mut seen = agreed.rows.iter();

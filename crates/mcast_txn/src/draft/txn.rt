@@ -67,6 +67,13 @@ impl Txn {
         &self.topics
     }
 
+    /// Its topics, shared: they aren't copied.
+    pub fn share_topics(&self) -> Result<Arc<TopicSet>, NoMemory>
+        ensures { IfOk result (λ topics. arc_value topics ≡ topics_of self.now) }
+    {
+        Ok(self.topics.clone()?)
+    }
+
     /// Its parts, of this flight. Out of memory, the transaction is returned.
     pub fn split(self, alloc: Global, flight: &Arc<Flight>) -> Result<Parts, (Txn, NoMemory)>
         ensures parts { IfOk result (λ parts. parts ≡ parts_of (flight_id (arc_value flight.now)) self) }

@@ -5,6 +5,7 @@ use Rattle.std.specs.List.Sorted.{IsPermutation, IsSortedBy}
 use denote.Bor.{Bor}
 use Rattle.mcast_txn.specs.declared.id.Topic.{Topic}
 use Rattle.mcast_txn.specs.Ids.{id_lt}
+use Rattle.mcast_txn.specs.Span.{LogRow}
 use Rattle.mcast_txn.specs.Stamp.{stamp_lt}
 use Rattle.trace_audit.specs.Line.{LogLine}
 use Rattle.trace_audit.specs.declared.row.QueueRow.{QueueRow}
@@ -12,6 +13,10 @@ use Rattle.trace_audit.specs.declared.row.QueueRow.{QueueRow}
 -- what references show
 abbrev pub shown : {X : Type 0} → List (Bor X) → List X
 shown rows = map (λ r. r.now) rows
+
+-- the rows that references show, without their logs' topics
+abbrev pub told : List (Bor LogLine) → List LogRow
+told rows = map (λ r. r.now.row) rows
 
 -- no row's transaction is below the one before it
 abbrev pub IsOrderedById : List (Bor LogLine) → Type 0

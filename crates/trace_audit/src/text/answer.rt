@@ -3,18 +3,20 @@
 ghost use Rattle.std.specs.Prelude.{◌≡◌, ◌++◌, ◌∷◌, IfOk, OnOk};
 ghost use Rattle.std.specs.List.{flat_map};
 ghost use Rattle.trace_audit.specs.AuditText.{agreed_line, agreed_text, bad_text, refusal_text};
+ghost use Rattle.trace_audit.specs.Inner.Orders.{told};
 
 use super::parse_fault::ParseFault;
 use super::printer::{digits, id, number, stamp, topics};
-use crate::agreed::{Agreed, AgreedRow};
+use crate::agreed::Agreed;
 use crate::fault::AuditFault;
+use crate::row::LogRow;
 use mcast_txn::{NoMemory, Octets};
 use std::alloc::Global;
 
-impl Agreed {
+impl Agreed<'_> {
     /// Its text: a line `agreed S Q N.T TOPICS` for each transaction, and then `complete` or `incomplete`.
     pub fn print(&self, alloc: Global) -> Result<Octets, NoMemory>
-        ensures { IfOk result (λ text. text ≡ agreed_text self.now.rows.items self.now.complete) }
+        ensures { IfOk result (λ text. text ≡ agreed_text self.now.rows self.now.complete) }
     {
         let mut text = Octets::new(alloc);
         put_agreed(&mut text, &self.rows)?;
@@ -28,18 +30,18 @@ impl Agreed {
 }
 
 // Writes a line for each transaction.
-fn put_agreed(out: &mut Octets, rows: &[AgreedRow]) -> Result<(), NoMemory>
-    ensures { OnOk result (out.new ≡ out.old ++ flat_map agreed_line rows.now) }
+fn put_agreed(out: &mut Octets, rows: &[&LogRow]) -> Result<(), NoMemory>
+    ensures { OnOk result (out.new ≡ out.old ++ flat_map agreed_line (told rows.now)) }
 {
-    for row in rows {
+    for &row in rows {
         put_row(out, row)?;
     }
     Ok(())
 }
 
 // Writes the line of a transaction.
-fn put_row(out: &mut Octets, row: &AgreedRow) -> Result<(), NoMemory>
-    ensures { OnOk result (out.new ≡ out.old ++ agreed_line row.now) }
+fn put_row(out: &mut Octets, row: &LogRow) -> Result<(), NoMemory>
+    ensures { OnOk result (out.new ≡ out.old ++ agreed_line row.now.row) }
 {
     out.extend(b"agreed")?;
     id(out, row.id)?;

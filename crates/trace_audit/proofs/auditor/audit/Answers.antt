@@ -15,14 +15,14 @@ pub returns-in-Ok-Some-clause-refused : goal.returns-in-Ok-Some-clause-refused
 returns-in-Ok-Some-clause-refused c = λ no.
     refuses c.args.trace.now c.in-Ok-Some.fault (sym c.in-Ok-Some.ensures ∙ c.in-Ok-Some.field-0-is)
 
-explained_here : (c : goal.In-Ok-agree) → IsExplainedBy c.in-Ok-agree.agreed.rows.items c.args.trace.now
+explained_here : (c : goal.In-Ok-agree) → IsExplainedBy c.in-Ok-agree.agreed.rows c.args.trace.now
 explained_here c =
     let lines = c.args.trace.now in
     let logs : c.trace.inside.logs.items ≡ lines.logs = ap (λ (z : Lines). z.logs) c.trace.view_is in
-    explains lines lines.logs c.in-Ok-agree.agreed.rows.items refl
+    explains lines lines.logs c.in-Ok-agree.agreed.rows refl
     (subst (λ (z : List LogLine). list_all (λ (line : LogLine). fits line) z ≡ true) logs c.trace.invariant.0)
     (sym c.in-Ok-None.ensures ∙ c.in-Ok-None.field-0-is)
-    (subst (λ (z : List LogLine). IsSortingOf c.in-Ok-agree.agreed.rows.items (rows_of z)) (c.deref-2.ensures.value ∙ logs) c.in-Ok-agree.ensures.sorted)
+    (subst (λ (z : List LogLine). IsSortingOf c.in-Ok-agree.agreed.rows (rows_of z)) (c.deref-2.ensures.value ∙ logs) c.in-Ok-agree.ensures.sorted)
 
 complete_is : (c : goal.In-Ok-agree) → c.in-Ok-agree.agreed.complete ≡ is_whole c.args.trace.now.logs
 complete_is c =
@@ -34,8 +34,8 @@ returns-in-Ok-agree-clause-explained c = explained_here c
 
 pub returns-in-Ok-agree-clause-complete : goal.returns-in-Ok-agree-clause-complete
 returns-in-Ok-agree-clause-complete c = (
-  (λ yes. complete c.args.trace.now c.in-Ok-agree.agreed.rows.items (explained_here c) (sym (complete_is c) ∙ yes)),
-  (λ all. complete_is c ∙ completed c.args.trace.now c.in-Ok-agree.agreed.rows.items (explained_here c) all),
+  (λ yes. complete c.args.trace.now c.in-Ok-agree.agreed.rows (explained_here c) (sym (complete_is c) ∙ yes)),
+  (λ all. complete_is c ∙ completed c.args.trace.now c.in-Ok-agree.agreed.rows (explained_here c) all),
 )
 
 pub agree-requires-clause-index : goal.agree-requires-clause-index
