@@ -1,10 +1,16 @@
 -- Worked rows: each is computed from the definitions.
 use Rattle.std.specs.Prelude.{◌≡◌, ℕ, true, false, [], ◌∷◌, Some, None}
-use Rattle.std.proofs.Common.{refl}
+use Rattle.std.proofs.Common.{List, refl, sym, subst, zero, suc, true≢false}
+use mathlib.Core.Option.{some, some-injective, some-ne-none}
+use lib.ListN.{get_elem?}
+use Rattle.mcast_txn.specs.Lists.{Rises}
 use Rattle.mcast_txn.specs.declared.stamp.Stamp.{Stamp}
-use Rattle.mcast_txn.specs.Span.{Item}
+use Rattle.mcast_txn.specs.Span.{Item, item_stamp}
+use Rattle.sub_queue.specs.declared.rule.Knowledge.{Knowledge}
+use Rattle.sub_queue.specs.Rule.{known, pushing, taking, Agrees, IsInOrder, rest_of}
 use Rattle.sub_queue.specs.Shown.{Shown, IsAboveLast, after_push, has_room, next_index, room_after_take, untaken}
 use Rattle.sub_queue.specs.VecQueue.{VecQueue, after_take, shown_of}
+use Rattle.sub_queue.proofs.RisingItems.{rises_after_push}
 
 abbrev stamp : ℕ → Stamp
 stamp n = record { n = n; topic = record { 0 = 0 } }
@@ -58,3 +64,35 @@ three_is_above_two = refl
 
 all_are_above_none : IsAboveLast [] (stamp 0)
 all_are_above_none = tt
+
+-- a queue of two threads: of 1, 2 and 4, which were pushed, 1 was taken
+abbrev pushed : List Item
+pushed = item 1 ∷ item 2 ∷ item 4 ∷ []
+
+abbrev held : List Item
+held = item 2 ∷ item 4 ∷ []
+
+held_is_left : rest_of (known true pushed true (item 1 ∷ [])) ≡ held
+held_is_left = refl
+
+pushed_rises : Rises item_stamp pushed
+pushed_rises =
+    rises_after_push (item 1 ∷ item 2 ∷ []) (item 4) (rises_after_push (item 1 ∷ []) (item 2) (rises_after_push [] (item 1) tt tt) refl) refl
+
+in_order : IsInOrder held (pushing pushed ∷ taking (item 1 ∷ []) ∷ [])
+in_order = record {
+  source = 0;
+  taker = 1;
+  pushed = pushed;
+  taken = item 1 ∷ [];
+  order = refl;
+  rises = pushed_rises;
+  agree = agree;
+}
+  where
+    agree : (n : ℕ) (v : Knowledge) → get_elem? (pushing pushed ∷ taking (item 1 ∷ []) ∷ []) n ≡ some v → Agrees 0 1 pushed (item 1 ∷ []) n v
+    agree zero v at = subst (Agrees 0 1 pushed (item 1 ∷ []) 0) (some-injective (pushing pushed) v at)
+        (record { pushes = λ _. (refl, refl); takes = λ no. absurd (true≢false (sym no)) })
+    agree (suc zero) v at = subst (Agrees 0 1 pushed (item 1 ∷ []) 1) (some-injective (taking (item 1 ∷ [])) v at)
+        (record { pushes = λ no. absurd (true≢false (sym no)); takes = λ _. (refl, refl) })
+    agree (suc (suc n)) v at = absurd (some-ne-none v (sym at))

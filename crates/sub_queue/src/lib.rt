@@ -1,10 +1,20 @@
 //! The queues of subscriptions: where a topic puts what it releases.
 #![tactic(auto)]
 
+mod ends;
+mod left;
+mod line_end;
 mod outlet;
+mod rule;
+mod source;
+mod taker;
 mod vec_outlet;
 
+pub use ends::{close, ruled};
+pub use left::Left;
 pub use outlet::Outlet;
+pub use source::Source;
+pub use taker::Taker;
 pub use vec_outlet::VecOutlet;
 
 #[cfg(test)]

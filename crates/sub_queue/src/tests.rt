@@ -1,8 +1,11 @@
-//! A queue of capacity 2 and one of capacity 0, row by row. The tests hold whichever one allocation fails
-//! (`rt try --test --fail-alloc N`): a refused `reserve` changes nothing that is shown, and the same call then succeeds.
+//! A queue in memory of capacity 2 and one of capacity 0, row by row, and queues that two threads share. The tests hold
+//! whichever one allocation fails (`rt try --test --fail-alloc N`): a refused `reserve` changes nothing that is shown,
+//! and the same call then succeeds.
 
-ghost use Rattle.std.specs.Prelude.{◌≡◌, ◌<◌, true};
+ghost use Rattle.std.specs.Prelude.{◌≡◌, ◌<◌, true, IfSome};
 ghost use Rattle.sub_queue.specs.Shown.{IsAboveLast};
+
+mod shared;
 
 use crate::{Outlet, VecOutlet};
 use mcast_txn::{Flight, Headers, Octets, Released, Sender, Stamp, Topic, Txn, TxnId};
@@ -31,7 +34,9 @@ use Answer::{Accepted, Nothing, Returned, Took};
 use Call::{Push, Take};
 
 /// The item of the transaction of this number, with a stamp of this number, if there is memory.
-fn made(alloc: Global, n: u64) -> Option<Released> {
+fn made(alloc: Global, n: u64) -> Option<Released>
+    ensures { IfSome result (λ item. item.stamp.n ≡ n) }
+{
     let sender = Sender(7);
     let topic = Topic(0);
     let flight = Flight::new(alloc, TxnId { sender, seq: n }).ok()?;
@@ -43,7 +48,9 @@ fn made(alloc: Global, n: u64) -> Option<Released> {
 }
 
 /// The item of this number, as it is made the first or the second time.
-fn item(alloc: Global, n: u64) -> Option<Released> {
+fn item(alloc: Global, n: u64) -> Option<Released>
+    ensures { IfSome result (λ item. item.stamp.n ≡ n) }
+{
     match made(alloc, n) {
         Some(item) => Some(item),
         None => made(alloc, n),

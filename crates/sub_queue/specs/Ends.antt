@@ -1,0 +1,31 @@
+-- The ends of a queue that two threads share.
+use Rattle.std.specs.Prelude.{ℕ, List, [], ◌∷◌, ◌++◌, None}
+use Rattle.crossbeam_queue.specs.Passes.{Pass}
+use Rattle.mcast_txn.specs.Span.{Item}
+use Rattle.sub_queue.specs.Shown.{Shown}
+use Rattle.sub_queue.specs.declared.rule.Knowledge.{Knowledge}
+
+-- the type of a function's results
+abbrev ResultType : {A B : Type 0} → (A → B) → Type 0
+ResultType {A} {B} f = B
+
+-- what tells a queue from any other: the table of its places, of which each end's pass is one
+abbrev pub QueueId : Type 0
+QueueId = ResultType (λ (pass : Pass Item Knowledge). pass.table_id)
+
+-- An end of a queue.
+-- queue: which queue it is.
+-- capacity: the queue holds at most this many items.
+-- items: those that this end pushed, or those that it took, in order.
+pub record End : Type 0 where
+  pub queue : QueueId
+  pub capacity : ℕ
+  pub items : List Item
+
+-- one more item at the end of the list
+abbrev pub with_item : Item → End → End
+with_item item e = record e { items = e.items ++ item ∷ [] }
+
+-- what a source shows: nobody tells it how many items were taken
+abbrev pub shown_of_source : End → Shown
+shown_of_source e = record { accepted = e.items; room = record { capacity = e.capacity; taken = None } }

@@ -1,0 +1,2 @@
+-- These modules only serve proofs: no public contract cites them, and nobody need believe them.
+pub mod EndState

@@ -1,0 +1,60 @@
+//! The end of a shared queue that pushes.
+
+ghost use Rattle.std.specs.Prelude.{◌≡◌, ◌^◌, ◌≤◌, true, false, None, Ok, MatchResult};
+ghost use Rattle.std.proofs.Common.{refl};
+ghost use Rattle.sub_queue.specs.Ends.{End, shown_of_source, with_item};
+ghost use Rattle.sub_queue.specs.Shown.{IsAboveLast, IsFull};
+
+use crate::line_end::LineEnd;
+use crate::outlet::Outlet;
+use mcast_txn::{NoMemory, Released};
+use std::marker::{Model, PhantomData};
+use std::sync::Wait;
+
+/// The end of a shared queue that pushes: an outlet under a runtime. In contracts it is its queue, the capacity, and the
+/// items that were pushed. How many of them were taken it doesn't know.
+#[derive(Drop)]
+pub struct Source<R> {
+    pub(crate) end: LineEnd,
+    pub(crate) runtime: PhantomData<R>,
+}
+
+impl<R> Model for Source<R> {
+    ghost Value = { End };
+
+    ghost view = { λ s. record { queue = s.end.queue; capacity = s.end.capacity; items = s.end.knows.pushed } };
+
+    ghost invariant = { λ s. s.end.knows.pushes ≡ true };
+}
+
+impl<R: Wait> Outlet for Source<R> {
+    ghost use Rattle.sub_queue.specs.Ends.{shown_of_source};
+
+    type Needs = R;
+
+    ghost shown = { shown_of_source };
+
+    ghost spare = { λ _. 2 ^ 64 };
+
+    ghost may_accept = { λ s answer. answer ≡ false → IsFull s };
+
+    /// Does nothing: the queue has its places from the beginning.
+    fn reserve(&mut self, additional: usize) -> Result<(), NoMemory>
+        ensures same { self.new ≡ self.old }
+        ensures room { (result ≡ Ok tt) × (additional ≤ 2 ^ 64) }
+    {
+        Ok(())
+    }
+
+    /// Puts the item at the end, or returns it where the queue was full at one moment of the call. It may wait for a
+    /// take that is under way.
+    fn push(&mut self, needs: &R, item: Released) -> Result<(), Released>
+        requires { IsAboveLast self.old.items item.stamp }
+        ensures { MatchResult result (λ _. self.new ≡ with_item item self.old)
+            (λ returned. (returned ≡ item) × (self.new ≡ self.old) × IsFull (shown_of_source self.old)) }
+    {
+        self.end.push(needs, item)
+    }
+
+    ghost refuses_full = { λ s answer. answer refl };
+}
