@@ -1,7 +1,10 @@
 -- A part that is after_enter.
-use Rattle.std.proofs.Common.{◌≡◌, ℕ, suc, ◌+◌, ◌<◌, ◌≤◌, List, map, length, get_or, None, sym, ap, subst, ◌∙◌, arith}
+use Rattle.std.proofs.Common.{◌≡◌, ℕ, suc, ◌+◌, ◌<◌, ◌≤◌, true, false, List, map, length, get_or, None, sym, ap, subst, ◌∙◌, arith}
 use Rattle.mcast_txn.specs.declared.stamp.Stamp.{Stamp}
 use Rattle.std.specs.List.{remove}
+use Rattle.mcast_txn.specs.Lists.{In}
+use Rattle.mcast_txn.specs.Stamp.{stamp_lt}
+use Rattle.mcast_txn.proofs.Orders.{lt_by_number}
 use Rattle.std.proofs.lemmas.List.Edits.{length-remove}
 use Rattle.mcast_txn.specs.declared.id.TxnId.{TxnId}
 use Rattle.mcast_txn.specs.Transaction.{TopicPart}
@@ -9,12 +12,12 @@ use Rattle.mcast_txn.proofs.Members.{In-get_or}
 use Rattle.sub_queue.specs.Shown.{Shown}
 use Rattle.mcast_group.specs.declared.subscription.Subscription.{Subscription}
 use Rattle.mcast_group.specs.Sound.{IsSound}
-use Rattle.mcast_group.specs.Machine.{TopicState, Entry, Pending, next_number, propose_fault, after_cancel, after_drain}
+use Rattle.mcast_group.specs.Machine.{TopicState, Entry, Pending, is_pending, key, next_number, propose_checks, propose_fault, after_cancel, after_drain}
 use Rattle.mcast_group.specs.Group.{after_enter}
 use Rattle.mcast_group.specs.Inner.Copies.{HaveCopies}
 use Rattle.mcast_group.specs.Inner.GroupInvariant.{IsKept, entry_of}
 use Rattle.mcast_group.proofs.Parts.{insert_length, map_length}
-use Rattle.mcast_group.proofs.Allowed.{keeps_sound}
+use Rattle.mcast_group.proofs.Allowed.{keeps_sound, passes}
 use Rattle.mcast_group.proofs.Releasing.{placed_at, map_within, copies_remove}
 
 -- there are as many subscriptions as there were, where their entries are the same
@@ -83,4 +86,15 @@ kept_drained spare x capacity after copies subs h room = record {
   room = omega arith;
   spares = h.spares;
   copied = h.copied;
+}
+
+-- a part that isn't refused isn't pending, and its key is above all others
+pub record IsGreatest (part : TopicPart) (n : ℕ) (x : TopicState) : Type 0 where
+  pub free : is_pending part.id x.pending ≡ false
+  pub above : (q : Pending) → In q x.pending → stamp_lt (key q) (record { n = n; topic = part.topic }) ≡ true
+
+pub is_greatest : (floor : Stamp) (part : TopicPart) (n : ℕ) (x : TopicState) → IsSound x → n ≡ next_number floor x → propose_fault floor part x ≡ None → IsGreatest part n x
+is_greatest floor part n x h e none = record {
+  free = (passes (propose_checks floor part x) none).0;
+  above = λ q k. lt_by_number (key q) (record { n = n; topic = part.topic }) (let l : (key q).n ≤ x.clock = h.clock_keys q k in omega arith);
 }

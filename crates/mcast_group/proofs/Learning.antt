@@ -9,17 +9,20 @@ use Rattle.mcast_txn.specs.Ballot.{Decision}
 use Rattle.mcast_txn.specs.Transaction.{TopicPart}
 use Rattle.mcast_txn.specs.Span.{LogRow}
 use Rattle.sub_queue.specs.Shown.{Shown}
-use Rattle.mcast_txn.proofs.Orders.{id_itself}
+use Rattle.mcast_txn.proofs.Orders.{id_itself, id_same}
 use Rattle.std.proofs.lemmas.Bool.Decides.{nat_tests}
 use Rattle.mcast_group.specs.declared.fault.LearnFault.{LearnFault}
 use Rattle.mcast_group.specs.declared.subscription.Subscription.{Subscription}
 use Rattle.mcast_group.specs.Sound.{IsSound, RisesById}
-use Rattle.mcast_group.specs.Machine.{TopicState, Pending, Entry, decided_stamp, learn_fault, after_learn, with_stamp, after_try, after_tries, due_part, after_release, after_release_if, row_of}
+use Rattle.mcast_group.specs.Machine.{TopicState, Pending, Entry, decided_stamp, key, learn_fault, after_learn, with_stamp, after_try, after_tries, due_part, after_release, after_release_if, row_of}
 use Rattle.mcast_group.specs.Group.{AreFound, CanLearn, GroupState, Tries, TriesAll, Turns, group_after_releases, group_after_release, group_after_tries}
 use Rattle.mcast_group.specs.Inner.Copies.{HaveCopies}
 use Rattle.mcast_group.specs.Inner.GroupInvariant.{IsKept}
 use Rattle.mcast_group.proofs.Parts.{map_length, told_how}
-use Rattle.mcast_group.proofs.Keeping.{learns_is, Sound-learned}
+use Rattle.mcast_group.proofs.Indices.{part_at as place_of_part}
+use Rattle.mcast_group.proofs.Keeping.{Learns, key_past, learns_is, Sound-learned}
+use Rattle.mcast_txn.specs.Stamp.{stamp_lt}
+use Rattle.mcast_txn.proofs.Members.{In-get_or}
 
 -- ---- a stamp that is learnt
 
@@ -39,6 +42,27 @@ kept_learned spare x y capacity copies subs id place stamp h can e =
       spares = λ s k n. let r : length x.pending ≤ spare s.outlet = h.spares s k n in omega arith;
       copied = copies_told id stamp (length subs) x.pending copies h.copied;
     })
+
+-- the part that may learn a stamp: it isn't below its key, and is no other part's
+pub record MayLearn (stamp : Stamp) (i : ℕ) (x : TopicState) : Type 0 where
+  pub within : i < length x.pending
+  pub past : (d : Pending) → stamp_lt stamp (key (get_or x.pending i d)) ≡ false
+  pub free : (d q : Pending) → In q x.pending → key q ≡ stamp → q ≡ get_or x.pending i d
+
+pub may_learn : (id : TxnId) (i : ℕ) (stamp : Stamp) (x : TopicState) → IsSound x → CanLearn id i stamp x → MayLearn stamp i x
+may_learn id i stamp x h can =
+    let l = learns_is id can.verdict x can.allowed in
+    record {
+      within = (place_of_part id x.pending i l.part can.at).in_range;
+      past = λ d. rw (can.is, sym (own l d)) (key_past id can.verdict x l);
+      free = λ d q k e. h.one_part q (get_or x.pending i d) k (In-get_or x.pending i d (place_of_part id x.pending i d can.at).in_range)
+          (subst (λ (z : TxnId). same_id q.part.id z ≡ true) (sym (place_of_part id x.pending i d can.at).is) (l.new q k (e ∙ can.is)));
+    }
+  where
+    own : (l : Learns id can.verdict x) (d : Pending) → l.part ≡ get_or x.pending i d
+    own l d =
+        let at = place_of_part id x.pending i d can.at in
+        h.one_part l.part (get_or x.pending i d) l.stands (In-get_or x.pending i d at.in_range) (id_same l.part.part.id (get_or x.pending i d).part.id (l.is ∙ sym at.is))
 
 -- ---- one part
 

@@ -18,3 +18,6 @@ pub mod Counting
 pub mod TurnEmpties
 pub mod Turns
 pub mod Rows
+pub mod Segments
+pub mod Places
+pub mod ByKey

@@ -1,4 +1,6 @@
 -- These modules only serve proofs: no public contract cites them, and nobody need believe them.
 pub mod Copies
 pub mod GroupInvariant
+pub mod Keys
+pub mod Log
 pub mod Subscriptions

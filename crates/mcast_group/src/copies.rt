@@ -1,15 +1,18 @@
 //! Copies of a pending part, one for each subscription.
 
-ghost use Rattle.std.specs.Prelude.{◌≡◌, ℕ, ◌+◌, ◌≤◌, ◌<◌, List, [], ◌∷◌, ◌++◌, length, IfSome, IfNone, OnOk, OnErr, IfOk};
+ghost use Rattle.std.specs.Prelude.{◌≡◌, ℕ, ◌+◌, ◌≤◌, ◌<◌, List, [], ◌∷◌, ◌++◌, length, slice_index_or, IfSome, IfNone, OnOk, OnErr, IfOk};
 ghost use Rattle.std.specs.Arc.{arc_value};
+ghost use Rattle.std.specs.List.{remove};
 ghost use Rattle.mcast_txn.specs.Lists.{In};
 ghost use Rattle.mcast_txn.specs.Part.{data_of};
 ghost use Rattle.mcast_txn.specs.Transaction.{TopicPart};
 ghost use Rattle.mcast_group.specs.Inner.Copies.{AreOf, HaveCopies};
 
 use crate::pending::PendingPart;
+use crate::pending_parts::PendingParts;
 use mcast_txn::{NoMemory, Part};
 use std::alloc::Global;
+use std::collections::VecDeque;
 use std::marker::Model;
 use std::sync::Arc;
 
@@ -67,13 +70,25 @@ impl Copies {
 }
 
 // One copy more of each part; where there was no memory, each has as many as it had, or one more.
-pub(crate) fn add_to_each(copies: &mut [Copies], pending: &[PendingPart]) -> Result<(), NoMemory>
-    requires { length copies.old ≡ length pending.now }
-    ensures ok { OnOk result ((n : ℕ) → HaveCopies n pending.now copies.old → HaveCopies (n + 1) pending.now copies.new) }
-    ensures kept { (n : ℕ) → HaveCopies n pending.now copies.old → HaveCopies n pending.now copies.new }
+pub(crate) fn add_to_each(
+    copies: &mut VecDeque<Copies>,
+    pending: &PendingParts,
+) -> Result<(), NoMemory>
+    requires { length copies.old.items ≡ length pending.now }
+    ensures ok { OnOk result ((n : ℕ) → HaveCopies n pending.now copies.old.items → HaveCopies (n + 1) pending.now copies.new.items) }
+    ensures kept { (n : ℕ) → HaveCopies n pending.now copies.old.items → HaveCopies n pending.now copies.new.items }
 {
     for i in 0..pending.len() {
-        copies[i].add(&pending[i])?;
+        copies[i].add(pending.at(i))?;
     }
     Ok(())
+}
+
+// Takes out the copies at an index.
+pub(crate) fn take_at(copies: &mut VecDeque<Copies>, index: usize) -> Copies
+    requires { index < length copies.old.items }
+    ensures value { result ≡ slice_index_or copies.old.items index result }
+    ensures items { copies.new.items ≡ remove copies.old.items index }
+{
+    copies.remove(index).unwrap()
 }

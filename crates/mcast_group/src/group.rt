@@ -1,22 +1,25 @@
 //! A topic of the multicast.
 
-ghost use Rattle.std.specs.Prelude.{◌≡◌, ℕ, ◌+◌, ◌-◌, ◌<◌, ◌≤◌, Bool, [], List, length, slice_get, slice_index_or, Option, Some, None, OnOk, OnErr, IfOk, IfErr, vec_len, vec_capacity};
+ghost use Rattle.std.specs.Prelude.{◌≡◌, ℕ, ◌+◌, ◌-◌, ◌<◌, ◌≤◌, Bool, true, false, [], List, length, slice_get, slice_index_or, Option, Some, None, OnOk, OnErr, IfOk, IfErr};
 ghost use Rattle.std.specs.Arc.{arc_value};
 ghost use Rattle.std.specs.Option.{option_map};
 ghost use Rattle.mcast_txn.specs.Part.{data_of};
 ghost use Rattle.mcast_group.specs.Group.{CanLearn, MayBeFound, GroupState, Releases, ReleasesAll, Tries, TriesAll, Turns, AreFound, group_after_release, result_of, after_enter, propose_refusal, HasLeft, shown_at, sub_refusal, group_after_subscribe, group_after_unsubscribe};
 ghost use Rattle.mcast_txn.specs.declared.id.TxnId.{TxnId};
 ghost use Rattle.mcast_txn.specs.Ballot.{Decision};
+ghost use Rattle.mcast_txn.specs.Lists.{In};
+ghost use Rattle.mcast_txn.specs.Stamp.{stamp_lt};
 ghost use Rattle.mcast_group.specs.Counted.{group_after_take, queue_item_at, next_at, takes_of};
 ghost use Rattle.mcast_group.specs.Inner.Copies.{AreOf, HaveCopies};
 ghost use Rattle.mcast_group.specs.Fitting.{Fits};
 ghost use Rattle.mcast_group.specs.Inner.GroupInvariant.{entry_of};
-ghost use Rattle.mcast_group.specs.Machine.{Pending, cancel_fault, after_cancel, after_drain, after_turn, decided_stamp, due_part, key, learn_fault, after_learn, new_topic, insert_pending, next_number, propose_fault, after_propose, state_of, subscribe_fault, unsubscribe_fault};
+ghost use Rattle.mcast_group.specs.Machine.{Pending, cancel_fault, after_cancel, after_drain, after_turn, decided_stamp, due_part, key, learn_fault, after_learn, new_topic, insert_pending, is_pending, next_number, propose_fault, after_propose, state_of, subscribe_fault, unsubscribe_fault};
 
-use crate::copies::{Copies, add_to_each};
+use crate::copies::{Copies, add_to_each, take_at};
 use crate::ended::Ended;
 use crate::fault::{CancelFault, LearnFault, NoSub, ProposeFault, SubFault};
 use crate::law::has_one_row_each;
+use crate::log::Log;
 use crate::log_rows::LogRows;
 use crate::pending::PendingPart;
 use crate::pending_parts::PendingParts;
@@ -27,8 +30,8 @@ use crate::subscriptions::Subscriptions;
 use crate::verdicts::Verdicts;
 use mcast_txn::{NoMemory, Part, Released, Stamp, Ticket, Topic, TxnId, Verdict};
 use std::alloc::Global;
+use std::collections::VecDeque;
 use std::marker::Model;
-use std::mem;
 use std::sync::Arc;
 use sub_queue::{Outlet, VecOutlet};
 
@@ -42,17 +45,17 @@ pub struct Group<Q: Outlet + Drop> {
     log_limit: usize,
     pending: PendingParts,
     /// For each pending part, in their order, a copy for each subscription.
-    copies: Vec<Copies>,
+    copies: VecDeque<Copies>,
     /// The stamp of the last row that was drained.
     base: Stamp,
     /// With room for a row of each pending part.
-    rows: Vec<Row>,
+    rows: Log,
     frontier: Stamp,
     subscriptions: Subscriptions<Q>,
 }
 
 impl<Q: Outlet + Drop> Model for Group<Q> {
-    ghost use Rattle.std.specs.Prelude.{map, vec_capacity};
+    ghost use Rattle.std.specs.Prelude.{map};
     ghost use Rattle.mcast_group.specs.Group.{GroupState, topic_state};
     ghost use Rattle.mcast_group.specs.Inner.GroupInvariant.{IsKept, entry_of, room_of};
 
@@ -67,7 +70,7 @@ impl<Q: Outlet + Drop> Model for Group<Q> {
     ghost invariant = { λ g. IsKept Q.spare
         (topic_state g.topic g.clock g.log_limit g.pending g.base g.rows.items g.frontier
         (map (entry_of Q.shown) g.subscriptions))
-        (vec_capacity g.rows) g.copies.items g.subscriptions };
+        (g.rows.capacity) g.copies.items g.subscriptions };
 }
 
 impl<Q: Outlet + Drop> Group<Q> {
@@ -81,9 +84,9 @@ impl<Q: Outlet + Drop> Group<Q> {
             clock,
             log_limit,
             pending: PendingParts::new(alloc),
-            copies: Vec::new(alloc),
+            copies: VecDeque::new(alloc),
             base: Stamp::ZERO,
-            rows: Vec::new(alloc),
+            rows: Log::new(alloc),
             frontier: Stamp::ZERO,
             subscriptions: Subscriptions::new(alloc),
         }
@@ -128,7 +131,7 @@ impl<Q: Outlet + Drop> Group<Q> {
     pub fn held(&self, i: usize) -> Option<&Row>
         ensures { option_map (λ row. row.now) result ≡ slice_get self.now.topic.held i }
     {
-        self.rows.get(i)
+        self.rows.row(i)
     }
 
     /// Drains the log: its rows are moved out, in order. Then it has none, its base is the frontier, and the room that
@@ -138,10 +141,9 @@ impl<Q: Outlet + Drop> Group<Q> {
         ensures ok { OnOk result (self.new ≡ record self.old { topic = after_drain self.old.topic }) }
         ensures err { OnErr result (self.new ≡ self.old) }
     {
-        let mut empty = Vec::new(self.alloc);
-        empty.reserve(self.pending.len())?;
+        let rows = self.rows.drain(self.pending.len())?;
         self.base = self.frontier;
-        Ok(LogRows::new(mem::replace(&mut self.rows, empty)))
+        Ok(rows)
     }
 
     /// Releases the part that is due, if one is: that of least key, once it has learnt its stamp. Each open
@@ -155,12 +157,12 @@ impl<Q: Outlet + Drop> Group<Q> {
             return None;
         }
         let part = self.pending.remove(index);
-        let mut copies = self.copies.remove(index);
+        let mut copies = take_at(&mut self.copies, index);
         self.subscriptions
             .give_all(needs, self.frontier, &part, &mut copies);
         let row = part.into_row();
         let (id, stamp) = (row.id, row.stamp);
-        self.rows.push_reserved(row);
+        self.rows.push(row);
         self.frontier = stamp;
         Some((id, stamp))
     }
@@ -260,7 +262,7 @@ impl<Q: Outlet + Drop> Group<Q> {
             return Err(CancelFault::Decided);
         }
         self.pending.remove(index);
-        self.copies.remove(index);
+        take_at(&mut self.copies, index);
         Ok(())
     }
 
@@ -418,7 +420,7 @@ impl Group<VecOutlet> {
 // Makes room for a subscription: in its outlet, and a copy of each pending part for it.
 fn make_room<Q: Outlet + Drop>(
     sub: &mut Subscription<Q>,
-    copies: &mut Vec<Copies>,
+    copies: &mut VecDeque<Copies>,
     pending: &PendingParts,
 ) -> Result<(), NoMemory>
     requires { length copies.old.items ≡ length pending.now }
@@ -429,18 +431,20 @@ fn make_room<Q: Outlet + Drop>(
     ensures kept { (n : ℕ) → HaveCopies n pending.now copies.old.items → HaveCopies n pending.now copies.new.items }
 {
     sub.outlet.reserve(pending.len())?;
-    add_to_each(copies, pending.by_id())?;
+    add_to_each(copies, pending)?;
     Ok(())
 }
 
 // Puts a part and its copies at its index.
 fn put(
     pending: &mut PendingParts,
-    copies: &mut Vec<Copies>,
+    copies: &mut VecDeque<Copies>,
     entry: PendingPart,
     made: Copies,
 ) -> Result<(), NoMemory>
-    requires { length copies.old.items ≡ length pending.old }
+    requires same { length copies.old.items ≡ length pending.old }
+    requires free { is_pending entry.part.id pending.old ≡ false }
+    requires above { (q : Pending) → In q pending.old → stamp_lt (key q) (key entry) ≡ true }
     ensures ok { OnOk result (pending.new ≡ insert_pending entry pending.old) }
     ensures copies { OnOk result ((n : ℕ) → HaveCopies n pending.old copies.old.items → n ≤ length made → AreOf entry.part made → HaveCopies n pending.new copies.new.items) }
     ensures err { OnErr result (pending.new ≡ pending.old) }

@@ -1,9 +1,10 @@
 //! Rows that were drained from a topic's log.
 
-ghost use Rattle.std.specs.Prelude.{◌≡◌, ◌++◌, length, slice_get, IfNone, IfSome, [], ◌∷◌};
+ghost use Rattle.std.specs.Prelude.{◌≡◌, ◌++◌, ◌<◌, ◌^◌, length, slice_get, IfNone, IfSome, [], ◌∷◌};
 ghost use Rattle.std.specs.Option.{option_map};
 ghost use Rattle.mcast_txn.specs.Span.{LogRow};
 
+use crate::log::Log;
 use crate::row::Row;
 use std::collections::VecDeque;
 use std::marker::Model;
@@ -11,40 +12,47 @@ use std::marker::Model;
 /// Rows that were drained from a topic's log, in their order. In contracts it is the list of those that weren't taken.
 #[derive(Drop)]
 pub struct LogRows {
-    rows: VecDeque<Row>,
+    /// What is left of the segment whose rows are taken.
+    first: VecDeque<Row>,
+    rest: Log,
 }
 
 impl Model for LogRows {
-    ghost use Rattle.std.specs.Prelude.{List};
+    ghost use Rattle.std.specs.Prelude.{◌+◌, ◌++◌, ◌<◌, ◌^◌, List, length};
     ghost use Rattle.mcast_txn.specs.Span.{LogRow};
 
     ghost Value = { List LogRow };
 
-    ghost view = { λ r. r.rows.items };
+    ghost view = { λ r. r.first.items ++ r.rest.items };
+
+    ghost invariant = { λ r. length r.first.items + length r.rest.items < 2 ^ 64 };
 }
 
 impl LogRows {
     // These rows, which are moved and not copied.
-    pub(crate) fn new(rows: Vec<Row>) -> LogRows
-        ensures { result ≡ rows.items }
+    pub(crate) fn new(first: VecDeque<Row>, rest: Log) -> LogRows
+        requires none { first.items ≡ [] }
+        requires fits { length rest.items < 2 ^ 64 }
+        ensures { result ≡ rest.items }
     {
-        LogRows {
-            rows: VecDeque::from(rows),
-        }
+        LogRows { first, rest }
     }
 
     /// How many rows there are.
     pub fn len(&self) -> usize
         ensures { result ≡ length self.now }
     {
-        self.rows.len()
+        self.first.len() + self.rest.len()
     }
 
     /// The row at index `i`, from 0, or `None` past the last.
     pub fn row(&self, i: usize) -> Option<&Row>
         ensures { option_map (λ row. row.now) result ≡ slice_get self.now i }
     {
-        self.rows.get(i)
+        match i.checked_sub(self.first.len()) {
+            None => self.first.get(i),
+            Some(past) => self.rest.row(past),
+        }
     }
 
     /// Takes out the first row: `None` exactly where there is none.
@@ -52,6 +60,11 @@ impl LogRows {
         ensures some { IfSome result (λ row. self.old ≡ row ∷ self.new) }
         ensures none { IfNone result ((self.old ≡ []) × (self.new ≡ [])) }
     {
-        self.rows.pop_front()
+        if self.first.is_empty()
+            && let Some(rows) = self.rest.take_segment()
+        {
+            self.first = rows;
+        }
+        self.first.pop_front()
     }
 }

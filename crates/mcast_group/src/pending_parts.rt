@@ -1,29 +1,41 @@
 //! The parts that are pending at a topic.
 
-ghost use Rattle.std.specs.Prelude.{◌≡◌, ◌<◌, ◌≤◌, [], length, position, slice_index_or, slice_set, MatchOption, Some, None, IfOk, IfErr, OnOk, OnErr};
-ghost use Rattle.std.specs.List.{insert, remove};
-ghost use Rattle.mcast_txn.specs.Ids.{same_id};
-ghost use Rattle.mcast_group.specs.Machine.{Pending, find_pending, insert_pending, learn_fault_of, least_part};
+ghost use Rattle.std.specs.Prelude.{◌≡◌, ◌<◌, ◌≤◌, true, false, [], length, slice_index_or, slice_set, MatchOption, Some, None, IfOk, IfErr, OnOk, OnErr};
+ghost use Rattle.std.specs.List.{insert, position, remove};
+ghost use Rattle.mcast_txn.specs.Ids.{id_lt, same_id};
+ghost use Rattle.mcast_txn.specs.Lists.{In};
+ghost use Rattle.mcast_txn.specs.Stamp.{stamp_lt};
+ghost use Rattle.mcast_group.specs.Machine.{Pending, clashes, find_pending, insert_pending, is_pending, key, learn_fault_of, least_part};
+ghost use Rattle.mcast_group.specs.Inner.Keys.{IsPlace};
 
 use crate::fault::LearnFault;
-use crate::pending::{PendingPart, index_for, index_of, index_to_learn, least_index};
+use crate::keys::Keys;
+use crate::pending::PendingPart;
+use crate::slot::Slot;
 use mcast_txn::{NoMemory, Stamp, TxnId, Verdict};
 use std::alloc::Global;
+use std::collections::VecDeque;
 use std::marker::Model;
 
-/// The parts that are pending, by rising id. In contracts it is the list of them.
+/// The parts that are pending, twice: by rising id, and their keys, falling. So a part is found by halving, and the least
+/// is at the end. In contracts it is the list by id.
 #[derive(Drop)]
 pub(crate) struct PendingParts {
-    parts: Vec<PendingPart>,
+    alloc: Global,
+    slots: VecDeque<Slot>,
+    keys: Keys,
 }
 
 impl Model for PendingParts {
     ghost use Rattle.std.specs.Prelude.{List};
     ghost use Rattle.mcast_group.specs.Machine.{Pending};
+    ghost use Rattle.mcast_group.specs.Inner.Keys.{AreKeysOf};
 
     ghost Value = { List Pending };
 
-    ghost view = { λ p. p.parts.items };
+    ghost view = { λ p. p.slots.items };
+
+    ghost invariant = { λ p. AreKeysOf p.keys p.slots.items };
 }
 
 impl PendingParts {
@@ -32,7 +44,9 @@ impl PendingParts {
         ensures { result ≡ [] }
     {
         PendingParts {
-            parts: Vec::new(alloc),
+            alloc,
+            slots: VecDeque::new(alloc),
+            keys: Keys::new(alloc),
         }
     }
 
@@ -40,14 +54,7 @@ impl PendingParts {
     pub(crate) fn len(&self) -> usize
         ensures { result ≡ length self.now }
     {
-        self.parts.len()
-    }
-
-    // All of them, by rising id.
-    pub(crate) fn by_id(&self) -> &[PendingPart]
-        ensures { result.now ≡ self.now }
-    {
-        &self.parts
+        self.slots.len()
     }
 
     // The part at an index.
@@ -55,14 +62,26 @@ impl PendingParts {
         requires { index < length self.now }
         ensures { result.now ≡ slice_index_or self.now index result.now }
     {
-        &self.parts[index]
+        self.slots[index].part()
+    }
+
+    // How many parts have an id below this one.
+    fn place(&self, id: TxnId) -> usize
+        ensures place { IsPlace (λ p. id_lt p.part.id id) self.now result }
+        ensures within { result ≤ length self.now }
+    {
+        self.slots.partition_point(|slot| slot.is_before(id))
     }
 
     // The index of the transaction's part.
     pub(crate) fn index_of(&self, id: TxnId) -> Option<usize>
         ensures { result ≡ position (λ p. same_id p.part.id id) self.now }
     {
-        index_of(&self.parts, id)
+        let index = self.place(id);
+        if self.slots.get(index)?.id() != id {
+            return None;
+        }
+        Some(index)
     }
 
     // The index of the part of least key.
@@ -70,7 +89,8 @@ impl PendingParts {
         ensures { MatchOption result (self.now ≡ [])
             (λ i. (i < length self.now) × ((d : Pending) → least_part self.now ≡ Some (slice_index_or self.now i d))) }
     {
-        least_index(&self.parts)
+        let id = self.keys.least()?;
+        self.index_of(id)
     }
 
     // The index of the part that is to learn the verdict's stamp.
@@ -80,15 +100,37 @@ impl PendingParts {
         ensures learns { OnOk result (learn_fault_of verdict.now self.now (find_pending id self.now) ≡ None) }
         ensures index { IfOk result (λ index. position (λ p. same_id p.part.id id) self.now ≡ Some index) }
     {
-        index_to_learn(&self.parts, id, verdict)
+        let Some(index) = self.index_of(id) else {
+            return Err(LearnFault::NotPending);
+        };
+        let part = self.at(index);
+        if part.is_foreign(verdict) {
+            return Err(LearnFault::Foreign);
+        }
+        if self.clashes(part, verdict) {
+            return Err(LearnFault::Clash);
+        }
+        Ok(index)
     }
 
-    // The part at an index takes its stamp.
+    // Whether the part has learnt another stamp than the verdict's, or another part has that stamp as its key.
+    fn clashes(&self, part: &PendingPart, verdict: &Verdict) -> bool
+        ensures { result ≡ clashes verdict.now part.now self.now }
+    {
+        let stamp = verdict.stamp();
+        part.has_learnt_other(stamp) || self.keys.has_other_at(part.id(), stamp)
+    }
+
+    // The part at an index takes its stamp, which isn't below its key and is no other part's.
     pub(crate) fn learn(&mut self, index: usize, stamp: Stamp)
-        requires { index < length self.old }
+        requires within { index < length self.old }
+        requires past { (d : Pending) → stamp_lt stamp (key (slice_index_or self.old index d)) ≡ false }
+        requires free { (d q : Pending) → In q self.old → key q ≡ stamp → q ≡ slice_index_or self.old index d }
         ensures { (d : Pending) → self.new ≡ slice_set self.old index (record (slice_index_or self.old index d) { learnt = Some stamp }) }
     {
-        self.parts[index].learn(stamp);
+        let keyed = self.at(index).keyed();
+        self.keys.raise(keyed, stamp);
+        self.slots[index].learn(stamp);
     }
 
     // Takes out the part at an index.
@@ -97,18 +139,28 @@ impl PendingParts {
         ensures value { result ≡ slice_index_or self.old index result }
         ensures items { self.new ≡ remove self.old index }
     {
-        self.parts.remove(index)
+        let keyed = self.at(index).keyed();
+        self.keys.remove(keyed);
+        self.slots.remove(index).unwrap().into_part()
     }
 
-    // Puts a part among the others, and returns its index.
+    // Puts a part among the others, whose keys are below its own, and returns its index.
     pub(crate) fn insert(&mut self, part: PendingPart) -> Result<usize, NoMemory>
+        requires free { is_pending part.part.id self.old ≡ false }
+        requires above { (q : Pending) → In q self.old → stamp_lt (key q) (key part) ≡ true }
         ensures within { IfOk result (λ index. index ≤ length self.old) }
         ensures at { IfOk result (λ index. self.new ≡ insert self.old index part) }
         ensures ok { OnOk result (self.new ≡ insert_pending part self.old) }
         ensures err { OnErr result (self.new ≡ self.old) }
     {
-        let index = index_for(&self.parts, part.id());
-        self.parts.insert(index, part)?;
+        let keyed = part.keyed();
+        let index = self.place(part.id());
+        let slot = Slot::new(self.alloc, part)?;
+        self.keys.put_greatest(keyed)?;
+        let Ok(()) = self.slots.insert(index, slot) else {
+            self.keys.drop_greatest();
+            return Err(NoMemory);
+        };
         Ok(index)
     }
 }

@@ -3,8 +3,11 @@
 mod calls;
 mod draining;
 mod made;
+mod many;
 mod memory;
 mod parts;
 mod plain;
 mod schedules;
+mod segments;
+mod shared;
 mod subscriptions;

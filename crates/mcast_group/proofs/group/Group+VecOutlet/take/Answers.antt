@@ -1,5 +1,4 @@
 use Rattle.std.proofs.Common.{get_or, set, List, map, Option, Some, refl, sym, ap, subst, ◌∙◌}
-use Rattle.std.specs.Vec.{vec_capacity}
 use Rattle.sub_queue.specs.Shown.{Room}
 use Rattle.mcast_group.specs.declared.subscription.Subscription.{Subscription}
 use Rattle.mcast_group.specs.Group.{room_at, shown_with, topic_state}
@@ -44,8 +43,8 @@ invariant_of-self c =
     let old = get_or subs place some_sub in
     let new : Subscription VecOutlet = record old { outlet = after_take old.outlet } in
     let x = topic_state s.topic s.clock s.log_limit s.pending s.base s.rows.items s.frontier in
-    subst (λ (zs : List (Subscription VecOutlet)). IsKept (λ (o : VecOutlet). o.spare) (x (map (entry_of shown_of) zs)) (vec_capacity s.rows) s.copies.items zs) (sym (c.take.ensures.taken some_sub))
-    (kept_taken (λ (o : VecOutlet). o.spare) (x (map (entry_of shown_of) subs)) _ (vec_capacity s.rows) s.copies.items subs place some_sub new c.self.invariant
+    subst (λ (zs : List (Subscription VecOutlet)). IsKept (λ (o : VecOutlet). o.spare) (x (map (entry_of shown_of) zs)) s.rows.capacity s.copies.items zs) (sym (c.take.ensures.taken some_sub))
+    (kept_taken (λ (o : VecOutlet). o.spare) (x (map (entry_of shown_of) subs)) _ s.rows.capacity s.copies.items subs place some_sub new c.self.invariant
     (ap x (map_set (entry_of shown_of) subs place new some_sub refl ends.0)) ends.0 refl refl)
 
 pub returns-clause-next : goal.returns-clause-next

@@ -23,8 +23,8 @@ returns-then-is_learnt-clause-answer g c =
     let e = cancel_decided c.args.id (topic_state s.topic s.clock s.log_limit s.pending s.base s.rows.items s.frontier (map (entry_of g.Q.Outlet.shown) s.subscriptions)) c.at.result.now found (sym c.is_learnt.ensures ∙ c.if-is_learnt.true) in
     sym (ap (λ (z : GroupState). result_of (cancel_fault c.args.id z.topic)) (sym c.self.view_is) ∙ ap result_of e)
 
-pub remove-requires-2 : goal.remove-requires-2
-remove-requires-2 g c =
+pub take_at-requires : goal.take_at-requires
+take_at-requires g c =
     let s = c.self.inside in
     let at = c.index_of.ensures in
     let within = (part_at c.args.id s.pending c.in-Some.index c.remove.result (sym at ∙ c.in-Some.is)).in_range in
@@ -33,7 +33,7 @@ remove-requires-2 g c =
     omega arith
 
 -- the part at the index is gone
-gone : (g : given.Over) (c : goal.After-drop-remove-3 g) → topic_state c.self.inside.topic c.self.inside.clock c.self.inside.log_limit c.remove.new.self c.self.inside.base c.self.inside.rows.items c.self.inside.frontier (map (entry_of g.Q.Outlet.shown) c.self.inside.subscriptions) ≡ after_cancel c.args.id (topic_state c.self.inside.topic c.self.inside.clock c.self.inside.log_limit c.self.inside.pending c.self.inside.base c.self.inside.rows.items c.self.inside.frontier (map (entry_of g.Q.Outlet.shown) c.self.inside.subscriptions))
+gone : (g : given.Over) (c : goal.After-drop-take_at g) → topic_state c.self.inside.topic c.self.inside.clock c.self.inside.log_limit c.remove.new.self c.self.inside.base c.self.inside.rows.items c.self.inside.frontier (map (entry_of g.Q.Outlet.shown) c.self.inside.subscriptions) ≡ after_cancel c.args.id (topic_state c.self.inside.topic c.self.inside.clock c.self.inside.log_limit c.self.inside.pending c.self.inside.base c.self.inside.rows.items c.self.inside.frontier (map (entry_of g.Q.Outlet.shown) c.self.inside.subscriptions))
 gone g c =
     let s = c.self.inside in
     let at = c.index_of.ensures in
@@ -45,7 +45,7 @@ invariant_of-self g c =
     let s = c.self.inside in
     let at = c.index_of.ensures in
     let within = (part_at c.args.id s.pending c.in-Some.index c.remove.result (sym at ∙ c.in-Some.is)).in_range in
-    rw c.remove-2.ensures.items (kept_cancelled g.Q.Outlet.spare (topic_state s.topic s.clock s.log_limit s.pending s.base s.rows.items s.frontier (map (entry_of g.Q.Outlet.shown) s.subscriptions)) _ _ s.copies.items s.subscriptions c.args.id c.in-Some.index c.self.invariant (gone g c) c.remove.ensures.items within)
+    rw c.take_at.ensures.items (kept_cancelled g.Q.Outlet.spare (topic_state s.topic s.clock s.log_limit s.pending s.base s.rows.items s.frontier (map (entry_of g.Q.Outlet.shown) s.subscriptions)) _ _ s.copies.items s.subscriptions c.args.id c.in-Some.index c.self.invariant (gone g c) c.remove.ensures.items within)
 
 pub returns-clause-answer : goal.returns-clause-answer
 returns-clause-answer g c =

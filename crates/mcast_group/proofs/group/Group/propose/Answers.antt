@@ -32,7 +32,7 @@ returns-then-len-self-clause-fault g c =
     let part = data_of (arc_value c.args.part) in
     let x = topic_state s.topic s.clock s.log_limit s.pending s.base s.rows.items s.frontier (map (entry_of g.Q.Outlet.shown) s.subscriptions) in
     let at = rw c.deref.ensures at c.index_of.ensures in
-    let e = fault_log c.args.floor part x (not_placed part.id s.pending c.index_of.result at (sym c.is_some.ensures ∙ c.if-is_some.false)) (omega arith) (omega (arith, s.rows.ok.0)) in
+    let e = fault_log c.args.floor part x (not_placed part.id s.pending c.index_of.result at (sym c.is_some.ensures ∙ c.if-is_some.false)) (omega arith) (omega arith) in
     sym (ap or_no_memory e) ∙ ap (λ (z : GroupState). propose_refusal c.args.floor part z.topic) c.self.view_is
 
 pub enter-requires-clause-may : goal.enter-requires-clause-may
@@ -41,7 +41,7 @@ enter-requires-clause-may g c =
     let part = data_of (arc_value c.args.part) in
     let x = topic_state s.topic s.clock s.log_limit s.pending s.base s.rows.items s.frontier (map (entry_of g.Q.Outlet.shown) s.subscriptions) in
     let at = rw c.deref.ensures at c.index_of.ensures in
-    let e = fault_none c.args.floor part x (not_placed part.id s.pending c.index_of.result at (sym c.is_some.ensures ∙ c.if-is_some.false)) (omega arith) (omega (arith, s.rows.ok.0)) in
+    let e = fault_none c.args.floor part x (not_placed part.id s.pending c.index_of.result at (sym c.is_some.ensures ∙ c.if-is_some.false)) (omega arith) (omega arith) in
     let n : c.max-last.result + 1 ≡ max s.clock c.args.floor.n + 1 = ap (λ (z : ℕ). z + 1) c.max-last.ensures in
     (c.args.floor, n ∙ ap (λ (z : GroupState). next_number c.args.floor z.topic) c.self.view_is, ap (λ (z : GroupState). propose_fault c.args.floor part z.topic) (sym c.self.view_is) ∙ e)
 
@@ -51,7 +51,7 @@ returns-in_default-clause-fault g c =
     let part = data_of (arc_value c.args.part) in
     let x = topic_state s.topic s.clock s.log_limit s.pending s.base s.rows.items s.frontier (map (entry_of g.Q.Outlet.shown) s.subscriptions) in
     let at = rw c.deref.ensures at c.index_of.ensures in
-    let e = fault_none c.args.floor part x (not_placed part.id s.pending c.index_of.result at (sym c.is_some.ensures ∙ c.if-is_some.false)) (omega arith) (omega (arith, s.rows.ok.0)) in
+    let e = fault_none c.args.floor part x (not_placed part.id s.pending c.index_of.result at (sym c.is_some.ensures ∙ c.if-is_some.false)) (omega arith) (omega arith) in
     sym (ap or_no_memory e) ∙ ap (λ (z : GroupState). propose_refusal c.args.floor part z.topic) c.self.view_is
 
 pub returns-clause-allowed : goal.returns-clause-allowed
@@ -60,5 +60,5 @@ returns-clause-allowed g c =
     let part = data_of (arc_value c.args.part) in
     let x = topic_state s.topic s.clock s.log_limit s.pending s.base s.rows.items s.frontier (map (entry_of g.Q.Outlet.shown) s.subscriptions) in
     let at = rw c.deref.ensures at c.index_of.ensures in
-    let e = fault_none c.args.floor part x (not_placed part.id s.pending c.index_of.result at (sym c.is_some.ensures ∙ c.if-is_some.false)) (omega arith) (omega (arith, s.rows.ok.0)) in
+    let e = fault_none c.args.floor part x (not_placed part.id s.pending c.index_of.result at (sym c.is_some.ensures ∙ c.if-is_some.false)) (omega arith) (omega arith) in
     ap (λ (z : GroupState). propose_fault c.args.floor part z.topic) (sym c.self.view_is) ∙ e

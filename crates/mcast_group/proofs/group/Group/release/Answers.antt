@@ -1,6 +1,5 @@
 use Rattle.std.proofs.Common.{◌≡◌, ◌<◌, ◌≤◌, ◌+◌, ◌++◌, ◌∷◌, [], ℕ, List, map, length, get_or, Some, refl, sym, ap, subst, ◌∙◌, arith}
 use Rattle.std.specs.Option.{option_map}
-use Rattle.std.specs.Vec.{vec_capacity}
 use Rattle.mcast_txn.specs.Span.{LogRow}
 use Rattle.mcast_group.specs.declared.subscription.Subscription.{Subscription}
 use Rattle.mcast_group.specs.Group.{GroupState, Releases, topic_state}
@@ -28,8 +27,8 @@ returns-then-not-is_learnt-clause-released g c =
     let none = none_learnt x c.in_ok-index.index c.at.result.now (c.in_ok-index.ensures.1) c.at.ensures (sym c.is_learnt.ensures ∙ c.if-not-is_learnt.true) in
     none_released g.Q.Outlet.may_accept c.args.self.now (subst (λ (z : GroupState). due_part z.topic ≡ _) c.self.view_is none)
 
-pub remove-copies-requires : goal.remove-copies-requires
-remove-copies-requires g c =
+pub take_at-copies-requires : goal.take_at-copies-requires
+take_at-copies-requires g c =
     let s = c.self.inside in
     let within : c.in_ok-index.index < length s.pending = c.in_ok-index.ensures.0 in
     let many = copies_length (length s.subscriptions) s.pending s.copies.items c.self.invariant.copied in
@@ -42,19 +41,19 @@ give_all-requires-clause-ready g c =
     let x = topic_state s.topic s.clock s.log_limit s.pending s.base s.rows.items s.frontier (map (entry_of g.Q.Outlet.shown) s.subscriptions) in
     let within : c.in_ok-index.index < length s.pending = c.in_ok-index.ensures.0 in
     let due = due_found x c.in_ok-index.index c.at.result.now c.remove-part.result (c.in_ok-index.ensures.1) within c.at.ensures c.remove-part.ensures.value (sym c.is_learnt.ensures ∙ c.if-not-is_learnt.false) in
-    (ready g.Q.Outlet.shown g.Q.Outlet.spare x (vec_capacity s.rows) s.copies.items s.subscriptions c.self.invariant refl c.remove-part.result due)
+    (ready g.Q.Outlet.shown g.Q.Outlet.spare x s.rows.capacity s.copies.items s.subscriptions c.self.invariant refl c.remove-part.result due)
 
 pub give_all-requires-clause-copies : goal.give_all-requires-clause-copies
 give_all-requires-clause-copies g c =
     let s = c.self.inside in
     let within : c.in_ok-index.index < length s.pending = c.in_ok-index.ensures.0 in
-    (copies_at (length s.subscriptions) s.pending s.copies.items c.in_ok-index.index c.remove-part.result c.remove-copies.result c.self.invariant.copied within c.remove-part.ensures.value c.remove-copies.ensures.value).1
+    (copies_at (length s.subscriptions) s.pending s.copies.items c.in_ok-index.index c.remove-part.result c.take_at-copies.result c.self.invariant.copied within c.remove-part.ensures.value c.take_at-copies.ensures.value).1
 
 pub give_all-requires-clause-many : goal.give_all-requires-clause-many
 give_all-requires-clause-many g c =
     let s = c.self.inside in
     let within : c.in_ok-index.index < length s.pending = c.in_ok-index.ensures.0 in
-    (copies_at (length s.subscriptions) s.pending s.copies.items c.in_ok-index.index c.remove-part.result c.remove-copies.result c.self.invariant.copied within c.remove-part.ensures.value c.remove-copies.ensures.value).0
+    (copies_at (length s.subscriptions) s.pending s.copies.items c.in_ok-index.index c.remove-part.result c.take_at-copies.result c.self.invariant.copied within c.remove-part.ensures.value c.take_at-copies.ensures.value).0
 
 -- the part that was taken out was due
 due : (g : given.Over) (c : goal.After-drop-copies-inside g) → due_part (topic_state c.self.inside.topic c.self.inside.clock c.self.inside.log_limit c.self.inside.pending c.self.inside.base c.self.inside.rows.items c.self.inside.frontier (map (entry_of g.Q.Outlet.shown) c.self.inside.subscriptions)) ≡ Some c.remove-part.result
@@ -79,14 +78,14 @@ gone : (g : given.Over) (c : goal.After-drop-copies-inside g) → c.in_ok-index.
 gone g c = c.in_ok-index.ensures.0
 
 -- the machine's release
-moved : (g : given.Over) (c : goal.After-drop-copies-inside g) → topic_state c.self.inside.topic c.self.inside.clock c.self.inside.log_limit c.remove-part.new.self c.self.inside.base c.push_reserved.new.self.items c.row.inside.stamp (map (entry_of g.Q.Outlet.shown) c.give_all.new.self) ≡ after_release_of (took g c).takes c.remove-part.result (topic_state c.self.inside.topic c.self.inside.clock c.self.inside.log_limit c.self.inside.pending c.self.inside.base c.self.inside.rows.items c.self.inside.frontier (map (entry_of g.Q.Outlet.shown) c.self.inside.subscriptions))
+moved : (g : given.Over) (c : goal.After-drop-copies-inside g) → topic_state c.self.inside.topic c.self.inside.clock c.self.inside.log_limit c.remove-part.new.self c.self.inside.base c.push.new.self.items c.row.inside.stamp (map (entry_of g.Q.Outlet.shown) c.give_all.new.self) ≡ after_release_of (took g c).takes c.remove-part.result (topic_state c.self.inside.topic c.self.inside.clock c.self.inside.log_limit c.self.inside.pending c.self.inside.base c.self.inside.rows.items c.self.inside.frontier (map (entry_of g.Q.Outlet.shown) c.self.inside.subscriptions))
 moved g c =
     let s = c.self.inside in
     let p = c.remove-part.result in
     let row = c.row.view_is ∙ c.into_row-row.ensures in
     released_state s.topic s.clock s.log_limit s.pending s.base s.rows.items s.frontier (map (entry_of g.Q.Outlet.shown) s.subscriptions) (took g c).takes p _ _ _ _
     (c.remove-part.ensures.items ∙ sym (without_at s.pending c.in_ok-index.index p c.self.invariant.sound.by_id (gone g c) (sym c.remove-part.ensures.value)))
-    (c.push_reserved.ensures.items ∙ ap (λ (r : LogRow). s.rows.items ++ r ∷ []) c.into_row-row.ensures)
+    (c.push.ensures.items ∙ ap (λ (r : LogRow). s.rows.items ++ r ∷ []) c.into_row-row.ensures)
     (ap (λ (r : LogRow). r.stamp) row)
     (took g c).is
 
@@ -94,11 +93,11 @@ pub invariant_of-self : goal.invariant_of-self
 invariant_of-self g c =
     let s = c.self.inside in
     let x = topic_state s.topic s.clock s.log_limit s.pending s.base s.rows.items s.frontier (map (entry_of g.Q.Outlet.shown) s.subscriptions) in
-    let y = λ (zs : List (Subscription g.row.Q.Denot)). topic_state s.topic s.clock s.log_limit c.remove-part.new.self s.base c.push_reserved.new.self.items c.row.inside.stamp (map (entry_of g.Q.Outlet.shown) zs) in
+    let y = λ (zs : List (Subscription g.row.Q.Denot)). topic_state s.topic s.clock s.log_limit c.remove-part.new.self s.base c.push.new.self.items c.row.inside.stamp (map (entry_of g.Q.Outlet.shown) zs) in
     let left : (k : ℕ) (d : Subscription g.row.Q.Denot) → k < length s.subscriptions → g.Q.Outlet.spare (get_or s.subscriptions k d).outlet ≤ g.Q.Outlet.spare (get_or c.give_all.new.self k d).outlet + 1 =
     c.give_all.ensures.spare in
-    let kept = kept_released g.Q.Outlet.shown g.Q.Outlet.spare x (vec_capacity s.rows) s.copies.items s.subscriptions c.self.invariant refl (took g c).takes c.remove-part.result c.in_ok-index.index (y c.give_all.new.self) c.give_all.new.self (due g c) (gone g c) (moved g c) c.remove-part.ensures.items refl (many g c) left in
-    rw (c.push_reserved.ensures.capacity, c.remove-copies.ensures.items) kept
+    let kept = kept_released g.Q.Outlet.shown g.Q.Outlet.spare x s.rows.capacity s.copies.items s.subscriptions c.self.invariant refl (took g c).takes c.remove-part.result c.in_ok-index.index (y c.give_all.new.self) c.give_all.new.self (due g c) (gone g c) (moved g c) c.remove-part.ensures.items refl (many g c) left in
+    rw (c.push.ensures.capacity, c.take_at-copies.ensures.items) kept
 
 pub returns-clause-due : goal.returns-clause-due
 returns-clause-due g c =
@@ -110,6 +109,6 @@ returns-clause-released g c =
     let s = c.self.inside in
     let shown = g.Q.Outlet.shown in
     let x = topic_state s.topic s.clock s.log_limit s.pending s.base s.rows.items s.frontier (map (entry_of shown) s.subscriptions) in
-    let y = λ (zs : List (Subscription g.row.Q.Denot)). topic_state s.topic s.clock s.log_limit c.remove-part.new.self s.base c.push_reserved.new.self.items c.row.inside.stamp (map (entry_of shown) zs) in
+    let y = λ (zs : List (Subscription g.row.Q.Denot)). topic_state s.topic s.clock s.log_limit c.remove-part.new.self s.base c.push.new.self.items c.row.inside.stamp (map (entry_of shown) zs) in
     let done = some_released g.Q.Outlet.may_accept x (y c.give_all.new.self) (map (room_of shown) s.subscriptions) (map (room_of shown) c.give_all.new.self) c.remove-part.result (map (entry_of shown) c.give_all.new.self) (due g c) (took g c) (moved g c) (gave g c).rooms in
     subst (λ (z : GroupState). Releases g.Q.Outlet.may_accept z (record { topic = y c.give_all.new.self; rooms = map (room_of shown) c.give_all.new.self })) c.self.view_is done

@@ -6,9 +6,21 @@ use Rattle.mcast_group.specs.Inner.GroupInvariant.{entry_of, room_of}
 use Rattle.mcast_group.specs.Machine.{TopicState, after_learn}
 use Rattle.mcast_group.proofs.Indices.{part_at, told_found}
 use Rattle.mcast_group.proofs.Groups.{learned_state}
-use Rattle.mcast_group.proofs.Learning.{kept_learned}
+use Rattle.mcast_group.proofs.Learning.{kept_learned, may_learn}
 use Rattle.mcast_group.proofs.group.Group.store.Given as given
 use Rattle.mcast_group.proofs.group.Group.store.Goals as goal
+
+pub learn-requires-clause-past : goal.learn-requires-clause-past
+learn-requires-clause-past g c =
+    let s = c.self.inside in
+    let can = subst (λ (z : GroupState). CanLearn c.args.id c.args.index c.args.stamp z.topic) (sym c.self.view_is) c.requires in
+    (may_learn c.args.id c.args.index c.args.stamp (topic_state s.topic s.clock s.log_limit s.pending s.base s.rows.items s.frontier (map (entry_of g.Q.Outlet.shown) s.subscriptions)) c.self.invariant.sound can).past
+
+pub learn-requires-clause-free : goal.learn-requires-clause-free
+learn-requires-clause-free g c =
+    let s = c.self.inside in
+    let can = subst (λ (z : GroupState). CanLearn c.args.id c.args.index c.args.stamp z.topic) (sym c.self.view_is) c.requires in
+    (may_learn c.args.id c.args.index c.args.stamp (topic_state s.topic s.clock s.log_limit s.pending s.base s.rows.items s.frontier (map (entry_of g.Q.Outlet.shown) s.subscriptions)) c.self.invariant.sound can).free
 
 -- the part at the index has learnt the stamp
 written : (g : given.Over) (c : goal.After-self-1 g) → topic_state c.self.inside.topic c.max-self-inside.result c.self.inside.log_limit c.learn.new.self c.self.inside.base c.self.inside.rows.items c.self.inside.frontier (map (entry_of g.Q.Outlet.shown) c.self.inside.subscriptions) ≡ after_learn c.args.id c.args.stamp (topic_state c.self.inside.topic c.self.inside.clock c.self.inside.log_limit c.self.inside.pending c.self.inside.base c.self.inside.rows.items c.self.inside.frontier (map (entry_of g.Q.Outlet.shown) c.self.inside.subscriptions))

@@ -1,6 +1,5 @@
 use Rattle.std.proofs.Common.{◌≡◌, ◌≤◌, ℕ, ◌+◌, [], List, map, length, None, refl, sym, ap, subst, ◌∙◌}
 use Rattle.mcast_group.specs.Group.{GroupState, group_after_subscribe, rooms_with, topic_state, sub_refusal}
-use Rattle.std.specs.Vec.{vec_capacity}
 use Rattle.mcast_txn.specs.Span.{Item}
 use Rattle.sub_queue.specs.Shown.{Room, Shown}
 use Rattle.mcast_group.specs.declared.subscription.Subscription.{Subscription}
@@ -68,8 +67,8 @@ invariant_of-self-2 g c =
     let is = begun g c ∙ ap (λ (n : ℕ). after_subscribe n x) (sym number) in
     let copied : HaveCopies (length s.subscriptions + 1) s.pending c.make_room.new.copies.items = (c.in-Ok.ensures.more) (length s.subscriptions) c.self.invariant.copied in
     let left : new.to ≡ None → length s.pending ≤ g.Q.Outlet.spare new.outlet = c.in-Ok.ensures.spare in
-    let kept = kept_subscribed shown g.Q.Outlet.spare x _ (vec_capacity s.rows) s.copies.items c.make_room.new.copies.items s.subscriptions new c.self.invariant free is left copied in
-    subst (λ (zs : List (Subscription g.row.Q.Denot)). IsKept g.Q.Outlet.spare (topic_state s.topic s.clock s.log_limit s.pending s.base s.rows.items s.frontier (map (entry_of shown) c.insert.new.self)) (vec_capacity s.rows) c.make_room.new.copies.items zs) (sym c.in_default-insert.ensures.ok) kept
+    let kept = kept_subscribed shown g.Q.Outlet.spare x _ s.rows.capacity s.copies.items c.make_room.new.copies.items s.subscriptions new c.self.invariant free is left copied in
+    subst (λ (zs : List (Subscription g.row.Q.Denot)). IsKept g.Q.Outlet.spare (topic_state s.topic s.clock s.log_limit s.pending s.base s.rows.items s.frontier (map (entry_of shown) c.insert.new.self)) s.rows.capacity c.make_room.new.copies.items zs) (sym c.in_default-insert.ensures.ok) kept
 
 pub returns-clause-allowed : goal.returns-clause-allowed
 returns-clause-allowed g c =

@@ -14,8 +14,8 @@ overflow_sub-result g c =
     let more = turn_holds may finds c.args.self.now c.release_all.new.self turns in
     let a = ap (λ (z : GroupState). length z.topic.held) c.self.view_is in
     let b = ap (λ (z : GroupState). length z.topic.held) c.self-2.view_is in
-    let n = c.self.inside.rows.ok.0 in
-    let m = c.self-2.inside.rows.ok.0 in
+    let n = c.len-held.ensures in
+    let m = c.len.ensures in
     omega arith
 
 pub returns-clause-turned : goal.returns-clause-turned

@@ -1,6 +1,5 @@
 use Rattle.std.proofs.Common.{◌≡◌, ◌==◌, not, get_or, List, map, Some, refl, sym, ap, subst, ◌∙◌}
 use Rattle.std.specs.List.{filter}
-use Rattle.std.specs.Vec.{vec_capacity}
 use Rattle.sub_queue.specs.Shown.{Room}
 use Rattle.mcast_group.specs.declared.subscription.Subscription.{Subscription}
 use Rattle.mcast_group.specs.Group.{GroupState, HasLeft, topic_state, group_after_unsubscribe}
@@ -28,8 +27,8 @@ invariant_of-self g c =
     let at = c.index_of.ensures in
     let ends = ends_found shown c.args.number subs c.in-Some.index c.remove-sub.result (sym at ∙ c.in-Some.is) in
     let es : map (entry_of shown) c.remove-sub.new.self ≡ filter (λ (e : Entry). not (e.number == c.args.number)) (map (entry_of shown) subs) = ap (map (entry_of shown)) c.remove-sub.ensures.items ∙ sym (ends.1.left (numbers_differ _ c.self.invariant.sound.numbers)) in
-    let kept = kept_unsubscribed shown g.Q.Outlet.spare x _ (vec_capacity s.rows) s.copies.items subs c.args.number c.in-Some.index c.self.invariant (ap (λ (zs : List Entry). topic_state s.topic s.clock s.log_limit s.pending s.base s.rows.items s.frontier zs) es) ends.0 in
-    subst (λ (zs : List (Subscription g.row.Q.Denot)). IsKept g.Q.Outlet.spare (topic_state s.topic s.clock s.log_limit s.pending s.base s.rows.items s.frontier (map (entry_of shown) c.remove-sub.new.self)) (vec_capacity s.rows) s.copies.items zs) (sym c.remove-sub.ensures.items) kept
+    let kept = kept_unsubscribed shown g.Q.Outlet.spare x _ s.rows.capacity s.copies.items subs c.args.number c.in-Some.index c.self.invariant (ap (λ (zs : List Entry). topic_state s.topic s.clock s.log_limit s.pending s.base s.rows.items s.frontier zs) es) ends.0 in
+    subst (λ (zs : List (Subscription g.row.Q.Denot)). IsKept g.Q.Outlet.spare (topic_state s.topic s.clock s.log_limit s.pending s.base s.rows.items s.frontier (map (entry_of shown) c.remove-sub.new.self)) s.rows.capacity s.copies.items zs) (sym c.remove-sub.ensures.items) kept
 
 pub returns-clause-left : goal.returns-clause-left
 returns-clause-left g c =

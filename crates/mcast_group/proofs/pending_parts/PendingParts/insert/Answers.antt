@@ -1,0 +1,47 @@
+use Rattle.std.proofs.Common.{◌≡◌, ◌∷◌, true, List, sym, ap, subst, ◌∙◌}
+use Rattle.std.specs.List.{insert}
+use Rattle.mcast_txn.specs.Ids.{id_lt}
+use Rattle.mcast_txn.specs.Stamp.{stamp_lt}
+use Rattle.mcast_txn.specs.declared.id.TxnId.{TxnId}
+use Rattle.mcast_txn.specs.declared.stamp.Stamp.{Stamp}
+use Rattle.mcast_group.specs.declared.keys.Keyed.{Keyed}
+use Rattle.mcast_group.specs.Machine.{Pending, insert_pending, key}
+use Rattle.mcast_group.specs.Inner.Keys.{AreKeysOf, IsPlace, keyed_of}
+use Rattle.mcast_group.proofs.ByKey.{keys_put, put_at_place}
+use Rattle.mcast_group.proofs.pending_parts.PendingParts.insert.Goals as goal
+
+pub put_greatest-requires : goal.put_greatest-requires
+put_greatest-requires c = λ k stands.
+    let now = c.args.self.now in
+    let keys = c.self.inside.keys in
+    let are : AreKeysOf keys now = subst (AreKeysOf keys) c.self.view_is c.self.invariant in
+    let p = c.args.part in
+    let keyed : c.keyed-keyed.result ≡ keyed_of p = c.keyed-keyed.ensures in
+    let h = are.only k stands in
+    let above : stamp_lt (key h.part) (key p) ≡ true = c.requires.above h.part h.stands in
+    subst (λ (z : Stamp). stamp_lt z c.keyed-keyed.result.key ≡ true) (ap (λ (z : Keyed). z.key) h.is) (subst (λ (z : Keyed). stamp_lt (key h.part) z.key ≡ true) (sym keyed) above)
+
+pub invariant_of-self-in-Ok : goal.invariant_of-self-in-Ok
+invariant_of-self-in-Ok c =
+    let now = c.args.self.now in
+    let keys = c.self.inside.keys in
+    let are : AreKeysOf keys now = subst (AreKeysOf keys) c.self.view_is c.self.invariant in
+    let p = c.args.part in
+    let keyed : c.keyed-keyed.result ≡ keyed_of p = c.keyed-keyed.ensures in
+    let i = c.place-index.result in
+    let place = subst (λ (z : TxnId). IsPlace (λ (q : Pending). id_lt q.part.id z) now i) c.id.ensures c.place-index.ensures.place in
+    let is : c.insert.new.self.items ≡ insert_pending p now = c.in-Ok.ensures.items ∙ (ap (λ (z : Pending). insert c.self.inside.slots.items i z) c.in_ok-slot.ensures ∙ (ap (λ (zs : List Pending). insert zs i p) c.self.view_is ∙ put_at_place p now i place c.requires.free)) in
+    subst (λ (zs : List Pending). AreKeysOf c.put_greatest.new.self zs) (sym is)
+    (subst (λ (ks : List Keyed). AreKeysOf ks (insert_pending p now)) (sym (c.in_ok-put_greatest.ensures.ok ∙ ap (λ (z : Keyed). z ∷ keys) keyed)) (keys_put p keys now are c.requires.free c.requires.above))
+
+pub returns-clause-ok : goal.returns-clause-ok
+returns-clause-ok c =
+    let now = c.args.self.now in
+    let keys = c.self.inside.keys in
+    let are : AreKeysOf keys now = subst (AreKeysOf keys) c.self.view_is c.self.invariant in
+    let p = c.args.part in
+    let keyed : c.keyed-keyed.result ≡ keyed_of p = c.keyed-keyed.ensures in
+    let i = c.place-index.result in
+    let place = subst (λ (z : TxnId). IsPlace (λ (q : Pending). id_lt q.part.id z) now i) c.id.ensures c.place-index.ensures.place in
+    let is : c.insert.new.self.items ≡ insert_pending p now = c.in-Ok.ensures.items ∙ (ap (λ (z : Pending). insert c.self.inside.slots.items i z) c.in_ok-slot.ensures ∙ (ap (λ (zs : List Pending). insert zs i p) c.self.view_is ∙ put_at_place p now i place c.requires.free)) in
+    is
