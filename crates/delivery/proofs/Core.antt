@@ -11,6 +11,7 @@ pub mod GreetedRow
 pub mod Said
 pub mod Speaking
 pub mod ByRun
+pub mod Tests
 pub mod Started
 pub mod AccountOfRun
 pub mod DeliversOfRun

@@ -1,6 +1,7 @@
 //! Why a connection ends by an ERROR.
 
 ghost use Rattle.std.specs.Prelude.{◌≡◌};
+ghost use Rattle.delivery.specs.Core.Output.{says_version};
 ghost use Rattle.delivery.specs.Faults.{connection_number, connection_title};
 
 use stomp_frame::{CaseFault, Check};
@@ -54,5 +55,12 @@ impl ConnectionFault {
             ConnectionFault::Lagged => b"74 Lagged".as_slice(),
             ConnectionFault::ReaderNoMemory => b"72 NoMemory".as_slice(),
         }
+    }
+
+    /// Whether its ERROR says which version is supported.
+    pub(crate) fn says_version(self) -> bool
+        ensures { result ≡ says_version self }
+    {
+        matches!(self, ConnectionFault::Session(SessionFault::NoVersion))
     }
 }

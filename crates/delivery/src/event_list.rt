@@ -68,4 +68,12 @@ impl EventList {
     {
         &self.events[i]
     }
+
+    /// The events, in their order.
+    pub(crate) fn into_events(self) -> Vec<Event>
+        ensures { result.items ≡ self }
+    {
+        let EventList { events } = self;
+        events
+    }
 }

@@ -1,6 +1,7 @@
 //! The core of the broker: topics, connections and senders over events.
 #![tactic(auto)]
 
+mod commit_list;
 mod connection_fault;
 mod dues;
 mod event;
@@ -8,6 +9,7 @@ mod event_list;
 mod kept;
 pub mod law;
 mod line;
+mod messages;
 mod net;
 mod net_state;
 mod open_line;
@@ -27,6 +29,7 @@ pub use event::Event;
 pub use event_list::EventList;
 pub use kept::Kept;
 pub use net::{MAX_CAPACITY, Net};
+pub use net_state::{QueueReport, Report};
 pub use outcome::Outcome;
 pub use plain::{CommitRow, agreed};
 pub use refusal::Refusal;

@@ -1,10 +1,13 @@
 //! The core.
 
-ghost use Rattle.std.specs.Prelude.{◌≡◌, ◌≤◌, ◌<◌, [], length, slice_get, Some, IfOk, OnOk};
-ghost use Rattle.delivery.specs.Nets.{KeptRun, max_capacity};
+ghost use Rattle.std.specs.Prelude.{◌≡◌, ◌≤◌, ◌<◌, ◌+◌, ◌-◌, [], ◌∷◌, ◌++◌, length, slice_get, Some, IfOk, OnOk, OnErr};
+ghost use Rattle.delivery.specs.Nets.{KeptRun, max_capacity, HasTaken, IsDelivered, HasReport};
 
+use crate::event::Event;
+use crate::event_list::EventList;
 use crate::kept::Kept;
-use crate::net_state::NetState;
+use crate::net_state::{NetState, Report};
+use crate::outcome::Outcome;
 use crate::topics::Topics;
 use std::alloc::Global;
 use std::marker::Model;
@@ -15,11 +18,24 @@ pub const MAX_CAPACITY: usize = 4096;
 
 /// The core: topics, connections, senders and subscriptions over events. In contracts it is the topics that it began with,
 /// the capacity of its queues, its kept run, and how many more events it has room to keep.
-#[derive(Drop)]
 pub struct Net {
     clocks: Vec<u64>,
     state: NetState,
     kept: Vec<Kept>,
+}
+
+/// Written out, so that letting a net go is one call for the prover wherever it happens.
+impl Drop for Net {
+    fn drop(self) {
+        let Net {
+            clocks,
+            state,
+            kept,
+        } = self;
+        drop(clocks);
+        drop(state);
+        drop(kept);
+    }
 }
 
 impl Model for Net {
@@ -87,5 +103,41 @@ impl Net {
         ensures { slice_get self.now.kept i ≡ Some result.now }
     {
         &self.kept[i]
+    }
+
+    /// What came of all events so far. It takes no memory, and nothing is copied.
+    pub fn report(&self) -> Report<'_>
+        ensures { IsDelivered self.now result }
+    {
+        Report { state: &self.state }
+    }
+
+    /// Takes an event, and keeps it with its outcome at the end of the kept run.
+    pub fn step(&mut self, event: Event) -> Outcome
+        requires { 0 < self.old.spare }
+        ensures kept { self.new ≡ record self.old {
+          kept = self.old.kept ++ record { event = event; outcome = result } ∷ [];
+          spare = self.old.spare - 1;
+        } }
+        ensures delivered { HasReport self.new }
+    {
+        let outcome = self.state.answer(&event);
+        self.kept.push_reserved(Kept { event, outcome });
+        outcome
+    }
+
+    /// Takes each of these events, in their order, as `step` does. Out of memory to keep them all, no event is taken, all
+    /// stays but the spare room, and the events are dropped.
+    pub fn run(&mut self, events: EventList) -> Result<(), NoMemory>
+        ensures taken { OnOk result (HasTaken events self.old self.new) }
+        ensures room { self.old.spare ≤ self.new.spare + length events }
+        ensures delivered { HasReport self.new }
+        ensures err { OnErr result (self.new ≡ record self.old { spare = self.new.spare }) }
+    {
+        self.kept.reserve(events.len())?;
+        for event in events.into_events() {
+            self.step(event);
+        }
+        Ok(())
     }
 }

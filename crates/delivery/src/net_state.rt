@@ -5,13 +5,27 @@ ghost use Rattle.std.specs.Option.{option_map};
 ghost use Rattle.mcast_group.specs.Counted.{takes_of};
 ghost use Rattle.mcast_group.specs.Group.{GroupState, group_after_release};
 ghost use Rattle.mcast_group.specs.Machine.{due_part};
+ghost use Rattle.stomp_frame.specs.ServerFrames.{rendered};
+ghost use Rattle.stomp_frame.specs.Writing.{spelled};
 ghost use Rattle.delivery.specs.Topics.{max_topics};
 ghost use Rattle.delivery.specs.Machine.World.{new_topics};
 ghost use Rattle.delivery.specs.Core.State.{Core, log_limit, new_core};
 ghost use Rattle.delivery.specs.Inner.Stands.{IsReached, Makes, IsChecked, line_objection};
-ghost use Rattle.delivery.specs.Inner.View.{LineView, view_of, new_group, leaving_line, fed_line, with_new_line};
+ghost use Rattle.delivery.specs.Inner.View.{LineView, view_of, new_group, leaving_line, fed_line, written_line, with_new_line};
 ghost use Rattle.delivery.specs.declared.event.Event.{Event as Asked};
 
+mod answer;
+mod closing;
+mod frames;
+mod leaving;
+mod queue_report;
+mod report;
+mod subscribing;
+mod takes;
+mod turns;
+mod txns;
+
+use crate::commit_list::CommitList;
 use crate::line::Line;
 use crate::outcome::Outcome;
 use crate::refusal::Refusal;
@@ -19,12 +33,14 @@ use crate::sender_state::SenderState;
 use crate::stage::Stage;
 use crate::sub::Sub;
 use crate::table::Table;
-use mcast_group::{Group, Row};
+use mcast_group::Group;
 use mcast_txn::{Sender, Topic, TxnId};
+pub use queue_report::QueueReport;
+pub use report::Report;
 use std::alloc::Global;
 use std::marker::Model;
 use std::sync::Arc;
-use stomp_frame::{NoMemory, Octets};
+use stomp_frame::{NoMemory, Octets, ServerFrame};
 use stomp_session::Names;
 use sub_queue::VecOutlet;
 
@@ -32,7 +48,8 @@ use sub_queue::VecOutlet;
 const LOG_LIMIT: usize = 65_536;
 
 /// What the core holds: of each topic its group, of each sender its transaction and its verdicts, of each connection its
-/// line, each subscription, and the rows of the commit list. In contracts it is the view of a core.
+/// line, each subscription, and the commit list, with a row promised to each transaction that is on its way. In contracts it
+/// is the view of a core.
 #[derive(Drop)]
 pub(crate) struct NetState {
     alloc: Global,
@@ -43,11 +60,13 @@ pub(crate) struct NetState {
     table: Table,
     lines: Vec<Line>,
     subs: Vec<Sub>,
-    commits: Vec<Row>,
+    commits: CommitList,
 }
 
 impl Model for NetState {
     ghost use Rattle.std.specs.Arc.{arc_value};
+    ghost use Rattle.std.specs.Prelude.{◌≡◌};
+    ghost use Rattle.delivery.specs.Inner.Rooms.{flying_count};
     ghost use Rattle.delivery.specs.Inner.View.{View};
 
     ghost Value = { View };
@@ -60,8 +79,10 @@ impl Model for NetState {
       verdicts = n.table;
       lines = n.lines.items;
       subs = n.subs.items;
-      commits = n.commits.items;
+      commits = n.commits.rows;
     } };
+
+    ghost invariant = { λ n. n.commits.promised ≡ flying_count n.senders.items };
 }
 
 /// A group of each topic, with the number that its clock begins at.
@@ -98,7 +119,7 @@ impl NetState {
             table: Table::new(alloc),
             lines: Vec::new(alloc),
             subs: Vec::new(alloc),
-            commits: Vec::new(alloc),
+            commits: CommitList::new(alloc),
         })
     }
 
@@ -118,7 +139,7 @@ impl NetState {
     }
 
     /// The connection is leaving; with it is the receipt that its DISCONNECT asked for.
-    fn leave(&mut self, c: u64, parting: Option<Octets>)
+    fn begin_leaving(&mut self, c: u64, parting: Option<Octets>)
         requires { c < length self.old.lines }
         ensures { (d : LineView) → self.new ≡ record self.old {
           lines = set self.old.lines c (leaving_line parting (get_or self.old.lines c d));
@@ -128,13 +149,25 @@ impl NetState {
         line.stage = Stage::Leaving(parting);
     }
 
+    /// Writes a frame to the connection. After `NoMemory` all is what it was.
+    fn write(&mut self, c: u64, frame: &ServerFrame) -> Result<(), NoMemory>
+        requires { c < length self.old.lines }
+        ensures ok { OnOk result ((d : LineView) → self.new ≡ record self.old {
+          lines = set self.old.lines c (written_line (spelled (rendered frame.now)) (get_or self.old.lines c d));
+        }) }
+        ensures err { OnErr result (self.new ≡ self.old) }
+    {
+        let line = &mut self.lines[c as usize];
+        line.write(frame)
+    }
+
     /// The connection is lost: 80 where there is none, 87 where it is gone, 81 where it is leaving. It takes no memory.
     pub(crate) fn lost(&mut self, c: u64) -> Outcome
         ensures { (k : Core) → IsReached k → self.old ≡ view_of k → Makes k (Asked.Lost c) result self.new }
     {
         match self.check_open(c) {
             Ok(()) => {
-                self.leave(c, None);
+                self.begin_leaving(c, None);
                 Outcome::Leaving
             }
             Err(refusal) => Outcome::Refused(refusal),

@@ -1,14 +1,30 @@
 //! Senders of the core.
 
-ghost use Rattle.std.specs.Prelude.{◌≡◌};
+ghost use Rattle.std.specs.Prelude.{◌≡◌, ◌≤◌, ◌+◌, ◌++◌, ◌<◌, ◌==◌, true, false, length, Some, IfOk, IfSome, OnOk, OnErr, vec_len, vec_capacity};
+ghost use Rattle.std.specs.Arc.{arc_value};
+ghost use Rattle.std.specs.List.{position, remove};
+ghost use Rattle.std.specs.Option.{option_map};
+ghost use Rattle.std.specs.Result.{result_err};
+ghost use Rattle.mcast_txn.specs.Part.{data_of};
+ghost use Rattle.mcast_txn.specs.TopicSet.{names};
+ghost use Rattle.mcast_group.specs.Machine.{last_number};
+ghost use Rattle.sender_gate.specs.Gate.{next_id};
 ghost use Rattle.delivery.specs.Machine.World.{new_sender};
+ghost use Rattle.delivery.specs.Inner.Rooms.{is_flying};
+ghost use Rattle.delivery.specs.Inner.Senders.{gate_of, begun_sender, decide_refusal, decision_of, decided_row, decided_sender, flight_refusal, part_refusal, part_in, taken_sender, put_sender, marked_sender, withdraw_refusal, mark_of, withdrawn_sender, leftover_at, leftover_in};
 ghost use Rattle.delivery.specs.Inner.View.{sender_view};
+ghost use Rattle.delivery.specs.Inner.Leaving.{is_busy};
 
+use crate::refusal::Refusal;
 use crate::sending::Sending;
-use mcast_txn::{Sender, Ticket};
+use mcast_group::{ProposeFault, Row};
+use mcast_txn::{Part, Sender, Stamp, Ticket, Tickets, Topic, Txn, TxnId, Verdict};
 use sender_gate::Gate;
 use std::alloc::Global;
 use std::marker::Model;
+use std::mem;
+use std::sync::Arc;
+use stomp_frame::NoMemory;
 
 /// A sender: its transaction, if one is undecided, and the tickets that it has to cancel.
 #[derive(Drop)]
@@ -18,11 +34,15 @@ pub(crate) struct SenderState {
 }
 
 impl Model for SenderState {
+    ghost use Rattle.std.specs.Prelude.{vec_len, vec_capacity};
+    ghost use Rattle.delivery.specs.Inner.Rooms.{KeepsRoom};
     ghost use Rattle.delivery.specs.Inner.View.{SenderView};
 
     ghost Value = { SenderView };
 
     ghost view = { λ s. record { sending = s.sending; leftovers = s.leftovers.items } };
+
+    ghost invariant = { λ s. KeepsRoom s.sending (vec_len s.leftovers) (vec_capacity s.leftovers) };
 }
 
 impl SenderState {
@@ -34,5 +54,212 @@ impl SenderState {
             sending: Sending::Idle(Gate::new(sender)),
             leftovers: Vec::new(alloc),
         }
+    }
+
+    /// Begins a transaction, if none is undecided, with all the room that its end may need. After `NoMemory` it is what it
+    /// was, as it is where it has used its last number.
+    pub(crate) fn begin(&mut self, alloc: Global, txn: Txn) -> Result<TxnId, NoMemory>
+        ensures id { IfOk result (λ id. id ≡ next_id (gate_of self.old.sending)) }
+        ensures last { IfOk result (λ id. id.seq ≤ last_number) }
+        ensures flying { OnOk result (is_flying self.new.sending ≡ true) }
+        ensures idle { OnOk result (is_flying self.old.sending ≡ false) }
+        ensures ok { OnOk result (self.new ≡ begun_sender txn self.old) }
+        ensures err { OnErr result (self.new ≡ self.old) }
+    {
+        let Sending::Idle(gate) = &self.sending else {
+            return Err(NoMemory);
+        };
+        let gate = Gate::resume(gate.sender(), gate.seq(), gate.floor());
+        let topics = txn.share_topics()?;
+        self.leftovers.reserve(topics.len())?;
+        let Ok(flying) = gate.begin(alloc, txn) else {
+            return Err(NoMemory);
+        };
+        let id = flying.id();
+        let row = Row {
+            id,
+            topics,
+            stamp: Stamp::ZERO,
+        };
+        self.sending = Sending::Flying(flying, row);
+        Ok(id)
+    }
+
+    /// Whether it has an undecided transaction, or tickets to cancel.
+    pub(crate) fn is_busy(&self) -> bool
+        ensures { result ≡ is_busy self.now }
+    {
+        !matches!(self.sending, Sending::Idle(_)) || !self.leftovers.is_empty()
+    }
+
+    /// Decides its transaction: the verdict, and the row of the commit list. It takes no memory. Refused where none is
+    /// undecided (83), where a topic refused it (88), and where a topic gave no ticket yet (52); it is then what it was.
+    pub(crate) fn decide(&mut self) -> Result<(Box<Verdict>, Row), Refusal>
+        ensures refused { result_err result ≡ decide_refusal self.old.sending }
+        ensures verdict { IfOk result (λ decided. decided.0.value ≡ decision_of self.old.sending) }
+        ensures row { IfOk result (λ decided. decided.1 ≡ decided_row self.old.sending) }
+        ensures flying { OnOk result (is_flying self.old.sending ≡ true) }
+        ensures idle { OnOk result (is_flying self.new.sending ≡ false) }
+        ensures ok { OnOk result (self.new ≡ decided_sender self.old) }
+        ensures err { OnErr result (self.new ≡ self.old) }
+    {
+        match mem::replace(&mut self.sending, Sending::Idle(Gate::new(Sender(0)))) {
+            Sending::Flying(flying, row) => match flying.decide() {
+                Ok((gate, verdict)) => {
+                    let Row {
+                        id,
+                        topics,
+                        stamp: _,
+                    } = row;
+                    let stamp = verdict.stamp();
+                    self.sending = Sending::Idle(gate);
+                    Ok((verdict, Row { id, topics, stamp }))
+                }
+                Err((flying, _)) => {
+                    self.sending = Sending::Flying(flying, row);
+                    Err(Refusal::Incomplete)
+                }
+            },
+            Sending::Idle(gate) => {
+                self.sending = Sending::Idle(gate);
+                Err(Refusal::NoFlight)
+            }
+            Sending::Marked(gate, tickets, fault) => {
+                self.sending = Sending::Marked(gate, tickets, fault);
+                Err(Refusal::Marked)
+            }
+        }
+    }
+
+    /// Whether its transaction may be proposed: 83 where none is undecided, 88 where a topic refused it.
+    pub(crate) fn check_flying(&self) -> Result<(), Refusal>
+        ensures { result_err result ≡ flight_refusal self.now.sending }
+    {
+        match &self.sending {
+            Sending::Idle(_) => Err(Refusal::NoFlight),
+            Sending::Flying(_, _) => Ok(()),
+            Sending::Marked(_, _, _) => Err(Refusal::Marked),
+        }
+    }
+
+    /// Takes the part at the topic out of its transaction, to be proposed, with the sender's floor. It takes no memory.
+    /// Refused where none is undecided (83), where a topic refused it (88), where it doesn't name the topic (84), and where
+    /// the part was taken out before (51).
+    pub(crate) fn take_part(&mut self, t: Topic) -> Result<(Stamp, Arc<Part>), Refusal>
+        ensures refused { result_err result ≡ part_refusal t self.old.sending }
+        ensures floor { IfOk result (λ taken. taken.0 ≡ (gate_of self.old.sending).floor) }
+        ensures part { IfOk result (λ taken. Some (data_of (arc_value taken.1)) ≡ part_in t self.old.sending) }
+        ensures own { IfOk result (λ taken. (arc_value taken.1).topic ≡ t) }
+        ensures flown { OnOk result (is_flying self.old.sending ≡ true) }
+        ensures flying { is_flying self.new.sending ≡ is_flying self.old.sending }
+        ensures new { self.new ≡ taken_sender t self.old }
+    {
+        match &mut self.sending {
+            Sending::Idle(_) => Err(Refusal::NoFlight),
+            Sending::Marked(_, _, _) => Err(Refusal::Marked),
+            Sending::Flying(flying, _) => {
+                if !has_topic(flying.topics().as_slice(), t) {
+                    return Err(Refusal::NotNamed);
+                }
+                match flying.part(t) {
+                    Some(part) => Ok((flying.floor(), part)),
+                    None => Err(Refusal::Twice),
+                }
+            }
+        }
+    }
+
+    /// Puts a ticket into its transaction, if that takes it. It takes no memory.
+    pub(crate) fn put(&mut self, ticket: Ticket)
+        ensures flying { is_flying self.new.sending ≡ is_flying self.old.sending }
+        ensures new { self.new ≡ put_sender ticket self.old }
+    {
+        if let Sending::Flying(flying, _) = &mut self.sending {
+            let _ = flying.put(ticket);
+        }
+    }
+
+    /// Marks its transaction, which a topic refused. It takes no memory.
+    pub(crate) fn mark(&mut self, fault: ProposeFault)
+        ensures ended { is_flying self.new.sending ≡ false }
+        ensures new { self.new ≡ marked_sender fault self.old }
+    {
+        match mem::replace(&mut self.sending, Sending::Idle(Gate::new(Sender(0)))) {
+            Sending::Flying(flying, _) => {
+                let (gate, tickets) = flying.withdraw();
+                self.sending = Sending::Marked(gate, tickets, fault);
+            }
+            other => self.sending = other,
+        }
+    }
+
+    /// Withdraws its transaction, which a topic refused, and why: its tickets are to be cancelled. It takes no memory.
+    /// Refused where none is undecided (83), and where no topic refused it (89).
+    pub(crate) fn withdraw(&mut self) -> Result<ProposeFault, Refusal>
+        ensures refused { result_err result ≡ withdraw_refusal self.old.sending }
+        ensures fault { IfOk result (λ fault. Some fault ≡ mark_of self.old.sending) }
+        ensures flying { is_flying self.new.sending ≡ is_flying self.old.sending }
+        ensures err { OnErr result (self.new ≡ self.old) }
+        ensures new { self.new ≡ withdrawn_sender self.old }
+    {
+        match mem::replace(&mut self.sending, Sending::Idle(Gate::new(Sender(0)))) {
+            Sending::Marked(gate, tickets, fault) => {
+                keep_tickets(&mut self.leftovers, &tickets);
+                self.sending = Sending::Idle(gate);
+                Ok(fault)
+            }
+            Sending::Flying(flying, row) => {
+                self.sending = Sending::Flying(flying, row);
+                Err(Refusal::NotMarked)
+            }
+            Sending::Idle(gate) => {
+                self.sending = Sending::Idle(gate);
+                Err(Refusal::NoFlight)
+            }
+        }
+    }
+
+    /// Where the first ticket is that it has to cancel at the topic, and whose it is.
+    pub(crate) fn leftover(&self, t: Topic) -> Option<(usize, TxnId)>
+        ensures at { option_map (λ found. found.0) result ≡ leftover_at t self.now }
+        ensures there { IfSome result (λ found. found.0 < length self.now.leftovers) }
+        ensures id { IfSome result (λ found. found.1 ≡ (leftover_in self.now found.0).id) }
+    {
+        let index = index_of(&self.leftovers, t)?;
+        Some((index, self.leftovers[index].id))
+    }
+
+    /// Drops a ticket that was cancelled.
+    pub(crate) fn drop_leftover(&mut self, index: usize)
+        requires { index < length self.old.leftovers }
+        ensures { self.new ≡ record self.old { leftovers = remove self.old.leftovers index } }
+    {
+        self.leftovers.remove(index);
+    }
+}
+
+/// The index of the first ticket of the topic.
+fn index_of(leftovers: &[Ticket], t: Topic) -> Option<usize>
+    ensures at { result ≡ position (λ k. k.topic.0 == t.0) leftovers.now }
+    ensures there { IfSome result (λ index. index < length leftovers.now) }
+{
+    leftovers.iter().position(|k| k.topic.0 == t.0)
+}
+
+/// Whether the topic is one of these, which rise.
+fn has_topic(topics: &[Topic], t: Topic) -> bool
+    ensures { result ≡ names t topics.now }
+{
+    topics.iter().any(|u| u.0 == t.0)
+}
+
+/// Puts the tickets at the end.
+fn keep_tickets(leftovers: &mut Vec<Ticket>, tickets: &Tickets)
+    requires { vec_len leftovers.old + length tickets.now ≤ vec_capacity leftovers.old }
+    ensures items { leftovers.new.items ≡ leftovers.old.items ++ tickets.now }
+    ensures capacity { vec_capacity leftovers.new ≡ vec_capacity leftovers.old }
+{
+    for i in 0..tickets.len() {
+        leftovers.push_reserved(tickets.get(i));
     }
 }

@@ -1,7 +1,8 @@
 //! The verdicts of transactions.
 
-ghost use Rattle.std.specs.Prelude.{◌≡◌, ◌∷◌, [], ◌++◌, OnOk, OnErr};
+ghost use Rattle.std.specs.Prelude.{◌≡◌, ◌∷◌, [], ◌++◌, ◌-◌, length, take, get_or, set, Some, None, OnOk, OnErr};
 ghost use Rattle.std.specs.Option.{option_map};
+ghost use Rattle.delivery.specs.Inner.Senders.{verdicts_with};
 ghost use Rattle.delivery.specs.Inner.Verdicts.{verdict_at};
 
 use mcast_group::{Found, Verdicts};
@@ -47,6 +48,42 @@ impl Table {
         Ok(())
     }
 
+    /// One more transaction of this sender, which isn't decided. After `NoMemory` the table is what it was.
+    pub(crate) fn add_slot(&mut self, sender: usize) -> Result<(), NoMemory>
+        ensures ok { OnOk result (self.new ≡ set self.old sender (get_or self.old sender [] ++ None ∷ [])) }
+        ensures err { OnErr result (self.new ≡ self.old) }
+    {
+        if sender >= self.senders.len() {
+            return Ok(());
+        }
+        let verdicts = &mut self.senders[sender];
+        match verdicts.push(None) {
+            Ok(()) => Ok(()),
+            Err(_) => Err(NoMemory),
+        }
+    }
+
+    /// One transaction of this sender fewer: the last one, which isn't decided.
+    pub(crate) fn drop_slot(&mut self, sender: usize)
+        ensures { self.new ≡ set self.old sender
+            (take (length (get_or self.old sender []) - 1) (get_or self.old sender [])) }
+    {
+        if sender < self.senders.len() {
+            let verdicts = &mut self.senders[sender];
+            verdicts.truncate(verdicts.len().saturating_sub(1));
+        }
+    }
+
+    /// Puts the verdict of a transaction of this sender into its slot, where there is one. It takes no memory.
+    pub(crate) fn set(&mut self, sender: usize, verdict: Box<Verdict>)
+        ensures { self.new ≡ verdicts_with sender verdict.value self.old }
+    {
+        if sender < self.senders.len() {
+            let index = verdict.id().seq.saturating_sub(1) as usize;
+            fill(&mut self.senders[sender], index, verdict);
+        }
+    }
+
     /// The verdict of this transaction, if it was decided: found without a search.
     pub(crate) fn verdict(&self, id: TxnId) -> Option<&Verdict>
         ensures { option_map (λ verdict. verdict.now) result ≡ verdict_at id self.now }
@@ -57,6 +94,15 @@ impl Table {
             Some(verdict) => Some(verdict),
             None => None,
         }
+    }
+}
+
+/// Fills the slot of this index, where there is one.
+fn fill(verdicts: &mut Vec<Option<Box<Verdict>>>, index: usize, verdict: Box<Verdict>)
+    ensures { verdicts.new.items ≡ set verdicts.old.items index (Some verdict) }
+{
+    if index < verdicts.len() {
+        verdicts[index] = Some(verdict);
     }
 }
 

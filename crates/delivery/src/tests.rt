@@ -1,9 +1,13 @@
 //! Worked rows by the plain programs, with ample memory; the core's public types.
 
+mod asks;
 mod event_list;
 mod faults;
 mod net;
+mod printing;
+mod runs;
 mod topics;
+mod worked_runs;
 
 use crate::{CommitRow, QueueItem, agreed, due};
 use mcast_txn::{Sender, SentMessage, Stamp, Topic, TxnId};

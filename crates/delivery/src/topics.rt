@@ -47,6 +47,7 @@ impl Topics {
     pub(crate) fn into_parts(self) -> (Names, Vec<u64>)
         ensures names { result.0 ≡ self.names }
         ensures clocks { result.1.items ≡ self.clocks }
+        ensures as_many { length self.clocks ≡ length self.names }
         ensures few { length self.clocks ≤ max_topics }
     {
         let Topics { names, clocks } = self;

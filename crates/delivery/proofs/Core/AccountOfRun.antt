@@ -1,5 +1,5 @@
 -- The account of a run's steps is what the machine answered to its moves, refusals and what was merely done aside.
-use Rattle.std.proofs.Common.{◌≡◌, ℕ, zero, suc, ◌+◌, ◌<◌, ◌==◌, Bool, true, false, cond, not, ◌&&◌, ◌⊎◌, inl, inr, List, [], ◌∷◌, ◌++◌, map, length, Option, Some, None, refl, sym, ap, subst, ◌∙◌, true≢false, ltb}
+use Rattle.std.proofs.Common.{◌≡◌, ℕ, zero, suc, ◌+◌, ◌<◌, ◌==◌, Bool, true, false, cond, not, ◌&&◌, ◌⊎◌, inl, inr, List, [], ◌∷◌, ◌++◌, map, length, Option, Some, None, refl, sym, ap, subst, ◌∙◌, true≢false}
 use Rattle.std.proofs.lemmas.Bool.{ltb-true, false≢true}
 use Rattle.std.specs.Prelude.{take, slice_get, codes}
 use Rattle.std.specs.List.{filter}
@@ -59,6 +59,7 @@ use Rattle.delivery.proofs.Core.ByRun.{run_append, answers_append}
 use Rattle.delivery.proofs.Core.Said.{said, commits_said, txn_count_said, delivered_said, beginning_said, has_closed_said, released_frontier_said}
 use Rattle.delivery.proofs.Core.Speaking.{Spoken, id_at, open_in, run_spoken, start_spoken}
 use Rattle.delivery.proofs.Core.Started.{begin_of, beginning_is, frontier_of}
+use Rattle.delivery.proofs.Core.Tests.{connection_there}
 
 -- ---- the run of the machine that a run of the core is
 
@@ -191,9 +192,6 @@ released_says names r older rd t o i =
 
 -- ---- transactions
 
-there : (w : World) (c : ℕ) → not (ltb c (length w.connections)) ≡ false → c < length w.connections
-there w c e = ltb-true c (length w.connections) (false_not (ltb c (length w.connections)) e)
-
 -- the id of the last transaction of a connection's sender, as the account counts it
 last_is : (r : Run) (c : ℕ) → c < length (final_world r).connections
     → id_at (connection_at (final_world r) c).sender (speaker (final_world r) c).seq ≡ last_id c (said (answers_of r))
@@ -251,7 +249,7 @@ proposed_says names r older rd c t o i = elim (In-append_cases o _ _ i) [
         (λ why x a e. unsaid _ past why (ap (λ y. answer_to w (Proposes c t (not (is_out_of_memory y)))) e ∙ a))
         (λ n a z d e.
         (let k = checked w (Proposes c t q) n in
-        proposed_case names r older rd c t q fault z (undecided_is r c (there w c k.0) k.1.1.0) (ap (λ y. not (is_out_of_memory y)) (sym e)) a d))
+        proposed_case names r older rd c t q fault z (undecided_is r c (connection_there w c k.0) k.1.1.0) (ap (λ y. not (is_out_of_memory y)) (sym e)) a d))
         (same_memory w c t m o (move_refusal w (Proposes c t m)) _ d) refl
 
 cancelled_case : (names : List (List ℕ)) (r : Run) (older : List CoreStep) (rd : Reading) (c : ℕ) (t : Topic) (o : Option Leftover) (z : Outcome)
@@ -272,7 +270,7 @@ cancelled_says names r older rd c t o i =
     let w = final_world r in
     by_answer (Says names r older (Event.Cancel c t) rd) w (Cancels c t) o
     (λ why x a. unsaid _ (answers_of r) why a)
-    (λ n a z d. cancelled_case names r older rd c t (find_leftover t (speaker w c).leftovers) z (there w c (checked w (Cancels c t) n).0) refl a d)
+    (λ n a z d. cancelled_case names r older rd c t (find_leftover t (speaker w c).leftovers) z (connection_there w c (checked w (Cancels c t) n).0) refl a d)
     (in_option o _ i)
 
 -- ---- replies that may be left out
@@ -329,7 +327,7 @@ withdrawn_says names r older rd c o i =
     (λ why x a. (unsaid _ past why a, unsaid _ past why a))
     (λ n a z d.
     (let k = checked w (Withdraws c) n in
-    let e = ap (λ q. Answer.Withdrawn q c ∷ said past) (sym (undecided_is r c (there w c k.0) k.1.1.0)) ∙ ap (λ b. said (b ∷ past)) (sym a) in
+    let e = ap (λ q. Answer.Withdrawn q c ∷ said past) (sym (undecided_is r c (connection_there w c k.0) k.1.1.0)) ∙ ap (λ b. said (b ∷ past)) (sym a) in
     subst (λ q. P q × P (cut_of q)) (some_same _ z d) (e, e))) h.is) h.cut
 
 -- ---- a decision
@@ -362,7 +360,7 @@ lost_after : (r : Run) (c : ℕ) → move_refusal (final_world r) (Decides c) �
     → answer_to (world_after (final_world r) (Decides c)) (Lost c) ≡ Answer.Leaving c
 lost_after r c n h =
     let w = final_world r in let k = checked w (Decides c) n in let v = move_effect w (Decides c) in
-    let o = still_open r c (there w c k.0) h in
+    let o = still_open r c (connection_there w c k.0) h in
     ap (λ z. answer_to z (Lost c)) (world_moved w (Decides c) n)
     ∙ answer_is v (Lost c)
     (ap (λ (z : Option Objection). option_or z None) (unpassed (needs_open v c) (k.0, (k.1.0, (ap not o, tt)))))
@@ -382,7 +380,7 @@ decided_says names r older rd c o acc i =
     Due z = is_any (replies_to c older (account_of names older) (Event.Decide c) Reading.Nothing z) ≡ true
 
     id_is : move_refusal w (Decides c) ≡ None → (undecided_at w c).txn.id ≡ last_id c (said (answers_of r))
-    id_is n = let k = checked w (Decides c) n in undecided_is r c (there w c k.0) k.1.1.0
+    id_is n = let k = checked w (Decides c) n in undecided_is r c (connection_there w c k.0) k.1.1.0
 
     uncut : move_refusal w (Decides c) ≡ None → answer_to w (Decides c) ≡ move_answer w (Decides c) → P (Outcome.Decided (greatest (undecided_at w c).given) false)
     uncut n a =
@@ -609,7 +607,7 @@ accepted_says names r older c f left o (actions.Unsubscribe id) e i =
 accepted_says names r older c f left o (actions.Commit sends) e i =
     let w = final_world r in let P = Says names r older (Event.Next c) (Reading.Finds f left) in
     by_answer P w (Commits c sends) o (λ why x a. refl)
-    (λ n a z d. flown_case names r older c f left sends z (there w c (checked w (Commits c sends) n).0) e a d)
+    (λ n a z d. flown_case names r older c f left sends z (connection_there w c (checked w (Commits c sends) n).0) e a d)
     (in_option o _ i)
 accepted_says names r older c f left o actions.Disconnect e i =
     let w = final_world r in let past = answers_of r in let P = Says names r older (Event.Next c) (Reading.Finds f left) in

@@ -6,7 +6,7 @@ use Rattle.std.specs.Option.{option_map}
 use Rattle.mcast_txn.specs.declared.id.Topic.{Topic}
 use Rattle.mcast_txn.specs.declared.stamp.Stamp.{Stamp}
 use Rattle.mcast_txn.specs.Stamp.{zero_stamp}
-use Rattle.mcast_txn.specs.Agreed.{agreed, EachOnce, SenderOrder}
+use Rattle.mcast_txn.specs.Agreed.{committed_id, stamp_of, agreed, EachOnce, SenderOrder}
 use Rattle.mcast_txn.specs.Ids.{same_id}
 use Rattle.mcast_txn.specs.Lists.{In}
 use Rattle.mcast_txn.specs.Span.{Item, LogRow, last_stamp}
@@ -175,8 +175,8 @@ one_order r names steps s q = elim (within s (length (final_world r).subscriptio
 pub delivers_said : (names : List (List ℕ)) (r : Run) (steps : List CoreStep) → Delivers (said (answers_of r)) (report_of (core_at names r steps))
 delivers_said names r steps = record {
   commits = ap (map log_row) (sym (reached r).commits ∙ sym (commits_said past));
-  each_once = subst (λ z. EachOnce (agreed z)) (sym (commits_said past)) (agreed_once r);
-  fifo_order = subst (λ z. SenderOrder (agreed z)) (sym (commits_said past)) (agreed_in_sender_order r);
+  each_once = subst (λ z. EachOnce committed_id stamp_of (agreed z)) (sym (commits_said past)) (agreed_once r);
+  fifo_order = subst (λ z. SenderOrder committed_id (agreed z)) (sym (commits_said past)) (agreed_in_sender_order r);
   logs = λ t l. log_is r names steps t ∙ (log_is_of_outcomes r t ∙ sym (released_log_said t past));
   begins = reported_is w 0 w.subscriptions (λ j l. ap (subscription_at w) (omega arith)) ∙ (sym (begun_is r) ∙ sym (begun_said past));
   ends = λ s l. subst (λ (z : QueueReport). EndsByCause s (said past) z.cause z.to) (sym (queue_at r names steps s (subs_there r names steps s l)))

@@ -281,3 +281,12 @@ are_readings topics capacity steps is_run = record {
     | inr j ↦ j.1
   ]);
 }
+
+-- the reader of a connection whose frames may be read has returned no fault
+pub unanswered : (topics : TopicList) (capacity : ℕ) (steps : List CoreStep) → IsCoreRun topics capacity steps → (c : ℕ)
+    → first_refusal (needs_idle (core_of topics capacity steps).world c) ≡ None
+    → (unread_at c (core_of topics capacity steps).steps).answered ≡ None
+unanswered topics capacity steps is_run c idle = elim (reads_all topics capacity steps is_run c).1 [
+  | inl j ↦ j.0
+  | inr j ↦ absurd (idle_open (core_of topics capacity steps).world c idle j.0)
+]

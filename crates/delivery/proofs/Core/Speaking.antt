@@ -1,7 +1,7 @@
 -- What every run keeps of connections and their senders: a sender's number of transactions, whose its undecided
 -- transaction and its leftover tickets are, and that a connection which isn't open was closed.
-use Rattle.std.proofs.Common.{◌≡◌, ℕ, ◌+◌, ◌<◌, ◌==◌, Bool, true, false, cond, not, ◌||◌, inl, inr, List, [], ◌∷◌, ◌++◌, map, length, get_or, set, Option, Some, None, refl, sym, ap, subst, ◌∙◌, true≢false, arith, ltb}
-use Rattle.std.proofs.lemmas.Bool.{eqb-true, eq-eqb, ltb-true}
+use Rattle.std.proofs.Common.{◌≡◌, ℕ, ◌+◌, ◌<◌, ◌==◌, Bool, true, false, cond, ◌||◌, inl, inr, List, [], ◌∷◌, ◌++◌, map, length, get_or, set, Option, Some, None, refl, sym, ap, subst, ◌∙◌, true≢false, arith}
+use Rattle.std.proofs.lemmas.Bool.{eqb-true, eq-eqb, or_parts}
 use Rattle.mcast_txn.specs.declared.id.Topic.{Topic}
 use Rattle.mcast_txn.specs.declared.id.TxnId.{TxnId}
 use Rattle.mcast_txn.specs.declared.draft.sent_message.SentMessage.{SentMessage}
@@ -26,6 +26,7 @@ use Rattle.delivery.proofs.Machine.SubscriptionSteps.{at_push_two, at_old, push_
 use Rattle.delivery.proofs.Machine.InvariantIsKept.{by_refusal, checked, false_not, in_flight}
 use Rattle.delivery.proofs.Theorem.BegunIsOwn.{Speaks, effect_speaks}
 use Rattle.delivery.proofs.Theorem.SpansAsAnswered.{beyond, within}
+use Rattle.delivery.proofs.Core.Tests.{connection_there}
 
 -- the id of the transaction of this sender and this number
 abbrev pub id_at : ℕ → ℕ → TxnId
@@ -106,9 +107,6 @@ leaving past w c o a t h = stood (o ∷ past) w.senders w.connections c _ refl t
 
 -- ---- each move
 
-made_case : (s t n : ℕ) (b : Bool) → (t == s) ≡ b → cond b (n + 1) n ≡ cond (t == s) (n + 1) n
-made_case s t n b e = ap (λ (c : Bool). cond c (n + 1) n) (sym e)
-
 flown : (past : List Answer) (w : World) (c : ℕ) (sends : List SentMessage) → c < length w.senders → (connection_at w c).sender ≡ c → open_in w.connections c ≡ true
     → Speaking past w.senders w.connections → Speaking (commit_answer w c sends ∷ past) (commit_effect w c sends).senders (commit_effect w c sends).connections
 flown past w c [] l own o h = noted past w.senders w.connections Done (λ s. refl) h
@@ -118,8 +116,8 @@ flown past w c (first ∷ others) l own o h =
     record {
       seqs = λ s. at_set_within (λ (z : SenderState). z.seq ≡ cond (t == s) (txn_count s past + 1) (txn_count s past)) w.senders t s y new_sender
           (subst (λ n. n < length w.senders) (sym own) l)
-          (λ e. ap (λ (n : ℕ). n + 1) (h.seqs t ∙ ap (λ n. txn_count n past) (sym e)) ∙ made_case s t (txn_count s past) true (eq-eqb t s (sym e)))
-          (λ ne. h.seqs s ∙ made_case s t (txn_count s past) false (not_true (t == s) refl (λ e. ne (sym (eqb-true t s e)))));
+          (λ e. ap (λ (n : ℕ). n + 1) (h.seqs t ∙ ap (λ n. txn_count n past) (sym e)) ∙ ap (λ (b : Bool). cond b (txn_count s past + 1) (txn_count s past)) (sym (eq-eqb t s (sym e))))
+          (λ ne. h.seqs s ∙ ap (λ (b : Bool). cond b (txn_count s past + 1) (txn_count s past)) (sym (not_true (t == s) refl (λ e. ne (sym (eqb-true t s e))))));
       flying = λ s f. at_set (λ (z : SenderState). z.flight ≡ Some f → f.txn.id ≡ id_at s z.seq) w.senders t s y new_sender
           (λ k d. ap (λ (z : Undecided). z.txn.id) (sym (some_same _ f d)) ∙ ap (λ m. id_at m (x.seq + 1)) (sym k)) (h.flying s f);
       left = λ s k. at_set (λ (z : SenderState). In k z.leftovers → (k.id ≡ id_at s z.seq) × (open_in w.connections s ≡ false)) w.senders t s y new_sender
@@ -196,13 +194,6 @@ opened past w same h =
       | inr l ↦ absurd (subst (λ (z : SenderState). In k z.leftovers) (beyond w.senders s new_sender l) i)
     ]
 
-there : (w : World) (c : ℕ) → not (ltb c (length w.connections)) ≡ false → c < length w.connections
-there w c e = ltb-true c (length w.connections) (false_not (ltb c (length w.connections)) e)
-
-or_left : (a b : Bool) → (a || b) ≡ false → a ≡ false
-or_left true b e = e
-or_left false b e = refl
-
 withdrawn : (past : List Answer) (w : World) (c : ℕ) → c < length w.connections → (connection_at w c).sender ≡ c → (speaker w c).flight ≡ Some (undecided_at w c)
     → Speaking past w.senders w.connections → Speaking (move_answer w (Withdraws c) ∷ past) (move_effect w (Withdraws c)).senders (move_effect w (Withdraws c)).connections
 withdrawn past w c l own e h =
@@ -224,8 +215,8 @@ happens : (past : List Answer) (w : World) (e : Move) → Speaks w → Speaking 
 happens past w (AddsTopic clock) p h e = noted past w.senders w.connections Done (λ s. refl) h
 happens past w Opens p h e = opened past w p.same h
 happens past w (Commits c sends) p h e =
-    let k = checked w (Commits c sends) e in let l = there w c k.0 in
-    flown past w c sends (let m = p.same in omega arith) (p.own c l) (false_not _ (or_left _ _ k.1.1.0)) h
+    let k = checked w (Commits c sends) e in let l = connection_there w c k.0 in
+    flown past w c sends (let m = p.same in omega arith) (p.own c l) (false_not _ (or_parts _ _ k.1.1.0).0) h
 happens past w (Subscribes c t) p h e = noted past w.senders w.connections _ (λ s. refl) h
 happens past w (Unsubscribes c s) p h e = noted past _ _ (move_answer w (Unsubscribes c s)) (λ s. refl) (closed past w s (entry_at w s) h)
 happens past w (Disconnects c) p h e = leaving past w c _ (λ s. refl) (closed_now c past) h
@@ -233,7 +224,7 @@ happens past w (Errs c) p h e = leaving past w c _ (λ s. refl) (closed_now c pa
 happens past w (Lost c) p h e = leaving past w c _ (λ s. refl) (closed_now c past) h
 happens past w (Leaves c) p h e =
     let k = checked w (Leaves c) e in
-    gone past w c (oldest_live c 0 w.subscriptions) (h.shut c (there w c k.0) k.1.1.0) h
+    gone past w c (oldest_live c 0 w.subscriptions) (h.shut c (connection_there w c k.0) k.1.1.0) h
 happens past w (Proposes c t memory) p h e =
     let k = checked w (Proposes c t memory) e in let fl = in_flight w c k.1.1.0 in
     proposed past w c t (proposal_fault w c t memory) (fl.is ∙ ap Some (sym fl.at)) h
@@ -241,7 +232,7 @@ happens past w (Decides c) p h e =
     let s = (connection_at w c).sender in
     noted past _ w.connections (move_answer w (Decides c)) (λ s. refl) (written past w.senders w.connections s _ refl (λ f d. none_some f d) (h.left s) h)
 happens past w (Withdraws c) p h e =
-    let k = checked w (Withdraws c) e in let fl = in_flight w c k.1.1.0 in let l = there w c k.0 in
+    let k = checked w (Withdraws c) e in let fl = in_flight w c k.1.1.0 in let l = connection_there w c k.0 in
     withdrawn past w c l (p.own c l) (fl.is ∙ ap Some (sym fl.at)) h
 happens past w (Cancels c t) p h e = cancelled past w c t (find_leftover t (speaker w c).leftovers) h
 happens past w (Learns t id) p h e = noted past _ _ (move_answer w (Learns t id)) (λ s. refl) (learned past w t id (find_verdict id w.verdicts) h)

@@ -1,7 +1,7 @@
 -- What every run keeps of subscriptions, beside its answers: how each began, and where one that was asked to end
 -- has ended.
-use Rattle.std.proofs.Common.{◌≡◌, ℕ, zero, suc, ◌+◌, ◌<◌, ◌==◌, Bool, false, cond, not, ◌⊎◌, inl, inr, List, [], ◌∷◌, ◌++◌, map, length, get_or, set, Option, Some, None, refl, sym, ap, ◌∙◌, arith, ltb}
-use Rattle.std.proofs.lemmas.Bool.{eqb-true, eq-eqb, ltb-true}
+use Rattle.std.proofs.Common.{◌≡◌, ℕ, zero, suc, ◌+◌, ◌<◌, ◌==◌, Bool, cond, ◌⊎◌, inl, inr, List, [], ◌∷◌, ◌++◌, map, length, get_or, set, Option, Some, None, refl, sym, ap, ◌∙◌, arith}
+use Rattle.std.proofs.lemmas.Bool.{eqb-true, eq-eqb}
 use Rattle.mcast_txn.specs.declared.id.Topic.{Topic}
 use Rattle.mcast_txn.specs.declared.id.TxnId.{TxnId}
 use Rattle.mcast_txn.specs.declared.draft.sent_message.SentMessage.{SentMessage}
@@ -24,11 +24,12 @@ use Rattle.delivery.specs.Theorem.Spans.{cause_of}
 use Rattle.delivery.specs.Core.Account.{Beginning, no_beginning, beginning_of, released_frontier}
 use Rattle.delivery.specs.Core.Delivery.{Begun, begun_in, EndsAtFrontier}
 use Rattle.delivery.proofs.Machine.SubscriptionSteps.{at_push_two}
-use Rattle.delivery.proofs.Machine.InvariantIsKept.{tickets, by_refusal, checked, false_not}
+use Rattle.delivery.proofs.Machine.InvariantIsKept.{tickets, by_refusal, checked}
 use Rattle.delivery.proofs.Theorem.LogIsOfAnswers.{log_is_of_outcomes}
 use Rattle.delivery.proofs.Theorem.AcceptedIsDue.{reached, frontier_is}
 use Rattle.delivery.proofs.Theorem.ClosedAsAnswered.{spans_end_at_frontier, closed_as_told, closes_are_told, closed_stays}
 use Rattle.delivery.proofs.Core.ByRun.{by_run}
+use Rattle.delivery.proofs.Core.Tests.{connection_there}
 
 -- how a subscription began
 abbrev pub begin_of : Subscription → Beginning
@@ -250,9 +251,6 @@ asked_at_frontier =
 
 -- ---- what a move does to beginnings
 
-there : (w : World) (c : ℕ) → not (ltb c (length w.connections)) ≡ false → c < length w.connections
-there w c e = ltb-true c (length w.connections) (false_not (ltb c (length w.connections)) e)
-
 -- a move changes no beginning, and adds at most one, of a connection that is there
 pub begins_more : (w : World) (e : Move) → move_refusal w e ≡ None
     → (begins_in (move_effect w e) ≡ begins_in w) ⊎ ((x : Beginning) × (x.connection < length w.connections) × (begins_in (move_effect w e) ≡ begins_in w ++ x ∷ []))
@@ -260,7 +258,7 @@ begins_more w (AddsTopic clock) n = inl refl
 begins_more w Opens n = inl refl
 begins_more w (Commits c sends) n = inl (flown_same w c sends)
 begins_more w (Subscribes c t) n =
-    inr (record { connection = c; topic = t; from = (topic_at w t).frontier }, there w c (checked w (Subscribes c t) n).0, map_push w.subscriptions _)
+    inr (record { connection = c; topic = t; from = (topic_at w t).frontier }, connection_there w c (checked w (Subscribes c t) n).0, map_push w.subscriptions _)
 begins_more w (Unsubscribes c s) n = inl (closed_same w s (entry_at w s))
 begins_more w (Disconnects c) n = inl refl
 begins_more w (Errs c) n = inl refl

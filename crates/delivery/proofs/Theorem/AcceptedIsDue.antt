@@ -4,7 +4,7 @@ use Rattle.std.specs.List.{filter, list_any}
 use Rattle.std.proofs.lemmas.Bool.{true≢false, not-true, and_parts, and_from, lt-ltb, cases_order}
 use Rattle.mcast_txn.specs.Stamp.{stamp_lt}
 use Rattle.mcast_txn.specs.Transaction.{TopicPart, topics_of}
-use Rattle.mcast_txn.specs.Agreed.{CommitRow, stamp_of, agreed, EachOnce, SenderOrder}
+use Rattle.mcast_txn.specs.Agreed.{CommitRow, committed_id, stamp_of, agreed, EachOnce, SenderOrder}
 use Rattle.mcast_txn.specs.Ids.{same_id}
 use Rattle.mcast_txn.specs.Lists.{In, Rises}
 use Rattle.mcast_txn.specs.TopicSet.{names}
@@ -208,7 +208,7 @@ commits_are_kept r = sym (reached r).commits
 
 -- ---- the agreed sequence
 
-each_once_of : (ts cs rs : List CommitRow) → Consistent ts cs → ((q : CommitRow) → In q rs → In q cs) → Rises stamp_of rs → EachOnce rs
+each_once_of : (ts cs rs : List CommitRow) → Consistent ts cs → ((q : CommitRow) → In q rs → In q cs) → Rises stamp_of rs → EachOnce committed_id stamp_of rs
 each_once_of ts cs [] all sub up = tt
 each_once_of ts cs (x ∷ xs) all sub up = (
   (λ y k. ((λ e. differ x y (up.0 y k) (ap stamp_of (one_commit ts cs all x y (sub x (inl refl)) (sub y (inr k)) e))), differ x y (up.0 y k))),
@@ -225,11 +225,11 @@ agreed_in cs q k = In-sorted_cases stamp_of q cs k
 pub agreed_once : Laws.AgreedOnce
 agreed_once r =
     let h = reached r in
-    subst (λ z. EachOnce (agreed z)) (sym h.commits)
+    subst (λ z. EachOnce committed_id stamp_of (agreed z)) (sym h.commits)
     (each_once_of (tickets (answers_of r)) (final_world r).commits (agreed (final_world r).commits) h.inv.consistent (agreed_in (final_world r).commits)
     (Rises-sorted stamp_of (final_world r).commits h.inv.consistent.apart))
 
-sender_order_of : (ts cs rs : List CommitRow) → Consistent ts cs → ((q : CommitRow) → In q rs → In q cs) → Rises stamp_of rs → SenderOrder rs
+sender_order_of : (ts cs rs : List CommitRow) → Consistent ts cs → ((q : CommitRow) → In q rs → In q cs) → Rises stamp_of rs → SenderOrder committed_id rs
 sender_order_of ts cs [] all sub up = tt
 sender_order_of ts cs (x ∷ xs) all sub up = (
   (λ y k e. lt-ltb x.txn.id.seq y.txn.id.seq (elim (cases_order x.txn.id.seq y.txn.id.seq) [
@@ -253,7 +253,7 @@ sender_order_of ts cs (x ∷ xs) all sub up = (
 pub agreed_in_sender_order : Laws.AgreedInSenderOrder
 agreed_in_sender_order r =
     let h = reached r in
-    subst (λ z. SenderOrder (agreed z)) (sym h.commits)
+    subst (λ z. SenderOrder committed_id (agreed z)) (sym h.commits)
     (sender_order_of (tickets (answers_of r)) (final_world r).commits (agreed (final_world r).commits) h.inv.consistent (agreed_in (final_world r).commits)
     (Rises-sorted stamp_of (final_world r).commits h.inv.consistent.apart))
 

@@ -1,6 +1,5 @@
 -- The account has why an undecided transaction is marked: the last of its proposals that failed.
-use Rattle.std.proofs.Common.{◌≡◌, ℕ, ◌+◌, ◌<◌, Bool, false, cond, not, List, [], ◌∷◌, ◌++◌, length, set, Option, Some, None, refl, sym, ap, subst, ◌∙◌, arith, ltb}
-use Rattle.std.proofs.lemmas.Bool.{ltb-true}
+use Rattle.std.proofs.Common.{◌≡◌, ℕ, ◌+◌, ◌<◌, Bool, false, cond, List, [], ◌∷◌, ◌++◌, length, set, Option, Some, None, refl, sym, ap, subst, ◌∙◌, arith}
 use Rattle.std.specs.Prelude.{slice_get}
 use Rattle.mcast_txn.specs.declared.id.Topic.{Topic}
 use Rattle.mcast_txn.specs.declared.id.TxnId.{TxnId}
@@ -25,11 +24,12 @@ use Rattle.delivery.specs.Core.State.{Core}
 use Rattle.delivery.specs.Inner.Stands.{IsReached}
 use Rattle.delivery.proofs.Machine.Invariant.{sender_in}
 use Rattle.delivery.proofs.Machine.SubscriptionSteps.{at_push_two}
-use Rattle.delivery.proofs.Machine.InvariantIsKept.{by_refusal, checked, false_not, in_flight}
+use Rattle.delivery.proofs.Machine.InvariantIsKept.{by_refusal, checked, in_flight}
 use Rattle.delivery.proofs.Core.ByRun.{by_run}
 use Rattle.delivery.proofs.Core.Said.{said}
 use Rattle.delivery.proofs.Core.AccountOfRun.{spoken}
 use Rattle.delivery.proofs.Views.OfRuns.{by_account}
+use Rattle.delivery.proofs.Core.Tests.{connection_there}
 
 -- why a transaction was refused reads the same of what is said
 failed_said : (id : TxnId) (past : List Answer) → failed_title id (said past) ≡ failed_title id past
@@ -142,9 +142,6 @@ opened past w h s f fault =
     at_push_two (λ (z : SenderState). z.flight ≡ Some f → f.mark ≡ Some fault → failed_title f.txn.id past ≡ propose_title fault) w.senders s new_sender new_sender
     (λ k e m. none_some f e) (λ ne. h s f fault)
 
-there : (w : World) (c : ℕ) → not (ltb c (length w.connections)) ≡ false → c < length w.connections
-there w c e = ltb-true c (length w.connections) (false_not (ltb c (length w.connections)) e)
-
 happens : (r : Run) (e : Move) → AreMarked (answers_of r) (final_world r).senders → move_refusal (final_world r) e ≡ None
     → AreMarked (move_answer (final_world r) e ∷ answers_of r) (move_effect (final_world r) e).senders
 happens r (AddsTopic clock) h n = noted (answers_of r) (final_world r).senders (move_answer (final_world r) (AddsTopic clock)) (λ id. refl) h
@@ -158,7 +155,7 @@ happens r (Lost c) h n = noted (answers_of r) (final_world r).senders (move_answ
 happens r (Leaves c) h n = let w = final_world r in gone (answers_of r) w c (oldest_live c 0 w.subscriptions) h
 happens r (Proposes c t memory) h n =
     let w = final_world r in let k = checked w (Proposes c t memory) n in let fl = in_flight w c k.1.1.0 in
-    let l = there w c k.0 in let p = (spoken r).speaks in let same = p.same in
+    let l = connection_there w c k.0 in let p = (spoken r).speaks in let same = p.same in
     proposed r c t (proposal_fault w c t memory) (subst (λ m. m < length w.senders) (sym (p.own c l)) (omega arith)) (fl.is ∙ ap Some (sym fl.at)) h
 happens r (Decides c) h n =
     let w = final_world r in

@@ -1,5 +1,7 @@
 -- Lists of values by their numbers, and new topics.
-use Rattle.std.proofs.Common.{◌≡◌, ◌≢◌, ℕ, zero, suc, ◌+◌, ◌<◌, ◌≤◌, List, [], ◌∷◌, ◌++◌, map, length, get_or, set, refl, ap, ◌∙◌, arith}
+use Rattle.std.proofs.Common.{◌≡◌, ◌≢◌, ℕ, zero, suc, ◌+◌, ◌<◌, ◌≤◌, List, [], ◌∷◌, ◌++◌, map, length, get_or, set, refl, ap, ◌∙◌, arith, ltb, Bool, true, false, cond, Some, None}
+use Rattle.std.specs.List.{position, position_or_len}
+use Rattle.std.proofs.lemmas.Bool.{ltb-false}
 use Rattle.std.proofs.Common.{take}
 use Rattle.std.proofs.lemmas.List.{map-append, take_more, length-take}
 use Rattle.mcast_group.specs.Machine.{TopicState, new_topic}
@@ -89,3 +91,21 @@ each_number-set {Y = Y} f g i (y ∷ xs) (suc k) x h same =
     ap (λ (y : Y). y ∷ set (each_number f (i + 1) xs) k (g (i + suc k))) first
     ∙ (ap (λ (n : ℕ). g i ∷ set (each_number f (i + 1) xs) k (g n)) e
     ∙ ap (λ (zs : List Y). g i ∷ zs) rest)
+
+-- ---- the place that a test finds
+
+-- the place is that of the first that passes, or the end
+pub index_is : {X : Type 0} (p : X → Bool) (xs : List X) (i : ℕ) → position p xs ≡ Some i → i ≡ position_or_len p xs
+index_is p xs i e = go (ltb (position_or_len p xs) (length xs)) e
+  where
+    go : (b : Bool) → cond b (Some (position_or_len p xs)) None ≡ Some i → i ≡ position_or_len p xs
+    go true e = cc
+    go false e = cc
+
+-- where none passes, it is the length or beyond
+pub end_is : {X : Type 0} (p : X → Bool) (xs : List X) → position p xs ≡ None → length xs ≤ position_or_len p xs
+end_is p xs e = go (ltb (position_or_len p xs) (length xs)) refl e
+  where
+    go : (b : Bool) → ltb (position_or_len p xs) (length xs) ≡ b → cond b (Some (position_or_len p xs)) None ≡ None → length xs ≤ position_or_len p xs
+    go true k e = cc
+    go false k e = ltb-false (position_or_len p xs) (length xs) k

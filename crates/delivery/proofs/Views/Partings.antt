@@ -1,7 +1,7 @@
 -- The frames of a connection that a core accepted: of one that isn't there none, and a DISCONNECT only of one that
 -- isn't open any more, and then only one.
-use Rattle.std.proofs.Common.{◌≡◌, ℕ, ◌≤◌, ◌==◌, Bool, true, false, cond, ◌||◌, ◌⊎◌, inl, inr, List, [], ◌∷◌, ◌++◌, filter, length, Option, Some, None, refl, sym, ap, subst, ◌∙◌, arith}
-use Rattle.std.proofs.lemmas.Bool.{eqb-true, false≢true}
+use Rattle.std.proofs.Common.{◌≡◌, ℕ, ◌≤◌, ◌==◌, Bool, true, false, cond, ◌⊎◌, inl, inr, List, [], ◌∷◌, ◌++◌, filter, length, Option, Some, None, refl, sym, ap, subst, ◌∙◌, arith}
+use Rattle.std.proofs.lemmas.Bool.{eqb-true, false≢true, or_parts}
 use Rattle.std.proofs.lemmas.List.{append-nil}
 use Rattle.std.specs.List.{flat_map, find}
 use Rattle.std.specs.Option.{option_map_or, option_and_then, option_or, option_to_list}
@@ -52,10 +52,6 @@ pub record Adds (k : Core) (c : ℕ) (step : CoreStep) : Type 0 where
 
 -- ---- one step
 
-or_left : (a b : Bool) → (a || b) ≡ false → a ≡ false
-or_left true b e = e
-or_left false b e = refl
-
 -- what had its effect isn't a fault
 not_faulted : (o : Outcome) → has_effect o ≡ true → is_faulted o ≡ false
 not_faulted (Outcome.Opened c) e = refl
@@ -99,7 +95,7 @@ disconnects commands.Error s f e = absurd (false≢true e)
 
 -- a connection that no test for a frame stands against is open
 idle_open : (w : World) (c : ℕ) → first_refusal (needs_idle w c) ≡ None → open_in w.connections c ≡ true
-idle_open w c n = false_not (open_in w.connections c) (or_left _ _ (passes (needs_idle w c) n).1.1.0)
+idle_open w c n = false_not (open_in w.connections c) (or_parts _ _ (passes (needs_idle w c) n).1.1.0).0
 
 leaves : (w : World) (c : ℕ) → first_refusal (needs_idle w c) ≡ None → open_in (run (Move.Disconnects c ∷ []) w).connections c ≡ false
 leaves w c n =

@@ -7,6 +7,7 @@ use Rattle.stomp_frame.specs.Writing.{spelled}
 use Rattle.stomp_frame.specs.Reader.{Unread}
 use Rattle.mcast_txn.specs.declared.id.Topic.{Topic}
 use Rattle.mcast_txn.specs.declared.id.TxnId.{TxnId}
+use Rattle.mcast_txn.specs.declared.stamp.Stamp.{Stamp}
 use Rattle.delivery.specs.declared.event.Event.{Event}
 use Rattle.delivery.specs.declared.outcome.Outcome.{Outcome}
 use Rattle.delivery.specs.declared.refusal.Refusal.{Refusal}
@@ -68,11 +69,23 @@ pub turn_is_quiet : (names : List (List ℕ)) (t : Topic) (n : ℕ) (older : Lis
 turn_is_quiet names t n older =
     quiet_from names (Event.Turn t) (Outcome.Turned n) older (λ d. refl) (λ d. refl) (λ d. refl) (λ s. refl)
 
+-- a verdict that a topic learns
+pub learn_is_quiet : (names : List (List ℕ)) (t : Topic) (id : TxnId) (older : List CoreStep)
+    → IsQuiet names (step_of (Event.Learn t id) Reading.Nothing Outcome.Learnt) older
+learn_is_quiet names t id older =
+    quiet_from names (Event.Learn t id) Outcome.Learnt older (λ d. refl) (λ d. refl) (λ d. refl) (λ s. refl)
+
 -- a release
 pub release_is_quiet : (names : List (List ℕ)) (t : Topic) (id : TxnId) (older : List CoreStep)
     → IsQuiet names (step_of (Event.Release t) Reading.Nothing (Outcome.Released id)) older
 release_is_quiet names t id older =
     quiet_from names (Event.Release t) (Outcome.Released id) older (λ d. refl) (λ d. refl) (λ d. refl) (λ s. refl)
+
+-- a subscription that is closed as its connection leaves
+pub leave_is_quiet : (names : List (List ℕ)) (c s : ℕ) (to : Stamp) (older : List CoreStep)
+    → IsQuiet names (step_of (Event.Leave c) Reading.Nothing (Outcome.Unsubscribed s to)) older
+leave_is_quiet names c s to older =
+    quiet_from names (Event.Leave c) (Outcome.Unsubscribed s to) older (λ d. refl) (λ d. refl) (λ d. refl) (λ r. refl)
 
 -- want of memory at an Open
 pub open_without_is_quiet : (names : List (List ℕ)) (older : List CoreStep)
@@ -93,6 +106,12 @@ pub piece_without_is_quiet : (names : List (List ℕ)) (c : ℕ) (octets : List 
     → IsQuiet names (step_of (Event.Piece c octets) Reading.Nothing Outcome.NoMemory) older
 piece_without_is_quiet names c octets older =
     quiet_from names (Event.Piece c octets) Outcome.NoMemory older (λ d. refl) (λ d. not_fed (c == d) _ _) (λ d. refl) (λ s. refl)
+
+-- want of memory at a Take
+pub take_without_is_quiet : (names : List (List ℕ)) (s : ℕ) (older : List CoreStep)
+    → IsQuiet names (step_of (Event.Take s) Reading.Nothing Outcome.NoMemory) older
+take_without_is_quiet names s older =
+    quiet_from names (Event.Take s) Outcome.NoMemory older (λ c. refl) (λ c. refl) (λ c. no_reply _) (λ r. refl)
 
 -- a refused event
 pub refused_is_quiet : (names : List (List ℕ)) (e : Event) (why : Refusal) (older : List CoreStep)

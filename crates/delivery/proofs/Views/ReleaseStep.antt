@@ -26,13 +26,13 @@ use Rattle.delivery.specs.Machine.Moves.{Move, Answer, move_refusal, queue_has_r
 use Rattle.delivery.specs.Core.Steps.{Reading}
 use Rattle.delivery.specs.Core.State.{Core}
 use Rattle.delivery.specs.Inner.Stands.{Makes, step_of}
-use Rattle.delivery.specs.Inner.View.{View, view_of, view_after, group_view, new_group, queue_room}
+use Rattle.delivery.specs.Inner.View.{View, view_of, view_after, group_view, no_group, queue_room}
 use Rattle.delivery.proofs.Machine.QueueSteps.{Goes, release_goes}
 use Rattle.delivery.proofs.Views.QuietSteps.{quiet_view, release_is_quiet}
 use Rattle.delivery.proofs.Views.StepLemmas.{bool_cases, made_world, made_answer, in_outcome, refused_makes}
 
 -- the room that is found is that of the number
-room_found : (room : ℕ → Room) (es : List Entry) (n : ℕ) (f : Entry) → In f es → n ≡ f.number
+pub room_found : (room : ℕ → Room) (es : List Entry) (n : ℕ) (f : Entry) → In f es → n ≡ f.number
     → room_at n es (map (λ e. room e.number) es) ≡ Some (room n)
 room_found room [] n f here same = absurd here
 room_found room (e ∷ es) n f here same =
@@ -157,10 +157,6 @@ release_makes k t p d there due =
           ∙ (sym (quiet_view k.names step k.steps (with_topic w t y) (release_is_quiet k.names t p.part.id k.steps))
           ∙ ap (λ (v : World). view_after k.names v (step ∷ k.steps)) (sym (made_world w (Move.Releases t) free)));
     }
-
--- what stands for a group that there is none of
-abbrev pub no_group : GroupState
-no_group = new_group (new_topic (record { 0 = 0 }) 0 0)
 
 -- the same by the transaction that was answered
 pub release_some : (k : Core) (t : Topic) (id : TxnId) → t.0 < length k.world.topics

@@ -1,7 +1,7 @@
 -- How each move changes the connections: one more is open, one isn't open any more, or none is changed. So a
 -- connection is closed where its standing says so, and never opens again.
-use Rattle.std.proofs.Common.{◌≡◌, ◌≢◌, ℕ, ◌<◌, ◌≤◌, ◌==◌, Bool, true, false, not, ◌||◌, ◌⊎◌, inl, inr, List, [], ◌∷◌, ◌++◌, length, set, Option, Some, None, refl, sym, ap, subst, ◌∙◌, true≢false, arith, ltb}
-use Rattle.std.proofs.lemmas.Bool.{eqb-true, eq-eqb, ltb-true, false≢true}
+use Rattle.std.proofs.Common.{◌≡◌, ◌≢◌, ℕ, ◌<◌, ◌≤◌, ◌==◌, Bool, true, false, not, ◌||◌, ◌⊎◌, inl, inr, List, [], ◌∷◌, ◌++◌, length, set, Option, Some, None, refl, sym, ap, subst, ◌∙◌, arith}
+use Rattle.std.proofs.lemmas.Bool.{eqb-true, eq-eqb, false≢true, or_parts}
 use Rattle.mcast_txn.specs.declared.id.Topic.{Topic}
 use Rattle.mcast_txn.specs.declared.id.TxnId.{TxnId}
 use Rattle.mcast_txn.specs.declared.draft.sent_message.SentMessage.{SentMessage}
@@ -24,6 +24,7 @@ use Rattle.delivery.proofs.Theorem.SpansAsAnswered.{beyond, within}
 use Rattle.delivery.proofs.Core.ByRun.{by_run}
 use Rattle.delivery.proofs.Core.Speaking.{open_in}
 use Rattle.delivery.proofs.Core.AccountOfRun.{spoken}
+use Rattle.delivery.proofs.Core.Tests.{connection_there}
 
 -- two numbers are one, or they aren't
 pub same_or : (m n : ℕ) → (m ≡ n) ⊎ (m ≢ n)
@@ -78,9 +79,6 @@ shuts cs c x o l n h = inr (inl (record { number = c; new = x; there = l; set_to
 pub differ : (c d : ℕ) → c ≢ d → (c == d) ≡ false
 differ c d n = not_true (c == d) refl (λ e. n (eqb-true c d e))
 
-there : (w : World) (c : ℕ) → not (ltb c (length w.connections)) ≡ false → c < length w.connections
-there w c e = ltb-true c (length w.connections) (false_not (ltb c (length w.connections)) e)
-
 -- ---- each move
 
 flown : (w : World) (c : ℕ) (sends : List SentMessage) → Stands w.connections (commit_effect w c sends).connections (commit_answer w c sends)
@@ -115,27 +113,19 @@ taken : (w : World) (s : ℕ) (o : Option Item) → (subscription_at w s).connec
 taken w s None l = shuts w.connections _ _ _ l refl (λ d n. differ _ d n)
 taken w s (Some item) l = stay w.connections _ (λ d. refl)
 
-or_left : (a b : Bool) → (a || b) ≡ false → a ≡ false
-or_left true b e = e
-or_left false b e = refl
-
-or_right : (a b : Bool) → (a || b) ≡ false → b ≡ false
-or_right true b e = absurd (true≢false e)
-or_right false b e = e
-
 happens : (w : World) (e : Move) → move_refusal w e ≡ None → Stands w.connections (move_effect w e).connections (move_answer w e)
 happens w (AddsTopic clock) n = stay w.connections _ (λ d. refl)
 happens w Opens n = inr (inr (record { new = record { sender = length w.senders; standing = Standing.Open }; pushed = refl; none = λ d. refl }))
 happens w (Commits c sends) n = flown w c sends
 happens w (Subscribes c t) n = stay w.connections _ (λ d. refl)
 happens w (Unsubscribes c s) n = closed w s (entry_at w s) _ (λ d. refl)
-happens w (Disconnects c) n = shuts w.connections c _ _ (there w c (checked w (Disconnects c) n).0) refl (λ d k. differ c d k)
-happens w (Errs c) n = shuts w.connections c _ _ (there w c (checked w (Errs c) n).0) refl (λ d k. differ c d k)
-happens w (Lost c) n = shuts w.connections c _ _ (there w c (checked w (Lost c) n).0) refl (λ d k. differ c d k)
-happens w (Leaves c) n = gone w c (oldest_live c 0 w.subscriptions) (there w c (checked w (Leaves c) n).0)
+happens w (Disconnects c) n = shuts w.connections c _ _ (connection_there w c (checked w (Disconnects c) n).0) refl (λ d k. differ c d k)
+happens w (Errs c) n = shuts w.connections c _ _ (connection_there w c (checked w (Errs c) n).0) refl (λ d k. differ c d k)
+happens w (Lost c) n = shuts w.connections c _ _ (connection_there w c (checked w (Lost c) n).0) refl (λ d k. differ c d k)
+happens w (Leaves c) n = gone w c (oldest_live c 0 w.subscriptions) (connection_there w c (checked w (Leaves c) n).0)
 happens w (Proposes c t memory) n = proposed w c t (proposal_fault w c t memory)
 happens w (Decides c) n = stay w.connections _ (λ d. refl)
-happens w (Withdraws c) n = shuts w.connections c _ _ (there w c (checked w (Withdraws c) n).0) refl (λ d k. differ c d k)
+happens w (Withdraws c) n = shuts w.connections c _ _ (connection_there w c (checked w (Withdraws c) n).0) refl (λ d k. differ c d k)
 happens w (Cancels c t) n = cancelled w c t (find_leftover t (speaker w c).leftovers)
 happens w (Learns t id) n = learned w t id (find_verdict id w.verdicts) _ (λ d. refl)
 happens w (Releases t) n = released w t (due_part (topic_at w t))
@@ -143,7 +133,7 @@ happens w (Turns t) n = stay w.connections _ (λ d. refl)
 happens w (Takes s) n =
     let k = checked w (Takes s) n in
     let c = (subscription_at w s).connection in
-    taken w s _ (open_there w.connections c (false_not (open_in w.connections c) (or_right _ _ k.1.0)))
+    taken w s _ (open_there w.connections c (false_not (open_in w.connections c) (or_parts _ _ k.1.0).1))
 
 -- each move changes connections so
 pub stands_after : (w : World) (e : Move) → Stands w.connections (world_after w e).connections (answer_to w e)

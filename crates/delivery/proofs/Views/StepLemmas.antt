@@ -1,11 +1,11 @@
 -- Steps of one move: its world, its answer, and a refused one.
-use Rattle.std.proofs.Common.{◌≡◌, ℕ, ◌+◌, ◌<◌, ◌≤◌, Bool, true, false, not, nat_lt, List, [], ◌∷◌, length, get_or, set, Option, Some, None, refl, sym, ap, ◌∙◌, arith}
+use Rattle.std.proofs.Common.{◌≡◌, ◌≢◌, ℕ, ◌+◌, ◌<◌, ◌≤◌, Bool, true, false, not, nat_lt, List, [], ◌∷◌, ◌++◌, length, get_or, set, Option, Some, None, refl, sym, ap, ◌∙◌, arith}
 use Rattle.std.proofs.Common.{◌⊎◌, inl, inr}
 use Rattle.std.specs.Prelude.{slice_get}
 use Rattle.std.proofs.lemmas.Bool.{ltb-true, ltb-false}
 use Rattle.std.proofs.lemmas.Option.{slice_get-get_or, slice_get_past}
 use Rattle.std.specs.Option.{option_map, option_to_list}
-use Rattle.std.proofs.lemmas.List.{get_or-set_same, get_or-set_other}
+use Rattle.std.proofs.lemmas.List.{get_or-set_same, get_or-set_other, set-get_or}
 use Rattle.mcast_txn.specs.Lists.{In}
 use Rattle.mcast_txn.specs.Checks.{first_refusal}
 use Rattle.stomp_frame.specs.declared.raw_frame.RawFrame.{RawFrame}
@@ -18,12 +18,12 @@ use Rattle.delivery.specs.Machine.World.{World, Undecided, Connection, Standing,
 use Rattle.delivery.specs.Machine.Moves.{Move, Answer, move_refusal, move_effect, move_answer, answer_to, needs_open, with_leaving}
 use Rattle.delivery.specs.Machine.Runs.{run}
 use Rattle.delivery.specs.Core.Steps.{Reading, accepted_of}
-use Rattle.delivery.specs.Core.Output.{text_out}
+use Rattle.delivery.specs.Core.Output.{text_out, sub_id_text}
 use Rattle.delivery.specs.Core.State.{Core, moves, unread_at}
 use Rattle.delivery.specs.Core.Outcomes.{outcomes, outcome_of, move_outcome, IsReadAt}
 use Rattle.delivery.specs.Core.Reports.{each_number}
 use Rattle.delivery.specs.Inner.Stands.{Makes, step_of, stage_objection, line_objection}
-use Rattle.delivery.specs.Inner.View.{LineView, view_of, view_after, stage_view, line_view, live_numbers, leaving_line, parting_receipt}
+use Rattle.delivery.specs.Inner.View.{LineView, view_of, view_with, view_after, written_line, stage_view, line_view, live_numbers, leaving_line, parting_receipt}
 use Rattle.delivery.proofs.Views.ListLemmas.{each_number-set, get_or-each_number, length-each_number}
 use Rattle.delivery.proofs.Views.QuietSteps.{quiet_view, refused_is_quiet}
 
@@ -196,30 +196,58 @@ line_read lines c line there is = slice_get-get_or lines c line there ∙ ap (λ
 
 -- ---- a line that is leaving
 
--- what is held once this connection is leaving
+-- what is held once this connection is leaving, whatever is held of lines
+pub left_with : (names : List (List ℕ)) (w : World) (accepted : ℕ → List RawFrame) (unread : ℕ → Unread) (text ids : ℕ → List ℕ)
+    (c : ℕ) (parting : Option (List ℕ)) (d : LineView) → c < length w.connections → parting_receipt (accepted c) ≡ parting
+    → let v = view_with names w accepted unread text ids in
+    record v { lines = set v.lines c (leaving_line parting (get_or v.lines c d)) } ≡ view_with names (with_leaving w c) accepted unread text ids
+left_with names w accepted unread text ids c parting d there is =
+    let x : Connection = record { sender = (connection_at w c).sender; standing = Standing.Leaving } in
+    let f = λ (n : ℕ). line_view names w n (accepted n) (unread n) (text n) in
+    let ls = each_number f 0 w.connections in
+    let e : 0 + c ≡ c = omega arith in
+    let u = with_connection w c x in
+    let now : connection_at u c ≡ x = get_or-set_same w.connections c x nobody there in
+    let line : leaving_line (parting_receipt (accepted c)) (f c) ≡ line_view names u c (accepted c) (unread c) (text c) =
+    λ i. record {
+      sender = (sym now i).sender;
+      stage = stage_view names (sym now i).standing (sender_at w (sym now i).sender).flight (accepted c) (unread c);
+      live = live_numbers c 0 w.subscriptions;
+      output = text c;
+    } in
+    let parted : leaving_line parting (f c) ≡ leaving_line (parting_receipt (accepted c)) (f c) = ap (λ (p : Option (List ℕ)). leaving_line p (f c)) (sym is) in
+    let old : leaving_line parting (get_or ls c d) ≡ leaving_line parting (f c) = ap (leaving_line parting) (get_or-each_number f 0 w.connections c d there ∙ ap f e) in
+    let lines : set ls c (leaving_line parting (get_or ls c d)) ≡ each_number (λ n. line_view names u n (accepted n) (unread n) (text n)) 0 u.connections =
+    ap (λ (l : LineView). set ls c l) (old ∙ (parted ∙ line)) ∙ lines_with names w c x accepted unread text there in
+    ap (λ (zs : List LineView). record (view_with names w accepted unread text ids) { lines = zs }) lines
+
+-- the same of a core
 pub left_view : (k : Core) (c : ℕ) (parting : Option (List ℕ)) (d : LineView) → c < length k.world.connections
     → parting_receipt (accepted_of c k.steps) ≡ parting
     → record (view_of k) { lines = set (view_of k).lines c (leaving_line parting (get_or (view_of k).lines c d)) }
     ≡ view_after k.names (with_leaving k.world c) k.steps
 left_view k c parting d there is =
-    let x : Connection = record { sender = (connection_at k.world c).sender; standing = Standing.Leaving } in
-    let accepted = λ (n : ℕ). accepted_of n k.steps in
-    let unread = λ (n : ℕ). unread_at n k.steps in
-    let text = λ (n : ℕ). text_out k.names n k.steps in
-    let f = λ (n : ℕ). line_view k.names k.world n (accepted n) (unread n) (text n) in
-    let w = with_connection k.world c x in
-    let now : connection_at w c ≡ x = get_or-set_same k.world.connections c x nobody there in
-    let line : leaving_line (parting_receipt (accepted c)) (f c) ≡ line_view k.names w c (accepted c) (unread c) (text c) =
-    λ i. record {
-      sender = (sym now i).sender;
-      stage = stage_view k.names (sym now i).standing (sender_at k.world (sym now i).sender).flight (accepted c) (unread c);
-      live = live_numbers c 0 k.world.subscriptions;
-      output = text c;
-    } in
-    let parted : leaving_line parting (f c) ≡ leaving_line (parting_receipt (accepted c)) (f c) = ap (λ (p : Option (List ℕ)). leaving_line p (f c)) (sym is) in
-    let old : leaving_line parting (get_or (view_of k).lines c d) ≡ leaving_line parting (f c) = ap (leaving_line parting) (line_at k c d f there) in
-    let lines : set (view_of k).lines c (leaving_line parting (get_or (view_of k).lines c d))
-    ≡ each_number (λ n. line_view k.names w n (accepted n) (unread n) (text n)) 0 w.connections =
-    ap (λ (l : LineView). set (view_of k).lines c l) (old ∙ (parted ∙ line))
-    ∙ lines_with k.names k.world c x accepted unread text there in
-    ap (λ (ls : List LineView). record (view_of k) { lines = ls }) lines
+    left_with k.names k.world (λ n. accepted_of n k.steps) (λ n. unread_at n k.steps) (λ n. text_out k.names n k.steps) (λ s. sub_id_text s k.steps) c parting d there is
+
+-- ---- text that is written to a line
+
+-- what is held once this text is written to a connection, whatever is held of lines
+pub written_with : (names : List (List ℕ)) (w : World) (accepted : ℕ → List RawFrame) (unread : ℕ → Unread) (text later ids : ℕ → List ℕ)
+    (c : ℕ) (more : List ℕ) (d : LineView) → c < length w.connections → later c ≡ text c ++ more → ((n : ℕ) → n ≢ c → later n ≡ text n)
+    → let v = view_with names w accepted unread text ids in
+    record v { lines = set v.lines c (written_line more (get_or v.lines c d)) } ≡ view_with names w accepted unread later ids
+written_with names w accepted unread text later ids c more d there own others =
+    let f = λ (n : ℕ). line_view names w n (accepted n) (unread n) (text n) in
+    let g = λ (n : ℕ). line_view names w n (accepted n) (unread n) (later n) in
+    let ls = each_number f 0 w.connections in
+    let e : c ≡ 0 + c = omega arith in
+    let line : written_line more (get_or ls c d) ≡ g c =
+    ap (written_line more) (get_or-each_number f 0 w.connections c d there ∙ ap f (sym e))
+    ∙ ap (λ (t : List ℕ). line_view names w c (accepted c) (unread c) t) (sym own) in
+    let lines : set ls c (written_line more (get_or ls c d)) ≡ each_number g 0 w.connections =
+    ap (λ (l : LineView). set ls c l) line
+    ∙ (ap (λ (n : ℕ). set ls c (g n)) e
+    ∙ (each_number-set f g 0 w.connections c (connection_at w c) there
+    (λ n low high differ. ap (λ (t : List ℕ). line_view names w n (accepted n) (unread n) t) (sym (others n (λ same. differ (same ∙ e)))))
+    ∙ ap (λ (xs : List Connection). each_number g 0 xs) (set-get_or w.connections c nobody))) in
+    ap (λ (zs : List LineView). record (view_with names w accepted unread text ids) { lines = zs }) lines

@@ -220,7 +220,8 @@ tickets_are k s f reached =
     by_world (λ w. (sender_at w s).flight ≡ Some f → ticket_rows (map (λ t. (t, row_at t f.given)) (topics_of f.txn.sends)) ≡ f.given) k reached
     (λ r e. (let g = given r s f e in rows_are (topics_of f.txn.sends) f.given (topics_rise f.txn.sends) g.rising g.named))
 
-rows_of_slots : (rows : List Stamp) → ticket_rows (slots_of_rows rows) ≡ rows
+-- the rows of a decision are those that its slots give
+pub rows_of_slots : (rows : List Stamp) → ticket_rows (slots_of_rows rows) ≡ rows
 rows_of_slots [] = refl
 rows_of_slots (a ∷ more) = ap (λ (z : List Stamp). a ∷ z) (rows_of_slots more)
 

@@ -1,6 +1,6 @@
 -- Nothing came of a connection that isn't there yet.
-use Rattle.std.proofs.Common.{◌≡◌, ◌≢◌, ℕ, zero, suc, ◌+◌, ◌<◌, ◌≤◌, ◌==◌, Bool, true, false, cond, not, ◌||◌, ◌&&◌, inl, inr, List, [], ◌∷◌, ◌++◌, length, get_or, Option, Some, None, refl, sym, ap, subst, ◌∙◌, true≢false, arith, ltb}
-use Rattle.std.proofs.lemmas.Bool.{eqb-true, ltb-true}
+use Rattle.std.proofs.Common.{◌≡◌, ◌≢◌, ℕ, zero, suc, ◌+◌, ◌<◌, ◌≤◌, ◌==◌, Bool, true, false, cond, not, ◌&&◌, inl, inr, List, [], ◌∷◌, ◌++◌, length, get_or, Option, Some, None, refl, sym, ap, subst, ◌∙◌, arith, ltb}
+use Rattle.std.proofs.lemmas.Bool.{eqb-true, ltb-true, or_parts}
 use Rattle.std.specs.List.{flat_map}
 use Rattle.std.specs.Option.{is_some}
 use Rattle.stomp_frame.specs.declared.raw_frame.RawFrame.{RawFrame}
@@ -34,6 +34,7 @@ use Rattle.delivery.proofs.Views.OfRuns.{by_world}
 use Rattle.delivery.proofs.Views.QuietSteps.{if_same}
 use Rattle.delivery.proofs.Views.Standings.{grown, grown_once, stands_after, open_there, differ}
 use Rattle.delivery.proofs.Views.Partings.{unheard}
+use Rattle.delivery.proofs.Core.Tests.{connection_there}
 
 -- nothing came of the connection of this number
 pub record IsUntouched (k : Core) (c : ℕ) : Type 0 where
@@ -124,24 +125,17 @@ reply_next k c d rd o l i true e =
     let r = next_refused k c rd o l (subst (λ m. In o (outcomes k (Event.Next m) rd)) (eqb-true d c e) i) in
     subst (λ z. next_replies (frame_in rd) z ≡ []) r.is (no_reply (frame_in rd) r.why)
 
-or_right : (a b : Bool) → (a || b) ≡ false → b ≡ false
-or_right true b e = absurd (true≢false e)
-or_right false b e = e
-
 take_refused : (k : Core) (c s : ℕ) (rd : Reading) (o : Outcome) → length k.world.connections ≤ c → (subscription_at k.world s).connection ≡ c
     → (why : Option Objection) → move_refusal k.world (Takes s) ≡ why → In o (unless why (move_outcome k (Takes s) ++ Outcome.NoMemory ∷ [])) → IsRefusal o
 take_refused k c s rd o l e (Some why) n i = refused_by why (move_outcome k (Takes s) ++ Outcome.NoMemory ∷ []) o i
 take_refused k c s rd o l e None n i =
     let m = checked k.world (Takes s) n in let d = (subscription_at k.world s).connection in
-    let t = open_there k.world.connections d (false_not (open_in k.world.connections d) (or_right _ _ m.1.0)) in
+    let t = open_there k.world.connections d (false_not (open_in k.world.connections d) (or_parts (is_some (subscription_at k.world s).closed) (not (open_in k.world.connections d)) m.1.0).1) in
     absurd (omega arith)
-
-there : (w : World) (c : ℕ) → not (ltb c (length w.connections)) ≡ false → c < length w.connections
-there w c e = ltb-true c (length w.connections) (false_not (ltb c (length w.connections)) e)
 
 -- another connection's test fails
 elsewhere : (w : World) (c d : ℕ) → length w.connections ≤ c → not (ltb d (length w.connections)) ≡ false → (d == c) ≡ false
-elsewhere w c d l e = differ d c (λ m. (let t = there w d e in absurd (omega arith)))
+elsewhere w c d l e = differ d c (λ m. (let t = connection_there w d e in absurd (omega arith)))
 
 off : {X : Type 0} (b q : Bool) (xs : List X) → b ≡ false → cond (b && q) xs [] ≡ []
 off b q xs e = ap (λ z. cond (z && q) xs []) e
@@ -244,7 +238,8 @@ no_live c i (x ∷ xs) h =
     ap (λ b. cond (b && not (is_some x.closed)) (i ∷ live_numbers c (i + 1) xs) (live_numbers c (i + 1) xs)) (differ x.connection c (h zero (omega arith)))
     ∙ no_live c (i + 1) xs (λ s l. h (suc s) (omega arith))
 
-unsubscribed : (r : Run) (c : ℕ) → length (final_world r).connections ≤ c → live_numbers c 0 (final_world r).subscriptions ≡ []
+-- a connection that isn't there has no live subscription
+pub unsubscribed : (r : Run) (c : ℕ) → length (final_world r).connections ≤ c → live_numbers c 0 (final_world r).subscriptions ≡ []
 unsubscribed r c l =
     let w = final_world r in
     no_live c 0 w.subscriptions (λ s m e.

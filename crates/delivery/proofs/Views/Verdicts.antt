@@ -67,7 +67,8 @@ made_seq id s (Answer.Released u i ∷ past) h k = made_seq id s past h k
 made_seq id s (Answer.Turned u n ∷ past) h k = made_seq id s past h k
 made_seq id s (Answer.Handed r item ∷ past) h k = made_seq id s past h k
 
-flight_seq : (r : Run) (s : ℕ) (f : Undecided) → (sender_in (final_world r).senders s).flight ≡ Some f → f.txn.id.seq ≢ 0
+-- an undecided transaction's seq isn't 0
+pub flight_seq : (r : Run) (s : ℕ) (f : Undecided) → (sender_in (final_world r).senders s).flight ≡ Some f → f.txn.id.seq ≢ 0
 flight_seq r s f e =
     let h = reached r in let k = (h.inv.serves s).flying f e in
     made_seq f.txn.id k.some (answers_of r) (seqs_count r)
@@ -169,14 +170,15 @@ found_stands r id u e =
     }
 
 -- the verdicts of a sender in a world
-abbrev list_in : World → ℕ → List (Option Decision)
+abbrev pub list_in : World → ℕ → List (Option Decision)
 list_in w s = verdict_list w.verdicts s (sender_at w s).seq
 
 -- what is held of verdicts
-abbrev table : World → List (List (Option Decision))
+abbrev pub table : World → List (List (Option Decision))
 table w = each_number (list_in w) 0 w.senders
 
-list_of : (w : World) (s : ℕ) → s < length w.senders → slice_get (table w) s ≡ Some (list_in w s)
+-- a sender that is there has a list
+pub list_of : (w : World) (s : ℕ) → s < length w.senders → slice_get (table w) s ≡ Some (list_in w s)
 list_of w s l =
     let n = length-each_number (list_in w) 0 w.senders in
     let z : 0 + s ≡ s = omega arith in
@@ -201,7 +203,8 @@ in_list w s q z l =
     positive zero h = absurd (h refl)
     positive (suc m) h = omega arith
 
-not_in_list : (w : World) (s q : ℕ) → (sender_at w s).seq < q → slice_get (list_in w s) (q - 1) ≡ None
+-- a later seq is not in it
+pub not_in_list : (w : World) (s q : ℕ) → (sender_at w s).seq < q → slice_get (list_in w s) (q - 1) ≡ None
 not_in_list w s q l =
     let n = length-map-range_with_len (verdict_of w s) 1 (sender_at w s).seq in slice_get_past (list_in w s) (q - 1) (omega arith)
 

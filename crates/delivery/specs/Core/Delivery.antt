@@ -8,7 +8,7 @@ use Rattle.mcast_txn.specs.Stamp.{zero_stamp}
 use Rattle.mcast_txn.specs.Transaction.{topics_of}
 use Rattle.mcast_txn.specs.TopicSet.{names}
 use Rattle.mcast_txn.specs.Lists.{In}
-use Rattle.mcast_txn.specs.Agreed.{CommitRow, agreed, EachOnce, SenderOrder}
+use Rattle.mcast_txn.specs.Agreed.{CommitRow, committed_id, stamp_of, agreed, EachOnce, SenderOrder}
 use Rattle.mcast_txn.specs.Span.{Item, last_stamp}
 use Rattle.mcast_group.specs.declared.cause.Cause.{Cause}
 use Rattle.mcast_group.specs.declared.cause.Cause.TheVariants.{Asked, Lag}
@@ -63,8 +63,8 @@ EndsByCause s account (Some Asked) (Some to) = EndsAtFrontier s account to
 pub record Delivers (account : List Answer) (r : Report) : Type 0 where
   -- the commits in the order of Decide; no id and no stamp is there twice; each sender's are in its order
   pub commits : r.commits ≡ map log_row (commits_of account)
-  pub each_once : EachOnce (agreed (commits_of account))
-  pub fifo_order : SenderOrder (agreed (commits_of account))
+  pub each_once : EachOnce committed_id stamp_of (agreed (commits_of account))
+  pub fifo_order : SenderOrder committed_id (agreed (commits_of account))
   -- each log is as many rows of the agreed sequence as were released
   pub logs : (t : Topic) → t.0 < length r.logs → log_in r t ≡ released_log t account
   -- each subscription begins where its topic's log ended then, and ends as its cause says

@@ -1,5 +1,5 @@
 -- Only serves proofs: the cores that a run leads to, and what a call of the code makes of one.
-use Rattle.std.specs.Prelude.{◌≡◌, ℕ, List, Option, Some, None, Result, Ok, Err}
+use Rattle.std.specs.Prelude.{◌≡◌, ℕ, List, length, Option, Some, None, Result, Ok, Err}
 use Rattle.delivery.specs.declared.event.Event.{Event}
 use Rattle.delivery.specs.declared.outcome.Outcome.{Outcome}
 use Rattle.delivery.specs.declared.refusal.Refusal.{Refusal}
@@ -31,11 +31,12 @@ IsChecked (Err refusal) why = (o : Objection) × (why ≡ Some o) × (refusal_of
 
 -- ---- steps
 
--- a run of the core leads to this core
+-- a run of the core leads to this core; each of its topics has a name and an opening clock
 pub record IsReached (k : Core) : Type 0 where
   pub topics : TopicList
   pub capacity : ℕ
   pub steps : List CoreStep
+  pub as_many : length topics.clocks ≡ length topics.names
   pub is : k ≡ core_of topics capacity steps
   pub run : IsCoreRun topics capacity steps
 

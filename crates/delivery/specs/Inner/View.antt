@@ -2,7 +2,7 @@
 -- its steps). It isn't the core itself: rows of the commit list have no SENDs, an undecided transaction
 -- has lost the parts that were taken out, verdicts are found by sender and seq, and each connection has
 -- its line.
-use Rattle.std.specs.Prelude.{ℕ, ◌+◌, List, [], ◌∷◌, ◌++◌, map, length, Option, Some, None, if◌then◌else◌}
+use Rattle.std.specs.Prelude.{ℕ, ◌+◌, Bool, true, false, List, [], ◌∷◌, ◌++◌, map, length, get_or, Option, Some, None, if◌then◌else◌}
 use Rattle.std.specs.List.{find, range_with_len}
 use Rattle.std.specs.Option.{option_map, option_and_then}
 use Rattle.stomp_frame.specs.declared.raw_frame.RawFrame.{RawFrame}
@@ -24,7 +24,7 @@ use Rattle.mcast_group.specs.declared.cause.Cause.{Cause}
 use Rattle.mcast_group.specs.declared.ended.Ended.{Ended}
 use Rattle.mcast_group.specs.declared.fault.ProposeFault.{ProposeFault}
 use Rattle.mcast_group.specs.Group.{GroupState}
-use Rattle.mcast_group.specs.Machine.{TopicState, EntryEnd}
+use Rattle.mcast_group.specs.Machine.{TopicState, EntryEnd, new_topic}
 use Rattle.stomp_session.specs.Open.{held_after}
 use Rattle.stomp_session.specs.Frames.{is_disconnect}
 use Rattle.delivery.specs.declared.sending.Sending.{Sending}
@@ -50,6 +50,10 @@ group_view w x = record { topic = x; rooms = map (λ e. queue_room w e.number) x
 -- the group of a topic without subscriptions
 abbrev pub new_group : TopicState → GroupState
 new_group x = record { topic = x; rooms = [] }
+
+-- what stands for a group that there is none of
+abbrev pub no_group : GroupState
+no_group = new_group (new_topic (record { 0 = 0 }) 0 0)
 
 -- ---- senders
 
@@ -270,3 +274,19 @@ fed_stage octets Stage.Gone = Stage.Gone
 -- the same of its line
 abbrev pub fed_line : List ℕ → LineView → LineView
 fed_line octets line = record line { stage = fed_stage octets line.stage }
+
+-- this text is written to a line
+abbrev pub written_line : List ℕ → LineView → LineView
+written_line text line = record line { output = line.output ++ text }
+
+-- ---- reading
+
+-- the group of a topic
+abbrev pub group_in : View → Topic → GroupState
+group_in v t = get_or v.groups t.0 no_group
+
+-- a transaction is undecided
+abbrev pub is_undecided : Sending → Bool
+is_undecided (Sending.Idle gate) = false
+is_undecided (Sending.Flying flight row) = true
+is_undecided (Sending.Marked gate tickets fault) = true

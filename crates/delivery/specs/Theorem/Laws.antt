@@ -9,7 +9,7 @@ use Rattle.mcast_txn.specs.declared.draft.sent_message.SentMessage.{SentMessage}
 use Rattle.mcast_txn.specs.declared.stamp.Stamp.{Stamp}
 use Rattle.mcast_txn.specs.Stamp.{zero_stamp, stamp_lt, greatest}
 use Rattle.mcast_txn.specs.Transaction.{topics_of}
-use Rattle.mcast_txn.specs.Agreed.{CommitRow, agreed, EachOnce, SenderOrder}
+use Rattle.mcast_txn.specs.Agreed.{CommitRow, committed_id, stamp_of, agreed, EachOnce, SenderOrder}
 use Rattle.mcast_txn.specs.Lists.{In}
 use Rattle.mcast_txn.specs.TopicSet.{names}
 use Rattle.mcast_txn.specs.Ids.{same_id}
@@ -65,11 +65,11 @@ SeqsCount = (r : Run) → Numbered (answers_of r)
 
 -- no id and no stamp stands twice in the agreed sequence
 abbrev pub AgreedOnce : Type 0
-AgreedOnce = (r : Run) → EachOnce (agreed (commits_of (answers_of r)))
+AgreedOnce = (r : Run) → EachOnce committed_id stamp_of (agreed (commits_of (answers_of r)))
 
 -- each sender's transactions come in its order in the agreed sequence
 abbrev pub AgreedInSenderOrder : Type 0
-AgreedInSenderOrder = (r : Run) → SenderOrder (agreed (commits_of (answers_of r)))
+AgreedInSenderOrder = (r : Run) → SenderOrder committed_id (agreed (commits_of (answers_of r)))
 
 -- an item's transaction and its stamp
 pub record Mark : Type 0 where

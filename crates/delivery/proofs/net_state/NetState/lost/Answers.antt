@@ -11,7 +11,7 @@ use Rattle.delivery.proofs.net_state.NetState.lost.Goals as goal
 pub returns-in-Ok : goal.returns-in-Ok
 returns-in-Ok c k reached is =
     let free = ap (λ (v : View). line_objection (slice_get v.lines c.args.c)) (sym is) ∙ c.in-Ok.ensures in
-    let new = c.leave.ensures no_line ∙ ap (λ (v : View). record v { lines = set v.lines c.args.c (leaving_line None (get_or v.lines c.args.c no_line)) }) is in
+    let new = c.begin_leaving.ensures no_line ∙ ap (λ (v : View). record v { lines = set v.lines c.args.c (leaving_line None (get_or v.lines c.args.c no_line)) }) is in
     subst (λ (v : View). Makes k (Event.Lost c.args.c) Outcome.Leaving v) (sym new) (lost_makes k c.args.c no_line (not_parting k c.args.c reached) free)
 
 pub returns-in-Err : goal.returns-in-Err

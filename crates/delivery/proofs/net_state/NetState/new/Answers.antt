@@ -1,5 +1,6 @@
-use Rattle.std.proofs.Common.{refl, ◌∙◌}
+use Rattle.std.proofs.Common.{refl, ap, ◌∙◌}
 use Rattle.delivery.specs.Core.State.{new_core, log_limit}
+use Rattle.delivery.specs.Inner.Rooms.{PromisedRows}
 use Rattle.delivery.specs.Inner.View.{view_of}
 use Rattle.delivery.proofs.Views.ListLemmas.{new_groups_view}
 use Rattle.delivery.proofs.Views.ViewLemmas.{same_view}
@@ -10,4 +11,4 @@ returns c =
     let k = new_core (record { names = c.args.names; clocks = c.args.clocks.now }) c.args.capacity in
     same_view _ (view_of k) c.in_ok-new.ensures.ok refl
     (c.in_ok-groups.ensures ∙ new_groups_view k.world 0 log_limit c.args.clocks.now)
-    c.new-2.ensures.items c.new-3.ensures c.new-4.ensures.items c.new-5.ensures.items c.new-6.ensures.items
+    c.new-2.ensures.items c.new-3.ensures c.new-4.ensures.items c.new-5.ensures.items (ap (λ (p : PromisedRows). p.rows) c.new-6.ensures)

@@ -4,8 +4,8 @@ use Rattle.delivery.specs.declared.event.Event.{Event}
 use Rattle.delivery.specs.declared.outcome.Outcome.{Outcome}
 use Rattle.delivery.specs.declared.refusal.Refusal.{Refusal}
 use Rattle.delivery.specs.Inner.Stands.{Makes}
-use Rattle.delivery.specs.Inner.View.{View, group_view}
-use Rattle.delivery.proofs.Views.ReleaseStep.{no_group, release_some, release_none, release_unnamed, released_at, due_id_at}
+use Rattle.delivery.specs.Inner.View.{View, group_view, no_group}
+use Rattle.delivery.proofs.Views.ReleaseStep.{release_some, release_none, release_unnamed, released_at, due_id_at}
 use Rattle.delivery.proofs.net_state.NetState.release.Goals as goal
 
 pub returns-then-index-len : goal.returns-then-index-len

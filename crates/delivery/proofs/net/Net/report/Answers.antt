@@ -1,0 +1,10 @@
+use Rattle.std.proofs.Common.{subst}
+use Rattle.delivery.specs.Nets.{KeptRun, IsDelivered}
+use Rattle.delivery.specs.Inner.ViewReports.{report_in}
+use Rattle.delivery.proofs.Views.KeptRuns.{is_delivered}
+use Rattle.delivery.proofs.net.Net.report.Goals as goal
+
+pub returns : goal.returns
+returns c =
+    subst (λ (net : KeptRun). IsDelivered net (report_in c.self.inside.state)) c.self.view_is
+    (is_delivered _ c.self.inside.state c.self.invariant)

@@ -1,0 +1,40 @@
+use Rattle.std.proofs.Common.{◌≡◌, ◌-◌, ◌∷◌, [], ◌++◌, ap, ◌∙◌, arith, vec_len, vec_capacity}
+use Rattle.delivery.specs.Nets.{KeptRun}
+use Rattle.delivery.specs.Inner.ViewReports.{report_in}
+use Rattle.delivery.proofs.Views.KeptRuns.{is_delivered, step_kept, names_stay, capacity_stays}
+use Rattle.delivery.proofs.net.Net.step.Goals as goal
+
+pub invariant_of-self : goal.invariant_of-self
+invariant_of-self c =
+    rw c.push_reserved.ensures.items
+    (step_kept c.self.inside.clocks.items c.self.inside.kept.items c.self.inside.state c.answer-outcome.new.self
+    c.args.event c.answer-outcome.result c.self.invariant c.answer-outcome.ensures)
+
+pub returns-clause-kept : goal.returns-clause-kept
+returns-clause-kept c =
+    let clocks = c.self.inside.clocks.items in
+    let held = c.self.inside.state in
+    let new = c.answer-outcome.new.self in
+    let names : new.names ≡ held.names = names_stay clocks c.self.inside.kept.items held new c.args.event c.answer-outcome.result c.self.invariant c.answer-outcome.ensures in
+    let capacity : new.capacity ≡ held.capacity = capacity_stays clocks c.self.inside.kept.items held new c.args.event c.answer-outcome.result c.self.invariant c.answer-outcome.ensures in
+    let spare : vec_capacity c.push_reserved.new.self - vec_len c.push_reserved.new.self ≡ vec_capacity c.self.inside.kept - vec_len c.self.inside.kept - 1 =
+    omega (arith, c.push_reserved.ensures.len, c.push_reserved.ensures.capacity) in
+    (λ i. record {
+      topics = record { names = names i; clocks = clocks };
+      capacity = capacity i;
+      kept = c.push_reserved.ensures.items i;
+      spare = spare i;
+    })
+    ∙ ap (λ (net : KeptRun). record net {
+      kept = net.kept ++ record { event = c.args.event; outcome = c.answer-outcome.result } ∷ [];
+      spare = net.spare - 1;
+    }) c.self.view_is
+
+pub returns-clause-delivered : goal.returns-clause-delivered
+returns-clause-delivered c =
+    let new = c.answer-outcome.new.self in (
+      report_in new,
+      is_delivered _ new (rw c.push_reserved.ensures.items
+          (step_kept c.self.inside.clocks.items c.self.inside.kept.items c.self.inside.state new
+          c.args.event c.answer-outcome.result c.self.invariant c.answer-outcome.ensures)),
+    )

@@ -1,0 +1,79 @@
+use Rattle.std.proofs.Common.{rules, ◌≡◌, true, false, List, refl, sym, ap, ◌∙◌}
+use Rattle.std.specs.Prelude.{slice_get}
+use Rattle.delivery.specs.declared.stage.Stage.{Stage}
+use Rattle.delivery.specs.Machine.Objections.{Objection}
+use Rattle.delivery.specs.Inner.View.{View, LineView}
+use Rattle.delivery.specs.Inner.Leaving.{waits, leaving_objection, leave_objection}
+use Rattle.delivery.proofs.Views.LeaveStep.{no_leave, line_leaves}
+use Rattle.delivery.proofs.net_state.NetState.check_leaving.Goals as goal
+
+pub returns-in_default : goal.returns-in_default
+returns-in_default c =
+    let v = c.args.self.now in
+    let lines : v.lines ≡ c.deref.result.now = ap (λ (v : View). v.lines) (sym c.self.view_is) ∙ sym c.deref.ensures.value in
+    (Objection.NoConn, ap (λ (ls : List LineView). leave_objection v.senders (slice_get ls c.args.c)) lines ∙ no_leave v.senders c.deref.result.now c.args.c c.in_default.ensures.lookup.3, refl)
+
+pub returns-in-Open : goal.returns-in-Open
+returns-in-Open c =
+    let v = c.args.self.now in
+    let lines : v.lines ≡ c.deref.result.now = ap (λ (v : View). v.lines) (sym c.self.view_is) ∙ sym c.deref.ensures.value in
+    let h = c.in-Some.ensures.lookup in
+    let line = c.in-Some.line.now in (
+      Objection.NotLeaving,
+      ap (λ (ls : List LineView). leave_objection v.senders (slice_get ls c.args.c)) lines
+          ∙ (line_leaves v.senders c.deref.result.now c.args.c line h.3.0 h.1
+          ∙ (ap (λ (l : LineView). leaving_objection l.stage (waits v.senders line)) (sym c.line.view_is) ∙ ap (λ (s : Stage). leaving_objection s (waits v.senders line)) c.in-Open.is)),
+      refl,
+    )
+
+pub returns-in-Leaving : goal.returns-in-Leaving
+returns-in-Leaving c =
+    let v = c.args.self.now in
+    let lines : v.lines ≡ c.deref.result.now = ap (λ (v : View). v.lines) (sym c.self.view_is) ∙ sym c.deref.ensures.value in
+    let h = c.in-Some.ensures.lookup in
+    let line = c.in-Some.line.now in
+    let waiting : waits v.senders line ≡ true = search rules in (
+      Objection.Busy,
+      ap (λ (ls : List LineView). leave_objection v.senders (slice_get ls c.args.c)) lines
+          ∙ (line_leaves v.senders c.deref.result.now c.args.c line h.3.0 h.1
+          ∙ (ap (λ (l : LineView). leaving_objection l.stage (waits v.senders line)) (sym c.line.view_is) ∙ (ap (λ (s : Stage). leaving_objection s (waits v.senders line)) c.in-Leaving.is
+          ∙ ap (leaving_objection (Stage.Leaving c.in-Leaving.field-0)) waiting))),
+      refl,
+    )
+
+pub returns-in-Leaving-2 : goal.returns-in-Leaving-2
+returns-in-Leaving-2 c =
+    let v = c.args.self.now in
+    let lines : v.lines ≡ c.deref.result.now = ap (λ (v : View). v.lines) (sym c.self.view_is) ∙ sym c.deref.ensures.value in
+    let h = c.in-Some.ensures.lookup in
+    let line = c.in-Some.line.now in
+    let waiting : waits v.senders line ≡ false = search rules in
+    ap (λ (ls : List LineView). leave_objection v.senders (slice_get ls c.args.c)) lines
+    ∙ (line_leaves v.senders c.deref.result.now c.args.c line h.3.0 h.1
+    ∙ (ap (λ (l : LineView). leaving_objection l.stage (waits v.senders line)) (sym c.line.view_is) ∙ (ap (λ (s : Stage). leaving_objection s (waits v.senders line)) c.in-Leaving-2.is
+    ∙ ap (leaving_objection (Stage.Leaving c.in-Leaving-2.field-0)) waiting)))
+
+pub returns-in-Leaving-2-2 : goal.returns-in-Leaving-2-2
+returns-in-Leaving-2-2 c =
+    let v = c.args.self.now in
+    let lines : v.lines ≡ c.deref.result.now = ap (λ (v : View). v.lines) (sym c.self.view_is) ∙ sym c.deref.ensures.value in
+    let h = c.in-Some.ensures.lookup in
+    let line = c.in-Some.line.now in
+    let waiting : waits v.senders line ≡ false = search rules in
+    ap (λ (ls : List LineView). leave_objection v.senders (slice_get ls c.args.c)) lines
+    ∙ (line_leaves v.senders c.deref.result.now c.args.c line h.3.0 h.1
+    ∙ (ap (λ (l : LineView). leaving_objection l.stage (waits v.senders line)) (sym c.line.view_is) ∙ (ap (λ (s : Stage). leaving_objection s (waits v.senders line)) c.in-Leaving-2.is
+    ∙ ap (leaving_objection (Stage.Leaving c.in-Leaving-2.field-0)) waiting)))
+
+pub returns-in-Gone : goal.returns-in-Gone
+returns-in-Gone c =
+    let v = c.args.self.now in
+    let lines : v.lines ≡ c.deref.result.now = ap (λ (v : View). v.lines) (sym c.self.view_is) ∙ sym c.deref.ensures.value in
+    let h = c.in-Some.ensures.lookup in
+    let line = c.in-Some.line.now in (
+      Objection.Gone,
+      ap (λ (ls : List LineView). leave_objection v.senders (slice_get ls c.args.c)) lines
+          ∙ (line_leaves v.senders c.deref.result.now c.args.c line h.3.0 h.1
+          ∙ (ap (λ (l : LineView). leaving_objection l.stage (waits v.senders line)) (sym c.line.view_is) ∙ ap (λ (s : Stage). leaving_objection s (waits v.senders line)) c.in-Gone.is)),
+      refl,
+    )

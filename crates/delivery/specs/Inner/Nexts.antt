@@ -1,0 +1,192 @@
+-- Only serves proofs: what the private calls of the event Next make of a view.
+use Rattle.std.specs.Prelude.{◌≡◌, ◌++◌, ℕ, Bool, false, List, [], ◌∷◌, get_or, set, slice_get, take, Option, Some, None, Result, Ok, Err, if◌then◌else◌}
+use Rattle.std.specs.Option.{option_map_or, option_or}
+use Rattle.mcast_txn.specs.Checks.{first_refusal}
+use Rattle.mcast_txn.specs.Lists.{In}
+use Rattle.stomp_frame.specs.declared.fault.Check.{Check}
+use Rattle.stomp_frame.specs.declared.fault.FrameFault.{FrameFault}
+use Rattle.stomp_frame.specs.declared.raw_frame.RawFrame.{RawFrame}
+use Rattle.stomp_frame.specs.Cases.{case_fault}
+use Rattle.stomp_frame.specs.Reader.{Unread}
+use Rattle.stomp_frame.specs.Receipts.{receipt_of}
+use Rattle.stomp_frame.specs.ServerFrames.{error_frame, receipt_frame}
+use Rattle.stomp_frame.specs.Writing.{spelled}
+use Rattle.stomp_session.specs.declared.action.Step.{Step}
+use Rattle.stomp_session.specs.declared.action.Action.{Action}
+use Rattle.stomp_session.specs.Answers.{Accepts, Refuses, action_by}
+use Rattle.stomp_session.specs.Open.{Held, StandsFor, held_after}
+use Rattle.stomp_session.specs.Refusals.{refusal}
+use Rattle.delivery.specs.declared.connection_fault.ConnectionFault.{ConnectionFault}
+use Rattle.delivery.specs.declared.open_line.OpenLine.{OpenLine}
+use Rattle.delivery.specs.declared.outcome.Outcome.{Outcome}
+use Rattle.delivery.specs.declared.stage.Stage.{Stage}
+use Rattle.delivery.specs.Faults.{connection_title}
+use Rattle.delivery.specs.Machine.Objections.{Objection}
+use Rattle.delivery.specs.Machine.Moves.{needs_idle}
+use Rattle.delivery.specs.Core.Steps.{Reading, accepted_of, frame_in}
+use Rattle.delivery.specs.Core.Output.{receipt_asked, says_version}
+use Rattle.delivery.specs.Core.State.{Core, IsReadBy, session_at, unread_at}
+use Rattle.delivery.specs.Core.Outcomes.{reading_outcomes}
+use Rattle.delivery.specs.Inner.Stands.{IsReached, line_objection}
+use Rattle.delivery.specs.Inner.View.{View, LineView, SenderView, view_of, no_line, is_undecided}
+
+-- ---- one line
+
+-- one line is changed so
+abbrev pub changed_line : (LineView → LineView) → ℕ → View → View
+changed_line f c v = record v { lines = set v.lines c (f (get_or v.lines c no_line)) }
+
+-- the line at this stage
+abbrev pub staged_line : Stage → LineView → LineView
+staged_line stage line = record line { stage = stage }
+
+-- ---- checks
+
+-- the sender has an undecided transaction
+abbrev pub is_sending : Option SenderView → Bool
+is_sending None = false
+is_sending (Some x) = is_undecided x.sending
+
+-- what stands against reading a frame, where this sender speaks
+abbrev pub sending_objection : List SenderView → ℕ → Option Objection
+sending_objection senders s = if is_sending (slice_get senders s) then Some Objection.Busy else None
+
+-- what stands against a Next of connection c
+abbrev pub idle_objection : View → ℕ → Option Objection
+idle_objection v c =
+    option_or (line_objection (slice_get v.lines c))
+    (sending_objection v.senders (get_or v.lines c no_line).sender)
+
+-- ---- what is read
+
+-- a reader's fault, as that of its connection
+abbrev pub reader_fault : FrameFault → ConnectionFault
+reader_fault FrameFault.BadCommand = ConnectionFault.Stream Check.BadCommand
+reader_fault FrameFault.BadLine = ConnectionFault.Stream Check.BadLine
+reader_fault FrameFault.BadHeader = ConnectionFault.Stream Check.BadHeader
+reader_fault FrameFault.BadEscape = ConnectionFault.Stream Check.BadEscape
+reader_fault FrameFault.BadText = ConnectionFault.Stream Check.BadText
+reader_fault FrameFault.BadLength = ConnectionFault.Stream Check.BadLength
+reader_fault FrameFault.BadEnd = ConnectionFault.Stream Check.BadEnd
+reader_fault FrameFault.LineTooLong = ConnectionFault.Stream Check.LineTooLong
+reader_fault FrameFault.TooManyHeaders = ConnectionFault.Stream Check.TooManyHeaders
+reader_fault FrameFault.BodyTooLong = ConnectionFault.Stream Check.BodyTooLong
+reader_fault FrameFault.NoMemory = ConnectionFault.ReaderNoMemory
+
+-- the frame is a client's, and this session accepts it with this step
+pub record IsAccepted (s : Held) (f : RawFrame) (step : Step) : Type 0 where
+  pub cased : case_fault f ≡ None
+  pub accepts : Accepts s f step
+
+-- the frame is refused with this fault: by the case table, or by this session
+abbrev pub IsRefusedAs : Held → RawFrame → ConnectionFault → Type 0
+IsRefusedAs s f (ConnectionFault.Frame fault) = case_fault f ≡ Some fault
+IsRefusedAs s f (ConnectionFault.Session fault) = (case_fault f ≡ None) × Refuses s f fault
+IsRefusedAs s f (ConnectionFault.Stream check) = ⊥
+IsRefusedAs s f ConnectionFault.Lagged = ⊥
+IsRefusedAs s f ConnectionFault.ReaderNoMemory = ⊥
+
+-- why a frame ends its connection, and the frame, if one was read
+abbrev pub LineFault : Type 0
+LineFault = ConnectionFault × Option RawFrame
+
+-- what an open line, whose session accepted these frames, makes of what it reads
+abbrev pub Judged : List RawFrame → OpenLine → Reading → Result (Option Step) LineFault → OpenLine → Type 0
+Judged accepted old (Reading.Waits left) (Ok None) new = new ≡ record old { reader = left }
+Judged accepted old (Reading.Finds f left) (Ok (Some step)) new =
+    IsAccepted (held_after old.session.names accepted) f step
+    × (new
+    ≡ record old { reader = left; session = held_after old.session.names (accepted ++ f ∷ []) })
+Judged accepted old (Reading.Finds f left) (Err e) new =
+    (e.1 ≡ Some f) × IsRefusedAs (held_after old.session.names accepted) f e.0
+Judged accepted old Reading.Nothing (Err e) new = (e.1 ≡ None) × (e.0 ≡ ConnectionFault.ReaderNoMemory)
+Judged accepted old (Reading.Fails check left) (Err e) new =
+    (e.1 ≡ None) × (e.0 ≡ ConnectionFault.Stream check)
+Judged accepted old reading result new = ⊥
+
+-- what its reader reads, and what the line makes of it
+pub record Judgement
+    (accepted : List RawFrame) (old : OpenLine) (result : Result (Option Step) LineFault) (new : OpenLine)
+    : Type 0 where
+  pub reading : Reading
+  pub read : IsReadBy old.reader reading
+  pub judged : Judged accepted old reading result new
+
+-- so of each list of frames that its session stands for, while its reader returned no fault
+abbrev pub Judges : OpenLine → Result (Option Step) LineFault → OpenLine → Type 0
+Judges old result new =
+    (accepted : List RawFrame) → StandsFor old.session accepted → old.reader.answered ≡ None
+    → Judgement accepted old result new
+
+-- the same of a line, if it is open
+abbrev pub JudgesAt : Stage → Result (Option Step) LineFault → Stage → Type 0
+JudgesAt (Stage.Open old) result new = (after : OpenLine) × (new ≡ Stage.Open after) × Judges old result after
+JudgesAt (Stage.Leaving parting) result new = Unit {0}
+JudgesAt Stage.Gone result new = Unit {0}
+
+-- ---- replies
+
+-- the text of a fault's ERROR
+abbrev pub error_text : ConnectionFault → Option (List ℕ) → List ℕ
+error_text fault receipt = spelled (error_frame (connection_title fault) receipt (says_version fault))
+
+-- the text of a RECEIPT, if one is asked for
+abbrev pub receipt_text : Option (List ℕ) → List ℕ
+receipt_text receipt = option_map_or (λ id. spelled (receipt_frame id)) receipt []
+
+-- a line that ends by an ERROR of this text, or whose ERROR was left out
+abbrev pub failed_line : Bool → List ℕ → LineView → LineView
+failed_line cut text line = record line {
+  stage = Stage.Leaving None;
+  output = if cut then line.output else line.output ++ text;
+}
+
+-- a line with only this many octets out
+abbrev pub shortened_line : ℕ → LineView → LineView
+shortened_line len line = record line { output = take len line.output }
+
+-- ---- a frame that ends its connection
+
+-- Why a Next of connection c ends it: what it read, and the ERROR's fault and receipt.
+pub record Ends
+    (k : Core) (c : ℕ) (reading : Reading) (fault : ConnectionFault) (receipt : Option (List ℕ))
+    : Type 0 where
+  pub reached : IsReached k
+  pub idle : first_refusal (needs_idle k.world c) ≡ None
+  pub read : IsReadBy (unread_at c k.steps) reading
+  pub may : (cut : Bool) → In (Outcome.Faulted fault cut) (reading_outcomes k c reading)
+  pub asked : receipt ≡ receipt_asked (frame_in reading)
+
+-- so of this frame, if one was read, while the connection is at some stage
+pub record HasFault
+    (k : Core) (c : ℕ) (fault : ConnectionFault) (frame : Option RawFrame) (held : View)
+    : Type 0 where
+  pub reading : Reading
+  pub stage : Stage
+  pub ends : Ends k c reading fault (receipt_asked frame)
+  pub view : held ≡ changed_line (staged_line stage) c (view_of k)
+
+-- ---- an accepted frame
+
+-- the stage of connection c once it accepted this frame too, and its reader stands for this
+abbrev pub accepted_stage : Core → ℕ → RawFrame → Unread → Stage
+accepted_stage k c f left = Stage.Open (record {
+  reader = left;
+  session = held_after k.names (accepted_of c k.steps ++ f ∷ []);
+  receipt = None;
+})
+
+-- A Next of connection c read this frame, which its session accepted, and this is held then. It asks for this
+-- action and this receipt.
+pub record Asks
+    (k : Core) (c : ℕ) (f : RawFrame) (left : Unread)
+    (action : Action) (receipt : Option (List ℕ)) (held : View)
+    : Type 0 where
+  pub reached : IsReached k
+  pub idle : first_refusal (needs_idle k.world c) ≡ None
+  pub read : IsReadBy (unread_at c k.steps) (Reading.Finds f left)
+  pub cased : case_fault f ≡ None
+  pub free : refusal (session_at k c) f ≡ None
+  pub does : action_by f.command (session_at k c) f ≡ action
+  pub wants : receipt_of f ≡ receipt
+  pub view : held ≡ changed_line (staged_line (accepted_stage k c f left)) c (view_of k)

@@ -1,0 +1,100 @@
+-- Only serves proofs: what the code of the core holds once a subscription begins or ends.
+use Rattle.std.specs.Prelude.{ℕ, Bool, false, List, [], ◌∷◌, ◌++◌, ◌==◌, length, get_or, set, slice_get, Option, Some, None, if◌then◌else◌}
+use Rattle.std.specs.List.{find}
+use Rattle.std.specs.Option.{option_map_or, option_and_then}
+use Rattle.std.specs.Str.{bytes_eq}
+use Rattle.mcast_txn.specs.declared.id.Topic.{Topic}
+use Rattle.mcast_txn.specs.declared.stamp.Stamp.{Stamp}
+use Rattle.mcast_txn.specs.Stamp.{zero_stamp}
+use Rattle.sub_queue.specs.Shown.{Room, known_taken}
+use Rattle.mcast_group.specs.Group.{GroupState, room_at, group_after_subscribe, group_after_unsubscribe}
+use Rattle.mcast_group.specs.Machine.{Entry, find_entry, end_of}
+use Rattle.delivery.specs.Inner.View.{View, LineView, SubView, LeftView, left_view, no_line, group_in}
+
+-- what stands for a subscription that there is none of
+abbrev pub no_sub : SubView
+no_sub = record { connection = 0; id = []; topic = record { 0 = 0 }; from = zero_stamp; left = None }
+
+-- ---- an end
+
+-- what this entry with this room leaves, at a topic of this frontier
+abbrev pub left_with : Stamp → Option Entry → Option Room → Option LeftView
+left_with frontier None room = None
+left_with frontier (Some e) None = None
+left_with frontier (Some e) (Some room) = Some (left_view (known_taken room.taken) (end_of frontier e))
+
+-- what the subscription of this number leaves at its group, if it has an entry there
+abbrev pub left_in : ℕ → GroupState → Option LeftView
+left_in s g =
+    left_with g.topic.frontier (find_entry s g.topic.subscriptions)
+    (room_at s g.topic.subscriptions g.rooms)
+
+-- the same, of a subscription that is held
+abbrev pub left_at : ℕ → View → Option LeftView
+left_at s v = option_and_then (λ x. left_in s (group_in v x.topic)) (slice_get v.subs s)
+
+-- the group without it, if it had an entry there
+abbrev pub group_if_left : ℕ → Option LeftView → GroupState → GroupState
+group_if_left s None g = g
+group_if_left s (Some left) g = group_after_unsubscribe s g
+
+-- the numbers but for the first that is this
+abbrev pub without_number : ℕ → List ℕ → List ℕ
+without_number s [] = []
+without_number s (n ∷ ns) = if n == s then ns else n ∷ without_number s ns
+
+-- a line whose subscription s is closed
+abbrev pub shorter_line : ℕ → LineView → LineView
+shorter_line s line = record line { live = without_number s line.live }
+
+-- subscription s, which was this, has left this
+abbrev pub closed_with : ℕ → SubView → LeftView → View → View
+closed_with s x left v = record v {
+  groups = set v.groups x.topic.0 (group_after_unsubscribe s (group_in v x.topic));
+  lines = set v.lines x.connection (shorter_line s (get_or v.lines x.connection no_line));
+  subs = set v.subs s (record x { left = Some left });
+}
+
+-- the same where it left something
+abbrev pub closed_if_left : ℕ → Option LeftView → View → View
+closed_if_left s None v = v
+closed_if_left s (Some left) v = closed_with s (get_or v.subs s no_sub) left v
+
+-- subscription s is closed, if it has an entry at its topic
+abbrev pub closed_view : ℕ → View → View
+closed_view s v = closed_if_left s (left_at s v) v
+
+-- ---- a beginning
+
+-- a line with one more subscription
+abbrev pub longer_line : ℕ → LineView → LineView
+longer_line s line = record line { live = line.live ++ s ∷ [] }
+
+-- the room of a new queue
+abbrev pub new_room : ℕ → Room
+new_room capacity = record { capacity = capacity; taken = Some 0 }
+
+-- a new subscription of connection c with this id to t
+abbrev pub subscribed_view : ℕ → List ℕ → Topic → View → View
+subscribed_view c id t v = record v {
+  groups = set v.groups t.0 (group_after_subscribe (length v.subs) (new_room v.capacity) (group_in v t));
+  lines = set v.lines c (longer_line (length v.subs) (get_or v.lines c no_line));
+  subs = v.subs
+      ++ record {
+        connection = c;
+        id = id;
+        topic = t;
+        from = (group_in v t).topic.frontier;
+        left = None;
+      } ∷ [];
+}
+
+-- ---- a search
+
+-- the subscription of this number has this id
+abbrev pub has_sub_id : List SubView → List ℕ → ℕ → Bool
+has_sub_id subs id s = option_map_or (λ x. bytes_eq x.id id) (slice_get subs s) false
+
+-- the number of the connection's subscription with this id that isn't closed, if there is one
+abbrev pub number_in : View → ℕ → List ℕ → Option ℕ
+number_in v c id = find (has_sub_id v.subs id) (get_or v.lines c no_line).live

@@ -1,0 +1,45 @@
+//! The MESSAGEs of an item.
+
+ghost use Rattle.std.specs.Prelude.{◌≡◌, ◌++◌, OnOk, OnErr};
+ghost use Rattle.std.specs.List.{flat_map};
+ghost use Rattle.stomp_frame.specs.Writing.{spelled, Extends};
+ghost use Rattle.delivery.specs.Core.Output.{item_messages};
+
+use mcast_txn::Released;
+use stomp_frame::{NoMemory, Octets, ServerFrame, write_server};
+
+/// Appends the MESSAGE of each SEND of the item's part, for the subscription of this id; after `NoMemory` perhaps only the
+/// first ones.
+fn put_messages(id: &[u8], item: &Released, out: &mut Octets) -> Result<(), NoMemory>
+    ensures ok { OnOk result (out.new ≡ out.old ++ flat_map spelled (item_messages id.now item.now)) }
+    ensures err { OnErr result (Extends out.old out.new) }
+{
+    let sends = &item.part.sends;
+    for i in 0..sends.len() {
+        let send = sends.get(i);
+        let message = ServerFrame::Message {
+            subscription: id,
+            n: item.stamp.n,
+            topic: item.stamp.topic.0,
+            index: send.index,
+            headers: &send.headers,
+            body: send.body.as_slice(),
+        };
+        write_server(&message, out)?;
+    }
+    Ok(())
+}
+
+/// Appends the MESSAGE of each SEND of the item's part, for the subscription of this id: each octet is copied once. After
+/// `NoMemory` the octets are what they were.
+pub(crate) fn write_messages(id: &[u8], item: &Released, out: &mut Octets) -> Result<(), NoMemory>
+    ensures ok { OnOk result (out.new ≡ out.old ++ flat_map spelled (item_messages id.now item.now)) }
+    ensures err { OnErr result (out.new ≡ out.old) }
+{
+    let before = out.len();
+    let done = put_messages(id, item, out);
+    if done.is_err() {
+        out.truncate(before);
+    }
+    done
+}

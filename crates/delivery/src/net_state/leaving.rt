@@ -1,0 +1,86 @@
+//! The steps of a connection's leaving.
+
+ghost use Rattle.std.specs.Prelude.{◌≡◌, ◌<◌, length, get_or, slice_get, true, false, is_err, OnErr};
+ghost use Rattle.std.specs.Option.{option_map_or};
+ghost use Rattle.delivery.specs.Core.State.{Core};
+ghost use Rattle.delivery.specs.Inner.Stands.{IsReached, Makes, IsChecked};
+ghost use Rattle.delivery.specs.Inner.View.{view_of, no_line};
+ghost use Rattle.delivery.specs.Inner.Leaving.{is_busy, leave_objection, oldest_end, oldest_closed, has_parting, gone_view};
+ghost use Rattle.delivery.specs.declared.event.Event.{Event as Asked};
+
+use crate::net_state::NetState;
+use crate::outcome::Outcome;
+use crate::refusal::Refusal;
+use crate::stage::Stage;
+use mcast_txn::Stamp;
+use stomp_frame::NoMemory;
+
+impl NetState {
+    /// Whether there is this sender and it has an undecided transaction or tickets to cancel.
+    fn is_busy(&self, sender: u64) -> bool
+        ensures { result ≡ option_map_or is_busy (slice_get self.now.senders sender) false }
+    {
+        match self.senders.get(sender as usize) {
+            Some(sender) => sender.is_busy(),
+            None => false,
+        }
+    }
+
+    /// Whether the connection takes the next step of its leaving: 80 where there is none, 87 where it is gone, 79 where it
+    /// is open, 81 where it has no subscription that isn't closed and its sender is busy.
+    fn check_leaving(&self, c: u64) -> Result<(), Refusal>
+        ensures { IsChecked result (leave_objection self.now.senders (slice_get self.now.lines c)) }
+    {
+        let Some(line) = self.lines.get(c as usize) else {
+            return Err(Refusal::NoConn);
+        };
+        match line.stage {
+            Stage::Open(_) => Err(Refusal::NotLeaving),
+            Stage::Leaving(_) if line.live.is_empty() && self.is_busy(line.sender) => {
+                Err(Refusal::Busy)
+            }
+            Stage::Leaving(_) => Ok(()),
+            Stage::Gone => Err(Refusal::Gone),
+        }
+    }
+
+    /// Ends the connection's oldest subscription that isn't closed, if there is one: its number and where its span ends.
+    fn close_oldest(&mut self, c: u64) -> Option<(u64, Stamp)>
+        requires { c < length self.old.lines }
+        ensures end { result ≡ oldest_end self.old c }
+        ensures closed { self.new ≡ oldest_closed self.old c }
+    {
+        let s = *self.lines[c as usize].live.first()?;
+        let to = self.close(s)?;
+        Some((s, to))
+    }
+
+    /// The connection is gone. The RECEIPT of its DISCONNECT is written, if it asked for one; after `NoMemory` it is left
+    /// out.
+    fn depart(&mut self, c: u64) -> Result<(), NoMemory>
+        requires { c < length self.old.lines }
+        ensures gone { self.new ≡ gone_view (is_err result) c self.old }
+        ensures asked { OnErr result (has_parting (get_or self.old.lines c no_line).stage ≡ true) }
+    {
+        let line = &mut self.lines[c as usize];
+        line.depart()
+    }
+
+    /// The next step of a connection's leaving: its oldest subscription is closed, or else it is gone. 80 where there is
+    /// none, 87 where it is gone, 79 where it is open, 81 where all its subscriptions are closed and its sender has an
+    /// undecided transaction or tickets to cancel. It takes no memory but for a RECEIPT.
+    pub(crate) fn leave(&mut self, c: u64) -> Outcome
+        ensures { (k : Core) → IsReached k → self.old ≡ view_of k → Makes k (Asked.Leave c) result self.new }
+    {
+        if let Err(refusal) = self.check_leaving(c) {
+            return Outcome::Refused(refusal);
+        }
+        if let Some((s, to)) = self.close_oldest(c) {
+            return Outcome::Unsubscribed(s, to);
+        }
+        match self.depart(c) {
+            Ok(()) => Outcome::Gone { cut: false },
+            Err(NoMemory) => Outcome::Gone { cut: true },
+        }
+    }
+}

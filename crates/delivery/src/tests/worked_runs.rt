@@ -1,0 +1,116 @@
+//! The worked runs, event by event and as one list.
+
+use super::asks::{Ask, answer, list, topics};
+use super::printing::report_text;
+use super::runs::{RUNS, Run};
+use crate::{EventList, MAX_CAPACITY, Net, Report};
+use std::alloc::Global;
+use std::test::Fail;
+use stomp_frame::NoMemory;
+
+/// The core of the run before its first event.
+fn made(alloc: Global, run: Run) -> Result<Net, NoMemory> {
+    if run.capacity == 0 || run.capacity > MAX_CAPACITY {
+        return Err(NoMemory);
+    }
+    Net::new(alloc, topics(alloc, run.topics)?, run.capacity)
+}
+
+/// Whether these octets, and no others, were written to each connection.
+fn are_outs(report: &Report<'_>, outs: &[&'static [u8]]) -> bool {
+    report.connections_len() == outs.len()
+        && (0..outs.len()).all(|c| c < report.connections_len() && report.out(c) == outs[c])
+}
+
+/// How many of these rows have their outcome, from the first on.
+fn told_as_wanted(
+    alloc: Global,
+    net: &mut Net,
+    rows: &[(Ask, &'static str)],
+) -> Result<usize, NoMemory> {
+    let mut count = 0usize;
+    for &(ask, want) in rows {
+        let told = answer(alloc, net, ask)?;
+        if told.as_str() != want {
+            return Ok(count);
+        }
+        count = count.saturating_add(1);
+    }
+    Ok(count)
+}
+
+#[test]
+fn each_event_has_its_outcome(rt: HostRuntime) -> Result<(), Fail> {
+    for run in RUNS {
+        let shows = run.shows;
+        let mut net = made(rt.alloc(), run)?;
+        let count = told_as_wanted(rt.alloc(), &mut net, run.rows)?;
+        assert_eq!(rt; count, run.rows.len(), "in {shows}");
+        let report = net.report();
+        let told = report_text(rt.alloc(), &report)?;
+        assert_eq!(rt; told.as_str(), run.report, "in {shows}");
+        assert!(rt; are_outs(&report, run.outs), "in {shows}");
+    }
+    Ok(())
+}
+
+/// The core after all events of the run, one after the other.
+fn stepped(alloc: Global, run: Run) -> Result<Net, NoMemory> {
+    let mut net = made(alloc, run)?;
+    for &(ask, _) in run.rows {
+        answer(alloc, &mut net, ask)?;
+    }
+    Ok(net)
+}
+
+/// Whether both cores kept as many events with the same outcomes.
+fn are_same(a: &Net, b: &Net) -> bool {
+    a.kept_len() == b.kept_len()
+        && (0..a.kept_len()).all(|i| i < b.kept_len() && a.kept(i).outcome == b.kept(i).outcome)
+}
+
+#[test]
+fn a_list_is_taken_as_its_events(rt: HostRuntime) -> Result<(), Fail> {
+    for run in RUNS {
+        let mut net = made(rt.alloc(), run)?;
+        net.run(EventList::new(rt.alloc()))?;
+        assert_eq!(rt; net.kept_len(), 0);
+        net.run(list(rt.alloc(), run.rows)?)?;
+        let one_by_one = stepped(rt.alloc(), run)?;
+        assert!(rt; are_same(&net, &one_by_one));
+        let told = report_text(rt.alloc(), &net.report())?;
+        assert_eq!(rt; told.as_str(), run.report);
+    }
+    Ok(())
+}
+
+/// What a connection sends in one piece: CONNECT, and a transaction.
+const STREAM: &[u8] =
+    b"CONNECT\naccept-version:1.2\r\nhost:h\n\n\0\nBEGIN\ntransaction:x\n\n\0SEND\ndestination:A\ntransaction:x\ncontent-length:1\n\n\0\0COMMIT\r\ntransaction:x\r\n\r\n\0";
+
+/// The rows of STREAM cut at this place.
+fn cut_at(at: usize) -> [(Ask, &'static str); 8] {
+    let at = at.min(STREAM.len());
+    [
+        (Ask::Open, "conn 0"),
+        (Ask::Piece(0, &STREAM[..at]), "fed"),
+        (Ask::Piece(0, &STREAM[at..]), "fed"),
+        (Ask::Next(0), "done"),
+        (Ask::Next(0), "done"),
+        (Ask::Next(0), "done"),
+        (Ask::Next(0), "flight 0 1"),
+        (Ask::Propose(0, 0), "ticket 1"),
+    ]
+}
+
+#[test]
+fn a_stream_is_cut_anywhere(rt: HostRuntime) -> Result<(), Fail> {
+    for at in 0..STREAM.len() + 1 {
+        let mut net = Net::new(rt.alloc(), topics(rt.alloc(), &[(b"A".as_slice(), 0)])?, 64)?;
+        for (ask, want) in cut_at(at) {
+            let told = answer(rt.alloc(), &mut net, ask)?;
+            assert_eq!(rt; told.as_str(), want, "cut at {at}");
+        }
+    }
+    Ok(())
+}
