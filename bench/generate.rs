@@ -5,6 +5,7 @@
 mod numbers;
 
 use numbers::Numbers;
+use std::fmt::Display;
 use std::io;
 use std::path::Path;
 use std::{env, fs, process};
@@ -64,7 +65,7 @@ fn with_receipt(place: usize, numbers: &mut Numbers) -> Vec<u8> {
 const CONNECT: &[u8] = b"CONNECT\naccept-version:1.2\nhost:broker\nheart-beat:0,0\n\n\0";
 
 /// A SEND with a body of 64 octets, in the transaction of that number or in none.
-fn with_text(topic: char, transaction: Option<usize>, numbers: &mut Numbers) -> Vec<u8> {
+fn with_text(topic: impl Display, transaction: Option<usize>, numbers: &mut Numbers) -> Vec<u8> {
     let mut frame = format!("SEND\ndestination:{topic}\n").into_bytes();
     if let Some(number) = transaction {
         frame.extend(format!("transaction:t{number}\n").bytes());
@@ -124,6 +125,178 @@ fn topic(subscriptions: usize, place: usize, numbers: &mut Numbers) -> Vec<u8> {
     let mut text = body(64, numbers);
     text.push(0);
     text
+}
+
+/// The number of parts that stay pending, and then bodies of 64 octets, each with a NULL behind it.
+fn group(pending: usize, place: usize, numbers: &mut Numbers) -> Vec<u8> {
+    if place == 0 {
+        return format!("{pending}\0").into_bytes();
+    }
+    topic(1, place, numbers)
+}
+
+/// Events of a core, each with the octet 1 behind it.
+struct Events(Vec<u8>);
+
+impl Events {
+    /// An event of this letter: its number, and what else it names.
+    fn add(&mut self, letter: char, number: usize, rest: impl Display) {
+        self.0.extend(format!("{letter}{number} {rest}\x01").bytes());
+    }
+
+    /// The connection is fed these octets, and reads so many frames of them.
+    fn feed(&mut self, connection: usize, octets: &[u8], frames: usize) {
+        self.0.extend(format!("P{connection} ").bytes());
+        self.0.extend(octets);
+        self.0.push(1);
+        for _ in 0..frames {
+            self.add('N', connection, "");
+        }
+    }
+
+    /// So many topics, and so many connections that are connected.
+    fn open(topics: usize, connections: usize) -> Events {
+        let mut events = Events(format!("{topics}\x01").into_bytes());
+        for connection in 0..connections {
+            events.add('O', 0, "");
+            events.feed(connection, CONNECT, 1);
+        }
+        events
+    }
+
+    fn subscribe(&mut self, connection: usize, topic: usize) {
+        let frame = format!("SUBSCRIBE\ndestination:{topic}\nid:s{topic}\nack:auto\n\n\0");
+        self.feed(connection, frame.as_bytes(), 1);
+    }
+
+    /// A transaction of this number of the connection, with SENDs to these topics.
+    fn commit(&mut self, connection: usize, place: usize, topics: &[usize], numbers: &mut Numbers) {
+        let mut frames = format!("BEGIN\ntransaction:t{place}\n\n\0").into_bytes();
+        for topic in topics {
+            frames.extend(with_text(topic, Some(place), numbers));
+        }
+        frames.extend(format!("COMMIT\ntransaction:t{place}\n\n\0").bytes());
+        self.feed(connection, &frames, topics.len() + 2);
+    }
+}
+
+/// More than fits, so the input ends.
+fn end() -> Vec<u8> {
+    vec![b'\n'; INPUT_LIMIT]
+}
+
+/// One connection, with a subscription of each of 2 topics: transactions of 4 SENDs to these.
+fn core_one(place: usize, numbers: &mut Numbers) -> Vec<u8> {
+    if place == 0 {
+        let mut events = Events::open(2, 1);
+        events.subscribe(0, 0);
+        events.subscribe(0, 1);
+        return events.0;
+    }
+    let mut events = Events(Vec::new());
+    events.commit(0, place, &[0, 1, 0, 1], numbers);
+    events.add('A', 0, 0);
+    events.add('A', 0, 1);
+    events.add('D', 0, "");
+    for topic in 0..2 {
+        events.add('T', topic, "");
+        events.add('K', topic, "");
+    }
+    events.0
+}
+
+/// One topic with 16 connections that have subscribed it, and one that sends SENDs of their own to it.
+fn core_subscribers(place: usize, numbers: &mut Numbers) -> Vec<u8> {
+    const SUBSCRIBERS: usize = 16;
+    if place == 0 {
+        let mut events = Events::open(1, SUBSCRIBERS + 1);
+        for connection in 1..=SUBSCRIBERS {
+            events.subscribe(connection, 0);
+        }
+        return events.0;
+    }
+    if place > 20_000 {
+        return end();
+    }
+    let mut events = Events(Vec::new());
+    events.feed(0, &with_text(0, None, numbers), 1);
+    events.add('A', 0, 0);
+    events.add('D', 0, "");
+    events.add('T', 0, "");
+    for subscription in 0..SUBSCRIBERS {
+        events.add('K', subscription, "");
+    }
+    events.0
+}
+
+/// 1,000 connections, each with a subscription, and 500 topics. In each round every connection sends a
+/// transaction of 2 SENDs to 2 topics, all are proposed before the first is decided, and then each topic
+/// has its turn.
+fn core_connections(place: usize, numbers: &mut Numbers) -> Vec<u8> {
+    const CONNECTIONS: usize = 1_000;
+    const TOPICS: usize = 500;
+    if place == 0 {
+        let mut events = Events::open(TOPICS, CONNECTIONS);
+        for connection in 0..CONNECTIONS {
+            events.subscribe(connection, connection % TOPICS);
+        }
+        return events.0;
+    }
+    if place > 30 {
+        return end();
+    }
+    let named = |connection: usize| {
+        let first = connection % TOPICS;
+        [first, (first + 1 + (connection * 7 + place) % (TOPICS - 1)) % TOPICS]
+    };
+    let mut events = Events(Vec::new());
+    let mut parts = [0; TOPICS];
+    for connection in 0..CONNECTIONS {
+        events.commit(connection, place, &named(connection), numbers);
+    }
+    for topic in 0..2 {
+        for connection in 0..CONNECTIONS {
+            events.add('A', connection, named(connection)[topic]);
+            parts[named(connection)[topic]] += 1;
+        }
+    }
+    for connection in 0..CONNECTIONS {
+        events.add('D', connection, "");
+    }
+    for topic in 0..TOPICS {
+        events.add('T', topic, "");
+    }
+    for connection in 0..CONNECTIONS {
+        for _ in 0..parts[connection % TOPICS] {
+            events.add('K', connection, "");
+        }
+    }
+    events.0
+}
+
+/// One topic, at which 10,000 transactions stay undecided, each of another connection: once there are
+/// more, the oldest is decided, learnt and released.
+fn core_undecided(place: usize, numbers: &mut Numbers) -> Vec<u8> {
+    const UNDECIDED: usize = 10_000;
+    const CONNECTIONS: usize = UNDECIDED + 1;
+    if place == 0 {
+        return Events::open(1, CONNECTIONS).0;
+    }
+    if place > 65_000 {
+        return end();
+    }
+    let connection = (place - 1) % CONNECTIONS;
+    let mut events = Events(Vec::new());
+    events.feed(connection, &with_text(0, None, numbers), 1);
+    events.add('A', connection, 0);
+    if let Some(oldest) = (place - 1).checked_sub(UNDECIDED) {
+        let connection = oldest % CONNECTIONS;
+        let number = oldest / CONNECTIONS + 1;
+        events.add('D', connection, "");
+        events.add('L', 0, format!("{connection} {number}"));
+        events.add('R', 0, "");
+    }
+    events.0
 }
 
 /// How many transactions the log of the input `subscriptions` has, and how many subscriptions there are.
@@ -190,6 +363,15 @@ fn frames(name: &str, place: usize, numbers: &mut Numbers) -> Option<Vec<u8>> {
         "topic-16" => Some(topic(16, place, numbers)),
         "topic-256" => Some(topic(256, place, numbers)),
         "topic-1000" => Some(topic(1_000, place, numbers)),
+        "group-1" => Some(group(1, place, numbers)),
+        "group-16" => Some(group(16, place, numbers)),
+        "group-256" => Some(group(256, place, numbers)),
+        "group-1000" => Some(group(1_000, place, numbers)),
+        "group-65000" => Some(group(65_000, place, numbers)),
+        "core-one" => Some(core_one(place, numbers)),
+        "core-subscribers" => Some(core_subscribers(place, numbers)),
+        "core-connections" => Some(core_connections(place, numbers)),
+        "core-undecided" => Some(core_undecided(place, numbers)),
         "one-topic" => Some(one_topic(place)),
         "subscriptions" => Some(subscriptions(place)),
         "many-topics" => Some(many_topics(place)),

@@ -1,5 +1,5 @@
 //! Times a program and its baseline on each input of a benchmark and prints the table:
-//! `measure frames|pieces|transactions|topic|audit PROGRAM BASELINE FOLDER`, or `measure relay` with the floor
+//! `measure frames|pieces|transactions|topic|group|core|audit PROGRAM BASELINE FOLDER`, or `measure relay` with the floor
 //! before the folder. It refuses outputs that differ, and judges no time.
 
 use std::env;
@@ -29,8 +29,16 @@ const TOPIC: Rate = Rate {
     counts: is_body,
 };
 
+const GROUP: Rate = Rate {
+    inputs: &["group-1", "group-16", "group-256", "group-1000", "group-65000"],
+    unit: "transactions",
+    program: "mcast_group",
+    counts: is_body,
+};
+
 /// The octets of a piece; at 0 all of the input is one piece.
 const PIECES: [&str; 5] = ["0", "1", "16", "4096", "65536"];
+const CORE_INPUTS: [&str; 4] = ["core-one", "core-subscribers", "core-connections", "core-undecided"];
 const AUDIT_INPUTS: [&str; 3] = ["one-topic", "subscriptions", "many-topics"];
 const RUNS: usize = 5;
 
@@ -259,6 +267,36 @@ fn print_audit(program: &str, baseline: &str, folder: &Path) -> io::Result<()> {
     Ok(())
 }
 
+/// How many events an input of the core has: an octet 1 stands behind each, and behind the number of topics.
+fn count_events(folder: &Path, name: &str) -> io::Result<usize> {
+    let input = BufReader::new(File::open(folder.join(name).with_extension("stomp"))?);
+    Ok(input.split(1).count() - 1)
+}
+
+fn print_core(program: &str, baseline: &str, folder: &Path) -> io::Result<()> {
+    println!("best of {RUNS} runs, from file to file; /s is events in a second, MiB is peak memory");
+    println!("                  input       |         delivery          |         baseline          | delivery over baseline");
+    println!("                 MiB   events |     ms         /s     MiB |     ms         /s     MiB | clock processor memory");
+    for name in CORE_INPUTS {
+        let size = length(folder, name)?;
+        let number = count_events(folder, name)?;
+        let costs = measure([&[program], &[baseline]], folder, name)?;
+        print!("{name:<16} {:4.1} {number:8} |", size / 1_048_576.0);
+        for cost in costs {
+            let speed = number as f64 / cost.time.as_secs_f64();
+            print!(" {:6.1} {speed:10.0} {:7.1} |", cost.milliseconds(), cost.mebibytes());
+        }
+        let [one, other] = costs;
+        println!(
+            " {:5.2} {:9.2} {:6.2}",
+            one.milliseconds() / other.milliseconds(),
+            one.processor_milliseconds() / other.processor_milliseconds(),
+            one.peak as f64 / other.peak as f64
+        );
+    }
+    Ok(())
+}
+
 /// A benchmark that tells how many things a program does in a second.
 struct Rate {
     inputs: &'static [&'static str],
@@ -333,6 +371,11 @@ fn main() -> ExitCode {
             "topic",
             print_rate(TOPIC, program, baseline, Path::new(folder)),
         ),
+        ["group", program, baseline, folder] => (
+            "group",
+            print_rate(GROUP, program, baseline, Path::new(folder)),
+        ),
+        ["core", program, baseline, folder] => ("core", print_core(program, baseline, Path::new(folder))),
         ["pieces", program, baseline, folder] => {
             ("pieces", print_pieces(program, baseline, Path::new(folder)))
         }
@@ -340,7 +383,7 @@ fn main() -> ExitCode {
             ("audit", print_audit(program, baseline, Path::new(folder)))
         }
         _ => {
-            eprintln!("usage: measure relay|frames|pieces|transactions|topic|audit PROGRAM BASELINE [FLOOR] FOLDER");
+            eprintln!("usage: measure relay|frames|pieces|transactions|topic|group|core|audit PROGRAM BASELINE [FLOOR] FOLDER");
             return ExitCode::FAILURE;
         }
     };

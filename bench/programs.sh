@@ -28,7 +28,7 @@ build() {
 # Proves and builds bench/NAME_main.txt into bench/out/NAME, where a source is newer: for NAME, the
 # crates of this repository that it takes, and the kit's. It is no crate of this repository, and
 # `rt ci` takes no other below its top: so it is built in a scratch repository elsewhere, over copies
-# of the crates and of what was proved of them.
+# of the crates and of what was proved of them, as the crate `measured`, since `core` is the kit's.
 prove() {
     local name=$1 crates=$2 others=$3 crate
     local sources=("bench/${name}_main.txt" crates.txt)
@@ -41,15 +41,15 @@ prove() {
     fi
     scratch=$(mktemp -d)
     trap 'rm -rf "$scratch"' EXIT
-    mkdir -p bench/out "$scratch/crates/$name/src"
+    mkdir -p bench/out "$scratch/crates/measured/src"
     for crate in $crates; do
         grep "^$crate:" crates.txt >> "$scratch/crates.txt"
         cp -a "crates/$crate" "$scratch/crates"
     done
-    echo "$name: $crates $others" >> "$scratch/crates.txt"
-    cp "bench/${name}_main.txt" "$scratch/crates/$name/src/main.rt"
+    echo "measured: $crates $others" >> "$scratch/crates.txt"
+    cp "bench/${name}_main.txt" "$scratch/crates/measured/src/main.rt"
     echo "proving and building the program (see bench/out/$name.log)" >&2
-    (cd "$scratch/crates/$name" && rt run < /dev/null) > "bench/out/$name.log" 2>&1 \
+    (cd "$scratch/crates/measured" && rt run < /dev/null) > "bench/out/$name.log" 2>&1 \
         || { tail -n 20 "bench/out/$name.log" >&2; exit 1; }
-    mv "$scratch/crates/$name/out/$name" "bench/out/$name"
+    mv "$scratch/crates/measured/out/measured" "bench/out/$name"
 }

@@ -144,6 +144,12 @@ impl Frame<'_> {
         first(&self.headers, name)
     }
 
+    /// Its headers, each a name and a value, in their order.
+    #[allow(dead_code)] // Only the core wants them.
+    pub fn headers(&self) -> impl Iterator<Item = (&[u8], &[u8])> {
+        self.headers.iter().map(|header| (&*header.name, &*header.value))
+    }
+
     /// The receipt that it asks for; a CONNECT can't ask for one.
     pub fn receipt(&self) -> Option<&[u8]> {
         match self.command {
@@ -179,6 +185,12 @@ impl<'a> Iterator for Frames<'a> {
 impl<'a> Frames<'a> {
     pub fn new(text: &'a [u8]) -> Frames<'a> {
         Frames { unread: text }
+    }
+
+    /// How many octets weren't read yet.
+    #[allow(dead_code)] // Only the core wants it.
+    pub fn unread_len(&self) -> usize {
+        self.unread.len()
     }
 
     fn skip_end_of_lines(&mut self) {
@@ -331,6 +343,12 @@ pub fn write_escaped(value: &[u8], out: &mut impl Write) -> io::Result<()> {
         }
     }
     out.write_all(&value[plain..])
+}
+
+/// Whether a header of this name goes on to a SEND's MESSAGE.
+#[allow(dead_code)] // Only the core wants it.
+pub fn is_carried(name: &[u8]) -> bool {
+    !NOT_CARRIED.contains(&name)
 }
 
 /// Writes the MESSAGE of a SEND, the one of that number, for that subscription.
