@@ -3,10 +3,12 @@
 mod asks;
 mod event_list;
 mod faults;
+mod made;
 mod net;
 mod printing;
 mod runs;
 mod topics;
+mod without_memory;
 mod worked_runs;
 
 use crate::{CommitRow, QueueItem, agreed, due};

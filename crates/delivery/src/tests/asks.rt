@@ -7,7 +7,7 @@ use std::alloc::Global;
 use stomp_frame::{NoMemory, Octets};
 
 /// What a client sends first.
-const CONNECT: &[u8] = b"CONNECT\naccept-version:1.2\nhost:h\n\n\0";
+pub(super) const CONNECT: &[u8] = b"CONNECT\naccept-version:1.2\nhost:h\n\n\0";
 
 /// An event, or a few of one connection.
 #[derive(Clone, Copy, Drop)]
@@ -32,7 +32,7 @@ pub(super) enum Ask {
 }
 
 /// The last event of these.
-fn event(alloc: Global, ask: Ask) -> Result<Event, NoMemory> {
+pub(super) fn event(alloc: Global, ask: Ask) -> Result<Event, NoMemory> {
     Ok(match ask {
         Ask::Open => Event::Open,
         Ask::Piece(c, octets) => Event::Piece(c, Octets::from_slice(alloc, octets)?),
