@@ -24,8 +24,8 @@ pub struct Net {
     kept: Vec<Kept>,
 }
 
-/// Written out, so that letting a net go is one call for the prover wherever it happens.
 impl Drop for Net {
+    /// Written out, so that letting a net go is one call for the prover wherever it happens.
     fn drop(self) {
         let Net {
             clocks,

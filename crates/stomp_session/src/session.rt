@@ -40,8 +40,8 @@ pub struct Session {
     transactions: Opened<Draft>,
 }
 
-/// Written out, so that letting a session go is one call for the prover wherever it happens.
 impl Drop for Session {
+    /// Written out, so that letting a session go is one call for the prover wherever it happens.
     fn drop(self) {
         let Session {
             alloc: _,
