@@ -1,62 +1,62 @@
 -- What was written or read, and what waits to be copied behind it.
-use Rattle.std.proofs.Common.{◌≡◌, ℕ, ◌+◌, ◌<◌, List, [], ◌∷◌, ◌++◌, length, take, drop, get_or, Some, None, Result, Ok, Err, refl, sym, ap, ◌∙◌, append_assoc}
+use Rattle.std.proofs.Common.{◌≡◌, ℕ, ◌+◌, ◌-◌, ◌<◌, ◌≤◌, ◌⊎◌, inl, inr, List, [], ◌∷◌, ◌++◌, length, take, drop, get_or, set, Option, Some, None, Result, Ok, Err, refl, sym, ap, ◌∙◌, append_assoc, arith, length-set, take-add}
 use Rattle.std.specs.Prelude.{OnErr}
-use Rattle.std.proofs.lemmas.List.{append-nil, take_more, take-append-drop}
+use Rattle.std.proofs.lemmas.List.{append-nil, take_more, take-append-drop, take_more_set, take-set}
 use Rattle.std.proofs.lemmas.Grind.{flat_map-append}
 use Rattle.stomp_escape.specs.Escape.{letter_of, escaped_octet, escaped, AppendsFront}
+use Rattle.stomp_escape.specs.Inner.Escaping.{extra, last}
 use Rattle.stomp_escape.specs.declared.fault.EscapeFault.{EscapeFault}
 use Rattle.stomp_escape.specs.Inner.Unescaping.{octet_of, unescaped, unescaped_from, with_front}
 use Rattle.stomp_escape.proofs.Steps.{goes_plain, goes_escape}
-
--- The octets of text before at were escaped: some are written behind old, and the others wait.
-pub record IsEscaped (old out waiting text : List ℕ) (at : ℕ) : Type 0 where
-  pub front : List ℕ
-  pub written : out ≡ old ++ front
-  pub so_far : front ++ waiting ≡ escaped (take at text)
 
 escaped_more : (text : List ℕ) (at : ℕ) → at < length text → escaped (take (at + 1) text) ≡ escaped (take at text) ++ escaped_octet (get_or text at 0)
 escaped_more text at lt =
     let b = get_or text at 0 in
     ap escaped (take_more text at 0 lt) ∙ flat_map-append escaped_octet (take at text) (b ∷ []) ∙ ap (λ (w : List ℕ). escaped (take at text) ++ w) (append-nil (escaped_octet b))
 
--- What waits is written.
-pub flushes : (old out new waiting text : List ℕ) (at : ℕ) → new ≡ out ++ waiting → IsEscaped old out waiting text at → IsEscaped old new [] text at
-flushes old out new waiting text at e w = record {
-  front = w.front ++ waiting;
-  written = e ∙ ap (λ (l : List ℕ). l ++ waiting) w.written ∙ append_assoc old w.front waiting;
-  so_far = append-nil (w.front ++ waiting) ∙ w.so_far;
-}
+option_cases : (o : Option ℕ) → ((c : ℕ) × (o ≡ Some c)) ⊎ (o ≡ None)
+option_cases None = inr refl
+option_cases (Some c) = inl (c, refl)
 
--- An octet with no escape waits as it stands.
-pub waits_plain : (old out waiting new text : List ℕ) (at : ℕ) → at < length text → letter_of (get_or text at 0) ≡ None → new ≡ waiting ++ get_or text at 0 ∷ [] → IsEscaped old out waiting text at
-    → IsEscaped old out new text (at + 1)
-waits_plain old out waiting new text at lt none e w =
-    let b = get_or text at 0 in
-    let one : escaped_octet b ≡ b ∷ [] = rw none refl in
-    record {
-      front = w.front;
-      written = w.written;
-      so_far = ap (λ (l : List ℕ). w.front ++ l) e ∙ sym (append_assoc w.front waiting (b ∷ [])) ∙ ap (λ (l : List ℕ). l ++ b ∷ []) w.so_far ∙ sym (escaped_more text at lt ∙ ap (λ (l : List ℕ). escaped (take at text) ++ l) one);
-    }
+-- a backslash, and the last octet put over it or behind it: the octet is escaped behind the first n
+pub put_escaped : (xs : List ℕ) (n b : ℕ) → n + 1 < length xs → take (n + extra b + 1) (set (set xs n 92) (n + extra b) (last b)) ≡ take n xs ++ escaped_octet b
+put_escaped xs n b lt =
+    let one = set xs n 92 in
+    let size = length-set xs n 92 in
+    elim (option_cases (letter_of b)) [
+      | inl (c, some) ↦
+          let front = take_more_set xs n 92 (omega arith) in
+          let both = take_more_set one (n + 1) c (omega (arith, size)) in
+          rw some (both ∙ ap (λ (w : List ℕ). w ++ c ∷ []) front ∙ append_assoc (take n xs) (92 ∷ []) (c ∷ []))
+      | inr none ↦
+          let same : n + 0 ≡ n = omega arith in
+          rw (none, same) (take_more_set one n b (omega (arith, size)) ∙ ap (λ (w : List ℕ). w ++ b ∷ []) (take-set xs n 92))
+    ]
 
--- An octet's escape waits.
-pub waits_escaped : (old out waiting more new text : List ℕ) (at letter : ℕ) → at < length text → letter_of (get_or text at 0) ≡ Some letter → more ≡ waiting ++ 92 ∷ [] → new ≡ more ++ letter ∷ [] → IsEscaped old out waiting text at
-    → IsEscaped old out new text (at + 1)
-waits_escaped old out waiting more new text at letter lt some e f w =
+-- one more octet is escaped
+pub escaped_next : (xs text : List ℕ) (n at : ℕ) → at < length text → n + 1 < length xs → take n xs ≡ escaped (take at text)
+    → take (n + extra (get_or text at 0) + 1) (set (set xs n 92) (n + extra (get_or text at 0)) (last (get_or text at 0))) ≡ escaped (take (at + 1) text)
+escaped_next xs text n at inside lt so_far =
     let b = get_or text at 0 in
-    let one : escaped_octet b ≡ 92 ∷ letter ∷ [] = rw some refl in
-    let both : new ≡ waiting ++ 92 ∷ letter ∷ [] = f ∙ ap (λ (l : List ℕ). l ++ letter ∷ []) e ∙ append_assoc waiting (92 ∷ []) (letter ∷ []) in
-    record {
-      front = w.front;
-      written = w.written;
-      so_far = ap (λ (l : List ℕ). w.front ++ l) both ∙ sym (append_assoc w.front waiting (92 ∷ letter ∷ [])) ∙ ap (λ (l : List ℕ). l ++ 92 ∷ letter ∷ []) w.so_far ∙ sym (escaped_more text at lt ∙ ap (λ (l : List ℕ). escaped (take at text) ++ l) one);
-    }
+    put_escaped xs n b lt ∙ ap (λ (w : List ℕ). w ++ escaped_octet b) so_far ∙ sym (escaped_more text at inside)
+
+-- an escape adds at most one octet
+pub extra-le : (b : ℕ) → extra b ≤ 1
+extra-le b = elim (option_cases (letter_of b)) [ inl (c, some) ↦ rw some (omega arith) | inr none ↦ rw none (omega arith) ]
+
+-- a piece of the text is written behind
+pub piece_written : (old out new text : List ℕ) (at end : ℕ) → at ≤ end → new ≡ out ++ escaped (take (end - at) (drop at text)) → out ≡ old ++ escaped (take at text) → new ≡ old ++ escaped (take end text)
+piece_written old out new text at end le e so_far =
+    let piece = take (end - at) (drop at text) in
+    let there : at + (end - at) ≡ end = omega arith in
+    let whole : escaped (take end text) ≡ escaped (take at text) ++ escaped piece = ap (λ (n : ℕ). escaped (take n text)) (sym there) ∙ ap escaped (take-add at (end - at) text) ∙ flat_map-append escaped_octet (take at text) piece in
+    e ∙ ap (λ (w : List ℕ). w ++ escaped piece) so_far ∙ append_assoc old (escaped (take at text)) (escaped piece) ∙ ap (λ (w : List ℕ). old ++ w) (sym whole)
 
 -- Where memory ran out, a front of the escaped text is written.
-pub front_written : (old out new waiting text : List ℕ) (at : ℕ) → new ≡ out → IsEscaped old out waiting text at → AppendsFront (escaped text) old new
-front_written old out new waiting text at e w =
+pub front_written : (old out new text : List ℕ) (at : ℕ) → new ≡ out → out ≡ old ++ escaped (take at text) → AppendsFront (escaped text) old new
+front_written old out new text at e so_far =
     let whole : escaped text ≡ escaped (take at text) ++ escaped (drop at text) = ap escaped (sym (take-append-drop at text)) ∙ flat_map-append escaped_octet (take at text) (drop at text) in
-    (w.front, waiting ++ escaped (drop at text), whole ∙ ap (λ (l : List ℕ). l ++ escaped (drop at text)) (sym w.so_far) ∙ append_assoc w.front waiting (escaped (drop at text)), e ∙ w.written)
+    (escaped (take at text), escaped (drop at text), whole, e ∙ so_far)
 
 -- what holds anyway holds of an answer that is an error
 pub on_err : {T E P : Type 0} (r : Result T E) → P → OnErr r P

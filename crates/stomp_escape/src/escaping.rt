@@ -1,25 +1,53 @@
 //! Writing escapes.
 
 ghost use Rattle.std.specs.Prelude.{◌≡◌, ◌++◌, ◌≤◌, length, take, IfOk, OnOk, OnErr};
-ghost use Rattle.stomp_escape.specs.Escape.{letter_of, escaped, Spells, IsUnbroken, AppendsFront};
+ghost use Rattle.stomp_escape.specs.Escape.{escaped, Spells, IsUnbroken, AppendsFront};
+ghost use Rattle.stomp_escape.specs.Inner.Escaping.{letter_or_zero, extra, last};
 
 use crate::no_memory::NoMemory;
 use crate::octets::Octets;
 use std::alloc::Global;
 
-/// How many octets wait at most to be copied at once.
-const WAITING: usize = 64;
+/// How many octets are escaped at most before they are copied at once, each to two at most.
+const PIECE: usize = 32;
 
-/// The letter of the octet's escape, if it has one.
-fn letter_for(octet: u8) -> Option<u8>
-    ensures { result ≡ letter_of octet }
+/// The letter of each octet's escape, or 0 where it has none.
+const LETTERS: [u8; 256] = [
+    0, 0, 0, 0, 0, 0, 0, 0, 0, 0, b'n', 0, 0, b'r', 0, 0, 0, 0, 0, 0, 0, 0, 0, 0, 0, 0, 0, 0, 0, 0,
+    0, 0, 0, 0, 0, 0, 0, 0, 0, 0, 0, 0, 0, 0, 0, 0, 0, 0, 0, 0, 0, 0, 0, 0, 0, 0, 0, 0, b'c', 0, 0,
+    0, 0, 0, 0, 0, 0, 0, 0, 0, 0, 0, 0, 0, 0, 0, 0, 0, 0, 0, 0, 0, 0, 0, 0, 0, 0, 0, 0, 0, 0, 0,
+    b'\\', 0, 0, 0, 0, 0, 0, 0, 0, 0, 0, 0, 0, 0, 0, 0, 0, 0, 0, 0, 0, 0, 0, 0, 0, 0, 0, 0, 0, 0,
+    0, 0, 0, 0, 0, 0, 0, 0, 0, 0, 0, 0, 0, 0, 0, 0, 0, 0, 0, 0, 0, 0, 0, 0, 0, 0, 0, 0, 0, 0, 0, 0,
+    0, 0, 0, 0, 0, 0, 0, 0, 0, 0, 0, 0, 0, 0, 0, 0, 0, 0, 0, 0, 0, 0, 0, 0, 0, 0, 0, 0, 0, 0, 0, 0,
+    0, 0, 0, 0, 0, 0, 0, 0, 0, 0, 0, 0, 0, 0, 0, 0, 0, 0, 0, 0, 0, 0, 0, 0, 0, 0, 0, 0, 0, 0, 0, 0,
+    0, 0, 0, 0, 0, 0, 0, 0, 0, 0, 0, 0, 0, 0, 0, 0, 0, 0, 0, 0, 0, 0, 0, 0, 0, 0, 0, 0, 0, 0, 0, 0,
+    0, 0, 0, 0, 0, 0,
+];
+
+/// The letter of the octet's escape, or 0.
+#[inline(always)]
+fn letter_for(octet: u8) -> u8
+    ensures { result ≡ letter_or_zero octet }
 {
-    match octet {
-        b'\r' => Some(b'r'),
-        b'\n' => Some(b'n'),
-        b':' => Some(b'c'),
-        b'\\' => Some(b'\\'),
-        _ => None,
+    LETTERS[usize::from(octet)]
+}
+
+/// How many octets its escape adds: 1, or 0 where it has none.
+#[inline(always)]
+fn extra_for(octet: u8) -> usize
+    ensures { result ≡ extra octet }
+{
+    usize::from(letter_for(octet) != 0)
+}
+
+/// The last octet as which it is written: the letter of its escape, or itself.
+#[inline(always)]
+fn last_for(octet: u8) -> u8
+    ensures { result ≡ last octet }
+{
+    match letter_for(octet) {
+        0 => octet,
+        letter => letter,
     }
 }
 
@@ -29,11 +57,30 @@ fn plain_front(text: &[u8]) -> usize
     ensures plain { escaped (take result text.now) ≡ take result text.now }
 {
     for at in 0..text.len() {
-        if letter_for(text[at]).is_some() {
+        if letter_for(text[at]) != 0 {
             return at;
         }
     }
     text.len()
+}
+
+/// Appends the escaped text of a few octets. None of them takes a branch of its own: a backslash is put before each, and
+/// is written over where the octet has no escape.
+fn escape_piece(piece: &[u8], out: &mut Octets) -> Result<(), NoMemory>
+    requires { length piece.now ≤ 32 }
+    ensures ok { OnOk result (out.new ≡ out.old ++ escaped piece.now) }
+    ensures err { OnErr result (out.new ≡ out.old) }
+{
+    // What was escaped, and waits to be copied at once: `n` octets.
+    let mut waiting = [0u8; 64];
+    let mut n = 0;
+    for at in 0..piece.len() {
+        waiting[n] = b'\\';
+        n += extra_for(piece[at]);
+        waiting[n] = last_for(piece[at]);
+        n += 1;
+    }
+    out.extend(&waiting[..n])
 }
 
 /// Appends the escaped text: each CR as `\r`, LF as `\n`, colon as `\c` and backslash as `\\`, and
@@ -43,29 +90,14 @@ pub fn escape_into(text: &[u8], out: &mut Octets) -> Result<(), NoMemory>
     ensures ok { OnOk result (out.new ≡ out.old ++ escaped text.now) }
     ensures err { OnErr result (AppendsFront (escaped text.now) out.old out.new) }
 {
-    let plain = plain_front(text);
-    out.extend(&text[..plain])?;
-    if plain == text.len() {
-        return Ok(());
+    let mut at = plain_front(text);
+    out.extend(&text[..at])?;
+    while at < text.len() {
+        let end = at + PIECE.min(text.len() - at);
+        escape_piece(&text[at..end], out)?;
+        at = end;
     }
-    // What was escaped, and waits to be copied at once: `n` octets.
-    let mut waiting = [0u8; WAITING];
-    let mut n = 0;
-    for at in plain..text.len() {
-        if n + 2 > WAITING {
-            out.extend(&waiting[..n])?;
-            n = 0;
-        }
-        if let Some(letter) = letter_for(text[at]) {
-            waiting[n] = b'\\';
-            waiting[n + 1] = letter;
-            n += 2;
-        } else {
-            waiting[n] = text[at];
-            n += 1;
-        }
-    }
-    out.extend(&waiting[..n])
+    Ok(())
 }
 
 /// The escaped text, as `escape_into` appends it: it spells the text that was passed, and it has no

@@ -166,6 +166,56 @@ fn repeated(alloc: Global, piece: &[u8], count: usize) -> Result<Octets, NoMemor
     Ok(octets)
 }
 
+/// So many octets `x`, with a piece in place of the one at this place.
+fn with_piece(alloc: Global, len: usize, place: usize, piece: &[u8]) -> Result<Octets, NoMemory> {
+    let mut octets = repeated(alloc, b"x", place)?;
+    octets.extend(piece)?;
+    for _ in place.saturating_add(1)..len {
+        octets.push(b'x')?;
+    }
+    Ok(octets)
+}
+
+/// Whether a value with such an octet at this place is written with this escape there, and read again.
+fn is_escaped_at(
+    alloc: Global,
+    len: usize,
+    place: usize,
+    pair: (&[u8], &[u8]),
+) -> Result<bool, NoMemory> {
+    let value = with_piece(alloc, len, place, pair.0)?;
+    let text = with_piece(alloc, len, place, pair.1)?;
+    let escaped = escape(alloc, value.as_slice())?;
+    let same = unescape(alloc, text.as_slice()).is_ok_and(|read| is(&read, value.as_slice()));
+    Ok(is(&escaped, text.as_slice()) && same)
+}
+
+/// An octet and its escape, or an octet that has none.
+const PIECES: [(&[u8], &[u8]); 6] = [
+    (b"\r", b"\\r"),
+    (b"\n", b"\\n"),
+    (b":", b"\\c"),
+    (b"\\", b"\\\\"),
+    (b";", b";"),
+    (b"\xff", b"\xff"),
+];
+
+/// Octets are escaped 32 at once, and wait to be copied in lists of 64: at each place of a value of about so many.
+#[test]
+fn escapes_at_each_place(rt: HostRuntime) -> Result<(), Fail> {
+    for len in [1usize, 31, 32, 33, 65] {
+        for place in 0..len {
+            for pair in PIECES {
+                assert!(rt;
+                    is_escaped_at(rt.alloc(), len, place, pair)?,
+                    "{place} of {len}"
+                );
+            }
+        }
+    }
+    Ok(())
+}
+
 /// A value of 4,096 octets that all have escapes is written as 8,192 octets, and read again.
 #[test]
 fn memory_is_enough_for_long_escapes(rt: HostRuntime) -> Result<(), Fail> {

@@ -6,6 +6,9 @@ pub mod FirstFailed
 pub mod Whole
 pub mod Unread
 pub mod Unfound
+pub mod UsualLanes
+pub mod Usual
+pub mod OfAKind
 pub mod PartialFrames
 pub mod Pieces
 pub mod Breaks

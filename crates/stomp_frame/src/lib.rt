@@ -13,6 +13,7 @@ mod headers;
 pub mod law;
 mod limits;
 mod lines;
+mod name_kinds;
 mod parse;
 mod partial_frame;
 mod raw_frame;
@@ -20,6 +21,7 @@ mod reader;
 mod server_frame;
 mod server_headers;
 mod server_writer;
+mod usual_run;
 mod writer;
 
 pub use case_fault::{CaseFault, RequiredHeader};

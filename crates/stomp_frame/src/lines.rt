@@ -6,9 +6,11 @@ ghost use Rattle.std.specs.Option.{option_map};
 ghost use Rattle.std.specs.Str.{is_utf8};
 ghost use Rattle.stomp_frame.specs.Inner.Parser.{Returns, cut, without_cr, is_plain, checked, line_at, after_eols};
 ghost use Rattle.stomp_frame.specs.Inner.PartialFrames.{IsUnfound};
+ghost use Rattle.stomp_frame.specs.Inner.Usual.{AreUsual};
 
 use crate::fault::{Check, Stop};
 use crate::limits::Limits;
+use crate::usual_run::usual_front;
 use memchr::{memchr, memchr2};
 
 /// A content of fewer octets is looked at octet by octet at first; a search for many at once begins at this length.
@@ -53,13 +55,17 @@ fn is_plain(content: &[u8]) -> bool
     content.iter().all(|b| *b < 128 && *b != b'\r' && *b != 0)
 }
 
-/// The content of a line, if it passes the checks of any line.
+/// The content of a line, if it passes the checks of any line. One of at most `usual` octets needs no look.
 #[tactic(auto, unfolding(crate::specs::Inner::Parser::checked))]
-fn check<'a>(limits: &Limits, content: &'a [u8]) -> Result<&'a [u8], Stop>
+fn check<'a>(limits: &Limits, content: &'a [u8], usual: usize) -> Result<&'a [u8], Stop>
+    requires { length content.now ≤ usual → AreUsual content.now 0 (length content.now) }
     ensures { Returns (λ x. x.now) result (checked limits.now content.now) }
 {
     if content.len() > limits.line {
         return Err(Stop::Fault(Check::LineTooLong));
+    }
+    if content.len() <= usual {
+        return Ok(content);
     }
     if content.len() < SHORT && is_plain(content) {
         return Ok(content);
@@ -82,6 +88,9 @@ pub(crate) fn find_from(octet: u8, text: &[u8], searched: usize, end: usize) -> 
         × (cut octet text.now ≡ Some (take at text.now, drop (at + 1) text.now))) }
     ensures none { IsNone result → IsUnfound octet text.now end }
 {
+    if searched < end && text[searched] == octet {
+        return Some(searched);
+    }
     let at = memchr(octet, &text[searched..end])?;
     Some(searched + at)
 }
@@ -104,8 +113,13 @@ pub(crate) fn take_line<'a>(
 {
     let most = limits.line.saturating_add(2);
     let end = text.len().min(most).max(*searched);
-    match find_from(b'\n', text, *searched, end) {
-        Some(at) => Ok((check(limits, without_cr(&text[..at]))?, at + 1)),
+    let usual = if *searched == 0 {
+        usual_front(text, end)
+    } else {
+        0
+    };
+    match find_from(b'\n', text, usual.max(*searched), end) {
+        Some(at) => Ok((check(limits, without_cr(&text[..at]), usual)?, at + 1)),
         None => {
             if text.len() > 1 && text.len() - 2 >= limits.line {
                 return Err(Stop::Fault(Check::LineTooLong));

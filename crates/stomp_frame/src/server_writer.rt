@@ -1,20 +1,25 @@
 //! Writing a server's frames from what they borrow.
 
-ghost use Rattle.std.specs.Prelude.{◌≡◌, ◌++◌, ◌∷◌, [], codes, true, decimal, length, map, take, ◌≤◌, Some, None, OnOk, OnErr, if◌then◌else◌};
+ghost use Rattle.std.specs.Prelude.{◌≡◌, ◌++◌, ◌∷◌, [], codes, true, decimal, length, map, take, drop, ◌+◌, ◌≤◌, Some, None, OnOk, OnErr, if◌then◌else◌};
 ghost use Rattle.std.specs.List.{list_any};
 ghost use Rattle.std.specs.Option.{option_map};
 ghost use Rattle.std.specs.Str.{bytes_eq};
 ghost use Rattle.stomp_escape.specs.Escape.{escaped};
 ghost use Rattle.stomp_frame.specs.Headers.{first_of};
+ghost use Rattle.stomp_frame.specs.Inner.NameKinds.{HaveKinds};
 ghost use Rattle.stomp_frame.specs.Writing.{header_line, header_lines, spelled, Extends};
 ghost use Rattle.stomp_frame.specs.ServerFrames.{optional, first_entries, kept_back, message_id, message_headers, message_frame, receipt_frame, error_frame, connected_frame, rendered};
 
 use crate::headers::Headers;
+use crate::name_kinds::NameKinds;
 use crate::server_frame::ServerFrame;
 use crate::server_headers::is_kept_back;
 use crate::writer::put_header;
-use itoa::Buffer;
+use itoa::write_digits;
 use stomp_escape::{NoMemory, Octets, escape_into};
+
+/// Room for three numbers of at most 20 digits, each with an octet behind it.
+const LINE: usize = 64;
 
 /// Appends what stands before a value, the value with its escapes, and LF.
 fn put_value(front: &[u8], value: &[u8], out: &mut Octets) -> Result<(), NoMemory>
@@ -26,20 +31,30 @@ fn put_value(front: &[u8], value: &[u8], out: &mut Octets) -> Result<(), NoMemor
     out.push(b'\n')
 }
 
-/// Appends a message's id.
+/// Writes a number and the octet behind it so that they end at this place, and returns where they begin.
+fn put_before(n: u64, behind: u8, line: &mut [u8; 64], end: usize) -> usize
+    requires least { 21 ≤ end }
+    requires within { end ≤ 64 }
+    ensures start { end ≤ result + 21 }
+    ensures order { result ≤ 64 }
+    ensures put { drop result line.new ≡ decimal n ++ behind ∷ drop end line.old }
+{
+    line[end - 1] = behind;
+    write_digits(n, line, end - 1)
+}
+
+/// Appends a message's id. Its line is made from its end, so that each number is written once.
 fn put_message_id(n: u64, topic: u32, index: u32, out: &mut Octets) -> Result<(), NoMemory>
     ensures ok { OnOk result (out.new
         ≡ out.old ++ (header_line true (codes "message-id", message_id n topic index) ++ 10 ∷ [])) }
     ensures err { OnErr result (Extends out.old out.new) }
 {
-    let mut digits = Buffer::new();
+    let mut line = [0; LINE];
+    let start = put_before(u64::from(index), b'\n', &mut line, LINE);
+    let start = put_before(u64::from(topic), b'.', &mut line, start);
+    let start = put_before(n, b'.', &mut line, start);
     out.extend(b"message-id:")?;
-    out.extend(digits.format(n).as_bytes())?;
-    out.push(b'.')?;
-    out.extend(digits.format(topic).as_bytes())?;
-    out.push(b'.')?;
-    out.extend(digits.format(index).as_bytes())?;
-    out.push(b'\n')
+    out.extend(&line[start..])
 }
 
 /// Appends a content-length.
@@ -48,18 +63,21 @@ fn put_content_length(len: usize, out: &mut Octets) -> Result<(), NoMemory>
         ≡ out.old ++ (header_line true (codes "content-length", decimal len) ++ 10 ∷ [])) }
     ensures err { OnErr result (Extends out.old out.new) }
 {
+    let mut line = [0; LINE];
+    let start = put_before(len as u64, b'\n', &mut line, LINE);
     out.extend(b"content-length:")?;
-    out.extend(Buffer::new().format(len).as_bytes())?;
-    out.push(b'\n')
+    out.extend(&line[start..])
 }
 
-/// Whether a SEND's header at index `i`, which has this name, isn't passed on: the name is kept back, or was before.
-fn is_dropped(sent: &Headers, name: &[u8], i: usize) -> bool
-    requires { i ≤ length sent.now }
+/// Whether a SEND's header at index `i`, which has this name, isn't passed on: the name is kept back, or was before,
+/// among names of these kinds.
+fn is_dropped(sent: &Headers, kinds: &NameKinds, name: &[u8], i: usize) -> bool
+    requires within { i ≤ length sent.now }
+    requires kinds { HaveKinds kinds.now.among (take i sent.now) }
     ensures { result ≡ list_any (λ seen. bytes_eq name.now seen)
         (map (λ h. h.0) (take i sent.now) ++ kept_back) }
 {
-    is_kept_back(name) || sent.has_among_first(i, name)
+    is_kept_back(name) || kinds.has(name) && sent.has_among_first(i, name)
 }
 
 /// Appends the first entry of each header of the SEND that isn't kept back.
@@ -68,11 +86,13 @@ fn put_first_entries(sent: &Headers, out: &mut Octets) -> Result<(), NoMemory>
         (out.new ≡ out.old ++ header_lines true (first_entries kept_back sent.now)) }
     ensures err { OnErr result (Extends out.old out.new) }
 {
+    let mut kinds = NameKinds::new();
     for i in 0..sent.len() {
         let (name, value) = sent.pair(i);
-        if !is_dropped(sent, name, i) {
+        if !is_dropped(sent, &kinds, name, i) {
             put_header(true, name, value, out)?;
         }
+        kinds.add(name);
     }
     Ok(())
 }

@@ -1,4 +1,5 @@
-use Rattle.std.proofs.Common.{◌≡◌, ◌++◌}
+use Rattle.std.proofs.Common.{◌≡◌, ◌++◌, length, take}
+use Rattle.stomp_frame.specs.Inner.NameKinds.{HaveKinds}
 use Rattle.stomp_frame.specs.Writing.{Extends}
 use Rattle.stomp_frame.proofs.ServerSpellings.{due}
 use Rattle.stomp_frame.proofs.server_writer.put_first_entries.Given as goal
@@ -7,4 +8,6 @@ abbrev pub invariant-loop-i : goal.invariant-loop-i
 invariant-loop-i l = record {
   written : l.out ++ due l.sent l.i ≡ l.fn.out ++ due l.sent 0;
   grown : Extends l.fn.out l.out;
+  sized : length l.kinds.among ≡ 64;
+  kinds : HaveKinds l.kinds.among (take l.i l.sent);
 }
