@@ -2,5 +2,6 @@
 pub mod Copies
 pub mod GroupInvariant
 pub mod Keys
+pub mod Learnt
 pub mod Log
 pub mod Subscriptions

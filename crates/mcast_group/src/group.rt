@@ -16,6 +16,7 @@ ghost use Rattle.mcast_group.specs.Inner.GroupInvariant.{entry_of};
 ghost use Rattle.mcast_group.specs.Machine.{Pending, cancel_fault, after_cancel, after_drain, after_turn, decided_stamp, due_part, key, learn_fault, after_learn, new_topic, insert_pending, is_pending, next_number, propose_fault, after_propose, state_of, subscribe_fault, unsubscribe_fault};
 
 use crate::copies::{Copies, add_to_each, take_at};
+use crate::departed::Departed;
 use crate::ended::Ended;
 use crate::fault::{CancelFault, LearnFault, NoSub, ProposeFault, SubFault};
 use crate::law::has_one_row_each;
@@ -37,7 +38,6 @@ use sub_queue::{Outlet, VecOutlet};
 
 /// A topic of the multicast: its clock, its pending parts, the rows that it released, and its subscriptions. In
 /// contracts it is a topic of `specs/Machine.antt`, and for each subscription the room that its outlet shows.
-#[derive(Drop)]
 pub struct Group<Q: Outlet + Drop> {
     alloc: Global,
     topic: Topic,
@@ -52,6 +52,28 @@ pub struct Group<Q: Outlet + Drop> {
     rows: Log,
     frontier: Stamp,
     subscriptions: Subscriptions<Q>,
+}
+
+impl<Q: Outlet + Drop> Drop for Group<Q> {
+    /// Written out, so that letting a group go is one call for the prover wherever it happens.
+    fn drop(self) {
+        let Group {
+            alloc: _,
+            topic: _,
+            clock: _,
+            log_limit: _,
+            pending,
+            copies,
+            base: _,
+            rows,
+            frontier: _,
+            subscriptions,
+        } = self;
+        drop(pending);
+        drop(copies);
+        drop(rows);
+        drop(subscriptions);
+    }
 }
 
 impl<Q: Outlet + Drop> Model for Group<Q> {
@@ -152,6 +174,16 @@ impl<Q: Outlet + Drop> Group<Q> {
         ensures due { result ≡ option_map (λ p. (p.part.id, key p)) (due_part self.old.topic) }
         ensures released { Releases Q.may_accept self.old self.new }
     {
+        let departed = self.release_part(needs)?;
+        Some((departed.part().id, departed.stamp()))
+    }
+
+    /// `release`, which returns the part itself, with the note of its flight's cell that was kept beside it.
+    pub fn release_part(&mut self, needs: &Q::Needs) -> Option<Departed>
+        ensures due { option_map (λ departed. departed.part) result ≡ option_map (λ p. p.part) (due_part self.old.topic) }
+        ensures stamp { option_map (λ departed. departed.stamp) result ≡ option_map key (due_part self.old.topic) }
+        ensures released { Releases Q.may_accept self.old self.new }
+    {
         let index = self.pending.least_index()?;
         if !self.pending.at(index).is_learnt() {
             return None;
@@ -160,17 +192,17 @@ impl<Q: Outlet + Drop> Group<Q> {
         let mut copies = take_at(&mut self.copies, index);
         self.subscriptions
             .give_all(needs, self.frontier, &part, &mut copies);
-        let row = part.into_row();
-        let (id, stamp) = (row.id, row.stamp);
+        let (row, departed) = part.depart();
         self.rows.push(row);
-        self.frontier = stamp;
-        Some((id, stamp))
+        self.frontier = departed.stamp();
+        Some(departed)
     }
 
     /// Gives the transaction's part its stamp by its verdict, with no memory; the same verdict again changes nothing.
     /// Refused, in this order: 43 where no part of the transaction is pending, 44 where the verdict is another
     /// transaction's or has another number for this topic, 45 where another stamp was learnt or another part has
-    /// this one; the topic is then as it was.
+    /// this one; the topic is then as it was. Where the cell of the part's flight tells this stamp, a note of it is kept
+    /// beside the part until its release.
     pub fn learn(&mut self, id: TxnId, verdict: &Verdict) -> Result<(), LearnFault>
         ensures answer { result ≡ result_of (learn_fault id verdict.now self.old.topic) }
         ensures ok { OnOk result (self.new ≡ record self.old { topic = after_learn id (decided_stamp verdict.now) self.old.topic }) }
@@ -181,14 +213,23 @@ impl<Q: Outlet + Drop> Group<Q> {
         Ok(())
     }
 
-    /// Learns once for each pending part, by rising id, the verdict that is found, if it isn't refused; then
-    /// releases until nothing is due. Returns how many parts it released. It takes no memory.
+    /// Learns once for each pending part, by rising id, the verdict that is found, if it isn't refused. It takes no
+    /// memory.
+    pub fn learn_found<V: Verdicts>(&mut self, verdicts: &V)
+        ensures { TriesAll (MayBeFound (V.finds verdicts.now)) self.old self.new }
+    {
+        for index in 0..self.pending.len() {
+            self.try_to_learn(index, verdicts);
+        }
+    }
+
+    /// `learn_found`, and then `release` until nothing is due. Returns how many parts it released. It takes no memory.
     pub fn turn<V: Verdicts>(&mut self, needs: &Q::Needs, verdicts: &V) -> u64
         ensures turned { Turns Q.may_accept (V.finds verdicts.now) self.old self.new }
         ensures count { result ≡ length self.new.topic.held - length self.old.topic.held }
     {
         let held = self.rows.len();
-        self.try_all(verdicts);
+        self.learn_found(verdicts);
         self.release_all(needs);
         (self.rows.len() - held) as u64
     }
@@ -329,15 +370,6 @@ impl<Q: Outlet + Drop> Group<Q> {
             return None;
         };
         Some(&self.subscriptions.at(index).outlet)
-    }
-
-    // Learns once for each pending part, by rising id, the verdict that is found, if it isn't refused.
-    fn try_all<V: Verdicts>(&mut self, verdicts: &V)
-        ensures { TriesAll (MayBeFound (V.finds verdicts.now)) self.old self.new }
-    {
-        for index in 0..self.pending.len() {
-            self.try_to_learn(index, verdicts);
-        }
     }
 
     // Learns for the part at an index the verdict that is found, if it isn't refused.

@@ -1,39 +1,45 @@
 //! Parts that are pending at a topic.
 
-ghost use Rattle.std.specs.Prelude.{◌≡◌, Some, None, IfOk};
+ghost use Rattle.std.specs.Prelude.{◌≡◌, Some, None, IfOk, IfSome};
 ghost use Rattle.std.specs.Arc.{arc_value};
 ghost use Rattle.std.specs.Option.{is_some};
 ghost use Rattle.mcast_txn.specs.Part.{data_of};
+ghost use Rattle.mcast_group.specs.Kept.{IsSightOf};
 ghost use Rattle.mcast_group.specs.Inner.Keys.{keyed_of};
 ghost use Rattle.mcast_group.specs.Machine.{has_row, is_foreign, key, has_learnt_other, row_of, ticket_stamp};
 
+use crate::departed::Departed;
 use crate::keys::Keyed;
+use crate::learnt::Learnt;
 use crate::row::Row;
-use mcast_txn::{NoMemory, Part, Stamp, TopicSet, TxnId, Verdict};
+use mcast_txn::{Flight, NoMemory, Part, Seen, Stamp, TopicSet, TxnId, Verdict};
 use std::marker::Model;
 use std::sync::Arc;
 
-/// A part that is pending: the number of its ticket, and its stamp once that is learnt.
+/// A part that is pending: the number of its ticket, and its stamp once that is learnt, with the note by which the cell of
+/// its flight told it.
 #[derive(Drop)]
 pub(crate) struct PendingPart {
     part: Arc<Part>,
     /// The part's topics, shared once more, so that a release takes no memory.
     topics: Arc<TopicSet>,
     number: u64,
-    learnt: Option<Stamp>,
+    learnt: Learnt,
 }
 
 impl Model for PendingPart {
     ghost use Rattle.std.specs.Prelude.{◌≡◌};
     ghost use Rattle.std.specs.Arc.{arc_value};
-    ghost use Rattle.mcast_txn.specs.Part.{data_of};
+    ghost use Rattle.mcast_txn.specs.Part.{data_of, flight_of_part};
     ghost use Rattle.mcast_group.specs.Machine.{Pending};
+    ghost use Rattle.mcast_group.specs.Inner.Learnt.{IsPart};
 
     ghost Value = { Pending };
 
-    ghost view = { λ p. record { part = data_of (arc_value p.part); number = p.number; learnt = p.learnt } };
+    ghost view = { λ p. record { part = data_of (arc_value p.part); number = p.number; learnt = p.learnt.stamp } };
 
-    ghost invariant = { λ p. arc_value p.topics ≡ (data_of (arc_value p.part)).topics };
+    ghost invariant = { λ p. IsPart (flight_of_part (arc_value p.part)) (arc_value p.topics)
+        (data_of (arc_value p.part)).topics p.learnt.seen };
 }
 
 impl PendingPart {
@@ -47,7 +53,7 @@ impl PendingPart {
             part,
             topics,
             number,
-            learnt: None,
+            learnt: Learnt::nothing(),
         })
     }
 
@@ -86,7 +92,7 @@ impl PendingPart {
     pub(crate) fn key(&self) -> Stamp
         ensures { result ≡ key self.now }
     {
-        match self.learnt {
+        match self.learnt.stamp() {
             Some(stamp) => stamp,
             None => self.ticket_stamp(),
         }
@@ -96,25 +102,36 @@ impl PendingPart {
     pub(crate) fn is_learnt(&self) -> bool
         ensures { result ≡ is_some self.now.learnt }
     {
-        self.learnt.is_some()
+        self.learnt.stamp().is_some()
     }
 
-    // Takes its stamp.
+    // Takes its stamp, and keeps a note of its flight's cell where that has the stamp.
     pub(crate) fn learn(&mut self, stamp: Stamp)
         ensures { self.new ≡ record self.old { learnt = Some stamp } }
     {
-        self.learnt = Some(stamp);
+        let seen = seen_at(&self.part.flight, stamp);
+        self.learnt = Learnt::of(stamp, seen);
     }
 
-    // Its row of the log, at its key.
-    pub(crate) fn into_row(self) -> Row
-        ensures { result ≡ row_of self }
+    // Its row of the log, at its key, and itself with its note.
+    pub(crate) fn depart(self) -> (Row, Departed)
+        ensures row { result.0 ≡ row_of self }
+        ensures part { result.1.part ≡ self.part }
+        ensures stamp { result.1.stamp ≡ key self }
     {
-        Row {
-            id: self.part.id,
-            stamp: self.key(),
-            topics: self.topics,
-        }
+        let stamp = self.key();
+        let PendingPart {
+            part,
+            topics,
+            number: _,
+            learnt,
+        } = self;
+        let row = Row {
+            id: part.id,
+            stamp,
+            topics,
+        };
+        (row, Departed::new(part, stamp, learnt.into_seen()))
     }
 
     // Whether the verdict is another transaction's, or has another number for the part's topic.
@@ -128,7 +145,7 @@ impl PendingPart {
     pub(crate) fn has_learnt_other(&self, stamp: Stamp) -> bool
         ensures { result ≡ has_learnt_other stamp self.now.learnt }
     {
-        match self.learnt {
+        match self.learnt.stamp() {
             Some(learnt) => learnt != stamp,
             None => false,
         }
@@ -143,6 +160,17 @@ impl PendingPart {
             id: self.part.id,
         }
     }
+}
+
+// A note of the flight's cell that knows the verdict there, if that has the stamp.
+fn seen_at(flight: &Flight, stamp: Stamp) -> Option<Seen>
+    ensures { IfSome result (IsSightOf flight.now stamp) }
+{
+    let (verdict, seen) = flight.see()?;
+    if verdict.stamp() != stamp {
+        return None;
+    }
+    Some(seen)
 }
 
 // Whether the ticket that a topic gave is among a verdict's rows.

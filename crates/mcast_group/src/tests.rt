@@ -1,6 +1,7 @@
 //! Worked rows of a topic and its subscriptions, each refusal, made schedules, and what is answered when memory runs out.
 
 mod calls;
+mod cells;
 mod draining;
 mod made;
 mod many;

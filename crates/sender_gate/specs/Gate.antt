@@ -1,6 +1,7 @@
 -- A sender and its transaction on its way.
 use Rattle.std.specs.Prelude.{◌+◌, ◌==◌, nat_lt, ℕ, List, Result, Ok, Err, if◌then◌else◌}
 use Rattle.mcast_txn.specs.declared.fault.BallotFault.{BallotFault}
+use Rattle.mcast_txn.specs.declared.flight.Flight.{Flight}
 use Rattle.mcast_txn.specs.declared.id.Sender.{Sender}
 use Rattle.mcast_txn.specs.declared.id.TxnId.{TxnId}
 use Rattle.mcast_txn.specs.declared.draft.sent_message.SentMessage.{SentMessage}
@@ -31,6 +32,11 @@ pub record FlightState : Type 0 where
   pub floor : Stamp
   pub tickets : Slots ℕ
   pub parts : Slots TopicPart
+
+-- a transaction on its way, with the flight that its parts share
+pub record FlyingState : Type 0 where
+  pub state : FlightState
+  pub flight : Flight
 
 -- the id of the sender's next transaction
 abbrev pub next_id : GateState → TxnId

@@ -2,7 +2,8 @@
 
 ghost use Rattle.std.specs.Prelude.{◌≡◌, IfOk, IfErr, IsErr};
 ghost use Rattle.mcast_txn.specs.Stamp.{zero_stamp};
-ghost use Rattle.sender_gate.specs.Gate.{begin_fault, flight_of, max_seq};
+ghost use Rattle.mcast_txn.specs.Flight.{flight_id};
+ghost use Rattle.sender_gate.specs.Gate.{begin_fault, flight_of, max_seq, next_id};
 
 use crate::fault::GateFault;
 use crate::flying::Flying;
@@ -67,7 +68,8 @@ impl Gate {
     /// Refused: 53 where the sender has used its last number, 55 for want of memory; gate and transaction are then
     /// handed back.
     pub fn begin(self, alloc: Global, txn: Txn) -> Result<Flying, (Gate, Txn, GateFault)>
-        ensures ok { IfOk result (λ flying. flying ≡ flight_of self txn) }
+        ensures ok { IfOk result (λ flying. flying.state ≡ flight_of self txn) }
+        ensures flight { IfOk result (λ flying. flight_id flying.flight ≡ next_id self) }
         ensures full { self.seq ≡ max_seq → IsErr result }
         ensures err { IfErr result (λ refused. refused ≡ (self, txn, begin_fault self)) }
     {

@@ -48,7 +48,7 @@ pub(super) fn stamp(n: u64, topic: u32) -> Stamp {
 }
 
 /// A transaction with a SEND to each of these topics.
-fn txn_to(alloc: Global, topics: &[u32]) -> Option<Txn> {
+pub(super) fn txn_to(alloc: Global, topics: &[u32]) -> Option<Txn> {
     let mut draft = Draft::new(alloc);
     for &topic in topics {
         draft

@@ -3,6 +3,7 @@
 ghost use Rattle.std.specs.Prelude.{◌<◌};
 
 use super::plain::Past;
+use std::alloc::Global;
 
 /// A verdict of a transaction to topics 0 and 1: its numbers there.
 #[derive(Clone, Copy)]
@@ -56,6 +57,20 @@ impl Draws {
             .wrapping_mul(1_664_525)
             .wrapping_add(1_013_904_223);
         (self.state >> 16) % n
+    }
+
+    /// The numbers below `many`, in an order that is drawn.
+    pub(super) fn order(&mut self, alloc: Global, many: u32) -> Option<Vec<u64>> {
+        let mut order = Vec::new(alloc);
+        for i in 0..many {
+            order.push(i as u64).ok()?;
+            let place = self.below(i.saturating_add(1)) as usize;
+            if place < order.len() {
+                let last = order.len() - 1;
+                order.swap(place, last);
+            }
+        }
+        Some(order)
     }
 
     /// A transaction: one of the last four that were drawn for a proposal, or one that wasn't.

@@ -1,31 +1,45 @@
 //! Many pending parts, that learn their stamps in random orders.
 
 use super::calls::{Answer, id, learnt, propose, released};
+use super::made::Draws;
 use crate::Group;
 use mcast_txn::Topic;
 use std::alloc::Global;
 use sub_queue::VecOutlet;
 
-/// Orders of `many` parts: by what step of seqs they are proposed, and by what step of tickets they learn. Neither has a
-/// divisor in common with `many`.
-#[derive(Clone, Copy)]
+/// Orders of the numbers below some number: that in which transactions are proposed, by their seqs; that in which they
+/// learn, by their places among the proposals; and topic 1's numbers, less 10,000, by the same places.
+#[derive(Drop)]
 struct Orders {
-    many: u64,
-    step: u64,
-    order: u64,
+    seqs: Vec<u64>,
+    learning: Vec<u64>,
+    numbers: Vec<u64>,
 }
 
-/// The `i`th number below `many`, in this order.
-fn at(i: u64, step: u64, many: u64) -> u64 {
-    i.wrapping_mul(step).checked_rem(many).unwrap_or(0)
+impl Orders {
+    /// Three orders that are drawn.
+    fn drawn(alloc: Global, schedule: u32, many: u32) -> Option<Orders> {
+        let mut draws = Draws::of(schedule);
+        Some(Orders {
+            seqs: draws.order(alloc, many)?,
+            learning: draws.order(alloc, many)?,
+            numbers: draws.order(alloc, many)?,
+        })
+    }
+}
+
+/// The number at this place, and 0 past the end.
+fn at(order: &[u64], place: u64) -> u64 {
+    order.get(place as usize).copied().unwrap_or(0)
 }
 
 /// Whether each part gets its ticket.
-fn are_proposed(alloc: Global, group: &mut Group<VecOutlet>, orders: Orders) -> bool {
-    for i in 0..orders.many {
-        let seq = at(i, orders.step, orders.many);
-        match propose(alloc, group, id(seq), &[0, 1], 0) {
-            Some(Ok(ticket)) if ticket.n == i.saturating_add(1) => {}
+fn are_proposed(alloc: Global, group: &mut Group<VecOutlet>, seqs: &[u64]) -> bool {
+    let mut tickets = 0u64;
+    for seq in seqs {
+        tickets = tickets.saturating_add(1);
+        match propose(alloc, group, id(*seq), &[0, 1], 0) {
+            Some(Ok(ticket)) if ticket.n == tickets => {}
             _ => return false,
         }
     }
@@ -33,12 +47,11 @@ fn are_proposed(alloc: Global, group: &mut Group<VecOutlet>, orders: Orders) -> 
 }
 
 /// Whether each learns, in another order; topic 1's numbers are above all tickets, and in an order of their own.
-fn are_learnt(alloc: Global, group: &mut Group<VecOutlet>, orders: Orders) -> bool {
-    for i in 0..orders.many {
-        let place = at(i, orders.order, orders.many);
-        let number = at(place, orders.order, orders.many).saturating_add(10_000);
+fn are_learnt(alloc: Global, group: &mut Group<VecOutlet>, orders: &Orders) -> bool {
+    for place in orders.learning.iter() {
+        let number = at(&orders.numbers, *place).saturating_add(10_000);
         let rows = [(0, place.saturating_add(1)), (1, number)];
-        let seq = at(place, orders.step, orders.many);
+        let seq = at(&orders.seqs, *place);
         if learnt(alloc, group, id(seq), &rows) != Some(Answer::Done) {
             return false;
         }
@@ -47,8 +60,8 @@ fn are_learnt(alloc: Global, group: &mut Group<VecOutlet>, orders: Orders) -> bo
 }
 
 /// Whether all are released, each at the next number.
-fn are_released(group: &mut Group<VecOutlet>, many: u64) -> bool {
-    for i in 0..many {
+fn are_released(group: &mut Group<VecOutlet>, many: u32) -> bool {
+    for i in 0..many as u64 {
         match released(group) {
             Answer::Released(_, number, 1) if number == i.saturating_add(10_000) => {}
             _ => return false,
@@ -58,25 +71,25 @@ fn are_released(group: &mut Group<VecOutlet>, many: u64) -> bool {
 }
 
 /// Whether so many parts are released by their stamps, in whatever order they learnt them.
-fn are_in_order(alloc: Global, orders: Orders) -> bool {
+fn are_in_order(alloc: Global, schedule: u32, many: u32) -> bool {
+    let Some(orders) = Orders::drawn(alloc, schedule, many) else {
+        return false;
+    };
     let mut group = Group::new(alloc, Topic(0), 0, 5_000);
-    are_proposed(alloc, &mut group, orders)
-        && are_learnt(alloc, &mut group, orders)
-        && are_released(&mut group, orders.many)
+    are_proposed(alloc, &mut group, &orders.seqs)
+        && are_learnt(alloc, &mut group, &orders)
+        && are_released(&mut group, many)
         && group.pending_len() == 0
 }
 
-/// In the order of tickets, in the other, and two that jump.
-const ORDERS: [(u64, u64, u64); 4] = [
-    (300, 1, 1),
-    (300, 1, 299),
-    (300, 77, 131),
-    (5_000, 3_001, 1_237),
-];
+/// How many parts there are; each time their orders are drawn anew.
+const PARTS: [u32; 9] = [1, 2, 3, 4, 16, 300, 300, 300, 5_000];
 
 #[test]
 fn parts_learn_in_any_order(rt: HostRuntime) {
-    for (many, step, order) in ORDERS {
-        assert!(rt; are_in_order(rt.alloc(), Orders { many, step, order }));
+    let mut schedule = 0u32;
+    for many in PARTS {
+        schedule = schedule.wrapping_add(1);
+        assert!(rt; are_in_order(rt.alloc(), schedule, many), "{many} parts");
     }
 }

@@ -74,9 +74,10 @@ impl Txn {
         Ok(self.topics.clone()?)
     }
 
-    /// Its parts, of this flight. Out of memory, the transaction is returned.
+    /// Its parts, each of which has this flight. Out of memory, the transaction is returned.
     pub fn split(self, alloc: Global, flight: &Arc<Flight>) -> Result<Parts, (Txn, NoMemory)>
-        ensures parts { IfOk result (λ parts. parts ≡ parts_of (flight_id (arc_value flight.now)) self) }
+        ensures parts { IfOk result (λ parts. parts.slots ≡ parts_of (flight_id (arc_value flight.now)) self) }
+        ensures flight { IfOk result (λ parts. parts.flight ≡ arc_value flight.now) }
         ensures back { IfErr result (λ refused. refused.0 ≡ self) }
     {
         match Parts::of(alloc, flight, &self.topics, &self.entries) {

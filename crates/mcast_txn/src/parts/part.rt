@@ -26,7 +26,7 @@ pub struct Part {
 }
 
 impl Part {
-    ghost use Rattle.mcast_txn.specs.Part.{data_of};
+    ghost use Rattle.mcast_txn.specs.Part.{data_of, flight_of_part};
 
     // The flight's part at a topic.
     pub(crate) fn at(
@@ -36,8 +36,9 @@ impl Part {
         topic: Topic,
         sends: PartSends,
     ) -> Result<Arc<Part>, NoMemory>
-        ensures { IfOk result (λ part. data_of (arc_value part)
+        ensures data { IfOk result (λ part. data_of (arc_value part)
             ≡ record { id = flight_id (arc_value flight.now); topic = topic; topics = arc_value topics.now; sends = sends }) }
+        ensures own { IfOk result (λ part. flight_of_part (arc_value part) ≡ arc_value flight.now) }
     {
         let part = Part {
             id: flight.id(),

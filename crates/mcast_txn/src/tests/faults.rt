@@ -1,6 +1,6 @@
 //! The faults' numbers, and their messages, which begin with number and name.
 
-use crate::{BallotFault, DraftFault};
+use crate::{AlreadySet, BallotFault, DraftFault};
 use std::test::Fail;
 
 #[test]
@@ -28,5 +28,13 @@ fn ballots(rt: HostRuntime) -> Result<(), Fail> {
         assert_eq!(rt; fault.number(), number);
         assert!(rt; message.as_bytes().starts_with(front));
     }
+    Ok(())
+}
+
+#[test]
+fn decisions(rt: HostRuntime) -> Result<(), Fail> {
+    let message = format!(in rt.alloc(); "{}", AlreadySet)?;
+    assert_eq!(rt; AlreadySet.number(), 32);
+    assert!(rt; message.as_bytes().starts_with(b"32 AlreadySet: "));
     Ok(())
 }

@@ -1,7 +1,7 @@
 //! Gates and flights.
 
 use crate::{Flying, Gate, GateFault};
-use mcast_txn::{Draft, Headers, Octets, Sender, Stamp, Ticket, Topic, Txn};
+use mcast_txn::{Draft, Flight, Headers, Octets, Sender, Stamp, Ticket, Topic, Txn};
 use std::alloc::Global;
 use std::test::Fail;
 
@@ -136,5 +136,32 @@ fn a_flight_has_its_transactions_parts(rt: HostRuntime) -> Result<(), Fail> {
     assert_eq!(rt; flying.topics().len(), 2);
     assert!(rt; flying.part(Topic(1)).is_some());
     assert!(rt; flying.part(Topic(1)).is_none());
+    Ok(())
+}
+
+/// The stamp that the flight's cell tells.
+fn told_by(flight: &Flight) -> Option<Stamp> {
+    let (verdict, _) = flight.see()?;
+    Some(verdict.stamp())
+}
+
+/// What the cells of the parts at topics 0 and 1 tell, once a verdict is set in the flight's own.
+fn told(flying: Flying) -> Option<[Option<Stamp>; 2]> {
+    let mut flying = flying;
+    let one = flying.part(Topic(0))?;
+    let other = flying.part(Topic(1))?;
+    let flight = flying.flight().clone().ok()?;
+    put(&mut flying, 0, 3).ok()?;
+    put(&mut flying, 1, 4).ok()?;
+    let (_, verdict) = flying.decide().ok()?;
+    let mut note = flight.note();
+    flight.decide(&mut note, verdict).ok()?;
+    Some([told_by(&one.flight), told_by(&other.flight)])
+}
+
+#[test]
+fn the_parts_share_the_flights_cell(rt: HostRuntime) -> Result<(), Fail> {
+    let flying = begun(rt.alloc(), Gate::new(Sender(6)), &[0, 1, 0])?;
+    assert!(rt; told(flying) == Some([Some(stamp(4, 1)), Some(stamp(4, 1))]));
     Ok(())
 }

@@ -10,7 +10,7 @@ overflow_sub-result g c =
     let may = g.Q.Outlet.may_accept in
     let finds = g.V.Verdicts.finds c.args.verdicts.now in
     let sound = subst (λ (z : GroupState). IsSound z.topic) c.self.view_is c.self.invariant.sound in
-    let turns : Turns may finds c.args.self.now c.release_all.new.self = turns_of may finds c.args.self.now c.try_all.new.self c.release_all.new.self sound c.try_all.ensures c.release_all.ensures in
+    let turns : Turns may finds c.args.self.now c.release_all.new.self = turns_of may finds c.args.self.now c.learn_found.new.self c.release_all.new.self sound c.learn_found.ensures c.release_all.ensures in
     let more = turn_holds may finds c.args.self.now c.release_all.new.self turns in
     let a = ap (λ (z : GroupState). length z.topic.held) c.self.view_is in
     let b = ap (λ (z : GroupState). length z.topic.held) c.self-2.view_is in
@@ -20,5 +20,5 @@ overflow_sub-result g c =
 
 pub returns-clause-turned : goal.returns-clause-turned
 returns-clause-turned g c =
-    turns_of g.Q.Outlet.may_accept (g.V.Verdicts.finds c.args.verdicts.now) c.args.self.now c.try_all.new.self c.release_all.new.self
-    (subst (λ (z : GroupState). IsSound z.topic) c.self.view_is c.self.invariant.sound) c.try_all.ensures c.release_all.ensures
+    turns_of g.Q.Outlet.may_accept (g.V.Verdicts.finds c.args.verdicts.now) c.args.self.now c.learn_found.new.self c.release_all.new.self
+    (subst (λ (z : GroupState). IsSound z.topic) c.self.view_is c.self.invariant.sound) c.learn_found.ensures c.release_all.ensures

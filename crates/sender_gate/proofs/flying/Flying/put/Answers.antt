@@ -15,7 +15,7 @@ returns-then-ticket-self-clause-answer c =
 
 pub invariant_of-self-2 : goal.invariant_of-self-2
 invariant_of-self-2 c =
-    rw c.in_ok-put.ensures.ok (flying_put c.self.inside.floor c.self.inside.ballot.tickets c.self.inside.parts c.self.invariant c.args.ticket.topic c.args.ticket.n c.if-ticket-self.false)
+    rw c.in_ok-put.ensures.ok (flying_put c.self.inside.floor c.self.inside.ballot.tickets c.self.inside.parts.slots c.self.invariant c.args.ticket.topic c.args.ticket.n c.if-ticket-self.false)
 
 pub returns-clause-answer : goal.returns-clause-answer
 returns-clause-answer c =

@@ -2,7 +2,7 @@ use Rattle.std.proofs.Common.{◌≡◌, List, Option, length}
 use Rattle.mcast_txn.specs.Ballot.{Decision}
 use Rattle.mcast_group.specs.Group.{MayBeFound}
 use Rattle.mcast_group.proofs.Learning.{FoundEach, parts, tried_each}
-use Rattle.mcast_group.proofs.group.Group.try_all.Given as goal
+use Rattle.mcast_group.proofs.group.Group.learn_found.Given as goal
 
 -- so many parts were tried, by what was found for each
 abbrev pub invariant-loop-index : goal.invariant-loop-index

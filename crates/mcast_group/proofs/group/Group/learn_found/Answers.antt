@@ -6,7 +6,7 @@ use Rattle.mcast_group.specs.Group.{GroupState, MayBeFound}
 use Rattle.mcast_group.specs.Machine.{TopicState, after_try}
 use Rattle.mcast_group.proofs.Turns.{some_part}
 use Rattle.mcast_group.proofs.Learning.{parts, parts_length, part_at, same_parts, tried_each, tried_push, found_push, all_tried}
-use Rattle.mcast_group.proofs.group.Group.try_all.Goals as goal
+use Rattle.mcast_group.proofs.group.Group.learn_found.Goals as goal
 
 pub loop-index-init : goal.loop-index-init
 loop-index-init g c = record { found = []; many = refl; same = refl; each = tt; is = refl }

@@ -1,6 +1,8 @@
 use Rattle.std.proofs.Common.{◌≡◌, ◌<◌, ◌≤◌, ◌+◌, ◌++◌, ◌∷◌, [], ℕ, List, map, length, get_or, Some, refl, sym, ap, subst, ◌∙◌, arith}
 use Rattle.std.specs.Option.{option_map}
+use Rattle.mcast_txn.specs.declared.stamp.Stamp.{Stamp}
 use Rattle.mcast_txn.specs.Span.{LogRow}
+use Rattle.mcast_txn.specs.Transaction.{TopicPart}
 use Rattle.mcast_group.specs.declared.subscription.Subscription.{Subscription}
 use Rattle.mcast_group.specs.Group.{GroupState, Releases, topic_state}
 use Rattle.mcast_group.specs.Inner.GroupInvariant.{Gave, entry_of, room_of}
@@ -10,8 +12,8 @@ use Rattle.mcast_group.proofs.Groups.{released_state}
 use Rattle.mcast_group.proofs.Numbers.{numbers_differ}
 use Rattle.mcast_group.proofs.Parts.{map_length}
 use Rattle.mcast_group.proofs.Releasing.{Taken, taken, copies_at, copies_length, due_found, kept_released, none_learnt, none_pending, none_released, ready, some_released}
-use Rattle.mcast_group.proofs.group.Group.release.Given as given
-use Rattle.mcast_group.proofs.group.Group.release.Goals as goal
+use Rattle.mcast_group.proofs.group.Group.release_part.Given as given
+use Rattle.mcast_group.proofs.group.Group.release_part.Goals as goal
 
 pub returns-in_err-index-clause-released : goal.returns-in_err-index-clause-released
 returns-in_err-index-clause-released g c =
@@ -78,22 +80,21 @@ gone : (g : given.Over) (c : goal.After-drop-copies-inside g) → c.in_ok-index.
 gone g c = c.in_ok-index.ensures.0
 
 -- the machine's release
-moved : (g : given.Over) (c : goal.After-drop-copies-inside g) → topic_state c.self.inside.topic c.self.inside.clock c.self.inside.log_limit c.remove-part.new.self c.self.inside.base c.push.new.self.items c.row.inside.stamp (map (entry_of g.Q.Outlet.shown) c.give_all.new.self) ≡ after_release_of (took g c).takes c.remove-part.result (topic_state c.self.inside.topic c.self.inside.clock c.self.inside.log_limit c.self.inside.pending c.self.inside.base c.self.inside.rows.items c.self.inside.frontier (map (entry_of g.Q.Outlet.shown) c.self.inside.subscriptions))
+moved : (g : given.Over) (c : goal.After-drop-copies-inside g) → topic_state c.self.inside.topic c.self.inside.clock c.self.inside.log_limit c.remove-part.new.self c.self.inside.base c.push.new.self.items c.stamp-self-inside.result (map (entry_of g.Q.Outlet.shown) c.give_all.new.self) ≡ after_release_of (took g c).takes c.remove-part.result (topic_state c.self.inside.topic c.self.inside.clock c.self.inside.log_limit c.self.inside.pending c.self.inside.base c.self.inside.rows.items c.self.inside.frontier (map (entry_of g.Q.Outlet.shown) c.self.inside.subscriptions))
 moved g c =
     let s = c.self.inside in
     let p = c.remove-part.result in
-    let row = c.row.view_is ∙ c.into_row-row.ensures in
     released_state s.topic s.clock s.log_limit s.pending s.base s.rows.items s.frontier (map (entry_of g.Q.Outlet.shown) s.subscriptions) (took g c).takes p _ _ _ _
     (c.remove-part.ensures.items ∙ sym (without_at s.pending c.in_ok-index.index p c.self.invariant.sound.by_id (gone g c) (sym c.remove-part.ensures.value)))
-    (c.push.ensures.items ∙ ap (λ (r : LogRow). s.rows.items ++ r ∷ []) c.into_row-row.ensures)
-    (ap (λ (r : LogRow). r.stamp) row)
+    (c.push.ensures.items ∙ ap (λ (r : LogRow). s.rows.items ++ r ∷ []) c.depart-row.ensures.row)
+    (c.stamp-self-inside.ensures.stamp ∙ c.depart-row.ensures.stamp)
     (took g c).is
 
 pub invariant_of-self : goal.invariant_of-self
 invariant_of-self g c =
     let s = c.self.inside in
     let x = topic_state s.topic s.clock s.log_limit s.pending s.base s.rows.items s.frontier (map (entry_of g.Q.Outlet.shown) s.subscriptions) in
-    let y = λ (zs : List (Subscription g.row.Q.Denot)). topic_state s.topic s.clock s.log_limit c.remove-part.new.self s.base c.push.new.self.items c.row.inside.stamp (map (entry_of g.Q.Outlet.shown) zs) in
+    let y = λ (zs : List (Subscription g.row.Q.Denot)). topic_state s.topic s.clock s.log_limit c.remove-part.new.self s.base c.push.new.self.items c.stamp-self-inside.result (map (entry_of g.Q.Outlet.shown) zs) in
     let left : (k : ℕ) (d : Subscription g.row.Q.Denot) → k < length s.subscriptions → g.Q.Outlet.spare (get_or s.subscriptions k d).outlet ≤ g.Q.Outlet.spare (get_or c.give_all.new.self k d).outlet + 1 =
     c.give_all.ensures.spare in
     let kept = kept_released g.Q.Outlet.shown g.Q.Outlet.spare x s.rows.capacity s.copies.items s.subscriptions c.self.invariant refl (took g c).takes c.remove-part.result c.in_ok-index.index (y c.give_all.new.self) c.give_all.new.self (due g c) (gone g c) (moved g c) c.remove-part.ensures.items refl (many g c) left in
@@ -101,14 +102,17 @@ invariant_of-self g c =
 
 pub returns-clause-due : goal.returns-clause-due
 returns-clause-due g c =
-    let row = c.row.view_is ∙ c.into_row-row.ensures in
-    ap (λ (r : LogRow). Some (r.id, r.stamp)) row ∙ (sym (ap (option_map (λ (p : Pending). (p.part.id, key p))) (due g c)) ∙ ap (λ (z : GroupState). option_map (λ (p : Pending). (p.part.id, key p)) (due_part z.topic)) c.self.view_is)
+    ap (λ (z : TopicPart). Some z) c.depart-row.ensures.part ∙ (sym (ap (option_map (λ (p : Pending). p.part)) (due g c)) ∙ ap (λ (z : GroupState). option_map (λ (p : Pending). p.part) (due_part z.topic)) c.self.view_is)
+
+pub returns-clause-stamp : goal.returns-clause-stamp
+returns-clause-stamp g c =
+    ap (λ (z : Stamp). Some z) c.depart-row.ensures.stamp ∙ (sym (ap (option_map key) (due g c)) ∙ ap (λ (z : GroupState). option_map key (due_part z.topic)) c.self.view_is)
 
 pub returns-clause-released : goal.returns-clause-released
 returns-clause-released g c =
     let s = c.self.inside in
     let shown = g.Q.Outlet.shown in
     let x = topic_state s.topic s.clock s.log_limit s.pending s.base s.rows.items s.frontier (map (entry_of shown) s.subscriptions) in
-    let y = λ (zs : List (Subscription g.row.Q.Denot)). topic_state s.topic s.clock s.log_limit c.remove-part.new.self s.base c.push.new.self.items c.row.inside.stamp (map (entry_of shown) zs) in
+    let y = λ (zs : List (Subscription g.row.Q.Denot)). topic_state s.topic s.clock s.log_limit c.remove-part.new.self s.base c.push.new.self.items c.stamp-self-inside.result (map (entry_of shown) zs) in
     let done = some_released g.Q.Outlet.may_accept x (y c.give_all.new.self) (map (room_of shown) s.subscriptions) (map (room_of shown) c.give_all.new.self) c.remove-part.result (map (entry_of shown) c.give_all.new.self) (due g c) (took g c) (moved g c) (gave g c).rooms in
     subst (λ (z : GroupState). Releases g.Q.Outlet.may_accept z (record { topic = y c.give_all.new.self; rooms = map (room_of shown) c.give_all.new.self })) c.self.view_is done
