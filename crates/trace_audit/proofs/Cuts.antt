@@ -4,8 +4,8 @@ use Rattle.std.specs.Option.{option_map}
 use Rattle.std.specs.List.{AllByRecursion}
 use Rattle.std.proofs.lemmas.Bool.{eq-eqb, ne_eqb, eqb-true, cases_eq}
 use Rattle.memchr.specs.Find.{IsFirstByte, is_byte}
-use Rattle.trace_audit.specs.Inner.Reading.{cut, text_parts}
-use Rattle.trace_audit.specs.Parsing.{lines_of}
+use Rattle.trace_audit.specs.Inner.Reading.{text_parts}
+use Rattle.trace_audit.specs.Parsing.{cut, lines_of}
 
 cut_found : (b : ℕ) (text : List ℕ) (k : ℕ) → k < length text → get_or text k 0 ≡ b → ((j : ℕ) → j < k → get_or text j 0 ≢ b) → cut b text ≡ Some (take k text, drop (k + 1) text)
 cut_found b [] k lt e none = absurd (omega arith)

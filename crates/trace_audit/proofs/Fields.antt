@@ -2,7 +2,8 @@
 use Rattle.std.proofs.Common.{◌≡◌, ℕ, List, [], ◌∷◌, ◌++◌, Option, Some, None, refl, sym, ap, ◌∙◌, append_assoc}
 use Rattle.std.specs.Option.{option_map}
 use Rattle.mcast_txn.specs.declared.id.Topic.{Topic}
-use Rattle.trace_audit.specs.Inner.Reading.{cut, text_parts, topics_from, spelled_topic, ◌>>=◌}
+use Rattle.trace_audit.specs.Parsing.{cut}
+use Rattle.trace_audit.specs.Inner.Reading.{text_parts, topics_from, spelled_topic, ◌>>=◌}
 use Rattle.trace_audit.proofs.Cuts.{parts_cut, parts_uncut}
 
 -- the topics of these parts, behind those that were read

@@ -1,44 +1,46 @@
--- Rows in a report's order, and topics one after the other.
+-- Rows in a report's order, and texts one after the other.
 use Rattle.std.proofs.Common.{◌≡◌, ℕ, zero, suc, ◌+◌, ◌<◌, ◌⊎◌, Bool, true, false, not, cond, ◌&&◌, ◌||◌, ◌==◌, List, [], ◌∷◌, ◌++◌, map, length, drop, get_or, refl, sym, ap, ◌∙◌, inl, inr, append_assoc, arith, Less, Equal, Greater}
-use Rattle.std.specs.Prelude.{decimal, nat_lt}
+use Rattle.std.specs.Prelude.{nat_lt}
 use Rattle.std.specs.List.{filter}
 use Rattle.std.specs.List.Sorted.{IsSortedBy, IsStableBy, ties}
 use Rattle.std.specs.Ordering.{nat_cmp, ordering_then, is_lt}
 use Rattle.std.proofs.lemmas.Bool.{cases_Bool}
+use Rattle.std.proofs.lemmas.List.{append-nil}
 use Rattle.std.proofs.lemmas.Bool.Decides.{nat_tests}
-use Rattle.mcast_txn.specs.declared.id.Topic.{Topic}
-use Rattle.trace_audit.specs.Inner.Printing.{entry_row, more_topics, topic_part, left_topics}
+use Rattle.trace_audit.specs.Inner.Printing.{entry_row, part_after, left_after, IsLonger}
 use Rattle.trace_audit.specs.Report.{print_key, key_lt, has_key, NeverFalls, IsSortOf}
-use Rattle.trace_audit.specs.Text.{topics_text}
+use Rattle.trace_audit.specs.Text.{joined}
 use Rattle.trace_audit.specs.declared.row.TraceRow.{TraceRow}
 use Rattle.trace_audit.specs.declared.text.entry.Entry.{Entry}
 
--- the first topic, and then the others
-pub first_topic : (t : Topic) (ts : List Topic) → topics_text (t ∷ ts) ≡ decimal t.0 ++ more_topics ts
-first_topic t [] = go (decimal t.0)
-  where
-    go : (xs : List ℕ) → xs ≡ xs ++ []
-    go [] = refl
-    go (x ∷ xs) = ap (λ (z : List ℕ). x ∷ z) (go xs)
-first_topic t (u ∷ ts) = ap (λ (z : List ℕ). decimal t.0 ++ 44 ∷ z) (first_topic u ts)
+-- the first text, and then the others
+joined_first : (b : ℕ) (t : List ℕ) (ts : List (List ℕ)) → joined b (t ∷ ts) ≡ t ++ left_after b false ts
+joined_first b t [] = sym (append-nil t)
+joined_first b t (u ∷ ts) = ap (λ (z : List ℕ). t ++ b ∷ z) (joined_first b u ts)
 
--- one topic more
-pub topics_left : (first : Bool) (t : Topic) (ts : List Topic) → left_topics first (t ∷ ts) ≡ topic_part first t ++ left_topics false ts
-topics_left true t ts = first_topic t ts
-topics_left false t ts = refl
+-- one text more
+one_more : (b : ℕ) (first : Bool) (t : List ℕ) (ts : List (List ℕ)) → left_after b first (t ∷ ts) ≡ part_after b first t ++ left_after b false ts
+one_more b true t ts = joined_first b t ts
+one_more b false t ts = refl
 
-drop_next : (ts : List Topic) (i : ℕ) (d : Topic) → i < length ts → drop i ts ≡ get_or ts i d ∷ drop (i + 1) ts
+drop_next : {X : Type 0} (xs : List X) (i : ℕ) (d : X) → i < length xs → drop i xs ≡ get_or xs i d ∷ drop (i + 1) xs
 drop_next [] i d lt = absurd (omega arith)
-drop_next (t ∷ ts) zero d lt = refl
-drop_next (t ∷ ts) (suc i) d lt = let e : suc i + 1 ≡ suc (i + 1) = omega arith in rw e (drop_next ts i d (omega arith))
+drop_next (x ∷ xs) zero d lt = refl
+drop_next (x ∷ xs) (suc i) d lt = let e : suc i + 1 ≡ suc (i + 1) = omega arith in rw e (drop_next xs i d (omega arith))
 
--- the next topic is written: what is written and what is left are still the whole
-pub topics_more : (out new whole : List ℕ) (first : Bool) (ts : List Topic) (i : ℕ) (d : Topic) → i < length ts → new ≡ out ++ topic_part first (get_or ts i d)
-    → out ++ left_topics first (drop i ts) ≡ whole → new ++ left_topics false (drop (i + 1) ts) ≡ whole
-topics_more out new whole first ts i d lt e h =
-    rw e (append_assoc out (topic_part first (get_or ts i d)) (left_topics false (drop (i + 1) ts))
-    ∙ ap (λ (z : List ℕ). out ++ z) (sym (topics_left first (get_or ts i d) (drop (i + 1) ts)))
-    ∙ ap (λ (z : List Topic). out ++ left_topics first z) (sym (drop_next ts i d lt)) ∙ h)
+-- the next text is written: what is written and what is left are still the whole
+pub part_more : {X : Type 0} (b : ℕ) (f : X → List ℕ) (out new whole : List ℕ) (first : Bool) (xs : List X) (i : ℕ) (d : X) → i < length xs
+    → new ≡ out ++ part_after b first (f (get_or xs i d)) → out ++ left_after b first (map f (drop i xs)) ≡ whole → new ++ left_after b false (map f (drop (i + 1) xs)) ≡ whole
+part_more {X} b f out new whole first xs i d lt e h =
+    let text = f (get_or xs i d) in
+    let rest = map f (drop (i + 1) xs) in
+    rw e (append_assoc out (part_after b first text) (left_after b false rest)
+    ∙ ap (λ (z : List ℕ). out ++ z) (sym (one_more b first text rest))
+    ∙ ap (λ (z : List X). out ++ left_after b first (map f z)) (sym (drop_next xs i d lt)) ∙ h)
+
+-- what is after it is longer, too
+pub longer_by : (old new newer more : List ℕ) → IsLonger old new → newer ≡ new ++ more → IsLonger old newer
+longer_by old new newer more l e = record { more = l.more ++ more; grown = e ∙ (ap (λ (z : List ℕ). z ++ more) l.grown ∙ append_assoc old l.more more) }
 
 -- ---- sorting
 

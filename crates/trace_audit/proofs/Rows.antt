@@ -7,11 +7,11 @@ use Rattle.std.proofs.lemmas.Fmt.{decimal_nonempty}
 use Rattle.std.proofs.lemmas.Slice.Eq.{bytes_eq-Decides}
 use Rattle.mcast_txn.specs.declared.stamp.Stamp.{Stamp}
 use Rattle.trace_audit.specs.Line.{LogLine}
-use Rattle.trace_audit.specs.Parsing.{lines_of, AddsLines, IsBadLine, IsFirstBad, IsParseFault, GivesTrace}
+use Rattle.trace_audit.specs.Parsing.{cut, lines_of, AddsLines, IsBadLine, IsFirstBad, IsParseFault, GivesTrace}
 use Rattle.trace_audit.specs.Rows.{is_misfit, with_row}
 use Rattle.trace_audit.specs.Text.{id_text, stamp_text, end_text, topics_text, row_text, IsStampInRange, IsRowInRange, SpellsRow}
 use Rattle.trace_audit.specs.Trace.{Lines, no_lines}
-use Rattle.trace_audit.specs.Inner.Reading.{◌>>=◌, cut, number_before, topic_before, id_before, spelled_stamp, stamp_before, spelled_end, spelled_topics, log_of_text, span_of_text, queue_of_text, row_named, spelled_row, line_added, read_from, ReadsAs}
+use Rattle.trace_audit.specs.Inner.Reading.{◌>>=◌, number_before, topic_before, id_before, spelled_stamp, stamp_before, spelled_end, spelled_topics, log_of_text, span_of_text, queue_of_text, row_named, spelled_row, line_added, read_from, ReadsAs}
 use Rattle.trace_audit.specs.declared.row.SpanRow.{SpanRow}
 use Rattle.trace_audit.specs.declared.row.QueueRow.{QueueRow}
 use Rattle.trace_audit.specs.declared.row.TraceRow.{TraceRow}

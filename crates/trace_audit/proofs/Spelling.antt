@@ -1,6 +1,6 @@
 -- A line is read as the row that it spells, and as none where it spells none.
 use Rattle.std.proofs.Common.{◌≡◌, ◌≢◌, ℕ, zero, suc, ◌+◌, ◌-◌, ◌*◌, ◌^◌, ◌<◌, ◌≤◌, Bool, true, false, cond, ltb, ◌&&◌, List, [], ◌∷◌, ◌++◌, map, length, get_or, Option, Some, None, inl, inr, refl, sym, ap, ◌∙◌, append_assoc, subst, arith, rules}
-use Rattle.std.specs.Prelude.{decimal}
+use Rattle.std.specs.Prelude.{◌↔◌, decimal}
 use Rattle.std.specs.Char.{is_ascii_digit}
 use Rattle.std.specs.List.{AllByRecursion}
 use Rattle.std.specs.Str.{all_ascii_digits}
@@ -11,9 +11,9 @@ use Rattle.std.proofs.lemmas.Str.Parse.{IsNumeralModel, numerals_by_fold}
 use Rattle.mcast_txn.specs.declared.id.Topic.{Topic}
 use Rattle.mcast_txn.specs.declared.id.TxnId.{TxnId}
 use Rattle.mcast_txn.specs.declared.stamp.Stamp.{Stamp}
-use Rattle.trace_audit.specs.Parsing.{onto_first}
+use Rattle.trace_audit.specs.Parsing.{cut, onto_first}
 use Rattle.trace_audit.specs.Text.{id_text, stamp_text, topics_text, joined, IsTopicInRange, IsIdInRange, IsStampInRange}
-use Rattle.trace_audit.specs.Inner.Reading.{◌>>=◌, cut, read_on, is_badly_begun, spelled_number, spelled_topic, number_before, topic_before, id_before, spelled_stamp, stamp_before, text_parts, topics_from, spelled_topics}
+use Rattle.trace_audit.specs.Inner.Reading.{◌>>=◌, read_on, is_badly_begun, spelled_number, spelled_topic, number_before, topic_before, id_before, spelled_stamp, stamp_before, text_parts, topics_from, spelled_topics}
 use Rattle.trace_audit.proofs.Cuts.{Without, Without-append, cut_splits, cut_first, some_is, parts_first, parts_only}
 
 -- ---- tools
@@ -94,6 +94,10 @@ number_again n lt =
     let v = digits_value-decimal own n lt in
     rw (begins_well (decimal n) (decimal_nonempty n lt) (first_is n lt))
     (read_all 0 (decimal n) (digits_decimal own n lt) (subst (λ (z : ℕ). z < 2 ^ 64) (sym v) lt) ∙ ap Some v)
+
+-- reading a text as a number gives the number that it is the decimal form of
+pub is_number : (text : List ℕ) (o : Option ℕ) → o ≡ spelled_number text → (n : ℕ) → (o ≡ Some n) ↔ ((text ≡ decimal n) × (n < 2 ^ 64))
+is_number text o e n = (λ h. number_spelled text n (sym e ∙ h), λ h. e ∙ ap spelled_number h.0 ∙ number_again n h.1)
 
 without : (b : ℕ) → b < 48 → (ds : List ℕ) → all_ascii_digits ds ≡ true → Without b ds
 without b lt [] d = tt

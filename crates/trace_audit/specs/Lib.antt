@@ -2,6 +2,7 @@ pub mod Answers
 pub mod AuditText
 pub mod Explained
 pub mod Faults
+pub mod Fields
 pub mod Line
 pub mod Parsing
 pub mod Report

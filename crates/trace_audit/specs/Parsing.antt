@@ -1,5 +1,6 @@
 -- The text of a trace as lines: what adding them leaves, and which one is the first that can't be added.
-use Rattle.std.specs.Prelude.{◌≡◌, ℕ, ◌+◌, true, false, ◌==◌, List, [], ◌∷◌, ◌++◌, length, Result, Ok, Err, if◌then◌else◌}
+use Rattle.std.specs.Prelude.{◌≡◌, ℕ, ◌+◌, true, false, ◌==◌, List, [], ◌∷◌, ◌++◌, length, Option, Some, None, Result, Ok, Err, if◌then◌else◌}
+use Rattle.std.specs.Option.{option_map}
 use Rattle.trace_audit.specs.Rows.{is_misfit, with_row}
 use Rattle.trace_audit.specs.Text.{SpellsRow}
 use Rattle.trace_audit.specs.Trace.{Lines, no_lines}
@@ -17,6 +18,12 @@ onto_first b (line ∷ lines) = (b ∷ line) ∷ lines
 abbrev pub lines_of : List ℕ → List (List ℕ)
 lines_of [] = []
 lines_of (b ∷ text) = if b == 10 then [] ∷ lines_of text else onto_first b (lines_of text)
+
+-- What comes before the first such octet, and what comes after it. So `a b c` is cut at its first space into
+-- `a` and `b c`, and `abc` isn't.
+abbrev pub cut : ℕ → List ℕ → Option (List ℕ × List ℕ)
+cut b [] = None
+cut b (x ∷ text) = if x == b then Some ([], text) else option_map (λ p. (x ∷ p.0, p.1)) (cut b text)
 
 -- each of these lines spells a row that fits, and the rows in order lead from one trace to the other
 abbrev pub AddsLines : List (List ℕ) → Lines → Lines → Type 0

@@ -18,9 +18,10 @@ mod trace;
 pub use agreed::Agreed;
 pub use auditor::audit;
 pub use fault::{AddFault, AuditFault};
+pub use mark::Mark;
 pub use mcast_txn::{NoMemory, Sender, Stamp, Topic, TxnId};
 pub use row::{LogRow, QueueRow, SpanRow, TraceRow};
-pub use text::ParseFault;
+pub use text::{Field, ParseFault, first_line, put_line, read_number, split_at_first};
 pub use trace::Trace;
 
 #[cfg(test)]

@@ -4,7 +4,7 @@ use mcast_txn::{Stamp, TxnId};
 
 /// A transaction and its stamp.
 #[derive(Clone, Copy, PartialEq, Eq)]
-pub(crate) struct Mark {
+pub struct Mark {
     pub(crate) id: TxnId,
     pub(crate) stamp: Stamp,
 }

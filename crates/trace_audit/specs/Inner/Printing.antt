@@ -1,8 +1,7 @@
 -- Serves proofs only: rows of a trace as they are sorted and written.
-use Rattle.std.specs.Prelude.{ℕ, Bool, true, false, List, ◌∷◌, decimal}
+use Rattle.std.specs.Prelude.{◌≡◌, ℕ, Bool, true, false, List, ◌∷◌, ◌++◌, decimal}
 use Rattle.std.specs.List.{flat_map}
-use Rattle.mcast_txn.specs.declared.id.Topic.{Topic}
-use Rattle.trace_audit.specs.Text.{topics_text}
+use Rattle.trace_audit.specs.Text.{joined}
 use Rattle.trace_audit.specs.declared.row.TraceRow.{TraceRow}
 use Rattle.trace_audit.specs.declared.row.TraceRow.TheVariants as row
 use Rattle.trace_audit.specs.declared.text.entry.Entry.{Entry}
@@ -14,16 +13,22 @@ entry_row (entry.Log line) = row.Log line.now
 entry_row (entry.Span span) = row.Span span.now
 entry_row (entry.Queue line) = row.Queue line.now
 
--- each topic after a comma
-abbrev pub more_topics : List Topic → List ℕ
-more_topics topics = flat_map (λ t. 44 ∷ decimal t.0) topics
+-- two numbers with this octet between them
+abbrev pub pair_text : ℕ → ℕ → ℕ → List ℕ
+pair_text a b c = decimal a ++ b ∷ decimal c
 
--- a topic, after a comma unless it is the first
-abbrev pub topic_part : Bool → Topic → List ℕ
-topic_part true t = decimal t.0
-topic_part false t = 44 ∷ decimal t.0
+-- a text, after this octet unless it is the first
+abbrev pub part_after : ℕ → Bool → List ℕ → List ℕ
+part_after b true text = text
+part_after b false text = b ∷ text
 
--- what is left to write of topics, of which the first is next, or was written
-abbrev pub left_topics : Bool → List Topic → List ℕ
-left_topics true topics = topics_text topics
-left_topics false topics = more_topics topics
+-- What is left to write of texts with this octet between each two, of which the first is next, or was
+-- written.
+abbrev pub left_after : ℕ → Bool → List (List ℕ) → List ℕ
+left_after b true texts = joined b texts
+left_after b false texts = flat_map (λ t. b ∷ t) texts
+
+-- new is old with something after it, or old itself
+pub record IsLonger (old new : List ℕ) : Type 0 where
+  pub more : List ℕ
+  pub grown : new ≡ old ++ more

@@ -7,7 +7,7 @@ use Rattle.mcast_txn.specs.declared.id.Topic.{Topic}
 use Rattle.mcast_txn.specs.declared.id.TxnId.{TxnId}
 use Rattle.mcast_txn.specs.declared.stamp.Stamp.{Stamp}
 use Rattle.trace_audit.specs.Trace.{Lines}
-use Rattle.trace_audit.specs.Parsing.{onto_first}
+use Rattle.trace_audit.specs.Parsing.{cut, onto_first}
 use Rattle.trace_audit.specs.Rows.{is_misfit, with_row}
 use Rattle.trace_audit.specs.declared.text.parse_fault.ParseFault.{ParseFault}
 use Rattle.trace_audit.specs.declared.text.parse_fault.ParseFault.TheVariants as parse
@@ -18,11 +18,6 @@ infixl 10 ◌>>=◌
 abbrev pub ◌>>=◌ : {A B : Type 0} → Option A → (A → Option B) → Option B
 (Some x) >>= f = f x
 None >>= f = None
-
--- what comes before the first such octet, and what comes after it
-abbrev pub cut : ℕ → List ℕ → Option (List ℕ × List ℕ)
-cut b [] = None
-cut b (x ∷ text) = if x == b then Some ([], text) else option_map (λ p. (x ∷ p.0, p.1)) (cut b text)
 
 -- ---- numbers
 

@@ -1,12 +1,14 @@
 //! Printing an auditor's answer.
 
-ghost use Rattle.std.specs.Prelude.{◌≡◌, ◌++◌, ◌∷◌, IfOk, OnOk};
+ghost use Rattle.std.specs.Prelude.{◌≡◌, ◌++◌, ◌∷◌, [], IfOk, OnOk};
 ghost use Rattle.std.specs.List.{flat_map};
 ghost use Rattle.trace_audit.specs.AuditText.{agreed_line, agreed_text, bad_text, refusal_text};
+ghost use Rattle.trace_audit.specs.Fields.{fields_text};
 ghost use Rattle.trace_audit.specs.Inner.Orders.{told};
 
+use super::field::Field;
 use super::parse_fault::ParseFault;
-use super::printer::{digits, id, number, stamp, topics};
+use super::printer::put_line;
 use crate::agreed::Agreed;
 use crate::fault::AuditFault;
 use crate::row::LogRow;
@@ -43,11 +45,25 @@ fn put_agreed(out: &mut Octets, rows: &[&LogRow]) -> Result<(), NoMemory>
 fn put_row(out: &mut Octets, row: &LogRow) -> Result<(), NoMemory>
     ensures { OnOk result (out.new ≡ out.old ++ agreed_line row.now.row) }
 {
-    out.extend(b"agreed")?;
-    id(out, row.id)?;
-    stamp(out, row.stamp)?;
-    topics(out, &row.topics)?;
-    out.push(b'\n')
+    let topics = Field::Topics(&row.topics);
+    put_line(
+        out,
+        &[
+            Field::Word(b"agreed"),
+            Field::Id(row.id),
+            Field::Stamp(row.stamp),
+            topics,
+        ],
+    )
+}
+
+// A text of one line.
+fn one_line(alloc: Global, fields: &[Field<'_>]) -> Result<Octets, NoMemory>
+    ensures { IfOk result (λ text. text ≡ fields_text fields.now ++ 10 ∷ []) }
+{
+    let mut text = Octets::new(alloc);
+    put_line(&mut text, fields)?;
+    Ok(text)
 }
 
 impl AuditFault {
@@ -55,30 +71,24 @@ impl AuditFault {
     pub fn print(self, alloc: Global) -> Result<Octets, NoMemory>
         ensures { IfOk result (λ text. text ≡ refusal_text self) }
     {
-        let mut text = Octets::new(alloc);
-        text.extend(b"no ")?;
-        digits(&mut text, self.number() as u64)?;
+        let no = Field::Word(b"no");
+        let number = Field::Number(self.number() as u64);
         macro_rules! names {
-            ($($fault:pat => $name:literal $($value:expr)?;)*) => {
+            ($($fault:pat => $name:literal $($field:expr)?;)*) => {
                 match self {
-                    $($fault => {
-                        text.extend($name.as_slice())?;
-                        $(number(&mut text, $value)?;)?
-                    })*
+                    $($fault => one_line(alloc, &[no, number, Field::Word($name) $(, $field)?]),)*
                 }
             };
         }
         names! {
-            AuditFault::NoMemory => b" NoMemory";
-            AuditFault::LogOrder => b" LogOrder";
-            AuditFault::TwoVerdicts => b" TwoVerdicts";
-            AuditFault::SenderOrder => b" SenderOrder";
-            AuditFault::Hole(topic) => b" Hole" topic.0 as u64;
-            AuditFault::QueueRow(sub) => b" QueueRow" sub;
-            AuditFault::SameStamp => b" SameStamp";
+            AuditFault::NoMemory => b"NoMemory";
+            AuditFault::LogOrder => b"LogOrder";
+            AuditFault::TwoVerdicts => b"TwoVerdicts";
+            AuditFault::SenderOrder => b"SenderOrder";
+            AuditFault::Hole(topic) => b"Hole" Field::Topic(topic);
+            AuditFault::QueueRow(sub) => b"QueueRow" Field::Number(sub);
+            AuditFault::SameStamp => b"SameStamp";
         }
-        text.push(b'\n')?;
-        Ok(text)
     }
 }
 
@@ -87,17 +97,14 @@ impl ParseFault {
     pub fn print(self, alloc: Global) -> Result<Octets, NoMemory>
         ensures { IfOk result (λ text. text ≡ bad_text self) }
     {
-        let mut text = Octets::new(alloc);
-        text.extend(b"bad ")?;
-        digits(&mut text, self.number() as u64)?;
+        let bad = Field::Word(b"bad");
+        let number = Field::Number(self.number() as u64);
         match self {
             ParseFault::BadRow(line) => {
-                text.extend(b" BadRow")?;
-                number(&mut text, line as u64)?;
+                let line = Field::Number(line as u64);
+                one_line(alloc, &[bad, number, Field::Word(b"BadRow"), line])
             }
-            ParseFault::NoMemory => text.extend(b" NoMemory")?,
+            ParseFault::NoMemory => one_line(alloc, &[bad, number, Field::Word(b"NoMemory")]),
         }
-        text.push(b'\n')?;
-        Ok(text)
     }
 }

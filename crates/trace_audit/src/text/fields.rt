@@ -1,15 +1,16 @@
 //! The fields of a row's line.
 
-ghost use Rattle.std.specs.Prelude.{◌≡◌, IfOk};
+ghost use Rattle.std.specs.Prelude.{◌≡◌, ◌↔◌, ◌<◌, ◌^◌, ℕ, Some, decimal, IfOk};
 ghost use Rattle.std.specs.Option.{option_map};
-ghost use Rattle.trace_audit.specs.Inner.Reading.{cut, read_on, is_badly_begun, spelled_number, spelled_topic, number_before, topic_before, id_before, spelled_stamp, stamp_before, spelled_end, spelled_topics};
+ghost use Rattle.trace_audit.specs.Parsing.{cut};
+ghost use Rattle.trace_audit.specs.Inner.Reading.{read_on, is_badly_begun, spelled_number, spelled_topic, number_before, topic_before, id_before, spelled_stamp, stamp_before, spelled_end, spelled_topics};
 
 use mcast_txn::{NoMemory, Sender, Stamp, Topic, TxnId};
 use memchr::memchr;
 use std::alloc::Global;
 
-// What comes before the first such octet, and what comes after it.
-pub(crate) fn split_at_first(octet: u8, text: &[u8]) -> Option<(&[u8], &[u8])>
+/// What comes before the first such octet, and what comes after it; `None` where the text lacks it.
+pub fn split_at_first(octet: u8, text: &[u8]) -> Option<(&[u8], &[u8])>
     ensures { option_map (λ p. (p.0.now, p.1.now)) result ≡ cut octet text.now }
 {
     let at = memchr(octet, text)?;
@@ -46,6 +47,14 @@ fn number(text: &[u8]) -> Option<u64>
         return None;
     }
     value(text)
+}
+
+/// The number below 2^64 that a text spells in decimal digits, without sign or leading zero; `None` where it spells none.
+#[tactic(auto, using(crate::proofs::Spelling::is_number))]
+pub fn read_number(text: &[u8]) -> Option<u64>
+    ensures { (n : ℕ) → (result ≡ Some n) ↔ ((text.now ≡ decimal n) × (n < 2 ^ 64)) }
+{
+    number(text)
 }
 
 // The topic that a text spells.

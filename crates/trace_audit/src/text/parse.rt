@@ -67,8 +67,8 @@ impl Trace {
     }
 }
 
-// The first line of a text that isn't empty, and what comes after it.
-fn first_line(text: &[u8]) -> (&[u8], &[u8])
+/// The first line of a text that isn't empty, without its LF, and what comes after it.
+pub fn first_line(text: &[u8]) -> (&[u8], &[u8])
     requires { 0 < length text.now }
     ensures first { lines_of text.now ≡ result.0.now ∷ lines_of result.1.now }
     ensures shorter { length result.1.now < length text.now }

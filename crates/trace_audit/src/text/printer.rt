@@ -1,100 +1,134 @@
-//! Writing a row's line.
+//! Writing lines.
 
-ghost use Rattle.std.specs.Prelude.{◌≡◌, ◌∷◌, ◌++◌, [], decimal, OnOk};
-ghost use Rattle.trace_audit.specs.Inner.Printing.{entry_row, topic_part};
-ghost use Rattle.trace_audit.specs.Text.{id_text, stamp_text, end_text, topics_text, row_text};
+ghost use Rattle.std.specs.Prelude.{◌≡◌, ◌∷◌, ◌++◌, [], decimal, OnOk, OnErr};
+ghost use Rattle.trace_audit.specs.Fields.{field_text, fields_text};
+ghost use Rattle.trace_audit.specs.Inner.Printing.{entry_row, pair_text, part_after, IsLonger};
+ghost use Rattle.trace_audit.specs.Text.{topics_text, row_text};
 
 use super::entry::Entry;
+use super::field::Field;
 use itoa::Buffer;
-use mcast_txn::{NoMemory, Octets, Stamp, Topic, TxnId};
+use mcast_txn::{NoMemory, Octets, Topic};
+
+/// Appends a line: the fields with a space between each two, and LF. After `NoMemory` the list is what it was.
+pub fn put_line(out: &mut Octets, fields: &[Field<'_>]) -> Result<(), NoMemory>
+    ensures ok { OnOk result (out.new ≡ out.old ++ (fields_text fields.now ++ 10 ∷ [])) }
+    ensures err { OnErr result (out.new ≡ out.old) }
+{
+    let len = out.len();
+    let written = put_ended(out, fields);
+    if written.is_err() {
+        out.truncate(len);
+    }
+    written
+}
 
 // Writes a row's line.
 pub(crate) fn put_row(out: &mut Octets, entry: Entry<'_>) -> Result<(), NoMemory>
     ensures { OnOk result (out.new ≡ out.old ++ (row_text (entry_row entry.entry) ++ 10 ∷ [])) }
 {
     macro_rules! rows {
-        ($($variant:ident($row:ident) => $word:literal $($put:ident($value:expr))*;)*) => {
+        ($($variant:ident($row:ident) => $word:literal $($field:ident($value:expr))*;)*) => {
             match entry {
                 $(Entry::$variant($row) => {
-                    out.extend($word.as_slice())?;
-                    $($put(out, $value)?;)*
+                    put_line(out, &[Field::Word($word), $(Field::$field($value)),*])
                 })*
             }
         };
     }
     rows! {
-        Log(row) => b"log" topic(row.topic) id(row.id) stamp(row.stamp) topics(&row.topics);
-        Span(row) => b"span" number(row.sub) topic(row.topic) stamp(row.from) end(row.to);
-        Queue(row) => b"queue" number(row.sub) id(row.id) stamp(row.stamp);
+        Log(row) => b"log" Topic(row.topic) Id(row.id) Stamp(row.stamp) Topics(&row.topics);
+        Span(row) => b"span" Number(row.sub) Topic(row.topic) Stamp(row.from) End(row.to);
+        Queue(row) => b"queue" Number(row.sub) Id(row.id) Stamp(row.stamp);
     }
+}
+
+// Writes fields with a space between each two, and LF.
+fn put_ended(out: &mut Octets, fields: &[Field<'_>]) -> Result<(), NoMemory>
+    ensures ok { OnOk result (out.new ≡ out.old ++ (fields_text fields.now ++ 10 ∷ [])) }
+    ensures err { OnErr result (IsLonger out.old out.new) }
+{
+    put_fields(out, fields)?;
     out.push(b'\n')
 }
 
+// Writes fields with a space between each two.
+fn put_fields(out: &mut Octets, fields: &[Field<'_>]) -> Result<(), NoMemory>
+    ensures ok { OnOk result (out.new ≡ out.old ++ fields_text fields.now) }
+    ensures err { OnErr result (IsLonger out.old out.new) }
+{
+    let mut first = true;
+    for &field in fields {
+        next_field(out, first, field)?;
+        first = false;
+    }
+    Ok(())
+}
+
+// Writes a field, after a space unless it is the first.
+fn next_field(out: &mut Octets, first: bool, field: Field<'_>) -> Result<(), NoMemory>
+    ensures ok { OnOk result (out.new ≡ out.old ++ part_after 32 first (field_text field.entry)) }
+    ensures err { OnErr result (IsLonger out.old out.new) }
+{
+    if !first {
+        out.push(b' ')?;
+    }
+    put_field(out, field)
+}
+
+// Writes a field.
+fn put_field(out: &mut Octets, field: Field<'_>) -> Result<(), NoMemory>
+    ensures ok { OnOk result (out.new ≡ out.old ++ field_text field.entry) }
+    ensures err { OnErr result (IsLonger out.old out.new) }
+{
+    match field {
+        Field::Word(octets) => out.extend(octets),
+        Field::Number(n) => digits(out, n),
+        Field::Topic(topic) => digits(out, topic.0 as u64),
+        Field::Id(id) => pair(out, id.sender.0, b' ', id.seq),
+        Field::Stamp(stamp) | Field::End(Some(stamp)) => {
+            pair(out, stamp.n, b'.', stamp.topic.0 as u64)
+        }
+        Field::End(None) => out.push(b'-'),
+        Field::Topics(topics) => put_topics(out, topics),
+    }
+}
+
 // Writes a number's digits.
-pub(crate) fn digits(out: &mut Octets, n: u64) -> Result<(), NoMemory>
-    ensures { OnOk result (out.new ≡ out.old ++ decimal n) }
+fn digits(out: &mut Octets, n: u64) -> Result<(), NoMemory>
+    ensures ok { OnOk result (out.new ≡ out.old ++ decimal n) }
+    ensures err { OnErr result (out.new ≡ out.old) }
 {
     out.extend(Buffer::new().format(n).as_bytes())
 }
 
-// Writes a space and a number.
-pub(crate) fn number(out: &mut Octets, n: u64) -> Result<(), NoMemory>
-    ensures { OnOk result (out.new ≡ out.old ++ 32 ∷ decimal n) }
+// Writes two numbers' digits with this octet between them.
+fn pair(out: &mut Octets, a: u64, between: u8, b: u64) -> Result<(), NoMemory>
+    ensures ok { OnOk result (out.new ≡ out.old ++ pair_text a between b) }
+    ensures err { OnErr result (IsLonger out.old out.new) }
 {
-    out.push(b' ')?;
-    digits(out, n)
+    digits(out, a)?;
+    out.push(between)?;
+    digits(out, b)
 }
 
-// Writes a space and a topic.
-fn topic(out: &mut Octets, topic: Topic) -> Result<(), NoMemory>
-    ensures { OnOk result (out.new ≡ out.old ++ 32 ∷ decimal topic.0) }
+// Writes topics.
+fn put_topics(out: &mut Octets, topics: &[Topic]) -> Result<(), NoMemory>
+    ensures ok { OnOk result (out.new ≡ out.old ++ topics_text topics.now) }
+    ensures err { OnErr result (IsLonger out.old out.new) }
 {
-    number(out, topic.0 as u64)
-}
-
-// Writes a space and a transaction.
-pub(crate) fn id(out: &mut Octets, id: TxnId) -> Result<(), NoMemory>
-    ensures { OnOk result (out.new ≡ out.old ++ 32 ∷ id_text id) }
-{
-    number(out, id.sender.0)?;
-    number(out, id.seq)
-}
-
-// Writes a space and a stamp.
-pub(crate) fn stamp(out: &mut Octets, stamp: Stamp) -> Result<(), NoMemory>
-    ensures { OnOk result (out.new ≡ out.old ++ 32 ∷ stamp_text stamp) }
-{
-    number(out, stamp.n)?;
-    out.push(b'.')?;
-    digits(out, stamp.topic.0 as u64)
-}
-
-// Writes a space and the end of a span.
-fn end(out: &mut Octets, to: Option<Stamp>) -> Result<(), NoMemory>
-    ensures { OnOk result (out.new ≡ out.old ++ 32 ∷ end_text to) }
-{
-    match to {
-        Some(to) => stamp(out, to),
-        None => out.extend(b" -"),
-    }
-}
-
-// Writes a space and topics.
-pub(crate) fn topics(out: &mut Octets, topics: &[Topic]) -> Result<(), NoMemory>
-    ensures { OnOk result (out.new ≡ out.old ++ 32 ∷ topics_text topics.now) }
-{
-    out.push(b' ')?;
     let mut first = true;
     for &topic in topics {
-        one_topic(out, first, topic)?;
+        next_topic(out, first, topic)?;
         first = false;
     }
     Ok(())
 }
 
 // Writes a topic, after a comma unless it is the first.
-fn one_topic(out: &mut Octets, first: bool, topic: Topic) -> Result<(), NoMemory>
-    ensures { OnOk result (out.new ≡ out.old ++ topic_part first topic) }
+fn next_topic(out: &mut Octets, first: bool, topic: Topic) -> Result<(), NoMemory>
+    ensures ok { OnOk result (out.new ≡ out.old ++ part_after 44 first (decimal topic.0)) }
+    ensures err { OnErr result (IsLonger out.old out.new) }
 {
     if !first {
         out.push(b',')?;

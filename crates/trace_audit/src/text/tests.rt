@@ -1,5 +1,7 @@
 //! Texts of traces: which lines are rows, where the first bad one is, and how a trace is printed.
 
+mod lines;
+
 use super::ParseFault;
 use crate::{AuditFault, Trace, audit};
 use std::alloc::Global;
