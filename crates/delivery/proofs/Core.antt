@@ -18,4 +18,7 @@ pub mod DeliversOfRun
 pub mod ReadingsShown
 pub mod Counts
 pub mod FramesRead
+pub mod StepsOfRun
+pub mod MoveOfStep
+pub mod StepsStepped
 pub mod DeliveryOfRun

@@ -15,6 +15,7 @@ pub mod NumbersRise
 pub mod PlainAgreed
 pub mod PlainDue
 pub mod QueuesGrow
+pub mod RowsEnter
 pub mod Rows
 pub mod SeqsCount
 pub mod SettledLeavesNoneOut

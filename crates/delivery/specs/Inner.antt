@@ -2,7 +2,6 @@
 pub mod Leaving
 pub mod NetInvariant
 pub mod Nexts
-pub mod Readings
 pub mod Rooms
 pub mod Senders
 pub mod Stands

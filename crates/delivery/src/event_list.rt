@@ -1,6 +1,7 @@
 //! Lists of events.
 
-ghost use Rattle.std.specs.Prelude.{◌≡◌, ◌↔◌, ◌<◌, ◌++◌, ◌∷◌, [], IsTrue, IfErr, length, slice_get, Some, OnOk, OnErr};
+ghost use Rattle.std.specs.Prelude.{◌≡◌, ◌↔◌, ◌++◌, ◌∷◌, [], IsTrue, IfErr, length, slice_get, OnOk, OnErr};
+ghost use Rattle.std.specs.Option.{option_map};
 
 use crate::event::Event;
 use std::alloc::{AllocFailed, Global};
@@ -61,12 +62,11 @@ impl EventList {
         self.events.is_empty()
     }
 
-    /// The event at index `i`, from 0.
-    pub fn get(&self, i: usize) -> &Event
-        requires { i < length self.now }
-        ensures { slice_get self.now i ≡ Some result.now }
+    /// The event at index `i`, from 0, if there is one.
+    pub fn get(&self, i: usize) -> Option<&Event>
+        ensures { option_map (λ event. event.now) result ≡ slice_get self.now i }
     {
-        &self.events[i]
+        self.events.get(i)
     }
 
     /// The events, in their order.

@@ -1,6 +1,7 @@
 //! Laws: functions that do nothing, whose contracts are theorems about every run or step of the core.
 
-ghost use Rattle.delivery.specs.Core.Delivery.{RunsDeliver};
+ghost use Rattle.delivery.specs.Core.Delivery.{RunsDeliver, StepsAreKept};
+ghost use Rattle.delivery.specs.Core.Stepped.{StepsHaveStepped};
 ghost use Rattle.delivery.specs.Theorem.Answers.{MovesAreAnswered};
 ghost use Rattle.delivery.specs.Theorem.Examples.{WorkedRows};
 ghost use Rattle.delivery.specs.Theorem.Laws.{AcceptedIsDue, AgreedInSenderOrder, AgreedOnce};
@@ -19,6 +20,7 @@ ghost use Rattle.delivery.specs.Theorem.Spans.{QueuesGrow, SpansEndAtFrontier};
 ghost use Rattle.delivery.specs.Theorem.Reported.{EndsAreAnswered, EndsStay, BegunIsOwn, QueuesAreBounded};
 ghost use Rattle.delivery.specs.Theorem.Reported.{SenderIsOwn, SpansBeginAsAnswered, SpansBeginAtFrontier};
 ghost use Rattle.delivery.specs.Theorem.Reported.{SpansEndAsAnswered};
+ghost use Rattle.delivery.specs.Traces.{RunsAreExplained, TracesAreAccepted, TracesAreComplete};
 
 /// The core's commit list is that of the decisions in the run.
 pub fn commits()
@@ -194,4 +196,24 @@ pub fn examples()
 /// core reports is the one that they tell. The steps may be refused, may find no memory, and may cut a stream anywhere.
 pub fn delivery()
     ensures { RunsDeliver }
+{}
+
+/// Each step of a run of the core, whatever came before it: its outcome is one that its event may have; what is refused changes
+/// nothing; an event at one topic changes no other; tickets, stamps, items and ends of spans are as the rules say.
+pub fn steps()
+    ensures { StepsHaveStepped }
+{}
+
+/// The steps of a run of the core are those of its kept run: what each of its events read is decided by the octets that were
+/// fed and by the outcomes, and by nothing else.
+pub fn readings()
+    ensures { StepsAreKept }
+{}
+
+/// The trace of every run is explained, so an audit of it is a yes unless memory runs out, and complete where all of its
+/// topics are settled.
+pub fn traces_are_explained()
+    ensures explained { RunsAreExplained }
+    ensures accepted { TracesAreAccepted }
+    ensures complete { TracesAreComplete }
 {}

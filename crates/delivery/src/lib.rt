@@ -6,6 +6,7 @@ mod connection_fault;
 mod dues;
 mod event;
 mod event_list;
+mod in_flight;
 mod kept;
 pub mod law;
 mod line;

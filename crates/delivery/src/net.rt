@@ -1,7 +1,10 @@
 //! The core.
 
-ghost use Rattle.std.specs.Prelude.{◌≡◌, ◌≤◌, ◌<◌, ◌+◌, ◌-◌, [], ◌∷◌, ◌++◌, length, slice_get, Some, IfOk, OnOk, OnErr};
-ghost use Rattle.delivery.specs.Nets.{KeptRun, max_capacity, HasTaken, IsDelivered, HasReport};
+ghost use Rattle.std.specs.Prelude.{◌≡◌, ◌≤◌, ◌<◌, ◌+◌, ◌-◌, [], ◌∷◌, ◌++◌, length, slice_get, IfOk, OnOk, OnErr};
+ghost use Rattle.std.specs.Option.{option_map};
+ghost use Rattle.delivery.specs.Nets.{KeptRun, max_capacity, core_of_net, HasTaken, IsDelivered, HasReport};
+ghost use Rattle.delivery.specs.Core.Stepped.{HasStepped};
+ghost use Rattle.delivery.specs.Traces.{IsTraced};
 
 use crate::event::Event;
 use crate::event_list::EventList;
@@ -12,6 +15,7 @@ use crate::topics::Topics;
 use std::alloc::Global;
 use std::marker::Model;
 use stomp_frame::NoMemory;
+use trace_audit::Trace;
 
 /// The greatest capacity of a subscription's queue, in items.
 pub const MAX_CAPACITY: usize = 4096;
@@ -97,12 +101,11 @@ impl Net {
         self.kept.len()
     }
 
-    /// The event at index `i` of the kept run, from 0, and what came of it.
-    pub fn kept(&self, i: usize) -> &Kept
-        requires { i < length self.now.kept }
-        ensures { slice_get self.now.kept i ≡ Some result.now }
+    /// The event at index `i` of the kept run, from 0, and what came of it, if so many were kept.
+    pub fn kept(&self, i: usize) -> Option<&Kept>
+        ensures { option_map (λ kept. kept.now) result ≡ slice_get self.now.kept i }
     {
-        &self.kept[i]
+        self.kept.get(i)
     }
 
     /// What came of all events so far. It takes no memory, and nothing is copied.
@@ -112,6 +115,14 @@ impl Net {
         Report { state: &self.state }
     }
 
+    /// The trace of all events so far: each topic's log, each subscription's span, and what its queue accepted, delivered or
+    /// not. An audit of it is a yes, unless memory runs out (`law::traces_are_explained`).
+    pub fn trace(&self) -> Result<Trace, NoMemory>
+        ensures { IfOk result (λ trace. IsTraced self.now trace) }
+    {
+        self.state.trace()
+    }
+
     /// Takes an event, and keeps it with its outcome at the end of the kept run.
     pub fn step(&mut self, event: Event) -> Outcome
         requires { 0 < self.old.spare }
@@ -119,6 +130,7 @@ impl Net {
           kept = self.old.kept ++ record { event = event; outcome = result } ∷ [];
           spare = self.old.spare - 1;
         } }
+        ensures stepped { HasStepped (core_of_net self.old) (core_of_net self.new) event result }
         ensures delivered { HasReport self.new }
     {
         let outcome = self.state.answer(&event);

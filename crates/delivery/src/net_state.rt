@@ -22,6 +22,7 @@ mod queue_report;
 mod report;
 mod subscribing;
 mod takes;
+mod trace;
 mod turns;
 mod txns;
 

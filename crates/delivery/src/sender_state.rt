@@ -15,6 +15,7 @@ ghost use Rattle.delivery.specs.Inner.Senders.{gate_of, begun_sender, decide_ref
 ghost use Rattle.delivery.specs.Inner.View.{sender_view};
 ghost use Rattle.delivery.specs.Inner.Leaving.{is_busy};
 
+use crate::in_flight::InFlight;
 use crate::refusal::Refusal;
 use crate::sending::Sending;
 use mcast_group::{ProposeFault, Row};
@@ -75,6 +76,7 @@ impl SenderState {
         let Ok(flying) = gate.begin(alloc, txn) else {
             return Err(NoMemory);
         };
+        let flying = InFlight::new(flying);
         let id = flying.id();
         let row = Row {
             id,
@@ -115,7 +117,7 @@ impl SenderState {
                     self.sending = Sending::Idle(gate);
                     Ok((verdict, Row { id, topics, stamp }))
                 }
-                Err((flying, _)) => {
+                Err(flying) => {
                     self.sending = Sending::Flying(flying, row);
                     Err(Refusal::Incomplete)
                 }

@@ -1,8 +1,9 @@
 //! What a sender does with its transaction.
 
+use crate::in_flight::InFlight;
 use mcast_group::{ProposeFault, Row};
 use mcast_txn::Tickets;
-use sender_gate::{Flying, Gate};
+use sender_gate::Gate;
 
 /// What a sender does with its transaction, if one is undecided.
 #[derive(Drop)]
@@ -10,7 +11,7 @@ pub(crate) enum Sending {
     /// None is undecided.
     Idle(Gate),
     /// One is on its way. With it is the row that the commit list is to have of it, whose stamp isn't known yet.
-    Flying(Flying, Row),
+    Flying(InFlight, Row),
     /// A topic refused it, and why: its tickets are to be cancelled.
     Marked(Gate, Tickets, ProposeFault),
 }

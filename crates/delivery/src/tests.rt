@@ -1,13 +1,18 @@
 //! Worked rows by the plain programs, with ample memory; the core's public types.
 
 mod asks;
+mod draws;
 mod event_list;
 mod faults;
 mod made;
 mod net;
+mod past;
 mod printing;
+mod replies;
 mod runs;
+mod subscriptions;
 mod topics;
+mod tracing;
 mod without_memory;
 mod worked_runs;
 

@@ -223,7 +223,7 @@ proposed_case names r older rd c t m (Some fault) z id e a d =
     ∙ (ap (λ b. said (b ∷ past)) (sym a) ∙ ap (λ q. said (answer_to w (Proposes c t q) ∷ past)) e))
 
 -- a proposal that found no memory where the move says so, or found some
-same_memory : (w : World) (c : ℕ) (t : Topic) (m : Bool) (o : Outcome) (r : Option Objection) (f : Option ProposeFault)
+pub same_memory : (w : World) (c : ℕ) (t : Topic) (m : Bool) (o : Outcome) (r : Option Objection) (f : Option ProposeFault)
     → outcome_of (elim r [ None ↦ propose_answer w c t (or_out_of_memory m f) | Some why ↦ Answer.Refused why ]) ≡ Some o
     → outcome_of (elim r [ None ↦ propose_answer w c t (or_out_of_memory (not (is_out_of_memory o)) f) | Some why ↦ Answer.Refused why ]) ≡ Some o
 same_memory w c t m o (Some why) f d = d

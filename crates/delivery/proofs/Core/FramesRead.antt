@@ -282,6 +282,11 @@ are_readings topics capacity steps is_run = record {
   ]);
 }
 
+-- each reader has the core's limits
+pub limits_are : (topics : TopicList) (capacity : ℕ) (steps : List CoreStep) → IsCoreRun topics capacity steps → (c : ℕ)
+    → (unread_at c (core_of topics capacity steps).steps).limits ≡ reader_limits
+limits_are topics capacity steps is_run c = (reads_all topics capacity steps is_run c).0
+
 -- the reader of a connection whose frames may be read has returned no fault
 pub unanswered : (topics : TopicList) (capacity : ℕ) (steps : List CoreStep) → IsCoreRun topics capacity steps → (c : ℕ)
     → first_refusal (needs_idle (core_of topics capacity steps).world c) ≡ None

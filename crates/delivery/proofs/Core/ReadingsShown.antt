@@ -43,7 +43,7 @@ framed None None (Some x) fault e = ap has_frame (sym (some_same _ fault e))
 framed None None None fault e = none_some fault e
 
 -- where there is none, the frame's move isn't refused
-unrefused : (a : Option CaseFault) (b : Option SessionFault) (c : Option Objection)
+pub unrefused : (a : Option CaseFault) (b : Option SessionFault) (c : Option Objection)
     → option_or (option_map ConnectionFault.Frame a) (option_or (option_map ConnectionFault.Session b) (option_map (λ why. frame_no_memory) c)) ≡ None
     → c ≡ None
 unrefused (Some x) b c e = none_some _ (sym e)
@@ -55,7 +55,8 @@ committed_said : (w : World) (c : ℕ) (sends : List SentMessage) (o : Outcome) 
 committed_said w c [] o d = ap says_frame (sym (some_same _ o d))
 committed_said w c (first ∷ others) o d = ap says_frame (sym (some_same _ o d))
 
-effect_of : (w : World) (mv : Move) (o : Outcome) → move_refusal w mv ≡ None → In o (option_to_list (outcome_of (answer_to w mv))) → outcome_of (move_answer w mv) ≡ Some o
+-- an outcome of a move that isn't refused is its answer's
+pub effect_of : (w : World) (mv : Move) (o : Outcome) → move_refusal w mv ≡ None → In o (option_to_list (outcome_of (answer_to w mv))) → outcome_of (move_answer w mv) ≡ Some o
 effect_of w mv o n i = ap outcome_of (sym (answer_is w mv n)) ∙ in_option o _ i
 
 -- the outcome of an accepted frame says that it was read
@@ -92,7 +93,8 @@ found k c f left o None e i = elim (In-append_cases o (frame_outcome k c f) _ i)
   | inr j ↦ faulted (Reading.Finds f left) frame_no_memory o refl j
 ]
 
-idle : (k : Core) (c : ℕ) (rd : Reading) (o : Outcome) → In o (reading_outcomes k c rd) → Shows rd o
+-- a Next that isn't refused shows what it read
+pub idle : (k : Core) (c : ℕ) (rd : Reading) (o : Outcome) → In o (reading_outcomes k c rd) → Shows rd o
 idle k c Reading.Nothing o i = faulted Reading.Nothing ConnectionFault.ReaderNoMemory o refl i
 idle k c (Reading.Waits left) o (inl e) = read (Reading.Waits left) o false (ap says_frame (sym e)) refl
 idle k c (Reading.Waits left) o (inr i) = absurd i

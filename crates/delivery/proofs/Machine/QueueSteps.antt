@@ -11,6 +11,7 @@ use Rattle.mcast_group.proofs.Parts.{none_some}
 use Rattle.delivery.specs.Machine.World.{World, subscription_at}
 use Rattle.delivery.specs.Machine.Observed.{entry_items, entry_to}
 use Rattle.delivery.specs.Machine.Moves.{queue_has_room, verdict_in}
+use Rattle.delivery.proofs.Machine.TopicSteps.{map_same, map_map}
 use Rattle.delivery.proofs.Theorem.HandedIsPrefix.{length_push}
 
 -- from one end and queue to the next: an end stays and its queue with it, the queue keeps its bound, and it is full where it ends
@@ -96,14 +97,6 @@ pub record Goes (w : World) (x y : TopicState) : Type 0 where
   pub are : y.subscriptions ≡ map step x.subscriptions
   pub number : (e : Entry) → (step e).number ≡ e.number
   pub moves : (e : Entry) → Moves (subscription_at w e.number).taken w.capacity e.to e.accepted (step e).to (step e).accepted
-
-map_same : {X : Type 0} (xs : List X) → xs ≡ map (λ x. x) xs
-map_same [] = refl
-map_same (x ∷ xs) = ap (λ z. x ∷ z) (map_same xs)
-
-map_map : {X : Type 0} (f g : X → X) (xs : List X) → map g (map f xs) ≡ map (λ x. g (f x)) xs
-map_map f g [] = refl
-map_map f g (x ∷ xs) = ap (λ z. g (f x) ∷ z) (map_map f g xs)
 
 -- Goes holds where the subscriptions stay
 pub Goes-same : (w : World) (x y : TopicState) → y.subscriptions ≡ x.subscriptions → Goes w x y

@@ -104,11 +104,13 @@ pub record Entries (x y : TopicState) : Type 0 where
   pub from : (e : Entry) → (step e).from ≡ e.from
   pub grows : (e : Entry) → More e.accepted (step e).accepted
 
-map_same : {X : Type 0} (xs : List X) → xs ≡ map (λ x. x) xs
+-- each value of a list by itself
+pub map_same : {X : Type 0} (xs : List X) → xs ≡ map (λ x. x) xs
 map_same [] = refl
 map_same (x ∷ xs) = ap (λ z. x ∷ z) (map_same xs)
 
-map_map : {X : Type 0} (f g : X → X) (xs : List X) → map g (map f xs) ≡ map (λ x. g (f x)) xs
+-- by one function, and then by another
+pub map_map : {X : Type 0} (f g : X → X) (xs : List X) → map g (map f xs) ≡ map (λ x. g (f x)) xs
 map_map f g [] = refl
 map_map f g (x ∷ xs) = ap (λ z. g (f x) ∷ z) (map_map f g xs)
 

@@ -322,7 +322,7 @@ stepped_case step true x e o p ih k = ap (λ z. Some (step z)) (some_same x e k)
 stepped_case step false x e o p ih k = ih k
 
 -- where each subscription makes a step that keeps its number, the one of a number is what it was after its step
-find_stepped : (n : ℕ) (step : Entry → Entry) → ((e : Entry) → (step e).number ≡ e.number) → (es : List Entry) (e : Entry) → find_entry n es ≡ Some e → find_entry n (map step es) ≡ Some (step e)
+pub find_stepped : (n : ℕ) (step : Entry → Entry) → ((e : Entry) → (step e).number ≡ e.number) → (es : List Entry) (e : Entry) → find_entry n es ≡ Some e → find_entry n (map step es) ≡ Some (step e)
 find_stepped n step number [] e k = none_some e k
 find_stepped n step number (x ∷ es) e k =
     subst (λ (a : ℕ). cond (a == n) (Some (step x)) (find_entry n (map step es)) ≡ Some (step e)) (sym (number x))

@@ -1,14 +1,17 @@
 -- What a net keeps: it is delivered, and it grows by a step.
-use Rattle.std.proofs.Common.{◌≡◌, ℕ, ◌-◌, List, [], ◌∷◌, ◌++◌, map, refl, sym, ap, subst, ◌∙◌, append_assoc, append-nil}
-use Rattle.std.proofs.lemmas.List.{map-append}
+use Rattle.std.proofs.Common.{◌≡◌, ℕ, ◌-◌, List, [], ◌∷◌, ◌++◌, map, length, reverse, refl, sym, ap, subst, ◌∙◌, append_assoc, append-nil}
+use Rattle.std.proofs.lemmas.List.{map-append, reverse-reverse, reverse-append}
 use Rattle.std.proofs.lemmas.Grind.{reverse_onto}
 use Rattle.delivery.specs.declared.event.Event.{Event}
 use Rattle.delivery.specs.declared.outcome.Outcome.{Outcome}
 use Rattle.delivery.specs.declared.kept.Kept.{Kept}
 use Rattle.delivery.specs.Topics.{TopicList}
-use Rattle.delivery.specs.Nets.{KeptRun, HasTaken, IsDelivered}
+use Rattle.delivery.specs.Nets.{KeptRun, HasTaken, IsDelivered, HasReport, steps_of_net, core_of_net}
 use Rattle.delivery.specs.Machine.World.{World}
-use Rattle.delivery.specs.Core.Steps.{kept_of}
+use Rattle.delivery.specs.Core.Steps.{CoreStep, kept_of}
+use Rattle.delivery.specs.Core.Readings.{reading_at, steps_of}
+use Rattle.delivery.specs.Core.Outcomes.{IsCoreRun}
+use Rattle.delivery.specs.Core.Stepped.{HasStepped}
 use Rattle.delivery.specs.Core.State.{Core, core_of}
 use Rattle.delivery.specs.Core.Reports.{Report, report_of}
 use Rattle.delivery.specs.Core.Delivery.{Delivery, kept_run}
@@ -18,6 +21,8 @@ use Rattle.delivery.specs.Inner.View.{View, view_of}
 use Rattle.delivery.specs.Inner.ViewReports.{report_in}
 use Rattle.delivery.proofs.Core.AccountOfRun.{run_of, world_is, core_is}
 use Rattle.delivery.proofs.Core.DeliveryOfRun.{delivery}
+use Rattle.delivery.proofs.Core.StepsOfRun.{steps_are}
+use Rattle.delivery.proofs.Core.StepsStepped.{steps_stepped}
 use Rattle.delivery.proofs.Theorem.SpansAsAnswered.{known}
 use Rattle.delivery.proofs.Views.ReportOfView.{reported}
 
@@ -34,20 +39,48 @@ capacity_kept topics capacity kept held keeps =
 
 -- ---- its report
 
+-- what a net keeps are its steps
+pub steps_kept : (net : KeptRun) (held : View) (keeps : KeepsRun net.topics net.capacity net.kept held) → keeps.steps ≡ steps_of_net net
+steps_kept net held keeps =
+    let kept : reverse net.kept ≡ map kept_of keeps.steps = ap (λ (run : List Kept). reverse run) keeps.are_kept ∙ reverse-reverse (map kept_of keeps.steps) in
+    steps_are net.topics net.capacity keeps.steps keeps.is_run ∙ ap steps_of (sym kept)
+
 -- the report of what a net holds is delivered
 pub is_delivered : (net : KeptRun) (held : View) → KeepsRun net.topics net.capacity net.kept held → IsDelivered net (report_in held)
 is_delivered net held keeps =
     let k = core_of net.topics net.capacity keeps.steps in
+    let same : keeps.steps ≡ steps_of_net net = steps_kept net held keeps in
     let is_report : report_in held ≡ report_of k = ap report_in keeps.view ∙ reported k in
     let delivered : Delivery net.topics (kept_run keeps.steps) (report_of k) = delivery net.topics net.capacity keeps.steps keeps.as_many keeps.is_run in
     record {
-      steps = keeps.steps;
-      are_kept = keeps.are_kept;
-      is_run = keeps.is_run;
-      is_report = is_report;
+      are_kept = keeps.are_kept ∙ ap kept_run same;
+      is_run = subst (λ (steps : List CoreStep). IsCoreRun net.topics net.capacity steps) same keeps.is_run;
+      is_report = is_report ∙ ap (λ (steps : List CoreStep). report_of (core_of net.topics net.capacity steps)) same;
       delivery = subst (λ (r : Report). Delivery net.topics net.kept r) (sym is_report)
           (subst (λ (kept : List Kept). Delivery net.topics kept (report_of k)) (sym keeps.are_kept) delivered);
     }
+
+-- so the report of its core is
+pub has_report : (net : KeptRun) (held : View) → KeepsRun net.topics net.capacity net.kept held → HasReport net
+has_report net held keeps =
+    let is = is_delivered net held keeps in subst (IsDelivered net) is.is_report is
+
+-- the last of what a net keeps was a step of its core
+pub has_stepped : (old new : KeptRun) (held : View) (e : Event) (o : Outcome) → KeepsRun new.topics new.capacity new.kept held → new.topics ≡ old.topics
+    → new.capacity ≡ old.capacity → new.kept ≡ old.kept ++ record { event = e; outcome = o } ∷ [] → HasStepped (core_of_net old) (core_of_net new) e o
+has_stepped old new held e o keeps topics capacity kept =
+    let one : Kept = record { event = e; outcome = o } in
+    let before = steps_of_net old in let step = step_of e (reading_at before e o) o in
+    let turned : reverse new.kept ≡ one ∷ reverse old.kept = ap (λ (run : List Kept). reverse run) kept ∙ reverse-append old.kept (one ∷ []) in
+    let steps : steps_of_net new ≡ step ∷ before = ap steps_of turned in
+    let is = is_delivered new held keeps in
+    let run : IsCoreRun old.topics old.capacity (step ∷ before) =
+    subst (λ (ss : List CoreStep). IsCoreRun old.topics old.capacity ss) steps
+    (subst (λ (n : ℕ). IsCoreRun old.topics n (steps_of_net new)) capacity (subst (λ (t : TopicList). IsCoreRun t new.capacity (steps_of_net new)) topics is.is_run)) in
+    let many : length old.topics.clocks ≡ length old.topics.names = subst (λ (t : TopicList). length t.clocks ≡ length t.names) topics keeps.as_many in
+    let core : core_of_net new ≡ core_of old.topics old.capacity (step ∷ before) =
+    (λ i. core_of (topics i) (capacity i) (steps i)) in
+    subst (λ (k : Core). HasStepped (core_of_net old) k e o) (sym core) (steps_stepped old.topics old.capacity step before many run)
 
 -- ---- a step
 
@@ -65,6 +98,7 @@ grown topics capacity kept held new e o keeps answers =
     let step = step_of e makes.reading o in
     record {
       as_many = keeps.as_many;
+      few = keeps.few;
       steps = step ∷ keeps.steps;
       are_kept = ap (λ (older : List Kept). older ++ kept_of step ∷ []) keeps.are_kept
           ∙ sym (reverse_onto (map kept_of keeps.steps) (kept_of step) []);

@@ -1,9 +1,10 @@
 -- Lists of values by their numbers, and new topics.
-use Rattle.std.proofs.Common.{◌≡◌, ◌≢◌, ℕ, zero, suc, ◌+◌, ◌<◌, ◌≤◌, List, [], ◌∷◌, ◌++◌, map, length, get_or, set, refl, ap, ◌∙◌, arith, ltb, Bool, true, false, cond, Some, None}
+use Rattle.std.proofs.Common.{◌≡◌, ◌≢◌, ℕ, zero, suc, ◌+◌, ◌<◌, ◌≤◌, List, [], ◌∷◌, ◌++◌, map, length, get_or, set, refl, ap, ◌∙◌, arith, ltb, inl, inr, Bool, true, false, cond, Some, None}
 use Rattle.std.specs.List.{position, position_or_len}
 use Rattle.std.proofs.lemmas.Bool.{ltb-false}
 use Rattle.std.proofs.Common.{take}
 use Rattle.std.proofs.lemmas.List.{map-append, take_more, length-take}
+use Rattle.mcast_txn.specs.Lists.{In}
 use Rattle.mcast_group.specs.Machine.{TopicState, new_topic}
 use Rattle.mcast_group.specs.Group.{GroupState}
 use Rattle.delivery.specs.Machine.World.{World, new_topics}
@@ -109,3 +110,9 @@ end_is p xs e = go (ltb (position_or_len p xs) (length xs)) refl e
     go : (b : Bool) → ltb (position_or_len p xs) (length xs) ≡ b → cond b (Some (position_or_len p xs)) None ≡ None → length xs ≤ position_or_len p xs
     go true k e = cc
     go false k e = ltb-false (position_or_len p xs) (length xs) k
+
+-- two functions that agree on each value of a list
+pub map_alike : {X Y : Type 0} (f g : X → Y) (xs : List X) → ((x : X) → In x xs → f x ≡ g x) → map f xs ≡ map g xs
+map_alike f g [] same = refl
+map_alike {Y = Y} f g (x ∷ xs) same =
+    ap (λ (y : Y). y ∷ map f xs) (same x (inl refl)) ∙ ap (λ (ys : List Y). g x ∷ ys) (map_alike f g xs (λ z here. same z (inr here)))

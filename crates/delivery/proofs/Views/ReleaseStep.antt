@@ -27,6 +27,7 @@ use Rattle.delivery.specs.Core.Steps.{Reading}
 use Rattle.delivery.specs.Core.State.{Core}
 use Rattle.delivery.specs.Inner.Stands.{Makes, step_of}
 use Rattle.delivery.specs.Inner.View.{View, view_of, view_after, group_view, no_group, queue_room}
+use Rattle.delivery.proofs.Views.ListLemmas.{map_alike}
 use Rattle.delivery.proofs.Machine.QueueSteps.{Goes, release_goes}
 use Rattle.delivery.proofs.Views.QuietSteps.{quiet_view, release_is_quiet}
 use Rattle.delivery.proofs.Views.StepLemmas.{bool_cases, made_world, made_answer, in_outcome, refused_makes}
@@ -56,11 +57,6 @@ takes_same w x e f here same = ap (λ (r : Option Room). takes_in r e) (room_fou
 
 -- ---- a release
 
-map_same : {X Y : Type 0} (f g : X → Y) (xs : List X) → ((x : X) → In x xs → f x ≡ g x) → map f xs ≡ map g xs
-map_same f g [] same = refl
-map_same {Y = Y} f g (x ∷ xs) same =
-    ap (λ (y : Y). y ∷ map f xs) (same x (inl refl)) ∙ ap (λ (ys : List Y). g x ∷ ys) (map_same f g xs (λ z here. same z (inr here)))
-
 entry_same : (t u : Entry → Bool) (f : Stamp) (i : Item) (e : Entry) → t e ≡ u e → entry_after t f i e ≡ entry_after u f i e
 entry_same t u f i e same = ap (λ (b : Bool). entry_after (λ _. b) f i e) same
 
@@ -69,7 +65,7 @@ released_same : (t u : Entry → Bool) (x : TopicState) (o : Option Pending) →
 released_same t u x None same = refl
 released_same t u x (Some p) same =
     ap (λ (es : List Entry). record (after_release_if u x (Some p)) { subscriptions = es })
-    (map_same (entry_after t x.frontier (item_of p)) (entry_after u x.frontier (item_of p)) x.subscriptions
+    (map_alike (entry_after t x.frontier (item_of p)) (entry_after u x.frontier (item_of p)) x.subscriptions
     (λ e here. entry_same t u x.frontier (item_of p) e (same e here)))
 
 map_step : {Y : Type 0} (f : ℕ → Y) (step : Entry → Entry) → ((e : Entry) → (step e).number ≡ e.number) → (es : List Entry)

@@ -1,12 +1,12 @@
 -- The report of what the code holds of a core is that core's.
-use Rattle.std.proofs.Common.{◌≡◌, ℕ, zero, suc, ◌+◌, ◌<◌, ◌≤◌, ◌==◌, Bool, false, cond, List, [], ◌∷◌, map, take, length, get_or, Option, Some, None, inl, inr, refl, sym, ap, ◌∙◌, arith}
+use Rattle.std.proofs.Common.{◌≡◌, ℕ, zero, suc, ◌+◌, ◌<◌, ◌≤◌, ◌==◌, Bool, false, cond, List, [], ◌∷◌, map, take, length, Option, Some, None, inl, inr, refl, sym, ap, ◌∙◌, arith}
 use Rattle.std.proofs.Common.{eq-eqb}
 use Rattle.std.specs.Prelude.{slice_get}
 use Rattle.std.specs.List.{enumerate_from}
 use Rattle.std.specs.Option.{option_map, option_and_then}
 use Rattle.std.proofs.lemmas.Bool.{eqb-true, true≢false}
-use Rattle.std.proofs.lemmas.Option.{slice_get-get_or, slice_get_past, slice_get-map, slice_get_within, get_or_from_slice_get}
-use Rattle.std.proofs.lemmas.List.FromFn.{length-enumerate_from, get_or-enumerate_from}
+use Rattle.std.proofs.lemmas.Option.{slice_get-get_or, slice_get_past}
+use Rattle.std.proofs.lemmas.List.FromFn.{length-enumerate_from}
 use Rattle.std.proofs.lemmas.List.{length-map, get_or-map}
 use Rattle.mcast_txn.specs.declared.id.Topic.{Topic}
 use Rattle.mcast_txn.specs.declared.stamp.Stamp.{Stamp}
@@ -20,10 +20,10 @@ use Rattle.mcast_group.specs.Machine.{TopicState, Entry, EntryEnd, new_topic, fi
 use Rattle.delivery.specs.Machine.World.{World, subscription_at, topic_at, entry_at}
 use Rattle.delivery.specs.Machine.Observed.{entry_items, entry_to}
 use Rattle.delivery.specs.Core.Output.{text_out, sub_id_text}
-use Rattle.delivery.specs.Core.Reports.{QueueReport, Report, queue_report, each_number, report_of}
+use Rattle.delivery.specs.Core.Reports.{QueueReport, queue_report, each_number, report_of}
 use Rattle.delivery.specs.Core.Steps.{accepted_of}
 use Rattle.delivery.specs.Core.State.{Core, unread_at}
-use Rattle.delivery.specs.Inner.View.{View, SubView, LineView, view_of, group_view, queue_room, sub_view, left_view, LeftView, line_view}
+use Rattle.delivery.specs.Inner.View.{View, SubView, LineView, view_of, group_view, queue_room, sub_view, left_view, line_view}
 use Rattle.delivery.specs.Inner.ViewReports.{report_in, sub_report, open_report, closed_report, lag_of, lag_in, queue_shown, queued_items, handed_items}
 use Rattle.delivery.proofs.Theorem.SpansAsAnswered.{beyond, within}
 use Rattle.delivery.proofs.Views.ListLemmas.{each_number-same}
@@ -214,37 +214,18 @@ subs_length v =
     length-map (enumerate_from 0 v.subs) (λ (p : ℕ × SubView). sub_report v.groups p.0 p.1)
     ∙ length-enumerate_from 0 v.subs
 
--- the one of a number
-pub sub_reported : (v : View) (s : ℕ) (x : SubView) → slice_get v.subs s ≡ Some x → slice_get (report_in v).subscriptions s ≡ Some (sub_report v.groups s x)
-sub_reported v s x is =
-    let there : s < length v.subs = slice_get_within v.subs s x is in
-    let many : s < length (enumerate_from 0 v.subs) = omega (arith, there, length-enumerate_from 0 v.subs) in
+-- f of each number and its value, at an index
+at_number : {X Y : Type 0} (f : ℕ × X → Y) (i : ℕ) (xs : List X) (s : ℕ)
+    → slice_get (map f (enumerate_from i xs)) s ≡ option_map (λ (x : X). f (i + s, x)) (slice_get xs s)
+at_number f i [] s = refl
+at_number {X = X} f i (x ∷ xs) zero = ap (λ (n : ℕ). Some (f (n, x))) (omega arith)
+at_number {X = X} {Y = Y} f i (x ∷ xs) (suc s) =
+    let next : i + 1 + s ≡ i + suc s = omega arith in
+    at_number f (i + 1) xs s ∙ ap (λ (n : ℕ). option_map (λ (y : X). f (n, y)) (slice_get xs s)) next
+
+-- the one of a number, if there is one
+pub sub_reported : (v : View) (s : ℕ) → slice_get (report_in v).subscriptions s ≡ option_map (sub_report v.groups s) (slice_get v.subs s)
+sub_reported v s =
     let first : 0 + s ≡ s = omega arith in
-    slice_get-map (λ (p : ℕ × SubView). sub_report v.groups p.0 p.1) (enumerate_from 0 v.subs) s
-    ∙ (ap (λ (o : Option (ℕ × SubView)). option_map (λ (p : ℕ × SubView). sub_report v.groups p.0 p.1) o)
-    (slice_get-get_or (enumerate_from 0 v.subs) s (0, x) many ∙ ap {B = Option (ℕ × SubView)} (λ (p : ℕ × SubView). Some p) (get_or-enumerate_from 0 v.subs s (0, x) there))
-    ∙ ap (λ (p : ℕ × SubView). Some (sub_report v.groups p.0 p.1)) (pair_is (0 + s, get_or v.subs s x) (s, x) first (get_or_from_slice_get v.subs s x x is)))
-  where
-    pair_is : (p q : ℕ × SubView) → p.0 ≡ q.0 → p.1 ≡ q.1 → p ≡ q
-    pair_is p q e f = λ i. (e i, f i)
-
--- a closed one
-pub closed_reported : (v : View) (s : ℕ) (x : SubView) (left : LeftView) → slice_get v.subs s ≡ Some x → x.left ≡ Some left
-    → slice_get (report_in v).subscriptions s ≡ Some (closed_report x left)
-closed_reported v s x left is has =
-    sub_reported v s x is
-    ∙ ap (λ (o : Option LeftView). Some (elim o [ None ↦ open_report v.groups s x | Some l ↦ closed_report x l ])) has
-
--- one that isn't closed
-pub open_reported : (v : View) (s : ℕ) (x : SubView) → slice_get v.subs s ≡ Some x → x.left ≡ None
-    → slice_get (report_in v).subscriptions s ≡ Some (open_report v.groups s x)
-open_reported v s x is has =
-    sub_reported v s x is
-    ∙ ap (λ (o : Option LeftView). Some (elim o [ None ↦ open_report v.groups s x | Some l ↦ closed_report x l ])) has
-
--- the subscription that was read at a reported number
-pub sub_here : (v : View) (r : Report) (s : ℕ) (x : SubView) → report_in v ≡ r → s < length r.subscriptions → x ≡ get_or v.subs s x
-    → slice_get v.subs s ≡ Some x
-sub_here v r s x is there read =
-    let many : length r.subscriptions ≡ length v.subs = ap (λ (z : Report). length z.subscriptions) (sym is) ∙ subs_length v in
-    slice_get-get_or v.subs s x (omega (arith, many, there)) ∙ ap (λ (y : SubView). Some y) (sym read)
+    at_number (λ (p : ℕ × SubView). sub_report v.groups p.0 p.1) 0 v.subs s
+    ∙ ap (λ (n : ℕ). option_map (sub_report v.groups n) (slice_get v.subs s)) first

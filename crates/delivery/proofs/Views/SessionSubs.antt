@@ -45,7 +45,7 @@ use Rattle.delivery.proofs.Theorem.NeverRefused.{entries_are_there}
 use Rattle.delivery.proofs.Theorem.SpansAsAnswered.{within}
 use Rattle.delivery.proofs.Core.AccountOfRun.{run_of, world_is}
 use Rattle.delivery.proofs.Core.Speaking.{open_in}
-use Rattle.delivery.proofs.Views.ListLemmas.{get_or-each_number, length-each_number}
+use Rattle.delivery.proofs.Views.ListLemmas.{get_or-each_number, length-each_number, map_alike}
 use Rattle.delivery.proofs.Views.Closing.{live_of_own, live_unclosed}
 use Rattle.delivery.proofs.Views.Subscribing.{live_push}
 use Rattle.delivery.proofs.Views.Standings.{stays_shut, open_there, differ}
@@ -106,11 +106,6 @@ live_there w c s here =
       there = subst (λ n. n < length w.subscriptions) same h.there;
       live = subst (λ n. is_live c (subscription_at w n) ≡ true) same h.live;
     }
-
-map_alike : {X Y : Type 0} (f g : X → Y) (xs : List X) → ((x : X) → In x xs → f x ≡ g x) → map f xs ≡ map g xs
-map_alike f g [] same = refl
-map_alike {Y = Y} f g (x ∷ xs) same =
-    ap (λ (y : Y). y ∷ map f xs) (same x (inl refl)) ∙ ap (λ (ys : List Y). g x ∷ ys) (map_alike f g xs (λ z here. same z (inr here)))
 
 any_none : {X : Type 0} (p : X → Bool) (xs : List X) → find p xs ≡ None → list_any p xs ≡ false
 any_none p [] e = refl

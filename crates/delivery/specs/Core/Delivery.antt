@@ -25,6 +25,7 @@ use Rattle.delivery.specs.Core.Account.{released_log, released_frontier, beginni
 use Rattle.delivery.specs.Core.Output.{text_out}
 use Rattle.delivery.specs.Core.State.{core_of}
 use Rattle.delivery.specs.Core.Outcomes.{IsCoreRun}
+use Rattle.delivery.specs.Core.Readings.{steps_of}
 use Rattle.delivery.specs.Core.Reports.{QueueReport, Report, report_of, queue_in, log_in, out_in, span_of}
 
 -- ---- where spans begin and end
@@ -112,6 +113,12 @@ pub record Delivery (topics : TopicList) (kept : List Kept) (r : Report) : Type 
   pub counts : (length r.logs ≡ length topics.names) × (length r.outs ≡ opened_in steps)
 
 -- ---- of every run
+
+-- A kept run has one list of steps: what each Next read is decided by the octets and the outcomes.
+abbrev pub StepsAreKept : Type 0
+StepsAreKept =
+    (topics : TopicList) (capacity : ℕ) (steps : List CoreStep) → IsCoreRun topics capacity steps
+    → steps ≡ steps_of (map kept_of steps)
 
 -- the kept run of these steps, the oldest event first
 abbrev pub kept_run : List CoreStep → List Kept

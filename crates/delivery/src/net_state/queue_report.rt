@@ -1,6 +1,7 @@
 //! Subscriptions as they are reported.
 
-ghost use Rattle.std.specs.Prelude.{◌≡◌, ◌<◌, length, take, slice_get, Some};
+ghost use Rattle.std.specs.Prelude.{◌≡◌, length, take, slice_get};
+ghost use Rattle.std.specs.Option.{option_map};
 
 use mcast_group::Cause;
 use mcast_txn::{Released, Stamp, Topic};
@@ -75,16 +76,11 @@ impl<'a> QueueReport<'a> {
         }
     }
 
-    /// The item at index `i`, from 0, of those that its queue accepted.
-    pub fn queued(&self, i: usize) -> &'a Released
-        requires { i < length self.now.queued }
-        ensures { slice_get self.now.queued i ≡ Some result.now }
+    /// The item at index `i`, from 0, of those that its queue accepted, if it accepted so many.
+    pub fn queued(&self, i: usize) -> Option<&'a Released>
+        ensures { option_map (λ item. item.now) result ≡ slice_get self.now.queued i }
     {
-        let item = match self.queue {
-            Some(queue) => queue.get(i),
-            None => None,
-        };
-        item.unwrap()
+        self.queue?.get(i)
     }
 
     /// How many of its items were delivered: the first of those that its queue accepted.

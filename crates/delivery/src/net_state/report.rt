@@ -1,12 +1,13 @@
 //! Reports of the core.
 
-ghost use Rattle.std.specs.Prelude.{◌≡◌, ◌<◌, [], length, get_or, slice_get, Some};
+ghost use Rattle.std.specs.Prelude.{◌≡◌, [], length, get_or, slice_get};
 ghost use Rattle.std.specs.Option.{option_map};
 ghost use Rattle.sub_queue.specs.VecQueue.{shown_of};
-ghost use Rattle.delivery.specs.Inner.ViewReports.{lag_in, queue_shown};
+ghost use Rattle.delivery.specs.Inner.ViewReports.{lag_in, queue_shown, sub_report};
 
 use crate::net_state::NetState;
 use crate::net_state::queue_report::QueueReport;
+use crate::sub::Sub;
 use mcast_group::{Cause, Row, SubState};
 use mcast_txn::{Stamp, Topic};
 use std::marker::Model;
@@ -37,14 +38,12 @@ impl<'a> Report<'a> {
         state.commits.rows().len()
     }
 
-    /// The commit at index `i`, from 0 in the order of Decide: its transaction, its topics and its stamp.
-    pub fn commit(&self, i: usize) -> &'a Row
-        requires { i < length self.now.commits }
-        ensures { slice_get self.now.commits i ≡ Some result.now }
+    /// The commit at index `i`, from 0 in the order of Decide, if there is one: its transaction, its topics and its stamp.
+    pub fn commit(&self, i: usize) -> Option<&'a Row>
+        ensures { option_map (λ row. row.now) result ≡ slice_get self.now.commits i }
     {
         let state = self.state;
-        let rows = state.commits.rows();
-        &rows[i]
+        state.commits.rows().get(i)
     }
 
     /// How many topics there are.
@@ -55,25 +54,23 @@ impl<'a> Report<'a> {
         state.groups.len()
     }
 
-    /// How many rows the log of the topic of number `t` has.
+    /// How many rows the log of the topic of number `t` has: none where there is no such topic.
     pub fn log_len(&self, t: usize) -> usize
-        requires { t < length self.now.logs }
         ensures { result ≡ length (get_or self.now.logs t []) }
     {
         let state = self.state;
-        let group = &state.groups[t];
-        group.held_len()
+        match state.groups.get(t) {
+            Some(group) => group.held_len(),
+            None => 0,
+        }
     }
 
-    /// The row at index `i`, from 0, of the log of the topic of number `t`.
-    pub fn log_row(&self, t: usize, i: usize) -> &'a Row
-        requires named { t < length self.now.logs }
-        requires within { i < length (get_or self.now.logs t []) }
-        ensures { slice_get (get_or self.now.logs t []) i ≡ Some result.now }
+    /// The row at index `i`, from 0, of the log of the topic of number `t`, if there is one.
+    pub fn log_row(&self, t: usize, i: usize) -> Option<&'a Row>
+        ensures { option_map (λ row. row.now) result ≡ slice_get (get_or self.now.logs t []) i }
     {
         let state = self.state;
-        let group = &state.groups[t];
-        group.held(i).unwrap()
+        state.groups.get(t)?.held(i)
     }
 
     /// How many subscriptions there were, closed ones too.
@@ -84,34 +81,13 @@ impl<'a> Report<'a> {
         state.subs.len()
     }
 
-    /// The subscription of number `s`.
-    pub fn subscription(&self, s: usize) -> QueueReport<'a>
-        requires { s < length self.now.subscriptions }
-        ensures { slice_get self.now.subscriptions s ≡ Some result }
+    /// The subscription of number `s`, if there is one.
+    pub fn subscription(&self, s: usize) -> Option<QueueReport<'a>>
+        ensures { result ≡ slice_get self.now.subscriptions s }
     {
         let state = self.state;
-        let sub = &state.subs[s];
-        let topic = sub.topic;
-        let from = sub.from;
-        match &sub.left {
-            Some(left) => QueueReport {
-                topic,
-                from,
-                to: Some(left.to),
-                cause: Some(left.cause),
-                queue: Some(&left.outlet),
-            },
-            None => {
-                let to = state.lag(topic, s as u64);
-                QueueReport {
-                    topic,
-                    from,
-                    to,
-                    cause: lag_cause(to),
-                    queue: state.queue(topic, s as u64),
-                }
-            }
-        }
+        let sub = state.subs.get(s)?;
+        Some(state.queue_report(s as u64, sub))
     }
 
     /// How many connections there were, gone ones too.
@@ -122,14 +98,13 @@ impl<'a> Report<'a> {
         state.lines.len()
     }
 
-    /// The octets that were written to the connection of number `c`.
-    pub fn out(&self, c: usize) -> &'a [u8]
-        requires { c < length self.now.outs }
-        ensures { slice_get self.now.outs c ≡ Some result.now }
+    /// The octets that were written to the connection of number `c`, if there is one.
+    pub fn out(&self, c: usize) -> Option<&'a [u8]>
+        ensures { option_map (λ out. out.now) result ≡ slice_get self.now.outs c }
     {
         let state = self.state;
-        let line = &state.lines[c];
-        line.output.as_slice()
+        let line = state.lines.get(c)?;
+        Some(line.output.as_slice())
     }
 }
 
@@ -158,5 +133,32 @@ impl NetState {
     {
         let group = self.groups.get(topic.0 as usize)?;
         group.outlet(s)
+    }
+
+    /// This subscription, of number `s`, as it is reported.
+    fn queue_report<'a>(&'a self, s: u64, sub: &'a Sub) -> QueueReport<'a>
+        ensures { result ≡ sub_report self.now.groups s sub.now }
+    {
+        let topic = sub.topic;
+        let from = sub.from;
+        match &sub.left {
+            Some(left) => QueueReport {
+                topic,
+                from,
+                to: Some(left.to),
+                cause: Some(left.cause),
+                queue: Some(&left.outlet),
+            },
+            None => {
+                let to = self.lag(topic, s);
+                QueueReport {
+                    topic,
+                    from,
+                    to,
+                    cause: lag_cause(to),
+                    queue: self.queue(topic, s),
+                }
+            }
+        }
     }
 }

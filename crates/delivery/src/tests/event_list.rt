@@ -10,11 +10,11 @@ fn are_turns(events: &EventList, topics: &[u32]) -> bool {
         return false;
     }
     for i in 0..events.len() {
-        if !is_turn(events.get(i), topics[i]) {
+        if !events.get(i).is_some_and(|event| is_turn(event, topics[i])) {
             return false;
         }
     }
-    true
+    events.get(topics.len()).is_none()
 }
 
 /// Whether the event is a Turn of this topic.

@@ -1,7 +1,5 @@
 //! Outcomes and reports as text: a word and its numbers.
 
-ghost use Rattle.std.specs.Prelude.{◌<◌, length};
-
 use crate::{Outcome, QueueReport, Report};
 use mcast_group::{Cause, Row};
 use mcast_txn::{Released, Stamp, TxnId};
@@ -104,26 +102,30 @@ fn print_subscription(text: &mut String, q: &QueueReport<'_>) -> Result<(), Allo
     print(text, " handed", &[q.handed_len() as u64])?;
     text.push_str("\n")?;
     for i in 0..q.queued_len() {
-        print_item(text, q.queued(i))?;
+        if let Some(item) = q.queued(i) {
+            print_item(text, item)?;
+        }
     }
     Ok(())
 }
 
 fn print_commits(text: &mut String, report: &Report<'_>) -> Result<(), AllocError> {
     for i in 0..report.commits_len() {
-        print_row(text, "commit", report.commit(i))?;
+        if let Some(row) = report.commit(i) {
+            print_row(text, "commit", row)?;
+        }
     }
     Ok(())
 }
 
 /// The topic, and the rows of its log.
-fn print_log(text: &mut String, report: &Report<'_>, t: usize) -> Result<(), AllocError>
-    requires { t < length report.now.logs }
-{
+fn print_log(text: &mut String, report: &Report<'_>, t: usize) -> Result<(), AllocError> {
     print(text, "log", &[t as u64])?;
     text.push_str("\n")?;
     for i in 0..report.log_len(t) {
-        print_row(text, "", report.log_row(t, i))?;
+        if let Some(row) = report.log_row(t, i) {
+            print_row(text, "", row)?;
+        }
     }
     Ok(())
 }
@@ -137,7 +139,9 @@ fn print_logs(text: &mut String, report: &Report<'_>) -> Result<(), AllocError> 
 
 fn print_subscriptions(text: &mut String, report: &Report<'_>) -> Result<(), AllocError> {
     for s in 0..report.subscriptions_len() {
-        print_subscription(text, &report.subscription(s))?;
+        if let Some(queue) = report.subscription(s) {
+            print_subscription(text, &queue)?;
+        }
     }
     Ok(())
 }

@@ -111,7 +111,7 @@ const ESCAPES: Run = Run {
     ],
 };
 
-const LEADING: Run = Run {
+pub(super) const LEADING: Run = Run {
     shows: "a topic whose clock leads, and a transaction that overtakes none",
     capacity: 64,
     topics: &[(b"A", 9), (b"B", 0), (b"C", 0)],
@@ -160,7 +160,7 @@ const LEADING: Run = Run {
     ],
 };
 
-const CROSSING: Run = Run {
+pub(super) const CROSSING: Run = Run {
     shows: "two transactions that cross at two topics",
     capacity: 64,
     topics: &[(b"A", 0), (b"B", 0)],
@@ -205,7 +205,7 @@ const CROSSING: Run = Run {
     ],
 };
 
-const WAITING: Run = Run {
+pub(super) const WAITING: Run = Run {
     shows: "of two that cross, one that waits for the other's stamp",
     capacity: 64,
     topics: &[(b"A", 0), (b"B", 0)],
@@ -257,7 +257,7 @@ const WAITING: Run = Run {
     ],
 };
 
-const WHOLE_PART: Run = Run {
+pub(super) const WHOLE_PART: Run = Run {
     shows: "a transaction with two SENDs to one topic is one item there",
     capacity: 64,
     topics: &[(b"A", 0), (b"B", 0)],
@@ -313,7 +313,7 @@ const EMPTY_COMMIT: Run = Run {
     outs: &[b"CONNECTED\nversion:1.2\nheart-beat:0,0\n\n\0RECEIPT\nreceipt-id:r\n\n\0"],
 };
 
-const ENDED_SPAN: Run = Run {
+pub(super) const ENDED_SPAN: Run = Run {
     shows: "a span that ends before a row that was decided",
     capacity: 64,
     topics: &[(b"A", 0)],
@@ -343,7 +343,7 @@ const ENDED_SPAN: Run = Run {
     ],
 };
 
-const PARTING: Run = Run {
+pub(super) const PARTING: Run = Run {
     shows: "a DISCONNECT with a receipt, before an item is delivered",
     capacity: 64,
     topics: &[(b"A", 0)],
@@ -372,7 +372,7 @@ const PARTING: Run = Run {
     outs: &[b"CONNECTED\nversion:1.2\nheart-beat:0,0\n\n\0RECEIPT\nreceipt-id:bye\n\n\0"],
 };
 
-const LAGGED: Run = Run {
+pub(super) const LAGGED: Run = Run {
     shows: "a queue that lags is delivered before its ERROR",
     capacity: 2,
     topics: &[(b"A", 0)],

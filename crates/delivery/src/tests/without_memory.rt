@@ -131,9 +131,10 @@ fn items(report: &Report<'_>) -> (usize, usize) {
     let mut queued = 0usize;
     let mut handed = 0usize;
     for s in 0..report.subscriptions_len() {
-        let queue = report.subscription(s);
-        queued = queued.saturating_add(queue.queued_len());
-        handed = handed.saturating_add(queue.handed_len());
+        if let Some(queue) = report.subscription(s) {
+            queued = queued.saturating_add(queue.queued_len());
+            handed = handed.saturating_add(queue.handed_len());
+        }
     }
     (queued, handed)
 }
@@ -142,7 +143,7 @@ fn items(report: &Report<'_>) -> (usize, usize) {
 fn written(report: &Report<'_>) -> usize {
     let mut octets = 0usize;
     for c in 0..report.connections_len() {
-        octets = octets.saturating_add(report.out(c).len());
+        octets = octets.saturating_add(report.out(c).map_or(0, |out| out.len()));
     }
     octets
 }
@@ -202,7 +203,7 @@ fn has_text(alloc: Global, outcome: Outcome, text: &str) -> Result<bool, NoMemor
 }
 
 /// Whether the report has this text, which is written again where there was no memory.
-fn is_told(alloc: Global, report: &Report<'_>, text: &str) -> Result<bool, NoMemory> {
+pub(super) fn is_told(alloc: Global, report: &Report<'_>, text: &str) -> Result<bool, NoMemory> {
     let told = match report_text(alloc, report) {
         Ok(told) => told,
         Err(_) => report_text(alloc, report)?,

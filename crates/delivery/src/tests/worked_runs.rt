@@ -3,7 +3,7 @@
 use super::asks::{Ask, answer, list, topics};
 use super::printing::report_text;
 use super::runs::{RUNS, Run};
-use crate::{EventList, MAX_CAPACITY, Net, Report};
+use crate::{EventList, MAX_CAPACITY, Net, Outcome, Report};
 use std::alloc::Global;
 use std::test::Fail;
 use stomp_frame::NoMemory;
@@ -19,7 +19,17 @@ fn made(alloc: Global, run: Run) -> Result<Net, NoMemory> {
 /// Whether these octets, and no others, were written to each connection.
 fn are_outs(report: &Report<'_>, outs: &[&'static [u8]]) -> bool {
     report.connections_len() == outs.len()
-        && (0..outs.len()).all(|c| c < report.connections_len() && report.out(c) == outs[c])
+        && (0..outs.len()).all(|c| report.out(c) == Some(outs[c]))
+}
+
+/// Whether nothing is reported past the end of each list.
+fn has_ends(report: &Report<'_>) -> bool {
+    let topics = report.topics_len();
+    report.commit(report.commits_len()).is_none()
+        && report.log_len(topics) == 0
+        && report.log_row(topics, 0).is_none()
+        && report.subscription(report.subscriptions_len()).is_none()
+        && report.out(report.connections_len()).is_none()
 }
 
 /// How many of these rows have their outcome, from the first on.
@@ -50,12 +60,13 @@ fn each_event_has_its_outcome(rt: HostRuntime) -> Result<(), Fail> {
         let told = report_text(rt.alloc(), &report)?;
         assert_eq!(rt; told.as_str(), run.report, "in {shows}");
         assert!(rt; are_outs(&report, run.outs), "in {shows}");
+        assert!(rt; has_ends(&report), "in {shows}");
     }
     Ok(())
 }
 
 /// The core after all events of the run, one after the other.
-fn stepped(alloc: Global, run: Run) -> Result<Net, NoMemory> {
+pub(super) fn stepped(alloc: Global, run: Run) -> Result<Net, NoMemory> {
     let mut net = made(alloc, run)?;
     for &(ask, _) in run.rows {
         answer(alloc, &mut net, ask)?;
@@ -63,10 +74,16 @@ fn stepped(alloc: Global, run: Run) -> Result<Net, NoMemory> {
     Ok(net)
 }
 
+/// The outcome at this index of what the core kept.
+fn outcome_at(net: &Net, i: usize) -> Option<Outcome> {
+    net.kept(i).map(|kept| kept.outcome)
+}
+
 /// Whether both cores kept as many events with the same outcomes.
 fn are_same(a: &Net, b: &Net) -> bool {
     a.kept_len() == b.kept_len()
-        && (0..a.kept_len()).all(|i| i < b.kept_len() && a.kept(i).outcome == b.kept(i).outcome)
+        && a.kept(a.kept_len()).is_none()
+        && (0..a.kept_len()).all(|i| outcome_at(a, i) == outcome_at(b, i))
 }
 
 #[test]

@@ -3,8 +3,7 @@ use Rattle.std.specs.Vec.Iter.{into_iter_items}
 use Rattle.delivery.specs.declared.event.Event.{Event}
 use Rattle.delivery.specs.declared.kept.Kept.{Kept}
 use Rattle.delivery.specs.Nets.{KeptRun, HasTaken}
-use Rattle.delivery.specs.Inner.ViewReports.{report_in}
-use Rattle.delivery.proofs.Views.KeptRuns.{is_delivered, taken_none, taken_more}
+use Rattle.delivery.proofs.Views.KeptRuns.{has_report, taken_none, taken_more}
 use Rattle.delivery.proofs.net.Net.run.Goals as goal
 
 nothing_left : {X : Type 0} (l : List X) → length l ≡ 0 → l ≡ []
@@ -13,7 +12,7 @@ nothing_left (x ∷ xs) h = absurd (omega arith)
 
 pub returns-in_err-reserve-clause-delivered : goal.returns-in_err-reserve-clause-delivered
 returns-in_err-reserve-clause-delivered c =
-    (report_in c.self.inside.state, is_delivered _ c.self.inside.state (rw c.in_err-reserve.ensures.items c.self.invariant))
+    has_report _ c.self.inside.state (rw c.in_err-reserve.ensures.items c.self.invariant)
 
 pub loop-event-init : goal.loop-event-init
 loop-event-init c =
@@ -32,7 +31,7 @@ loop-event-init c =
     } in (
       items,
       taken_none c.args.self.now _ (ap new c.in_ok-reserve.ensures.items ∙ ap (λ (net : KeptRun). record net { spare = spare }) c.self.view_is),
-      (report_in held, is_delivered _ held (rw c.in_ok-reserve.ensures.items c.self.invariant)),
+      has_report _ held (rw c.in_ok-reserve.ensures.items c.self.invariant),
       omega (arith, many, c.len.ensures, c.in_ok-reserve.ensures.ok, c.in_ok-reserve.ensures.len),
       omega (arith, was, c.in_ok-reserve.ensures.capacity, c.in_ok-reserve.ensures.len),
       c.into_iter-event-iterator.ensures.into_iter_gives.1 ∙ omega (arith, read, events.ok.0),

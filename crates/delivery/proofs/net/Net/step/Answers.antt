@@ -1,7 +1,7 @@
-use Rattle.std.proofs.Common.{◌≡◌, ◌-◌, ◌∷◌, [], ◌++◌, ap, ◌∙◌, arith, vec_len, vec_capacity}
-use Rattle.delivery.specs.Nets.{KeptRun}
-use Rattle.delivery.specs.Inner.ViewReports.{report_in}
-use Rattle.delivery.proofs.Views.KeptRuns.{is_delivered, step_kept, names_stay, capacity_stays}
+use Rattle.std.proofs.Common.{◌≡◌, ℕ, ◌-◌, List, ◌∷◌, [], ◌++◌, ap, subst, ◌∙◌, arith, vec_len, vec_capacity}
+use Rattle.delivery.specs.Nets.{KeptRun, core_of_net}
+use Rattle.delivery.specs.Core.Stepped.{HasStepped}
+use Rattle.delivery.proofs.Views.KeptRuns.{has_report, has_stepped, step_kept, names_stay, capacity_stays}
 use Rattle.delivery.proofs.net.Net.step.Goals as goal
 
 pub invariant_of-self : goal.invariant_of-self
@@ -30,11 +30,35 @@ returns-clause-kept c =
       spare = net.spare - 1;
     }) c.self.view_is
 
+pub returns-clause-stepped : goal.returns-clause-stepped
+returns-clause-stepped c =
+    let clocks = c.self.inside.clocks.items in
+    let held = c.self.inside.state in
+    let new = c.answer-outcome.new.self in
+    let kept = c.self.inside.kept.items in
+    let names : new.names ≡ held.names = names_stay clocks kept held new c.args.event c.answer-outcome.result c.self.invariant c.answer-outcome.ensures in
+    let capacity : new.capacity ≡ held.capacity = capacity_stays clocks kept held new c.args.event c.answer-outcome.result c.self.invariant c.answer-outcome.ensures in
+    let old : KeptRun = record {
+      topics = record { names = held.names; clocks = clocks };
+      capacity = held.capacity;
+      kept = kept;
+      spare = vec_capacity c.self.inside.kept - vec_len c.self.inside.kept;
+    } in
+    let later : KeptRun = record {
+      topics = record { names = new.names; clocks = clocks };
+      capacity = new.capacity;
+      kept = c.push_reserved.new.self.items;
+      spare = vec_capacity c.push_reserved.new.self - vec_len c.push_reserved.new.self;
+    } in
+    subst (λ (net : KeptRun). HasStepped (core_of_net net) (core_of_net later) c.args.event c.answer-outcome.result) c.self.view_is
+    (has_stepped old later new c.args.event c.answer-outcome.result
+    (rw c.push_reserved.ensures.items
+    (step_kept clocks kept held new c.args.event c.answer-outcome.result c.self.invariant c.answer-outcome.ensures))
+    (ap (λ (n : List (List ℕ)). record { names = n; clocks = clocks }) names) capacity c.push_reserved.ensures.items)
+
 pub returns-clause-delivered : goal.returns-clause-delivered
 returns-clause-delivered c =
-    let new = c.answer-outcome.new.self in (
-      report_in new,
-      is_delivered _ new (rw c.push_reserved.ensures.items
-          (step_kept c.self.inside.clocks.items c.self.inside.kept.items c.self.inside.state new
-          c.args.event c.answer-outcome.result c.self.invariant c.answer-outcome.ensures)),
-    )
+    let new = c.answer-outcome.new.self in
+    has_report _ new (rw c.push_reserved.ensures.items
+    (step_kept c.self.inside.clocks.items c.self.inside.kept.items c.self.inside.state new
+    c.args.event c.answer-outcome.result c.self.invariant c.answer-outcome.ensures))

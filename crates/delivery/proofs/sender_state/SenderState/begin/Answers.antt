@@ -7,5 +7,5 @@ pub invariant_of-self-2 : goal.invariant_of-self-2
 invariant_of-self-2 c =
     let len = c.len.ensures.value in
     let room = c.in_ok-reserve.ensures.ok in
-    begun_room c.resume-gate.result c.args.txn c.in-Ok.flying _ c.len.result _ _ c.in-Ok.ensures.ok
+    begun_room c.resume-gate.result c.args.txn c.new-flying.result _ c.len.result _ _ (c.new-flying.ensures ∙ c.in-Ok.ensures.ok)
     (len ∙ ap (λ (ts : List Topic). length ts) (c.deref.ensures ∙ c.in_ok-topics.ensures)) (omega (arith, room, c.in_ok-reserve.ensures.len))

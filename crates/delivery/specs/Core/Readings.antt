@@ -1,5 +1,6 @@
--- Only serves proofs: what each Next of a kept run read, as a function of the run. No contract needs to speak
--- of it, since the delivery says by the grammar which frames were read.
+-- The steps of a kept run, as a function of it: what each Next read is what the reader of its connection
+-- gives of the octets that it was fed. A run's steps are these (`StepsOfRun` of proofs/Core), and the frames
+-- among them are the first of each connection's octets by the grammar (`AreReadings`).
 use Rattle.std.specs.Prelude.{Bool, true, false, ℕ, List, [], ◌∷◌, Some, Result, Ok, Err, if◌then◌else◌}
 use Rattle.stomp_frame.specs.declared.raw_frame.RawFrame.{RawFrame}
 use Rattle.stomp_frame.specs.Reader.{Unread}
@@ -32,7 +33,8 @@ reading_at older (Event.Next c) o =
     else reading_of (unread_at c older) (frame_at reader_limits (unread_at c older).text)
 reading_at older e o = Reading.Nothing
 
--- the steps of a kept run, the newest first in both
+-- The steps of a kept run, the newest first in both. So where a connection was fed one whole frame, the Next
+-- that is answered `Done` found this frame, and one that is answered `Refused NoFrame` after it waits.
 abbrev pub steps_of : List Kept → List CoreStep
 steps_of [] = []
 steps_of (kept ∷ before) =

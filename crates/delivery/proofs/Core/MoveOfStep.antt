@@ -1,0 +1,312 @@
+-- Which move of the machine a step of the core is.
+use Rattle.std.proofs.Common.{◌≡◌, ℕ, Bool, true, false, cond, not, ◌⊎◌, inl, inr, List, [], ◌∷◌, ◌++◌, length, Option, Some, None, refl, sym, ap, subst, ◌∙◌}
+use Rattle.std.proofs.lemmas.Bool.{true≢false, false≢true}
+use Rattle.std.specs.Option.{is_some, option_map, option_map_or, option_and_then, option_to_list}
+use Rattle.stomp_frame.specs.declared.raw_frame.RawFrame.{RawFrame}
+use Rattle.stomp_frame.specs.Cases.{case_fault}
+use Rattle.stomp_frame.specs.Reader.{Unread}
+use Rattle.mcast_txn.specs.declared.id.Topic.{Topic}
+use Rattle.mcast_txn.specs.declared.draft.sent_message.SentMessage.{SentMessage}
+use Rattle.mcast_txn.specs.Checks.{first_refusal}
+use Rattle.mcast_txn.specs.Lists.{In}
+use Rattle.mcast_group.proofs.Parts.{some_same, none_some}
+use Rattle.stomp_session.specs.declared.action.Action.{Action}
+use Rattle.stomp_session.specs.declared.action.Action.TheVariants as actions
+use Rattle.stomp_session.specs.Answers.{action_by}
+use Rattle.stomp_session.specs.Refusals.{refusal}
+use Rattle.delivery.specs.declared.event.Event.{Event}
+use Rattle.delivery.specs.declared.outcome.Outcome.{Outcome}
+use Rattle.delivery.specs.declared.connection_fault.ConnectionFault.{ConnectionFault}
+use Rattle.delivery.specs.Machine.Objections.{Objection, refusal_of}
+use Rattle.delivery.specs.Machine.World.{World, topic_at}
+use Rattle.delivery.specs.Machine.Moves.{Move, Answer, needs_open, needs_idle, move_refusal, move_effect, move_answer, answer_to, world_after, commit_answer, end_now}
+use Rattle.delivery.specs.Machine.Moves.Move.{Opens, Commits, Subscribes, Unsubscribes, Disconnects, Errs, Lost, Leaves, Proposes, Decides, Withdraws, Cancels, Learns, Releases, Turns, Takes}
+use Rattle.delivery.specs.Machine.Runs.{run}
+use Rattle.delivery.specs.Theorem.Laws.{move_topic}
+use Rattle.delivery.specs.Core.Steps.{Reading, number_by, has_effect}
+use Rattle.delivery.specs.Core.Output.{is_cut}
+use Rattle.delivery.specs.Core.State.{Core, session_at, frame_move, is_faulted, is_no_memory, is_out_of_memory, moves}
+use Rattle.delivery.specs.Core.Outcomes.{outcome_of, move_outcome, unless, frame_no_memory, frame_fault, fault_outcomes, frame_outcome, reading_outcomes, cut_of, outcomes}
+use Rattle.delivery.specs.Core.Stepped.{event_topic}
+use Rattle.delivery.proofs.Machine.SenderSteps.{In-append_cases}
+use Rattle.delivery.proofs.Core.AccountOfRun.{in_option, refusal_some, replied, same_memory}
+use Rattle.delivery.proofs.Core.ReadingsShown.{unrefused, effect_of}
+
+-- ---- the moves of an event
+
+-- a move of a frame that is accepted
+abbrev pub is_of_frame : Move → Bool
+is_of_frame (Commits c sends) = true
+is_of_frame (Subscribes c t) = true
+is_of_frame (Unsubscribes c s) = true
+is_of_frame (Disconnects c) = true
+is_of_frame mv = false
+
+-- the move is one of this event
+abbrev pub IsMoveOf : Event → Move → Type 0
+IsMoveOf Event.Open mv = mv ≡ Opens
+IsMoveOf (Event.Piece c octets) mv = Prim.⊥
+IsMoveOf (Event.Next c) mv = is_of_frame mv ≡ true
+IsMoveOf (Event.Propose c t) mv = (memory : Bool) × (mv ≡ Proposes c t memory)
+IsMoveOf (Event.Decide c) mv = mv ≡ Decides c
+IsMoveOf (Event.Withdraw c) mv = mv ≡ Withdraws c
+IsMoveOf (Event.Cancel c t) mv = mv ≡ Cancels c t
+IsMoveOf (Event.Learn t id) mv = mv ≡ Learns t id
+IsMoveOf (Event.Release t) mv = mv ≡ Releases t
+IsMoveOf (Event.Turn t) mv = mv ≡ Turns t
+IsMoveOf (Event.Take s) mv = mv ≡ Takes s
+IsMoveOf (Event.Leave c) mv = mv ≡ Leaves c
+IsMoveOf (Event.Lost c) mv = mv ≡ Lost c
+
+-- the outcome is none of a move's that isn't refused
+abbrev pub is_plain : Outcome → Bool
+is_plain (Outcome.Refused why) = true
+is_plain Outcome.Fed = true
+is_plain Outcome.NoMemory = true
+is_plain Outcome.Done = true
+is_plain o = false
+
+-- the world after these moves
+abbrev pub world_then : Core → Event → Reading → Outcome → World
+world_then k e rd o = run (moves k e rd o) k.world
+
+-- the step is this move, and what came of it; its reply may be left out
+pub record Moved (k : Core) (e : Event) (rd : Reading) (o : Outcome) : Type 0 where
+  pub move : Move
+  pub own : IsMoveOf e move
+  pub topic : move_topic k.world move ≡ event_topic k e rd
+  pub world : world_then k e rd o ≡ world_after k.world move
+  pub base : Outcome
+  pub is : outcome_of (answer_to k.world move) ≡ Some base
+  pub cut : (base ≡ o) ⊎ (cut_of base ≡ o)
+
+-- the step is a decision whose RECEIPT was left out: its connection is lost, too
+pub record DecidedAndLost (k : Core) (e : Event) (rd : Reading) (o : Outcome) : Type 0 where
+  pub connection : ℕ
+  pub event : e ≡ Event.Decide connection
+  pub world : world_then k e rd o ≡ world_after (world_after k.world (Decides connection)) (Lost connection)
+  pub base : Outcome
+  pub is : outcome_of (answer_to k.world (Decides connection)) ≡ Some base
+  pub cut : (base ≡ o) ⊎ (cut_of base ≡ o)
+  pub was_cut : is_cut o ≡ true
+
+-- the step is an ERROR
+pub record Erred (k : Core) (e : Event) (rd : Reading) (o : Outcome) : Type 0 where
+  pub connection : ℕ
+  pub world : world_then k e rd o ≡ world_after k.world (Errs connection)
+  pub faulted : is_faulted o ≡ true
+
+-- what a step is of the machine: nothing, an ERROR, a move, or a decision with a loss
+abbrev pub Comes : Core → Event → Reading → Outcome → Type 0
+Comes k e rd o =
+    ((world_then k e rd o ≡ k.world) × (is_plain o ≡ true))
+    ⊎ (Erred k e rd o ⊎ (Moved k e rd o ⊎ DecidedAndLost k e rd o))
+
+-- ---- outcomes
+
+-- no answer of the machine is that there was no memory
+pub remembered : (a : Answer) (o : Outcome) → outcome_of a ≡ Some o → is_no_memory o ≡ false
+remembered (Answer.Refused why) o e = let r = refusal_some (refusal_of why) o e in ap is_no_memory (sym r.is)
+remembered Answer.Done o e = ap is_no_memory (sym (some_same _ o e))
+remembered (Answer.Opened c) o e = ap is_no_memory (sym (some_same _ o e))
+remembered (Answer.Begun txn) o e = ap is_no_memory (sym (some_same _ o e))
+remembered (Answer.Subscribed s c t from) o e = ap is_no_memory (sym (some_same _ o e))
+remembered (Answer.Unsubscribed s to) o e = ap is_no_memory (sym (some_same _ o e))
+remembered (Answer.Leaving c) o e = ap is_no_memory (sym (some_same _ o e))
+remembered (Answer.Error c) o e = ap is_no_memory (sym (some_same _ o e))
+remembered (Answer.Gone c) o e = ap is_no_memory (sym (some_same _ o e))
+remembered (Answer.Ticket id ticket) o e = ap is_no_memory (sym (some_same _ o e))
+remembered (Answer.Failed id why) o e = ap is_no_memory (sym (some_same _ o e))
+remembered (Answer.Decided id stamp) o e = ap is_no_memory (sym (some_same _ o e))
+remembered (Answer.Withdrawn id c) o e = ap is_no_memory (sym (some_same _ o e))
+remembered (Answer.Cancelled id t) o e = ap is_no_memory (sym (some_same _ o e))
+remembered (Answer.Learnt id t) o e = ap is_no_memory (sym (some_same _ o e))
+remembered (Answer.Released t id) o e = ap is_no_memory (sym (some_same _ o e))
+remembered (Answer.Turned t count) o e = ap is_no_memory (sym (some_same _ o e))
+remembered (Answer.Handed s item) o e = ap is_no_memory (sym (some_same _ o e))
+
+-- an event that is one move, and its outcome
+alone : (k : Core) (e : Event) (rd : Reading) (o : Outcome) (mv : Move) → IsMoveOf e mv → move_topic k.world mv ≡ event_topic k e rd
+    → world_then k e rd o ≡ world_after k.world mv → outcome_of (answer_to k.world mv) ≡ Some o → Comes k e rd o
+alone k e rd o mv own topic world is = inr (inr (inl (record { move = mv; own = own; topic = topic; world = world; base = o; is = is; cut = inl refl })))
+
+-- a move that is refused leaves the world
+pub refused_after : (w : World) (mv : Move) (why : Objection) → move_refusal w mv ≡ Some why → world_after w mv ≡ w
+refused_after w mv why n = ap (λ (o : Option Objection). elim o [ None ↦ move_effect w mv | Some why ↦ w ]) n
+
+-- ---- a Next
+
+-- the moves of an accepted frame, by its action
+abbrev frame_moves : Core → ℕ → Action → Outcome → List Move
+frame_moves k c action o =
+    cond (is_faulted o) (Errs c ∷ []) (cond (has_effect o) (option_to_list (frame_move k c action)) [])
+
+erred : (k : Core) (c : ℕ) (rd : Reading) (fault : ConnectionFault) (o : Outcome) → In o (fault_outcomes fault) → Comes k (Event.Next c) rd o
+erred k c rd fault o i = elim i [
+  | inl e ↦ subst (Comes k (Event.Next c) rd) e (inr (inl (record { connection = c; world = refl; faulted = refl })))
+  | inr j ↦ elim j [
+    | inl e ↦ subst (Comes k (Event.Next c) rd) e (inr (inl (record { connection = c; world = refl; faulted = refl })))
+    | inr n ↦ absurd n
+  ]
+]
+
+-- a frame that has its effect is the move of its action
+accepted : (k : Core) (c : ℕ) (f : RawFrame) (left : Unread) (o : Outcome) (action : Action) (mv : Move) → action_by f.command (session_at k c) f ≡ action
+    → frame_move k c action ≡ Some mv → is_of_frame mv ≡ true → is_faulted o ≡ false → has_effect o ≡ true → outcome_of (answer_to k.world mv) ≡ Some o
+    → Comes k (Event.Next c) (Reading.Finds f left) o
+accepted k c f left o action mv by is own sound effect came =
+    let found : frame_move k c (action_by f.command (session_at k c) f) ≡ Some mv = ap (frame_move k c) by ∙ is in
+    let moved : frame_moves k c (action_by f.command (session_at k c) f) o ≡ mv ∷ [] =
+    ap (λ b. cond b (Errs c ∷ []) (cond (has_effect o) (option_to_list (frame_move k c (action_by f.command (session_at k c) f))) [])) sound
+    ∙ (ap (λ b. cond b (option_to_list (frame_move k c (action_by f.command (session_at k c) f))) []) effect ∙ ap (λ (m : Option Move). option_to_list m) found) in
+    alone k (Event.Next c) (Reading.Finds f left) o mv own (sym (ap (option_and_then (move_topic k.world)) found))
+    (ap (λ ms. run ms k.world) moved) came
+
+-- a frame that is done has none
+done : (k : Core) (c : ℕ) (f : RawFrame) (left : Unread) (o : Outcome) (action : Action) → action_by f.command (session_at k c) f ≡ action
+    → frame_move k c action ≡ None → Outcome.Done ≡ o → Comes k (Event.Next c) (Reading.Finds f left) o
+done k c f left o action by is e =
+    subst (Comes k (Event.Next c) (Reading.Finds f left)) e
+    (inl (ap (λ (m : Option Move). run (option_to_list m) k.world) (ap (frame_move k c) by ∙ is), refl))
+
+-- a commit of some SENDs, or of none
+committed : (k : Core) (c : ℕ) (f : RawFrame) (left : Unread) (o : Outcome) (sends : List SentMessage) → action_by f.command (session_at k c) f ≡ actions.Commit sends
+    → outcome_of (answer_to k.world (Commits c sends)) ≡ Some o → outcome_of (commit_answer k.world c sends) ≡ Some o → Comes k (Event.Next c) (Reading.Finds f left) o
+committed k c f left o [] by came d =
+    let is = some_same _ o d in
+    accepted k c f left o (actions.Commit []) (Commits c []) by refl refl (ap is_faulted (sym is)) (ap has_effect (sym is)) came
+committed k c f left o (first ∷ more) by came d =
+    let is = some_same _ o d in
+    accepted k c f left o (actions.Commit (first ∷ more)) (Commits c (first ∷ more)) by refl refl (ap is_faulted (sym is)) (ap has_effect (sym is)) came
+
+accepted_by : (k : Core) (c : ℕ) (f : RawFrame) (left : Unread) (o : Outcome) (action : Action) → action_by f.command (session_at k c) f ≡ action
+    → option_and_then (λ mv. move_refusal k.world mv) (frame_move k c action) ≡ None
+    → In o (option_map_or (move_outcome k) (frame_move k c action) (Outcome.Done ∷ [])) → Comes k (Event.Next c) (Reading.Finds f left) o
+accepted_by k c f left o actions.Connected by n i = elim i [ inl e ↦ done k c f left o actions.Connected by refl e | inr j ↦ absurd j ]
+accepted_by k c f left o actions.Nothing by n i = elim i [ inl e ↦ done k c f left o actions.Nothing by refl e | inr j ↦ absurd j ]
+accepted_by k c f left o (actions.Subscribe id t) by n i =
+    let is = some_same (Outcome.Subscribed (length k.world.subscriptions) (topic_at k.world t).frontier) o (effect_of k.world (Subscribes c t) o n i) in
+    accepted k c f left o (actions.Subscribe id t) (Subscribes c t) by refl refl (ap is_faulted (sym is)) (ap has_effect (sym is)) (in_option o _ i)
+accepted_by k c f left o (actions.Unsubscribe id) by n i =
+    let s = number_by c id k.steps in
+    let is = some_same (Outcome.Unsubscribed s (end_now k.world s)) o (effect_of k.world (Unsubscribes c s) o n i) in
+    accepted k c f left o (actions.Unsubscribe id) (Unsubscribes c s) by refl refl (ap is_faulted (sym is)) (ap has_effect (sym is)) (in_option o _ i)
+accepted_by k c f left o (actions.Commit sends) by n i =
+    committed k c f left o sends by (in_option o _ i) (effect_of k.world (Commits c sends) o n i)
+accepted_by k c f left o actions.Disconnect by n i =
+    let is = some_same Outcome.Leaving o (effect_of k.world (Disconnects c) o n i) in
+    accepted k c f left o actions.Disconnect (Disconnects c) by refl refl (ap is_faulted (sym is)) (ap has_effect (sym is)) (in_option o _ i)
+
+found : (k : Core) (c : ℕ) (f : RawFrame) (left : Unread) (o : Outcome) (why : Option ConnectionFault) → frame_fault k c f ≡ why
+    → In o (option_map_or fault_outcomes why (frame_outcome k c f ++ fault_outcomes frame_no_memory)) → Comes k (Event.Next c) (Reading.Finds f left) o
+found k c f left o (Some fault) e i = erred k c (Reading.Finds f left) fault o i
+found k c f left o None e i = elim (In-append_cases o (frame_outcome k c f) _ i) [
+  | inl j ↦ accepted_by k c f left o (action_by f.command (session_at k c) f) refl
+      (unrefused (case_fault f) (refusal (session_at k c) f) (option_and_then (λ mv. move_refusal k.world mv) (frame_move k c (action_by f.command (session_at k c) f))) e) j
+  | inr j ↦ erred k c (Reading.Finds f left) frame_no_memory o j
+]
+
+idle_comes : (k : Core) (c : ℕ) (rd : Reading) (o : Outcome) → In o (reading_outcomes k c rd) → Comes k (Event.Next c) rd o
+idle_comes k c Reading.Nothing o i = erred k c Reading.Nothing ConnectionFault.ReaderNoMemory o i
+idle_comes k c (Reading.Waits left) o (inl e) = subst (Comes k (Event.Next c) (Reading.Waits left)) e (inl (refl, refl))
+idle_comes k c (Reading.Waits left) o (inr i) = absurd i
+idle_comes k c (Reading.Finds f left) o i = found k c f left o (frame_fault k c f) refl i
+idle_comes k c (Reading.Fails check left) o i = erred k c (Reading.Fails check left) (ConnectionFault.Stream check) o i
+
+next_comes : (k : Core) (c : ℕ) (rd : Reading) (o : Outcome) (why : Option Objection) → In o (unless why (reading_outcomes k c rd)) → Comes k (Event.Next c) rd o
+next_comes k c rd o None i = idle_comes k c rd o i
+next_comes k c rd o (Some why) i =
+    let r = refusal_some (refusal_of why) o (in_option o _ i) in
+    subst (Comes k (Event.Next c) rd) r.is (inl (refl, refl))
+
+-- ---- the others
+
+opened_comes : (k : Core) (rd : Reading) (o : Outcome) → In o (move_outcome k Opens ++ Outcome.NoMemory ∷ []) → Comes k Event.Open rd o
+opened_comes k rd o i = elim (In-append_cases o (move_outcome k Opens) (Outcome.NoMemory ∷ []) i) [
+  | inl j ↦ (let d = in_option o _ j in
+      alone k Event.Open rd o Opens refl refl (ap (λ b. run (cond b [] (Opens ∷ [])) k.world) (remembered (answer_to k.world Opens) o d)) d)
+  | inr j ↦ elim j [ inl e ↦ subst (Comes k Event.Open rd) e (inl (refl, refl)) | inr n ↦ absurd n ]
+]
+
+fed_comes : (k : Core) (c : ℕ) (octets : List ℕ) (rd : Reading) (o : Outcome) (why : Option Objection) → In o (unless why (Outcome.Fed ∷ Outcome.NoMemory ∷ []))
+    → Comes k (Event.Piece c octets) rd o
+fed_comes k c octets rd o None i = elim i [
+  | inl e ↦ subst (Comes k (Event.Piece c octets) rd) e (inl (refl, refl))
+  | inr j ↦ elim j [ inl e ↦ subst (Comes k (Event.Piece c octets) rd) e (inl (refl, refl)) | inr n ↦ absurd n ]
+]
+fed_comes k c octets rd o (Some why) i =
+    let r = refusal_some (refusal_of why) o (in_option o _ i) in
+    subst (Comes k (Event.Piece c octets) rd) r.is (inl (refl, refl))
+
+proposed_comes : (k : Core) (c : ℕ) (t : Topic) (rd : Reading) (o : Outcome) → In o (move_outcome k (Proposes c t true) ++ move_outcome k (Proposes c t false))
+    → Comes k (Event.Propose c t) rd o
+proposed_comes k c t rd o i = elim (In-append_cases o (move_outcome k (Proposes c t true)) _ i) [
+  | inl j ↦ by_memory true (in_option o _ j)
+  | inr j ↦ by_memory false (in_option o _ j)
+]
+  where
+    by_memory : (m : Bool) → outcome_of (answer_to k.world (Proposes c t m)) ≡ Some o → Comes k (Event.Propose c t) rd o
+    by_memory m d =
+        let q = not (is_out_of_memory o) in
+        alone k (Event.Propose c t) rd o (Proposes c t q) (q, refl) refl refl
+        (same_memory k.world c t m o (move_refusal k.world (Proposes c t m)) _ d)
+
+taken_comes : (k : Core) (s : ℕ) (rd : Reading) (o : Outcome) (why : Option Objection) → move_refusal k.world (Takes s) ≡ why
+    → In o (unless why (move_outcome k (Takes s) ++ Outcome.NoMemory ∷ [])) → Comes k (Event.Take s) rd o
+taken_comes k s rd o None n i = elim (In-append_cases o (move_outcome k (Takes s)) (Outcome.NoMemory ∷ []) i) [
+  | inl j ↦ (let d = in_option o _ j in
+      alone k (Event.Take s) rd o (Takes s) refl refl (ap (λ b. run (cond b [] (Takes s ∷ [])) k.world) (remembered (answer_to k.world (Takes s)) o d)) d)
+  | inr j ↦ elim j [ inl e ↦ subst (Comes k (Event.Take s) rd) e (inl (refl, refl)) | inr m ↦ absurd m ]
+]
+taken_comes k s rd o (Some why) n i =
+    let r = refusal_some (refusal_of why) o (in_option o _ i) in
+    subst (Comes k (Event.Take s) rd) r.is (inl (refused_after k.world (Takes s) why n, refl))
+
+-- an outcome, cut or not
+either : {Q : Type 0} (b o : Outcome) → (b ≡ o) ⊎ ((cut_of b ≡ o) × Q) → (b ≡ o) ⊎ (cut_of b ≡ o)
+either b o (inl e) = inl e
+either b o (inr e) = inr e.0
+
+decided_comes : (k : Core) (c : ℕ) (rd : Reading) (o : Outcome) → In o (outcomes k (Event.Decide c) rd) → (b : Bool) → is_cut o ≡ b → Comes k (Event.Decide c) rd o
+decided_comes k c rd o i false e =
+    let h = replied k c (Event.Decide c) _ o i in
+    inr (inr (inl (record {
+      move = Decides c;
+      own = refl;
+      topic = refl;
+      world = ap (λ b. run (Decides c ∷ cond b (Lost c ∷ []) []) k.world) e;
+      base = h.base;
+      is = h.is;
+      cut = either h.base o h.cut;
+    })))
+decided_comes k c rd o i true e =
+    let h = replied k c (Event.Decide c) _ o i in
+    inr (inr (inr (record {
+      connection = c;
+      event = refl;
+      world = ap (λ b. run (Decides c ∷ cond b (Lost c ∷ []) []) k.world) e;
+      base = h.base;
+      is = h.is;
+      cut = either h.base o h.cut;
+      was_cut = e;
+    })))
+
+-- each step of the core is one of these
+pub comes : (k : Core) (e : Event) (rd : Reading) (o : Outcome) → In o (outcomes k e rd) → Comes k e rd o
+comes k Event.Open rd o i = opened_comes k rd o i
+comes k (Event.Piece c octets) rd o i = fed_comes k c octets rd o (first_refusal (needs_open k.world c)) i
+comes k (Event.Next c) rd o i = next_comes k c rd o (first_refusal (needs_idle k.world c)) i
+comes k (Event.Propose c t) rd o i = proposed_comes k c t rd o i
+comes k (Event.Decide c) rd o i = decided_comes k c rd o i (is_cut o) refl
+comes k (Event.Withdraw c) rd o i =
+    let h = replied k c (Event.Withdraw c) _ o i in
+    inr (inr (inl (record { move = Withdraws c; own = refl; topic = refl; world = refl; base = h.base; is = h.is; cut = either h.base o h.cut })))
+comes k (Event.Cancel c t) rd o i = alone k (Event.Cancel c t) rd o (Cancels c t) refl refl refl (in_option o _ i)
+comes k (Event.Learn t id) rd o i = alone k (Event.Learn t id) rd o (Learns t id) refl refl refl (in_option o _ i)
+comes k (Event.Release t) rd o i = alone k (Event.Release t) rd o (Releases t) refl refl refl (in_option o _ i)
+comes k (Event.Turn t) rd o i = alone k (Event.Turn t) rd o (Turns t) refl refl refl (in_option o _ i)
+comes k (Event.Take s) rd o i = taken_comes k s rd o (move_refusal k.world (Takes s)) refl i
+comes k (Event.Leave c) rd o i =
+    let h = replied k c (Event.Leave c) _ o i in
+    inr (inr (inl (record { move = Leaves c; own = refl; topic = refl; world = refl; base = h.base; is = h.is; cut = either h.base o h.cut })))
+comes k (Event.Lost c) rd o i = alone k (Event.Lost c) rd o (Lost c) refl refl refl (in_option o _ i)

@@ -1,0 +1,497 @@
+-- What each step of the core makes of it: a refusal nothing, a ticket, a stamp, an item, the end of a span.
+use Rattle.std.proofs.Common.{◌≡◌, ◌≢◌, ℕ, zero, suc, ◌+◌, ◌<◌, ◌≤◌, ◌==◌, ◌||◌, max, Bool, true, false, cond, not, ◌⊎◌, inl, inr, List, [], ◌∷◌, ◌++◌, map, length, get_or, set, Option, Some, None, refl, sym, ap, subst, ◌∙◌, arith}
+use Rattle.std.specs.Prelude.{slice_get}
+use Rattle.std.specs.List.{list_all, find}
+use Rattle.std.specs.Option.{is_some, option_map, option_to_list}
+use Rattle.std.proofs.lemmas.Bool.{true≢false, false≢true, and_parts, ltb-true}
+use Rattle.std.proofs.lemmas.List.{get_or_past}
+use Rattle.mcast_txn.specs.declared.id.Topic.{Topic}
+use Rattle.mcast_txn.specs.declared.id.TxnId.{TxnId}
+use Rattle.mcast_txn.specs.declared.stamp.Stamp.{Stamp}
+use Rattle.mcast_txn.specs.Stamp.{greatest}
+use Rattle.mcast_txn.specs.Part.{part_at}
+use Rattle.mcast_txn.specs.Ballot.{row_at, ticket_rows}
+use Rattle.mcast_txn.specs.Lists.{In}
+use Rattle.mcast_txn.specs.Span.{Item}
+use Rattle.mcast_txn.specs.Transaction.{topics_of}
+use Rattle.mcast_txn.specs.TopicSet.{names}
+use Rattle.mcast_txn.proofs.Members.{at_set, at_set_within}
+use Rattle.mcast_group.specs.declared.fault.ProposeFault.{ProposeFault}
+use Rattle.mcast_group.specs.Machine.{TopicState, new_topic, after_propose}
+use Rattle.mcast_group.proofs.Parts.{some_same, none_some}
+use Rattle.delivery.specs.declared.event.Event.{Event}
+use Rattle.delivery.specs.declared.outcome.Outcome.{Outcome}
+use Rattle.delivery.specs.declared.refusal.Refusal.{Refusal}
+use Rattle.delivery.specs.Machine.Objections.{Objection, refusal_of}
+use Rattle.delivery.specs.Machine.World.{World, Undecided, SenderState, Connection, Subscription, nobody, no_subscription, new_sender, topic_at, sender_at, connection_at, speaker, subscription_at}
+use Rattle.delivery.specs.Machine.Observed.{accepted_at, end_at, log_at}
+use Rattle.delivery.specs.Machine.Moves.{Move, Answer, world_after, answer_to, move_refusal, move_effect, move_answer, undecided_or_none, undecided_at, has_ticket, insert_ticket, is_complete, next_ticket, proposal_fault, propose_effect, propose_answer, decide_effect, take_effect, take_answer}
+use Rattle.delivery.specs.Machine.Moves.Move.{Opens, Commits, Subscribes, Unsubscribes, Disconnects, Errs, Lost, Leaves, Proposes, Decides, Withdraws, Cancels, Learns, Releases, Turns, Takes}
+use Rattle.delivery.specs.Theorem.Answers.{IsAnswer}
+use Rattle.delivery.specs.Theorem.Laws.{Run, final_world, answers_of, move_topic}
+use Rattle.delivery.specs.Theorem.Spans.{EndsBeforeRow}
+use Rattle.delivery.specs.Machine.Runs.{delivered_items}
+use Rattle.delivery.specs.Core.Steps.{Reading}
+use Rattle.delivery.specs.Core.Output.{is_cut}
+use Rattle.delivery.specs.Core.State.{Core, core_of, core_after, is_faulted, is_no_memory}
+use Rattle.delivery.specs.Core.Outcomes.{outcome_of, cut_of, MayStep}
+use Rattle.delivery.specs.Core.Readings.{reading_at}
+use Rattle.delivery.specs.Core.Stepped
+use Rattle.delivery.specs.Core.Stepped.{event_topic, step_at, GivesTicket, GivesStamp, DeliversNext, LagsFull, HasStepped}
+use Rattle.delivery.specs.Inner.Stands.{IsReached}
+use Rattle.delivery.proofs.Machine.Invariant.{topic_in}
+use Rattle.delivery.proofs.Machine.InvariantIsKept.{by_refusal, checked, false_not, in_flight, asks_of, Asks}
+use Rattle.delivery.proofs.Theorem.MovesAreAnswered.{events_are_answered}
+use Rattle.delivery.proofs.Theorem.StepLaws.{refusals_change_nothing, others_untouched, ticket_is_own}
+use Rattle.delivery.proofs.Theorem.EndsAreAnswered.{ends_are_told}
+use Rattle.delivery.proofs.Theorem.LagsEndBeforeRow.{lags_end_before_row}
+use Rattle.delivery.proofs.Theorem.RowsEnter.{AllEnter, Enters, rows_enter}
+use Rattle.delivery.proofs.Theorem.SpansAsAnswered.{known, handing, within}
+use Rattle.delivery.proofs.Core.AccountOfRun.{refusal_some, core_is}
+use Rattle.delivery.proofs.Core.StepsOfRun.{event_reads}
+use Rattle.delivery.proofs.Core.FramesRead.{limits_are}
+use Rattle.delivery.proofs.Core.MoveOfStep.{IsMoveOf, is_of_frame, is_plain, world_then, Moved, DecidedAndLost, Erred, Comes, remembered, comes}
+use Rattle.delivery.proofs.Views.OfRuns.{machine_run, world_of, by_world}
+use Rattle.delivery.proofs.Views.Tickets.{Given, given, tickets_are}
+
+-- ---- outcomes and answers
+
+-- what is cut is a refusal or a ticket only if it was one
+uncut_refusal : (b : Outcome) (why : Refusal) → (b ≡ Outcome.Refused why) ⊎ (cut_of b ≡ Outcome.Refused why) → b ≡ Outcome.Refused why
+uncut_refusal b why (inl e) = e
+uncut_refusal (Outcome.Decided stamp cut) why (inr e) = cc
+uncut_refusal (Outcome.Withdrawn cut) why (inr e) = cc
+uncut_refusal (Outcome.Gone cut) why (inr e) = cc
+uncut_refusal b why (inr e) = e
+
+uncut_ticket : (b : Outcome) (n : ℕ) → (b ≡ Outcome.Proposed n) ⊎ (cut_of b ≡ Outcome.Proposed n) → b ≡ Outcome.Proposed n
+uncut_ticket b n (inl e) = e
+uncut_ticket (Outcome.Decided stamp cut) n (inr e) = cc
+uncut_ticket (Outcome.Withdrawn cut) n (inr e) = cc
+uncut_ticket (Outcome.Gone cut) n (inr e) = cc
+uncut_ticket b n (inr e) = e
+
+uncut_item : (b : Outcome) (n : ℕ) → (b ≡ Outcome.Handed n) ⊎ (cut_of b ≡ Outcome.Handed n) → b ≡ Outcome.Handed n
+uncut_item b n (inl e) = e
+uncut_item (Outcome.Decided stamp cut) n (inr e) = cc
+uncut_item (Outcome.Withdrawn cut) n (inr e) = cc
+uncut_item (Outcome.Gone cut) n (inr e) = cc
+uncut_item b n (inr e) = e
+
+uncut_memory : (b : Outcome) → (b ≡ Outcome.NoMemory) ⊎ (cut_of b ≡ Outcome.NoMemory) → b ≡ Outcome.NoMemory
+uncut_memory b (inl e) = e
+uncut_memory (Outcome.Decided stamp cut) (inr e) = cc
+uncut_memory (Outcome.Withdrawn cut) (inr e) = cc
+uncut_memory (Outcome.Gone cut) (inr e) = cc
+uncut_memory b (inr e) = e
+
+-- an end of a span is the same when it is cut
+end_cut : (o : Outcome) (b : Outcome) (s : ℕ) (to : Stamp) → b ≡ Outcome.Unsubscribed s to → (b ≡ o) ⊎ (cut_of b ≡ o) → o ≡ Outcome.Unsubscribed s to
+end_cut o b s to is (inl e) = sym e ∙ is
+end_cut o b s to is (inr e) = sym e ∙ ap cut_of is
+
+-- a decision is one before it is cut
+uncut_stamp : (b : Outcome) (stamp : Stamp) (cut : Bool) → (b ≡ Outcome.Decided stamp cut) ⊎ (cut_of b ≡ Outcome.Decided stamp cut) → (was : Bool) × (b ≡ Outcome.Decided stamp was)
+uncut_stamp b stamp cut (inl e) = (cut, e)
+uncut_stamp (Outcome.Decided other was) stamp cut (inr e) = (was, (let same : other ≡ stamp = cc in ap (λ z. Outcome.Decided z was) same))
+uncut_stamp (Outcome.Withdrawn was) stamp cut (inr e) = cc
+uncut_stamp (Outcome.Gone was) stamp cut (inr e) = cc
+uncut_stamp b stamp cut (inr e) = (cut, e)
+
+-- a refusal is the machine's
+outcome_refused : (a : Answer) (why : Refusal) → outcome_of a ≡ Some (Outcome.Refused why) → (x : Objection) × (a ≡ Answer.Refused x)
+outcome_refused (Answer.Refused x) why e = (x, refl)
+outcome_refused a why e = cc
+
+-- a ticket's number is that of a ticket
+outcome_ticket : (a : Answer) (n : ℕ) → outcome_of a ≡ Some (Outcome.Proposed n) → (id : TxnId) × (ticket : Stamp) × (a ≡ Answer.Ticket id ticket) × (ticket.n ≡ n)
+outcome_ticket (Answer.Ticket id ticket) n e = (id, ticket, refl, cc)
+outcome_ticket (Answer.Refused x) n e = let r = refusal_some (refusal_of x) (Outcome.Proposed n) e in let d = r.is in cc
+outcome_ticket a n e = cc
+
+-- a decision's stamp is that of a decision
+outcome_stamp : (a : Answer) (stamp : Stamp) (cut : Bool) → outcome_of a ≡ Some (Outcome.Decided stamp cut) → (id : TxnId) × (a ≡ Answer.Decided id stamp)
+outcome_stamp (Answer.Decided id given) stamp cut e = (id, (let same : given ≡ stamp = cc in ap (Answer.Decided id) same))
+outcome_stamp (Answer.Refused x) stamp cut e = let r = refusal_some (refusal_of x) (Outcome.Decided stamp cut) e in let d = r.is in cc
+outcome_stamp a stamp cut e = cc
+
+-- a count is that of an item's SENDs
+outcome_item : (a : Answer) (count : ℕ) → outcome_of a ≡ Some (Outcome.Handed count) → (s : ℕ) × (item : Item) × (a ≡ Answer.Handed s item) × (length item.sends ≡ count)
+outcome_item (Answer.Handed s item) count e = (s, item, refl, cc)
+outcome_item (Answer.Refused x) count e = let r = refusal_some (refusal_of x) (Outcome.Handed count) e in let d = r.is in cc
+outcome_item a count e = cc
+
+-- ---- events of moves
+
+proposal_event : (e : Event) (mv : Move) (c : ℕ) (t : Topic) (m : Bool) → IsMoveOf e mv → mv ≡ Proposes c t m → e ≡ Event.Propose c t
+proposal_event (Event.Propose d u) mv c t m (memory, own) is = let one : d ≡ c = cc in let other : u ≡ t = cc in λ i. Event.Propose (one i) (other i)
+proposal_event (Event.Next d) mv c t m own is = absurd (false≢true (sym (ap is_of_frame is) ∙ own))
+proposal_event (Event.Piece d octets) mv c t m own is = absurd own
+proposal_event e mv c t m own is = cc
+
+decision_event : (e : Event) (mv : Move) (c : ℕ) → IsMoveOf e mv → mv ≡ Decides c → e ≡ Event.Decide c
+decision_event (Event.Decide d) mv c own is = let one : d ≡ c = cc in ap Event.Decide one
+decision_event (Event.Next d) mv c own is = absurd (false≢true (sym (ap is_of_frame is) ∙ own))
+decision_event (Event.Piece d octets) mv c own is = absurd own
+decision_event (Event.Propose d u) mv c (memory, own) is = cc
+decision_event e mv c own is = cc
+
+take_event : (e : Event) (mv : Move) (s : ℕ) → IsMoveOf e mv → mv ≡ Takes s → e ≡ Event.Take s
+take_event (Event.Take q) mv s own is = let one : q ≡ s = cc in ap Event.Take one
+take_event (Event.Next d) mv s own is = absurd (false≢true (sym (ap is_of_frame is) ∙ own))
+take_event (Event.Piece d octets) mv s own is = absurd own
+take_event (Event.Propose d u) mv s (memory, own) is = cc
+take_event e mv s own is = cc
+
+release_event : (e : Event) (mv : Move) (t : Topic) → IsMoveOf e mv → mv ≡ Releases t → e ≡ Event.Release t
+release_event (Event.Release u) mv t own is = let one : u ≡ t = cc in ap Event.Release one
+release_event (Event.Next d) mv t own is = absurd (false≢true (sym (ap is_of_frame is) ∙ own))
+release_event (Event.Piece d octets) mv t own is = absurd own
+release_event (Event.Propose d u) mv t (memory, own) is = cc
+release_event e mv t own is = cc
+
+turn_event : (e : Event) (mv : Move) (t : Topic) → IsMoveOf e mv → mv ≡ Turns t → e ≡ Event.Turn t
+turn_event (Event.Turn u) mv t own is = let one : u ≡ t = cc in ap Event.Turn one
+turn_event (Event.Next d) mv t own is = absurd (false≢true (sym (ap is_of_frame is) ∙ own))
+turn_event (Event.Piece d octets) mv t own is = absurd own
+turn_event (Event.Propose d u) mv t (memory, own) is = cc
+turn_event e mv t own is = cc
+
+-- ---- what is refused
+
+still : (w : World) (mv : Move) (why : Refusal) → outcome_of (answer_to w mv) ≡ Some (Outcome.Refused why) → world_after w mv ≡ w
+still w mv why e = let a = outcome_refused (answer_to w mv) why e in refusals_change_nothing w mv a.0 a.1
+
+refused_stays : (k : Core) (e : Event) (rd : Reading) (o : Outcome) (why : Refusal) → Comes k e rd o → o ≡ Outcome.Refused why → world_then k e rd o ≡ k.world
+refused_stays k e rd o why (inl h) is = h.0
+refused_stays k e rd o why (inr (inl h)) is = absurd (false≢true (sym (ap is_faulted is) ∙ h.faulted))
+refused_stays k e rd o why (inr (inr (inl h))) is =
+    let base : h.base ≡ Outcome.Refused why = uncut_refusal h.base why (subst (λ z. (h.base ≡ z) ⊎ (cut_of h.base ≡ z)) is h.cut) in
+    h.world ∙ still k.world h.move why (h.is ∙ ap (λ (z : Outcome). Some z) base)
+refused_stays k e rd o why (inr (inr (inr h))) is = absurd (false≢true (sym (ap is_cut is) ∙ h.was_cut))
+
+unremembered_stays : (k : Core) (e : Event) (rd : Reading) (o : Outcome) → Comes k e rd o → o ≡ Outcome.NoMemory → world_then k e rd o ≡ k.world
+unremembered_stays k e rd o (inl h) is = h.0
+unremembered_stays k e rd o (inr (inl h)) is = absurd (false≢true (sym (ap is_faulted is) ∙ h.faulted))
+unremembered_stays k e rd o (inr (inr (inl h))) is =
+    let base : h.base ≡ Outcome.NoMemory = uncut_memory h.base (subst (λ z. (h.base ≡ z) ⊎ (cut_of h.base ≡ z)) is h.cut) in
+    absurd (true≢false (sym (ap is_no_memory base) ∙ remembered (answer_to k.world h.move) h.base h.is))
+unremembered_stays k e rd o (inr (inr (inr h))) is = absurd (false≢true (sym (ap is_cut is) ∙ h.was_cut))
+
+-- ---- other topics
+
+-- a move that is about no topic changes none
+others_stay : (k : Core) (e : Event) (rd : Reading) (o : Outcome) (t : Topic) → t.0 < length k.world.topics → event_topic k e rd ≢ Some t → Comes k e rd o
+    → topic_at (world_then k e rd o) t ≡ topic_at k.world t
+others_stay k e rd o t l ne (inl h) = ap (λ (w : World). topic_at w t) h.0
+others_stay k e rd o t l ne (inr (inl h)) =
+    ap (λ (w : World). topic_at w t) h.world ∙ others_untouched k.world (Errs h.connection) t l (λ d. none_some t d)
+others_stay k e rd o t l ne (inr (inr (inl h))) =
+    ap (λ (w : World). topic_at w t) h.world ∙ others_untouched k.world h.move t l (λ d. ne (sym h.topic ∙ d))
+others_stay k e rd o t l ne (inr (inr (inr h))) =
+    let w = k.world in let c = h.connection in
+    let first : (world_after w (Decides c)).topics ≡ w.topics = by_refusal (λ v a. v.topics ≡ w.topics) w (Decides c) (λ why. refl) (λ n. refl) in
+    let second : (world_after (world_after w (Decides c)) (Lost c)).topics ≡ (world_after w (Decides c)).topics =
+    by_refusal (λ v a. v.topics ≡ (world_after w (Decides c)).topics) (world_after w (Decides c)) (Lost c) (λ why. refl) (λ n. refl) in
+    ap (λ (z : World). topic_at z t) h.world ∙ ap (λ z. topic_in z t) (second ∙ first)
+
+-- ---- tickets
+
+flight_there : (xs : List SenderState) (s : ℕ) (f : Undecided) → (get_or xs s new_sender).flight ≡ Some f → s < length xs
+flight_there [] s f e = none_some f e
+flight_there (x ∷ xs) zero f e = omega arith
+flight_there (x ∷ xs) (suc s) f e = let l = flight_there xs s f e in omega arith
+
+ticket_given : (w : World) (c : ℕ) (t : Topic) (m : Bool) (id : TxnId) (ticket : Stamp) (n : ℕ) (fault : Option ProposeFault) → Asks w c t → ticket.n ≡ n
+    → propose_answer w c t fault ≡ Answer.Ticket id ticket → GivesTicket w (propose_effect w c t fault) c t n
+ticket_given w c t m id ticket n (Some fault) asks number a = cc
+ticket_given w c t m id ticket n None asks number a =
+    let f = undecided_at w c in let s = (connection_at w c).sender in
+    let same : next_ticket w c t ≡ ticket = cc in
+    let is : (next_ticket w c t).n ≡ n = ap (λ (z : Stamp). z.n) same ∙ number in
+    let x = after_propose (speaker w c).floor (part_at f.txn.id f.txn.sends t) (topic_at w t) in
+    let y : SenderState = record (speaker w c) { flight = Some (record f { given = insert_ticket (next_ticket w c t) f.given }) } in
+    let room : s < length w.senders = flight_there w.senders s asks.flying.flight asks.flying.is in record {
+      named = asks.named;
+      number = sym is;
+      clock = at_set_within (λ (z : TopicState). z.clock ≡ n) w.topics t.0 t.0 x (new_topic t 0 0) asks.room (λ k. is) (λ ne. absurd (ne refl));
+      given = at_set_within (λ (z : SenderState). (undecided_or_none z.flight).given ≡ insert_ticket (record { n = n; topic = t }) f.given) w.senders s s y new_sender room
+          (λ k. ap (λ (q : ℕ). insert_ticket (record { n = q; topic = t }) f.given) is) (λ ne. absurd (ne refl));
+    }
+
+ticket_after : (w : World) (c : ℕ) (t : Topic) (m : Bool) (id : TxnId) (ticket : Stamp) (n : ℕ) → ticket.n ≡ n → answer_to w (Proposes c t m) ≡ Answer.Ticket id ticket
+    → GivesTicket w (world_after w (Proposes c t m)) c t n
+ticket_after w c t m id ticket n number =
+    by_refusal (λ v a. a ≡ Answer.Ticket id ticket → GivesTicket w v c t n) w (Proposes c t m) (λ why a. cc)
+    (λ r a. ticket_given w c t m id ticket n (proposal_fault w c t m) (asks_of w c t m r) number a)
+
+abbrev Ticketed : Core → Event → World → ℕ → Type 0
+Ticketed k e v n = (c : ℕ) × (t : Topic) × (e ≡ Event.Propose c t) × GivesTicket k.world v c t n
+
+ticket_comes : (k : Core) (e : Event) (rd : Reading) (o : Outcome) (n : ℕ) → Comes k e rd o → o ≡ Outcome.Proposed n → Ticketed k e (world_then k e rd o) n
+ticket_comes k e rd o n (inl h) is = absurd (false≢true (sym (ap is_plain is) ∙ h.1))
+ticket_comes k e rd o n (inr (inl h)) is = absurd (false≢true (sym (ap is_faulted is) ∙ h.faulted))
+ticket_comes k e rd o n (inr (inr (inr h))) is = absurd (false≢true (sym (ap is_cut is) ∙ h.was_cut))
+ticket_comes k e rd o n (inr (inr (inl h))) is =
+    let w = k.world in
+    let base : h.base ≡ Outcome.Proposed n = uncut_ticket h.base n (subst (λ z. (h.base ≡ z) ⊎ (cut_of h.base ≡ z)) is h.cut) in
+    let a = outcome_ticket (answer_to w h.move) n (h.is ∙ ap (λ (z : Outcome). Some z) base) in
+    let own = ticket_is_own w h.move a.0 a.1 a.2 in
+    let c = own.0 in let t = own.1 in let m = own.2 in (
+      c,
+      t,
+      proposal_event e h.move c t m h.own own.3,
+      subst (λ v. GivesTicket w v c t n) (sym (h.world ∙ ap (world_after w) own.3))
+          (ticket_after w c t m a.0 a.1 n a.3 (ap (answer_to w) (sym own.3) ∙ a.2)),
+    )
+
+-- ---- a stamp
+
+row_first : (t : Topic) (a : Stamp) (rows : List Stamp) (b : Bool) → (a.topic.0 == t.0) ≡ b → (has_ticket t rows ≡ true → (n : ℕ) × (row_at t rows ≡ Some n))
+    → has_ticket t (a ∷ rows) ≡ true → (n : ℕ) × (row_at t (a ∷ rows) ≡ Some n)
+row_first t a rows true is more h =
+    (a.n, ap (λ (b : Bool). option_map (λ (row : Stamp). row.n) (cond b (Some a) (find (λ (row : Stamp). row.topic.0 == t.0) rows))) is)
+row_first t a rows false is more h =
+    let later = more (ap (λ (b : Bool). b || has_ticket t rows) (sym is) ∙ h) in
+    (later.0, ap (λ (b : Bool). option_map (λ (row : Stamp). row.n) (cond b (Some a) (find (λ (row : Stamp). row.topic.0 == t.0) rows))) is ∙ later.1)
+
+-- a topic that gave a ticket has a row
+row_found : (t : Topic) (rows : List Stamp) → has_ticket t rows ≡ true → (n : ℕ) × (row_at t rows ≡ Some n)
+row_found t [] e = absurd (false≢true e)
+row_found t (a ∷ rows) e = row_first t a rows (a.topic.0 == t.0) refl (row_found t rows) e
+
+-- where each of these topics gave one, they are those of the tickets
+topics_given : (ts : List Topic) (rows : List Stamp) → list_all (λ t. has_ticket t rows) ts ≡ true
+    → map (λ (a : Stamp). a.topic) (ticket_rows (map (λ t. (t, row_at t rows)) ts)) ≡ ts
+topics_given [] rows e = refl
+topics_given (t ∷ ts) rows e =
+    let both = and_parts (has_ticket t rows) (list_all (λ u. has_ticket u rows) ts) e in
+    let here = row_found t rows both.0 in
+    ap (λ (o : Option ℕ). map (λ (a : Stamp). a.topic) (option_to_list (option_map (λ (m : ℕ). record { n = m; topic = t }) o) ++ ticket_rows (map (λ u. (u, row_at u rows)) ts))) here.1
+    ∙ ap (λ (us : List Topic). t ∷ us) (topics_given ts rows both.1)
+
+stamp_given : (k : Core) (c : ℕ) (stamp : Stamp) → IsReached k → move_refusal k.world (Decides c) ≡ None → stamp ≡ greatest (undecided_at k.world c).given
+    → GivesStamp k.world (decide_effect k.world c) c stamp
+stamp_given k c stamp reached n is =
+    let w = k.world in let s = (connection_at w c).sender in let f = undecided_at w c in
+    let tests = checked w (Decides c) n in
+    let flying = in_flight w c tests.1.1.0 in
+    let flight : (sender_at w s).flight ≡ Some f = flying.is ∙ ap (λ (z : Undecided). Some z) (sym flying.at) in
+    let complete : is_complete f ≡ true = false_not (is_complete f) tests.1.1.1.1.0 in
+    let y : SenderState = record (speaker w c) { floor = greatest f.given; flight = None } in record {
+      of_each = ap (map (λ (a : Stamp). a.topic)) (sym (tickets_are k s f reached flight)) ∙ topics_given (topics_of f.txn.sends) f.given complete;
+      is_greatest = is;
+      floor = at_set_within (λ (z : SenderState). z.floor ≡ stamp) w.senders s s y new_sender (flight_there w.senders s f flight) (λ e. sym is) (λ ne. absurd (ne refl));
+      row = ap (λ (z : Stamp). w.commits ++ record { txn = f.txn; stamp = z } ∷ []) (sym is);
+    }
+
+stamp_after : (k : Core) (c : ℕ) (id : TxnId) (stamp : Stamp) → IsReached k → answer_to k.world (Decides c) ≡ Answer.Decided id stamp
+    → stamp ≡ greatest (undecided_at k.world c).given → GivesStamp k.world (world_after k.world (Decides c)) c stamp
+stamp_after k c id stamp reached a is =
+    by_refusal (λ v z. z ≡ Answer.Decided id stamp → GivesStamp k.world v c stamp) k.world (Decides c) (λ why z. cc) (λ n z. stamp_given k c stamp reached n is) a
+
+-- a loss leaves senders and commits
+stamp_lost : (w v : World) (c : ℕ) (stamp : Stamp) → GivesStamp w v c stamp → GivesStamp w (world_after v (Lost c)) c stamp
+stamp_lost w v c stamp h =
+    by_refusal (λ z a. GivesStamp w z c stamp) v (Lost c) (λ why. h)
+    (λ n. record {
+      of_each = h.of_each;
+      is_greatest = h.is_greatest;
+      floor = at_set (λ (z : Connection). (get_or v.senders z.sender new_sender).floor ≡ stamp) v.connections c c
+          (record { sender = (connection_at v c).sender; standing = Rattle.delivery.specs.Machine.World.Standing.Leaving }) nobody (λ e. h.floor) h.floor;
+      row = h.row;
+    })
+
+abbrev Stamped : Core → Event → World → Stamp → Type 0
+Stamped k e v stamp = (c : ℕ) × (e ≡ Event.Decide c) × GivesStamp k.world v c stamp
+
+stamp_comes : (k : Core) (e : Event) (rd : Reading) (o : Outcome) (stamp : Stamp) (cut : Bool) → IsReached k → Comes k e rd o → o ≡ Outcome.Decided stamp cut
+    → Stamped k e (world_then k e rd o) stamp
+stamp_comes k e rd o stamp cut reached (inl h) is = absurd (false≢true (sym (ap is_plain is) ∙ h.1))
+stamp_comes k e rd o stamp cut reached (inr (inl h)) is = absurd (false≢true (sym (ap is_faulted is) ∙ h.faulted))
+stamp_comes k e rd o stamp cut reached (inr (inr (inl h))) is =
+    let w = k.world in
+    let base = uncut_stamp h.base stamp cut (subst (λ z. (h.base ≡ z) ⊎ (cut_of h.base ≡ z)) is h.cut) in
+    let a = outcome_stamp (answer_to w h.move) stamp base.0 (h.is ∙ ap (λ (z : Outcome). Some z) base.1) in
+    let own = subst (IsAnswer w h.move) a.1 (events_are_answered w h.move) in (
+      own.0,
+      decision_event e h.move own.0 h.own own.1,
+      subst (λ v. GivesStamp w v own.0 stamp) (sym (h.world ∙ ap (world_after w) own.1))
+          (stamp_after k own.0 a.0 stamp reached (ap (answer_to w) (sym own.1) ∙ a.1) own.3),
+    )
+stamp_comes k e rd o stamp cut reached (inr (inr (inr h))) is =
+    let w = k.world in let c = h.connection in
+    let base = uncut_stamp h.base stamp cut (subst (λ z. (h.base ≡ z) ⊎ (cut_of h.base ≡ z)) is h.cut) in
+    let a = outcome_stamp (answer_to w (Decides c)) stamp base.0 (h.is ∙ ap (λ (z : Outcome). Some z) base.1) in
+    let own = subst (IsAnswer w (Decides c)) a.1 (events_are_answered w (Decides c)) in
+    let same : c ≡ own.0 = (let d = own.1 in cc) in
+    let greatest_is : stamp ≡ greatest (undecided_at w c).given = own.3 ∙ ap (λ d. greatest (undecided_at w d).given) (sym same) in
+    (c, h.event, subst (λ v. GivesStamp w v c stamp) (sym h.world) (stamp_lost w (world_after w (Decides c)) c stamp (stamp_after k c a.0 stamp reached a.1 greatest_is)))
+
+-- ---- an item
+
+item_given : (w : World) (s : ℕ) (item : Item) (count : ℕ) (next : Option Item) → slice_get (accepted_at w s) (subscription_at w s).taken ≡ Some item → length item.sends ≡ count
+    → s < length w.subscriptions → next ≡ Some item → DeliversNext w (take_effect w s next) s count
+item_given w s item count None is sends l e = none_some item e
+item_given w s item count (Some other) is sends l e = record {
+  item = item;
+  is_next = is;
+  sends = sym sends;
+  taken = at_set_within (λ (z : Subscription). z.taken ≡ (subscription_at w s).taken + 1) w.subscriptions s s (record (subscription_at w s) { taken = (subscription_at w s).taken + 1 }) no_subscription l
+      (λ k. refl) (λ ne. absurd (ne refl));
+}
+
+item_after : (w : World) (s : ℕ) (item : Item) (count : ℕ) → slice_get (accepted_at w s) (subscription_at w s).taken ≡ Some item → length item.sends ≡ count
+    → answer_to w (Takes s) ≡ Answer.Handed s item → DeliversNext w (world_after w (Takes s)) s count
+item_after w s item count is sends =
+    by_refusal (λ v a. a ≡ Answer.Handed s item → DeliversNext w v s count) w (Takes s) (λ why a. cc)
+    (λ n a. item_given w s item count (slice_get (accepted_at w s) (subscription_at w s).taken) is sends (ltb-true s (length w.subscriptions) (false_not _ (checked w (Takes s) n).0)) is)
+
+abbrev Delivered : Core → Event → World → ℕ → Type 0
+Delivered k e v count = (s : ℕ) × (e ≡ Event.Take s) × DeliversNext k.world v s count
+
+item_comes : (k : Core) (e : Event) (rd : Reading) (o : Outcome) (count : ℕ) → Comes k e rd o → o ≡ Outcome.Handed count → Delivered k e (world_then k e rd o) count
+item_comes k e rd o count (inl h) is = absurd (false≢true (sym (ap is_plain is) ∙ h.1))
+item_comes k e rd o count (inr (inl h)) is = absurd (false≢true (sym (ap is_faulted is) ∙ h.faulted))
+item_comes k e rd o count (inr (inr (inr h))) is = absurd (false≢true (sym (ap is_cut is) ∙ h.was_cut))
+item_comes k e rd o count (inr (inr (inl h))) is =
+    let w = k.world in
+    let base : h.base ≡ Outcome.Handed count = uncut_item h.base count (subst (λ z. (h.base ≡ z) ⊎ (cut_of h.base ≡ z)) is h.cut) in
+    let a = outcome_item (answer_to w h.move) count (h.is ∙ ap (λ (z : Outcome). Some z) base) in
+    let own = subst (IsAnswer w h.move) a.2 (events_are_answered w h.move) in
+    let s = a.0 in (
+      s,
+      take_event e h.move s h.own own.0,
+      subst (λ v. DeliversNext w v s count) (sym (h.world ∙ ap (world_after w) own.0))
+          (item_after w s a.1 count own.1 a.3 (ap (answer_to w) (sym own.0) ∙ a.2)),
+    )
+
+-- ---- the end of a span
+
+-- what is said of a span that gets its end by a move
+abbrev Ended : World → Move → ℕ → Stamp → Type 0
+Ended w mv s end =
+    let t = (subscription_at w s).topic in let v = world_after w mv in
+    (answer_to w mv ≡ Answer.Unsubscribed s end)
+    ⊎ (((mv ≡ Releases t) ⊎ (mv ≡ Turns t)) × (length (accepted_at v s) ≡ (subscription_at w s).taken + w.capacity) × EndsBeforeRow (log_at w t) (log_at v t) end)
+
+-- a release or a turn isn't answered so
+lag_answer : (w : World) (mv : Move) (t : Topic) (s : ℕ) (end : Stamp) → (mv ≡ Releases t) ⊎ (mv ≡ Turns t) → answer_to w mv ≡ Answer.Unsubscribed s end → Prim.⊥
+lag_answer w mv t s end by a = elim (subst (IsAnswer w mv) a (events_are_answered w mv)) [
+  | inl h ↦ (let d = h.1 in elim by [ inl e ↦ cc | inr e ↦ cc ])
+  | inr h ↦ (let d = h.1 in elim by [ inl e ↦ cc | inr e ↦ cc ])
+]
+
+-- as many items were delivered as were taken
+taken_is : (r : Run) (s : ℕ) → length (delivered_items s (answers_of r)) ≡ (subscription_at (final_world r) s).taken
+taken_is r s = elim (within s (length (final_world r).subscriptions)) [
+  | inl l ↦ sym ((handing r).held s l).count
+  | inr l ↦ ap (λ (items : List Item). length items) ((handing r).fresh s l) ∙ sym (ap (λ (x : Subscription). x.taken) (get_or_past (final_world r).subscriptions s no_subscription l))
+]
+
+run_ended : (r : Run) (mv : Move) (s : ℕ) (end : Stamp) → end_at (final_world r) s ≡ None → end_at (world_after (final_world r) mv) s ≡ Some end → Ended (final_world r) mv s end
+run_ended r mv s end none some = elim (ends_are_told r mv s end none some) [
+  | inl a ↦ inl a
+  | inr (by, full) ↦ inr (
+    by,
+    (let count = taken_is r s in let same = (known r).same in omega (arith, count, same, full)),
+    lags_end_before_row r mv s end none some (lag_answer (final_world r) mv (subscription_at (final_world r) s).topic s end by),
+  )
+]
+
+move_ended : (k : Core) → IsReached k → (mv : Move) (s : ℕ) (end : Stamp) → end_at k.world s ≡ None → end_at (world_after k.world mv) s ≡ Some end → Ended k.world mv s end
+move_ended k reached =
+    by_world (λ w. (mv : Move) (s : ℕ) (end : Stamp) → end_at w s ≡ None → end_at (world_after w mv) s ≡ Some end → Ended w mv s end) k reached run_ended
+
+lost_ends : (w : World) (c s : ℕ) → end_at (world_after (world_after w (Decides c)) (Lost c)) s ≡ end_at w s
+lost_ends w c s =
+    by_refusal (λ v a. end_at v s ≡ end_at (world_after w (Decides c)) s) (world_after w (Decides c)) (Lost c) (λ why. refl) (λ n. refl)
+    ∙ by_refusal (λ v a. end_at v s ≡ end_at w s) w (Decides c) (λ why. refl) (λ n. refl)
+
+abbrev EndsOf : Core → Event → Outcome → ℕ → Stamp → World → Type 0
+EndsOf k e o s end v = (o ≡ Outcome.Unsubscribed s end) ⊎ LagsFull k.world v e s end
+
+lag_event : (k : Core) (e : Event) (mv : Move) (s : ℕ) → IsMoveOf e mv → let t = (subscription_at k.world s).topic in (mv ≡ Releases t) ⊎ (mv ≡ Turns t)
+    → (e ≡ Event.Release t) ⊎ (e ≡ Event.Turn t)
+lag_event k e mv s own (inl d) = inl (release_event e mv (subscription_at k.world s).topic own d)
+lag_event k e mv s own (inr d) = inr (turn_event e mv (subscription_at k.world s).topic own d)
+
+ends_come : (k : Core) (e : Event) (rd : Reading) (o : Outcome) (s : ℕ) (end : Stamp) → IsReached k → Comes k e rd o → end_at k.world s ≡ None
+    → end_at (world_then k e rd o) s ≡ Some end → EndsOf k e o s end (world_then k e rd o)
+ends_come k e rd o s end reached (inl h) none some = none_some end (sym none ∙ (ap (λ (w : World). end_at w s) (sym h.0) ∙ some))
+ends_come k e rd o s end reached (inr (inl h)) none some =
+    let mv = Errs h.connection in
+    elim (move_ended k reached mv s end none (ap (λ (w : World). end_at w s) (sym h.world) ∙ some)) [
+      | inl a ↦ elim (subst (IsAnswer k.world mv) a (events_are_answered k.world mv)) [ inl q ↦ (let d = q.1 in cc) | inr q ↦ (let d = q.1 in cc) ]
+      | inr (by, full, row) ↦ elim by [ inl d ↦ cc | inr d ↦ cc ]
+    ]
+ends_come k e rd o s end reached (inr (inr (inl h))) none some =
+    elim (move_ended k reached h.move s end none (ap (λ (w : World). end_at w s) (sym h.world) ∙ some)) [
+      | inl a ↦ inl (end_cut o h.base s end (some_same h.base (Outcome.Unsubscribed s end) (sym h.is ∙ ap outcome_of a)) h.cut)
+      | inr (by, full, row) ↦ inr (subst (λ v. LagsFull k.world v e s end) (sym h.world) (record { by = lag_event k e h.move s h.own by; full = full; row = row }))
+    ]
+ends_come k e rd o s end reached (inr (inr (inr h))) none some =
+    none_some end (sym none ∙ (sym (lost_ends k.world h.connection s) ∙ (ap (λ (w : World). end_at w s) (sym h.world) ∙ some)))
+
+-- ---- rows and items
+
+move_enters : (k : Core) → IsReached k → (mv : Move) → AllEnter k.world (world_after k.world mv)
+move_enters k reached = by_world (λ w. (mv : Move) → AllEnter w (world_after w mv)) k reached rows_enter
+
+-- a decision and a loss change no topic and no subscription
+lost_enters : (w : World) (c : ℕ) → AllEnter w (world_after (world_after w (Decides c)) (Lost c))
+lost_enters w c s l =
+    by_refusal (λ v a. Enters w s v.topics (subscription_at v s)) (world_after w (Decides c)) (Lost c) (λ why. decided) (λ n. decided)
+  where
+    decided : Enters w s (world_after w (Decides c)).topics (subscription_at (world_after w (Decides c)) s)
+    decided = by_refusal (λ v a. Enters w s v.topics (subscription_at v s)) w (Decides c) (λ why n. refl) (λ m n. refl)
+
+rows_come : (k : Core) (e : Event) (rd : Reading) (o : Outcome) → IsReached k → Comes k e rd o → AllEnter k.world (world_then k e rd o)
+rows_come k e rd o reached (inl h) = subst (AllEnter k.world) (sym h.0) (λ s l n. refl)
+rows_come k e rd o reached (inr (inl h)) = subst (AllEnter k.world) (sym h.world) (move_enters k reached (Errs h.connection))
+rows_come k e rd o reached (inr (inr (inl h))) = subst (AllEnter k.world) (sym h.world) (move_enters k reached h.move)
+rows_come k e rd o reached (inr (inr (inr h))) = subst (AllEnter k.world) (sym h.world) (lost_enters k.world h.connection)
+
+-- ---- what holds of each core
+
+abbrev AreNamed : World → Type 0
+AreNamed w = (c : ℕ) (a : Stamp) → In a (undecided_at w c).given → names a.topic (topics_of (undecided_at w c).txn.sends) ≡ true
+
+flight_named : (r : Run) (c : ℕ) (a : Stamp) (o : Option Undecided) → (speaker (final_world r) c).flight ≡ o → In a (undecided_or_none o).given
+    → names a.topic (topics_of (undecided_or_none o).txn.sends) ≡ true
+flight_named r c a None e i = absurd i
+flight_named r c a (Some f) e i = (given r (connection_at (final_world r) c).sender f e).named a i
+
+are_named : (k : Core) → IsReached k → AreNamed k.world
+are_named k reached = by_world AreNamed k reached (λ r c a i. flight_named r c a (speaker (final_world r) c).flight refl i)
+
+abbrev AreBounded : World → Type 0
+AreBounded w = (s : ℕ) → s < length w.subscriptions → length (accepted_at w s) ≤ (subscription_at w s).taken + w.capacity
+
+are_bounded : (k : Core) → IsReached k → AreBounded k.world
+are_bounded k reached = by_world AreBounded k reached (λ r. (known r).bounded)
+
+-- ---- all together
+
+-- each step of a run has stepped
+pub steps_stepped : Stepped.StepsHaveStepped
+steps_stepped topics capacity step older as_many is_run =
+    let k = core_of topics capacity older in let e = step.event in let o = step.outcome in let rd = step.reading in
+    let reached : IsReached k = record { topics = topics; capacity = capacity; steps = older; as_many = as_many; is = refl; run = is_run.1 } in
+    let later : IsReached (core_after k step) = record { topics = topics; capacity = capacity; steps = step ∷ older; as_many = as_many; is = refl; run = is_run } in
+    let read : rd ≡ reading_at k.steps e o = event_reads k e rd o (limits_are topics capacity older is_run.1) is_run.0.reading is_run.0.outcome in
+    let same : step ≡ step_at k e o = λ i. record { event = e; reading = read i; outcome = o } in
+    let came = comes k e rd o is_run.0.outcome in record {
+      is_after = ap (core_after k) same;
+      may = subst (MayStep k) same is_run.0;
+      refused = λ why is. refused_stays k e rd o why came is;
+      no_memory = λ is. unremembered_stays k e rd o came is;
+      others = λ t l ne. others_stay k e rd o t l (λ d. ne (ap (event_topic k e) (sym read) ∙ d)) came;
+      ticket = λ n is. ticket_comes k e rd o n came is;
+      named = are_named (core_after k step) later;
+      stamp = λ stamp cut is. stamp_comes k e rd o stamp cut reached came is;
+      delivered = λ count is. item_comes k e rd o count came is;
+      ends = λ s end none some. ends_come k e rd o s end reached came none some;
+      enters = rows_come k e rd o reached came;
+      bounded = are_bounded (core_after k step) later;
+    }

@@ -1,0 +1,87 @@
+-- The trace of what a net holds: its rows fit, and it is traced.
+use Rattle.std.proofs.Common.{◌≡◌, ◌<◌, ◌≤◌, ◌==◌, nat_lt, Bool, true, inl, inr, List, [], ◌∷◌, length, Some, None, refl, sym, ap, subst, ◌∙◌, arith}
+use Rattle.std.specs.List.{filter, list_all, AllByRecursion}
+use Rattle.std.proofs.lemmas.Bool.{and_from, eq-eqb, lt-ltb}
+use Rattle.std.proofs.lemmas.List.{length-map}
+use Rattle.mcast_txn.specs.declared.id.Topic.{Topic}
+use Rattle.mcast_txn.specs.Agreed.{agreed}
+use Rattle.mcast_txn.specs.Lists.{In, RisesBy}
+use Rattle.mcast_txn.specs.Span.{LogRow}
+use Rattle.mcast_txn.specs.TopicSet.{names}
+use Rattle.mcast_txn.proofs.Members.{In-map, In-map_cases, In-filter, In-filter_cases}
+use Rattle.mcast_txn.proofs.TopicLemmas.{topics_rise}
+use Rattle.mcast_group.specs.Group.{GroupState}
+use Rattle.trace_audit.specs.Line.{LogLine}
+use Rattle.trace_audit.specs.Trace.{fits, rise_after}
+use Rattle.delivery.specs.Topics.{max_topics}
+use Rattle.delivery.specs.Nets.{KeptRun}
+use Rattle.delivery.specs.Theorem.Due.{log_row}
+use Rattle.delivery.specs.Machine.Moves.{Answer}
+use Rattle.delivery.specs.Machine.Runs.{commits_of}
+use Rattle.delivery.specs.Core.Account.{account_of}
+use Rattle.delivery.specs.Core.State.{core_of}
+use Rattle.delivery.specs.Core.Reports.{Report, report_of}
+use Rattle.delivery.specs.Core.Delivery.{Delivers}
+use Rattle.delivery.specs.Inner.NetInvariant.{KeepsRun}
+use Rattle.delivery.specs.Inner.View.{View}
+use Rattle.delivery.specs.Inner.ViewReports.{report_in}
+use Rattle.delivery.specs.Traces.{trace_of, IsTraced}
+use Rattle.delivery.proofs.Core.DeliversOfRun.{delivers}
+use Rattle.delivery.proofs.Views.KeptRuns.{is_delivered, has_report}
+use Rattle.delivery.proofs.Views.ReportOfView.{reported}
+use Rattle.delivery.proofs.Traces.Lists.{In-take}
+use Rattle.delivery.proofs.Traces.Lines.{log_is}
+use Rattle.delivery.proofs.Traces.Explained.{sequence, at_topic, fronted}
+use Rattle.delivery.proofs.Traces.OfRuns.{logs_length, traced}
+
+-- ---- rows fit
+
+rises_after : (u : Topic) (ts : List Topic) → AllByRecursion (λ (t : Topic). u.0 < t.0) ts → RisesBy (λ (t : Topic). t.0) ts → rise_after (Some u) ts ≡ true
+rises_after u [] above rises = refl
+rises_after u (t ∷ ts) above rises = and_from (nat_lt u.0 t.0) (rise_after (Some t) ts) (lt-ltb u.0 t.0 above.0) (rises_after t ts rises.0 rises.1)
+
+rise_first : (ts : List Topic) → RisesBy (λ (t : Topic). t.0) ts → rise_after None ts ≡ true
+rise_first [] rises = refl
+rise_first (t ∷ ts) rises = rises_after t ts rises.0 rises.1
+
+all_pass : {X : Type 0} (p : X → Bool) (xs : List X) → ((x : X) → In x xs → p x ≡ true) → list_all p xs ≡ true
+all_pass p [] h = refl
+all_pass p (x ∷ xs) h = and_from (p x) (list_all p xs) (h x (inl refl)) (all_pass p xs (λ y k. h y (inr k)))
+
+row_fits : (account : List Answer) (r : Report) → Delivers account r → (line : LogLine) → In line (trace_of r).logs → fits line ≡ true
+row_fits account r d line k =
+    let t = line.topic in
+    let f = fronted account r d t in
+    let named = filter (at_topic t) (sequence account) in
+    let in_log = In-map (λ (z : LogLine). z.row) line _ (In-filter (λ (z : LogLine). z.topic.0 == t.0) line (trace_of r).logs k (eq-eqb t.0 t.0 refl)) in
+    let i = In-filter_cases (at_topic t) line.row (sequence account) (In-take line.row f.count named (subst (λ z. In line.row z) (log_is r t ∙ f.is) in_log)) in
+    let m = In-map_cases log_row line.row (agreed (commits_of account)) i.stands in
+    and_from (rise_after None line.row.topics) (names t line.row.topics)
+    (subst (λ (z : LogRow). rise_after None z.topics ≡ true) m.is (rise_first (log_row m.from).topics (topics_rise m.from.txn.sends)))
+    i.passes
+
+-- ---- of what is held
+
+-- each row of its logs fits
+pub held_fits : (net : KeptRun) (held : View) → KeepsRun net.topics net.capacity net.kept held
+    → list_all (λ (line : LogLine). fits line) (trace_of (report_in held)).logs ≡ true
+held_fits net held keeps =
+    let d = delivers net.topics net.capacity keeps.steps keeps.is_run in
+    let k = core_of net.topics net.capacity keeps.steps in
+    let is : report_in held ≡ report_of k = ap report_in keeps.view ∙ reported k in
+    subst (λ (r : Report). list_all (λ (line : LogLine). fits line) (trace_of r).logs ≡ true) (sym is)
+    (all_pass (λ (line : LogLine). fits line) (trace_of (report_of k)).logs (row_fits (account_of net.topics.names keeps.steps) (report_of k) d))
+
+-- it has no more groups than a core may have topics
+pub held_few : (net : KeptRun) (held : View) → KeepsRun net.topics net.capacity net.kept held → length held.groups ≤ max_topics
+held_few net held keeps =
+    let k = core_of net.topics net.capacity keeps.steps in
+    let is : report_in held ≡ report_of k = ap report_in keeps.view ∙ reported k in
+    let logs : length held.groups ≡ length (report_in held).logs = sym (length-map held.groups (λ (g : GroupState). g.topic.held)) in
+    let many : length held.groups ≡ length net.topics.names = logs ∙ (ap (λ (r : Report). length r.logs) is ∙ logs_length net.topics net.capacity keeps.steps keeps.as_many keeps.is_run) in
+    omega (arith, many, keeps.as_many, keeps.few)
+
+-- the trace of what it reports is its trace
+pub held_traced : (net : KeptRun) (held : View) → KeepsRun net.topics net.capacity net.kept held → IsTraced net (trace_of (report_in held))
+held_traced net held keeps =
+    subst (λ (r : Report). IsTraced net (trace_of r)) (sym (is_delivered net held keeps).is_report) (traced net keeps.as_many (has_report net held keeps))
