@@ -1,0 +1,20 @@
+-- The numbers of a commit's faults (own).
+use Rattle.std.specs.Prelude.{ℕ}
+use Rattle.mcast_group.specs.declared.fault.ProposeFault.{ProposeFault}
+use Rattle.mcast_group.specs.declared.fault.ProposeFault.TheVariants as propose
+use Rattle.broker_locks.specs.declared.fault.CommitFault.{CommitFault}
+use Rattle.broker_locks.specs.declared.fault.CommitFault.TheVariants as commit
+
+abbrev pub commit_number : CommitFault → ℕ
+commit_number commit.ClockFull = 40
+commit_number commit.LogFull = 41
+commit_number commit.NoMemory = 42
+commit_number commit.Twice = 49
+commit_number commit.AlreadySet = 32
+
+-- a topic's fault, as the commit's
+abbrev pub commit_fault : ProposeFault → CommitFault
+commit_fault propose.ClockFull = commit.ClockFull
+commit_fault propose.LogFull = commit.LogFull
+commit_fault propose.NoMemory = commit.NoMemory
+commit_fault propose.Twice = commit.Twice

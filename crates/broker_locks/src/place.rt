@@ -1,0 +1,203 @@
+//! What one topic's lock guards.
+
+ghost use Rattle.std.specs.Prelude.{◌≡◌, ◌+◌, [], length, Some, None, OnOk, OnErr, IfOk, IfErr};
+ghost use Rattle.std.specs.Arc.{arc_value};
+ghost use Rattle.mcast_txn.specs.Part.{data_of};
+ghost use Rattle.mcast_txn.specs.TopicSet.{names};
+ghost use Rattle.sub_queue.specs.Ends.{shown_of_source};
+ghost use Rattle.mcast_group.specs.Group.{HasLeft, or_no_memory, result_of, sub_refusal};
+ghost use Rattle.mcast_group.specs.Machine.{cancel_fault, next_number, state_of, subscribe_fault, unsubscribe_fault};
+ghost use Rattle.broker_locks.specs.Place.{HasTurned, IsBalanced, is_part_at, new_place, place_after_cancel, place_after_propose};
+ghost use Rattle.broker_locks.specs.Place.{place_after_subscribe, place_after_turn, place_after_unsubscribe, place_fault, rows_since};
+ghost use Rattle.broker_locks.specs.Place.{any_verdict, source_answers};
+ghost use Rattle.mcast_group.specs.Group.{GroupState, Turns};
+
+use crate::counts::Counts;
+use mcast_group::{CancelFault, Cells, Ended, Group, NoSub, ProposeFault, SubFault, SubState};
+use mcast_txn::{NoMemory, Part, Stamp, Ticket, Topic, TxnId};
+use std::alloc::Global;
+use std::marker::Model;
+use std::sync::{Arc, Wait};
+use sub_queue::Source;
+
+/// What one topic's lock guards: the topic's group, over queues that two threads share, and how many tickets it gave, rows
+/// it released and parts were cancelled.
+pub struct Place<R: Wait> {
+    group: Group<Source<R>>,
+    tickets: u64,
+    released: u64,
+    cancelled: u64,
+}
+
+impl<R: Wait> Drop for Place<R> {
+    /// Written out, so that letting a place go is one call for the prover wherever it happens.
+    fn drop(self) {
+        let Place {
+            group,
+            tickets: _,
+            released: _,
+            cancelled: _,
+        } = self;
+        drop(group);
+    }
+}
+
+impl<R: Wait> Model for Place<R> {
+    ghost use Rattle.broker_locks.specs.Place.{IsBalanced, PlaceState};
+
+    ghost Value = { PlaceState };
+
+    ghost view = { λ p. record { group = p.group; tickets = p.tickets; released = p.released; cancelled = p.cancelled } };
+
+    ghost invariant = { λ p. IsBalanced (record { group = p.group; tickets = p.tickets; released = p.released; cancelled = p.cancelled }) };
+}
+
+impl<R: Wait> Place<R> {
+    /// The place of an empty topic with this clock, of at most `log_limit` parts and rows, taken together. It takes no
+    /// memory.
+    pub fn new(alloc: Global, topic: Topic, clock: u64, log_limit: usize) -> Place<R>
+        ensures { result ≡ new_place topic log_limit clock }
+    {
+        Place {
+            group: Group::new(alloc, topic, clock, log_limit),
+            tickets: 0,
+            released: 0,
+            cancelled: 0,
+        }
+    }
+
+    /// The topic's group.
+    pub fn group(&self) -> &Group<Source<R>>
+        ensures { result.now ≡ self.now.group }
+    {
+        &self.group
+    }
+
+    /// How many tickets the topic gave, and what became of their parts. They are balanced, and the topic is sound, by
+    /// this type: so it holds whenever the lock is free.
+    pub fn counts(&self) -> Counts
+        ensures value { result ≡ record {
+          tickets = self.now.tickets;
+          released = self.now.released;
+          cancelled = self.now.cancelled;
+          pending = length self.now.group.topic.pending;
+        } }
+        ensures balanced { IsBalanced self.now }
+    {
+        Counts {
+            tickets: self.tickets,
+            released: self.released,
+            cancelled: self.cancelled,
+            pending: self.group.pending_len() as u64,
+        }
+    }
+
+    /// Enters a part, and gives its ticket. Refused, in this order: 49 where the part isn't of this topic or a part of the
+    /// transaction is pending, 40 where no number is left, 41 where the log is at its limit, 42 out of memory; the place
+    /// is then as it was.
+    pub fn propose(&mut self, floor: Stamp, part: Arc<Part>) -> Result<Ticket, ProposeFault>
+        ensures allowed { OnOk result (place_fault floor (data_of (arc_value part)) self.old ≡ None) }
+        ensures ticket { IfOk result (λ ticket. ticket ≡ record {
+          id = (arc_value part).id;
+          topic = self.old.group.topic.topic;
+          n = next_number floor self.old.group.topic;
+        }) }
+        ensures ok { OnOk result (self.new ≡ place_after_propose floor (data_of (arc_value part)) self.old) }
+        ensures fault { IfErr result
+            (λ fault. fault ≡ or_no_memory (place_fault floor (data_of (arc_value part)) self.old)) }
+        ensures err { OnErr result (self.new ≡ self.old) }
+    {
+        if !is_part_at(self.group.topic(), &part) {
+            return Err(ProposeFault::Twice);
+        }
+        let ticket = self.group.propose(floor, part)?;
+        self.tickets += 1;
+        Ok(ticket)
+    }
+
+    /// Takes the transaction's part out, with no memory. Refused, in this order: 43 where no part of the transaction is
+    /// pending, 46 where it has learnt its stamp; the place is then as it was.
+    pub fn cancel(&mut self, id: TxnId) -> Result<(), CancelFault>
+        ensures answer { result ≡ result_of (cancel_fault id self.old.group.topic) }
+        ensures ok { OnOk result (self.new ≡ place_after_cancel id self.old) }
+        ensures err { OnErr result (self.new ≡ self.old) }
+    {
+        self.group.cancel(id)?;
+        self.cancelled += 1;
+        Ok(())
+    }
+
+    /// Turns the topic: each pending part learns the verdict that its flight's cell holds, and what is due is released;
+    /// then the log is drained. Returns how many rows were released. Out of memory for the drain, the turn stands. It may
+    /// wait for a take that is under way.
+    pub fn head(&mut self, rt: &R) -> Result<u64, NoMemory>
+        ensures { HasTurned self.old self.new result }
+    {
+        let count = self.turn(rt);
+        let _drained = self.group.drain_log()?;
+        Ok(count)
+    }
+
+    // Turns the topic.
+    fn turn(&mut self, rt: &R) -> u64
+        ensures { (turned : GroupState) × Turns source_answers any_verdict self.old.group turned
+            × (self.new ≡ place_after_turn turned self.old) × (result ≡ rows_since self.old.group turned) }
+    {
+        let count = self.group.turn(rt, &Cells);
+        self.released += count;
+        count
+    }
+
+    /// Begins a subscription of this number after the frontier, which it answers. The source has pushed nothing yet.
+    /// Refused, in this order: 47 where the number is in use, 42 out of memory; the place is then as it was, and the
+    /// source is returned.
+    pub fn subscribe(
+        &mut self,
+        number: u64,
+        source: Source<R>,
+    ) -> Result<Stamp, (SubFault, Source<R>)>
+        requires { source.items ≡ [] }
+        ensures from { IfOk result (λ from. from ≡ self.old.group.topic.frontier) }
+        ensures allowed { OnOk result (subscribe_fault number self.old.group.topic ≡ None) }
+        ensures ok { OnOk result
+            (self.new ≡ place_after_subscribe number (shown_of_source source).room self.old) }
+        ensures fault { IfErr result (λ e. e.0 ≡ sub_refusal (subscribe_fault number self.old.group.topic)) }
+        ensures back { IfErr result (λ e. shown_of_source e.1 ≡ shown_of_source source) }
+        ensures err { OnErr result (self.new ≡ self.old) }
+    {
+        self.group.subscribe(number, source)
+    }
+
+    /// Ends the subscription of this number, with no memory, and returns what it leaves. Refused by 48 where there is
+    /// none; the place is then as it was.
+    pub fn unsubscribe(&mut self, number: u64) -> Result<Ended<Source<R>>, NoSub>
+        ensures left { IfOk result
+            (λ left. HasLeft number self.old.group (shown_of_source left.outlet) left.to left.cause) }
+        ensures ok { OnOk result (self.new ≡ place_after_unsubscribe number self.old) }
+        ensures fault { IfErr result (λ fault. unsubscribe_fault number self.old.group.topic ≡ Some fault) }
+        ensures err { OnErr result (self.new ≡ self.old) }
+    {
+        self.group.unsubscribe(number)
+    }
+
+    /// Whether the subscription of this number is open or has lagged, if there is one.
+    pub fn state(&self, number: u64) -> Option<SubState>
+        ensures { result ≡ state_of number self.now.group.topic }
+    {
+        self.group.state(number)
+    }
+}
+
+// Whether the part is of this topic, which its transaction names.
+fn is_part_at(topic: Topic, part: &Part) -> bool
+    ensures { result ≡ is_part_at topic (data_of part.now) }
+{
+    part.topic.0 == topic.0 && names(topic, part.topics.as_slice())
+}
+
+// Whether a topic is one of these.
+fn names(topic: Topic, topics: &[Topic]) -> bool
+    ensures { result ≡ names topic topics.now }
+{
+    topics.iter().any(|other| other.0 == topic.0)
+}

@@ -1,0 +1,8 @@
+//! Commits over places that are made up.
+
+mod broker;
+mod commits;
+mod fake;
+mod faults;
+mod memory;
+mod places;
