@@ -6,8 +6,9 @@ use Rattle.broker_server.specs.declared.program_fault.ProgramFault.{ProgramFault
 use Rattle.broker_server.specs.declared.program_fault.ProgramFault.TheVariants.{Io}
 use Rattle.broker_server.specs.Counts.{plus, max_reads, Fails, FailsNot, RunsOut}
 use Rattle.broker_server.specs.Audit.{IsAudited}
-use Rattle.broker_server.specs.Programs.{Asked, ToRelay, ToAudit}
+use Rattle.broker_server.specs.Programs.{Asked, ToRelay, ToScript, ToTrace, ToAudit}
 use Rattle.broker_server.specs.Relay.{IsRelayed}
+use Rattle.broker_server.specs.ScriptRuns.{IsScripted, IsScriptTraced}
 
 -- Where the run returns a status and the reader's octets are known, it has written what this relation says of
 -- all of them.
@@ -25,9 +26,19 @@ Relays name unread old new answer = Writes (IsRelayed name) unread old new answe
 abbrev pub Audits : Option (List ℕ) → Option (List ℕ) → Option (List ℕ) → Result ℕ ProgramFault → Type 0
 Audits unread old new answer = Writes IsAudited unread old new answer
 
+-- It has then written the outcomes and the report of the script that they are.
+abbrev pub Scripts : Option (List ℕ) → Option (List ℕ) → Option (List ℕ) → Result ℕ ProgramFault → Type 0
+Scripts unread old new answer = Writes IsScripted unread old new answer
+
+-- It has then written the trace of the script that they are.
+abbrev pub ScriptTraces : Option (List ℕ) → Option (List ℕ) → Option (List ℕ) → Result ℕ ProgramFault → Type 0
+ScriptTraces unread old new answer = Writes IsScriptTraced unread old new answer
+
 -- what a program writes of an input, and its status
 abbrev pub IsWrittenBy : Asked → List ℕ → List ℕ → ℕ → Type 0
 IsWrittenBy (ToRelay name) = IsRelayed name
+IsWrittenBy ToScript = IsScripted
+IsWrittenBy ToTrace = IsScriptTraced
 IsWrittenBy ToAudit = IsAudited
 
 -- A fault of input or output has a cause that was counted: the writer failed; or the writer wasn't called,

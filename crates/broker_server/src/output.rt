@@ -27,6 +27,18 @@ pub(crate) fn put<W: Write>(
     ensures heard { Heard result writer.old writer.new }
 {
     write_server(frame, waiting)?;
+    drain_full(waiting, writer)
+}
+
+/// Writes all that waits, once it is much.
+pub(crate) fn drain_full<W: Write>(
+    waiting: &mut Octets,
+    writer: &mut Counting<W>,
+) -> Result<(), ProgramFault>
+    ensures sent { OnOk result (Sends (W.contents writer.old.inner) waiting.old
+        (W.contents writer.new.inner) waiting.new []) }
+    ensures heard { Heard result writer.old writer.new }
+{
     if waiting.len() < FULL {
         return Ok(());
     }

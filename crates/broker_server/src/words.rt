@@ -11,6 +11,8 @@ use crate::ended::Ended;
 use crate::program::Program;
 use crate::program_fault::ProgramFault;
 use crate::relay::run_relay;
+use crate::scripting::run_script;
+use crate::tracing::run_trace;
 use std::alloc::Global;
 use std::io;
 use std::io::{ErrorKind, Read, Write};
@@ -45,6 +47,8 @@ pub fn run_words<R: Read, W: Write>(
     };
     match Program::parse(words.as_slice()) {
         Some(Program::Relay(name)) => Ended::by(run_relay(alloc, name, reader, writer)),
+        Some(Program::Script) => Ended::by(run_script(alloc, reader, writer)),
+        Some(Program::Trace) => Ended::by(run_trace(alloc, reader, writer)),
         Some(Program::Audit) => Ended::by(run_audit(alloc, reader, writer)),
         None => Ended::by_usage(),
     }

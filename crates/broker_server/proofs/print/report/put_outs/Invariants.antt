@@ -1,0 +1,8 @@
+use Rattle.std.proofs.Common.{◌≡◌, ◌++◌, take}
+use Rattle.std.specs.List.{flat_map, enumerate_from}
+use Rattle.broker_server.specs.ReportText.{out_line}
+use Rattle.broker_server.proofs.print.report.put_outs.Given as goal
+
+-- the lines so far are there
+abbrev pub invariant-loop-c : goal.invariant-loop-c
+invariant-loop-c l = l.out ≡ l.fn.out ++ flat_map out_line (enumerate_from 0 (take l.c l.report.outs))

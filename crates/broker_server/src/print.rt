@@ -1,0 +1,10 @@
+//! What the script's program writes: outcomes and reports, as lines.
+
+mod outcome;
+mod report;
+mod shown;
+#[cfg(test)]
+mod tests;
+
+pub use outcome::print_outcome;
+pub use report::print_report;

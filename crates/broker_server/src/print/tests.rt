@@ -1,0 +1,7 @@
+//! Lines of outcomes and of reports.
+
+mod memory;
+mod outcomes;
+mod reports;
+mod runs;
+mod shown;

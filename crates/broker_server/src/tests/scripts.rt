@@ -1,0 +1,269 @@
+//! Which texts are scripts, what each line says, and where the first bad line is.
+
+use crate::{Script, ScriptFault};
+use delivery::Topics;
+use std::alloc::Global;
+use std::test::Fail;
+
+/// What reading a text came to.
+#[derive(Clone, Copy, Debug, PartialEq, Eq)]
+enum Reading {
+    /// It is a script with this capacity, so many topics and so many events.
+    Script(usize, usize, usize),
+    /// This line is the first bad one.
+    Bad(usize),
+    /// Memory ran out.
+    NoMemory,
+}
+
+/// What reading a text comes to.
+fn reading_of(alloc: Global, text: &[u8]) -> Reading {
+    match Script::parse(alloc, text) {
+        Ok(script) => {
+            let (capacity, topics, events) = script.into_parts();
+            Reading::Script(capacity, topics.len(), events.len())
+        }
+        Err(ScriptFault::BadLine(line)) => Reading::Bad(line),
+        Err(ScriptFault::NoMemory) => Reading::NoMemory,
+    }
+}
+
+/// Each is a script: its capacity, its number of topics and that of its events.
+const SCRIPTS: [(&[u8], usize, usize, usize); 16] = [
+    (b"", 64, 0, 0),
+    (b"\n", 64, 0, 0),
+    (b"#", 64, 0, 0),
+    (b"# turn 00\n\n#\n", 64, 0, 0),
+    (b"open", 64, 0, 1),
+    (b"open\n", 64, 0, 1),
+    (b"capacity 1\n", 1, 0, 0),
+    (b"capacity 4096\n", 4096, 0, 0),
+    (b"topic A 9\ncapacity 2\ntopic B 0\nopen\n", 2, 2, 1),
+    (b"topic ~! 18446744073709551615", 64, 1, 0),
+    (
+        b"# two\n\ntopic a 0\n\n#\ntopic A 0\nopen\n#\n\nopen",
+        64,
+        2,
+        2,
+    ),
+    (b"next 18446744073709551615\n", 64, 0, 1),
+    (b"turn 4294967295\nrelease 4294967295\n", 64, 0, 2),
+    (
+        b"learn 4294967295 18446744073709551615 18446744073709551615",
+        64,
+        0,
+        1,
+    ),
+    (b"propose 18446744073709551615 4294967295\n", 64, 0, 1),
+    (b"piece 18446744073709551615  \n", 64, 0, 1),
+];
+
+#[test]
+fn texts_are_scripts(rt: HostRuntime) {
+    for (text, capacity, topics, events) in SCRIPTS {
+        assert!(rt; reading_of(rt.alloc(), text) == Reading::Script(capacity, topics, events));
+    }
+}
+
+/// Where a growth is refused, there is no memory or the right script, and never another answer.
+#[test]
+fn scripts_without_memory(rt: HostRuntime) {
+    for (text, capacity, topics, events) in SCRIPTS {
+        let reading = reading_of(rt.alloc(), text);
+        assert!(rt;
+            reading == Reading::NoMemory || reading == Reading::Script(capacity, topics, events)
+        );
+    }
+}
+
+/// No line of these says anything.
+const BAD: [&[u8]; 64] = [
+    b" ",
+    b" #",
+    b"open ",
+    b" open",
+    b"Open",
+    b"opens",
+    b"open 0",
+    b"open\r",
+    b"open\0",
+    b"close 0",
+    b"capacity",
+    b"capacity ",
+    b"capacity 0",
+    b"capacity 4097",
+    b"capacity 02",
+    b"capacity +2",
+    b"capacity 2 ",
+    b"capacity 18446744073709551616",
+    b"topic",
+    b"topic A",
+    b"topic A ",
+    b"topic  0",
+    b"topic A B 0",
+    b"topic A\t0",
+    b"topic A\x7f 0",
+    b"topic \xc3\xa4 0",
+    b"topic A 00",
+    b"topic A -1",
+    b"topic A 18446744073709551616",
+    b"piece",
+    b"piece 0",
+    b"piece 0 ",
+    b"piece  0 a",
+    b"piece\t0 a",
+    b"piece 00 a",
+    b"piece 18446744073709551616 a",
+    b"next",
+    b"next ",
+    b"next  0",
+    b"next 0 ",
+    b"next 0 0",
+    b"next\t0",
+    b"next 00",
+    b"next 0x1",
+    b"next -1",
+    b"next 18446744073709551616",
+    b"propose 0",
+    b"propose 0 0 0",
+    b"propose 0  0",
+    b"propose 0 00",
+    b"propose 0 4294967296",
+    b"decide 1.0",
+    b"withdraw",
+    b"cancel 0",
+    b"cancel 0 4294967296",
+    b"learn 0 0",
+    b"learn 0 0 1 ",
+    b"learn 4294967296 0 1",
+    b"learn 0 18446744073709551616 1",
+    b"release 4294967296",
+    b"turn 00",
+    b"take",
+    b"leave 01",
+    b"lost a",
+];
+
+#[test]
+fn other_lines_are_bad(rt: HostRuntime) {
+    for text in BAD {
+        assert!(rt; reading_of(rt.alloc(), text) == Reading::Bad(1));
+    }
+}
+
+/// Line 3 is bad, whatever it says, and so is a line behind it.
+#[test]
+fn bad_lines_are_counted(rt: HostRuntime) -> Result<(), Fail> {
+    let alloc = rt.alloc();
+    for line in BAD {
+        let mut text = Vec::from_slice(alloc, b"topic A 0\n\n")?;
+        text.extend_from_slice(line)?;
+        text.extend_from_slice(b"\nnext 00\n")?;
+        assert!(rt; reading_of(alloc, text.as_slice()) == Reading::Bad(3));
+    }
+    Ok(())
+}
+
+/// The first bad line of each.
+const MISPLACED: [(&[u8], usize); 14] = [
+    (b"open\nnext 0\nturn 00\n", 3),
+    (b"#\n\nturn 00", 3),
+    (b"\n\n\n \n", 4),
+    (b"capacity 2\ncapacity 2\n", 2),
+    (b"capacity 2\ntopic A 0\ncapacity 3\n", 3),
+    (b"topic A 0\ntopic B 0\ntopic A 1\n", 3),
+    (b"topic A 0\nopen\ntopic B 0\n", 3),
+    (b"open\ncapacity 2\n", 2),
+    (b"open\n#\n\ntopic A 0\n", 4),
+    (b"next 0\nnext  0\nnext 00\n", 2),
+    (b"piece 0 a\\nb\nb\n", 2),
+    (b"open\nopen\nopen 1", 3),
+    (b"open\r\nopen\n", 1),
+    (b"topic A 0\n topic B 0\n", 2),
+];
+
+#[test]
+fn lines_stand_in_their_place(rt: HostRuntime) {
+    for (text, line) in MISPLACED {
+        assert!(rt; reading_of(rt.alloc(), text) == Reading::Bad(line));
+    }
+}
+
+/// A text of so many topics, of different names.
+fn topic_lines(alloc: Global, count: usize) -> Result<Vec<u8>, Fail> {
+    let mut text = Vec::new(alloc);
+    for i in 0..count {
+        text.extend_from_slice(b"topic ")?;
+        text.push(b'A' + (i / 256) as u8)?;
+        text.push(b'a' + (i / 16 % 16) as u8)?;
+        text.push(b'a' + (i % 16) as u8)?;
+        text.extend_from_slice(b" 0\n")?;
+    }
+    Ok(text)
+}
+
+#[test]
+fn topics_are_at_most_1024(rt: HostRuntime) -> Result<(), Fail> {
+    let alloc = rt.alloc();
+    let most = topic_lines(alloc, 1024)?;
+    assert!(rt; reading_of(alloc, most.as_slice()) == Reading::Script(64, 1024, 0));
+    let more = topic_lines(alloc, 1025)?;
+    assert!(rt; reading_of(alloc, more.as_slice()) == Reading::Bad(1025));
+    Ok(())
+}
+
+/// Whether the topics have these names and clocks, in this order.
+fn are_topics(topics: &Topics, named: &[(&[u8], u64)]) -> bool {
+    if topics.len() != named.len() {
+        return false;
+    }
+    for i in 0..topics.len() {
+        let (name, clock) = named[i];
+        if topics.name(i) != name || topics.clock(i) != clock {
+            return false;
+        }
+    }
+    true
+}
+
+#[test]
+fn topics_are_named(rt: HostRuntime) {
+    let text = b"topic A 9\n#\ntopic b/!~ 0\ntopic a 18446744073709551615\n";
+    let named: [(&[u8], u64); 3] = [(b"A", 9), (b"b/!~", 0), (b"a", u64::MAX)];
+    assert!(rt; names(rt.alloc(), text, &named));
+}
+
+/// Whether a text is a script with these topics.
+fn names(alloc: Global, text: &[u8], named: &[(&[u8], u64)]) -> bool {
+    let Ok(script) = Script::parse(alloc, text) else {
+        return false;
+    };
+    let (_, topics, _) = script.into_parts();
+    are_topics(&topics, named)
+}
+
+/// Whether the line of a fault is this text; `None` where memory ran out.
+fn is_printed_as(alloc: Global, fault: ScriptFault, text: &[u8]) -> Option<bool> {
+    let Ok(printed) = fault.print(alloc) else {
+        return None;
+    };
+    Some(printed.as_slice() == text)
+}
+
+#[test]
+fn faults_have_their_lines(rt: HostRuntime) {
+    let rows: [(ScriptFault, u32, &[u8]); 4] = [
+        (ScriptFault::BadLine(3), 110, b"bad 110 BadLine 3\n"),
+        (ScriptFault::BadLine(1), 110, b"bad 110 BadLine 1\n"),
+        (
+            ScriptFault::BadLine(16777216),
+            110,
+            b"bad 110 BadLine 16777216\n",
+        ),
+        (ScriptFault::NoMemory, 111, b"bad 111 NoMemory\n"),
+    ];
+    for (fault, number, text) in rows {
+        assert!(rt; fault.number() == number);
+        assert!(rt; is_printed_as(rt.alloc(), fault, text) != Some(false));
+    }
+}
