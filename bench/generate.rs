@@ -127,10 +127,10 @@ fn topic(subscriptions: usize, place: usize, numbers: &mut Numbers) -> Vec<u8> {
     text
 }
 
-/// The number of parts that stay pending, and then bodies of 64 octets, each with a NULL behind it.
-fn group(pending: usize, place: usize, numbers: &mut Numbers) -> Vec<u8> {
+/// The letter of a job, the number of parts that are pending, and then bodies of 64 octets, each with a NULL behind it.
+fn group(job: char, pending: usize, place: usize, numbers: &mut Numbers) -> Vec<u8> {
     if place == 0 {
-        return format!("{pending}\0").into_bytes();
+        return format!("{job}{pending}\0").into_bytes();
     }
     topic(1, place, numbers)
 }
@@ -299,6 +299,92 @@ fn core_undecided(place: usize, numbers: &mut Numbers) -> Vec<u8> {
     events.0
 }
 
+/// The events as lines of a script; before the first one the number of topics stands.
+fn script(place: usize, events: &[u8]) -> Vec<u8> {
+    let mut lines = Vec::new();
+    for (at, event) in events.split(|octet| *octet == 1).enumerate() {
+        let (letter, rest) = event.split_first().unwrap_or((&0, b""));
+        let name = match letter {
+            0 => continue,
+            b'O' => {
+                lines.extend(b"open\n");
+                continue;
+            }
+            b'P' => "piece ",
+            b'N' => "next ",
+            b'A' => "propose ",
+            b'D' => "decide ",
+            b'L' => "learn ",
+            b'R' => "release ",
+            b'T' => "turn ",
+            b'K' => "take ",
+            _ if place == 0 && at == 0 => {
+                let topics: usize = String::from_utf8_lossy(event).parse().unwrap_or(0);
+                lines.extend(b"capacity 4096\n");
+                lines.extend((0..topics).flat_map(|topic| format!("topic {topic} 0\n").into_bytes()));
+                continue;
+            }
+            _ => unreachable!("no event has this letter"),
+        };
+        lines.extend(name.bytes());
+        for octet in rest.strip_suffix(b" ").filter(|_| *letter != b'P').unwrap_or(rest) {
+            match octet {
+                b'\n' => lines.extend(b"\\n"),
+                0 => lines.extend(b"\\0"),
+                b'\\' => lines.extend(b"\\\\"),
+                plain => lines.push(*plain),
+            }
+        }
+        lines.push(b'\n');
+    }
+    lines
+}
+
+/// One connection, with a subscription of the first of 3 topics: transactions of a SEND to each.
+fn script_transactions(place: usize, numbers: &mut Numbers) -> Vec<u8> {
+    if place == 0 {
+        let mut events = Events::open(3, 1);
+        events.subscribe(0, 0);
+        return script(place, &events.0);
+    }
+    let mut events = Events(Vec::new());
+    events.commit(0, place, &[0, 1, 2], numbers);
+    for topic in 0..3 {
+        events.add('A', 0, topic);
+    }
+    events.add('D', 0, "");
+    for topic in 0..3 {
+        events.add('T', topic, "");
+    }
+    events.add('K', 0, "");
+    script(place, &events.0)
+}
+
+/// One connection that has subscribed the only topic: SENDs with bodies of 2^20 octets.
+fn script_bodies(place: usize, numbers: &mut Numbers) -> Vec<u8> {
+    if place == 0 {
+        let mut events = Events::open(1, 1);
+        events.subscribe(0, 0);
+        return script(place, &events.0);
+    }
+    let mut frame = b"SEND\ndestination:0\ncontent-length:1048576\n\n".to_vec();
+    frame.extend(body(1_048_576, numbers));
+    frame.push(0);
+    let mut events = Events(Vec::new());
+    events.feed(0, &frame, 1);
+    events.add('A', 0, 0);
+    events.add('D', 0, "");
+    events.add('T', 0, "");
+    events.add('K', 0, "");
+    script(place, &events.0)
+}
+
+/// The events of `core_connections`.
+fn script_connections(place: usize, numbers: &mut Numbers) -> Vec<u8> {
+    let events = core_connections(place, numbers);
+    if events.len() == INPUT_LIMIT { events } else { script(place, &events) }
+}
+
 /// How many transactions the log of the input `subscriptions` has, and how many subscriptions there are.
 const LOGGED: usize = 960;
 const SUBSCRIPTIONS: usize = 1_000;
@@ -363,15 +449,27 @@ fn frames(name: &str, place: usize, numbers: &mut Numbers) -> Option<Vec<u8>> {
         "topic-16" => Some(topic(16, place, numbers)),
         "topic-256" => Some(topic(256, place, numbers)),
         "topic-1000" => Some(topic(1_000, place, numbers)),
-        "group-1" => Some(group(1, place, numbers)),
-        "group-16" => Some(group(16, place, numbers)),
-        "group-256" => Some(group(256, place, numbers)),
-        "group-1000" => Some(group(1_000, place, numbers)),
-        "group-65000" => Some(group(65_000, place, numbers)),
+        "group-1" => Some(group('o', 1, place, numbers)),
+        "group-16" => Some(group('o', 16, place, numbers)),
+        "group-256" => Some(group('o', 256, place, numbers)),
+        "group-1000" => Some(group('o', 1_000, place, numbers)),
+        "group-65000" => Some(group('o', 65_000, place, numbers)),
+        "drawn-16" => Some(group('r', 16, place, numbers)),
+        "drawn-1000" => Some(group('r', 1_000, place, numbers)),
+        "drawn-65000" => Some(group('r', 65_000, place, numbers)),
+        "turn-16" => Some(group('t', 16, place, numbers)),
+        "turn-1000" => Some(group('t', 1_000, place, numbers)),
+        "turn-65000" => Some(group('t', 65_000, place, numbers)),
+        "drain-16" => Some(group('d', 16, place, numbers)),
+        "drain-1000" => Some(group('d', 1_000, place, numbers)),
+        "drain-65000" => Some(group('d', 65_000, place, numbers)),
         "core-one" => Some(core_one(place, numbers)),
         "core-subscribers" => Some(core_subscribers(place, numbers)),
         "core-connections" => Some(core_connections(place, numbers)),
         "core-undecided" => Some(core_undecided(place, numbers)),
+        "script-transactions" => Some(script_transactions(place, numbers)),
+        "script-bodies" => Some(script_bodies(place, numbers)),
+        "script-connections" => Some(script_connections(place, numbers)),
         "one-topic" => Some(one_topic(place)),
         "subscriptions" => Some(subscriptions(place)),
         "many-topics" => Some(many_topics(place)),

@@ -1,7 +1,9 @@
-//! The job of `bench/group_main.txt` in plain Rust, with the standard library alone: it reads a number of
-//! parts and the bodies of transactions, each of one SEND, and proposes each to one topic, whose parts
-//! are in a tree by their keys and in a map by their ids. Once more parts than that number are pending,
-//! the oldest learns its stamp and is released. It ends with status 2 at a refusal.
+//! The job of `bench/group_main.txt` in plain Rust, with the standard library alone: it reads a letter, a
+//! number of parts, and the bodies of transactions, each of one SEND, and proposes each to one topic, whose
+//! parts are in a tree by their keys and in a map by their ids. At `o`, once more parts than that number are
+//! pending, the oldest learns its stamp and is released. At the other letters, once that number is pending,
+//! all learn their stamps and are released: at `r` in an order that is drawn, at `t` by a turn, and at `d` in
+//! their order, and then the log is drained. It ends with status 2 at a refusal.
 
 use std::collections::{BTreeMap, HashMap, VecDeque};
 use std::error::Error;
@@ -77,10 +79,10 @@ impl Topic {
         Ok(())
     }
 
-    /// Releases the part of least key, if it has learnt its stamp.
-    fn release(&mut self) {
+    /// Releases the part of least key, if it has learnt its stamp; whether it was.
+    fn release(&mut self) -> bool {
         let Some(least) = self.pending.first_entry().filter(|least| least.get().learnt) else {
-            return;
+            return false;
         };
         let (stamp, pending) = least.remove_entry();
         self.keys.remove(&pending.part.id);
@@ -90,6 +92,66 @@ impl Topic {
             stamp,
         });
         self.frontier = stamp;
+        true
+    }
+
+    /// Releases until nothing is due; how many were released.
+    fn release_all(&mut self) -> u64 {
+        let mut count = 0;
+        while self.release() {
+            count += 1;
+        }
+        count
+    }
+
+    /// Tries to learn for each pending part, and releases until nothing is due; how many were released.
+    fn turn(&mut self, stamps: &HashMap<u64, Stamp>) -> u64 {
+        let found: Vec<(u64, Stamp)> = self
+            .pending
+            .values()
+            .filter_map(|pending| Some((pending.part.id, *stamps.get(&pending.part.id)?)))
+            .collect();
+        for (id, stamp) in found {
+            let _ = self.learn(id, stamp);
+        }
+        self.release_all()
+    }
+}
+
+/// The stamp that a verdict's rows say.
+fn decided(rows: &[Stamp]) -> Stamp {
+    let zero = Stamp { number: 0, topic: 0 };
+    rows.iter().copied().max().unwrap_or(zero)
+}
+
+/// All learn their stamps and are released, as the letter says; how many were, or the sum of the ids that were drained.
+fn run_round(
+    job: u8,
+    topic: &mut Topic,
+    verdicts: &mut Vec<(u64, Vec<Stamp>)>,
+    draws: &mut u32,
+) -> Result<u64, &'static str> {
+    match job {
+        b'r' => {
+            while !verdicts.is_empty() {
+                *draws = draws.wrapping_mul(1_664_525).wrapping_add(1_013_904_223);
+                let place = (*draws >> 8) as usize % verdicts.len();
+                let (id, rows) = verdicts.swap_remove(place);
+                topic.learn(id, decided(&rows))?;
+            }
+            Ok(topic.release_all())
+        }
+        b't' => {
+            let stamps = verdicts.iter().map(|(id, rows)| (*id, decided(rows))).collect();
+            Ok(topic.turn(&stamps))
+        }
+        _ => {
+            for (id, rows) in verdicts.iter() {
+                topic.learn(*id, decided(rows))?;
+            }
+            topic.release_all();
+            Ok(topic.rows.drain(..).fold(0, |sum, row| sum.wrapping_add(row.id)))
+        }
     }
 }
 
@@ -99,7 +161,7 @@ fn run() -> Result<(), Box<dyn Error>> {
     let mut out = BufWriter::with_capacity(65_536, io::stdout().lock());
     let text = text.strip_suffix(b"\0").ok_or("no end")?;
     let mut bodies = text.split(|octet| *octet == 0);
-    let digits = bodies.next().ok_or("no number of parts")?;
+    let (job, digits) = bodies.next().and_then(<[u8]>::split_first).ok_or("no letter")?;
     let many: usize = std::str::from_utf8(digits)?.parse()?;
     let zero = Stamp {
         number: 0,
@@ -112,7 +174,9 @@ fn run() -> Result<(), Box<dyn Error>> {
         rows: Vec::new(),
         frontier: zero,
     };
-    let mut verdicts: VecDeque<(u64, Vec<Stamp>)> = VecDeque::new();
+    let mut oldest: VecDeque<(u64, Vec<Stamp>)> = VecDeque::new();
+    let mut round: Vec<(u64, Vec<Stamp>)> = Vec::new();
+    let mut draws = 1;
     for (place, body) in bodies.enumerate() {
         let id = place as u64 + 1;
         let part = Arc::new(Part {
@@ -120,11 +184,20 @@ fn run() -> Result<(), Box<dyn Error>> {
             topics: Arc::from([0]),
             sends: vec![(0, body.to_vec())],
         });
-        verdicts.push_back((id, vec![topic.propose(part)?]));
-        if verdicts.len() > many {
-            if let Some((id, rows)) = verdicts.pop_front() {
-                let stamp = rows.iter().copied().max().unwrap_or(zero);
-                topic.learn(id, stamp)?;
+        let verdict = (id, vec![topic.propose(part)?]);
+        if *job != b'o' {
+            round.push(verdict);
+            if round.len() == many {
+                let done = run_round(*job, &mut topic, &mut round, &mut draws)?;
+                round.clear();
+                writeln!(out, "{done} {}.{}", topic.frontier.number, topic.frontier.topic)?;
+            }
+            continue;
+        }
+        oldest.push_back(verdict);
+        if oldest.len() > many {
+            if let Some((id, rows)) = oldest.pop_front() {
+                topic.learn(id, decided(&rows))?;
                 topic.release();
             }
             writeln!(out, "{}.{}", topic.frontier.number, topic.frontier.topic)?;

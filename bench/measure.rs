@@ -1,5 +1,5 @@
 //! Times a program and its baseline on each input of a benchmark and prints the table:
-//! `measure frames|pieces|transactions|topic|group|core|audit PROGRAM BASELINE FOLDER`, or `measure relay` with the floor
+//! `measure frames|pieces|transactions|topic|group|core|script|audit PROGRAM BASELINE FOLDER`, or `measure relay` with the floor
 //! before the folder. It refuses outputs that differ, and judges no time.
 
 use std::env;
@@ -30,7 +30,10 @@ const TOPIC: Rate = Rate {
 };
 
 const GROUP: Rate = Rate {
-    inputs: &["group-1", "group-16", "group-256", "group-1000", "group-65000"],
+    inputs: &[
+        "group-1", "group-16", "group-256", "group-1000", "group-65000", "drawn-16", "drawn-1000",
+        "drawn-65000", "turn-16", "turn-1000", "turn-65000", "drain-16", "drain-1000", "drain-65000",
+    ],
     unit: "transactions",
     program: "mcast_group",
     counts: is_body,
@@ -39,6 +42,7 @@ const GROUP: Rate = Rate {
 /// The octets of a piece; at 0 all of the input is one piece.
 const PIECES: [&str; 5] = ["0", "1", "16", "4096", "65536"];
 const CORE_INPUTS: [&str; 4] = ["core-one", "core-subscribers", "core-connections", "core-undecided"];
+const SCRIPT_INPUTS: [&str; 3] = ["script-transactions", "script-bodies", "script-connections"];
 const AUDIT_INPUTS: [&str; 3] = ["one-topic", "subscriptions", "many-topics"];
 const RUNS: usize = 5;
 
@@ -297,6 +301,29 @@ fn print_core(program: &str, baseline: &str, folder: &Path) -> io::Result<()> {
     Ok(())
 }
 
+/// The times of `stompd script`, over the plain program, with peak memory.
+fn print_script(program: &str, baseline: &str, folder: &Path) -> io::Result<()> {
+    println!("best of {RUNS} runs, from file to file; ms is time, MiB is peak memory");
+    println!("                    input |     stompd      |    baseline     | stompd over baseline");
+    println!("                      MiB |    ms       MiB |    ms       MiB | clock processor memory");
+    for name in SCRIPT_INPUTS {
+        let size = length(folder, name)?;
+        let costs = measure([&[program, "script"], &[baseline]], folder, name)?;
+        print!("{name:<19} {:5.1} |", size / 1_048_576.0);
+        for cost in costs {
+            print!(" {:7.1} {:7.1} |", cost.milliseconds(), cost.mebibytes());
+        }
+        let [one, other] = costs;
+        println!(
+            " {:5.2} {:9.2} {:6.2}",
+            one.milliseconds() / other.milliseconds(),
+            one.processor_milliseconds() / other.processor_milliseconds(),
+            one.peak as f64 / other.peak as f64
+        );
+    }
+    Ok(())
+}
+
 /// A benchmark that tells how many things a program does in a second.
 struct Rate {
     inputs: &'static [&'static str],
@@ -376,6 +403,9 @@ fn main() -> ExitCode {
             print_rate(GROUP, program, baseline, Path::new(folder)),
         ),
         ["core", program, baseline, folder] => ("core", print_core(program, baseline, Path::new(folder))),
+        ["script", program, baseline, folder] => {
+            ("script", print_script(program, baseline, Path::new(folder)))
+        }
         ["pieces", program, baseline, folder] => {
             ("pieces", print_pieces(program, baseline, Path::new(folder)))
         }
@@ -383,7 +413,7 @@ fn main() -> ExitCode {
             ("audit", print_audit(program, baseline, Path::new(folder)))
         }
         _ => {
-            eprintln!("usage: measure relay|frames|pieces|transactions|topic|group|core|audit PROGRAM BASELINE [FLOOR] FOLDER");
+            eprintln!("usage: measure relay|frames|pieces|transactions|topic|group|core|script|audit PROGRAM BASELINE [FLOOR] FOLDER");
             return ExitCode::FAILURE;
         }
     };
