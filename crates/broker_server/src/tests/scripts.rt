@@ -194,7 +194,7 @@ fn topic_lines(alloc: Global, count: usize) -> Result<Vec<u8>, Fail> {
     let mut text = Vec::new(alloc);
     for i in 0..count {
         text.extend_from_slice(b"topic ")?;
-        text.push(b'A' + (i / 256) as u8)?;
+        text.push(b'A' + (i / 256 % 16) as u8)?;
         text.push(b'a' + (i / 16 % 16) as u8)?;
         text.push(b'a' + (i % 16) as u8)?;
         text.extend_from_slice(b" 0\n")?;
