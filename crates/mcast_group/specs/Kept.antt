@@ -15,8 +15,8 @@ IsStampOf stamp sight = option_map decided_stamp sight.known ≡ Some stamp
 abbrev pub HasStampOf : Option Stamp → Sight → Type 0
 HasStampOf learnt sight = (stamp : Stamp) × (learnt ≡ Some stamp) × IsStampOf stamp sight
 
--- a part that left its topic: the flight that it shares with the other parts, the stamp with which it left, and
--- what the note says that was kept beside it, if one was
+-- a part that left its topic: the flight that it shares with the other parts, the stamp with which it left,
+-- and what the note says that was kept beside it, if one was
 pub record DepartedState : Type 0 where
   pub part : TopicPart
   pub flight : Flight

@@ -1,4 +1,4 @@
--- These modules only serve proofs: no public contract cites them, and nobody need believe them.
+-- These modules only serve proofs, and nobody need believe them. No public contract of this crate cites them.
 pub mod Parser
 pub mod Usual
 pub mod NameKinds

@@ -1,5 +1,6 @@
--- Only serves proofs: the reading of a text as a function, with the first check that fails. No public
--- contract speaks of it: those speak of Grammar and Checks, to which proofs tie it.
+-- The reading of a text as a function, with the first check that fails. Public contracts speak of Grammar and
+-- Checks, to which proofs tie it. Where a definition is built on it, as the steps of the core's kept run are,
+-- those relations pin what it gives, and nobody need believe it.
 use Rattle.std.specs.Prelude.{◌≡◌, ℕ, ◌+◌, ◌-◌, zero, suc, Bool, true, false, not, ◌&&◌, ◌||◌, ◌==◌, nat_lt, nat_le, List, [], ◌∷◌, length, take, drop, slice_index, Option, Some, None, Result, Ok, Err, find, if◌then◌else◌}
 use Rattle.std.specs.List.{list_any}
 use Rattle.std.specs.Option.{option_map, option_map_or}
