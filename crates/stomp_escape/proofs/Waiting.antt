@@ -34,11 +34,11 @@ put_escaped xs n b lt =
     ]
 
 -- one more octet is escaped
-pub escaped_next : (xs text : List ℕ) (n at : ℕ) → at < length text → n + 1 < length xs → take n xs ≡ escaped (take at text)
-    → take (n + extra (get_or text at 0) + 1) (set (set xs n 92) (n + extra (get_or text at 0)) (last (get_or text at 0))) ≡ escaped (take (at + 1) text)
-escaped_next xs text n at inside lt so_far =
+pub escaped_next : (xs front text : List ℕ) (n at : ℕ) → at < length text → n + 1 < length xs → take n xs ≡ front ++ escaped (take at text)
+    → take (n + extra (get_or text at 0) + 1) (set (set xs n 92) (n + extra (get_or text at 0)) (last (get_or text at 0))) ≡ front ++ escaped (take (at + 1) text)
+escaped_next xs front text n at inside lt so_far =
     let b = get_or text at 0 in
-    put_escaped xs n b lt ∙ ap (λ (w : List ℕ). w ++ escaped_octet b) so_far ∙ sym (escaped_more text at inside)
+    put_escaped xs n b lt ∙ ap (λ (w : List ℕ). w ++ escaped_octet b) so_far ∙ append_assoc front (escaped (take at text)) (escaped_octet b) ∙ ap (λ (w : List ℕ). front ++ w) (sym (escaped_more text at inside))
 
 -- an escape adds at most one octet
 pub extra-le : (b : ℕ) → extra b ≤ 1

@@ -1,6 +1,6 @@
 //! Writing escapes.
 
-ghost use Rattle.std.specs.Prelude.{◌≡◌, ◌++◌, ◌≤◌, length, take, IfOk, OnOk, OnErr};
+ghost use Rattle.std.specs.Prelude.{◌≡◌, ◌++◌, ◌+◌, ◌*◌, ◌≤◌, length, take, IfOk, OnOk, OnErr};
 ghost use Rattle.stomp_escape.specs.Escape.{escaped, Spells, IsUnbroken, AppendsFront};
 ghost use Rattle.stomp_escape.specs.Inner.Escaping.{letter_or_zero, extra, last};
 
@@ -64,22 +64,32 @@ fn plain_front(text: &[u8]) -> usize
     text.len()
 }
 
-/// Appends the escaped text of a few octets. None of them takes a branch of its own: a backslash is put before each, and
-/// is written over where the octet has no escape.
+/// Writes the escaped text of a few octets into a line, from this place on, and returns where it ends. The line has room
+/// for two octets for each. None of them takes a branch of its own: a backslash is put before each, and is written over
+/// where the octet has no escape.
+pub fn escape_at(text: &[u8], line: &mut [u8], start: usize) -> usize
+    requires { start + 2 * length text.now ≤ length line.old }
+    ensures end { result ≤ start + 2 * length text.now }
+    ensures put { take result line.new ≡ take start line.old ++ escaped text.now }
+{
+    let mut end = start;
+    for at in 0..text.len() {
+        line[end] = b'\\';
+        end += extra_for(text[at]);
+        line[end] = last_for(text[at]);
+        end += 1;
+    }
+    end
+}
+
+/// Appends the escaped text of a few octets.
 fn escape_piece(piece: &[u8], out: &mut Octets) -> Result<(), NoMemory>
     requires { length piece.now ≤ 32 }
     ensures ok { OnOk result (out.new ≡ out.old ++ escaped piece.now) }
     ensures err { OnErr result (out.new ≡ out.old) }
 {
-    // What was escaped, and waits to be copied at once: `n` octets.
     let mut waiting = [0u8; 64];
-    let mut n = 0;
-    for at in 0..piece.len() {
-        waiting[n] = b'\\';
-        n += extra_for(piece[at]);
-        waiting[n] = last_for(piece[at]);
-        n += 1;
-    }
+    let n = escape_at(piece, &mut waiting, 0);
     out.extend(&waiting[..n])
 }
 

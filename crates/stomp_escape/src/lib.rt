@@ -11,7 +11,7 @@ mod room;
 mod short_octets;
 mod unescaping;
 
-pub use escaping::{escape, escape_into};
+pub use escaping::{escape, escape_at, escape_into};
 pub use fault::EscapeFault;
 pub use no_memory::NoMemory;
 pub use octets::Octets;

@@ -1,6 +1,6 @@
 //! Worked examples of the definitions, the calls with ample memory, and their answers without it.
 
-use crate::{EscapeFault, NoMemory, Octets, escape, escape_into, unescape};
+use crate::{EscapeFault, NoMemory, Octets, escape, escape_at, escape_into, unescape};
 use std::alloc::Global;
 use std::test::Fail;
 
@@ -42,6 +42,23 @@ fn escapes_there_and_back(rt: HostRuntime) -> Result<(), Fail> {
         assert!(rt; is(&unescape(alloc, text)?, value));
     }
     Ok(())
+}
+
+/// Whether a value of at most 15 octets is written as this text into a line, behind two octets that are there.
+fn is_written_at(value: &[u8], text: &[u8]) -> bool {
+    let mut line = [b'-'; 32];
+    if value.len() > 15 {
+        return false;
+    }
+    let end = escape_at(value, &mut line, 2);
+    end >= 2 && &line[..2] == b"--".as_slice() && &line[2..end] == text
+}
+
+#[test]
+fn escapes_into_a_line(rt: HostRuntime) {
+    for (value, text) in ESCAPED {
+        assert!(rt; is_written_at(value, text));
+    }
 }
 
 /// A raw colon, CR or LF is read as itself.

@@ -1,10 +1,9 @@
 -- A server's frame, appended in parts, is its spelling.
-use Rattle.std.proofs.Common.{◌≡◌, ℕ, ◌+◌, ◌-◌, ◌^◌, ◌<◌, Bool, true, false, List, [], ◌∷◌, ◌++◌, length, drop, take, map, ◌||◌, Option, Some, None, refl, sym, ap, ◌∙◌, append_assoc}
+use Rattle.std.proofs.Common.{◌≡◌, ℕ, ◌+◌, ◌^◌, ◌<◌, Bool, true, false, List, [], ◌∷◌, ◌++◌, drop, take, map, ◌||◌, Option, Some, None, refl, sym, ap, ◌∙◌, append_assoc}
 use Rattle.std.specs.Prelude.{codes, decimal, slice_get, if◌then◌else◌}
 use Rattle.std.specs.List.{list_any}
 use Rattle.std.specs.Str.{bytes_eq}
 use Rattle.std.proofs.lemmas.Grind.{flat_map-append}
-use Rattle.std.proofs.lemmas.List.{take_rest}
 use Rattle.std.proofs.lemmas.List.Folds.{list_any-append}
 use Rattle.stomp_escape.specs.Escape.{escaped}
 use Rattle.stomp_frame.specs.Headers.{Header}
@@ -27,26 +26,20 @@ longer a b c e f = record { more = e.more ++ f.more; grown = f.grown ∙ ap (λ 
 
 -- ---- digits
 
--- what is left of an array
-pub rest_of : (xs : List ℕ) (n start : ℕ) → length xs ≡ n → take (n - start) (drop start xs) ≡ drop start xs
-rest_of xs n start long = ap (λ (k : ℕ). take (k - start) (drop start xs)) (sym long) ∙ take_rest xs start
+-- a content-length, appended
+pub length_put : (old e : List ℕ) (n : ℕ) → n < 2 ^ 64 → e ≡ old ++ (codes "content-length:" ++ (decimal n ++ 10 ∷ [])) → e ≡ old ++ line_of (codes "content-length") (decimal n)
+length_put old e n lt q = q ∙ ap (λ (t : List ℕ). old ++ (codes "content-length:" ++ (t ++ 10 ∷ []))) (sym (decimal_plain n lt))
 
--- a content-length, appended in parts
-pub length_put : (old a e : List ℕ) (n : ℕ) → n < 2 ^ 64 → a ≡ old ++ codes "content-length:" → e ≡ a ++ (decimal n ++ 10 ∷ []) → e ≡ old ++ line_of (codes "content-length") (decimal n)
-length_put old a e n lt p q =
-    q ∙ ap (λ (t : List ℕ). t ++ (decimal n ++ 10 ∷ [])) p ∙ append_assoc old (codes "content-length:") (decimal n ++ 10 ∷ [])
-    ∙ ap (λ (t : List ℕ). old ++ (codes "content-length:" ++ (t ++ 10 ∷ []))) (sym (decimal_plain n lt))
-
--- a message-id, appended in parts
-pub id_put : (old a e : List ℕ) (n topic index : ℕ) → n < 2 ^ 64 → topic < 2 ^ 64 → index < 2 ^ 64 → a ≡ old ++ codes "message-id:" → e ≡ a ++ (decimal n ++ 46 ∷ (decimal topic ++ 46 ∷ (decimal index ++ 10 ∷ [])))
+-- a message-id, appended
+pub id_put : (old e : List ℕ) (n topic index : ℕ) → n < 2 ^ 64 → topic < 2 ^ 64 → index < 2 ^ 64 → e ≡ old ++ (codes "message-id:" ++ (decimal n ++ 46 ∷ (decimal topic ++ 46 ∷ (decimal index ++ 10 ∷ []))))
     → e ≡ old ++ line_of (codes "message-id") (message_id n topic index)
-id_put old a e n topic index ln lt li p q =
+id_put old e n topic index ln lt li q =
     let id = message_id n topic index in
     let last = decimal index ++ 10 ∷ [] in
     let later = decimal topic ++ 46 ∷ last in
     let ended : id ++ 10 ∷ [] ≡ decimal n ++ 46 ∷ later = append_assoc (decimal n ++ codes "." ++ decimal topic ++ codes ".") (decimal index) (10 ∷ []) ∙ append_assoc (decimal n ++ codes "." ++ decimal topic) (codes ".") last
     ∙ append_assoc (decimal n ++ codes ".") (decimal topic) (46 ∷ last) ∙ append_assoc (decimal n) (codes ".") later in
-    q ∙ ap (λ (t : List ℕ). a ++ t) (sym ended) ∙ ap (λ (t : List ℕ). t ++ (id ++ 10 ∷ [])) p ∙ append_assoc old (codes "message-id:") (id ++ 10 ∷ [])
+    q ∙ ap (λ (t : List ℕ). old ++ (codes "message-id:" ++ t)) (sym ended)
     ∙ ap (λ (t : List ℕ). old ++ (codes "message-id:" ++ (t ++ 10 ∷ []))) (sym (id_plain n topic index ln lt li))
 
 -- ---- whole frames

@@ -12,6 +12,15 @@ use Rattle.stomp_frame.proofs.Steady.{line_open, line_endless, line_steady, unco
 
 -- ---- the place
 
+-- one octet more that isn't it
+pub unfound_more : (b : ℕ) (text : List ℕ) (n : ℕ) → IsUnfound b text n → (get_or text n 0 ≡ b → ⊥) → IsUnfound b text (n + 1)
+unfound_more b text n unfound ne j lt e = elim (cases_lt j n) [
+  | inl before ↦ unfound j before e
+  | inr behind ↦
+      let same : j ≡ n = omega arith in
+      ne (sym (ap (λ (k : ℕ). get_or text k 0) same) ∙ e)
+]
+
 window : (text : List ℕ) (searched end i : ℕ) → i < end - searched → get_or (take (end - searched) (drop searched text)) i 0 ≡ get_or text (searched + i) 0
 window text searched end i lt = get_or-take (end - searched) (drop searched text) i 0 lt ∙ get_or-drop searched text i 0
 

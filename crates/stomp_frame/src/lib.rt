@@ -12,6 +12,7 @@ mod fault;
 mod headers;
 pub mod law;
 mod limits;
+mod line;
 mod lines;
 mod name_kinds;
 mod parse;

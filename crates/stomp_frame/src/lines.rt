@@ -2,7 +2,6 @@
 
 ghost use Rattle.std.specs.Prelude.{◌≡◌, ◌<◌, ◌≤◌, ◌+◌, length, take, drop, slice_index, ◌==◌, ◌&&◌, ◌||◌, Some, IfOk, IfSome, IsNone};
 ghost use Rattle.std.specs.List.{list_all, list_any};
-ghost use Rattle.std.specs.Option.{option_map};
 ghost use Rattle.std.specs.Str.{is_utf8};
 ghost use Rattle.stomp_frame.specs.Inner.Parser.{Returns, cut, without_cr, is_plain, checked, line_at, after_eols};
 ghost use Rattle.stomp_frame.specs.Inner.PartialFrames.{IsUnfound};
@@ -15,14 +14,6 @@ use memchr::{memchr, memchr2};
 
 /// A content of fewer octets is looked at octet by octet at first; a search for many at once begins at this length.
 const SHORT: usize = 32;
-
-/// What comes before the first such octet, and what comes after it.
-pub(crate) fn split_at_first(octet: u8, text: &[u8]) -> Option<(&[u8], &[u8])>
-    ensures { option_map (λ p. (p.0.now, p.1.now)) result ≡ cut octet text.now }
-{
-    let at = memchr(octet, text)?;
-    Some((&text[..at], &text[at + 1..]))
-}
 
 /// The line without one CR at its end.
 fn without_cr(line: &[u8]) -> &[u8]
@@ -80,6 +71,7 @@ fn check<'a>(limits: &Limits, content: &'a [u8], usual: usize) -> Result<&'a [u8
 }
 
 /// The first place of the octet, which is at none of the first `searched`; only places before `end` are looked at.
+#[inline(always)]
 pub(crate) fn find_from(octet: u8, text: &[u8], searched: usize, end: usize) -> Option<usize>
     requires order { searched ≤ end }
     requires within { end ≤ length text.now }

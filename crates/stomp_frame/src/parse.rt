@@ -1,11 +1,13 @@
 //! Reading a command, a header, and end-of-lines.
 
-ghost use Rattle.std.specs.Prelude.{◌≡◌, ◌≤◌, length, drop};
-ghost use Rattle.stomp_frame.specs.Inner.Parser.{Returns, after_eols, command_of, field_of, header_of};
+ghost use Rattle.std.specs.Prelude.{◌≡◌, ◌≤◌, Bool, false, length, drop, Ok, IfSome};
+ghost use Rattle.std.specs.Option.{option_map};
+ghost use Rattle.stomp_frame.specs.Inner.Parser.{Returns, after_eols, command_of, cut, field_of, header_of};
+ghost use Rattle.stomp_frame.specs.Inner.PartialFrames.{IsUnfound};
 
 use crate::command::Command;
 use crate::fault::{Check, Stop};
-use crate::lines::{skip_eols, split_at_first};
+use crate::lines::{find_from, skip_eols};
 use std::alloc::Global;
 use stomp_escape::{EscapeFault, Octets, unescape};
 
@@ -36,6 +38,43 @@ fn parse_field(alloc: Global, escapes: bool, text: &[u8]) -> Result<Octets, Stop
     }
 }
 
+/// How many octets at the front of a line are neither a colon nor a backslash.
+#[tactic(auto, using(crate::proofs::Unfound::unfound_more))]
+fn plain_front(line: &[u8]) -> usize
+    ensures within { result ≤ length line.now }
+    ensures colon { IsUnfound 58 line.now result }
+    ensures backslash { IsUnfound 92 line.now result }
+{
+    for at in 0..line.len() {
+        if line[at] == b':' || line[at] == b'\\' {
+            return at;
+        }
+    }
+    line.len()
+}
+
+/// What comes before the first colon of a line, what comes after it, and whether the first of these has a backslash.
+fn split_at_colon(line: &[u8]) -> Option<(&[u8], &[u8], bool)>
+    ensures parts { option_map (λ p. (p.0.now, p.1.now)) result ≡ cut 58 line.now }
+    ensures plain { (escapes : Bool) → IfSome result
+        (λ p. p.2 ≡ false → field_of escapes p.0.now ≡ Ok p.0.now) }
+{
+    let plain = plain_front(line);
+    let at = find_from(b':', line, plain, line.len())?;
+    Some((&line[..at], &line[at + 1..], plain < at))
+}
+
+/// A header's name, which is copied as it is where it has no backslash.
+fn parse_name(alloc: Global, escapes: bool, name: &[u8], backslash: bool) -> Result<Octets, Stop>
+    requires { backslash ≡ false → field_of escapes name.now ≡ Ok name.now }
+    ensures { Returns (λ x. x) result (field_of escapes name.now) }
+{
+    if backslash {
+        return parse_field(alloc, escapes, name);
+    }
+    Ok(Octets::from_slice(alloc, name)?)
+}
+
 /// The name and the value of a header's line.
 #[tactic(auto, unfolding(crate::specs::Inner::Parser::header_of))]
 pub(crate) fn parse_header(
@@ -45,13 +84,13 @@ pub(crate) fn parse_header(
 ) -> Result<(Octets, Octets), Stop>
     ensures { Returns (λ x. x) result (header_of escapes line.now) }
 {
-    match split_at_first(b':', line) {
+    match split_at_colon(line) {
         None => Err(Stop::Fault(Check::BadHeader)),
-        Some((name, value)) => {
+        Some((name, value, backslash)) => {
             if name.is_empty() {
                 return Err(Stop::Fault(Check::BadHeader));
             }
-            let name = parse_field(alloc, escapes, name)?;
+            let name = parse_name(alloc, escapes, name, backslash)?;
             let value = parse_field(alloc, escapes, value)?;
             Ok((name, value))
         }

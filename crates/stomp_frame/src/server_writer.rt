@@ -11,6 +11,7 @@ ghost use Rattle.stomp_frame.specs.Writing.{header_line, header_lines, spelled, 
 ghost use Rattle.stomp_frame.specs.ServerFrames.{optional, first_entries, kept_back, message_id, message_headers, message_frame, receipt_frame, error_frame, connected_frame, rendered};
 
 use crate::headers::Headers;
+use crate::line::{Line, ROOM};
 use crate::name_kinds::NameKinds;
 use crate::server_frame::ServerFrame;
 use crate::server_headers::is_kept_back;
@@ -18,29 +19,50 @@ use crate::writer::put_header;
 use itoa::write_digits;
 use stomp_escape::{NoMemory, Octets, escape_into};
 
-/// Room for three numbers of at most 20 digits, each with an octet behind it.
-const LINE: usize = 64;
+/// Room for a name of at most 15 octets with its colon, and three numbers of at most 20 digits, each with an octet behind.
+const NUMBERS: usize = 80;
 
 /// Appends what stands before a value, the value with its escapes, and LF.
+#[inline(always)]
 fn put_value(front: &[u8], value: &[u8], out: &mut Octets) -> Result<(), NoMemory>
     ensures ok { OnOk result (out.new ≡ out.old ++ (front.now ++ (escaped value.now ++ 10 ∷ []))) }
     ensures err { OnErr result (Extends out.old out.new) }
 {
+    if front.len() + value.len() < ROOM / 2 {
+        let mut line = Line::new();
+        line.put(front);
+        line.put_escaped(value);
+        line.put(b"\n");
+        return out.extend(line.as_slice());
+    }
     out.extend(front)?;
     escape_into(value, out)?;
     out.push(b'\n')
 }
 
 /// Writes a number and the octet behind it so that they end at this place, and returns where they begin.
-fn put_before(n: u64, behind: u8, line: &mut [u8; 64], end: usize) -> usize
+fn put_before(n: u64, behind: u8, line: &mut [u8; 80], end: usize) -> usize
     requires least { 21 ≤ end }
-    requires within { end ≤ 64 }
+    requires within { end ≤ 80 }
     ensures start { end ≤ result + 21 }
-    ensures order { result ≤ 64 }
+    ensures order { result ≤ 80 }
     ensures put { drop result line.new ≡ decimal n ++ behind ∷ drop end line.old }
 {
     line[end - 1] = behind;
     write_digits(n, line, end - 1)
+}
+
+/// Writes a name so that it ends at this place, and appends the line from there on.
+#[inline(always)]
+fn put_named(name: &[u8], line: &mut [u8; 80], end: usize, out: &mut Octets) -> Result<(), NoMemory>
+    requires least { length name.now ≤ end }
+    requires within { end ≤ 80 }
+    ensures ok { OnOk result (out.new ≡ out.old ++ (name.now ++ drop end line.old)) }
+    ensures err { OnErr result (Extends out.old out.new) }
+{
+    let start = end - name.len();
+    line[start..end].copy_from_slice(name);
+    out.extend(&line[start..])
 }
 
 /// Appends a message's id. Its line is made from its end, so that each number is written once.
@@ -49,12 +71,11 @@ fn put_message_id(n: u64, topic: u32, index: u32, out: &mut Octets) -> Result<()
         ≡ out.old ++ (header_line true (codes "message-id", message_id n topic index) ++ 10 ∷ [])) }
     ensures err { OnErr result (Extends out.old out.new) }
 {
-    let mut line = [0; LINE];
-    let start = put_before(u64::from(index), b'\n', &mut line, LINE);
+    let mut line = [0; NUMBERS];
+    let start = put_before(u64::from(index), b'\n', &mut line, NUMBERS);
     let start = put_before(u64::from(topic), b'.', &mut line, start);
     let start = put_before(n, b'.', &mut line, start);
-    out.extend(b"message-id:")?;
-    out.extend(&line[start..])
+    put_named(b"message-id:", &mut line, start, out)
 }
 
 /// Appends a content-length.
@@ -63,10 +84,9 @@ fn put_content_length(len: usize, out: &mut Octets) -> Result<(), NoMemory>
         ≡ out.old ++ (header_line true (codes "content-length", decimal len) ++ 10 ∷ [])) }
     ensures err { OnErr result (Extends out.old out.new) }
 {
-    let mut line = [0; LINE];
-    let start = put_before(len as u64, b'\n', &mut line, LINE);
-    out.extend(b"content-length:")?;
-    out.extend(&line[start..])
+    let mut line = [0; NUMBERS];
+    let start = put_before(len as u64, b'\n', &mut line, NUMBERS);
+    put_named(b"content-length:", &mut line, start, out)
 }
 
 /// Whether a SEND's header at index `i`, which has this name, isn't passed on: the name is kept back, or was before,

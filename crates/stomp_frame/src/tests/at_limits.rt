@@ -1,5 +1,7 @@
 //! Memory that is there is enough at every size: one SEND at all standard limits, written, read back and passed on.
 
+ghost use Rattle.stomp_frame.specs.ServerFrames.{IsRenderable};
+
 use super::made::{put, text};
 use crate::{
     Command, FrameReader, Headers, Limits, RawFrame, ServerFrame, render, writable, write_frame,
@@ -103,24 +105,53 @@ fn reads_as(alloc: Global, text: &[u8], frame: &RawFrame) -> Result<bool, Fail> 
     )
 }
 
-#[test]
-fn written_and_read_back(rt: HostRuntime) -> Result<(), Fail> {
-    let alloc = rt.alloc();
+/// These octets, and then what `spell_long` appends.
+fn long_text(alloc: Global, head: &[u8]) -> Result<Octets, NoMemory> {
+    let mut text = Octets::from_slice(alloc, head)?;
+    spell_long(&mut text)?;
+    Ok(text)
+}
+
+/// Whether the long SEND is written so, and read back.
+fn is_written_and_read_back(alloc: Global, want: &[u8]) -> Result<bool, Fail> {
     let frame = long_send(alloc)?;
-    assert_eq!(rt; (frame.headers.len(), frame.body.len()), (64, 1_048_576));
-    let mut want = Octets::from_slice(alloc, b"SEND\ncontent-length:1048576\ndestination:A\n")?;
-    let head = want.len();
-    spell_long(&mut want)?;
-    assert_eq!(rt; want.len(), head + 4097 + 61 * 6 + 1 + 1_048_576 + 1);
     let out = written(alloc, &frame)?;
-    assert!(rt; out.as_slice() == want.as_slice());
-    assert!(rt; reads_as(alloc, out.as_slice(), &frame)?);
-    Ok(())
+    Ok(
+        frame.headers.len() == 64
+            && frame.body.len() == 1_048_576
+            && out.as_slice() == want
+            && reads_as(alloc, out.as_slice(), &frame)?,
+    )
 }
 
 #[test]
-fn passed_on(rt: HostRuntime) -> Result<(), Fail> {
-    let alloc = rt.alloc();
+fn written_and_read_back(rt: HostRuntime) -> Result<(), Fail> {
+    let head = b"SEND\ncontent-length:1048576\ndestination:A\n".as_slice();
+    let want = long_text(rt.alloc(), head)?;
+    assert_eq!(rt; want.len(), head.len() + 4097 + 61 * 6 + 1 + 1_048_576 + 1);
+    assert!(rt; is_written_and_read_back(rt.alloc(), want.as_slice())?);
+    Ok(())
+}
+
+/// Whether a server's frame is rendered and written so.
+fn is_rendered(alloc: Global, frame: &ServerFrame, want: &[u8]) -> Result<bool, Fail>
+    requires { IsRenderable frame.now }
+{
+    let out = written(alloc, &render(alloc, frame)?)?;
+    Ok(out.as_slice() == want)
+}
+
+/// Whether it is written so without one, too.
+fn is_sent(alloc: Global, frame: &ServerFrame, want: &[u8]) -> Result<bool, Fail>
+    requires { IsRenderable frame.now }
+{
+    let mut direct = Octets::new(alloc);
+    write_server(frame, &mut direct)?;
+    Ok(direct.as_slice() == want && is_rendered(alloc, frame, want)?)
+}
+
+/// Whether the long SEND is passed on so to the subscription `s`.
+fn is_passed_on(alloc: Global, want: &[u8]) -> Result<bool, Fail> {
     let sent = long_send(alloc)?;
     let subscription = text(alloc, b"s")?;
     let message = ServerFrame::Message {
@@ -131,31 +162,44 @@ fn passed_on(rt: HostRuntime) -> Result<(), Fail> {
         headers: &sent.headers,
         body: sent.body.as_slice(),
     };
-    let mut want = Octets::from_slice(
-        alloc,
-        b"MESSAGE\nsubscription:s\nmessage-id:1.0.0\ndestination:A\ncontent-length:1048576\n",
-    )?;
-    spell_long(&mut want)?;
-    let out = written(alloc, &render(alloc, &message)?)?;
-    assert!(rt; out.as_slice() == want.as_slice());
-    let mut direct = Octets::new(alloc);
-    write_server(&message, &mut direct)?;
-    assert!(rt; direct.as_slice() == want.as_slice());
+    is_sent(alloc, &message, want)
+}
+
+#[test]
+fn passed_on(rt: HostRuntime) -> Result<(), Fail> {
+    let head =
+        b"MESSAGE\nsubscription:s\nmessage-id:1.0.0\ndestination:A\ncontent-length:1048576\n";
+    let want = long_text(rt.alloc(), head)?;
+    assert!(rt; is_passed_on(rt.alloc(), want.as_slice())?);
     Ok(())
 }
 
-/// A RECEIPT and an ERROR with lines of 4,096 octets.
+/// So many letters `r`.
+fn letters(alloc: Global, n: u32) -> Result<Octets, NoMemory> {
+    let mut id = Octets::new(alloc);
+    repeat(&mut id, b"r", n)?;
+    Ok(id)
+}
+
+/// A RECEIPT as it is written.
+fn receipt_text(alloc: Global, id: &[u8]) -> Result<Octets, NoMemory> {
+    let mut want = Octets::from_slice(alloc, b"RECEIPT\nreceipt-id:")?;
+    want.extend(id)?;
+    want.extend(b"\n\n\0")?;
+    Ok(want)
+}
+
+/// Whether the RECEIPT of this id is written so.
+fn is_receipt(alloc: Global, id: &[u8], want: &[u8]) -> Result<bool, Fail> {
+    let id = text(alloc, id)?;
+    is_rendered(alloc, &ServerFrame::Receipt { id: id.as_slice() }, want)
+}
+
+/// A RECEIPT with a line of 4,096 octets.
 #[test]
 fn long_receipts(rt: HostRuntime) -> Result<(), Fail> {
-    let alloc = rt.alloc();
-    let mut id = Octets::new(alloc);
-    repeat(&mut id, b"r", 4085)?;
-    let id = text(alloc, id.as_slice())?;
-    let mut want = Octets::from_slice(alloc, b"RECEIPT\nreceipt-id:")?;
-    want.extend(id.as_slice())?;
-    want.extend(b"\n\n\0")?;
-    let receipt = ServerFrame::Receipt { id: id.as_slice() };
-    let out = written(alloc, &render(alloc, &receipt)?)?;
-    assert!(rt; out.as_slice() == want.as_slice());
+    let id = letters(rt.alloc(), 4085)?;
+    let want = receipt_text(rt.alloc(), id.as_slice())?;
+    assert!(rt; is_receipt(rt.alloc(), id.as_slice(), want.as_slice())?);
     Ok(())
 }

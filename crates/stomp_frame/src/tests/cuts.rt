@@ -7,7 +7,7 @@ use std::test::Fail;
 use stomp_escape::{NoMemory, Octets};
 
 /// The streams of the folder `examples`.
-const EXAMPLES: [Row; 2] = [
+const EXAMPLES: &[Row] = &[
     (
         b"SEND\ndestination:A\n\nhi\0SEND\ndestination:A\ncontent-length:3\n\na\0b\0",
         b"SEND[destination=A](hi)SEND[destination=A][content-length=3](a\0b).",
@@ -19,7 +19,7 @@ const EXAMPLES: [Row; 2] = [
 ];
 
 /// What a client sends that commits a transaction to two topics, and the MESSAGE that a subscriber of one of them gets.
-const TRANSACTION: [Row; 2] = [
+const TRANSACTION: &[Row] = &[
     (
         b"CONNECT\naccept-version:1.2\nhost:h\n\n\0SUBSCRIBE\nid:b\ndestination:B\n\n\0BEGIN\ntransaction:x\n\n\0SEND\ndestination:A\ntransaction:x\n\nm1\0SEND\ndestination:B\ntransaction:x\n\nm1\0COMMIT\ntransaction:x\nreceipt:r1\n\n\0",
         b"CONNECT[accept-version=1.2][host=h]()SUBSCRIBE[id=b][destination=B]()BEGIN[transaction=x]()SEND[destination=A][transaction=x](m1)SEND[destination=B][transaction=x](m1)COMMIT[transaction=x][receipt=r1]().",
@@ -31,7 +31,7 @@ const TRANSACTION: [Row; 2] = [
 ];
 
 /// A frame of each command, with escapes, end-of-lines of both forms, and bodies of both kinds.
-const FRAMES: [Row; 15] = [
+const FRAMES: &[Row] = &[
     (
         b"CONNECT\r\naccept-version:1.2\r\nhost:a\\b\r\n\r\n\0\n",
         b"CONNECT[accept-version=1.2][host=a\\b]()",
@@ -68,7 +68,7 @@ const FRAMES: [Row; 15] = [
 ];
 
 /// What comes after those frames, and what a reader returns of it: ends of a stream, and each fault.
-const ENDS: [Row; 14] = [
+const ENDS: &[Row] = &[
     (b"", b"."),
     (b"\r\n\n", b"."),
     (b"\r", b".."),
@@ -93,7 +93,7 @@ const MIDDLE: Limits = Limits {
 };
 
 /// Limits of nothing, and what a reader of them returns.
-const NOTHING: [Row; 6] = [
+const NOTHING: &[Row] = &[
     (b"\n\r\n", b"."),
     (b"\r", b".."),
     (b"S", b".."),
@@ -239,7 +239,7 @@ fn holds_in_drawn(
 fn made(alloc: Global, tail: Row) -> Result<(Octets, Octets), NoMemory> {
     let mut text = Octets::new(alloc);
     let mut want = Octets::new(alloc);
-    for (spelling, shown) in FRAMES {
+    for &(spelling, shown) in FRAMES {
         text.extend(spelling)?;
         want.extend(shown)?;
     }
@@ -262,47 +262,42 @@ fn holds(alloc: Global, limits: Limits, row: Row) -> Result<bool, NoMemory> {
     Ok(holds_in_two(alloc, limits, row.0, row.1)? && holds_in_pieces(alloc, limits, row.0, row.1)?)
 }
 
-#[test]
-fn streams_cut_anywhere(rt: HostRuntime) -> Result<(), Fail> {
-    for row in STREAMS {
-        assert!(rt; holds(rt.alloc(), Limits::standard(), row)?);
+/// Whether each row holds wherever its text is cut.
+fn each_holds(alloc: Global, limits: Limits, rows: &[Row]) -> Result<bool, NoMemory> {
+    for &row in rows {
+        if !holds(alloc, limits, row)? {
+            return Ok(false);
+        }
     }
-    for row in EXAMPLES {
-        assert!(rt; holds(rt.alloc(), Limits::standard(), row)?);
-    }
-    for row in TRANSACTION {
-        assert!(rt; holds(rt.alloc(), Limits::standard(), row)?);
-    }
-    Ok(())
+    Ok(true)
 }
 
 #[test]
-fn faults_cut_anywhere(rt: HostRuntime) -> Result<(), Fail> {
-    for row in FAULTS {
-        assert!(rt; holds(rt.alloc(), Limits::standard(), row)?);
+fn streams_cut_anywhere(rt: HostRuntime) {
+    for &rows in &[STREAMS, EXAMPLES, TRANSACTION] {
+        assert!(rt; each_holds(rt.alloc(), Limits::standard(), rows) == Ok(true));
     }
-    Ok(())
 }
 
 #[test]
-fn bounds_cut_anywhere(rt: HostRuntime) -> Result<(), Fail> {
-    for row in BOUNDS {
-        assert!(rt; holds(rt.alloc(), SMALL, row)?);
-    }
+fn faults_cut_anywhere(rt: HostRuntime) {
+    assert!(rt; each_holds(rt.alloc(), Limits::standard(), FAULTS) == Ok(true));
+}
+
+#[test]
+fn bounds_cut_anywhere(rt: HostRuntime) {
+    assert!(rt; each_holds(rt.alloc(), SMALL, BOUNDS) == Ok(true));
     let limits = Limits {
         line: 0,
         headers: 0,
         body: 0,
     };
-    for row in NOTHING {
-        assert!(rt; holds(rt.alloc(), limits, row)?);
-    }
-    Ok(())
+    assert!(rt; each_holds(rt.alloc(), limits, NOTHING) == Ok(true));
 }
 
 #[test]
 fn made_streams_in_drawn_cuts(rt: HostRuntime) -> Result<(), Fail> {
-    for tail in ENDS {
+    for &tail in ENDS {
         assert!(rt; made_holds(rt.alloc(), tail)?);
     }
     Ok(())
@@ -326,19 +321,23 @@ fn fault_of_octets(
     Ok(None)
 }
 
-/// Octet by octet: a line of 4,097 octets without LF and of 4,098, and a body of 1,048,576 octets without NULL and of
-/// one more.
+/// What comes first, an octet, how often it comes then, and the fault of it all: a line of 4,097 octets without LF and of
+/// 4,098, and a body of 1,048,576 octets without NULL and of one more.
+const AT_LIMITS: &[(&[u8], u8, u32, Option<FrameFault>)] = &[
+    (b"SEND\n", b'v', 4097, None),
+    (b"SEND\n", b'v', 4098, Some(FrameFault::LineTooLong)),
+    (b"SEND\n\n", b'b', 1_048_576, None),
+    (b"SEND\n\n", b'b', 1_048_577, Some(FrameFault::BodyTooLong)),
+];
+
 #[test]
-fn limits_octet_by_octet(rt: HostRuntime) -> Result<(), Fail> {
-    for (head, octet, n, want) in [
-        (b"SEND\n".as_slice(), b'v', 4097, None),
-        (b"SEND\n", b'v', 4098, Some(FrameFault::LineTooLong)),
-        (b"SEND\n\n", b'b', 1_048_576, None),
-        (b"SEND\n\n", b'b', 1_048_577, Some(FrameFault::BodyTooLong)),
-    ] {
-        assert_eq!(rt; fault_of_octets(rt.alloc(), head, octet, n)?, want);
+fn limits_octet_by_octet(rt: HostRuntime) {
+    for &(head, octet, n, want) in AT_LIMITS {
+        assert!(rt;
+            fault_of_octets(rt.alloc(), head, octet, n) == Ok(want),
+            "{n}"
+        );
     }
-    Ok(())
 }
 
 /// Whether the reader still returns this fault after it is fed a frame.
@@ -363,7 +362,7 @@ fn fault_stays(alloc: Global, text: &[u8]) -> Result<bool, NoMemory> {
 
 #[test]
 fn each_fault_stays(rt: HostRuntime) -> Result<(), Fail> {
-    for (text, _) in FAULTS {
+    for &(text, _) in FAULTS {
         assert!(rt; fault_stays(rt.alloc(), text)?);
     }
     Ok(())

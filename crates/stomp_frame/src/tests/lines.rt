@@ -5,7 +5,7 @@ use std::alloc::Global;
 use stomp_escape::{NoMemory, Octets};
 
 /// An octet that comes into a value of `x`, and what a reader says then: a fault, or nothing where it is read as itself.
-const PIECES: [(&[u8], &[u8]); 12] = [
+const PIECES: &[(&[u8], &[u8])] = &[
     (b"\0", b"2 BadLine"),
     (b"\rx", b"2 BadLine"),
     (b"\x80", b"5 BadText"),
@@ -74,7 +74,7 @@ fn is_read_so(
 fn octets_at_each_place_of_a_line(rt: HostRuntime) {
     for len in [1usize, 12, 13, 14, 15, 29, 30, 31, 46] {
         for place in 0..len {
-            for piece in PIECES {
+            for &piece in PIECES {
                 let read = is_read_so(rt.alloc(), len, place, piece);
                 assert!(rt; read == Ok(true), "{place} of {len}");
             }

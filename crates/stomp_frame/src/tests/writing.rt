@@ -92,7 +92,7 @@ type Message = (
 
 /// A NULL in the body; headers that are kept back or repeated; escapes; a message-id of the greatest numbers; two
 /// destinations, or none.
-const MESSAGES: [Message; 5] = [
+const MESSAGES: &[Message] = &[
     (
         (1, 0, 0),
         &[(b"destination", b"A"), (b"content-length", b"3")],
@@ -144,40 +144,44 @@ const MESSAGES: [Message; 5] = [
     ),
 ];
 
-#[test]
-fn messages(rt: HostRuntime) -> Result<(), Fail> {
-    for (stamp, pairs, body, want) in MESSAGES {
-        let out = message(rt.alloc(), stamp, pairs, body)?;
-        assert!(rt; is(&out, want), "{stamp:?}");
-    }
-    Ok(())
+/// Whether that is written of the row's MESSAGE.
+fn is_message(alloc: Global, row: &Message) -> Result<bool, NoMemory> {
+    Ok(is(&message(alloc, row.0, row.1, row.2)?, row.3))
 }
 
 #[test]
+fn messages(rt: HostRuntime) {
+    for row in MESSAGES {
+        assert!(rt; is_message(rt.alloc(), row) == Ok(true), "{:?}", row.0);
+    }
+}
+
+/// The title, the receipt that is asked for, and whether the version is told; and the ERROR.
+const ERRORS: &[(&[u8], Option<&[u8]>, bool, &[u8])] = &[
+    (
+        b"4 BadEscape",
+        None,
+        false,
+        b"ERROR\nmessage:4 BadEscape\ncontent-length:0\n\n\0",
+    ),
+    (
+        b"67 UnknownDestination",
+        Some(b"q:1"),
+        false,
+        b"ERROR\nmessage:67 UnknownDestination\nreceipt-id:q\\c1\ncontent-length:0\n\n\0",
+    ),
+    (
+        b"62 NoVersion",
+        Some(b""),
+        true,
+        b"ERROR\nmessage:62 NoVersion\nreceipt-id:\nversion:1.2\ncontent-length:0\n\n\0",
+    ),
+];
+
+#[test]
 fn errors(rt: HostRuntime) -> Result<(), Fail> {
-    let alloc = rt.alloc();
-    for (title, asked, version, want) in [
-        (
-            b"4 BadEscape".as_slice(),
-            None,
-            false,
-            b"ERROR\nmessage:4 BadEscape\ncontent-length:0\n\n\0".as_slice(),
-        ),
-        (
-            b"67 UnknownDestination",
-            Some(b"q:1".as_slice()),
-            false,
-            b"ERROR\nmessage:67 UnknownDestination\nreceipt-id:q\\c1\ncontent-length:0\n\n\0",
-        ),
-        (
-            b"62 NoVersion",
-            Some(b""),
-            true,
-            b"ERROR\nmessage:62 NoVersion\nreceipt-id:\nversion:1.2\ncontent-length:0\n\n\0",
-        ),
-    ] {
-        let out = error(alloc, title, asked, version)?;
-        assert!(rt; is(&out, want));
+    for &(title, asked, version, want) in ERRORS {
+        assert!(rt; is(&error(rt.alloc(), title, asked, version)?, want));
     }
     Ok(())
 }
@@ -201,7 +205,7 @@ fn connected_and_receipts(rt: HostRuntime) -> Result<(), Fail> {
 type Writable = (Command, &'static [u8], &'static [u8], &'static [u8], bool);
 
 /// Which frames can be written: each rule kept, and broken.
-const WRITABLE: [Writable; 14] = [
+const WRITABLE: &[Writable] = &[
     (Command::Send, b"content-length", b"2", b"hi", true),
     (Command::Send, b"content-length", b"2", b"h", false),
     (Command::Error, b"content-length", b"", b"", false),
@@ -224,63 +228,72 @@ const WRITABLE: [Writable; 14] = [
     (Command::Connected, b"\ra", b"", b"", false),
 ];
 
+/// Whether a frame can be written.
+fn can_be_written(
+    alloc: Global,
+    command: Command,
+    pairs: Pairs,
+    body: &[u8],
+) -> Result<bool, NoMemory> {
+    Ok(writable(&raw(alloc, command, pairs, body)?))
+}
+
 #[test]
-fn what_can_be_written(rt: HostRuntime) -> Result<(), Fail> {
-    for (command, name, value, body, want) in WRITABLE {
-        let frame = raw(rt.alloc(), command, &[(name, value)], body)?;
-        assert_eq!(rt; writable(&frame), want);
+fn what_can_be_written(rt: HostRuntime) {
+    for &(command, name, value, body, want) in WRITABLE {
+        assert!(rt; can_be_written(rt.alloc(), command, &[(name, value)], body) == Ok(want));
     }
-    Ok(())
 }
 
 /// A SEND or MESSAGE must say the length of its body, and a RECEIPT has none.
 #[test]
-fn no_headers(rt: HostRuntime) -> Result<(), Fail> {
-    let alloc = rt.alloc();
-    let message = raw(alloc, Command::Message, &[], b"")?;
-    assert!(rt; !writable(&message));
-    let receipt = raw(alloc, Command::Receipt, &[], b"hi")?;
-    assert!(rt; !writable(&receipt));
-    Ok(())
+fn no_headers(rt: HostRuntime) {
+    assert!(rt; can_be_written(rt.alloc(), Command::Message, &[], b"") == Ok(false));
+    assert!(rt; can_be_written(rt.alloc(), Command::Receipt, &[], b"hi") == Ok(false));
 }
 
 /// Two headers of one name, with these values.
 type Twice = (Command, &'static [u8], &'static [u8], &'static [u8], bool);
 
 /// The first content-length counts, and each header must be one that can be written.
-const TWICE: [Twice; 3] = [
+const TWICE: &[Twice] = &[
     (Command::Send, b"content-length", b"00", b"2", true),
     (Command::Send, b"content-length", b"2", b"00", false),
     (Command::Stomp, b"a", b"", b"\r", false),
 ];
 
 #[test]
-fn two_headers(rt: HostRuntime) -> Result<(), Fail> {
-    for (command, name, first, second, want) in TWICE {
-        let frame = raw(rt.alloc(), command, &[(name, first), (name, second)], b"")?;
-        assert_eq!(rt; writable(&frame), want);
+fn two_headers(rt: HostRuntime) {
+    for &(command, name, first, second, want) in TWICE {
+        let pairs: Pairs = &[(name, first), (name, second)];
+        assert!(rt; can_be_written(rt.alloc(), command, pairs, b"") == Ok(want));
     }
-    Ok(())
+}
+
+/// Two frames: one with escapes, and one without them.
+const APPENDED: &[(Command, Pairs<'static>)] = &[
+    (Command::Begin, &[(b"a:b", b"\r\n:\\")]),
+    (
+        Command::Connected,
+        &[(b"version", b"1.2"), (b"server", b"a:b\\n")],
+    ),
+];
+
+/// Writes a frame of these headers at the end, if it can be written.
+fn append(alloc: Global, command: Command, pairs: Pairs, out: &mut Octets) -> Result<(), Fail> {
+    let frame = raw(alloc, command, pairs, b"")?;
+    if !writable(&frame) {
+        return Err(Fail::new("not writable"));
+    }
+    Ok(write_frame(&frame, out)?)
 }
 
 /// A frame is appended to what is there, with no escapes under CONNECT.
 #[test]
 fn frames_are_appended(rt: HostRuntime) -> Result<(), Fail> {
-    let alloc = rt.alloc();
-    let mut out = Octets::new(alloc);
-    for (command, pairs) in [
-        (
-            Command::Begin,
-            [(b"a:b".as_slice(), b"\r\n:\\".as_slice())].as_slice(),
-        ),
-        (
-            Command::Connected,
-            &[(b"version", b"1.2"), (b"server", b"a:b\\n")],
-        ),
-    ] {
-        let frame = raw(alloc, command, pairs, b"")?;
-        assert!(rt; writable(&frame));
-        write_frame(&frame, &mut out)?;
+    let mut out = Octets::new(rt.alloc());
+    for &(command, pairs) in APPENDED {
+        append(rt.alloc(), command, pairs, &mut out)?;
     }
     assert!(rt;
         is(
@@ -292,7 +305,7 @@ fn frames_are_appended(rt: HostRuntime) -> Result<(), Fail> {
 }
 
 /// Each command in a frame, as it is written, and a frame with all that can be escaped.
-const FRAMES: [(Command, &'static [u8]); 17] = [
+const FRAMES: &[(Command, &'static [u8])] = &[
     (Command::Send, b"SEND\ncontent-length:0\n\n\0"),
     (Command::Subscribe, b"SUBSCRIBE\n\n\0"),
     (Command::Unsubscribe, b"UNSUBSCRIBE\n\n\0"),
@@ -335,12 +348,19 @@ fn written(alloc: Global, frame: &RawFrame) -> Result<Octets, Fail> {
     Ok(out)
 }
 
+/// Whether the text is read as a frame of this command, and that is written as the text.
+fn is_read_and_written(alloc: Global, command: Command, text: &[u8]) -> Result<bool, Fail> {
+    let frame = read(alloc, text)?;
+    Ok(frame.command == command && is(&written(alloc, &frame)?, text))
+}
+
 #[test]
 fn each_command_is_read_and_written_again(rt: HostRuntime) -> Result<(), Fail> {
-    for (command, text) in FRAMES {
-        let frame = read(rt.alloc(), text)?;
-        assert!(rt; frame.command == command, "{command:?}");
-        assert!(rt; is(&written(rt.alloc(), &frame)?, text), "{command:?}");
+    for &(command, text) in FRAMES {
+        assert!(rt;
+            is_read_and_written(rt.alloc(), command, text)?,
+            "{command:?}"
+        );
     }
     Ok(())
 }
