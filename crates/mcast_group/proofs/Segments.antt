@@ -98,7 +98,7 @@ next_many size n [] q r d h e l m = absurd (omega arith)
 next_many size n (s ∷ ss) zero r d h e l m = let a = h.0 in omega arith
 next_many size n (s ∷ ss) (suc q) r d h e l m = next_many size (n - size) ss q r d h.1 (omega arith) l (omega arith)
 
-nothing_after : (xs : List LogRow) → xs ++ [] ≡ xs
+pub nothing_after : (xs : List LogRow) → xs ++ [] ≡ xs
 nothing_after [] = refl
 nothing_after (x ∷ xs) = ap (λ (zs : List LogRow). x ∷ zs) (nothing_after xs)
 
@@ -149,6 +149,19 @@ segments_parted size n (suc used) [] h l = record { taken = h; left = refl; rows
 segments_parted size n (suc used) (s ∷ ss) h l =
     let ih = segments_parted size (n - size) used ss h.1 (omega arith) in
     record { taken = (h.0, ih.taken); left = ih.left; rows = ap (λ (zs : List LogRow). s ++ zs) ih.rows }
+
+-- the first alone has rows, and gives them
+pub first_is_all : (size n : ℕ) (ss : List (List LogRow)) (d : List LogRow) → AreSegments size n ss → n ≤ size → 0 < length ss → joined_rows ss ≡ get_or ss 0 d
+first_is_all size n [] d h l m = absurd (omega arith)
+first_is_all size n (s ∷ ss) d h l m =
+    let rest : AreSegments size 0 ss = subst (λ (k : ℕ). AreSegments size k ss) (omega arith) h.1 in
+    ap (λ (zs : List LogRow). s ++ zs) (rows_none size ss rest) ∙ nothing_after s
+
+pub first_emptied : (size n : ℕ) (ss : List (List LogRow)) → AreSegments size n ss → n ≤ size → Has size 0 (set ss 0 []) []
+first_emptied size n [] h l = record { shape = refl; rows = refl }
+first_emptied size n (s ∷ ss) h l =
+    let rest : AreSegments size 0 ss = subst (λ (k : ℕ). AreSegments size k ss) (omega arith) h.1 in
+    record { shape = (omega arith, subst (λ (k : ℕ). AreSegments size k ss) (omega arith) rest); rows = rows_none size ss rest }
 
 -- those after the first
 pub first_taken : (size n : ℕ) (s : List LogRow) (ss : List (List LogRow)) → AreSegments size n (s ∷ ss) → AreSegments size (n - length s) ss

@@ -114,6 +114,36 @@ impl Log {
         ensures err { OnErr result (self.new.items ≡ self.old.items) }
         ensures capacity { OnErr result (self.old.capacity ≤ self.new.capacity) }
     {
+        if self.len > 0 && self.len < SEGMENT_ROWS {
+            return self.drain_first(more);
+        }
+        self.drain_segments(more)
+    }
+
+    // The same where the first segment alone has rows: they are moved out of it, and it stays with its room.
+    fn drain_first(&mut self, more: usize) -> Result<LogRows, NoMemory>
+        requires some { 0 < length self.old.items }
+        requires few { length self.old.items < 256 }
+        ensures rows { IfOk result (λ rows. rows ≡ self.old.items) }
+        ensures none { OnOk result (self.new.items ≡ []) }
+        ensures room { OnOk result (more ≤ self.new.capacity) }
+        ensures err { OnErr result (self.new.items ≡ self.old.items) }
+        ensures capacity { OnErr result (self.old.capacity ≤ self.new.capacity) }
+    {
+        self.reserve(more.saturating_sub(self.len))?;
+        let rows = self.segments[0].take_rows(self.alloc)?;
+        self.len = 0;
+        Ok(LogRows::new(rows, Log::new(self.alloc)))
+    }
+
+    // The same by whole segments, whose rows aren't moved.
+    fn drain_segments(&mut self, more: usize) -> Result<LogRows, NoMemory>
+        ensures rows { IfOk result (λ rows. rows ≡ self.old.items) }
+        ensures none { OnOk result (self.new.items ≡ []) }
+        ensures room { OnOk result (more ≤ self.new.capacity) }
+        ensures err { OnErr result (self.new.items ≡ self.old.items) }
+        ensures capacity { OnErr result (self.old.capacity ≤ self.new.capacity) }
+    {
         let used = self.used();
         let left = used * SEGMENT_ROWS - self.len;
         self.reserve(more.saturating_add(left))?;

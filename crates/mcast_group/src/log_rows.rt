@@ -1,6 +1,6 @@
 //! Rows that were drained from a topic's log.
 
-ghost use Rattle.std.specs.Prelude.{◌≡◌, ◌++◌, ◌<◌, ◌^◌, length, slice_get, IfNone, IfSome, [], ◌∷◌};
+ghost use Rattle.std.specs.Prelude.{◌≡◌, ◌+◌, ◌++◌, ◌<◌, ◌^◌, length, slice_get, IfNone, IfSome, [], ◌∷◌};
 ghost use Rattle.std.specs.Option.{option_map};
 ghost use Rattle.mcast_txn.specs.Span.{LogRow};
 
@@ -29,11 +29,10 @@ impl Model for LogRows {
 }
 
 impl LogRows {
-    // These rows, which are moved and not copied.
+    // The first rows, and the rest of them, which are moved and not copied.
     pub(crate) fn new(first: VecDeque<Row>, rest: Log) -> LogRows
-        requires none { first.items ≡ [] }
-        requires fits { length rest.items < 2 ^ 64 }
-        ensures { result ≡ rest.items }
+        requires fits { length first.items + length rest.items < 2 ^ 64 }
+        ensures { result ≡ first.items ++ rest.items }
     {
         LogRows { first, rest }
     }

@@ -1,6 +1,6 @@
 //! Segments of a topic's log.
 
-ghost use Rattle.std.specs.Prelude.{◌≡◌, ◌<◌, ◌++◌, ◌∷◌, [], length, slice_get, IfOk};
+ghost use Rattle.std.specs.Prelude.{◌≡◌, ◌<◌, ◌++◌, ◌∷◌, [], length, slice_get, IfOk, OnErr, OnOk};
 ghost use Rattle.std.specs.Option.{option_map};
 
 use crate::row::Row;
@@ -59,6 +59,17 @@ impl Segment {
         ensures { self.new ≡ self.old ++ row ∷ [] }
     {
         self.rows.push_back_reserved(row);
+    }
+
+    // Moves its rows out into room of their number; its own room stays.
+    pub(crate) fn take_rows(&mut self, alloc: Global) -> Result<VecDeque<Row>, NoMemory>
+        ensures rows { IfOk result (λ rows. rows.items ≡ self.old) }
+        ensures none { OnOk result (self.new ≡ []) }
+        ensures err { OnErr result (self.new ≡ self.old) }
+    {
+        let mut rows = VecDeque::with_capacity(alloc, self.rows.len())?;
+        rows.append(&mut self.rows)?;
+        Ok(rows)
     }
 
     // Its rows, which aren't moved.

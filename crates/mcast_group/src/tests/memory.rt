@@ -43,7 +43,7 @@ fn are_open(group: &mut Group<VecOutlet>, below: u64) -> bool {
 
 /// Calls again while memory is refused, which it is once at most. Returns the answer, and whether a refusal by 42 changed
 /// nothing that shows, where so many subscriptions are open.
-fn at_last(
+pub(super) fn at_last(
     alloc: Global,
     group: &mut Group<VecOutlet>,
     call: Call,

@@ -154,3 +154,28 @@ fn a_turn_learns_and_releases(rt: HostRuntime) {
     assert!(rt; is_row(&group, 1, 1, stamp(6, 1), &[Topic(0), Topic(1)]));
     assert!(rt; is_row(&group, 2, 2, stamp(9, 1), &[Topic(0), Topic(1)]));
 }
+
+/// Three tickets at topic 0, of which the second learns a stamp above the third's.
+const PASSED: &[(Call, Answer)] = &[
+    (Propose(1, &[0], 0), Answer::Ticket(1)),
+    (Propose(2, &[0, 1], 0), Answer::Ticket(2)),
+    (Propose(3, &[0], 0), Answer::Ticket(3)),
+    (Learn(2, &[(0, 2), (1, 9)]), Done),
+    (Learn(1, &[(0, 1)]), Done),
+    (Learn(3, &[(0, 3)]), Done),
+];
+
+/// A turn that finds nothing more releases them by their stamps, and the next ticket is above the greatest.
+#[test]
+fn a_part_that_learns_goes_behind_others(rt: HostRuntime) {
+    let alloc = rt.alloc();
+    let mut group = Group::new(alloc, Topic(0), 0, 8);
+    assert!(rt; answers(alloc, &mut group, PASSED));
+    let all = turned(alloc, &mut group, (8, &[(0, 8)]), (9, &[(0, 9)]));
+    assert_eq!(rt; all, Some(3));
+    assert!(rt; is_row(&group, 0, 1, stamp(1, 0), &[Topic(0)]));
+    assert!(rt; is_row(&group, 1, 3, stamp(3, 0), &[Topic(0)]));
+    assert!(rt; is_row(&group, 2, 2, stamp(9, 1), &[Topic(0), Topic(1)]));
+    let next = [(Propose(4, &[0], 0), Answer::Ticket(10))];
+    assert!(rt; answers(alloc, &mut group, &next));
+}

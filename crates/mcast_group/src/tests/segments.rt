@@ -1,6 +1,7 @@
 //! Logs of more rows than a segment has room for.
 
-use super::calls::{Answer, id, learnt, propose, released};
+use super::calls::{Answer, Call, id, learnt, propose, released};
+use super::memory::at_last;
 use crate::{Group, LogRows};
 use mcast_txn::{NoMemory, Topic};
 use std::alloc::Global;
@@ -109,4 +110,17 @@ fn drains_at_the_ends_of_segments(rt: HostRuntime) {
         assert_eq!(rt; group.held_len(), 0);
         first = first.saturating_add(many);
     }
+}
+
+/// At a full segment a proposal makes another: out of memory for it, nothing has changed, and the same proposal then gets
+/// its ticket.
+#[test]
+fn a_full_segment_wants_another(rt: HostRuntime) {
+    let alloc = rt.alloc();
+    let mut group = Group::new(alloc, Topic(0), 0, 1000);
+    assert!(rt; are_released(alloc, &mut group, 0, 256));
+    let answer = at_last(alloc, &mut group, Call::Propose(256, &[0], 0), 0);
+    assert_eq!(rt; answer, Some((Answer::Ticket(257), true)));
+    assert!(rt; is_released(alloc, &mut group, 256));
+    assert_eq!(rt; held(&group, 256), Some(256));
 }

@@ -19,10 +19,18 @@ use stomp_frame::{Headers, NoMemory, Octets};
 
 /// A transaction that is committed (STOMP 1.2, "COMMIT"): its SENDs, at least one. In contracts it is their list, in
 /// order.
-#[derive(Drop)]
 pub struct Txn {
     pub(crate) entries: Vec<Entry>,
     pub(crate) topics: Arc<TopicSet>,
+}
+
+impl Drop for Txn {
+    /// Written out, so that letting a transaction go is one call for the prover wherever it happens.
+    fn drop(self) {
+        let Txn { entries, topics } = self;
+        drop(entries);
+        drop(topics);
+    }
 }
 
 impl Model for Txn {

@@ -5,11 +5,11 @@ use std::test::Fail;
 
 #[test]
 fn drafts(rt: HostRuntime) -> Result<(), Fail> {
-    let rows: [(DraftFault, u32, &[u8]); 2] = [
+    let rows: &[(DraftFault, u32, &[u8])] = &[
         (DraftFault::TooManySends, 30, b"30 TooManySends: "),
         (DraftFault::NoMemory, 31, b"31 NoMemory: "),
     ];
-    for (fault, number, front) in rows {
+    for &(fault, number, front) in rows {
         let message = format!(in rt.alloc(); "{fault}")?;
         assert_eq!(rt; fault.number(), number);
         assert!(rt; message.as_bytes().starts_with(front));
@@ -19,11 +19,11 @@ fn drafts(rt: HostRuntime) -> Result<(), Fail> {
 
 #[test]
 fn ballots(rt: HostRuntime) -> Result<(), Fail> {
-    let rows: [(BallotFault, u32, &[u8]); 2] = [
+    let rows: &[(BallotFault, u32, &[u8])] = &[
         (BallotFault::NotNamed, 50, b"50 NotNamed: "),
         (BallotFault::Twice, 51, b"51 Twice: "),
     ];
-    for (fault, number, front) in rows {
+    for &(fault, number, front) in rows {
         let message = format!(in rt.alloc(); "{fault}")?;
         assert_eq!(rt; fault.number(), number);
         assert!(rt; message.as_bytes().starts_with(front));
