@@ -10,6 +10,7 @@ mod logs;
 mod mark;
 mod marks;
 mod orders;
+mod ranges;
 mod references;
 mod row;
 mod text;
