@@ -7,6 +7,7 @@ pub mod OctetsRow
 pub mod DeliveredRow
 pub mod StepRows
 pub mod GreetedRow
+pub mod SteppedRows
 -- The delivery of every run.
 pub mod Said
 pub mod Speaking

@@ -35,6 +35,7 @@ pub mod WithdrawStep
 pub mod OpenStep
 pub mod PieceStep
 pub mod LostStep
+pub mod RoomsOfEntries
 pub mod ReleaseStep
 pub mod ReportOfView
 pub mod KeptRuns
@@ -52,3 +53,4 @@ pub mod TakeStep
 pub mod SessionSubs
 pub mod KnownSends
 pub mod NextTxns
+pub mod ConnectionsOfRuns

@@ -8,4 +8,5 @@ pub mod Readings
 pub mod Outcomes
 pub mod Reports
 pub mod Stepped
+pub mod Connections
 pub mod Delivery

@@ -23,25 +23,25 @@ use Rattle.delivery.specs.Core.Reports.{QueueReport, Report, report_of}
 -- ---- what a trace has
 
 -- the log of the topic of number t, as rows of a trace
-abbrev pub log_lines : ℕ → List LogRow → List LogLine
-log_lines t rows = map (λ row. record { topic = record { 0 = t }; row = row }) rows
+abbrev pub traced_log : ℕ → List LogRow → List LogLine
+traced_log t rows = map (λ row. record { topic = record { 0 = t }; row = row }) rows
 
 -- the span of subscription s, as a row of a trace
-abbrev pub span_line : ℕ → QueueReport → SpanRow
-span_line s q = record { sub = s; topic = q.topic; from = q.from; to = q.to }
+abbrev pub traced_span : ℕ → QueueReport → SpanRow
+traced_span s q = record { sub = s; topic = q.topic; from = q.from; to = q.to }
 
 -- what the queue of subscription s accepted, delivered or not, as rows of a trace
-abbrev pub queue_lines : ℕ → QueueReport → List QueueRow
-queue_lines s q = map (λ item. record { sub = s; id = item.id; stamp = item.stamp }) q.queued
+abbrev pub traced_queue : ℕ → QueueReport → List QueueRow
+traced_queue s q = map (λ item. record { sub = s; id = item.id; stamp = item.stamp }) q.queued
 
 -- The trace of a report: the logs by topic, each in its order, and by subscription the spans and what the
 -- queues accepted. So of a closed subscription 0 of topic 0, whose queue accepted what the log has, it is
 -- `log 0 0 1 1.0 0`, `span 0 0 0.0 1.0`, `queue 0 0 1 1.0`.
 abbrev pub trace_of : Report → Lines
 trace_of r = record {
-  logs = flat_map (λ p. log_lines p.0 p.1) (enumerate_from 0 r.logs);
-  spans = map (λ p. span_line p.0 p.1) (enumerate_from 0 r.subscriptions);
-  queues = flat_map (λ p. queue_lines p.0 p.1) (enumerate_from 0 r.subscriptions);
+  logs = flat_map (λ p. traced_log p.0 p.1) (enumerate_from 0 r.logs);
+  spans = map (λ p. traced_span p.0 p.1) (enumerate_from 0 r.subscriptions);
+  queues = flat_map (λ p. traced_queue p.0 p.1) (enumerate_from 0 r.subscriptions);
 }
 
 -- ---- what an auditor finds

@@ -1,5 +1,6 @@
 //! Laws: functions that do nothing, whose contracts are theorems about every run or step of the core.
 
+ghost use Rattle.delivery.specs.Core.Connections.{OpenAreLive, OtherConnectionsStay, UnsubscribesFind};
 ghost use Rattle.delivery.specs.Core.Delivery.{RunsDeliver, StepsAreKept};
 ghost use Rattle.delivery.specs.Core.Stepped.{StepsHaveStepped};
 ghost use Rattle.delivery.specs.Theorem.Answers.{MovesAreAnswered};
@@ -208,6 +209,15 @@ pub fn steps()
 /// fed and by the outcomes, and by nothing else.
 pub fn readings()
     ensures { StepsAreKept }
+{}
+
+/// What an open connection's session has open are the connection's subscriptions that aren't closed, so an UNSUBSCRIBE that it
+/// accepts ends one of them, and 48 never comes of a Next. An event of one connection changes no other: a Take is of its
+/// subscription's.
+pub fn connections()
+    ensures live { OpenAreLive }
+    ensures ends { UnsubscribesFind }
+    ensures others { OtherConnectionsStay }
 {}
 
 /// The trace of every run is explained, so an audit of it is a yes unless memory runs out, and complete where all of its

@@ -10,6 +10,7 @@ ghost use Rattle.stomp_frame.specs.Writing.{spelled};
 ghost use Rattle.delivery.specs.Topics.{max_topics};
 ghost use Rattle.delivery.specs.Machine.World.{new_topics};
 ghost use Rattle.delivery.specs.Core.State.{Core, log_limit, new_core};
+ghost use Rattle.delivery.specs.Inner.Senders.{IsSpeaker};
 ghost use Rattle.delivery.specs.Inner.Stands.{IsReached, Makes, IsChecked, line_objection};
 ghost use Rattle.delivery.specs.Inner.View.{LineView, view_of, new_group, leaving_line, fed_line, written_line, with_new_line};
 ghost use Rattle.delivery.specs.declared.event.Event.{Event as Asked};
@@ -124,18 +125,30 @@ impl NetState {
         })
     }
 
-    /// Whether the connection's octets and frames may be read: 80 where there is none, 87 where it is gone, 81 where it is
-    /// leaving.
-    fn check_open(&self, c: u64) -> Result<(), Refusal>
-        ensures { IsChecked result (line_objection (slice_get self.now.lines c)) }
+    /// The sender of a connection that is there and isn't gone: 80 where there is none, 87 where it is gone.
+    fn check_there(&self, c: u64) -> Result<u64, Refusal>
+        ensures { IsSpeaker result self.now c }
     {
         let Some(line) = self.lines.get(c as usize) else {
             return Err(Refusal::NoConn);
         };
         match line.stage {
-            Stage::Open(_) => Ok(()),
-            Stage::Leaving(_) => Err(Refusal::Busy),
+            Stage::Open(_) => Ok(line.sender),
+            Stage::Leaving(_) => Ok(line.sender),
             Stage::Gone => Err(Refusal::Gone),
+        }
+    }
+
+    /// Whether the connection's octets and frames may be read: 80 where there is none, 87 where it is gone, 81 where it is
+    /// leaving.
+    fn check_open(&self, c: u64) -> Result<(), Refusal>
+        ensures { IsChecked result (line_objection (slice_get self.now.lines c)) }
+    {
+        self.check_there(c)?;
+        let line = &self.lines[c as usize];
+        match line.stage {
+            Stage::Leaving(_) => Err(Refusal::Busy),
+            _ => Ok(()),
         }
     }
 

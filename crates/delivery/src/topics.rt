@@ -78,7 +78,8 @@ impl Topics {
 
     /// How many topics there are, at most 1,024.
     pub fn len(&self) -> usize
-        ensures { result ≡ length self.now.names }
+        ensures value { result ≡ length self.now.names }
+        ensures few { length self.now.names ≤ max_topics }
     {
         self.names.len()
     }

@@ -23,7 +23,7 @@ use Rattle.delivery.specs.Machine.Moves.{Answer}
 use Rattle.delivery.specs.Machine.Runs.{commits_of, released_at}
 use Rattle.delivery.specs.Core.Delivery.{Delivers}
 use Rattle.delivery.specs.Core.Reports.{Report, queue_in, log_in, span_of}
-use Rattle.delivery.specs.Traces.{span_line, trace_of, AllSettled}
+use Rattle.delivery.specs.Traces.{traced_span, trace_of, AllSettled}
 use Rattle.delivery.proofs.Theorem.SpansAsAnswered.{within}
 use Rattle.delivery.proofs.Traces.Lists.{filter_twice, filter_mapped, In-take}
 use Rattle.delivery.proofs.Traces.Lines.{item_row, log_is, row_in_log, row_of_log, queue_is, spanned}
@@ -176,7 +176,7 @@ marks_twice t (row ∷ rows) = ap (λ z. row_mark (log_row row) ∷ z) (marks_tw
 
 -- what a queue accepted are the rows of its topic's log that lie in its span
 queue_cut : (account : List Answer) (r : Report) (d : Delivers account r) (s : ℕ) → s < length r.subscriptions
-    → queue_of s (trace_of r).queues ≡ marks_in (span_line s (queue_in r s)) (trace_of r).logs
+    → queue_of s (trace_of r).queues ≡ marks_in (traced_span s (queue_in r s)) (trace_of r).logs
 queue_cut account r d s l =
     let q = queue_in r s in
     let last = last_stamp zero_stamp (log_in r q.topic) in

@@ -11,25 +11,25 @@ use Rattle.trace_audit.specs.Line.{LogLine}
 use Rattle.trace_audit.specs.Trace.{rows_of, log_of, row_mark, queue_mark, queue_of}
 use Rattle.std.proofs.lemmas.Bool.{eq-eqb}
 use Rattle.delivery.specs.Core.Reports.{QueueReport, Report, no_queue, queue_in, log_in}
-use Rattle.delivery.specs.Traces.{log_lines, span_line, queue_lines, trace_of}
+use Rattle.delivery.specs.Traces.{traced_log, traced_span, traced_queue, trace_of}
 use Rattle.delivery.proofs.Traces.Lists.{made_at}
 
 -- an item's id and stamp, as a row
 abbrev pub item_row : Item → LogRow
 item_row item = record { id = item.id; topics = []; stamp = item.stamp }
 
-of_topic : (i : ℕ) (rows : List LogRow) (line : LogLine) → In line (log_lines i rows) → line.topic.0 ≡ i
+of_topic : (i : ℕ) (rows : List LogRow) (line : LogLine) → In line (traced_log i rows) → line.topic.0 ≡ i
 of_topic i rows line k =
     let m = In-map_cases _ line rows k in ap (λ (z : LogLine). z.topic.0) (sym m.is)
 
-rows_back : (t : ℕ) (rows : List LogRow) → rows_of (log_lines t rows) ≡ rows
+rows_back : (t : ℕ) (rows : List LogRow) → rows_of (traced_log t rows) ≡ rows
 rows_back t [] = refl
 rows_back t (row ∷ rows) = ap (λ z. row ∷ z) (rows_back t rows)
 
 -- the log of a topic is the report's
 pub log_is : (r : Report) (t : Topic) → log_of t (trace_of r).logs ≡ log_in r t
 log_is r t =
-    ap rows_of (made_at log_lines (λ (line : LogLine). line.topic.0) of_topic 0 t.0 t.0 r.logs [] (omega arith) refl)
+    ap rows_of (made_at traced_log (λ (line : LogLine). line.topic.0) of_topic 0 t.0 t.0 r.logs [] (omega arith) refl)
     ∙ rows_back t.0 (log_in r t)
 
 -- a row of a log is in the log of its line's topic
@@ -48,11 +48,11 @@ row_of_log t logs row k =
     let n = In-filter_cases (λ (line : LogLine). line.topic.0 == t.0) m.from logs m.stands in
     subst (λ z. In z (rows_of logs)) m.is (In-map (λ (line : LogLine). line.row) m.from logs n.stands)
 
-of_sub : (i : ℕ) (q : QueueReport) (line : QueueRow) → In line (queue_lines i q) → line.sub ≡ i
+of_sub : (i : ℕ) (q : QueueReport) (line : QueueRow) → In line (traced_queue i q) → line.sub ≡ i
 of_sub i q line k =
     let m = In-map_cases _ line q.queued k in ap (λ (z : QueueRow). z.sub) (sym m.is)
 
-marks_back : (s : ℕ) (items : List Item) (q : QueueReport) → q.queued ≡ items → map queue_mark (queue_lines s q) ≡ map (λ item. row_mark (item_row item)) items
+marks_back : (s : ℕ) (items : List Item) (q : QueueReport) → q.queued ≡ items → map queue_mark (traced_queue s q) ≡ map (λ item. row_mark (item_row item)) items
 marks_back s items q e = ap (λ z. map queue_mark (map (λ (item : Item). record { sub = s; id = item.id; stamp = item.stamp }) z)) e ∙ each items
   where
     each : (items : List Item) → map queue_mark (map (λ (item : Item). record { sub = s; id = item.id; stamp = item.stamp }) items) ≡ map (λ item. row_mark (item_row item)) items
@@ -62,21 +62,21 @@ marks_back s items q e = ap (λ z. map queue_mark (map (λ (item : Item). record
 -- the queue of a subscription is what the report's accepted
 pub queue_is : (r : Report) (s : ℕ) → queue_of s (trace_of r).queues ≡ map (λ item. row_mark (item_row item)) (queue_in r s).queued
 queue_is r s =
-    ap (map queue_mark) (made_at queue_lines (λ (line : QueueRow). line.sub) of_sub 0 s s r.subscriptions no_queue (omega arith) refl)
+    ap (map queue_mark) (made_at traced_queue (λ (line : QueueRow). line.sub) of_sub 0 s s r.subscriptions no_queue (omega arith) refl)
     ∙ marks_back s (queue_in r s).queued (queue_in r s) refl
 
 -- of a span: its subscription is reported, and it is that one's
 pub record Spanned (r : Report) (line : SpanRow) : Type 0 where
   pub within : line.sub < length r.subscriptions
-  pub is : line ≡ span_line line.sub (queue_in r line.sub)
+  pub is : line ≡ traced_span line.sub (queue_in r line.sub)
 
-spanned_from : (i : ℕ) (qs : List QueueReport) (line : SpanRow) → In line (map (λ p. span_line p.0 p.1) (enumerate_from i qs))
-    → (j : ℕ) × (j < length qs) × (line ≡ span_line (i + j) (get_or qs j no_queue))
+spanned_from : (i : ℕ) (qs : List QueueReport) (line : SpanRow) → In line (map (λ p. traced_span p.0 p.1) (enumerate_from i qs))
+    → (j : ℕ) × (j < length qs) × (line ≡ traced_span (i + j) (get_or qs j no_queue))
 spanned_from i [] line k = absurd k
-spanned_from i (q ∷ qs) line (inl e) = (0, omega arith, sym e ∙ ap (λ n. span_line n q) (omega arith))
+spanned_from i (q ∷ qs) line (inl e) = (0, omega arith, sym e ∙ ap (λ n. traced_span n q) (omega arith))
 spanned_from i (q ∷ qs) line (inr k) =
     let h = spanned_from (i + 1) qs line k in
-    (suc h.0, omega (arith, h.1), h.2 ∙ ap (λ n. span_line n (get_or qs h.0 no_queue)) (omega arith))
+    (suc h.0, omega (arith, h.1), h.2 ∙ ap (λ n. traced_span n (get_or qs h.0 no_queue)) (omega arith))
 
 -- each span is that of a reported subscription
 pub spanned : (r : Report) (line : SpanRow) → In line (trace_of r).spans → Spanned r line
@@ -85,5 +85,5 @@ spanned r line k =
     let number : line.sub ≡ h.0 = ap (λ (z : SpanRow). z.sub) h.2 ∙ omega arith in
     record {
       within = subst (λ n. n < length r.subscriptions) (sym number) h.1;
-      is = h.2 ∙ (ap (λ n. span_line n (queue_in r h.0)) (omega arith) ∙ ap (λ n. span_line n (queue_in r n)) (sym number));
+      is = h.2 ∙ (ap (λ n. traced_span n (queue_in r h.0)) (omega arith) ∙ ap (λ n. traced_span n (queue_in r n)) (sym number));
     }

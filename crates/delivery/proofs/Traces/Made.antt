@@ -17,7 +17,7 @@ use Rattle.trace_audit.specs.declared.row.SpanRow.{SpanRow}
 use Rattle.trace_audit.specs.Line.{LogLine}
 use Rattle.trace_audit.specs.Trace.{Lines, fits, has_span}
 use Rattle.delivery.specs.Core.Reports.{QueueReport}
-use Rattle.delivery.specs.Traces.{log_lines, span_line, queue_lines}
+use Rattle.delivery.specs.Traces.{traced_log, traced_span, traced_queue}
 use Rattle.delivery.proofs.Traces.Lists.{made_of}
 
 -- an item as a row of a subscription's queue
@@ -26,7 +26,7 @@ queue_row s item = record { sub = s; id = item.id; stamp = item.stamp }
 
 -- the spans of subscriptions, where the first has number i
 abbrev pub span_lines : ℕ → List QueueReport → List SpanRow
-span_lines i qs = map (λ p. span_line p.0 p.1) (enumerate_from i qs)
+span_lines i qs = map (λ p. traced_span p.0 p.1) (enumerate_from i qs)
 
 -- ---- lists
 
@@ -86,11 +86,11 @@ passes_made p f i (y ∷ xs) (suc n) x all is =
     subst (λ m. list_all p (f m x) ≡ true) later (passes_made p f (i + 1) xs n x parts.1 is)
 
 -- where a topic's log fits, so does each row of it
-pub line_fits : (t : Topic) (rows : List LogRow) (n : ℕ) (row : LogRow) → list_all (λ (line : LogLine). fits line) (log_lines t.0 rows) ≡ true
+pub line_fits : (t : Topic) (rows : List LogRow) (n : ℕ) (row : LogRow) → list_all (λ (line : LogLine). fits line) (traced_log t.0 rows) ≡ true
     → slice_get rows n ≡ Some row → fits (record { topic = t; row = row }) ≡ true
 line_fits t rows n row all is =
     let line : LogRow → LogLine = λ r. record { topic = t; row = r } in
-    passes_at (λ (z : LogLine). fits z) (log_lines t.0 rows) n (line row) all (slice_get-map line rows n ∙ ap (option_map line) is)
+    passes_at (λ (z : LogLine). fits z) (traced_log t.0 rows) n (line row) all (slice_get-map line rows n ∙ ap (option_map line) is)
 
 -- ---- traces
 
@@ -100,25 +100,25 @@ with_logs old rows = record old { logs = old.logs ++ rows }
 
 -- a topic's log grows by a row
 pub log_grows : (old mid new : Lines) (t : Topic) (rows : List LogRow) (n : ℕ) (row : LogRow) (line : LogLine) → slice_get rows n ≡ Some row
-    → mid ≡ with_logs old (log_lines t.0 (take n rows)) → line ≡ record { topic = t; row = row } → new ≡ with_logs mid (line ∷ [])
-    → new ≡ with_logs old (log_lines t.0 (take (n + 1) rows))
+    → mid ≡ with_logs old (traced_log t.0 (take n rows)) → line ≡ record { topic = t; row = row } → new ≡ with_logs mid (line ∷ [])
+    → new ≡ with_logs old (traced_log t.0 (take (n + 1) rows))
 log_grows old mid new t rows n row line is so_far made grown =
-    let whole : log_lines t.0 (take (n + 1) rows) ≡ log_lines t.0 (take n rows) ++ record { topic = t; row = row } ∷ [] = map_one _ rows n row is in
+    let whole : traced_log t.0 (take (n + 1) rows) ≡ traced_log t.0 (take n rows) ++ record { topic = t; row = row } ∷ [] = map_one _ rows n row is in
     grown
     ∙ (ap (λ (z : LogLine). with_logs mid (z ∷ [])) made
     ∙ (ap (λ (z : Lines). with_logs z (record { topic = t; row = row } ∷ [])) so_far
-    ∙ ap (λ (z : List LogLine). record old { logs = z }) (append_assoc old.logs (log_lines t.0 (take n rows)) (record { topic = t; row = row } ∷ [])
+    ∙ ap (λ (z : List LogLine). record old { logs = z }) (append_assoc old.logs (traced_log t.0 (take n rows)) (record { topic = t; row = row } ∷ [])
     ∙ ap (λ z. old.logs ++ z) (sym whole))))
 
 -- the logs grow by a topic's
 pub logs_grow : (old mid new : Lines) (logs : List (List LogRow)) (n : ℕ) (rows : List LogRow) → slice_get logs n ≡ Some rows
-    → mid ≡ with_logs old (made_of log_lines 0 (take n logs)) → new ≡ with_logs mid (log_lines n rows)
-    → new ≡ with_logs old (made_of log_lines 0 (take (n + 1) logs))
+    → mid ≡ with_logs old (made_of traced_log 0 (take n logs)) → new ≡ with_logs mid (traced_log n rows)
+    → new ≡ with_logs old (made_of traced_log 0 (take (n + 1) logs))
 logs_grow old mid new logs n rows is so_far grown =
     grown
-    ∙ (ap (λ (z : Lines). with_logs z (log_lines n rows)) so_far
-    ∙ ap (λ (z : List LogLine). record old { logs = z }) (append_assoc old.logs (made_of log_lines 0 (take n logs)) (log_lines n rows)
-    ∙ ap (λ z. old.logs ++ z) (sym (made_one log_lines logs n rows is))))
+    ∙ (ap (λ (z : Lines). with_logs z (traced_log n rows)) so_far
+    ∙ ap (λ (z : List LogLine). record old { logs = z }) (append_assoc old.logs (made_of traced_log 0 (take n logs)) (traced_log n rows)
+    ∙ ap (λ z. old.logs ++ z) (sym (made_one traced_log logs n rows is))))
 
 -- the trace with more rows of queues
 abbrev pub with_queues : Lines → List QueueRow → Lines
@@ -141,18 +141,18 @@ with_subs old spans rows = record old { spans = spans; queues = old.queues ++ ro
 
 -- the trace grows by a subscription
 pub subs_grow : (old mid new : Lines) (qs : List QueueReport) (n : ℕ) (q : QueueReport) → slice_get qs n ≡ Some q
-    → mid ≡ with_subs old (span_lines 0 (take n qs)) (made_of queue_lines 0 (take n qs))
-    → new ≡ record mid { spans = mid.spans ++ span_line n q ∷ []; queues = mid.queues ++ queue_lines n q }
-    → new ≡ with_subs old (span_lines 0 (take (n + 1) qs)) (made_of queue_lines 0 (take (n + 1) qs))
+    → mid ≡ with_subs old (span_lines 0 (take n qs)) (made_of traced_queue 0 (take n qs))
+    → new ≡ record mid { spans = mid.spans ++ traced_span n q ∷ []; queues = mid.queues ++ traced_queue n q }
+    → new ≡ with_subs old (span_lines 0 (take (n + 1) qs)) (made_of traced_queue 0 (take (n + 1) qs))
 subs_grow old mid new qs n q is so_far grown =
-    let spans : span_lines 0 (take (n + 1) qs) ≡ span_lines 0 (take n qs) ++ span_line n q ∷ [] =
-    ap (map (λ (p : ℕ × QueueReport). span_line p.0 p.1)) (number_one qs n q is)
-    ∙ map-append (λ (p : ℕ × QueueReport). span_line p.0 p.1) (enumerate_from 0 (take n qs)) ((n, q) ∷ []) in
-    let rows : old.queues ++ made_of queue_lines 0 (take (n + 1) qs) ≡ (old.queues ++ made_of queue_lines 0 (take n qs)) ++ queue_lines n q =
-    ap (λ z. old.queues ++ z) (made_one queue_lines qs n q is)
-    ∙ sym (append_assoc old.queues (made_of queue_lines 0 (take n qs)) (queue_lines n q)) in
+    let spans : span_lines 0 (take (n + 1) qs) ≡ span_lines 0 (take n qs) ++ traced_span n q ∷ [] =
+    ap (map (λ (p : ℕ × QueueReport). traced_span p.0 p.1)) (number_one qs n q is)
+    ∙ map-append (λ (p : ℕ × QueueReport). traced_span p.0 p.1) (enumerate_from 0 (take n qs)) ((n, q) ∷ []) in
+    let rows : old.queues ++ made_of traced_queue 0 (take (n + 1) qs) ≡ (old.queues ++ made_of traced_queue 0 (take n qs)) ++ traced_queue n q =
+    ap (λ z. old.queues ++ z) (made_one traced_queue qs n q is)
+    ∙ sym (append_assoc old.queues (made_of traced_queue 0 (take n qs)) (traced_queue n q)) in
     grown
-    ∙ (ap (λ (z : Lines). record z { spans = z.spans ++ span_line n q ∷ []; queues = z.queues ++ queue_lines n q }) so_far
+    ∙ (ap (λ (z : Lines). record z { spans = z.spans ++ traced_span n q ∷ []; queues = z.queues ++ traced_queue n q }) so_far
     ∙ λ i. record old { spans = sym spans i; queues = sym rows i })
 
 -- ---- spans

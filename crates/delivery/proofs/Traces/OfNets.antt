@@ -44,11 +44,11 @@ rise_first : (ts : List Topic) → RisesBy (λ (t : Topic). t.0) ts → rise_aft
 rise_first [] rises = refl
 rise_first (t ∷ ts) rises = rises_after t ts rises.0 rises.1
 
-all_pass : {X : Type 0} (p : X → Bool) (xs : List X) → ((x : X) → In x xs → p x ≡ true) → list_all p xs ≡ true
+pub all_pass : {X : Type 0} (p : X → Bool) (xs : List X) → ((x : X) → In x xs → p x ≡ true) → list_all p xs ≡ true
 all_pass p [] h = refl
 all_pass p (x ∷ xs) h = and_from (p x) (list_all p xs) (h x (inl refl)) (all_pass p xs (λ y k. h y (inr k)))
 
-row_fits : (account : List Answer) (r : Report) → Delivers account r → (line : LogLine) → In line (trace_of r).logs → fits line ≡ true
+pub row_fits : (account : List Answer) (r : Report) → Delivers account r → (line : LogLine) → In line (trace_of r).logs → fits line ≡ true
 row_fits account r d line k =
     let t = line.topic in
     let f = fronted account r d t in

@@ -24,7 +24,8 @@ use Rattle.delivery.specs.Theorem.Laws.{final_world}
 use Rattle.delivery.specs.Core.State.{Core}
 use Rattle.delivery.specs.Core.Reports.{each_number}
 use Rattle.delivery.specs.Inner.Stands.{IsReached}
-use Rattle.delivery.specs.Inner.View.{View, LineView, SubView, LeftView, view_with, group_view, queue_room, left_view, live_numbers, line_view, sub_view, no_group, no_line, group_in}
+use Rattle.delivery.specs.Core.Connections.{live_numbers}
+use Rattle.delivery.specs.Inner.View.{View, LineView, SubView, LeftView, view_with, group_view, queue_room, left_view, line_view, sub_view, no_group, no_line, group_in}
 use Rattle.delivery.specs.Inner.Subscriptions.{no_sub, left_with, left_in, left_at, without_number, shorter_line, closed_with, closed_if_left, closed_view}
 use Rattle.delivery.proofs.Machine.SubscriptionSteps.{found_entry}
 use Rattle.delivery.proofs.Theorem.SpansAsAnswered.{within, beyond}
@@ -32,7 +33,7 @@ use Rattle.delivery.proofs.Theorem.TopicsAreSound.{topics_are_sound}
 use Rattle.delivery.proofs.Views.OfRuns.{by_world}
 use Rattle.delivery.proofs.Views.Accounts.{has_entry}
 use Rattle.delivery.proofs.Views.ListLemmas.{each_number-set, get_or-each_number, length-each_number}
-use Rattle.delivery.proofs.Views.ReleaseStep.{room_found}
+use Rattle.delivery.proofs.Views.RoomsOfEntries.{room_found}
 use Rattle.delivery.proofs.Views.Standings.{differ}
 
 -- ---- a number that is taken out

@@ -32,7 +32,8 @@ use Rattle.delivery.specs.Core.State.{Core, unread_at}
 use Rattle.delivery.specs.Core.Outcomes.{outcome_of, move_outcome, reply_outcomes, is_any}
 use Rattle.delivery.specs.Core.Reports.{each_number}
 use Rattle.delivery.specs.Inner.Stands.{IsReached, Makes, step_of}
-use Rattle.delivery.specs.Inner.View.{View, LineView, SenderView, LeftView, view_of, view_after, view_with, sender_view, sending_view, undecided_view, stage_view, line_view, live_numbers, parting_receipt, no_line, is_undecided}
+use Rattle.delivery.specs.Core.Connections.{live_numbers}
+use Rattle.delivery.specs.Inner.View.{View, LineView, SenderView, LeftView, view_of, view_after, view_with, sender_view, sending_view, undecided_view, stage_view, line_view, parting_receipt, no_line, is_undecided}
 use Rattle.delivery.specs.Inner.Subscriptions.{no_sub, left_at, closed_if_left, closed_view}
 use Rattle.delivery.specs.Inner.Leaving.{is_busy, end_with, leaving_objection, waits, leave_objection, oldest_in, oldest_end, oldest_closed, parting_text, has_parting, gone_line}
 use Rattle.delivery.proofs.Theorem.SpansAsAnswered.{within, beyond}

@@ -32,7 +32,8 @@ use Rattle.delivery.specs.Core.State.{Core, IsReadBy, frame_move, left_by, sessi
 use Rattle.delivery.specs.Core.Outcomes.{fault_outcomes, frame_fault, frame_no_memory, frame_outcome, reading_outcomes, unless}
 use Rattle.delivery.specs.Inner.Nexts.{Asks, Ends, HasFault, IsRefusedAs, Judged, Judgement, JudgesAt, LineFault, error_text, failed_line, idle_objection, staged_line, accepted_stage}
 use Rattle.delivery.specs.Inner.Stands.{IsReached, Makes, step_of}
-use Rattle.delivery.specs.Inner.View.{View, LineView, view_of, view_after, stage_view, line_view, live_numbers, no_line, parting_receipt}
+use Rattle.delivery.specs.Core.Connections.{live_numbers}
+use Rattle.delivery.specs.Inner.View.{View, LineView, view_of, view_after, stage_view, line_view, no_line, parting_receipt}
 use Rattle.delivery.proofs.Core.FramesRead.{unanswered}
 use Rattle.delivery.proofs.Views.IdleChecks.{idle_checked}
 use Rattle.delivery.proofs.Views.LineChanges.{with_line, line_again}

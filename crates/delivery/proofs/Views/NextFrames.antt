@@ -36,7 +36,8 @@ use Rattle.delivery.specs.Core.State.{Core, frame_move, is_faulted, next_moves, 
 use Rattle.delivery.specs.Core.Outcomes.{fault_outcomes, frame_fault, frame_no_memory, frame_outcome, move_outcome, outcome_of, reading_outcomes}
 use Rattle.delivery.specs.Inner.Nexts.{Asks, accepted_stage, error_text, failed_line, receipt_text, staged_line}
 use Rattle.delivery.specs.Inner.Stands.{Makes}
-use Rattle.delivery.specs.Inner.View.{View, LineView, view_of, view_after, stage_view, leaving_line, live_numbers, no_line, parting_receipt, written_line}
+use Rattle.delivery.specs.Core.Connections.{live_numbers}
+use Rattle.delivery.specs.Inner.View.{View, LineView, view_of, view_after, stage_view, leaving_line, no_line, parting_receipt, written_line}
 use Rattle.delivery.proofs.Views.LineChanges.{with_line, line_again}
 use Rattle.delivery.proofs.Views.NextFaults.{asked_objection, fault_is, line_of, line_there, may_lack, next_ends, within_lines}
 use Rattle.delivery.proofs.Views.NextStep.{held_still, next_of, next_line, next_makes, next_still, next_written, text_added, frames_added, idle_there, idle_reads, idle_stage}

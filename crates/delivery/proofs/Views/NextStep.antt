@@ -24,7 +24,8 @@ use Rattle.delivery.specs.Core.State.{Core, IsReadBy, left_by, next_moves, unrea
 use Rattle.delivery.specs.Core.Outcomes.{reading_outcomes, unless}
 use Rattle.delivery.specs.Core.Reports.{each_number}
 use Rattle.delivery.specs.Inner.Stands.{Makes, step_of}
-use Rattle.delivery.specs.Inner.View.{View, LineView, view_of, view_with, view_after, stage_view, line_view, live_numbers}
+use Rattle.delivery.specs.Core.Connections.{live_numbers}
+use Rattle.delivery.specs.Inner.View.{View, LineView, view_of, view_with, view_after, stage_view, line_view}
 use Rattle.delivery.proofs.Machine.InvariantIsKept.{passes, false_not}
 use Rattle.delivery.proofs.Views.LineChanges.{with_line}
 use Rattle.delivery.proofs.Views.ListLemmas.{each_number-set}

@@ -22,7 +22,8 @@ use Rattle.delivery.specs.Core.State.{Core, unread_at}
 use Rattle.delivery.specs.Inner.Nexts.{Asks, accepted_stage, staged_line}
 use Rattle.delivery.specs.Inner.Senders.{asked_view, begun_id, begun_view}
 use Rattle.delivery.specs.Inner.Stands.{Makes}
-use Rattle.delivery.specs.Inner.View.{View, LineView, live_numbers, view_of, view_with}
+use Rattle.delivery.specs.Core.Connections.{live_numbers}
+use Rattle.delivery.specs.Inner.View.{View, LineView, view_of, view_with}
 use Rattle.delivery.proofs.Views.BeginStep.{begun_is, begun_id_is, begun_free}
 use Rattle.delivery.proofs.Views.KnownSends.{committed_sends}
 use Rattle.delivery.proofs.Views.LineChanges.{with_line}

@@ -10,7 +10,8 @@ use Rattle.delivery.specs.Core.Output.{text_out}
 use Rattle.delivery.specs.Core.State.{Core, unread_at}
 use Rattle.delivery.specs.Core.Reports.{each_number}
 use Rattle.delivery.specs.Inner.Stands.{Makes, step_of}
-use Rattle.delivery.specs.Inner.View.{view_of, stage_view, sender_view, verdict_list, live_numbers, line_view, new_line, with_new_line}
+use Rattle.delivery.specs.Core.Connections.{live_numbers}
+use Rattle.delivery.specs.Inner.View.{view_of, stage_view, sender_view, verdict_list, line_view, new_line, with_new_line}
 use Rattle.delivery.proofs.Views.ListLemmas.{each_number-push, each_number-same, length-each_number}
 use Rattle.delivery.proofs.Views.Untouched.{IsUntouched}
 use Rattle.delivery.proofs.Views.QuietSteps.{quiet_view, open_is_quiet, open_without_is_quiet}

@@ -8,7 +8,7 @@ use Rattle.mcast_txn.specs.Lists.{In}
 use Rattle.mcast_txn.specs.declared.id.Topic.{Topic}
 use Rattle.sub_queue.specs.Shown.{Room, room_after_take}
 use Rattle.mcast_group.specs.Counted.{rooms_after_take, group_after_take}
-use Rattle.mcast_group.specs.Group.{GroupState, shows, shown_with, room_at}
+use Rattle.mcast_group.specs.Group.{GroupState, shows}
 use Rattle.mcast_group.specs.Machine.{TopicState, Entry, EntryEnd, new_topic, find_entry}
 use Rattle.mcast_group.specs.Sound.{NumbersDiffer}
 use Rattle.mcast_group.proofs.Numbers.{numbers_differ}
@@ -21,26 +21,19 @@ use Rattle.delivery.specs.Core.State.{Core}
 use Rattle.delivery.specs.Core.Reports.{each_number}
 use Rattle.delivery.specs.Inner.Stands.{IsReached}
 use Rattle.delivery.specs.Inner.Takes.{no_sub, sub_held, next_shown, next_of, has_lagged, group_held, next_held}
-use Rattle.delivery.specs.Inner.View.{SubView, view_of, group_view, no_group, queue_room, sub_view, left_view as left_in_view, live_numbers}
+use Rattle.delivery.specs.Core.Connections.{live_numbers}
+use Rattle.delivery.specs.Inner.View.{SubView, view_of, group_view, no_group, queue_room, sub_view, left_view as left_in_view}
 use Rattle.delivery.proofs.Machine.SubscriptionSteps.{found_entry}
 use Rattle.delivery.proofs.Theorem.AcceptedIsDue.{reached}
 use Rattle.delivery.proofs.Theorem.SpansAsAnswered.{within}
 use Rattle.delivery.proofs.Views.Accounts.{has_entry}
 use Rattle.delivery.proofs.Views.ListLemmas.{get_or-each_number}
 use Rattle.delivery.proofs.Views.OfRuns.{by_world}
-use Rattle.delivery.proofs.Views.ReleaseStep.{room_found, group_at}
+use Rattle.delivery.proofs.Views.ReleaseStep.{group_at}
+use Rattle.delivery.proofs.Views.RoomsOfEntries.{shown_found}
 use Rattle.delivery.proofs.Views.Standings.{same_or}
 
 -- ---- a queue
-
--- what its outlet shows
-shown_found : (w : World) (s : ℕ) (es : List Entry) (e : Entry) → find_entry s es ≡ Some e
-    → shown_with (find_entry s es) (room_at s es (map (λ f. queue_room w f.number) es)) ≡ Some (shows e (queue_room w s))
-shown_found w s es e is =
-    let f = found_entry s es e is in
-    let room = room_at s es (map (λ (g : Entry). queue_room w g.number) es) in
-    ap (λ (o : Option Entry). shown_with o room) is
-    ∙ ap (λ (r : Option Room). shown_with (Some e) r) (room_found (queue_room w) es s e f.stands (sym f.is))
 
 -- the entry of a subscription, at its topic
 pub record HasQueue (k : Core) (s : ℕ) : Type 0 where
@@ -85,7 +78,7 @@ group_is k s q =
 pub next_is_of : (k : Core) (s : ℕ) (q : HasQueue k s) → next_held (view_of k) s ≡ slice_get q.entry.accepted (subscription_at k.world s).taken
 next_is_of k s q =
     let w = k.world in
-    ap (next_of s) (group_is k s q) ∙ ap next_shown (shown_found w s (topic_at w (subscription_at w s).topic).subscriptions q.entry q.found)
+    ap (next_of s) (group_is k s q) ∙ ap next_shown (shown_found w s (topic_at w (subscription_at w s).topic) q.entry q.found)
 
 -- whether it has lagged
 pub lagged_is : (k : Core) (s : ℕ) (q : HasQueue k s) → has_lagged s (group_held (view_of k) s) ≡ is_some q.entry.to

@@ -1,12 +1,10 @@
 -- A release of a topic's group.
-use Rattle.std.proofs.Common.{◌≡◌, ℕ, ◌<◌, ◌==◌, Bool, true, false, cond, nat_lt, List, [], ◌∷◌, map, length, get_or, set, Option, Some, None, inl, inr, refl, sym, ap, subst, ◌∙◌, ◌≤◌, arith}
-use Rattle.std.proofs.Common.{eq-eqb}
-use Rattle.std.proofs.lemmas.Bool.{eqb-true, true≢false}
+use Rattle.std.proofs.Common.{◌≡◌, ℕ, ◌<◌, Bool, true, false, nat_lt, List, [], ◌∷◌, map, length, get_or, set, Option, Some, None, inl, inr, refl, sym, ap, subst, ◌∙◌, ◌≤◌, arith}
 use Rattle.mcast_txn.specs.Lists.{In}
 use Rattle.mcast_txn.specs.declared.id.TxnId.{TxnId}
 use Rattle.sub_queue.specs.Shown.{Room}
 use Rattle.mcast_group.specs.Counted.{takes_in, takes_of}
-use Rattle.mcast_group.specs.Group.{GroupState, room_at}
+use Rattle.mcast_group.specs.Group.{GroupState}
 use Rattle.mcast_group.specs.Machine.{TopicState, Entry, Pending, new_topic, after_release, after_release_if, due_part, item_of, entry_after}
 use Rattle.mcast_group.specs.Group.{group_after_release}
 use Rattle.std.proofs.Common.{not}
@@ -30,25 +28,8 @@ use Rattle.delivery.specs.Inner.View.{View, view_of, view_after, group_view, no_
 use Rattle.delivery.proofs.Views.ListLemmas.{map_alike}
 use Rattle.delivery.proofs.Machine.QueueSteps.{Goes, release_goes}
 use Rattle.delivery.proofs.Views.QuietSteps.{quiet_view, release_is_quiet}
+use Rattle.delivery.proofs.Views.RoomsOfEntries.{room_found}
 use Rattle.delivery.proofs.Views.StepLemmas.{bool_cases, made_world, made_answer, in_outcome, refused_makes}
-
--- the room that is found is that of the number
-pub room_found : (room : ℕ → Room) (es : List Entry) (n : ℕ) (f : Entry) → In f es → n ≡ f.number
-    → room_at n es (map (λ e. room e.number) es) ≡ Some (room n)
-room_found room [] n f here same = absurd here
-room_found room (e ∷ es) n f here same =
-    let rest = room_at n es (map (λ x. room x.number) es) in
-    elim (bool_cases (n == e.number)) [
-      | inl t ↦
-          ap (λ (b : Bool). cond b (Some (room e.number)) rest) t
-          ∙ ap (λ (m : ℕ). Some (room m)) (sym (eqb-true n e.number t))
-      | inr off ↦
-          ap (λ (b : Bool). cond b (Some (room e.number)) rest) off
-          ∙ elim here [
-            | inl first ↦ absurd (true≢false (sym (eq-eqb n e.number (same ∙ sym (ap (λ (x : Entry). x.number) first))) ∙ off))
-            | inr later ↦ room_found room es n f later same
-          ]
-    ]
 
 -- a group's queue takes an item where the world's has room
 pub takes_same : (w : World) (x : TopicState) (e f : Entry) → In f x.subscriptions → e.number ≡ f.number

@@ -1,10 +1,8 @@
 -- The report of what the code holds of a core is that core's.
-use Rattle.std.proofs.Common.{◌≡◌, ℕ, zero, suc, ◌+◌, ◌<◌, ◌≤◌, ◌==◌, Bool, false, cond, List, [], ◌∷◌, map, take, length, Option, Some, None, inl, inr, refl, sym, ap, ◌∙◌, arith}
-use Rattle.std.proofs.Common.{eq-eqb}
+use Rattle.std.proofs.Common.{◌≡◌, ℕ, zero, suc, ◌+◌, ◌<◌, ◌≤◌, List, [], ◌∷◌, map, take, length, Option, Some, None, inl, inr, refl, sym, ap, ◌∙◌, arith}
 use Rattle.std.specs.Prelude.{slice_get}
 use Rattle.std.specs.List.{enumerate_from}
 use Rattle.std.specs.Option.{option_map, option_and_then}
-use Rattle.std.proofs.lemmas.Bool.{eqb-true, true≢false}
 use Rattle.std.proofs.lemmas.Option.{slice_get-get_or, slice_get_past}
 use Rattle.std.proofs.lemmas.List.FromFn.{length-enumerate_from}
 use Rattle.std.proofs.lemmas.List.{length-map, get_or-map}
@@ -13,9 +11,8 @@ use Rattle.mcast_txn.specs.declared.stamp.Stamp.{Stamp}
 use Rattle.mcast_txn.specs.Span.{LogRow, Item}
 use Rattle.sub_queue.specs.Shown.{Room}
 use Rattle.mcast_group.specs.declared.cause.Cause.TheVariants.{Lag}
-use Rattle.mcast_group.proofs.Parts.{not_true}
 use Rattle.mcast_group.specs.declared.state.SubState.{SubState}
-use Rattle.mcast_group.specs.Group.{GroupState, shown_with, shown_at, room_at}
+use Rattle.mcast_group.specs.Group.{GroupState, shown_with, shown_at}
 use Rattle.mcast_group.specs.Machine.{TopicState, Entry, EntryEnd, new_topic, find_entry, state_of, state_of_entry}
 use Rattle.delivery.specs.Machine.World.{World, subscription_at, topic_at, entry_at}
 use Rattle.delivery.specs.Machine.Observed.{entry_items, entry_to}
@@ -27,7 +24,7 @@ use Rattle.delivery.specs.Inner.View.{View, SubView, LineView, view_of, group_vi
 use Rattle.delivery.specs.Inner.ViewReports.{report_in, sub_report, open_report, closed_report, lag_of, lag_in, queue_shown, queued_items, handed_items}
 use Rattle.delivery.proofs.Theorem.SpansAsAnswered.{beyond, within}
 use Rattle.delivery.proofs.Views.ListLemmas.{each_number-same}
-use Rattle.delivery.proofs.Views.StepLemmas.{bool_cases}
+use Rattle.delivery.proofs.Views.RoomsOfEntries.{shown_is}
 
 -- ---- lists
 
@@ -74,26 +71,6 @@ lag_of_entry (Some e) = by_end e.to refl
     by_end None is = ap (λ (z : Option Stamp). lag_of (elim z [ None ↦ SubState.Open | Some end ↦ SubState.Lag end ])) is ∙ sym is
     by_end (Some end) is = ap (λ (z : Option Stamp). lag_of (elim z [ None ↦ SubState.Open | Some end ↦ SubState.Lag end ])) is ∙ sym is
 
--- the room that is found is that of the entry that is found
-pub room_is : (w : World) (n : ℕ) (es : List Entry)
-    → room_at n es (map (λ e. queue_room w e.number) es) ≡ option_map (λ e. queue_room w n) (find_entry n es)
-room_is w n [] = refl
-room_is w n (e ∷ es) =
-    let room = room_at n es (map (λ x. queue_room w x.number) es) in
-    elim (bool_cases (n == e.number)) [
-      | inl t ↦
-          let same : n ≡ e.number = eqb-true n e.number t in
-          ap (λ (b : Bool). cond b (Some (queue_room w e.number)) room) t
-          ∙ (ap (λ (m : ℕ). Some (queue_room w m)) (sym same)
-          ∙ sym (ap (λ (b : Bool). option_map (λ (x : Entry). queue_room w n) (cond b (Some e) (find_entry n es))) (eq-eqb e.number n (sym same))))
-      | inr off ↦
-          let other : (e.number == n) ≡ false =
-          not_true (e.number == n) refl (λ same. true≢false (sym (eq-eqb n e.number (sym (eqb-true e.number n same))) ∙ off)) in
-          ap (λ (b : Bool). cond b (Some (queue_room w e.number)) room) off
-          ∙ (room_is w n es
-          ∙ sym (ap (λ (b : Bool). option_map (λ (x : Entry). queue_room w n) (cond b (Some e) (find_entry n es))) other))
-    ]
-
 queued_with : (o : Option Entry) (room : Room) → queued_items (shown_with o (option_map (λ (e : Entry). room) o)) ≡ entry_items o
 queued_with None room = refl
 queued_with (Some e) room = refl
@@ -106,11 +83,6 @@ handed_with : (w : World) (s : ℕ) (o : Option Entry)
     → handed_items (shown_with o (option_map (λ (e : Entry). queue_room w s) o)) ≡ take (subscription_at w s).taken (entry_items o)
 handed_with w s None = none_taken (subscription_at w s).taken
 handed_with w s (Some e) = refl
-
--- what its queue shows is what its entry and its number say
-shown_is : (w : World) (s : ℕ) (x : TopicState)
-    → shown_at s (group_view w x) ≡ shown_with (find_entry s x.subscriptions) (option_map (λ (e : Entry). queue_room w s) (find_entry s x.subscriptions))
-shown_is w s x = ap (λ (room : Option Room). shown_with (find_entry s x.subscriptions) room) (room_is w s x.subscriptions)
 
 -- a subscription without an entry has no queue
 no_shown : (w : World) (s : ℕ) (x : TopicState) → x.subscriptions ≡ [] → shown_at s (group_view w x) ≡ None

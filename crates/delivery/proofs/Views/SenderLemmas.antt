@@ -15,7 +15,8 @@ use Rattle.delivery.specs.Core.Steps.{accepted_of}
 use Rattle.delivery.specs.Core.Reports.{each_number}
 use Rattle.delivery.specs.Inner.Senders.{speaker_at, sender_in, no_sender}
 use Rattle.delivery.specs.Inner.Stands.{IsReached}
-use Rattle.delivery.specs.Inner.View.{LineView, SenderView, view_of, view_with, sender_view, line_view, stage_view, live_numbers, no_line, verdict_list}
+use Rattle.delivery.specs.Core.Connections.{live_numbers}
+use Rattle.delivery.specs.Inner.View.{LineView, SenderView, view_of, view_with, sender_view, line_view, stage_view, no_line, verdict_list}
 use Rattle.delivery.proofs.Views.Connections.{own_sender, as_many}
 use Rattle.delivery.proofs.Views.ListLemmas.{each_number-set, get_or-each_number}
 use Rattle.delivery.proofs.Views.Standings.{differ}

@@ -38,7 +38,8 @@ use Rattle.delivery.specs.Core.State.{Core, core_of, core_after, moves, session_
 use Rattle.delivery.specs.Core.Outcomes.{IsCoreRun}
 use Rattle.delivery.specs.Core.Reports.{each_number}
 use Rattle.delivery.specs.Inner.Stands.{IsReached}
-use Rattle.delivery.specs.Inner.View.{LineView, SubView, view_with, live_numbers, line_view, sub_view, no_line}
+use Rattle.delivery.specs.Core.Connections.{live_numbers, live_sub}
+use Rattle.delivery.specs.Inner.View.{LineView, SubView, view_with, line_view, sub_view, no_line}
 use Rattle.delivery.specs.Inner.Subscriptions.{without_number, has_sub_id, number_in}
 use Rattle.delivery.proofs.Machine.SubscriptionSteps.{at_end}
 use Rattle.delivery.proofs.Theorem.NeverRefused.{entries_are_there}
@@ -52,10 +53,6 @@ use Rattle.delivery.proofs.Views.Standings.{stays_shut, open_there, differ}
 use Rattle.delivery.proofs.Views.Partings.{unheard, unparted, not_parting}
 use Rattle.delivery.proofs.Views.Untouched.{unsubscribed}
 use Rattle.delivery.proofs.Views.SubSteps.{StepKeeps, Reads, StepBegins, StepEnds, StepChange, step_change, left_open, left_close}
-
--- a live subscription as its session has it: its id and its topic
-abbrev pub live_sub : World → List CoreStep → ℕ → List ℕ × Topic
-live_sub w steps s = (sub_id_text s steps, (subscription_at w s).topic)
 
 -- the live subscriptions of connection c
 abbrev pub live_at : Core → ℕ → List ℕ

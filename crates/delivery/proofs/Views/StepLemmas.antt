@@ -23,7 +23,8 @@ use Rattle.delivery.specs.Core.State.{Core, moves, unread_at}
 use Rattle.delivery.specs.Core.Outcomes.{outcomes, outcome_of, move_outcome, IsReadAt}
 use Rattle.delivery.specs.Core.Reports.{each_number}
 use Rattle.delivery.specs.Inner.Stands.{Makes, step_of, stage_objection, line_objection}
-use Rattle.delivery.specs.Inner.View.{LineView, view_of, view_with, view_after, written_line, stage_view, line_view, live_numbers, leaving_line, parting_receipt}
+use Rattle.delivery.specs.Core.Connections.{live_numbers}
+use Rattle.delivery.specs.Inner.View.{LineView, view_of, view_with, view_after, written_line, stage_view, line_view, leaving_line, parting_receipt}
 use Rattle.delivery.proofs.Views.ListLemmas.{each_number-set, get_or-each_number, length-each_number}
 use Rattle.delivery.proofs.Views.QuietSteps.{quiet_view, refused_is_quiet}
 

@@ -42,7 +42,7 @@ use Rattle.delivery.specs.Core.Output.{sub_id_text, is_cut}
 use Rattle.delivery.specs.Core.State.{Core, core_after, moves, frame_move, session_at, is_faulted, is_no_memory}
 use Rattle.delivery.specs.Core.Outcomes.{outcome_of, move_outcome, unless, frame_no_memory, frame_fault, fault_outcomes, frame_outcome, reading_outcomes, outcomes}
 use Rattle.delivery.specs.Inner.Stands.{step_of}
-use Rattle.delivery.specs.Inner.View.{live_numbers}
+use Rattle.delivery.specs.Core.Connections.{live_numbers}
 use Rattle.delivery.proofs.Machine.InvariantIsKept.{checked}
 use Rattle.delivery.proofs.Machine.SenderSteps.{In-append_cases}
 use Rattle.delivery.proofs.Core.Speaking.{open_in}

@@ -23,7 +23,8 @@ use Rattle.delivery.specs.Machine.Moves.{is_live, subscribe_effect}
 use Rattle.delivery.specs.Core.Steps.{CoreStep, Reading}
 use Rattle.delivery.specs.Core.Output.{sub_id_text}
 use Rattle.delivery.specs.Core.Reports.{each_number}
-use Rattle.delivery.specs.Inner.View.{LineView, SubView, view_with, group_view, queue_room, left_view, live_numbers, line_view, sub_view, no_group, no_line, group_in}
+use Rattle.delivery.specs.Core.Connections.{live_numbers}
+use Rattle.delivery.specs.Inner.View.{LineView, SubView, view_with, group_view, queue_room, left_view, line_view, sub_view, no_group, no_line, group_in}
 use Rattle.delivery.specs.Inner.Subscriptions.{longer_line, new_room, subscribed_view}
 use Rattle.delivery.proofs.Machine.SubscriptionSteps.{at_push_two, at_end}
 use Rattle.delivery.proofs.Theorem.SpansAsAnswered.{beyond}

@@ -22,7 +22,8 @@ use Rattle.delivery.specs.Core.Steps.{Reading, accepted_of}
 use Rattle.delivery.specs.Core.State.{Core, moves, unread_at}
 use Rattle.delivery.specs.Core.Outcomes.{outcomes, outcome_of, move_outcome, reply_outcomes, cut_of, is_any, IsReadAt}
 use Rattle.delivery.specs.Inner.Senders.{gone_objection, there_objection}
-use Rattle.delivery.specs.Inner.Stands.{Makes, step_of}
+use Rattle.delivery.specs.declared.stage.Stage.{Stage}
+use Rattle.delivery.specs.Inner.Stands.{Makes, step_of, stage_objection}
 use Rattle.delivery.specs.Inner.View.{LineView, view_of, view_after, stage_view}
 use Rattle.delivery.proofs.Views.QuietSteps.{quiet_view, refused_is_quiet}
 use Rattle.delivery.proofs.Views.StepLemmas.{bool_cases, line_is, line_read, no_line, refused_answer, same_world}
@@ -55,6 +56,12 @@ is_there k c free =
       | inl t ↦ ltb-true c (length k.world.connections) t
       | inr f ↦ none_some Objection.NoConn (sym (sym (ap there_objection (no_line k c (ltb-false c (length k.world.connections) f))) ∙ free))
     ]
+
+-- nothing stands against reading a connection that is there and isn't leaving
+pub reads_open : (s : Stage) → gone_objection s ≡ None → ((parting : Option (List ℕ)) → s ≡ Stage.Leaving parting → Prim.⊥) → stage_objection s ≡ None
+reads_open (Stage.Open x) free other = refl
+reads_open (Stage.Leaving parting) free other = absurd (other parting refl)
+reads_open Stage.Gone free other = none_some Objection.Gone (sym free)
 
 -- the first of some checks that fails comes before those after them
 pub refusal_first : {F : Type 0} (cs ds : List (Bool × F)) (o : F) → first_refusal cs ≡ Some o → first_refusal (cs ++ ds) ≡ Some o

@@ -23,7 +23,7 @@ use Rattle.delivery.specs.Core.State.{Core, IsReadBy, core_of, moves, unread_at,
 use Rattle.delivery.specs.Core.Steps.{CoreStep, Reading, frame_in, is_fed, accepted_of, reader_limits}
 use Rattle.delivery.specs.Core.Outcomes.{outcomes, unless, outcome_of, move_outcome, reading_outcomes, cut_of, IsReadAt, IsCoreRun}
 use Rattle.delivery.specs.Inner.Stands.{IsReached}
-use Rattle.delivery.specs.Inner.View.{live_numbers}
+use Rattle.delivery.specs.Core.Connections.{live_numbers}
 use Rattle.delivery.proofs.Machine.SubscriptionSteps.{at_push_two, push_length}
 use Rattle.delivery.proofs.Machine.InvariantIsKept.{by_refusal, checked, false_not}
 use Rattle.delivery.proofs.Core.ByRun.{by_run}
@@ -194,7 +194,8 @@ reply_step k c older account (Event.Release t) rd o l own i = refl
 reply_step k c older account (Event.Turn t) rd o l own i = refl
 reply_step k c older account (Event.Lost d) rd o l own i = refl
 
-owned : (topics : TopicList) (capacity : ℕ) (steps : List CoreStep) → IsCoreRun topics capacity steps → (s : ℕ)
+-- a subscription began for the connection that has it
+pub owned : (topics : TopicList) (capacity : ℕ) (steps : List CoreStep) → IsCoreRun topics capacity steps → (s : ℕ)
     → (beginning_of s (account_of topics.names steps)).connection ≡ (subscription_at (core_of topics capacity steps).world s).connection
 owned topics capacity steps h s =
     ap (λ (z : List Answer). (beginning_of s z).connection) (account_is topics capacity steps h)

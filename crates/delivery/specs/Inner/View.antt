@@ -30,8 +30,9 @@ use Rattle.stomp_session.specs.Frames.{is_disconnect}
 use Rattle.delivery.specs.declared.sending.Sending.{Sending}
 use Rattle.delivery.specs.declared.stage.Stage.{Stage}
 use Rattle.delivery.specs.Theorem.Due.{log_row}
-use Rattle.delivery.specs.Machine.World.{World, Undecided, SenderState, Subscription, Standing, new_sender, connection_at, sender_at, speaker, subscription_at}
-use Rattle.delivery.specs.Machine.Moves.{has_ticket, find_verdict, is_live}
+use Rattle.delivery.specs.Machine.World.{World, Undecided, SenderState, Standing, new_sender, connection_at, sender_at, speaker, subscription_at}
+use Rattle.delivery.specs.Machine.Moves.{has_ticket, find_verdict}
+use Rattle.delivery.specs.Core.Connections.{live_numbers}
 use Rattle.delivery.specs.Core.Steps.{CoreStep, accepted_of, reader_limits}
 use Rattle.delivery.specs.Core.Output.{receipt_asked, commit_frame, sub_id_text, text_out}
 use Rattle.delivery.specs.Core.Reports.{each_number}
@@ -129,12 +130,6 @@ stage_view names Standing.Open flight accepted unread = Stage.Open (record {
 })
 stage_view names Standing.Leaving flight accepted unread = Stage.Leaving (parting_receipt accepted)
 stage_view names Standing.Gone flight accepted unread = Stage.Gone
-
--- the numbers of the connection's subscriptions that aren't closed, where the first has number i
-abbrev pub live_numbers : ℕ → ℕ → List Subscription → List ℕ
-live_numbers c i [] = []
-live_numbers c i (x ∷ xs) =
-    if is_live c x then i ∷ live_numbers c (i + 1) xs else live_numbers c (i + 1) xs
 
 -- a connection's line: its sender, how far it is, its subscriptions and its octets out
 pub record LineView : Type 0 where

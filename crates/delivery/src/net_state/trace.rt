@@ -5,7 +5,7 @@ ghost use Rattle.std.specs.List.{list_all};
 ghost use Rattle.trace_audit.specs.Rows.{is_misfit, with_row};
 ghost use Rattle.trace_audit.specs.Trace.{fits, has_span};
 ghost use Rattle.delivery.specs.Topics.{max_topics};
-ghost use Rattle.delivery.specs.Traces.{log_lines, span_line, queue_lines, trace_of};
+ghost use Rattle.delivery.specs.Traces.{traced_log, traced_span, traced_queue, trace_of};
 
 use crate::net_state::NetState;
 use crate::net_state::queue_report::QueueReport;
@@ -48,9 +48,9 @@ fn add_log(
     topic: Topic,
     group: &Group<VecOutlet>,
 ) -> Result<(), NoMemory>
-    requires { list_all (λ line. fits line) (log_lines topic.0 group.now.topic.held) ≡ true }
+    requires { list_all (λ line. fits line) (traced_log topic.0 group.now.topic.held) ≡ true }
     ensures { OnOk result (trace.new
-        ≡ record trace.old { logs = trace.old.logs ++ log_lines topic.0 group.now.topic.held }) }
+        ≡ record trace.old { logs = trace.old.logs ++ traced_log topic.0 group.now.topic.held }) }
 {
     for i in 0..group.held_len() {
         let line = log_line(alloc, topic, group.held(i).unwrap())?;
@@ -63,7 +63,7 @@ fn add_log(
 fn add_queue(trace: &mut Trace, sub: u64, queue: &QueueReport<'_>) -> Result<(), NoMemory>
     requires { has_span sub trace.old.spans ≡ true }
     ensures { OnOk result (trace.new
-        ≡ record trace.old { queues = trace.old.queues ++ queue_lines sub queue.now }) }
+        ≡ record trace.old { queues = trace.old.queues ++ traced_queue sub queue.now }) }
 {
     for i in 0..queue.queued_len() {
         let item = queue.queued(i).unwrap();
@@ -78,8 +78,8 @@ fn add_queue(trace: &mut Trace, sub: u64, queue: &QueueReport<'_>) -> Result<(),
 fn add_subscription(trace: &mut Trace, sub: u64, queue: &QueueReport<'_>) -> Result<(), NoMemory>
     requires { has_span sub trace.old.spans ≡ false }
     ensures { OnOk result (trace.new ≡ record trace.old {
-      spans = trace.old.spans ++ span_line sub queue.now ∷ [];
-      queues = trace.old.queues ++ queue_lines sub queue.now;
+      spans = trace.old.spans ++ traced_span sub queue.now ∷ [];
+      queues = trace.old.queues ++ traced_queue sub queue.now;
     }) }
 {
     let span = SpanRow {

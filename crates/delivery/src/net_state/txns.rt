@@ -6,7 +6,7 @@ ghost use Rattle.std.specs.Result.{result_err};
 ghost use Rattle.mcast_txn.specs.Transaction.{TopicPart};
 ghost use Rattle.mcast_group.specs.Machine.{last_number};
 ghost use Rattle.delivery.specs.Core.State.{Core};
-ghost use Rattle.delivery.specs.Inner.Senders.{IsSpeaker, sender_in, begun_id, begun_view, decide_refusal, decided_row, decided_view, receipt_in, confirmed_view, propose_refusal_in, part_in, IsProposed, taken_view, is_group, cancel_refusal_in, cancelled_view, withdraw_refusal, mark_of, withdrawn_view, reads_frames, refused_view};
+ghost use Rattle.delivery.specs.Inner.Senders.{sender_in, begun_id, begun_view, decide_refusal, decided_row, decided_view, receipt_in, confirmed_view, propose_refusal_in, part_in, IsProposed, taken_view, is_group, cancel_refusal_in, cancelled_view, withdraw_refusal, mark_of, withdrawn_view, reads_frames, refused_view};
 ghost use Rattle.delivery.specs.Inner.Stands.{IsReached, Makes};
 ghost use Rattle.delivery.specs.Inner.View.{view_of, no_line};
 ghost use Rattle.delivery.specs.declared.event.Event.{Event as Asked};
@@ -14,7 +14,6 @@ ghost use Rattle.delivery.specs.declared.event.Event.{Event as Asked};
 use crate::net_state::NetState;
 use crate::outcome::Outcome;
 use crate::refusal::Refusal;
-use crate::stage::Stage;
 use mcast_group::{Group, ProposeFault};
 use mcast_txn::{Stamp, Topic, Txn, TxnId};
 use stomp_frame::NoMemory;
@@ -47,20 +46,6 @@ impl NetState {
                 self.commits.forgo();
                 Err(NoMemory)
             }
-        }
-    }
-
-    /// The sender of a connection that is there and isn't gone: 80 where there is none, 87 where it is gone.
-    fn check_there(&self, c: u64) -> Result<u64, Refusal>
-        ensures { IsSpeaker result self.now c }
-    {
-        let Some(line) = self.lines.get(c as usize) else {
-            return Err(Refusal::NoConn);
-        };
-        match line.stage {
-            Stage::Open(_) => Ok(line.sender),
-            Stage::Leaving(_) => Ok(line.sender),
-            Stage::Gone => Err(Refusal::Gone),
         }
     }
 

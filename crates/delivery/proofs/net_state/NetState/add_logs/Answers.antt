@@ -4,7 +4,7 @@ use Rattle.mcast_group.specs.Group.{GroupState}
 use Rattle.trace_audit.specs.Line.{LogLine}
 use Rattle.trace_audit.specs.Trace.{fits}
 use Rattle.delivery.specs.Inner.View.{View}
-use Rattle.delivery.specs.Traces.{log_lines}
+use Rattle.delivery.specs.Traces.{traced_log}
 use Rattle.delivery.proofs.Traces.Made.{held_at, logs_grow, passes_made}
 use Rattle.delivery.proofs.net_state.NetState.add_logs.Goals as goal
 
@@ -16,8 +16,8 @@ add_log-requires c =
     let read : c.index.result.now ≡ get_or groups c.loop-t.t c.index.result.now = c.index.ensures ∙ ap (λ (v : View). get_or v.groups c.loop-t.t c.index.result.now) c.self.view_is in
     let log = c.index.result.now.topic.held in
     let first : 0 + c.loop-t.t ≡ c.loop-t.t = omega arith in
-    subst (λ (n : ℕ). list_all (λ (line : LogLine). fits line) (log_lines n log) ≡ true) first
-    (passes_made (λ (line : LogLine). fits line) log_lines 0 (map (λ (g : GroupState). g.topic.held) groups) c.loop-t.t log c.requires.fit
+    subst (λ (n : ℕ). list_all (λ (line : LogLine). fits line) (traced_log n log) ≡ true) first
+    (passes_made (λ (line : LogLine). fits line) traced_log 0 (map (λ (g : GroupState). g.topic.held) groups) c.loop-t.t log c.requires.fit
     (held_at groups c.loop-t.t c.index.result.now there read))
 
 pub loop-t-preserved : goal.loop-t-preserved

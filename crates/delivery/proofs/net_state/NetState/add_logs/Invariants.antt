@@ -1,10 +1,10 @@
 use Rattle.std.proofs.Common.{◌≡◌, ◌++◌, map, take}
 use Rattle.mcast_group.specs.Group.{GroupState}
-use Rattle.delivery.specs.Traces.{log_lines}
+use Rattle.delivery.specs.Traces.{traced_log}
 use Rattle.delivery.proofs.Traces.Lists.{made_of}
 use Rattle.delivery.proofs.net_state.NetState.add_logs.Given as goal
 
 -- the logs so far are there
 abbrev pub invariant-loop-t : goal.invariant-loop-t
 invariant-loop-t l = l.trace
-    ≡ record l.fn.trace { logs = l.fn.trace.logs ++ made_of log_lines 0 (take l.t (map (λ (g : GroupState). g.topic.held) l.fn.self.groups)) }
+    ≡ record l.fn.trace { logs = l.fn.trace.logs ++ made_of traced_log 0 (take l.t (map (λ (g : GroupState). g.topic.held) l.fn.self.groups)) }

@@ -1,0 +1,5 @@
+use Rattle.delivery.proofs.Views.ConnectionsOfRuns.{open_are_live, unsubscribes_find, other_connections_stay}
+use Rattle.delivery.proofs.law.connections.Goals as goal
+
+pub returns : goal.returns
+returns c = record { live = open_are_live; ends = unsubscribes_find; others = other_connections_stay }
