@@ -1,6 +1,8 @@
 -- What a place keeps.
-use Rattle.std.proofs.Common.{◌≡◌, ◌≤◌, ◌<◌, ◌+◌, ◌==◌, ◌&&◌, max, if◌then◌else◌, ℕ, Bool, true, false, List, [], ◌∷◌, length, Option, Some, None, Result, Ok, Err, OnOk, OnErr, refl, sym, ap, subst, ◌∙◌, arith}
+use Rattle.std.proofs.Common.{◌≡◌, ◌≤◌, ◌<◌, ◌+◌, ◌==◌, ◌&&◌, max, if◌then◌else◌, ℕ, Bool, true, false, List, [], ◌∷◌, length, Option, Some, None, Result, Ok, Err, OnOk, OnErr, IfSome, cond, ◌++◌, refl, sym, ap, subst, ◌∙◌, arith}
 use Rattle.std.proofs.Common.{remove}
+use Rattle.std.specs.List.{list_any}
+use Rattle.std.specs.Option.{option_map}
 use Rattle.std.proofs.lemmas.List.{length_push}
 use Rattle.std.proofs.lemmas.Bool.Decides.{nat_tests}
 use Rattle.std.proofs.lemmas.List.Edits.{length-remove}
@@ -16,13 +18,19 @@ use Rattle.sub_queue.specs.Shown.{Room, Shown}
 use Rattle.mcast_group.specs.declared.fault.ProposeFault.TheVariants.{Twice}
 use Rattle.mcast_group.specs.declared.fault.LearnFault.{LearnFault}
 use Rattle.mcast_group.specs.Group.{GroupState, Turns, group_after_release, group_after_releases, group_after_subscribe, group_after_tries, group_after_unsubscribe, result_of}
-use Rattle.mcast_group.specs.Machine.{Entry, Pending, TopicState, after_cancel, after_drain, after_learn, after_propose, cancel_fault, cancel_fault_of, find_pending, next_number, propose_fault, subscribe_fault, after_release, after_release_if, after_tries, after_try, decided_stamp, due_part, learn_fault, parts_without, row_of, with_stamp}
+use Rattle.mcast_group.specs.Machine.{Entry, Pending, TopicState, after_cancel, after_drain, after_learn, after_propose, after_subscribe, after_unsubscribe, end_of, find_entry, new_topic, cancel_fault, cancel_fault_of, find_pending, next_number, propose_fault, subscribe_fault, after_release, after_release_if, after_tries, after_try, decided_stamp, due_part, learn_fault, parts_without, row_of, with_stamp}
 use Rattle.mcast_group.specs.Sound.{IsSound, RisesById}
 use Rattle.mcast_group.proofs.Allowed.{keeps_sound}
 use Rattle.mcast_group.proofs.Indices.{without_at}
 use Rattle.mcast_group.proofs.Parts.{due_is, found_part, insert_length, map_length}
 use Rattle.mcast_group.proofs.Releasing.{placed_at}
-use Rattle.broker_locks.specs.Place.{IsBalanced, PlaceState, any_verdict, is_part_at, place_fault, rows_since, source_answers}
+use Rattle.broker_locks.specs.Place.{IsBalanced, PlaceState, any_verdict, is_part_at, new_place, place_after_subscribe, place_after_unsubscribe, place_fault, place_subscribe_fault, rows_since, source_answers}
+use Rattle.broker_locks.specs.Inner.KeptRows.{RowsKept, place_with, trace_kept}
+use Rattle.broker_locks.specs.KeptTrace.{KeepsTrace, KeptTrace, kept_after_unsubscribe, no_trace, was_used}
+use Rattle.broker_locks.specs.declared.kept_span.KeptSpan.{KeptSpan}
+use Rattle.broker_locks.proofs.PlaceTraces.{Traced, kept_ended, kept_same, kept_subscribed, rows_drained, rows_ended, rows_subscribed, traced_alike, traced_drained, traced_ended, traced_new, traced_subscribed, used_alike}
+use Rattle.broker_locks.proofs.TraceKept.{trace_releases, trace_tries}
+use Rattle.mcast_group.specs.declared.fault.SubFault.TheVariants.{SubInUse}
 
 -- parts and held rows, taken together
 abbrev both : TopicState → ℕ
@@ -108,11 +116,30 @@ turn_keeps may finds g new sound turns =
     let is : new.topic ≡ (group_after_releases turns.releases.0 (group_after_tries turns.find g)).topic = ap (λ (z : GroupState). z.topic) turns.releases.3 in
     subst (λ (y : TopicState). Keeps g.topic y) (sym is) (keeps_trans g.topic (group_after_tries turns.find g).topic _ tried released)
 
--- ---- each call of a place
+-- a turn keeps a trace that of its topic
+pub turn_traced : (may : Shown → Bool → Type 0) (finds : TopicPart → Option Decision → Type 0) (g new : GroupState) (kept : KeptTrace) → IsSound g.topic → Turns may finds g new
+    → KeepsTrace g.topic kept → KeepsTrace new.topic kept
+turn_traced may finds g new kept sound turns t =
+    let tried = keeps_tries turns.find g.topic.pending g.topic sound in
+    let is : new.topic ≡ (group_after_releases turns.releases.0 (group_after_tries turns.find g)).topic = ap (λ (z : GroupState). z.topic) turns.releases.3 in
+    subst (λ (y : TopicState). KeepsTrace y kept) (sym is)
+    (trace_releases kept turns.releases.0 (group_after_tries turns.find g) tried.sound (trace_tries kept turns.find g.topic.pending g.topic t))
 
--- a place with another group and other counts
-abbrev place_with : GroupState → ℕ → ℕ → ℕ → PlaceState
-place_with group tickets released cancelled = record { group = group; tickets = tickets; released = released; cancelled = cancelled }
+pub traced_turned : (k : Option RowsKept) (may : Shown → Bool → Type 0) (finds : TopicPart → Option Decision → Type 0) (g new : GroupState) → IsSound g.topic → Turns may finds g new
+    → Traced g.topic k → Traced new.topic k
+traced_turned None may finds g new sound turns t = tt
+traced_turned (Some k) may finds g new sound turns t =
+    let u = turn_traced may finds g new (trace_kept g.topic.held k) sound turns t in
+    subst (KeepsTrace new.topic) (sym (kept_same k g.topic.held new.topic u)) u
+
+-- and the kept trace is the same
+pub kept_turned : (k : Option RowsKept) (may : Shown → Bool → Type 0) (finds : TopicPart → Option Decision → Type 0) (g new : GroupState) → IsSound g.topic → Turns may finds g new
+    → Traced g.topic k → option_map (trace_kept new.topic.held) k ≡ option_map (trace_kept g.topic.held) k
+kept_turned None may finds g new sound turns t = refl
+kept_turned (Some k) may finds g new sound turns t =
+    ap (λ (z : KeptTrace). Some z) (kept_same k g.topic.held new.topic (turn_traced may finds g new (trace_kept g.topic.held k) sound turns t))
+
+-- ---- each call of a place
 
 -- a part that is of the topic has it
 pub part_topic : (t : Topic) (part : TopicPart) → is_part_at t part ≡ true → part.topic ≡ t
@@ -130,21 +157,6 @@ allowed_is_part floor part place e = go (is_part_at place.group.topic.topic part
         → is_part_at place.group.topic.topic part ≡ true
     go true is h = is
     go false is h = cc
-
--- after a ticket
-pub balanced_proposed : (place : PlaceState) (new : GroupState) (floor : Stamp) (part : TopicPart) → IsBalanced place
-    → is_part_at place.group.topic.topic part ≡ true → propose_fault floor part place.group.topic ≡ None
-    → new ≡ record place.group { topic = after_propose floor part place.group.topic }
-    → IsBalanced (place_with new (place.tickets + 1) place.released place.cancelled)
-balanced_proposed place new floor part b is allowed e =
-    let x = place.group.topic in
-    let more = insert_length (record { part = part; number = next_number floor x; learnt = None }) x.pending in
-    let up : x.clock ≤ max x.clock floor.n = omega arith in
-    subst (λ (g : GroupState). IsBalanced (place_with g (place.tickets + 1) place.released place.cancelled)) (sym e) (record {
-      sound = keeps_sound.proposes floor part x b.sound (part_topic x.topic part is) allowed;
-      balance = omega (arith, b.balance, more);
-      clock = omega (arith, b.clock, up);
-    })
 
 -- a part that may be cancelled is pending
 cancels_one : (id : TxnId) (x : TopicState) → RisesById x.pending → cancel_fault id x ≡ None → length (parts_without id x.pending) + 1 ≡ length x.pending
@@ -165,18 +177,6 @@ no_fault (Some f) e = cc
 pub cancel_counts : (place : PlaceState) (id : TxnId) → IsBalanced place → cancel_fault id place.group.topic ≡ None → place.cancelled + 1 ≤ place.tickets
 cancel_counts place id b allowed = omega (arith, b.balance, cancels_one id place.group.topic b.sound.by_id allowed)
 
--- after a cancelling
-pub balanced_cancelled : (place : PlaceState) (new : GroupState) (id : TxnId) → IsBalanced place → cancel_fault id place.group.topic ≡ None
-    → new ≡ record place.group { topic = after_cancel id place.group.topic }
-    → IsBalanced (place_with new place.tickets place.released (place.cancelled + 1))
-balanced_cancelled place new id b allowed e =
-    let x = place.group.topic in
-    subst (λ (g : GroupState). IsBalanced (place_with g place.tickets place.released (place.cancelled + 1))) (sym e) (record {
-      sound = keeps_sound.cancels id x b.sound;
-      balance = omega (arith, b.balance, cancels_one id x b.sound.by_id allowed);
-      clock = b.clock;
-    })
-
 -- after a turn: no more is released than there are tickets
 pub turn_counts : (place : PlaceState) (new : GroupState) (count : ℕ) → IsBalanced place → Turns source_answers any_verdict place.group new
     → count ≡ rows_since place.group new → place.released + count ≤ place.tickets
@@ -184,35 +184,138 @@ turn_counts place new count b turns e =
     let k = turn_keeps source_answers any_verdict place.group new b.sound turns in
     omega (arith, b.balance, k.both, k.held, e)
 
-pub balanced_turned : (place : PlaceState) (new : GroupState) (count : ℕ) → IsBalanced place → Turns source_answers any_verdict place.group new
-    → count ≡ rows_since place.group new → IsBalanced (place_with new place.tickets (place.released + count) place.cancelled)
-balanced_turned place new count b turns e =
-    let k = turn_keeps source_answers any_verdict place.group new b.sound turns in
-    record { sound = k.sound; balance = omega (arith, b.balance, k.both, k.held, e); clock = omega (arith, b.clock, k.clock) }
+-- a new place
+pub balanced_new : (topic : Topic) (log_limit clock : ℕ) (keep_trace : Bool) → IsBalanced (new_place topic log_limit clock keep_trace)
+balanced_new topic log_limit clock keep_trace = record { sound = keeps_sound.opens topic log_limit clock; balance = refl; clock = omega arith; trace = go keep_trace }
+  where
+    go : (b : Bool) → IfSome (cond b (Some no_trace) None) (KeepsTrace (new_topic topic log_limit clock))
+    go true = traced_new (new_topic topic log_limit clock) refl refl
+    go false = tt
 
--- after a drain
-pub balanced_drained : (place : PlaceState) (new : GroupState) → IsBalanced place → new ≡ record place.group { topic = after_drain place.group.topic }
-    → IsBalanced (place_with new place.tickets place.released place.cancelled)
-balanced_drained place new b e =
-    subst (λ (g : GroupState). IsBalanced (place_with g place.tickets place.released place.cancelled)) (sym e)
-    (record { sound = keeps_sound.drains place.group.topic b.sound; balance = b.balance; clock = b.clock })
+-- a subscription of a place that keeps this
+module _ (g : GroupState) (t r c : ℕ) (number : ℕ) where
+  pub allowed_some : (kept : RowsKept) → list_any (λ (s : KeptSpan). s.number == number) kept.spans ≡ false → subscribe_fault number g.topic ≡ None
+      → place_subscribe_fault number (place_with g t r c (Some kept)) ≡ None
+  allowed_some kept free allowed = let e = used_alike (kept.drained ++ g.topic.held) number kept.spans ∙ free in rw e allowed
 
--- after a subscription began, or was refused
-pub balanced_subscribed : {A B : Type 0} (r : Result A B) (place : PlaceState) (new : GroupState) (number : ℕ) (room : Room) → IsBalanced place
-    → OnOk r (subscribe_fault number place.group.topic ≡ None) → OnOk r (new ≡ group_after_subscribe number room place.group) → OnErr r (new ≡ place.group)
-    → IsBalanced (place_with new place.tickets place.released place.cancelled)
-balanced_subscribed (Ok a) place new number room b allowed ok err =
-    subst (λ (g : GroupState). IsBalanced (place_with g place.tickets place.released place.cancelled)) (sym ok)
-    (record { sound = keeps_sound.subscribes number place.group.topic b.sound allowed; balance = b.balance; clock = b.clock })
-balanced_subscribed (Err f) place new number room b allowed ok err =
-    subst (λ (g : GroupState). IsBalanced (place_with g place.tickets place.released place.cancelled)) (sym err) b
+  pub fault_some : (kept : RowsKept) → (if list_any (λ (s : KeptSpan). s.number == number) kept.spans then Some SubInUse else subscribe_fault number g.topic)
+      ≡ place_subscribe_fault number (place_with g t r c (Some kept))
+  fault_some kept = ap (λ (b : Bool). if b then Some SubInUse else subscribe_fault number g.topic) (sym (used_alike (kept.drained ++ g.topic.held) number kept.spans))
 
--- after one ended, or there was none
-pub balanced_unsubscribed : {A B : Type 0} (r : Result A B) (place : PlaceState) (new : GroupState) (number : ℕ) → IsBalanced place
-    → OnOk r (new ≡ group_after_unsubscribe number place.group) → OnErr r (new ≡ place.group)
-    → IsBalanced (place_with new place.tickets place.released place.cancelled)
-balanced_unsubscribed (Ok a) place new number b ok err =
-    subst (λ (g : GroupState). IsBalanced (place_with g place.tickets place.released place.cancelled)) (sym ok)
-    (record { sound = keeps_sound.unsubscribes number place.group.topic b.sound; balance = b.balance; clock = b.clock })
-balanced_unsubscribed (Err f) place new number b ok err =
-    subst (λ (g : GroupState). IsBalanced (place_with g place.tickets place.released place.cancelled)) (sym err) b
+  pub viewed_subscribed : (room : Room) (kept : RowsKept) → place_with (group_after_subscribe number room g) t r c (Some (rows_subscribed number g.topic.frontier kept)) ≡ place_after_subscribe number room (place_with g t r c (Some kept))
+  viewed_subscribed room kept =
+      ap (λ (z : KeptTrace). record { group = group_after_subscribe number room g; tickets = t; released = r; cancelled = c; kept = Some z }) (kept_subscribed kept g.topic.held number g.topic.frontier)
+
+-- the place of these fields
+module _ (g : GroupState) (t r c : ℕ) (k : Option RowsKept) (b : IsBalanced (place_with g t r c k)) where
+  -- after a ticket
+  pub balanced_proposed : (new : GroupState) (floor : Stamp) (part : TopicPart) → is_part_at g.topic.topic part ≡ true → propose_fault floor part g.topic ≡ None
+      → new ≡ record g { topic = after_propose floor part g.topic } → IsBalanced (place_with new (t + 1) r c k)
+  balanced_proposed new floor part is allowed e =
+      let x = g.topic in
+      let more = insert_length (record { part = part; number = next_number floor x; learnt = None }) x.pending in
+      let up : x.clock ≤ max x.clock floor.n = omega arith in
+      subst (λ (z : GroupState). IsBalanced (place_with z (t + 1) r c k)) (sym e) (record {
+        sound = keeps_sound.proposes floor part x b.sound (part_topic x.topic part is) allowed;
+        balance = omega (arith, b.balance, more);
+        clock = omega (arith, b.clock, up);
+        trace = traced_alike k x (after_propose floor part x) refl refl refl b.trace;
+      })
+
+  -- after a cancelling
+  pub balanced_cancelled : (new : GroupState) (id : TxnId) → cancel_fault id g.topic ≡ None
+      → new ≡ record g { topic = after_cancel id g.topic } → IsBalanced (place_with new t r (c + 1) k)
+  balanced_cancelled new id allowed e =
+      let x = g.topic in
+      subst (λ (z : GroupState). IsBalanced (place_with z t r (c + 1) k)) (sym e) (record {
+        sound = keeps_sound.cancels id x b.sound;
+        balance = omega (arith, b.balance, cancels_one id x b.sound.by_id allowed);
+        clock = b.clock;
+        trace = traced_alike k x (after_cancel id x) refl refl refl b.trace;
+      })
+
+  -- after a turn
+  pub balanced_turned : (new : GroupState) (count : ℕ) → Turns source_answers any_verdict g new → count ≡ rows_since g new → IsBalanced (place_with new t (r + count) c k)
+  balanced_turned new count turns e =
+      let z = turn_keeps source_answers any_verdict g new b.sound turns in
+      record {
+        sound = z.sound;
+        balance = omega (arith, b.balance, z.both, z.held, e);
+        clock = omega (arith, b.clock, z.clock);
+        trace = traced_turned k source_answers any_verdict g new b.sound turns b.trace;
+      }
+
+  -- after a drain
+  pub balanced_drained : (more : Option RowsKept) (new : GroupState) → new ≡ record g { topic = after_drain g.topic } → more ≡ option_map (rows_drained g.topic.held) k → IsBalanced (place_with new t r c more)
+  balanced_drained more new e is =
+      subst (λ (z : GroupState). IsBalanced (place_with z t r c more)) (sym e)
+      (subst (λ (o : Option RowsKept). IsBalanced (place_with (record g { topic = after_drain g.topic }) t r c o)) (sym is)
+      (record { sound = keeps_sound.drains g.topic b.sound; balance = b.balance; clock = b.clock; trace = go k b.trace }))
+    where
+      go : (o : Option RowsKept) → Traced g.topic o → Traced (after_drain g.topic) (option_map (rows_drained g.topic.held) o)
+      go None h = tt
+      go (Some o) h = traced_drained o g.topic h
+
+  -- after a drain into a trace, or one that found no memory
+  pub balanced_tried : {A E : Type 0} (o : Result A E) (kept more : RowsKept) (new : GroupState) → k ≡ Some kept → OnOk o (more ≡ rows_drained g.topic.held kept)
+      → OnOk o (new ≡ record g { topic = after_drain g.topic }) → OnErr o ((more ≡ kept) × (new ≡ g)) → IsBalanced (place_with new t r c (Some more))
+  balanced_tried (Ok a) kept more new some rows e err =
+      balanced_drained (Some more) new e (ap (λ (z : RowsKept). Some z) rows ∙ sym (ap (λ (o : Option RowsKept). option_map (rows_drained g.topic.held) o) some))
+  balanced_tried (Err f) kept more new some rows e err =
+      subst (λ (z : GroupState). IsBalanced (place_with z t r c (Some more))) (sym err.1)
+      (subst (λ (o : Option RowsKept). IsBalanced (place_with g t r c o)) (some ∙ ap (λ (z : RowsKept). Some z) (sym err.0)) b)
+
+  -- after a drain where no trace is kept, or one that found no memory
+  pub balanced_given : {A E : Type 0} (o : Result A E) (new : GroupState) → k ≡ None → OnOk o (new ≡ record g { topic = after_drain g.topic }) → OnErr o (new ≡ g) → IsBalanced (place_with new t r c k)
+  balanced_given (Ok a) new none e err =
+      balanced_drained k new e (none ∙ sym (ap (λ (o : Option RowsKept). option_map (rows_drained g.topic.held) o) none))
+  balanced_given (Err f) new none e err = subst (λ (z : GroupState). IsBalanced (place_with z t r c k)) (sym err) b
+
+  -- after a subscription began, or was refused
+  pub balanced_subscribed : {A B : Type 0} (o : Result A B) (new : GroupState) (more : Option RowsKept) (number : ℕ) (room : Room)
+      → OnOk o (place_subscribe_fault number (place_with g t r c k) ≡ None) → OnOk o (new ≡ group_after_subscribe number room g)
+      → OnOk o (more ≡ option_map (rows_subscribed number g.topic.frontier) k) → OnErr o ((new ≡ g) × (more ≡ k)) → IsBalanced (place_with new t r c more)
+  balanced_subscribed (Ok a) new more number room allowed ok is err =
+      subst (λ (z : GroupState). IsBalanced (place_with z t r c more)) (sym ok)
+      (subst (λ (z : Option RowsKept). IsBalanced (place_with (group_after_subscribe number room g) t r c z)) (sym is)
+      (record { sound = keeps_sound.subscribes number g.topic b.sound (free k allowed).0; balance = b.balance; clock = b.clock; trace = go k b.trace allowed }))
+    where
+      free : (z : Option RowsKept) → place_subscribe_fault number (place_with g t r c z) ≡ None → (subscribe_fault number g.topic ≡ None) × (was_used number (option_map (trace_kept g.topic.held) z) ≡ false)
+      free z e = by (was_used number (option_map (trace_kept g.topic.held) z)) e
+        where
+          by : (w : Bool) → (if w then Some SubInUse else subscribe_fault number g.topic) ≡ None → (subscribe_fault number g.topic ≡ None) × (w ≡ false)
+          by true h = cc
+          by false h = (h, refl)
+
+      go : (z : Option RowsKept) → Traced g.topic z → place_subscribe_fault number (place_with g t r c z) ≡ None → Traced (after_subscribe number g.topic) (option_map (rows_subscribed number g.topic.frontier) z)
+      go None h e = tt
+      go (Some z) h e =
+          let f = free (Some z) e in
+          traced_subscribed z number g.topic h (sym (used_alike (z.drained ++ g.topic.held) number z.spans) ∙ f.1) f.0
+  balanced_subscribed (Err f) new more number room allowed ok is err =
+      subst (λ (z : GroupState). IsBalanced (place_with z t r c more)) (sym err.0)
+      (subst (λ (z : Option RowsKept). IsBalanced (place_with g t r c z)) (sym err.1) b)
+
+  -- after one ended
+  pub balanced_unsubscribed : (new : GroupState) (more : Option RowsKept) (number : ℕ) (e : Entry) (to : Stamp) → find_entry number g.topic.subscriptions ≡ Some e → to ≡ (end_of g.topic.frontier e).to
+      → new ≡ group_after_unsubscribe number g → more ≡ option_map (rows_ended number to) k → IsBalanced (place_with new t r c more)
+  balanced_unsubscribed new more number e to found ends ok is =
+      subst (λ (z : GroupState). IsBalanced (place_with z t r c more)) (sym ok)
+      (subst (λ (z : Option RowsKept). IsBalanced (place_with (group_after_unsubscribe number g) t r c z)) (sym is)
+      (record { sound = keeps_sound.unsubscribes number g.topic b.sound; balance = b.balance; clock = b.clock; trace = go k b.trace }))
+    where
+      go : (z : Option RowsKept) → Traced g.topic z → Traced (after_unsubscribe number g.topic) (option_map (rows_ended number to) z)
+      go None h = tt
+      go (Some z) h = traced_ended z number to g.topic e b.sound h found ends
+
+  -- and so it is seen
+  pub viewed_unsubscribed : (new : GroupState) (more : Option RowsKept) (number : ℕ) (e : Entry) (to : Stamp) → find_entry number g.topic.subscriptions ≡ Some e → to ≡ (end_of g.topic.frontier e).to
+      → new ≡ group_after_unsubscribe number g → more ≡ option_map (rows_ended number to) k → place_with new t r c more ≡ place_after_unsubscribe number (place_with g t r c k)
+  viewed_unsubscribed new more number e to found ends ok is =
+      ap (λ (z : GroupState). place_with z t r c more) ok
+      ∙ (ap (λ (z : Option RowsKept). place_with (group_after_unsubscribe number g) t r c z) is
+      ∙ ap (λ (o : Option KeptTrace). record { group = group_after_unsubscribe number g; tickets = t; released = r; cancelled = c; kept = o }) (go k b.trace))
+    where
+      go : (z : Option RowsKept) → Traced g.topic z → option_map (trace_kept g.topic.held) (option_map (rows_ended number to) z) ≡ option_map (kept_after_unsubscribe number g.topic) (option_map (trace_kept g.topic.held) z)
+      go None h = refl
+      go (Some z) h = ap (λ (y : KeptTrace). Some y) (kept_ended z number to g.topic e b.sound h found ends)

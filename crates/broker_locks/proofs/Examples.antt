@@ -8,7 +8,18 @@ use Rattle.mcast_group.specs.declared.fault.ProposeFault.TheVariants.{Twice}
 use Rattle.sender_gate.specs.Gate.{FlightState, GateState}
 use Rattle.broker_locks.specs.declared.fault.CommitFault.TheVariants.{LogFull, AlreadySet}
 use Rattle.broker_locks.specs.Commits.{IsCommitted, IsRefused}
-use Rattle.broker_locks.specs.Place.{PlaceState, new_place, place_fault, place_after_propose}
+use Rattle.mcast_txn.specs.Span.{LogRow}
+use Rattle.mcast_group.specs.Machine.{TopicState, new_topic}
+use Rattle.trace_audit.specs.declared.mark.Mark.{Mark}
+use Rattle.trace_audit.specs.declared.row.TraceRow.{TraceRow}
+use Rattle.trace_audit.specs.declared.row.TraceRow.TheVariants as row
+use Rattle.trace_audit.specs.declared.fault.AddFault.TheVariants.{Misfit, NoMemory}
+use Rattle.trace_audit.specs.Trace.{Lines, no_lines}
+use Rattle.broker_locks.specs.Gathering.{IsTraceLeft}
+use Rattle.broker_locks.specs.KeptTrace.{AddsFirst, KeptSub, KeptTrace, kept_after_subscribe, kept_after_unsubscribe, marks_between, rows_kept, was_used}
+use Rattle.broker_locks.specs.Place.{PlaceState, new_place, place_fault, place_after_propose, rows_given}
+use Rattle.broker_locks.specs.TopicTraces.{with_rows}
+use Rattle.broker_locks.proofs.Balance.{balanced_new}
 use Rattle.broker_locks.specs.Rows.{PlaceRow, Entered, Cancelled, is_uncancelled}
 
 abbrev at_topic : ℕ → Topic
@@ -86,7 +97,7 @@ both_cancelled = record {
 -- ---- a place
 
 abbrev place : PlaceState
-place = new_place (at_topic 2) 8 3
+place = new_place (at_topic 2) 8 3 false
 
 of_another_topic : place_fault floor (part 0) place ≡ Some Twice
 of_another_topic = refl
@@ -96,3 +107,104 @@ of_its_topic = refl
 
 pending_there : place_fault floor (part 2) (place_after_propose floor (part 2) place) ≡ Some Twice
 pending_there = refl
+
+-- ---- a kept trace
+
+abbrev stamp : ℕ → Stamp
+stamp n = record { n = n; topic = at_topic 0 }
+
+abbrev log_row : ℕ → LogRow
+log_row n = record { id = id; topics = at_topic 0 ∷ []; stamp = stamp n }
+
+abbrev mark : ℕ → Mark
+mark n = record { id = id; stamp = stamp n }
+
+-- the span from 1 to 2 has row 2 alone
+in_its_span : marks_between (stamp 1) (Some (stamp 2)) (log_row 1 ∷ log_row 2 ∷ log_row 3 ∷ []) ≡ mark 2 ∷ []
+in_its_span = refl
+
+-- rows 1 and 2 were drained and row 3 is held; subscription 4 began at 1 and was ended at 2, and 6 began at 2 and is open
+abbrev topic : TopicState
+topic = record (new_topic (at_topic 0) 8 3) {
+  base = stamp 2;
+  held = log_row 3 ∷ [];
+  frontier = stamp 3;
+  subscriptions = record { number = 6; from = stamp 2; to = None; accepted = record { id = id; stamp = stamp 3; sends = [] } ∷ [] } ∷ [];
+}
+
+abbrev ended : KeptSub
+ended = record { number = 4; from = stamp 1; left = Some (record { to = stamp 2; marks = mark 2 ∷ [] }) }
+
+abbrev kept : KeptTrace
+kept = record { drained = log_row 1 ∷ log_row 2 ∷ []; subs = ended ∷ record { number = 6; from = stamp 2; left = None } ∷ [] }
+
+-- they leave the whole log, and both spans with their queues
+abbrev log_line : ℕ → TraceRow
+log_line n = row.Log (record { topic = at_topic 0; row = log_row n })
+
+abbrev queue_line : ℕ → ℕ → TraceRow
+queue_line number n = row.Queue (record { sub = number; id = id; stamp = stamp n })
+
+what_is_left : rows_kept topic (Some kept)
+    ≡ log_line 1 ∷ log_line 2 ∷ log_line 3
+    ∷ row.Span (record { sub = 4; topic = at_topic 0; from = stamp 1; to = Some (stamp 2) }) ∷ queue_line 4 2
+    ∷ row.Span (record { sub = 6; topic = at_topic 0; from = stamp 2; to = None }) ∷ queue_line 6 3 ∷ []
+what_is_left = refl
+
+no_trace_kept : rows_kept topic None ≡ []
+no_trace_kept = refl
+
+ended_number_is_used : was_used 4 (Some kept) ≡ true
+ended_number_is_used = refl
+
+other_number_is_free : was_used 5 (Some kept) ≡ false
+other_number_is_free = refl
+
+-- 6 is ended at the frontier, with the row that its source pushed; 4 is as it was
+ended_too : (kept_after_unsubscribe 6 topic kept).subs ≡ ended ∷ record { number = 6; from = stamp 2; left = Some (record { to = stamp 3; marks = mark 3 ∷ [] }) } ∷ []
+ended_too = refl
+
+-- 5 begins between them
+begun_between : (kept_after_subscribe 5 (stamp 3) kept).subs ≡ ended ∷ record { number = 5; from = stamp 3; left = None } ∷ record { number = 6; from = stamp 2; left = None } ∷ []
+begun_between = refl
+
+-- ---- rows that are added to a trace
+
+abbrev span_4 : TraceRow
+span_4 = row.Span (record { sub = 4; topic = at_topic 0; from = stamp 1; to = Some (stamp 2) })
+
+abbrev lines_of_4 : Lines
+lines_of_4 = with_rows (span_4 ∷ queue_line 4 2 ∷ []) no_lines
+
+-- a second span of subscription 4 is refused by 98, after the rows before it
+second_span : AddsFirst Misfit (span_4 ∷ queue_line 4 2 ∷ span_4 ∷ queue_line 4 2 ∷ []) no_lines lines_of_4
+second_span = record {
+  added = span_4 ∷ queue_line 4 2 ∷ [];
+  refused = span_4;
+  others = queue_line 4 2 ∷ [];
+  are = refl;
+  adds = record { fit = (refl, (refl, tt)); is = refl };
+  misfit = refl;
+}
+
+-- and another row by 91 alone
+no_memory : AddsFirst NoMemory (span_4 ∷ queue_line 4 2 ∷ []) no_lines (with_rows (span_4 ∷ []) no_lines)
+no_memory = record { added = span_4 ∷ []; refused = queue_line 4 2; others = []; are = refl; adds = record { fit = (refl, tt); is = refl }; misfit = refl }
+
+-- a broker of two topics, at which nothing was done, gathers an empty trace
+gathered_empty : IsTraceLeft 2 no_lines
+gathered_empty = record {
+  places = new_place (at_topic 0) 8 3 true ∷ new_place (at_topic 1) 8 3 true ∷ [];
+  many = refl;
+  each = (balanced_new (at_topic 0) 8 3 true, (balanced_new (at_topic 1) 8 3 true, tt));
+  adds = record { fit = tt; is = refl };
+}
+
+-- ---- drained rows
+
+-- a place gives the rows that it drains to its caller, but where a trace keeps them
+given : rows_given (record place { group = record { topic = topic; rooms = [] } }) ≡ log_row 3 ∷ []
+given = refl
+
+none_given : rows_given (record place { group = record { topic = topic; rooms = [] }; kept = Some kept }) ≡ []
+none_given = refl

@@ -3,6 +3,11 @@ pub mod Cancels
 pub mod Whole
 pub mod Committed
 pub mod Room
+pub mod TraceKept
+pub mod PlaceTraces
 pub mod Balance
+pub mod Spans
+pub mod Adding
+pub mod Gathered
 pub mod TraceRows
 mod Examples

@@ -1,5 +1,5 @@
--- The numbers of a commit's faults (own).
-use Rattle.std.specs.Prelude.{ℕ}
+-- The numbers and the titles of a commit's faults (own).
+use Rattle.std.specs.Prelude.{ℕ, List, codes}
 use Rattle.mcast_group.specs.declared.fault.ProposeFault.{ProposeFault}
 use Rattle.mcast_group.specs.declared.fault.ProposeFault.TheVariants as propose
 use Rattle.broker_locks.specs.declared.fault.CommitFault.{CommitFault}
@@ -11,6 +11,14 @@ commit_number commit.LogFull = 41
 commit_number commit.NoMemory = 42
 commit_number commit.Twice = 49
 commit_number commit.AlreadySet = 32
+
+-- the message of the ERROR that ends the connection of a refused transaction
+abbrev pub commit_title : CommitFault → List ℕ
+commit_title commit.ClockFull = codes "40 ClockFull"
+commit_title commit.LogFull = codes "41 LogFull"
+commit_title commit.NoMemory = codes "42 NoMemory"
+commit_title commit.Twice = codes "49 Twice"
+commit_title commit.AlreadySet = codes "32 AlreadySet"
 
 -- a topic's fault, as the commit's
 abbrev pub commit_fault : ProposeFault → CommitFault

@@ -2,3 +2,4 @@
 pub mod Proposing
 pub mod Cancelling
 pub mod Done
+pub mod KeptRows

@@ -34,15 +34,23 @@ pub record TopicTrace : Type 0 where
   pub log : List LogRow
   pub subs : List SubTrace
 
+-- the row of a trace for a row of a topic's log
+abbrev pub logged_row : Topic → LogRow → TraceRow
+logged_row t r = row.Log (record { topic = t; row = r })
+
 -- the rows of a trace for a topic's log
 abbrev pub log_rows : Topic → List LogRow → List TraceRow
-log_rows t log = map (λ r. row.Log (record { topic = t; row = r })) log
+log_rows t log = map (logged_row t) log
+
+-- the row of a trace for a row of a subscription's queue
+abbrev pub queue_row : ℕ → Mark → TraceRow
+queue_row number m = row.Queue (record { sub = number; id = m.id; stamp = m.stamp })
 
 -- the rows of a trace for a subscription: its span, and then its queue
 abbrev pub sub_rows : Topic → SubTrace → List TraceRow
 sub_rows t s =
     row.Span (record { sub = s.number; topic = t; from = s.from; to = s.to })
-    ∷ map (λ m. row.Queue (record { sub = s.number; id = m.id; stamp = m.stamp })) s.marks
+    ∷ map (queue_row s.number) s.marks
 
 -- the rows of a trace for a topic: its log, and then its subscriptions
 abbrev pub topic_rows : TopicTrace → List TraceRow

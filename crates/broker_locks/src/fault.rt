@@ -1,7 +1,7 @@
 //! What a commit refuses.
 
 ghost use Rattle.std.specs.Prelude.{◌≡◌};
-ghost use Rattle.broker_locks.specs.Faults.{commit_fault, commit_number};
+ghost use Rattle.broker_locks.specs.Faults.{commit_fault, commit_number, commit_title};
 
 use mcast_group::ProposeFault;
 use thiserror::Error;
@@ -37,6 +37,19 @@ impl CommitFault {
             CommitFault::NoMemory => 42,
             CommitFault::Twice => 49,
             CommitFault::AlreadySet => 32,
+        }
+    }
+
+    /// Its number, a space and its name, as in the message of an ERROR frame.
+    pub fn title(self) -> &'static [u8]
+        ensures { result.now ≡ commit_title self }
+    {
+        match self {
+            CommitFault::ClockFull => b"40 ClockFull".as_slice(),
+            CommitFault::LogFull => b"41 LogFull".as_slice(),
+            CommitFault::NoMemory => b"42 NoMemory".as_slice(),
+            CommitFault::Twice => b"49 Twice".as_slice(),
+            CommitFault::AlreadySet => b"32 AlreadySet".as_slice(),
         }
     }
 }

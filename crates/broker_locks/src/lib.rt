@@ -6,13 +6,17 @@ mod commit;
 mod counts;
 mod done_rows;
 mod fault;
+mod kept_rows;
+mod kept_span;
 pub mod law;
 mod locked;
 mod locked_topic;
+mod log_section;
 mod place;
 mod places;
 mod point;
 mod subscribed;
+mod trace_rows;
 
 pub use broker::{Broker, LOG_LIMIT};
 pub use commit::commit_on;

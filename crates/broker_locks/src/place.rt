@@ -6,27 +6,33 @@ ghost use Rattle.mcast_txn.specs.Part.{data_of};
 ghost use Rattle.mcast_txn.specs.TopicSet.{names};
 ghost use Rattle.sub_queue.specs.Ends.{shown_of_source};
 ghost use Rattle.mcast_group.specs.Group.{HasLeft, or_no_memory, result_of, sub_refusal};
-ghost use Rattle.mcast_group.specs.Machine.{cancel_fault, next_number, state_of, subscribe_fault, unsubscribe_fault};
-ghost use Rattle.broker_locks.specs.Place.{HasTurned, IsBalanced, is_part_at, new_place, place_after_cancel, place_after_propose};
-ghost use Rattle.broker_locks.specs.Place.{place_after_subscribe, place_after_turn, place_after_unsubscribe, place_fault, rows_since};
+ghost use Rattle.mcast_group.specs.Machine.{cancel_fault, next_number, state_of, unsubscribe_fault};
+ghost use Rattle.broker_locks.specs.Place.{HasTurned, IsBalanced, is_part_at, new_place, place_after_cancel, place_after_drain, place_after_propose};
+ghost use Rattle.broker_locks.specs.Place.{place_after_subscribe, place_after_turn, place_after_unsubscribe, place_fault, place_rows, place_subscribe_fault, rows_given, rows_since};
+ghost use Rattle.broker_locks.specs.KeptTrace.{AddsAll, AddsFirst};
 ghost use Rattle.broker_locks.specs.Place.{any_verdict, source_answers};
 ghost use Rattle.mcast_group.specs.Group.{GroupState, Turns};
 
 use crate::counts::Counts;
-use mcast_group::{CancelFault, Cells, Ended, Group, NoSub, ProposeFault, SubFault, SubState};
+use crate::kept_rows::KeptRows;
+use mcast_group::{
+    CancelFault, Cells, Ended, Group, LogRows, NoSub, ProposeFault, SubFault, SubState,
+};
 use mcast_txn::{NoMemory, Part, Stamp, Ticket, Topic, TxnId};
 use std::alloc::Global;
 use std::marker::Model;
 use std::sync::{Arc, Wait};
 use sub_queue::Source;
+use trace_audit::{AddFault, Trace};
 
-/// What one topic's lock guards: the topic's group, over queues that two threads share, and how many tickets it gave, rows
-/// it released and parts were cancelled.
+/// What one topic's lock guards: the topic's group, over queues that two threads share, how many tickets it gave, rows it
+/// released and parts were cancelled, and, where a trace is kept, what the topic leaves for it.
 pub struct Place<R: Wait> {
     group: Group<Source<R>>,
     tickets: u64,
     released: u64,
     cancelled: u64,
+    kept: Option<KeptRows>,
 }
 
 impl<R: Wait> Drop for Place<R> {
@@ -37,32 +43,46 @@ impl<R: Wait> Drop for Place<R> {
             tickets: _,
             released: _,
             cancelled: _,
+            kept,
         } = self;
         drop(group);
+        drop(kept);
     }
 }
 
 impl<R: Wait> Model for Place<R> {
+    ghost use Rattle.broker_locks.specs.Inner.KeptRows.{place_with};
     ghost use Rattle.broker_locks.specs.Place.{IsBalanced, PlaceState};
 
     ghost Value = { PlaceState };
 
-    ghost view = { λ p. record { group = p.group; tickets = p.tickets; released = p.released; cancelled = p.cancelled } };
+    ghost view = { λ p. place_with p.group p.tickets p.released p.cancelled p.kept };
 
-    ghost invariant = { λ p. IsBalanced (record { group = p.group; tickets = p.tickets; released = p.released; cancelled = p.cancelled }) };
+    ghost invariant = { λ p. IsBalanced (place_with p.group p.tickets p.released p.cancelled p.kept) };
 }
 
 impl<R: Wait> Place<R> {
-    /// The place of an empty topic with this clock, of at most `log_limit` parts and rows, taken together. It takes no
-    /// memory.
-    pub fn new(alloc: Global, topic: Topic, clock: u64, log_limit: usize) -> Place<R>
-        ensures { result ≡ new_place topic log_limit clock }
+    /// The place of an empty topic with this clock, of at most `log_limit` parts and rows, taken together; whether it keeps
+    /// a trace. It takes no memory.
+    pub fn new(
+        alloc: Global,
+        topic: Topic,
+        clock: u64,
+        log_limit: usize,
+        keep_trace: bool,
+    ) -> Place<R>
+        ensures { result ≡ new_place topic log_limit clock keep_trace }
     {
         Place {
             group: Group::new(alloc, topic, clock, log_limit),
             tickets: 0,
             released: 0,
             cancelled: 0,
+            kept: if keep_trace {
+                Some(KeptRows::new(alloc))
+            } else {
+                None
+            },
         }
     }
 
@@ -128,14 +148,28 @@ impl<R: Wait> Place<R> {
     }
 
     /// Turns the topic: each pending part learns the verdict that its flight's cell holds, and what is due is released;
-    /// then the log is drained. Returns how many rows were released. Out of memory for the drain, the turn stands. It may
-    /// wait for a take that is under way.
-    pub fn head(&mut self, rt: &R) -> Result<u64, NoMemory>
+    /// then the log is drained, into the trace where one is kept. Returns how many rows were released, and the drained rows
+    /// that no trace keeps, for the caller to let go once the lock is free. Out of memory for the drain, the turn stands, and
+    /// nothing is drained. It may wait for a take that is under way.
+    pub fn head(&mut self, rt: &R) -> Result<(u64, LogRows), NoMemory>
         ensures { HasTurned self.old self.new result }
     {
         let count = self.turn(rt);
-        let _drained = self.group.drain_log()?;
-        Ok(count)
+        let rows = self.drain()?;
+        Ok((count, rows))
+    }
+
+    // Drains the log, into the trace where one is kept. Returns the rows that no trace keeps. Out of memory, nothing has
+    // changed.
+    fn drain(&mut self) -> Result<LogRows, NoMemory>
+        ensures rows { IfOk result (λ rows. rows ≡ rows_given self.old) }
+        ensures ok { OnOk result (self.new ≡ place_after_drain self.old) }
+        ensures err { OnErr result (self.new ≡ self.old) }
+    {
+        match &mut self.kept {
+            Some(kept) => kept.drain(&mut self.group),
+            None => self.group.drain_log(),
+        }
     }
 
     // Turns the topic.
@@ -149,8 +183,8 @@ impl<R: Wait> Place<R> {
     }
 
     /// Begins a subscription of this number after the frontier, which it answers. The source has pushed nothing yet.
-    /// Refused, in this order: 47 where the number is in use, 42 out of memory; the place is then as it was, and the
-    /// source is returned.
+    /// Refused, in this order: 47 where the number is in use, or was used where a trace is kept, 42 out of memory; the
+    /// place is then as it was, and the source is returned.
     pub fn subscribe(
         &mut self,
         number: u64,
@@ -158,18 +192,21 @@ impl<R: Wait> Place<R> {
     ) -> Result<Stamp, (SubFault, Source<R>)>
         requires { source.items ≡ [] }
         ensures from { IfOk result (λ from. from ≡ self.old.group.topic.frontier) }
-        ensures allowed { OnOk result (subscribe_fault number self.old.group.topic ≡ None) }
+        ensures allowed { OnOk result (place_subscribe_fault number self.old ≡ None) }
         ensures ok { OnOk result
             (self.new ≡ place_after_subscribe number (shown_of_source source).room self.old) }
-        ensures fault { IfErr result (λ e. e.0 ≡ sub_refusal (subscribe_fault number self.old.group.topic)) }
+        ensures fault { IfErr result (λ e. e.0 ≡ sub_refusal (place_subscribe_fault number self.old)) }
         ensures back { IfErr result (λ e. shown_of_source e.1 ≡ shown_of_source source) }
         ensures err { OnErr result (self.new ≡ self.old) }
     {
-        self.group.subscribe(number, source)
+        match &mut self.kept {
+            Some(kept) => kept.subscribe(&mut self.group, number, source),
+            None => self.group.subscribe(number, source),
+        }
     }
 
-    /// Ends the subscription of this number, with no memory, and returns what it leaves. Refused by 48 where there is
-    /// none; the place is then as it was.
+    /// Ends the subscription of this number, with no memory, and returns what it leaves. A trace that is kept has its last
+    /// stamp then, and the rows that its source pushed. Refused by 48 where there is none; the place is then as it was.
     pub fn unsubscribe(&mut self, number: u64) -> Result<Ended<Source<R>>, NoSub>
         ensures left { IfOk result
             (λ left. HasLeft number self.old.group (shown_of_source left.outlet) left.to left.cause) }
@@ -177,7 +214,26 @@ impl<R: Wait> Place<R> {
         ensures fault { IfErr result (λ fault. unsubscribe_fault number self.old.group.topic ≡ Some fault) }
         ensures err { OnErr result (self.new ≡ self.old) }
     {
-        self.group.unsubscribe(number)
+        let ended = self.group.unsubscribe(number)?;
+        if let Some(kept) = &mut self.kept {
+            kept.end(number, ended.to);
+        }
+        Ok(ended)
+    }
+
+    /// Adds what the topic leaves for a trace, where one is kept: the rows that it released, drained and held, in order, and
+    /// for each of its subscriptions, ended ones too, its span and the rows that its source pushed. Refused, the rows before
+    /// the refused one were added: 98 where that one doesn't fit the trace, as a second span of one subscription doesn't, and
+    /// 91 where it does, and there is no memory for it.
+    pub fn rows(&self, trace: &mut Trace) -> Result<(), AddFault>
+        ensures balanced { IsBalanced self.now }
+        ensures ok { OnOk result (AddsAll (place_rows self.now) trace.old trace.new) }
+        ensures err { IfErr result (λ fault. AddsFirst fault (place_rows self.now) trace.old trace.new) }
+    {
+        match &self.kept {
+            Some(kept) => kept.rows(&self.group, trace),
+            None => Ok(()),
+        }
     }
 
     /// Whether the subscription of this number is open or has lagged, if there is one.
@@ -196,7 +252,7 @@ fn is_part_at(topic: Topic, part: &Part) -> bool
 }
 
 // Whether a topic is one of these.
-fn names(topic: Topic, topics: &[Topic]) -> bool
+pub(crate) fn names(topic: Topic, topics: &[Topic]) -> bool
     ensures { result ≡ names topic topics.now }
 {
     topics.iter().any(|other| other.0 == topic.0)

@@ -6,3 +6,5 @@ mod fake;
 mod faults;
 mod memory;
 mod places;
+mod topics;
+mod tracing;

@@ -13,7 +13,7 @@ use std::thread;
 use std::thread::Threads;
 
 /// What the commit of this sender's first transaction answers, with SENDs to these topics.
-fn commit_as<R: Wait, Q: Point>(
+pub(super) fn commit_as<R: Wait, Q: Point>(
     rt: &R,
     alloc: Global,
     broker: &Broker<R>,
@@ -52,10 +52,10 @@ pub(super) fn two_topics(alloc: Global) -> Result<Topics, NoMemory> {
     Ok(topics)
 }
 
-/// A broker of two topics, with queues of four places.
-fn broker_of_two<R: Wait>(alloc: Global) -> Option<Broker<R>> {
+/// A broker of two topics, with queues of four places; whether a trace is kept.
+pub(super) fn broker_of_two<R: Wait>(alloc: Global, keep_trace: bool) -> Option<Broker<R>> {
     let topics = two_topics(alloc).ok()?;
-    Broker::new(alloc, topics, 4).ok()
+    Broker::new(alloc, topics, 4, keep_trace).ok()
 }
 
 /// Before the second proposal it commits another transaction whole.
@@ -76,7 +76,7 @@ impl<'a, R: Wait> Point for Overtaken<'a, R> {
 }
 
 /// What a commit to both topics answers, and one that overtakes it before its second proposal.
-fn commit_overtaken<R: Wait>(
+pub(super) fn commit_overtaken<R: Wait>(
     rt: &R,
     alloc: Global,
     broker: &Broker<R>,
@@ -92,7 +92,7 @@ fn commit_overtaken<R: Wait>(
 }
 
 /// What the heads of both topics answer.
-fn heads<R: Wait>(rt: &R, broker: &Broker<R>) -> [Option<u64>; 2] {
+pub(super) fn heads<R: Wait>(rt: &R, broker: &Broker<R>) -> [Option<u64>; 2] {
     [
         broker.head_turn(rt, Topic(0)).ok(),
         broker.head_turn(rt, Topic(1)).ok(),
@@ -100,7 +100,7 @@ fn heads<R: Wait>(rt: &R, broker: &Broker<R>) -> [Option<u64>; 2] {
 }
 
 /// The sender and the stamp of the next item, if there is one.
-fn taken<R: Wait>(rt: &R, begun: &mut Subscribed) -> Option<(u64, Stamp)> {
+pub(super) fn taken<R: Wait>(rt: &R, begun: &mut Subscribed) -> Option<(u64, Stamp)> {
     let item = begun.taker.take(rt)?;
     Some((item.part.id.sender.0, item.stamp))
 }
@@ -117,7 +117,7 @@ fn four_tickets<R: Wait>(
         [[Option<(u64, Stamp)>; 3]; 2],
     ),
 > {
-    let broker = broker_of_two::<R>(alloc)?;
+    let broker = broker_of_two::<R>(alloc, false)?;
     let mut at_a = broker.subscribe(rt, Topic(0)).ok()?;
     let mut at_b = broker.subscribe(rt, Topic(1)).ok()?;
     if (at_a.sub, at_b.sub) != (0, 1) {
@@ -209,7 +209,7 @@ fn two_workers<R>(
 where
     R: Threads + Wait + Send + Sync,
 {
-    let broker = broker_of_two::<R>(alloc)?;
+    let broker = broker_of_two::<R>(alloc, false)?;
     let stage = AtomicU64::new(0);
     let (broker_of_all, stage_of_all) = (&broker, &stage);
     let (first, second) = thread::join(
@@ -230,7 +230,7 @@ fn a_held_worker_stops_no_other(rt: HostRuntime) {
 /// What calls at a topic that isn't there answer: the numbers of the faults of subscribe, unsubscribe and a commit, the
 /// state, and what the head answers.
 fn nowhere<R: Wait>(rt: &R, alloc: Global) -> Option<([u32; 3], Option<SubState>, Option<u64>)> {
-    let broker = broker_of_two::<R>(alloc)?;
+    let broker = broker_of_two::<R>(alloc, false)?;
     let faults = [
         broker.subscribe(rt, Topic(2)).err()?.number(),
         broker.unsubscribe(rt, Topic(2), 2).err()?.number(),

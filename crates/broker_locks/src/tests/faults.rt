@@ -1,4 +1,4 @@
-//! The numbers of a commit's faults.
+//! The numbers and the titles of a commit's faults.
 
 use crate::CommitFault;
 use mcast_group::ProposeFault;
@@ -23,5 +23,19 @@ fn faults_have_their_numbers(rt: HostRuntime) {
     ];
     for fault in faults {
         assert_eq!(rt; CommitFault::from(fault).number(), fault.number());
+    }
+}
+
+/// The titles of the refused commits, by their names in docs/FAULTS.md.
+#[test]
+fn faults_have_their_titles(rt: HostRuntime) {
+    for (fault, title) in [
+        (CommitFault::AlreadySet, b"32 AlreadySet".as_slice()),
+        (CommitFault::ClockFull, b"40 ClockFull"),
+        (CommitFault::LogFull, b"41 LogFull"),
+        (CommitFault::NoMemory, b"42 NoMemory"),
+        (CommitFault::Twice, b"49 Twice"),
+    ] {
+        assert!(rt; fault.title() == title);
     }
 }

@@ -13,7 +13,7 @@ use sub_queue::{Source, Taker, ruled};
 
 /// What a call answers: a number that it gives, or that of its fault.
 #[derive(Clone, Copy, Debug, PartialEq, Eq)]
-enum Answer {
+pub(super) enum Answer {
     Gave(u64),
     Fault(u32),
 }
@@ -71,7 +71,7 @@ fn proposed<R: Wait>(
 }
 
 /// The same of a flight to topic 0, whose verdict is then set.
-fn decided<R: Wait>(alloc: Global, place: &mut Place<R>, sender: u64) -> Option<Answer> {
+pub(super) fn decided<R: Wait>(alloc: Global, place: &mut Place<R>, sender: u64) -> Option<Answer> {
     let mut flying = flight(alloc, sender, &[0])?;
     let answer = propose(place, &mut flying, 0)?;
     decide(flying)?;
@@ -79,16 +79,16 @@ fn decided<R: Wait>(alloc: Global, place: &mut Place<R>, sender: u64) -> Option<
 }
 
 /// What a head's turn answers.
-fn turned<R: Wait>(rt: &R, place: &mut Place<R>) -> Option<Answer> {
+pub(super) fn turned<R: Wait>(rt: &R, place: &mut Place<R>) -> Option<Answer> {
     match place.head(rt) {
-        Ok(released) => Some(Gave(released)),
+        Ok((released, _drained)) => Some(Gave(released)),
         Err(_) => None,
     }
 }
 
 /// A place of one part or row. It gives 1, refuses the next, and gives 2 after a head's turn.
 fn with_room_for_one<R: Wait>(rt: &R, alloc: Global) -> ([Option<Answer>; 4], [u64; 4]) {
-    let mut place: Place<R> = Place::new(alloc, Topic(0), 0, 1);
+    let mut place: Place<R> = Place::new(alloc, Topic(0), 0, 1, false);
     let answers = [
         decided(alloc, &mut place, 0),
         proposed(alloc, &mut place, 1, &[0], 0),
@@ -122,7 +122,7 @@ fn cancelled<R: Wait>(place: &mut Place<R>, sender: u64) -> Answer {
 
 /// Parts of another topic, of a transaction that is pending, and of one that was cancelled.
 fn refused<R: Wait>(rt: &R, alloc: Global) -> ([Option<Answer>; 6], [u64; 4]) {
-    let mut place: Place<R> = Place::new(alloc, Topic(1), 7, 8);
+    let mut place: Place<R> = Place::new(alloc, Topic(1), 7, 8, false);
     let answers = [
         proposed(alloc, &mut place, 0, &[0, 1], 0),
         proposed(alloc, &mut place, 0, &[0, 1], 1),
@@ -150,7 +150,7 @@ fn parts_are_refused_and_cancelled(rt: HostRuntime) {
 }
 
 /// A queue of one place.
-fn queue<R>(alloc: Global) -> Option<(Source<R>, Taker)>
+pub(super) fn queue<R>(alloc: Global) -> Option<(Source<R>, Taker)>
     ensures { IfSome result (λ ends. ends.0.items ≡ []) }
 {
     match ruled(alloc, 1) {
@@ -173,7 +173,7 @@ fn lagged<R: Wait>(
         u32,
     ),
 > {
-    let mut place: Place<R> = Place::new(alloc, Topic(0), 0, 8);
+    let mut place: Place<R> = Place::new(alloc, Topic(0), 0, 8, false);
     let (source, mut taker) = queue::<R>(alloc)?;
     place.subscribe(5, source).ok()?;
     let before = place.state(5);

@@ -14,4 +14,4 @@ invariant_of-self-2 g c =
     let is : is_part_at c.self.inside.group.topic.topic part ≡ true =
     ap (λ (t : Topic). is_part_at t part) (sym c.topic.ensures)
     ∙ (ap (λ (p : Part). is_part_at c.topic.result (data_of p)) (sym c.deref.ensures) ∙ (sym c.is_part_at.ensures ∙ t)) in
-    balanced_proposed _ c.propose.new.self c.args.floor part c.self.invariant is c.in_ok-ticket.ensures.allowed c.in_ok-ticket.ensures.ok
+    balanced_proposed c.self.inside.group c.self.inside.tickets c.self.inside.released c.self.inside.cancelled c.self.inside.kept c.self.invariant c.propose.new.self c.args.floor part is c.in_ok-ticket.ensures.allowed c.in_ok-ticket.ensures.ok
