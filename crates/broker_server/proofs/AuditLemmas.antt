@@ -53,10 +53,10 @@ one_verdict trace output other status third (inl p) (inr q) = absurd (q.refused.
 one_verdict trace output other status third (inr p) (inl q) = absurd (p.refused.unexplained q.rows q.explained)
 one_verdict trace output other status third (inr p) (inr q) = one_no trace output other status third p q
 
-one_trace : (lines : List (List ℕ)) (a b : Lines) → AddsLines lines no_lines a → AddsLines lines no_lines b → a ≡ b
+pub one_trace : (lines : List (List ℕ)) (a b : Lines) → AddsLines lines no_lines a → AddsLines lines no_lines b → a ≡ b
 one_trace lines a b p q = ok_is a b (sym (adds_reads 1 lines no_lines a p) ∙ adds_reads 1 lines no_lines b q)
 
-no_trace : (lines : List (List ℕ)) (a : Lines) (n : ℕ) → AddsLines lines no_lines a → IsFirstBad lines n → Prim.⊥
+pub no_trace : (lines : List (List ℕ)) (a : Lines) (n : ℕ) → AddsLines lines no_lines a → IsFirstBad lines n → Prim.⊥
 no_trace lines a n p q = let e = sym (adds_reads 1 lines no_lines a p) ∙ bad_first lines n q in cc
 
 one_line : (lines : List (List ℕ)) (m n : ℕ) → IsFirstBad lines m → IsFirstBad lines n → m ≡ n

@@ -14,7 +14,7 @@ use Rattle.std.specs.List.{AllByRecursion, flat_map}
 use Rattle.std.specs.Option.{option_map_or}
 use Rattle.broker_server.specs.ShownText.{short_letter, is_printable, hex_escape, shown_octet, shown_text}
 use Rattle.broker_server.specs.ScriptText.{SpellsOctet, SpellsText}
-use Rattle.broker_server.specs.Inner.ScriptReading.{octet_of, hex_value, hex_read, escape_read, At, Between, Escaped, AtHigh, AtLow, text_from, text_read}
+use Rattle.broker_server.specs.Inner.ScriptReading.{short_octet, hex_value, hex_read, escape_read, At, Between, Escaped, AtHigh, AtLow, text_from, text_read}
 
 -- ---- escapes
 
@@ -54,9 +54,9 @@ escape_on : (text : List ℕ) → text_from Escaped text ≡ resumed (escape_rea
 escape_on [] = refl
 escape_on (c ∷ text) = go (c == 120)
   where
-    go : (x : Bool) → cond x (text_from AtHigh text) (octet_of c >>= λ b. option_map (λ v. b ∷ v) (text_from Between text)) ≡ resumed (cond x (hex_read text) (octet_of c >>= λ b. Some (b, text)))
+    go : (x : Bool) → cond x (text_from AtHigh text) (short_octet c >>= λ b. option_map (λ v. b ∷ v) (text_from Between text)) ≡ resumed (cond x (hex_read text) (short_octet c >>= λ b. Some (b, text)))
     go true = high_on text
-    go false = short_on (octet_of c) text
+    go false = short_on (short_octet c) text
 
 -- what stands before the first backslash is read as itself
 plain_on : (front rest : List ℕ) → Without 92 front → text_from Between (front ++ rest) ≡ option_map (λ v. front ++ v) (text_from Between rest)
@@ -107,7 +107,7 @@ escape_shorter [] p e = absurd cc
 escape_shorter (c ∷ text) p e = elim (cases_eq c 120) [
   | inl same ↦ let k = hex_shorter text p (sym (rw (eq-eqb c 120 same) refl) ∙ e) in omega arith
   | inr other ↦
-      let b = bound (octet_of c) (λ b. Some (b, text)) p (sym (rw (ne_eqb c 120 other) refl) ∙ e) in
+      let b = bound (short_octet c) (λ b. Some (b, text)) p (sym (rw (ne_eqb c 120 other) refl) ∙ e) in
       let same = ap (λ (z : ℕ × List ℕ). length z.1) (some_is (b.0, text) p b.2) in
       omega arith
 ]
@@ -133,10 +133,10 @@ nothing_read (b ∷ text) none = absurd (grind (arith, nat_tests))
 
 -- ---- what is spelled
 
-letter_octet : (b c : ℕ) → short_letter b ≡ Some c → octet_of c ≡ Some b
+letter_octet : (b c : ℕ) → short_letter b ≡ Some c → short_octet c ≡ Some b
 letter_octet b c e = grind (arith, nat_tests)
 
-octet_letter : (b c : ℕ) → octet_of c ≡ Some b → short_letter b ≡ Some c
+octet_letter : (b c : ℕ) → short_octet c ≡ Some b → short_letter b ≡ Some c
 octet_letter b c e = grind (arith, nat_tests)
 
 letter_other : (b c : ℕ) → short_letter b ≡ Some c → c ≢ 120
@@ -193,7 +193,7 @@ reads Escaped (c ∷ text) v e = elim (cases_eq c 120) [
       let r = reads AtHigh text v (sym (rw (eq-eqb c 120 same) refl) ∙ e) in
       subst (λ (z : ℕ). SpellsText (92 ∷ z ∷ text) v) (sym same) r
   | inr other ↦
-      let b = bound (octet_of c) (λ b. option_map (λ w. b ∷ w) (text_from Between text)) v (sym (rw (ne_eqb c 120 other) refl) ∙ e) in
+      let b = bound (short_octet c) (λ b. option_map (λ w. b ∷ w) (text_from Between text)) v (sym (rw (ne_eqb c 120 other) refl) ∙ e) in
       let m = mapped b.0 (text_from Between text) v b.2 in
       subst (SpellsText (92 ∷ c ∷ text)) m.2 (92 ∷ c ∷ [], text, refl, inr (inl (c, octet_letter b.0 c b.1, refl)), reads Between text m.0 m.1)
 ]

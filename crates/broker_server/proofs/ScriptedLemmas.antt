@@ -1,25 +1,31 @@
--- Each input has an output of the program `script`.
+-- Each input has an output of the programs `script` and `trace`.
 use Rattle.std.proofs.Common.{◌≡◌, ◌≢◌, ◌⊎◌, ◌<◌, ◌≤◌, ℕ, List, [], ◌∷◌, ◌++◌, inl, inr, refl, sym, ap, subst, ◌∙◌, ◌+◌, map, length, length-append}
 use Rattle.std.proofs.lemmas.Bool.{cases_lt}
 use Rattle.std.proofs.lemmas.List.{reverse-reverse}
 use Rattle.delivery.specs.declared.kept.Kept.{Kept}
-use Rattle.delivery.specs.Core.Delivery.{kept_run}
+use Rattle.delivery.specs.Core.Account.{account_of}
+use Rattle.delivery.specs.Core.Delivery.{Delivery, kept_run}
 use Rattle.delivery.specs.Core.Outcomes.{IsCoreRun}
 use Rattle.delivery.specs.Core.Readings.{steps_of}
-use Rattle.delivery.specs.Core.Reports.{Report, report_of}
+use Rattle.delivery.specs.Core.Reports.{report_of}
 use Rattle.delivery.specs.Core.State.{core_of}
 use Rattle.delivery.specs.Core.Steps.{CoreStep, kept_of}
-use Rattle.delivery.specs.Nets.{KeptRun, IsDelivered, steps_of_net}
+use Rattle.delivery.specs.Nets.{KeptRun, HasReport, steps_of_net, core_of_net}
+use Rattle.delivery.specs.Traces.{trace_of, IsTraced}
+use Rattle.delivery.proofs.Core.DeliversOfRun.{delivers}
 use Rattle.delivery.proofs.Core.DeliveryOfRun.{delivery}
 use Rattle.delivery.proofs.Core.StepsOfRun.{steps_are}
+use Rattle.delivery.proofs.Traces.OfRuns.{traced}
 use Rattle.broker_server.specs.Input.{input_limit, too_long}
 use Rattle.broker_server.specs.ReportText.{report_text}
 use Rattle.broker_server.specs.Script.{ScriptData, ScriptLine, with_line, AddsScript, capacity_of, IsScript, no_script, bad_script_text}
-use Rattle.broker_server.specs.ScriptRuns.{HasRun, IsScriptRun, IsRefusedScript, IsScripted, outcome_lines}
+use Rattle.broker_server.specs.ScriptRuns.{HasRun, IsScriptRun, IsTracedRun, IsRefusedScript, WithinLimit, IsScripted, IsScriptTraced, outcome_lines}
 use Rattle.broker_server.specs.declared.script.script_fault.ScriptFault.TheVariants.{BadLine}
 use Rattle.broker_server.proofs.Scripts.{script_or_bad}
+use Rattle.broker_server.proofs.NoRows.{no_rows}
 use Rattle.broker_server.proofs.SomeRun.{some_run}
 use Rattle.trace_audit.specs.Parsing.{lines_of}
+use Rattle.trace_audit.specs.Trace.{Lines, no_lines}
 
 -- a script has as many clocks as names
 abbrev AreAsMany : ScriptData → Type 0
@@ -38,41 +44,94 @@ as_many : (lines : List (List ℕ)) (old new : ScriptData) → AddsScript lines 
 as_many [] old new a e = subst AreAsMany (sym a) e
 as_many (line ∷ lines) old new a e = as_many lines (with_line a.0 old) new a.3 (one_more a.0 old e)
 
+-- a core that has taken the events of a script, in which nobody commits or subscribes
+record Ran (script : ScriptData) : Type 0 where
+  net : KeptRun
+  run : HasRun script net
+  as_many : length net.topics.clocks ≡ length net.topics.names
+  delivered : HasReport net
+  no_commits : (report_of (core_of_net net)).commits ≡ []
+  no_subscriptions : (report_of (core_of_net net)).subscriptions ≡ []
+
+-- each script has one
+some_net : (text : List ℕ) (script : ScriptData) → IsScript text script → Ran script
+some_net text script is =
+    let topics = script.topics in
+    let capacity = capacity_of script in
+    let r = some_run topics capacity script.events in
+    let kept = kept_run r.steps in
+    let net : KeptRun = record { topics = topics; capacity = capacity; kept = kept; spare = 0 } in
+    let same : r.steps ≡ steps_of_net net = steps_are topics capacity r.steps r.is_run ∙ sym (ap (λ (ks : List Kept). steps_of ks) (reverse-reverse (map kept_of r.steps))) in
+    let many = as_many (lines_of text) no_script script is refl in
+    record {
+      net = net;
+      run = record { topics = refl; capacity = refl; events = r.are_events };
+      as_many = many;
+      delivered = record {
+        are_kept = ap (λ (ss : List CoreStep). kept_run ss) same;
+        is_run = subst (λ (ss : List CoreStep). IsCoreRun topics capacity ss) same r.is_run;
+        is_report = refl;
+        delivery = subst (λ (ss : List CoreStep). Delivery topics kept (report_of (core_of topics capacity ss))) same (delivery topics capacity r.steps many r.is_run);
+      };
+      no_commits = subst (λ (ss : List CoreStep). (report_of (core_of topics capacity ss)).commits ≡ []) same r.no_commits;
+      no_subscriptions = subst (λ (ss : List CoreStep). (report_of (core_of topics capacity ss)).subscriptions ≡ []) same r.no_subscriptions;
+    }
+
 -- a script has a run, with its report
 some_script_run : (text : List ℕ) (script : ScriptData) → IsScript text script → (output : List ℕ) × IsScriptRun text output 0
 some_script_run text script is =
-    let capacity = capacity_of script in
-    let r = some_run script.topics capacity script.events in
-    let steps = r.0 in
-    let kept = kept_run steps in
-    let net : KeptRun = record { topics = script.topics; capacity = capacity; kept = kept; spare = 0 } in
-    let report = report_of (core_of script.topics capacity steps) in
-    let same : steps_of_net net ≡ steps = ap (λ (ks : List Kept). steps_of ks) (reverse-reverse (map kept_of steps)) ∙ sym (steps_are script.topics capacity steps r.1) in
-    let delivered : IsDelivered net report = record {
-      are_kept = ap (λ (ss : List CoreStep). kept_run ss) (sym same);
-      is_run = subst (λ (ss : List CoreStep). IsCoreRun script.topics capacity ss) (sym same) r.1;
-      is_report = ap (λ (ss : List CoreStep). report_of (core_of script.topics capacity ss)) (sym same);
-      delivery = delivery script.topics capacity steps (as_many (lines_of text) no_script script is refl) r.1;
-    } in (
-      outcome_lines kept ++ report_text report,
+    let r = some_net text script is in
+    let report = report_of (core_of_net r.net) in (
+      outcome_lines r.net.kept ++ report_text report,
       record {
         script = script;
         spelled = is;
-        net = net;
-        run = record { topics = refl; capacity = refl; events = r.2 };
+        net = r.net;
+        run = r.run;
         report = report;
-        delivered = delivered;
+        delivered = r.delivered;
         written = refl;
         status_is = refl;
       },
     )
 
--- each input has an output and a status
-pub some_scripted : (input : List ℕ) → (output : List ℕ) × (status : ℕ) × IsScripted input output status
-some_scripted input = elim (cases_lt input_limit (length input)) [
+-- and with its trace, which has no rows
+some_traced_run : (text : List ℕ) (script : ScriptData) → IsScript text script → (output : List ℕ) × IsTracedRun text output 0
+some_traced_run text script is =
+    let r = some_net text script is in
+    let k = core_of_net r.net in
+    let d = delivers r.net.topics r.net.capacity (steps_of_net r.net) r.delivered.is_run in
+    let none : trace_of (report_of k) ≡ no_lines = no_rows (account_of r.net.topics.names (steps_of_net r.net)) (report_of k) d r.no_commits r.no_subscriptions in (
+      [],
+      record {
+        script = script;
+        spelled = is;
+        net = r.net;
+        run = r.run;
+        trace = no_lines;
+        traced = subst (λ (z : Lines). IsTraced r.net z) none (traced r.net r.as_many r.delivered);
+        in_range = tt;
+        rows = [];
+        printed = record { ordered = tt; same = λ key. refl };
+        written = refl;
+        status_is = refl;
+      },
+    )
+
+-- what is written of a text where each script has such a run
+some_written : (Runs : List ℕ → List ℕ → ℕ → Type 0) → ((text : List ℕ) (script : ScriptData) → IsScript text script → (output : List ℕ) × Runs text output 0)
+    → (input : List ℕ) → (output : List ℕ) × (status : ℕ) × WithinLimit (λ text output status. Runs text output status ⊎ IsRefusedScript text output status) input output status
+some_written Runs has_run input = elim (cases_lt input_limit (length input)) [
   | inl long ↦ (too_long, 2, inr (long, refl, refl))
   | inr short ↦ elim (script_or_bad input) [
-    | inl s ↦ let r = some_script_run input s.0 s.1 in (r.0, 0, inl (short, inl r.1))
+    | inl s ↦ let r = has_run input s.0 s.1 in (r.0, 0, inl (short, inl r.1))
     | inr b ↦ (bad_script_text (BadLine b.0), 2, inl (short, inr (record { line = b.0; bad = b.1; written = refl; status_is = refl })))
   ]
 ]
+
+-- each input has an output and a status
+pub some_scripted : (input : List ℕ) → (output : List ℕ) × (status : ℕ) × IsScripted input output status
+some_scripted = some_written IsScriptRun some_script_run
+
+pub some_traced : (input : List ℕ) → (output : List ℕ) × (status : ℕ) × IsScriptTraced input output status
+some_traced = some_written IsTracedRun some_traced_run

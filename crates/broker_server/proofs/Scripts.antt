@@ -7,7 +7,7 @@ use Rattle.trace_audit.specs.Inner.Reading.{◌>>=◌}
 use Rattle.trace_audit.proofs.Cuts.{some_is}
 use Rattle.trace_audit.proofs.Spelling.{bound, passed}
 use Rattle.broker_server.specs.Script.{ScriptLine, SpellsLine, ScriptData, no_script, is_in_place, with_line, AddsScript, IsScript, IsMisplaced, IsFirstBadLine, IsScriptFault, GivesScript}
-use Rattle.broker_server.specs.Inner.ScriptReading.{line_read, placed, script_added, script_from, ReadsAs}
+use Rattle.broker_server.specs.Inner.ScriptReading.{line_read, placed, script_added, script_from, ReadsScript}
 use Rattle.broker_server.specs.declared.script.script_fault.ScriptFault.{ScriptFault}
 use Rattle.broker_server.specs.declared.script.script_fault.ScriptFault.TheVariants as fault
 use Rattle.broker_server.proofs.ScriptLines.{line_spelled, line_again}
@@ -120,24 +120,24 @@ bad_first text m b =
 -- ---- what the reader returned
 
 -- a script that was returned is the one that the text is
-pub is_found : (text : List ℕ) (r : Result ScriptData ScriptFault) → ReadsAs r (script_from 1 (lines_of text) no_script) → IfOk r (λ script. IsScript text script)
+pub is_found : (text : List ℕ) (r : Result ScriptData ScriptFault) → ReadsScript r (script_from 1 (lines_of text) no_script) → IfOk r (λ script. IsScript text script)
 is_found text (Ok script) h = reads_adds 1 (lines_of text) no_script script (sym h)
 is_found text (Err e) h = tt
 
 -- a fault that was returned is that of the text: its first bad line, or no memory
-pub is_fault : (text : List ℕ) (r : Result ScriptData ScriptFault) → ReadsAs r (script_from 1 (lines_of text) no_script) → IfErr r (λ f. IsScriptFault text f)
+pub is_fault : (text : List ℕ) (r : Result ScriptData ScriptFault) → ReadsScript r (script_from 1 (lines_of text) no_script) → IfErr r (λ f. IsScriptFault text f)
 is_fault text (Ok script) h = tt
 is_fault text (Err (fault.BadLine n)) h = first_bad text n (sym h)
 is_fault text (Err fault.NoMemory) h = tt
 
 -- where the text is a script, it was returned, unless memory ran out
-pub is_only : (text : List ℕ) (r : Result ScriptData ScriptFault) → ReadsAs r (script_from 1 (lines_of text) no_script) → (script : ScriptData) → IsScript text script → GivesScript r (Ok script)
+pub is_only : (text : List ℕ) (r : Result ScriptData ScriptFault) → ReadsScript r (script_from 1 (lines_of text) no_script) → (script : ScriptData) → IsScript text script → GivesScript r (Ok script)
 is_only text (Ok t) h script a = let f = h ∙ adds_reads 1 (lines_of text) no_script script a in let g : script ≡ t = cc in ap Ok g
 is_only text (Err (fault.BadLine n)) h script a = absurd (let k = h ∙ adds_reads 1 (lines_of text) no_script script a in cc)
 is_only text (Err fault.NoMemory) h script a = tt
 
 -- where line n is the first bad one, its fault was returned, unless memory ran out
-pub is_only_fault : (text : List ℕ) (r : Result ScriptData ScriptFault) → ReadsAs r (script_from 1 (lines_of text) no_script) → (n : ℕ) → IsFirstBadLine text n → GivesScript r (Err (fault.BadLine n))
+pub is_only_fault : (text : List ℕ) (r : Result ScriptData ScriptFault) → ReadsScript r (script_from 1 (lines_of text) no_script) → (n : ℕ) → IsFirstBadLine text n → GivesScript r (Err (fault.BadLine n))
 is_only_fault text (Ok t) h n b = absurd (let k = h ∙ bad_first text n b in cc)
 is_only_fault text (Err (fault.BadLine m)) h n b = let k : m ≡ n = (let f = h ∙ bad_first text n b in cc) in ap (λ (z : ℕ). Err (fault.BadLine z)) (sym k)
 is_only_fault text (Err fault.NoMemory) h n b = tt

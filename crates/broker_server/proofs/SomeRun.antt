@@ -22,6 +22,7 @@ use Rattle.delivery.specs.Machine.Objections.{Objection, refusal_of}
 use Rattle.delivery.specs.Machine.Moves.{Move, Answer, needs_open, needs_idle, is_topic, objections, topic_objection, move_refusal, move_effect, move_answer, world_after, answer_to, release_answer, queue_has_room, verdict_in}
 use Rattle.delivery.specs.Core.Steps.{CoreStep, Reading, kept_of}
 use Rattle.delivery.specs.Core.State.{Core, IsReadBy, unread_at, core_after, core_of, new_core, log_limit}
+use Rattle.delivery.specs.Core.Reports.{report_of}
 use Rattle.delivery.specs.Core.Outcomes.{IsCoreRun, MayStep, outcome_of, move_outcome, unless, reply_outcomes, reading_outcomes, outcomes}
 
 -- topics, and nobody there
@@ -308,13 +309,24 @@ map_reverse {X} {Y} f (x ∷ xs) =
     ∙ ap (λ (ys : List Y). ys ++ f x ∷ []) (map_reverse f xs)
     ∙ sym (reverse-append (f x ∷ []) (map f xs))
 
--- of the steps of some run these are the events, the oldest first
-pub some_run : (topics : TopicList) (capacity : ℕ) (events : List Event) → (steps : List CoreStep) × IsCoreRun topics capacity steps × (events_of (kept_run steps) ≡ events)
+-- A run of these events, the newest first: nobody commits or subscribes.
+pub record SilentRun (topics : TopicList) (capacity : ℕ) (events : List Event) : Type 0 where
+  pub steps : List CoreStep
+  pub is_run : IsCoreRun topics capacity steps
+  pub are_events : events_of (kept_run steps) ≡ events
+  pub no_commits : (report_of (core_of topics capacity steps)).commits ≡ []
+  pub no_subscriptions : (report_of (core_of topics capacity steps)).subscriptions ≡ []
+
+pub some_run : (topics : TopicList) (capacity : ℕ) (events : List Event) → SilentRun topics capacity events
 some_run topics capacity events =
-    let r = run_of topics capacity (reverse events) in (
-      r.steps,
-      r.is_run,
-      map_reverse (λ (k : Kept). k.event) (map kept_of r.steps)
+    let r = run_of topics capacity (reverse events) in
+    record {
+      steps = r.steps;
+      is_run = r.is_run;
+      are_events =
+          map_reverse (λ (k : Kept). k.event) (map kept_of r.steps)
           ∙ ap (λ (es : List Event). reverse es) (map-map (λ (k : Kept). k.event) kept_of r.steps ∙ r.are_events)
-          ∙ reverse-reverse events,
-    )
+          ∙ reverse-reverse events;
+      no_commits = ap (λ (k : Core). (report_of k).commits) r.is_lonely;
+      no_subscriptions = ap (λ (k : Core). (report_of k).subscriptions) r.is_lonely;
+    }

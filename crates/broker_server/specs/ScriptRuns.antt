@@ -1,13 +1,16 @@
 -- What the programs `script` and `trace` write, as a function of the text that they read.
 use Rattle.std.specs.Prelude.{◌≡◌, ◌⊎◌, ℕ, ◌<◌, ◌≤◌, List, [], ◌∷◌, ◌++◌, length}
-use Rattle.std.specs.List.{flat_map}
-use Rattle.trace_audit.specs.Report.{text_of, IsReport}
-use Rattle.trace_audit.specs.Trace.{Lines}
+use Rattle.std.specs.List.{AllByRecursion, flat_map}
+use Rattle.trace_audit.specs.Report.{rows_in, text_of, IsReport}
+use Rattle.trace_audit.specs.Text.{IsRowInRange}
+use Rattle.trace_audit.specs.Parsing.{lines_of, AddsLines}
+use Rattle.trace_audit.specs.Trace.{Lines, no_lines}
 use Rattle.trace_audit.specs.declared.row.TraceRow.{TraceRow}
 use Rattle.delivery.specs.declared.kept.Kept.{Kept}
 use Rattle.delivery.specs.Nets.{KeptRun, events_of, IsDelivered}
 use Rattle.delivery.specs.Core.Reports.{Report}
 use Rattle.delivery.specs.Traces.{IsTraced}
+use Rattle.broker_server.specs.Audit.{IsYes, IsAudited}
 use Rattle.broker_server.specs.Input.{input_limit, too_long}
 use Rattle.broker_server.specs.OutcomeText.{outcome_text}
 use Rattle.broker_server.specs.ReportText.{report_text}
@@ -38,6 +41,7 @@ pub record IsScriptRun (text output : List ℕ) (status : ℕ) : Type 0 where
   pub status_is : status ≡ 0
 
 -- A run of the script that the text is, with its trace: that is written, as a trace is printed.
+-- in_range: each number of the trace is in its type.
 pub record IsTracedRun (text output : List ℕ) (status : ℕ) : Type 0 where
   pub script : ScriptData
   pub spelled : IsScript text script
@@ -45,6 +49,7 @@ pub record IsTracedRun (text output : List ℕ) (status : ℕ) : Type 0 where
   pub run : HasRun script net
   pub trace : Lines
   pub traced : IsTraced net trace
+  pub in_range : AllByRecursion IsRowInRange (rows_in trace)
   pub rows : List TraceRow
   pub printed : IsReport rows trace
   pub written : output ≡ text_of rows
@@ -74,3 +79,11 @@ IsScripted = WithinLimit (λ text output status.
 abbrev pub IsScriptTraced : List ℕ → List ℕ → ℕ → Type 0
 IsScriptTraced = WithinLimit (λ text output status.
     IsTracedRun text output status ⊎ IsRefusedScript text output status)
+
+-- Where `trace` ends with status 0 and what it wrote is within the limit, the audit of that is a yes to the
+-- trace that its lines spell.
+abbrev pub TracesAuditToYes : Type 0
+TracesAuditToYes =
+    (input output answer : List ℕ) (status : ℕ) → IsScriptTraced input output 0
+    → length output ≤ input_limit → IsAudited output answer status
+    → (trace : Lines) × AddsLines (lines_of output) no_lines trace × IsYes trace answer status

@@ -4,7 +4,7 @@ mod outcome;
 mod report;
 mod shown;
 #[cfg(test)]
-mod tests;
+pub(crate) mod tests;
 
 pub use outcome::print_outcome;
 pub use report::print_report;

@@ -3,7 +3,7 @@
 ghost use Rattle.std.specs.Prelude.{◌≡◌, ◌≢◌, ◌<◌, ◌≤◌, ◌∷◌, [], ℕ, Ok, Err, IfOk, IfErr};
 ghost use Rattle.trace_audit.specs.Parsing.{lines_of};
 ghost use Rattle.broker_server.specs.Script.{ScriptData, NamesCapacity, NamesTopic, Asks, no_script, capacity_of, IsScript, IsFirstBadLine, IsScriptFault, GivesScript};
-ghost use Rattle.broker_server.specs.Inner.ScriptReading.{HasName, Leaves, ReadsAs, placed, said_of, script_added, script_from};
+ghost use Rattle.broker_server.specs.Inner.ScriptReading.{HasName, LeavesScript, ReadsScript, placed, said_of, script_added, script_from};
 ghost use Rattle.broker_server.specs.declared.script.script_fault.ScriptFault.TheVariants as script_faults;
 
 mod fields;
@@ -89,7 +89,7 @@ impl Script {
 
     // The script that a text spells.
     fn read(alloc: Global, text: &[u8]) -> Result<Script, ScriptFault>
-        ensures { ReadsAs result (script_from 1 (lines_of text.now) no_script) }
+        ensures { ReadsScript result (script_from 1 (lines_of text.now) no_script) }
     {
         let mut script = Script::new(alloc);
         let mut rest = text;
@@ -110,7 +110,7 @@ impl Script {
     // Adds what a line says, where it may stand there.
     #[tactic(auto, unfolding(crate::specs::Inner::ScriptReading::script_added))]
     fn add_line(&mut self, alloc: Global, line: &[u8]) -> Result<(), Misread>
-        ensures { Leaves result self.new (script_added line.now self.old) }
+        ensures { LeavesScript result self.new (script_added line.now self.old) }
     {
         self.place(read_line(alloc, line)?)
     }
@@ -118,7 +118,7 @@ impl Script {
     // Adds what was said, where it may stand there.
     fn place(&mut self, said: Said) -> Result<(), Misread>
         requires { HasName (said_of said) }
-        ensures { Leaves result self.new (placed (said_of said.entry) self.old) }
+        ensures { LeavesScript result self.new (placed (said_of said.entry) self.old) }
     {
         match said {
             Said::Nothing => Ok(()),
@@ -130,7 +130,7 @@ impl Script {
 
     // Names the capacity.
     fn name_capacity(&mut self, n: u64) -> Result<(), Misread>
-        ensures { Leaves result self.new (placed (NamesCapacity n) self.old) }
+        ensures { LeavesScript result self.new (placed (NamesCapacity n) self.old) }
     {
         let is_first = self.events.is_empty() && self.named_capacity.is_none();
         if !is_first || n < 1 || n > MAX_CAPACITY as u64 {
@@ -143,7 +143,7 @@ impl Script {
     // Adds a topic.
     fn name_topic(&mut self, name: &[u8], clock: u64) -> Result<(), Misread>
         requires { name.now ≢ [] }
-        ensures { Leaves result self.new (placed (NamesTopic name.now clock) self.old) }
+        ensures { LeavesScript result self.new (placed (NamesTopic name.now clock) self.old) }
     {
         if !self.events.is_empty() || !self.topics.may_add(name) {
             return Err(Misread::Bad);
@@ -154,7 +154,7 @@ impl Script {
 
     // Adds an event.
     fn ask(&mut self, event: Event) -> Result<(), Misread>
-        ensures { Leaves result self.new (placed (Asks event) self.old) }
+        ensures { LeavesScript result self.new (placed (Asks event) self.old) }
     {
         match self.events.push(event) {
             Ok(()) => Ok(()),

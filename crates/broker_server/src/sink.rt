@@ -21,6 +21,7 @@ impl Sink for FrameReader {
     // It has the text to read, under the standard limits.
     ghost holds = { λ frames text. frames ≡ reading text };
 
+    /// Feeds the piece.
     fn put(&mut self, piece: &[u8]) -> Result<(), NoMemory> {
         self.feed(piece)
     }
@@ -30,6 +31,7 @@ impl Sink for Octets {
     // It is the text.
     ghost holds = { λ octets text. octets ≡ text };
 
+    /// Appends the piece.
     fn put(&mut self, piece: &[u8]) -> Result<(), NoMemory> {
         self.extend(piece)
     }

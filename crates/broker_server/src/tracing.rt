@@ -2,7 +2,9 @@
 
 ghost use Rattle.std.specs.Prelude.{◌≡◌, ◌≢◌, ◌⊎◌, ◌≤◌, List, ℕ, Err, IfErr, IfOk, IsErrOf, IsTrue, OnOk};
 ghost use Rattle.std.specs.Io.KnownBytes.{Appends};
-ghost use Rattle.trace_audit.specs.Report.{text_of, IsReport};
+ghost use Rattle.std.specs.List.{AllByRecursion};
+ghost use Rattle.trace_audit.specs.Report.{rows_in, text_of, IsReport};
+ghost use Rattle.trace_audit.specs.Text.{IsRowInRange};
 ghost use Rattle.trace_audit.specs.Trace.{Lines};
 ghost use Rattle.trace_audit.specs.declared.row.TraceRow.{TraceRow};
 ghost use Rattle.delivery.specs.Traces.{IsTraced};
@@ -72,10 +74,11 @@ fn trace_script<W: Write>(
 
 /// The text of the trace of a run, which is let go.
 fn trace_text(alloc: Global, net: Net) -> Result<Octets, NoMemory>
-    ensures { IfOk result (λ text. (trace : Lines) × IsTraced net trace
+    ensures { IfOk result (λ text. (trace : Lines) × IsTraced net trace × AllByRecursion IsRowInRange (rows_in trace)
         × ((rows : List TraceRow) × IsReport rows trace × (text ≡ text_of rows))) }
 {
     let trace = net.trace()?;
     drop(net);
+    trace.numbers_fit();
     trace.print(alloc)
 }

@@ -20,8 +20,8 @@ use Rattle.broker_server.specs.declared.script.said.Said.TheVariants as said
 -- ---- TEXT
 
 -- the octet whose short escape has this letter
-abbrev pub octet_of : ℕ → Option ℕ
-octet_of c =
+abbrev pub short_octet : ℕ → Option ℕ
+short_octet c =
     if c == 110 then Some 10
     else if c == 114 then Some 13
     else if c == 48 then Some 0
@@ -43,7 +43,7 @@ hex_read _ = None
 -- the octet of an escape after its backslash, and what comes after it
 abbrev pub escape_read : List ℕ → Option (ℕ × List ℕ)
 escape_read [] = None
-escape_read (c ∷ text) = if c == 120 then hex_read text else (octet_of c >>= λ b. Some (b, text))
+escape_read (c ∷ text) = if c == 120 then hex_read text else (short_octet c >>= λ b. Some (b, text))
 
 -- where reading stands: between two octets; after a backslash; after `\x`; after its first digit
 pub data At : Type 0 where
@@ -60,7 +60,7 @@ text_from Between (b ∷ text) =
 text_from Escaped [] = None
 text_from Escaped (c ∷ text) =
     if c == 120 then text_from AtHigh text
-    else (octet_of c >>= λ b. option_map (λ v. b ∷ v) (text_from Between text))
+    else (short_octet c >>= λ b. option_map (λ v. b ∷ v) (text_from Between text))
 text_from AtHigh [] = None
 text_from AtHigh (c ∷ text) = hex_value c >>= λ a. text_from (AtLow a) text
 text_from (AtLow a) [] = None
@@ -116,21 +116,29 @@ settings =
     reader (codes "capacity") (λ text. spelled_number text >>= λ n. Some (NamesCapacity n))
     ∷ reader (codes "topic") (λ text. name_read text >>= λ p. Some (NamesTopic p.0 p.1)) ∷ []
 
-abbrev pub readers : List Reader
-readers =
-    reader (codes "piece") (λ text. asks (λ p. event.Piece p.0 p.1) (piece_read text))
-    ∷ reader (codes "next") (λ text. asks (λ c. event.Next c) (spelled_number text))
-    ∷ reader (codes "propose") (λ text. asks (λ p. event.Propose p.0 p.1) (pair_read text))
-    ∷ reader (codes "decide") (λ text. asks (λ c. event.Decide c) (spelled_number text))
-    ∷ reader (codes "withdraw") (λ text. asks (λ c. event.Withdraw c) (spelled_number text))
-    ∷ reader (codes "cancel") (λ text. asks (λ p. event.Cancel p.0 p.1) (pair_read text))
-    ∷ reader (codes "learn") (λ text. asks (λ p. event.Learn p.0 p.1) (learn_read text))
-    ∷ reader (codes "release") (λ text. asks (λ t. event.Release t) (topic_read text))
+abbrev pub topic_readers : List Reader
+topic_readers =
+    reader (codes "release") (λ text. asks (λ t. event.Release t) (topic_read text))
     ∷ reader (codes "turn") (λ text. asks (λ t. event.Turn t) (topic_read text))
     ∷ reader (codes "take") (λ text. asks (λ s. event.Take s) (spelled_number text))
     ∷ reader (codes "leave") (λ text. asks (λ c. event.Leave c) (spelled_number text))
     ∷ reader (codes "lost") (λ text. asks (λ c. event.Lost c) (spelled_number text))
     ∷ settings
+
+abbrev pub flight_readers : List Reader
+flight_readers =
+    reader (codes "decide") (λ text. asks (λ c. event.Decide c) (spelled_number text))
+    ∷ reader (codes "withdraw") (λ text. asks (λ c. event.Withdraw c) (spelled_number text))
+    ∷ reader (codes "cancel") (λ text. asks (λ p. event.Cancel p.0 p.1) (pair_read text))
+    ∷ reader (codes "learn") (λ text. asks (λ p. event.Learn p.0 p.1) (learn_read text))
+    ∷ topic_readers
+
+abbrev pub readers : List Reader
+readers =
+    reader (codes "piece") (λ text. asks (λ p. event.Piece p.0 p.1) (piece_read text))
+    ∷ reader (codes "next") (λ text. asks (λ c. event.Next c) (spelled_number text))
+    ∷ reader (codes "propose") (λ text. asks (λ p. event.Propose p.0 p.1) (pair_read text))
+    ∷ flight_readers
 
 -- what the first reader of this word says
 abbrev pub read_by : List Reader → List ℕ → List ℕ → Option ScriptLine
@@ -175,19 +183,19 @@ script_from n (line ∷ more) script =
     option_map_or (λ new. script_from (n + 1) more new) (script_added line script) (Err n)
 
 -- what a call returned is what is read, unless memory ran out
-abbrev pub Gives : {A B : Type 0} → (A → B) → Result A Misread → Option B → Type 0
-Gives view (Ok x) read = read ≡ Some (view x)
-Gives view (Err misread.Bad) read = read ≡ None
-Gives view (Err misread.NoMemory) read = Unit {0}
+abbrev pub GivesField : {A B : Type 0} → (A → B) → Result A Misread → Option B → Type 0
+GivesField view (Ok x) read = read ≡ Some (view x)
+GivesField view (Err misread.Bad) read = read ≡ None
+GivesField view (Err misread.NoMemory) read = Unit {0}
 
 -- what a call made of a script is this, unless memory ran out
-abbrev pub Leaves : Result (Unit {0}) Misread → ScriptData → Option ScriptData → Type 0
-Leaves (Ok _) new read = read ≡ Some new
-Leaves (Err misread.Bad) new read = read ≡ None
-Leaves (Err misread.NoMemory) new read = Unit {0}
+abbrev pub LeavesScript : Result (Unit {0}) Misread → ScriptData → Option ScriptData → Type 0
+LeavesScript (Ok _) new read = read ≡ Some new
+LeavesScript (Err misread.Bad) new read = read ≡ None
+LeavesScript (Err misread.NoMemory) new read = Unit {0}
 
 -- what a call returned is what reading gives, unless memory ran out
-abbrev pub ReadsAs : Result ScriptData ScriptFault → Result ScriptData ℕ → Type 0
-ReadsAs (Ok script) read = Ok script ≡ read
-ReadsAs (Err (fault.BadLine n)) read = Err n ≡ read
-ReadsAs (Err fault.NoMemory) read = Unit {0}
+abbrev pub ReadsScript : Result ScriptData ScriptFault → Result ScriptData ℕ → Type 0
+ReadsScript (Ok script) read = Ok script ≡ read
+ReadsScript (Err (fault.BadLine n)) read = Err n ≡ read
+ReadsScript (Err fault.NoMemory) read = Unit {0}

@@ -2,6 +2,6 @@
 
 mod memory;
 mod outcomes;
-mod reports;
+pub(crate) mod reports;
 mod runs;
 mod shown;

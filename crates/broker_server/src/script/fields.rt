@@ -3,7 +3,7 @@
 ghost use Rattle.std.specs.Prelude.{◌≡◌};
 ghost use Rattle.trace_audit.specs.Parsing.{cut};
 ghost use Rattle.trace_audit.specs.Inner.Reading.{spelled_number};
-ghost use Rattle.broker_server.specs.Inner.ScriptReading.{Gives, id_read, learn_read, name_read, number_then, pair_read, piece_read, topic_read};
+ghost use Rattle.broker_server.specs.Inner.ScriptReading.{GivesField, id_read, learn_read, name_read, number_then, pair_read, piece_read, topic_read};
 
 use super::misread::Misread;
 use super::text::octets;
@@ -15,7 +15,7 @@ use trace_audit::{read_number, split_at_first};
 
 /// The number that a text spells.
 pub(crate) fn number(text: &[u8]) -> Result<u64, Misread>
-    ensures { Gives (λ n. n) result (spelled_number text.now) }
+    ensures { GivesField (λ n. n) result (spelled_number text.now) }
 {
     match read_number(text) {
         Some(n) => Ok(n),
@@ -26,7 +26,7 @@ pub(crate) fn number(text: &[u8]) -> Result<u64, Misread>
 /// The topic that a text spells.
 #[tactic(auto, unfolding(crate::specs::Inner::ScriptReading::topic_read))]
 pub(crate) fn topic(text: &[u8]) -> Result<Topic, Misread>
-    ensures { Gives (λ t. t) result (topic_read text.now) }
+    ensures { GivesField (λ t. t) result (topic_read text.now) }
 {
     let n = number(text)?;
     if n > u32::MAX as u64 {
@@ -37,7 +37,7 @@ pub(crate) fn topic(text: &[u8]) -> Result<Topic, Misread>
 
 /// What comes before the first space, and what comes after it.
 fn field(text: &[u8]) -> Result<(&[u8], &[u8]), Misread>
-    ensures { Gives (λ p. (p.0.now, p.1.now)) result (cut 32 text.now) }
+    ensures { GivesField (λ p. (p.0.now, p.1.now)) result (cut 32 text.now) }
 {
     match split_at_first(b' ', text) {
         Some(fields) => Ok(fields),
@@ -48,7 +48,7 @@ fn field(text: &[u8]) -> Result<(&[u8], &[u8]), Misread>
 /// The number before the first space, and what comes after it.
 #[tactic(auto, unfolding(crate::specs::Inner::ScriptReading::number_then))]
 fn number_before(text: &[u8]) -> Result<(u64, &[u8]), Misread>
-    ensures { Gives (λ p. (p.0, p.1.now)) result (number_then text.now) }
+    ensures { GivesField (λ p. (p.0, p.1.now)) result (number_then text.now) }
 {
     let (word, rest) = field(text)?;
     Ok((number(word)?, rest))
@@ -57,7 +57,7 @@ fn number_before(text: &[u8]) -> Result<(u64, &[u8]), Misread>
 /// A number and a topic.
 #[tactic(auto, unfolding(crate::specs::Inner::ScriptReading::pair_read))]
 pub(crate) fn number_and_topic(text: &[u8]) -> Result<(u64, Topic), Misread>
-    ensures { Gives (λ p. p) result (pair_read text.now) }
+    ensures { GivesField (λ p. p) result (pair_read text.now) }
 {
     let (n, rest) = number_before(text)?;
     Ok((n, topic(rest)?))
@@ -66,7 +66,7 @@ pub(crate) fn number_and_topic(text: &[u8]) -> Result<(u64, Topic), Misread>
 /// A topic and a transaction.
 #[tactic(auto, unfolding(crate::specs::Inner::ScriptReading::learn_read))]
 pub(crate) fn topic_and_id(text: &[u8]) -> Result<(Topic, TxnId), Misread>
-    ensures { Gives (λ p. p) result (learn_read text.now) }
+    ensures { GivesField (λ p. p) result (learn_read text.now) }
 {
     let (word, rest) = field(text)?;
     Ok((topic(word)?, id(rest)?))
@@ -75,7 +75,7 @@ pub(crate) fn topic_and_id(text: &[u8]) -> Result<(Topic, TxnId), Misread>
 /// A transaction: its sender and its seq.
 #[tactic(auto, unfolding(crate::specs::Inner::ScriptReading::id_read))]
 fn id(text: &[u8]) -> Result<TxnId, Misread>
-    ensures { Gives (λ i. i) result (id_read text.now) }
+    ensures { GivesField (λ i. i) result (id_read text.now) }
 {
     let (sender, rest) = number_before(text)?;
     Ok(TxnId {
@@ -87,7 +87,7 @@ fn id(text: &[u8]) -> Result<TxnId, Misread>
 /// A number and the octets that a TEXT spells.
 #[tactic(auto, unfolding(crate::specs::Inner::ScriptReading::piece_read))]
 pub(crate) fn number_and_octets(alloc: Global, text: &[u8]) -> Result<(u64, Octets), Misread>
-    ensures { Gives (λ p. p) result (piece_read text.now) }
+    ensures { GivesField (λ p. p) result (piece_read text.now) }
 {
     let (n, rest) = number_before(text)?;
     Ok((n, octets(alloc, rest)?))
@@ -96,7 +96,7 @@ pub(crate) fn number_and_octets(alloc: Global, text: &[u8]) -> Result<(u64, Octe
 /// A topic's name and a number.
 #[tactic(auto, unfolding(crate::specs::Inner::ScriptReading::name_read))]
 pub(crate) fn name_and_number(text: &[u8]) -> Result<(&[u8], u64), Misread>
-    ensures { Gives (λ p. (p.0.now, p.1)) result (name_read text.now) }
+    ensures { GivesField (λ p. (p.0.now, p.1)) result (name_read text.now) }
 {
     let (name, rest) = field(text)?;
     if !is_name(name) {

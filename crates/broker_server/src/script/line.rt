@@ -1,7 +1,7 @@
 //! Reading a line of a script.
 
 ghost use Rattle.std.specs.Prelude.{◌≡◌};
-ghost use Rattle.broker_server.specs.Inner.ScriptReading.{Gives, line_read, read_by, said_of, settings, worded};
+ghost use Rattle.broker_server.specs.Inner.ScriptReading.{GivesField, flight_readers, line_read, read_by, readers, said_of, settings, topic_readers, worded};
 
 use super::fields::{
     name_and_number, number, number_and_octets, number_and_topic, topic, topic_and_id,
@@ -15,7 +15,7 @@ use trace_audit::split_at_first;
 /// What a line says.
 #[tactic(auto, unfolding(crate::specs::Inner::ScriptReading::line_read))]
 pub(crate) fn read_line(alloc: Global, line: &[u8]) -> Result<Said, Misread>
-    ensures { Gives said_of result (line_read line.now) }
+    ensures { GivesField said_of result (line_read line.now) }
 {
     if line.is_empty() || line[0] == b'#' {
         return Ok(Said::Nothing);
@@ -25,43 +25,72 @@ pub(crate) fn read_line(alloc: Global, line: &[u8]) -> Result<Said, Misread>
 
 /// What a line says that isn't skipped.
 #[tactic(auto, unfolding(crate::specs::Inner::ScriptReading::worded))]
-fn read_words(alloc: Global, line: &[u8]) -> Result<Said, Misread>
-    ensures { Gives said_of result (worded line.now) }
+fn read_words(alloc: Global, line: &[u8]) -> Result<Said<'_>, Misread>
+    ensures { GivesField said_of result (worded line.now) }
 {
-    macro_rules! events {
-        (|$fields:ident| $open:literal => Open; $($word:literal => $event:ident($($value:ident),*) = $read:expr;)*) => {
-            match split_at_first(b' ', line) {
-                None if line == $open.as_slice() => Ok(Said::Event(Event::Open)),
-                None => Err(Misread::Bad),
-                $(Some((word, $fields)) if word == $word.as_slice() => {
-                    let ($($value),*) = $read?;
-                    Ok(Said::Event(Event::$event($($value),*)))
-                })*
-                Some((word, $fields)) => read_setting(word, $fields),
-            }
-        };
+    match split_at_first(b' ', line) {
+        None if line == b"open".as_slice() => Ok(Said::Event(Event::Open)),
+        None => Err(Misread::Bad),
+        Some((word, fields)) => read_event(alloc, word, fields),
     }
+}
+
+/// The event that a line of this word asks for, by what its fields say; a line of another word says the rest.
+macro_rules! events {
+    ($word:ident; $($literal:literal => $event:ident($($value:ident),*) = $read:expr;)* _ => $rest:expr) => {
+        $(if $word == $literal.as_slice() {
+            let ($($value),*) = $read?;
+            return Ok(Said::Event(Event::$event($($value),*)));
+        })*
+        $rest
+    };
+}
+
+/// What a line of this word and these fields says.
+fn read_event<'a>(alloc: Global, word: &[u8], fields: &'a [u8]) -> Result<Said<'a>, Misread>
+    ensures { GivesField said_of result (read_by readers word.now fields.now) }
+{
     events! {
-        |fields|
-        b"open" => Open;
+        word;
         b"piece" => Piece(c, octets) = number_and_octets(alloc, fields);
         b"next" => Next(c) = number(fields);
         b"propose" => Propose(c, t) = number_and_topic(fields);
+        _ => read_flight_event(word, fields)
+    }
+}
+
+/// What it says of a transaction that is proposed, or of what comes later in these lists.
+fn read_flight_event<'a>(word: &[u8], fields: &'a [u8]) -> Result<Said<'a>, Misread>
+    ensures { GivesField said_of result (read_by flight_readers word.now fields.now) }
+{
+    events! {
+        word;
         b"decide" => Decide(c) = number(fields);
         b"withdraw" => Withdraw(c) = number(fields);
         b"cancel" => Cancel(c, t) = number_and_topic(fields);
         b"learn" => Learn(t, id) = topic_and_id(fields);
+        _ => read_topic_event(word, fields)
+    }
+}
+
+/// What it says of a topic, a subscription or a connection's end, or of a setting.
+fn read_topic_event<'a>(word: &[u8], fields: &'a [u8]) -> Result<Said<'a>, Misread>
+    ensures { GivesField said_of result (read_by topic_readers word.now fields.now) }
+{
+    events! {
+        word;
         b"release" => Release(t) = topic(fields);
         b"turn" => Turn(t) = topic(fields);
         b"take" => Take(s) = number(fields);
         b"leave" => Leave(c) = number(fields);
         b"lost" => Lost(c) = number(fields);
+        _ => read_setting(word, fields)
     }
 }
 
 /// What a line of this word and these fields says of the topics or the queues.
 fn read_setting<'a>(word: &[u8], fields: &'a [u8]) -> Result<Said<'a>, Misread>
-    ensures { Gives said_of result (read_by settings word.now fields.now) }
+    ensures { GivesField said_of result (read_by settings word.now fields.now) }
 {
     if word == b"capacity".as_slice() {
         return Ok(Said::Capacity(number(fields)?));

@@ -2,7 +2,7 @@
 
 ghost use Rattle.std.specs.Prelude.{◌≡◌};
 ghost use Rattle.std.specs.Option.{option_map};
-ghost use Rattle.broker_server.specs.Inner.ScriptReading.{Gives, octet_of, hex_value, escape_read, text_read};
+ghost use Rattle.broker_server.specs.Inner.ScriptReading.{GivesField, short_octet, hex_value, escape_read, text_read};
 
 use super::misread::Misread;
 use std::alloc::Global;
@@ -11,7 +11,7 @@ use trace_audit::split_at_first;
 
 /// The octets that a TEXT spells. It copies what stands between two escapes at once.
 pub(crate) fn octets(alloc: Global, text: &[u8]) -> Result<Octets, Misread>
-    ensures { Gives (λ v. v) result (text_read text.now) }
+    ensures { GivesField (λ v. v) result (text_read text.now) }
 {
     if text.is_empty() {
         return Err(Misread::Bad);
@@ -43,7 +43,7 @@ fn escape(text: &[u8]) -> Option<(u8, &[u8])>
 
 /// The octet whose short escape has this letter.
 fn short(letter: u8) -> Option<u8>
-    ensures { result ≡ octet_of letter }
+    ensures { result ≡ short_octet letter }
 {
     match letter {
         b'n' => Some(b'\n'),

@@ -99,6 +99,11 @@ const NO_MEMORY: Ended = Ended {
     message: Some(Message::Fault(ProgramFault::NoMemory)),
 };
 
+const WELL: Ended = Ended {
+    status: 0,
+    message: None,
+};
+
 const USAGE: Ended = Ended {
     status: 1,
     message: Some(Message::Usage),
@@ -106,7 +111,7 @@ const USAGE: Ended = Ended {
 
 #[test]
 fn relays_to_its_name(rt: HostRuntime) -> Result<(), Fail> {
-    for (name, fails, output, status, message) in [
+    for &(name, fails, output, status, message) in &[
         ("B", Fails::Nothing, MESSAGE, 0, None),
         ("A", Fails::Nothing, ERROR, 2, None),
         (
@@ -133,7 +138,7 @@ fn relays_to_its_name(rt: HostRuntime) -> Result<(), Fail> {
 
 #[test]
 fn audits_its_input(rt: HostRuntime) -> Result<(), Fail> {
-    for (text, fails, output, status, message) in [
+    for &(text, fails, output, status, message) in &[
         (ROW, Fails::Nothing, YES, 0, None),
         (SPAN, Fails::Nothing, NO, 3, None),
         (SEND, Fails::Nothing, BAD, 2, None),
@@ -147,22 +152,35 @@ fn audits_its_input(rt: HostRuntime) -> Result<(), Fail> {
     Ok(())
 }
 
-/// Where a growth is refused, the status is 4 with its line, or the run is right.
+/// Whether a run is right; `None` where it ended without memory, with its status and its line, or had none to begin with.
+fn is_right(run: Result<(Ended, bool), AllocError>) -> Option<bool> {
+    match run {
+        Ok((ended, _)) if ended == NO_MEMORY => None,
+        Ok((ended, written)) => Some(ended == WELL && written),
+        Err(_) => None,
+    }
+}
+
+/// Where a growth is refused, the status is 4 with its line, or the run is right; the second time it is right.
 #[test]
 fn ends_without_memory(rt: HostRuntime) {
-    if let Ok((ended, written)) = relay(rt.alloc(), "B", Fails::Nothing, MESSAGE) {
-        assert!(rt; ended == NO_MEMORY || ended.status == 0 && written);
+    let mut answer = is_right(relay(rt.alloc(), "B", Fails::Nothing, MESSAGE));
+    if answer.is_none() {
+        answer = is_right(relay(rt.alloc(), "B", Fails::Nothing, MESSAGE));
     }
-    if let Ok((ended, written)) = audited(rt.alloc(), ROW, Fails::Nothing, YES) {
-        assert!(rt; ended == NO_MEMORY || ended.status == 0 && written);
+    assert!(rt; answer == Some(true));
+    answer = is_right(audited(rt.alloc(), ROW, Fails::Nothing, YES));
+    if answer.is_none() {
+        answer = is_right(audited(rt.alloc(), ROW, Fails::Nothing, YES));
     }
+    assert!(rt; answer == Some(true));
 }
 
 #[test]
 fn wrong_words(rt: HostRuntime) -> Result<(), Fail> {
     let alloc = rt.alloc();
     assert!(rt; refused(alloc, Ok(Vec::new(alloc)))? == Some(USAGE));
-    for (kind, ended) in [
+    for &(kind, ended) in &[
         (ErrorKind::InvalidData, USAGE),
         (ErrorKind::OutOfMemory, NO_MEMORY),
     ] {

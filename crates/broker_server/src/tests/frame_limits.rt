@@ -129,7 +129,7 @@ fn past_each_limit(rt: HostRuntime) -> Result<(), Fail> {
     let line = b"ERROR\nmessage:8 LineTooLong\ncontent-length:0\n\n\0".as_slice();
     let headers = b"ERROR\nmessage:9 TooManyHeaders\ncontent-length:0\n\n\0".as_slice();
     let body = b"ERROR\nmessage:10 BodyTooLong\ncontent-length:0\n\n\0".as_slice();
-    for (excess, error) in [
+    for &(excess, error) in &[
         (Excess::Line, line),
         (Excess::OpenLine, line),
         (Excess::Headers, headers),

@@ -8,7 +8,7 @@ use std::test::Fail;
 
 /// A program that reads a text and writes one.
 #[derive(Clone, Copy)]
-enum Asked {
+pub(super) enum Asked {
     Script,
     Trace,
     Audit,
@@ -29,7 +29,7 @@ fn run(
 }
 
 /// Whether a program writes this output of this input, and ends with this status.
-fn writes(
+pub(super) fn writes(
     alloc: Global,
     asked: Asked,
     input: &[u8],
@@ -71,7 +71,7 @@ fn examples(rt: HostRuntime) {
 }
 
 /// Scripts of which a line is wrong, and what is written of each.
-const REFUSED: [(&[u8], &[u8]); 6] = [
+const REFUSED: &[(&[u8], &[u8])] = &[
     (b"opens", b"bad 110 BadLine 1\n"),
     (b"topic A 0\nopen\nturn 00\n", b"bad 110 BadLine 3\n"),
     (b"# one\n\nopen\nopen \n", b"bad 110 BadLine 4\n"),
@@ -83,7 +83,7 @@ const REFUSED: [(&[u8], &[u8]); 6] = [
 /// Where a line is wrong nothing is run: its number is all that is written.
 #[test]
 fn refused(rt: HostRuntime) {
-    for (script, output) in REFUSED {
+    for &(script, output) in REFUSED {
         for asked in [Asked::Script, Asked::Trace] {
             assert!(rt; writes(rt.alloc(), asked, script, output, 2) == Ok(true));
         }
@@ -92,7 +92,7 @@ fn refused(rt: HostRuntime) {
 
 /// How a program ends over a script's text with peers that do an octet at a time, whether it wrote this, and how many
 /// failures were counted.
-fn slowly(
+pub(super) fn slowly(
     alloc: Global,
     asked: Asked,
     script: &[u8],
@@ -237,7 +237,7 @@ fn says_no_memory(text: &[u8]) -> bool {
 }
 
 /// What a program writes of a text.
-fn written(alloc: Global, asked: Asked, input: &[u8]) -> Result<Vec<u8>, ProgramFault> {
+pub(super) fn written(alloc: Global, asked: Asked, input: &[u8]) -> Result<Vec<u8>, ProgramFault> {
     let mut reader = Counting::new(Source::of(input));
     let mut writer = Counting::new(Target::with_room(alloc, 4096)?);
     run(alloc, asked, &mut reader, &mut writer)?;

@@ -29,7 +29,7 @@ fn reading_of(alloc: Global, text: &[u8]) -> Reading {
 }
 
 /// Each is a script: its capacity, its number of topics and that of its events.
-const SCRIPTS: [(&[u8], usize, usize, usize); 16] = [
+const SCRIPTS: &[(&[u8], usize, usize, usize)] = &[
     (b"", 64, 0, 0),
     (b"\n", 64, 0, 0),
     (b"#", 64, 0, 0),
@@ -60,93 +60,33 @@ const SCRIPTS: [(&[u8], usize, usize, usize); 16] = [
 
 #[test]
 fn texts_are_scripts(rt: HostRuntime) {
-    for (text, capacity, topics, events) in SCRIPTS {
+    for &(text, capacity, topics, events) in SCRIPTS {
         assert!(rt; reading_of(rt.alloc(), text) == Reading::Script(capacity, topics, events));
     }
 }
 
-/// Where a growth is refused, there is no memory or the right script, and never another answer.
+/// Where a growth is refused, there is no memory or the right script, and never another answer; the second time the script
+/// is right.
 #[test]
 fn scripts_without_memory(rt: HostRuntime) {
-    for (text, capacity, topics, events) in SCRIPTS {
+    for &(text, capacity, topics, events) in SCRIPTS {
+        let script = Reading::Script(capacity, topics, events);
         let reading = reading_of(rt.alloc(), text);
-        assert!(rt;
-            reading == Reading::NoMemory || reading == Reading::Script(capacity, topics, events)
-        );
+        if reading == Reading::NoMemory {
+            assert!(rt; reading_of(rt.alloc(), text) == script);
+        } else {
+            assert!(rt; reading == script);
+        }
     }
 }
 
-/// No line of these says anything.
-const BAD: [&[u8]; 64] = [
-    b" ",
-    b" #",
-    b"open ",
-    b" open",
-    b"Open",
-    b"opens",
-    b"open 0",
-    b"open\r",
-    b"open\0",
-    b"close 0",
-    b"capacity",
-    b"capacity ",
-    b"capacity 0",
-    b"capacity 4097",
-    b"capacity 02",
-    b"capacity +2",
-    b"capacity 2 ",
-    b"capacity 18446744073709551616",
-    b"topic",
-    b"topic A",
-    b"topic A ",
-    b"topic  0",
-    b"topic A B 0",
-    b"topic A\t0",
-    b"topic A\x7f 0",
-    b"topic \xc3\xa4 0",
-    b"topic A 00",
-    b"topic A -1",
-    b"topic A 18446744073709551616",
-    b"piece",
-    b"piece 0",
-    b"piece 0 ",
-    b"piece  0 a",
-    b"piece\t0 a",
-    b"piece 00 a",
-    b"piece 18446744073709551616 a",
-    b"next",
-    b"next ",
-    b"next  0",
-    b"next 0 ",
-    b"next 0 0",
-    b"next\t0",
-    b"next 00",
-    b"next 0x1",
-    b"next -1",
-    b"next 18446744073709551616",
-    b"propose 0",
-    b"propose 0 0 0",
-    b"propose 0  0",
-    b"propose 0 00",
-    b"propose 0 4294967296",
-    b"decide 1.0",
-    b"withdraw",
-    b"cancel 0",
-    b"cancel 0 4294967296",
-    b"learn 0 0",
-    b"learn 0 0 1 ",
-    b"learn 4294967296 0 1",
-    b"learn 0 18446744073709551616 1",
-    b"release 4294967296",
-    b"turn 00",
-    b"take",
-    b"leave 01",
-    b"lost a",
-];
+/// None of these lines says anything.
+const BAD: &[u8] =
+    b" \n #\nopen \n open\nOpen\nopens\nopen 0\nopen\r\nopen\0\nclose 0\ncapacity\ncapacity \ncapacity 0\ncapacity 4097\ncapacity 02\ncapacity +2\ncapacity 2 \ncapacity 18446744073709551616\ntopic\ntopic A\ntopic A \ntopic  0\ntopic A B 0\ntopic A\t0\ntopic A\x7f 0\ntopic \xc3\xa4 0\ntopic A 00\ntopic A -1\ntopic A 18446744073709551616\npiece\npiece 0\npiece 0 \npiece  0 a\npiece\t0 a\npiece 00 a\npiece 18446744073709551616 a\nnext\nnext \nnext  0\nnext 0 \nnext 0 0\nnext\t0\nnext 00\nnext 0x1\nnext -1\nnext 18446744073709551616\npropose 0\npropose 0 0 0\npropose 0  0\npropose 0 00\npropose 0 4294967296\ndecide 1.0\nwithdraw\ncancel 0\ncancel 0 4294967296\nlearn 0 0\nlearn 0 0 1 \nlearn 4294967296 0 1\nlearn 0 18446744073709551616 1\nrelease 4294967296\nturn 00\ntake\nleave 01\nlost a";
 
 #[test]
 fn other_lines_are_bad(rt: HostRuntime) {
-    for text in BAD {
+    for text in BAD.split(|octet| *octet == b'\n') {
         assert!(rt; reading_of(rt.alloc(), text) == Reading::Bad(1));
     }
 }
@@ -155,7 +95,7 @@ fn other_lines_are_bad(rt: HostRuntime) {
 #[test]
 fn bad_lines_are_counted(rt: HostRuntime) -> Result<(), Fail> {
     let alloc = rt.alloc();
-    for line in BAD {
+    for line in BAD.split(|octet| *octet == b'\n') {
         let mut text = Vec::from_slice(alloc, b"topic A 0\n\n")?;
         text.extend_from_slice(line)?;
         text.extend_from_slice(b"\nnext 00\n")?;
@@ -165,7 +105,7 @@ fn bad_lines_are_counted(rt: HostRuntime) -> Result<(), Fail> {
 }
 
 /// The first bad line of each.
-const MISPLACED: [(&[u8], usize); 14] = [
+const MISPLACED: &[(&[u8], usize)] = &[
     (b"open\nnext 0\nturn 00\n", 3),
     (b"#\n\nturn 00", 3),
     (b"\n\n\n \n", 4),
@@ -184,7 +124,7 @@ const MISPLACED: [(&[u8], usize); 14] = [
 
 #[test]
 fn lines_stand_in_their_place(rt: HostRuntime) {
-    for (text, line) in MISPLACED {
+    for &(text, line) in MISPLACED {
         assert!(rt; reading_of(rt.alloc(), text) == Reading::Bad(line));
     }
 }
@@ -252,7 +192,7 @@ fn is_printed_as(alloc: Global, fault: ScriptFault, text: &[u8]) -> Option<bool>
 
 #[test]
 fn faults_have_their_lines(rt: HostRuntime) {
-    let rows: [(ScriptFault, u32, &[u8]); 4] = [
+    let rows: &[(ScriptFault, u32, &[u8])] = &[
         (ScriptFault::BadLine(3), 110, b"bad 110 BadLine 3\n"),
         (ScriptFault::BadLine(1), 110, b"bad 110 BadLine 1\n"),
         (
@@ -262,7 +202,7 @@ fn faults_have_their_lines(rt: HostRuntime) {
         ),
         (ScriptFault::NoMemory, 111, b"bad 111 NoMemory\n"),
     ];
-    for (fault, number, text) in rows {
+    for &(fault, number, text) in rows {
         assert!(rt; fault.number() == number);
         assert!(rt; is_printed_as(rt.alloc(), fault, text) != Some(false));
     }

@@ -1,5 +1,6 @@
 //! Refused growths: they are made by `rt try --test --fail-alloc N`, and each test here holds whichever allocation fails.
 
+use super::reports::outcomes_of;
 use super::runs::{LEADING, after};
 use crate::{print_outcome, print_report};
 use delivery::{ConnectionFault, Net, Outcome};
@@ -16,14 +17,22 @@ const LONG: Outcome = Outcome::Faulted {
     cut: false,
 };
 
+/// What is there after the line was appended.
+const AFTER: &[u8] = b"fed\nerror 67 UnknownDestination\n";
+
+/// Whether the octets are these.
+fn are(out: &Octets, octets: &[u8]) -> bool {
+    out.as_slice() == octets
+}
+
+/// Whether the line is appended.
+fn is_put(out: &mut Octets) -> bool {
+    print_outcome(&LONG, out).is_ok() && are(out, AFTER)
+}
+
 /// Whether the line is appended, or, where memory ran out, nothing is, and the line is appended the second time.
 fn is_line_or_nothing(out: &mut Octets) -> bool {
-    if print_outcome(&LONG, out).is_ok() {
-        return out.as_slice() == b"fed\nerror 67 UnknownDestination\n".as_slice();
-    }
-    out.as_slice() == BEFORE
-        && print_outcome(&LONG, out).is_ok()
-        && out.as_slice() == b"fed\nerror 67 UnknownDestination\n".as_slice()
+    is_put(out) || (are(out, BEFORE) && is_put(out))
 }
 
 #[test]
@@ -33,12 +42,21 @@ fn a_line_is_appended_or_nothing(rt: HostRuntime) -> Result<(), Fail> {
     Ok(())
 }
 
-/// The core after the run; tried twice where memory runs out.
+/// Whether the outcomes are those of the run with ample memory.
+fn has_its_outcomes(alloc: Global, net: &Net) -> Result<bool, NoMemory> {
+    Ok(outcomes_of(alloc, net)?.as_slice() == LEADING.outcomes)
+}
+
+/// The core after the run with ample memory; made again where memory ran out, which an event's outcome may say.
 fn made(alloc: Global) -> Result<Net, NoMemory> {
-    match after(alloc, LEADING) {
-        Ok(net) => Ok(net),
-        Err(NoMemory) => after(alloc, LEADING),
+    for _ in 0..2u8 {
+        if let Ok(net) = after(alloc, LEADING)
+            && has_its_outcomes(alloc, &net) == Ok(true)
+        {
+            return Ok(net);
+        }
     }
+    Err(NoMemory)
 }
 
 /// Whether what comes after BEFORE is the report.

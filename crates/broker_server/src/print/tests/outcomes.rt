@@ -19,7 +19,7 @@ const ID: TxnId = TxnId {
 };
 
 /// Outcomes with their lines.
-const LINES: [(Outcome, &[u8]); 31] = [
+const LINES: &[(Outcome, &[u8])] = &[
     (Outcome::Opened(0), b"conn 0\n"),
     (Outcome::Fed, b"fed\n"),
     (Outcome::Done, b"done\n"),
@@ -128,7 +128,7 @@ fn has_line(alloc: Global, outcome: &Outcome, line: &[u8]) -> Result<bool, NoMem
 
 #[test]
 fn outcomes_have_their_lines(rt: HostRuntime) {
-    for (outcome, line) in LINES {
+    for &(outcome, line) in LINES {
         assert_eq!(rt; has_line(rt.alloc(), &outcome, line), Ok(true));
     }
 }

@@ -8,7 +8,7 @@ use std::test::Fail;
 use stomp_frame::{NoMemory, Octets};
 
 /// The lines of the outcomes that were kept.
-fn outcomes_of(alloc: Global, net: &Net) -> Result<Octets, NoMemory> {
+pub(crate) fn outcomes_of(alloc: Global, net: &Net) -> Result<Octets, NoMemory> {
     let mut out = Octets::new(alloc);
     for i in 0..net.kept_len() {
         if let Some(kept) = net.kept(i) {
@@ -19,13 +19,13 @@ fn outcomes_of(alloc: Global, net: &Net) -> Result<Octets, NoMemory> {
 }
 
 /// Whether the run's outcomes have these lines.
-fn has_outcomes(alloc: Global, run: Run) -> Result<bool, NoMemory> {
+fn has_outcomes(alloc: Global, run: &Run) -> Result<bool, NoMemory> {
     let net = after(alloc, run)?;
     Ok(outcomes_of(alloc, &net)?.as_slice() == run.outcomes)
 }
 
 /// Whether the run's report has these lines, after other octets.
-fn has_report(alloc: Global, run: Run) -> Result<bool, NoMemory> {
+fn has_report(alloc: Global, run: &Run) -> Result<bool, NoMemory> {
     let net = after(alloc, run)?;
     let mut out = Octets::from_slice(alloc, b"fed\n")?;
     print_report(&net.report(), &mut out)?;

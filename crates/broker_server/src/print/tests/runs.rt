@@ -31,7 +31,7 @@ pub(super) struct Run {
 }
 
 /// A topic whose clock leads, and a transaction that overtakes none.
-pub(super) const LEADING: Run = Run {
+pub(super) const LEADING: &Run = &Run {
     capacity: 64,
     topics: &[(b"A", 9), (b"B", 0), (b"C", 0)],
     events: &[
@@ -73,7 +73,7 @@ pub(super) const LEADING: Run = Run {
 
 /// A subscription to the last topic that lags, one to the first that is open, a connection without output, and octets that
 /// aren't printable.
-pub(super) const LAGGED: Run = Run {
+pub(super) const LAGGED: &Run = &Run {
     capacity: 1,
     topics: &[(b"A", 0), (b"B", 0)],
     events: &[
@@ -106,7 +106,7 @@ pub(super) const LAGGED: Run = Run {
 };
 
 /// No event at all.
-pub(super) const NOTHING: Run = Run {
+pub(super) const NOTHING: &Run = &Run {
     capacity: 64,
     topics: &[],
     events: &[],
@@ -136,7 +136,7 @@ fn put(alloc: Global, events: &mut EventList, ask: Ask) -> Result<(), NoMemory> 
 }
 
 /// The run's events.
-fn list(alloc: Global, run: Run) -> Result<EventList, NoMemory> {
+fn list(alloc: Global, run: &Run) -> Result<EventList, NoMemory> {
     let mut events = EventList::new(alloc);
     for &ask in run.events {
         put(alloc, &mut events, ask)?;
@@ -145,7 +145,7 @@ fn list(alloc: Global, run: Run) -> Result<EventList, NoMemory> {
 }
 
 /// The run's topics.
-fn topics(alloc: Global, run: Run) -> Result<Topics, NoMemory> {
+fn topics(alloc: Global, run: &Run) -> Result<Topics, NoMemory> {
     let mut topics = Topics::new(alloc);
     for &(name, clock) in run.topics {
         if topics.may_add(name) {
@@ -156,7 +156,7 @@ fn topics(alloc: Global, run: Run) -> Result<Topics, NoMemory> {
 }
 
 /// The core after the run.
-pub(super) fn after(alloc: Global, run: Run) -> Result<Net, NoMemory> {
+pub(super) fn after(alloc: Global, run: &Run) -> Result<Net, NoMemory> {
     if run.capacity == 0 || run.capacity > MAX_CAPACITY {
         return Err(NoMemory);
     }

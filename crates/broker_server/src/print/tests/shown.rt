@@ -5,7 +5,7 @@ use std::alloc::Global;
 use stomp_frame::{NoMemory, Octets};
 
 /// Octets that are no letters, with their texts.
-const SHOWN: [(&[u8], &[u8]); 12] = [
+const SHOWN: &[(&[u8], &[u8])] = &[
     (b"", b""),
     (b" ~", b" ~"),
     (b"\n", b"\\n"),
@@ -29,7 +29,7 @@ fn is_shown(alloc: Global, octets: &[u8], text: &[u8]) -> Result<bool, NoMemory>
 
 #[test]
 fn octets_are_shown(rt: HostRuntime) {
-    for (octets, text) in SHOWN {
+    for &(octets, text) in SHOWN {
         assert_eq!(rt; is_shown(rt.alloc(), octets, text), Ok(true));
     }
 }
