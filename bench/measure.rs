@@ -1,5 +1,5 @@
 //! Times a program and its baseline on each input of a benchmark and prints the table:
-//! `measure frames|pieces|transactions|topic|group|core|script|audit PROGRAM BASELINE FOLDER`, or `measure relay` with the floor
+//! `measure frames|pieces|transactions|topic|group|core|locks|script|audit PROGRAM BASELINE FOLDER`, or `measure relay` with the floor
 //! before the folder. It refuses outputs that differ, and judges no time.
 
 use std::env;
@@ -43,6 +43,12 @@ const GROUP: Rate = Rate {
 const PIECES: [&str; 5] = ["0", "1", "16", "4096", "65536"];
 const CORE_INPUTS: [&str; 4] = ["core-one", "core-subscribers", "core-connections", "core-undecided"];
 const SCRIPT_INPUTS: [&str; 3] = ["script-transactions", "script-bodies", "script-connections"];
+/// Whether threads have topics of their own, how many topics a transaction has, how many threads commit, and how many
+/// transactions all of them commit. Each topic has two subscriptions.
+const LOCKS_TOPICS: [&str; 2] = ["own", "same"];
+const LOCKS_COUNTS: [(&str, f64); 3] = [("1", 1.0), ("2", 2.0), ("4", 4.0)];
+const LOCKS_COMMITS: (&str, f64) = ("240000", 240_000.0);
+const LOCKS_SUBSCRIPTIONS: f64 = 2.0;
 const AUDIT_INPUTS: [&str; 3] = ["one-topic", "subscriptions", "many-topics"];
 const RUNS: usize = 5;
 
@@ -301,6 +307,39 @@ fn print_core(program: &str, baseline: &str, folder: &Path) -> io::Result<()> {
     Ok(())
 }
 
+/// Commits and items in a second, by how many threads, and what that is of the plain program's and of one thread's.
+fn print_locks(program: &str, baseline: &str, folder: &Path) -> io::Result<()> {
+    println!("best of {RUNS} runs, by the clock; /s is commits and items in a second");
+    println!("              |     broker_locks      |       baseline        | rate over | over one thread's");
+    println!("topics threads| commits/s     items/s | commits/s     items/s |  baseline | broker_locks baseline");
+    let (commits, number) = LOCKS_COMMITS;
+    for kind in LOCKS_TOPICS {
+        for (topics, many) in LOCKS_COUNTS {
+            let mut alone = [0.0; 2];
+            for (threads, _) in LOCKS_COUNTS {
+                let words = [kind, topics, threads, commits];
+                let [one, other] = [program, baseline].map(|name| [&[name], &words[..]].concat());
+                let costs = measure([&one, &other], folder, "locks")?;
+                let rates = costs.map(|cost| number / cost.time.as_secs_f64());
+                if threads == LOCKS_COUNTS[0].0 {
+                    alone = rates;
+                }
+                print!("{kind:<4} {topics} {threads:>7}|");
+                for rate in rates {
+                    print!(" {rate:9.0} {:11.0} |", rate * many * LOCKS_SUBSCRIPTIONS);
+                }
+                println!(
+                    " {:9.2} | {:12.2} {:8.2}",
+                    rates[0] / rates[1],
+                    rates[0] / alone[0],
+                    rates[1] / alone[1]
+                );
+            }
+        }
+    }
+    Ok(())
+}
+
 /// The times of `stompd script`, over the plain program, with peak memory.
 fn print_script(program: &str, baseline: &str, folder: &Path) -> io::Result<()> {
     println!("best of {RUNS} runs, from file to file; ms is time, MiB is peak memory");
@@ -403,6 +442,7 @@ fn main() -> ExitCode {
             print_rate(GROUP, program, baseline, Path::new(folder)),
         ),
         ["core", program, baseline, folder] => ("core", print_core(program, baseline, Path::new(folder))),
+        ["locks", program, baseline, folder] => ("locks", print_locks(program, baseline, Path::new(folder))),
         ["script", program, baseline, folder] => {
             ("script", print_script(program, baseline, Path::new(folder)))
         }
@@ -413,7 +453,7 @@ fn main() -> ExitCode {
             ("audit", print_audit(program, baseline, Path::new(folder)))
         }
         _ => {
-            eprintln!("usage: measure relay|frames|pieces|transactions|topic|group|core|script|audit PROGRAM BASELINE [FLOOR] FOLDER");
+            eprintln!("usage: measure relay|frames|pieces|transactions|topic|group|core|locks|script|audit PROGRAM BASELINE [FLOOR] FOLDER");
             return ExitCode::FAILURE;
         }
     };
