@@ -1,12 +1,17 @@
 -- What was written or read, and what waits to be copied behind it.
-use Rattle.std.proofs.Common.{◌≡◌, ℕ, ◌+◌, ◌-◌, ◌<◌, ◌≤◌, ◌⊎◌, inl, inr, List, [], ◌∷◌, ◌++◌, length, take, drop, get_or, set, Option, Some, None, Result, Ok, Err, refl, sym, ap, ◌∙◌, append_assoc, arith, length-set, take-add}
+use Rattle.std.proofs.Common.{◌≡◌, ℕ, ◌+◌, ◌-◌, ◌<◌, ◌≤◌, ◌⊎◌, inl, inr, List, [], ◌∷◌, ◌++◌, length, take, drop, get_or, not, eqb, subst, Option, Some, None, Result, Ok, Err, refl, sym, ap, ◌∙◌, append_assoc, arith, take-add}
 use Rattle.std.specs.Prelude.{OnErr}
-use Rattle.std.proofs.lemmas.List.{append-nil, take_more, take-append-drop, take_more_set, take-set}
+use Rattle.std.proofs.lemmas.List.{append-nil, take_more, take-append-drop, length-take-le}
 use Rattle.std.proofs.lemmas.Grind.{flat_map-append}
 use Rattle.stomp_escape.specs.Escape.{letter_of, escaped_octet, escaped, AppendsFront}
-use Rattle.stomp_escape.specs.Inner.Escaping.{extra, last}
+use Rattle.stomp_escape.specs.Inner.Escaping.{first, letter_or_zero}
+use mir.Val.{bool_byte}
+use borrow.Rule.Slice.PartMut.{put_mid, post_of}
+use Rattle.std.proofs.lemmas.Bool.{cases_eq, ne_eqb}
+use Rattle.std.proofs.lemmas.Bool.Decides.{nat_tests}
+use Rattle.std.proofs.Math.Seq.{take-append-add}
 use Rattle.stomp_escape.specs.declared.fault.EscapeFault.{EscapeFault}
-use Rattle.stomp_escape.specs.Inner.Unescaping.{octet_of, unescaped, unescaped_from, with_front}
+use Rattle.stomp_escape.specs.Inner.Unescaping.{octet_of, unescaped_from, with_front}
 use Rattle.stomp_escape.proofs.Steps.{goes_plain, goes_escape}
 
 escaped_more : (text : List ℕ) (at : ℕ) → at < length text → escaped (take (at + 1) text) ≡ escaped (take at text) ++ escaped_octet (get_or text at 0)
@@ -18,31 +23,36 @@ option_cases : (o : Option ℕ) → ((c : ℕ) × (o ≡ Some c)) ⊎ (o ≡ Non
 option_cases None = inr refl
 option_cases (Some c) = inl (c, refl)
 
--- a backslash, and the last octet put over it or behind it: the octet is escaped behind the first n
-pub put_escaped : (xs : List ℕ) (n b : ℕ) → n + 1 < length xs → take (n + extra b + 1) (set (set xs n 92) (n + extra b) (last b)) ≡ take n xs ++ escaped_octet b
-put_escaped xs n b lt =
-    let one = set xs n 92 in
-    let size = length-set xs n 92 in
-    elim (option_cases (letter_of b)) [
-      | inl (c, some) ↦
-          let front = take_more_set xs n 92 (omega arith) in
-          let both = take_more_set one (n + 1) c (omega (arith, size)) in
-          rw some (both ∙ ap (λ (w : List ℕ). w ++ c ∷ []) front ∙ append_assoc (take n xs) (92 ∷ []) (c ∷ []))
-      | inr none ↦
-          let same : n + 0 ≡ n = omega arith in
-          rw (none, same) (take_more_set one n b (omega (arith, size)) ∙ ap (λ (w : List ℕ). w ++ b ∷ []) (take-set xs n 92))
+-- how many octets its escape adds
+abbrev pub extra : ℕ → ℕ
+extra b = bool_byte (not (eqb (letter_or_zero b) 0))
+
+has_letter : (b c : ℕ) → letter_of b ≡ Some c → c ≡ 0 → ⊥
+has_letter b c e same = grind (arith, nat_tests)
+
+-- what was put behind the first n, of which so many stay
+put_front : (xs ys : List ℕ) (n m k : ℕ) → n ≤ length xs → take (n + k) (put_mid n m xs ys) ≡ take n xs ++ take k (ys ++ post_of n m xs)
+put_front xs ys n m k within =
+    subst (λ (i : ℕ). take (i + k) (put_mid n m xs ys) ≡ take n xs ++ take k (ys ++ post_of n m xs)) (length-take-le n xs within) (take-append-add (take n xs) (ys ++ post_of n m xs) k)
+
+-- two octets put behind the first n, of which one or both stay: the octet is escaped there
+pub put_escaped : (xs ys : List ℕ) (n m b : ℕ) → n ≤ length xs → ys ≡ first b ∷ letter_or_zero b ∷ [] → take (n + (1 + extra b)) (put_mid n m xs ys) ≡ take n xs ++ escaped_octet b
+put_escaped xs ys n m b within e =
+    put_front xs ys n m (1 + extra b) within ∙ elim (option_cases (letter_of b)) [
+      | inl (c, some) ↦ rw (e, some, ne_eqb c 0 (has_letter b c some)) refl
+      | inr none ↦ rw (e, none) refl
     ]
 
 -- one more octet is escaped
-pub escaped_next : (xs front text : List ℕ) (n at : ℕ) → at < length text → n + 1 < length xs → take n xs ≡ front ++ escaped (take at text)
-    → take (n + extra (get_or text at 0) + 1) (set (set xs n 92) (n + extra (get_or text at 0)) (last (get_or text at 0))) ≡ front ++ escaped (take (at + 1) text)
-escaped_next xs front text n at inside lt so_far =
+pub escaped_next : (xs ys front text : List ℕ) (n m at : ℕ) → at < length text → n ≤ length xs → ys ≡ first (get_or text at 0) ∷ letter_or_zero (get_or text at 0) ∷ [] → take n xs ≡ front ++ escaped (take at text)
+    → take (n + (1 + extra (get_or text at 0))) (put_mid n m xs ys) ≡ front ++ escaped (take (at + 1) text)
+escaped_next xs ys front text n m at inside within e so_far =
     let b = get_or text at 0 in
-    put_escaped xs n b lt ∙ ap (λ (w : List ℕ). w ++ escaped_octet b) so_far ∙ append_assoc front (escaped (take at text)) (escaped_octet b) ∙ ap (λ (w : List ℕ). front ++ w) (sym (escaped_more text at inside))
+    put_escaped xs ys n m b within e ∙ ap (λ (w : List ℕ). w ++ escaped_octet b) so_far ∙ append_assoc front (escaped (take at text)) (escaped_octet b) ∙ ap (λ (w : List ℕ). front ++ w) (sym (escaped_more text at inside))
 
 -- an escape adds at most one octet
 pub extra-le : (b : ℕ) → extra b ≤ 1
-extra-le b = elim (option_cases (letter_of b)) [ inl (c, some) ↦ rw some (omega arith) | inr none ↦ rw none (omega arith) ]
+extra-le b = elim (cases_eq (letter_or_zero b) 0) [ inl none ↦ rw none (omega arith) | inr some ↦ rw (ne_eqb (letter_or_zero b) 0 some) (omega arith) ]
 
 -- a piece of the text is written behind
 pub piece_written : (old out new text : List ℕ) (at end : ℕ) → at ≤ end → new ≡ out ++ escaped (take (end - at) (drop at text)) → out ≡ old ++ escaped (take at text) → new ≡ old ++ escaped (take end text)
@@ -63,12 +73,6 @@ pub on_err : {T E P : Type 0} (r : Result T E) → P → OnErr r P
 on_err (Ok v) p = tt
 on_err (Err e) p = p
 
--- An octet other than a backslash is read as itself.
-pub reads_plain : (text : List ℕ) (at : ℕ) → at < length text → (get_or text at 0 ≡ 92 → ⊥) → with_front (take at text) (unescaped_from at (drop at text)) ≡ unescaped text
-    → with_front (take (at + 1) text) (unescaped_from (at + 1) (drop (at + 1) text)) ≡ unescaped text
-reads_plain text at lt ne so_far =
-    ap (λ (w : List ℕ). with_front w (unescaped_from (at + 1) (drop (at + 1) text))) (take_more text at 0 lt) ∙ goes_plain (take at text) text at (unescaped text) lt ne so_far
-
 -- An octet other than a backslash is read, and waits.
 pub read_plain : (out waiting new text : List ℕ) (at : ℕ) (total : Result (List ℕ) EscapeFault) → at < length text → (get_or text at 0 ≡ 92 → ⊥) → new ≡ waiting ++ get_or text at 0 ∷ [] → with_front (out ++ waiting) (unescaped_from at (drop at text)) ≡ total
     → with_front (out ++ new) (unescaped_from (at + 1) (drop (at + 1) text)) ≡ total
@@ -82,10 +86,3 @@ pub read_escape : (out waiting new text : List ℕ) (at o : ℕ) (total : Result
 read_escape out waiting new text at o total lt e h same so_far =
     let more : out ++ new ≡ out ++ waiting ++ o ∷ [] = ap (λ (w : List ℕ). out ++ w) same ∙ sym (append_assoc out waiting (o ∷ [])) in
     ap (λ (w : List ℕ). with_front w (unescaped_from (at + 2) (drop (at + 2) text))) more ∙ goes_escape (out ++ waiting) text at o total lt e h so_far
-
--- What waits is moved to what was read: the reading is the same.
-pub read_flushed : (out new waiting none text : List ℕ) (at : ℕ) → new ≡ out ++ waiting → none ≡ [] → with_front (out ++ waiting) (unescaped_from at (drop at text)) ≡ unescaped text
-    → with_front (new ++ none) (unescaped_from at (drop at text)) ≡ unescaped text
-read_flushed out new waiting none text at e f so_far =
-    let same : new ++ none ≡ out ++ waiting = ap (λ (w : List ℕ). new ++ w) f ∙ append-nil new ∙ e in
-    ap (λ (w : List ℕ). with_front w (unescaped_from at (drop at text))) same ∙ so_far

@@ -1,6 +1,6 @@
 //! A list of octets that grows.
 
-ghost use Rattle.std.specs.Prelude.{◌≡◌, ◌↔◌, ◌++◌, ◌∷◌, [], List, ℕ, length, take, IsTrue, IfOk, OnOk, OnErr};
+ghost use Rattle.std.specs.Prelude.{◌≡◌, ◌≤◌, ◌↔◌, ◌++◌, ◌∷◌, [], List, ℕ, length, take, IsTrue, IfOk, OnOk, OnErr};
 
 use crate::no_memory::NoMemory;
 use crate::room::Room;
@@ -66,9 +66,23 @@ impl Octets {
             let room = Room::Long(Vec::from_slice(alloc, octets)?);
             return Ok(Octets { alloc, room });
         }
-        let mut short = ShortOctets::new();
-        short.extend(octets);
-        let room = Room::Short(short);
+        let room = Room::Short(ShortOctets::from_slice(octets));
+        Ok(Octets { alloc, room })
+    }
+
+    /// The first `len` octets of a buffer.
+    pub(crate) fn from_piece(
+        alloc: Global,
+        piece: &[u8; 64],
+        len: usize,
+    ) -> Result<Octets, NoMemory>
+        requires { len ≤ 64 }
+        ensures { IfOk result (λ o. o ≡ take len piece.now) }
+    {
+        if len > ROOM {
+            return Octets::from_slice(alloc, &piece[..len]);
+        }
+        let room = Room::Short(ShortOctets::from_piece(piece, len));
         Ok(Octets { alloc, room })
     }
 

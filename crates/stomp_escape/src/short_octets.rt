@@ -1,6 +1,6 @@
 //! A few octets that lie in the value itself.
 
-ghost use Rattle.std.specs.Prelude.{◌≡◌, ◌++◌, ◌∷◌, [], ◌+◌, ◌<◌, ◌≤◌, ◌↔◌, length, take, IsTrue};
+ghost use Rattle.std.specs.Prelude.{◌≡◌, ◌++◌, ◌∷◌, [], ◌+◌, ◌*◌, ◌<◌, ◌≤◌, ◌↔◌, length, take, IsTrue};
 
 use std::marker::Model;
 
@@ -24,6 +24,35 @@ impl Model for ShortOctets {
     ghost invariant = { λ s. s.len ≤ 24 };
 }
 
+/// Copies these octets to the front by their first `half` and their last, which overlap where they aren't twice as many.
+#[inline(always)]
+fn copy_ends(octets: &[u8], to: &mut [u8; 24], half: usize)
+    requires least { half ≤ length octets.now }
+    requires most { length octets.now ≤ 2 * half }
+    requires fits { length octets.now ≤ 24 }
+    ensures { take (length octets.now) to.new ≡ octets.now }
+{
+    let rest = octets.len() - half;
+    to[..half].copy_from_slice(&octets[..half]);
+    to[rest..octets.len()].copy_from_slice(&octets[rest..]);
+}
+
+/// Copies these octets to the front, without a call: each part is of a known size.
+#[inline(always)]
+fn copy_front(octets: &[u8], to: &mut [u8; 24])
+    requires { length octets.now ≤ 24 }
+    ensures { take (length octets.now) to.new ≡ octets.now }
+{
+    match octets.len() {
+        0 => (),
+        1 => to[0] = octets[0],
+        2..4 => copy_ends(octets, to, 2),
+        4..8 => copy_ends(octets, to, 4),
+        8..16 => copy_ends(octets, to, 8),
+        _ => copy_ends(octets, to, 16),
+    }
+}
+
 impl ShortOctets {
     /// No octets.
     pub(crate) fn new() -> ShortOctets
@@ -33,6 +62,27 @@ impl ShortOctets {
             octets: [0; 24],
             len: 0,
         }
+    }
+
+    /// These octets, which fit.
+    pub(crate) fn from_slice(octets: &[u8]) -> ShortOctets
+        requires { length octets.now ≤ 24 }
+        ensures { result ≡ octets.now }
+    {
+        let mut short = ShortOctets::new();
+        copy_front(octets, &mut short.octets);
+        short.len = octets.len();
+        short
+    }
+
+    /// The first `len` octets of a buffer, which fit. So many octets as fit are copied, whatever `len` is.
+    pub(crate) fn from_piece(piece: &[u8; 64], len: usize) -> ShortOctets
+        requires { len ≤ 24 }
+        ensures { result ≡ take len piece.now }
+    {
+        let mut octets = [0; 24];
+        octets.copy_from_slice(&piece[..24]);
+        ShortOctets { octets, len }
     }
 
     /// How many there are.

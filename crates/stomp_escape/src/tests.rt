@@ -167,7 +167,7 @@ fn takes_letters(alloc: Global, len: usize) -> Result<bool, NoMemory> {
 /// Up to 24 octets lie in a list's own value: it stays what it is where it outgrows that.
 #[test]
 fn octets_outgrow_their_value(rt: HostRuntime) -> Result<(), Fail> {
-    for len in 21..=25 {
+    for len in 0..=25 {
         assert!(rt; grows_from(rt.alloc(), len)?);
         assert!(rt; takes_letters(rt.alloc(), len)?);
     }
@@ -229,6 +229,20 @@ fn escapes_at_each_place(rt: HostRuntime) -> Result<(), Fail> {
                 );
             }
         }
+    }
+    Ok(())
+}
+
+/// A text is read 64 octets at once: a fault is told by its place in the whole text.
+#[test]
+fn faults_at_each_place(rt: HostRuntime) -> Result<(), Fail> {
+    for place in 60..70 {
+        let undefined = with_piece(rt.alloc(), 80, place, b"\\t")?;
+        let found = unescape(rt.alloc(), undefined.as_slice()).err();
+        assert_eq!(rt; found, Some(EscapeFault::Undefined(place)));
+        let cut = with_piece(rt.alloc(), place, place, b"\\")?;
+        let found = unescape(rt.alloc(), cut.as_slice()).err();
+        assert_eq!(rt; found, Some(EscapeFault::Cut));
     }
     Ok(())
 }

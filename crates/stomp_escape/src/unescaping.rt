@@ -1,63 +1,63 @@
 //! Reading escapes.
 
-ghost use Rattle.std.specs.Prelude.{◌≡◌, ◌≤◌, ◌⊎◌, ℕ, List, length, take, drop, IfOk, IfErr, Ok, Err};
+ghost use Rattle.std.specs.Prelude.{◌≡◌, ◌≤◌, ◌<◌, ◌⊎◌, ℕ, List, length, take, drop, IfOk, IfErr, Ok, Err};
 ghost use Rattle.stomp_escape.specs.declared.fault.EscapeFault.{EscapeFault};
 ghost use Rattle.stomp_escape.specs.declared.fault.EscapeFault.TheVariants.{NoMemory};
 ghost use Rattle.stomp_escape.specs.Escape.{Spells, IsFirstFault, Gives};
-ghost use Rattle.stomp_escape.specs.Inner.Unescaping.{octet_of, unescaped, unescaped_after};
+ghost use Rattle.stomp_escape.specs.Inner.Unescaping.{octet_of, unescaped, unescaped_after, unescaped_from};
 
 use crate::fault::EscapeFault;
 use crate::octets::Octets;
 use std::alloc::Global;
 
-/// How many octets wait at most to be copied at once.
-const WAITING: usize = 64;
+/// How many octets of a text are read into a buffer, each as one octet or as a part of one.
+const PIECE: usize = 64;
+
+/// The octet whose escape has each letter, or 0 where there is none.
+const OCTETS: [u8; 256] = [
+    0, 0, 0, 0, 0, 0, 0, 0, 0, 0, 0, 0, 0, 0, 0, 0, 0, 0, 0, 0, 0, 0, 0, 0, 0, 0, 0, 0, 0, 0, 0, 0,
+    0, 0, 0, 0, 0, 0, 0, 0, 0, 0, 0, 0, 0, 0, 0, 0, 0, 0, 0, 0, 0, 0, 0, 0, 0, 0, 0, 0, 0, 0, 0, 0,
+    0, 0, 0, 0, 0, 0, 0, 0, 0, 0, 0, 0, 0, 0, 0, 0, 0, 0, 0, 0, 0, 0, 0, 0, 0, 0, 0, 0, b'\\', 0,
+    0, 0, 0, 0, 0, b':', 0, 0, 0, 0, 0, 0, 0, 0, 0, 0, b'\n', 0, 0, 0, b'\r', 0, 0, 0, 0, 0, 0, 0,
+    0, 0, 0, 0, 0, 0, 0, 0, 0, 0, 0, 0, 0, 0, 0, 0, 0, 0, 0, 0, 0, 0, 0, 0, 0, 0, 0, 0, 0, 0, 0, 0,
+    0, 0, 0, 0, 0, 0, 0, 0, 0, 0, 0, 0, 0, 0, 0, 0, 0, 0, 0, 0, 0, 0, 0, 0, 0, 0, 0, 0, 0, 0, 0, 0,
+    0, 0, 0, 0, 0, 0, 0, 0, 0, 0, 0, 0, 0, 0, 0, 0, 0, 0, 0, 0, 0, 0, 0, 0, 0, 0, 0, 0, 0, 0, 0, 0,
+    0, 0, 0, 0, 0, 0, 0, 0, 0, 0, 0, 0, 0, 0, 0, 0, 0, 0, 0, 0, 0, 0, 0, 0, 0, 0, 0, 0, 0, 0, 0, 0,
+    0, 0, 0, 0, 0, 0,
+];
 
 /// The octet whose escape has this letter, if there is one.
+#[inline(always)]
 fn octet_for(letter: u8) -> Option<u8>
     ensures { result ≡ octet_of letter }
 {
-    match letter {
-        b'r' => Some(b'\r'),
-        b'n' => Some(b'\n'),
-        b'c' => Some(b':'),
-        b'\\' => Some(b'\\'),
-        _ => None,
+    let octet = OCTETS[usize::from(letter)];
+    if octet == 0 {
+        return None;
     }
+    Some(octet)
 }
 
-/// The number of octets before the first backslash.
-fn plain_front(text: &[u8]) -> usize
-    ensures within { result ≤ length text.now }
-    ensures plain { unescaped_after (take result text.now) result (drop result text.now) ≡ unescaped text.now }
+/// Reads the octets that begin at most `PIECE` octets from this place on, up to the text's first fault. Returns where the text
+/// goes on, and how many octets were read.
+#[inline(always)]
+fn read_piece(
+    text: &[u8],
+    start: usize,
+    piece: &mut [u8; 64],
+) -> Result<(usize, usize), EscapeFault>
+    requires { start ≤ length text.now }
+    ensures onward { IfOk result (λ r. (start < length text.now → start < r.0) × (r.0 ≤ length text.now)) }
+    ensures fits { IfOk result (λ r. r.1 ≤ 64) }
+    ensures read { IfOk result (λ r. unescaped_after (take r.1 piece.new) r.0 (drop r.0 text.now) ≡ unescaped_from start (drop start text.now)) }
+    ensures fault { IfErr result (λ e. Err e ≡ unescaped_from start (drop start text.now)) }
 {
-    for at in 0..text.len() {
-        if text[at] == b'\\' {
-            return at;
-        }
-    }
-    text.len()
-}
-
-/// Reads the text from left to right, up to its first fault.
-fn read(alloc: Global, text: &[u8]) -> Result<Octets, EscapeFault>
-    ensures { Gives result (unescaped text.now) }
-{
-    let mut at = plain_front(text);
-    let mut out = Octets::from_slice(alloc, &text[..at])?;
-    if at == text.len() {
-        return Ok(out);
-    }
-    // What was read, and waits to be copied at once: `n` octets.
-    let mut waiting = [0u8; WAITING];
+    let end = start + PIECE.min(text.len() - start);
+    let mut at = start;
     let mut n = 0;
-    while at < text.len() {
-        if n == WAITING {
-            out.extend(&waiting[..n])?;
-            n = 0;
-        }
+    while at < end {
         if text[at] != b'\\' {
-            waiting[n] = text[at];
+            piece[n] = text[at];
             at += 1;
         } else if at + 1 == text.len() {
             return Err(EscapeFault::Cut);
@@ -65,12 +65,26 @@ fn read(alloc: Global, text: &[u8]) -> Result<Octets, EscapeFault>
             let Some(octet) = octet_for(text[at + 1]) else {
                 return Err(EscapeFault::Undefined(at));
             };
-            waiting[n] = octet;
+            piece[n] = octet;
             at += 2;
         }
         n += 1;
     }
-    out.extend(&waiting[..n])?;
+    Ok((at, n))
+}
+
+/// Reads the text from left to right, up to its first fault.
+fn read(alloc: Global, text: &[u8]) -> Result<Octets, EscapeFault>
+    ensures { Gives result (unescaped text.now) }
+{
+    let mut piece = [0u8; PIECE];
+    let (mut at, n) = read_piece(text, 0, &mut piece)?;
+    let mut out = Octets::from_piece(alloc, &piece, n)?;
+    while at < text.len() {
+        let (next, n) = read_piece(text, at, &mut piece)?;
+        out.extend(&piece[..n])?;
+        at = next;
+    }
     Ok(out)
 }
 

@@ -1,11 +1,12 @@
--- From the mask of 16 octets to those of them that are usual.
+-- From the mask of 16 octets to those of them that come before the first one that is sought.
 use Rattle.std.proofs.Common.{◌≡◌, ℕ, ◌+◌, ◌-◌, ◌%◌, ◌^◌, ◌<◌, ◌≤◌, Bool, true, false, not, ◌||◌, List, [], ◌∷◌, map, length, get_or, Fits, w8, refl, sym, ap, ap₂, ◌∙◌, subst, arith, inl, inr, replicate}
-use Rattle.std.proofs.lemmas.Bool.{agree_below, agree_below_at, not-true, cases_eq, eq-eqb, ne_eqb, cond-true, cond-false}
+use Rattle.std.proofs.lemmas.Bool.{agree_below, agree_below_at, not-true, cases_eq, eq-eqb, ne_eqb, cond-true, cond-false, both_ways, cases_lt}
 use Rattle.std.proofs.lemmas.Simd.{map-map, mask_l-mod, length-chunk, get_or-chunk, leading_from_mask_l, trailing_mask_l}
 use Rattle.std.proofs.lemmas.List.{length-map}
 use Rattle.std.proofs.lemmas.List.Sums.{prefix_len-le-length, prefix_len_passes}
 use Rattle.std.specs.List.{prefix_len}
 use lib.Lanes.{chunk, zip2, mask_l, top}
+use Rattle.stomp_frame.specs.Inner.PartialFrames.{IsUnfound}
 use Rattle.stomp_frame.specs.Inner.Usual.{is_usual, AreUsual, first_set}
 
 zip2-map : (h : ℕ → ℕ → ℕ) (f g : ℕ → ℕ) (xs : List ℕ) → zip2 h (map f xs) (map g xs) ≡ map (λ x. h (f x) (g x)) xs
@@ -62,3 +63,10 @@ module _ (d : List ℕ) (i r : ℕ) (z : List ℕ) (room : i + 16 ≤ length d)
   -- each octet at which no lane stops is usual
   pub run_usual : agree_below (λ x. stops x || is_usual x) (λ _. true) 256 ≡ true → AreUsual d i (i + r)
   run_usual all k from to = sym (ap (λ b. b || is_usual (get_or d k 0)) (goes_on k from to)) ∙ agree_below_at (λ x. stops x || is_usual x) (λ _. true) 256 (get_or d k 0) all (fits k).fits
+
+  -- an octet at which a lane stops is not among them
+  pub run_unfound : (b : ℕ) → stops b ≡ true → IsUnfound b d i → IsUnfound b d (i + r)
+  run_unfound b hit before k to e = elim (cases_lt k i) [
+    | inl front ↦ before k front e
+    | inr behind ↦ both_ways (stops b) (ap stops (sym e) ∙ goes_on k behind to) hit
+  ]

@@ -17,6 +17,7 @@ mod lines;
 mod name_kinds;
 mod parse;
 mod partial_frame;
+mod plain_front;
 mod raw_frame;
 mod reader;
 mod server_frame;

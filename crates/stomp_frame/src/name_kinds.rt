@@ -7,26 +7,28 @@ ghost use Rattle.stomp_frame.specs.Inner.NameKinds.{kind};
 #[inline(always)]
 fn kind(name: &[u8]) -> usize
     ensures value { result ≡ kind name.now }
-    ensures few { result < 64 }
+    ensures few { result < 128 }
 {
     if name.is_empty() {
         return 0;
     }
-    name.len() % 4 * 16 + usize::from(name[name.len() - 1]) % 16
+    name.len() % 8 * 16 + usize::from(name[name.len() - 1]) % 16
 }
 
-/// Whether each of the 64 kinds of names is among those of some names.
+/// Whether each of the 128 kinds of names is among those of some names.
 #[derive(Clone, Copy)]
 pub(crate) struct NameKinds {
-    pub(crate) among: [bool; 64],
+    pub(crate) among: [bool; 128],
 }
 
 impl NameKinds {
     /// None.
     pub(crate) fn new() -> NameKinds
-        ensures { result.among ≡ replicate 64 false }
+        ensures { result.among ≡ replicate 128 false }
     {
-        NameKinds { among: [false; 64] }
+        NameKinds {
+            among: [false; 128],
+        }
     }
 
     /// Whether the name's kind is among them. Else the name isn't.

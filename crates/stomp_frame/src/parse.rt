@@ -8,6 +8,7 @@ ghost use Rattle.stomp_frame.specs.Inner.PartialFrames.{IsUnfound};
 use crate::command::Command;
 use crate::fault::{Check, Stop};
 use crate::lines::{find_from, skip_eols};
+use crate::plain_front::plain_front;
 use std::alloc::Global;
 use stomp_escape::{EscapeFault, Octets, unescape};
 
@@ -23,6 +24,7 @@ pub(crate) fn parse_command(line: &[u8]) -> Result<Command, Stop>
 }
 
 /// The name or the value that a text is.
+#[inline(always)]
 #[tactic(auto, unfolding(crate::specs::Inner::Parser::field_of))]
 fn parse_field(alloc: Global, escapes: bool, text: &[u8]) -> Result<Octets, Stop>
     ensures { Returns (λ x. x) result (field_of escapes text.now) }
@@ -36,21 +38,6 @@ fn parse_field(alloc: Global, escapes: bool, text: &[u8]) -> Result<Octets, Stop
         Err(EscapeFault::Undefined(_)) => Err(Stop::Fault(Check::BadEscape)),
         Err(EscapeFault::Cut) => Err(Stop::Fault(Check::BadEscape)),
     }
-}
-
-/// How many octets at the front of a line are neither a colon nor a backslash.
-#[tactic(auto, using(crate::proofs::Unfound::unfound_more))]
-fn plain_front(line: &[u8]) -> usize
-    ensures within { result ≤ length line.now }
-    ensures colon { IsUnfound 58 line.now result }
-    ensures backslash { IsUnfound 92 line.now result }
-{
-    for at in 0..line.len() {
-        if line[at] == b':' || line[at] == b'\\' {
-            return at;
-        }
-    }
-    line.len()
 }
 
 /// What comes before the first colon of a line, what comes after it, and whether the first of these has a backslash.

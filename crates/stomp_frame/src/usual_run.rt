@@ -6,11 +6,11 @@ ghost use Rattle.stomp_frame.specs.Inner.Usual.{AreUsual, first_set};
 use std::simd::prelude::*;
 
 /// How many octets are looked at at once.
-const LANES: usize = 16;
+pub(crate) const LANES: usize = 16;
 
 /// The place of the lowest bit that is set, or 16.
 #[inline(always)]
-fn first_set(mask: u64) -> usize
+pub(crate) fn first_set(mask: u64) -> usize
     ensures { result ≡ first_set mask }
 {
     if mask == 0 {

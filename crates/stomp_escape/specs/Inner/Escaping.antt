@@ -7,10 +7,6 @@ use Rattle.stomp_escape.specs.Escape.{letter_of}
 abbrev pub letter_or_zero : ℕ → ℕ
 letter_or_zero b = option_map_or (λ c. c) (letter_of b) 0
 
--- how many octets its escape adds
-abbrev pub extra : ℕ → ℕ
-extra b = option_map_or (λ c. 1) (letter_of b) 0
-
--- the last octet as which it is written
-abbrev pub last : ℕ → ℕ
-last b = option_map_or (λ c. c) (letter_of b) b
+-- the first octet as which it is written
+abbrev pub first : ℕ → ℕ
+first b = option_map_or (λ c. 92) (letter_of b) b

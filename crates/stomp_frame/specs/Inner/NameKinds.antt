@@ -3,9 +3,9 @@ use Rattle.std.specs.Prelude.{◌≡◌, ℕ, ◌+◌, ◌-◌, ◌*◌, ◌%◌
 use Rattle.std.specs.List.{AllByRecursion}
 use Rattle.stomp_frame.specs.Headers.{Header}
 
--- one of 64, by the name's length and its last octet
+-- one of 128, by the name's length and its last octet
 abbrev pub kind : List ℕ → ℕ
-kind name = (length name % 4) * 16 + slice_index name (length name - 1) % 16
+kind name = (length name % 8) * 16 + slice_index name (length name - 1) % 16
 
 -- the kind of each header's name is among these
 abbrev pub HaveKinds : List Bool → List Header → Type 0

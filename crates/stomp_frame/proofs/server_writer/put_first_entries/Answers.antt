@@ -18,7 +18,7 @@ loop-i-preserved c =
     let inside : kind name < length among = omega (arith, c.loop-i.invariant.sized) in
     let all_kinds : HaveKinds (set among (kind name) true) (take (i + 1) sent) = subst (HaveKinds (set among (kind name) true)) (sym (taken sent i h c.pair.ensures.value)) (kinds_more among (take i sent) h inside c.loop-i.invariant.kinds) in
     let kinds : HaveKinds c.add.new.self.among (take (i + 1) sent) = subst (λ (a : List Bool). HaveKinds a (take (i + 1) sent)) (sym c.add.ensures) all_kinds in
-    let sized : length c.add.new.self.among ≡ 64 = ap length c.add.ensures ∙ length-set among (kind name) true ∙ c.loop-i.invariant.sized in
+    let sized : length c.add.new.self.among ≡ 128 = ap length c.add.ensures ∙ length-set among (kind name) true ∙ c.loop-i.invariant.sized in
     elim c.if-not-is_dropped.branch [
       | then-not-is_dropped+in_ok-put_header w ↦
           let absent : has (seen (take i sent)) name ≡ false = sym c.is_dropped.ensures ∙ grind arith in

@@ -8,6 +8,6 @@ abbrev pub invariant-loop-i : goal.invariant-loop-i
 invariant-loop-i l = record {
   written : l.out ++ due l.sent l.i ≡ l.fn.out ++ due l.sent 0;
   grown : Extends l.fn.out l.out;
-  sized : length l.kinds.among ≡ 64;
+  sized : length l.kinds.among ≡ 128;
   kinds : HaveKinds l.kinds.among (take l.i l.sent);
 }

@@ -1,5 +1,5 @@
 use Rattle.stomp_frame.specs.Inner.PartialFrames.{IsUnfound}
-use Rattle.stomp_frame.proofs.parse.plain_front.Given as goal
+use Rattle.stomp_frame.proofs.plain_front.plain_front.Given as goal
 
 abbrev pub invariant-loop-at : goal.invariant-loop-at
 invariant-loop-at l = record {
