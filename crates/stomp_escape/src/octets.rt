@@ -70,19 +70,16 @@ impl Octets {
         Ok(Octets { alloc, room })
     }
 
-    /// The first `len` octets of a buffer.
-    pub(crate) fn from_piece(
-        alloc: Global,
-        piece: &[u8; 64],
-        len: usize,
-    ) -> Result<Octets, NoMemory>
-        requires { len ≤ 64 }
-        ensures { IfOk result (λ o. o ≡ take len piece.now) }
+    /// A copy of the first `len` octets of a text. Where the text has 24 octets, a few are copied faster than by `from_slice`.
+    #[inline]
+    pub fn from_front(alloc: Global, text: &[u8], len: usize) -> Result<Octets, NoMemory>
+        requires { len ≤ length text.now }
+        ensures { IfOk result (λ o. o ≡ take len text.now) }
     {
-        if len > ROOM {
-            return Octets::from_slice(alloc, &piece[..len]);
+        if len > ROOM || text.len() < ROOM {
+            return Octets::from_slice(alloc, &text[..len]);
         }
-        let room = Room::Short(ShortOctets::from_piece(piece, len));
+        let room = Room::Short(ShortOctets::from_front(text, len));
         Ok(Octets { alloc, room })
     }
 

@@ -75,13 +75,15 @@ impl ShortOctets {
         short
     }
 
-    /// The first `len` octets of a buffer, which fit. So many octets as fit are copied, whatever `len` is.
-    pub(crate) fn from_piece(piece: &[u8; 64], len: usize) -> ShortOctets
-        requires { len ≤ 24 }
-        ensures { result ≡ take len piece.now }
+    /// The first `len` octets of a text, which fit. As many as fit are copied, whatever `len` is.
+    #[inline(always)]
+    pub(crate) fn from_front(text: &[u8], len: usize) -> ShortOctets
+        requires fits { len ≤ 24 }
+        requires there { 24 ≤ length text.now }
+        ensures { result ≡ take len text.now }
     {
         let mut octets = [0; 24];
-        octets.copy_from_slice(&piece[..24]);
+        octets.copy_from_slice(&text[..24]);
         ShortOctets { octets, len }
     }
 

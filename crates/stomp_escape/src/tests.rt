@@ -174,6 +174,18 @@ fn octets_outgrow_their_value(rt: HostRuntime) -> Result<(), Fail> {
     Ok(())
 }
 
+/// The first octets of a text that is longer or shorter than what lies in a list's own value, or just so long.
+#[test]
+fn fronts_are_copied(rt: HostRuntime) -> Result<(), Fail> {
+    for text in [&LETTERS[..7], &LETTERS[..24], LETTERS] {
+        for len in 0..=text.len() {
+            let front = Octets::from_front(rt.alloc(), text, len)?;
+            assert!(rt; is(&front, &text[..len]));
+        }
+    }
+    Ok(())
+}
+
 /// Octets that repeat a piece.
 fn repeated(alloc: Global, piece: &[u8], count: usize) -> Result<Octets, NoMemory> {
     let mut octets = Octets::new(alloc);

@@ -10,7 +10,7 @@ use crate::fault::EscapeFault;
 use crate::octets::Octets;
 use std::alloc::Global;
 
-/// How many octets of a text are read into a buffer, each as one octet or as a part of one.
+/// How many octets of a text are read at once, into a buffer: each as one octet, or an escape's two as one.
 const PIECE: usize = 64;
 
 /// The octet whose escape has each letter, or 0 where there is none.
@@ -38,8 +38,8 @@ fn octet_for(letter: u8) -> Option<u8>
     Some(octet)
 }
 
-/// Reads the octets that begin at most `PIECE` octets from this place on, up to the text's first fault. Returns where the text
-/// goes on, and how many octets were read.
+/// Reads the text from this place on, up to its first fault, until `PIECE` octets of it are read; an escape that begins among
+/// these is read whole. Returns where the text goes on, and how many octets it was read as.
 #[inline(always)]
 fn read_piece(
     text: &[u8],
@@ -49,7 +49,8 @@ fn read_piece(
     requires { start ≤ length text.now }
     ensures onward { IfOk result (λ r. (start < length text.now → start < r.0) × (r.0 ≤ length text.now)) }
     ensures fits { IfOk result (λ r. r.1 ≤ 64) }
-    ensures read { IfOk result (λ r. unescaped_after (take r.1 piece.new) r.0 (drop r.0 text.now) ≡ unescaped_from start (drop start text.now)) }
+    ensures read { IfOk result (λ r. unescaped_after (take r.1 piece.new) r.0 (drop r.0 text.now)
+        ≡ unescaped_from start (drop start text.now)) }
     ensures fault { IfErr result (λ e. Err e ≡ unescaped_from start (drop start text.now)) }
 {
     let end = start + PIECE.min(text.len() - start);
@@ -79,7 +80,7 @@ fn read(alloc: Global, text: &[u8]) -> Result<Octets, EscapeFault>
 {
     let mut piece = [0u8; PIECE];
     let (mut at, n) = read_piece(text, 0, &mut piece)?;
-    let mut out = Octets::from_piece(alloc, &piece, n)?;
+    let mut out = Octets::from_front(alloc, &piece, n)?;
     while at < text.len() {
         let (next, n) = read_piece(text, at, &mut piece)?;
         out.extend(&piece[..n])?;

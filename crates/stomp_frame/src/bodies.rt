@@ -1,6 +1,6 @@
 //! Reading a body.
 
-ghost use Rattle.std.specs.Prelude.{◌≡◌, ◌≤◌, length, drop, IfOk};
+ghost use Rattle.std.specs.Prelude.{◌≡◌, ◌≤◌, length, take, drop, IfOk};
 ghost use Rattle.stomp_frame.specs.Inner.Parser.{Returns, counted_at, uncounted_at};
 ghost use Rattle.stomp_frame.specs.Inner.PartialFrames.{IsUnfound, body_length, body_of};
 
@@ -33,6 +33,7 @@ pub(crate) fn length_from(limits: &Limits, headers: &Headers) -> Result<Option<u
 #[tactic(auto, unfolding(crate::specs::Inner::Parser::counted_at))]
 fn take_counted(n: usize, text: &[u8]) -> Result<(&[u8], usize), Stop>
     ensures read { Returns (λ x. (x.0.now, drop x.1 text.now)) result (counted_at n text.now) }
+    ensures front { IfOk result (λ x. x.0.now ≡ take (length x.0.now) text.now) }
     ensures end { IfOk result (λ x. x.1 ≤ length text.now) }
 {
     if text.len() <= n {
@@ -54,6 +55,7 @@ fn take_uncounted<'a>(
     requires unfound { IsUnfound 0 text.now searched.old }
     ensures read { Returns (λ x. (x.0.now, drop x.1 text.now)) result
         (uncounted_at limits.now text.now) }
+    ensures front { IfOk result (λ x. x.0.now ≡ take (length x.0.now) text.now) }
     ensures end { IfOk result (λ x. x.1 ≤ length text.now) }
     ensures within { searched.new ≤ length text.now }
     ensures unfound { IsUnfound 0 text.now searched.new }
@@ -88,6 +90,7 @@ pub(crate) fn take_body<'a>(
     requires unfound { IsUnfound 0 text.now searched.old }
     ensures read { Returns (λ x. (x.0.now, drop x.1 text.now)) result
         (body_of limits.now counted text.now) }
+    ensures front { IfOk result (λ x. x.0.now ≡ take (length x.0.now) text.now) }
     ensures end { IfOk result (λ x. x.1 ≤ length text.now) }
     ensures within { searched.new ≤ length text.now }
     ensures unfound { IsUnfound 0 text.now searched.new }

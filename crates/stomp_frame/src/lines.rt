@@ -17,7 +17,8 @@ const SHORT: usize = 32;
 
 /// The line without one CR at its end.
 fn without_cr(line: &[u8]) -> &[u8]
-    ensures { result.now ≡ without_cr line.now }
+    ensures value { result.now ≡ without_cr line.now }
+    ensures front { result.now ≡ take (length result.now) line.now }
 {
     match line {
         [front @ .., b'\r'] => front,
@@ -50,7 +51,8 @@ fn is_plain(content: &[u8]) -> bool
 #[tactic(auto, unfolding(crate::specs::Inner::Parser::checked))]
 fn check<'a>(limits: &Limits, content: &'a [u8], usual: usize) -> Result<&'a [u8], Stop>
     requires { length content.now ≤ usual → AreUsual content.now 0 (length content.now) }
-    ensures { Returns (λ x. x.now) result (checked limits.now content.now) }
+    ensures checked { Returns (λ x. x.now) result (checked limits.now content.now) }
+    ensures same { IfOk result (λ x. x.now ≡ content.now) }
 {
     if content.len() > limits.line {
         return Err(Stop::Fault(Check::LineTooLong));
@@ -99,6 +101,7 @@ pub(crate) fn take_line<'a>(
     requires unfound { IsUnfound 10 text.now searched.old }
     ensures read { Returns (λ x. (x.0.now, drop x.1 text.now)) result
         (line_at limits.now text.now) }
+    ensures front { IfOk result (λ x. x.0.now ≡ take (length x.0.now) text.now) }
     ensures end { IfOk result (λ x. (0 < x.1) × (x.1 ≤ length text.now)) }
     ensures within { searched.new ≤ length text.now }
     ensures unfound { IsUnfound 10 text.now searched.new }

@@ -1,14 +1,13 @@
 //! Reading a command, a header, and end-of-lines.
 
-ghost use Rattle.std.specs.Prelude.{◌≡◌, ◌≤◌, Bool, false, length, drop, Ok, IfSome};
+ghost use Rattle.std.specs.Prelude.{◌≡◌, ◌+◌, ◌<◌, ◌≤◌, Bool, true, length, take, drop, Ok, IfSome};
 ghost use Rattle.std.specs.Option.{option_map};
 ghost use Rattle.stomp_frame.specs.Inner.Parser.{Returns, after_eols, command_of, cut, field_of, header_of};
-ghost use Rattle.stomp_frame.specs.Inner.PartialFrames.{IsUnfound};
 
 use crate::command::Command;
 use crate::fault::{Check, Stop};
+use crate::front_without::front_without;
 use crate::lines::{find_from, skip_eols};
-use crate::plain_front::plain_front;
 use std::alloc::Global;
 use stomp_escape::{EscapeFault, Octets, unescape};
 
@@ -40,48 +39,69 @@ fn parse_field(alloc: Global, escapes: bool, text: &[u8]) -> Result<Octets, Stop
     }
 }
 
-/// What comes before the first colon of a line, what comes after it, and whether the first of these has a backslash.
-fn split_at_colon(line: &[u8]) -> Option<(&[u8], &[u8], bool)>
-    ensures parts { option_map (λ p. (p.0.now, p.1.now)) result ≡ cut 58 line.now }
+/// The place of the first colon of a line, and whether no backslash comes before it. The line is the front of the text.
+#[inline(always)]
+fn find_colon(line: &[u8], text: &[u8]) -> Option<(usize, bool)>
+    requires { line.now ≡ take (length line.now) text.now }
+    ensures within { IfSome result (λ p. p.0 < length line.now) }
+    ensures parts { option_map (λ p. (take p.0 line.now, drop (p.0 + 1) line.now)) result ≡ cut 58 line.now }
     ensures plain { (escapes : Bool) → IfSome result
-        (λ p. p.2 ≡ false → field_of escapes p.0.now ≡ Ok p.0.now) }
+        (λ p. p.1 ≡ true → field_of escapes (take p.0 line.now) ≡ Ok (take p.0 line.now)) }
 {
-    let plain = plain_front(line);
+    let plain = front_without(text, line.len(), b':', b'\\');
     let at = find_from(b':', line, plain, line.len())?;
-    Some((&line[..at], &line[at + 1..], plain < at))
+    Some((at, plain >= at))
 }
 
-/// A header's name, which is copied as it is where it has no backslash.
-fn parse_name(alloc: Global, escapes: bool, name: &[u8], backslash: bool) -> Result<Octets, Stop>
-    requires { backslash ≡ false → field_of escapes name.now ≡ Ok name.now }
-    ensures { Returns (λ x. x) result (field_of escapes name.now) }
+/// A name or a value, which is the front of a text. It is copied as it is where it is plain: where it has no backslash.
+#[inline(always)]
+fn parse_front(
+    alloc: Global,
+    escapes: bool,
+    field: &[u8],
+    text: &[u8],
+    plain: bool,
+) -> Result<Octets, Stop>
+    requires front { field.now ≡ take (length field.now) text.now }
+    requires plain { plain ≡ true → field_of escapes field.now ≡ Ok field.now }
+    ensures { Returns (λ x. x) result (field_of escapes field.now) }
 {
-    if backslash {
-        return parse_field(alloc, escapes, name);
+    if plain {
+        return Ok(Octets::from_front(alloc, text, field.len())?);
     }
-    Ok(Octets::from_slice(alloc, name)?)
+    parse_field(alloc, escapes, field)
 }
 
-/// The name and the value of a header's line.
+/// A header's value, which is the front of a text.
+#[inline(always)]
+fn parse_value(alloc: Global, escapes: bool, value: &[u8], text: &[u8]) -> Result<Octets, Stop>
+    requires { value.now ≡ take (length value.now) text.now }
+    ensures { Returns (λ x. x) result (field_of escapes value.now) }
+{
+    let plain = front_without(text, value.len(), b'\\', b'\\') == value.len();
+    parse_front(alloc, escapes, value, text, plain)
+}
+
+/// The name and the value of a header's line, which is the front of a text.
 #[tactic(auto, unfolding(crate::specs::Inner::Parser::header_of))]
 pub(crate) fn parse_header(
     alloc: Global,
     escapes: bool,
     line: &[u8],
+    text: &[u8],
 ) -> Result<(Octets, Octets), Stop>
+    requires { line.now ≡ take (length line.now) text.now }
     ensures { Returns (λ x. x) result (header_of escapes line.now) }
 {
-    match split_at_colon(line) {
-        None => Err(Stop::Fault(Check::BadHeader)),
-        Some((name, value, backslash)) => {
-            if name.is_empty() {
-                return Err(Stop::Fault(Check::BadHeader));
-            }
-            let name = parse_name(alloc, escapes, name, backslash)?;
-            let value = parse_field(alloc, escapes, value)?;
-            Ok((name, value))
-        }
+    let Some((at, plain)) = find_colon(line, text) else {
+        return Err(Stop::Fault(Check::BadHeader));
+    };
+    if at == 0 {
+        return Err(Stop::Fault(Check::BadHeader));
     }
+    let name = parse_front(alloc, escapes, &line[..at], text, plain)?;
+    let value = parse_value(alloc, escapes, &line[at + 1..], &text[at + 1..])?;
+    Ok((name, value))
 }
 
 /// Where the end-of-lines that begin at this place end.

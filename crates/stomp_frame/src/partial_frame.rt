@@ -97,13 +97,14 @@ impl PartialFrame {
         ensures stops { IfErr result (λ e. Stops e (frame_at limits.now text.now)) }
         ensures onward { OnOk result (self.old.parsed < self.new.parsed) }
     {
-        let (line, next) = take_line(limits, &text[self.parsed..], &mut self.searched)?;
+        let rest = &text[self.parsed..];
+        let (line, next) = take_line(limits, rest, &mut self.searched)?;
         if line.is_empty() {
             self.awaited = Awaited::Body(command, length_from(limits, &self.headers)?);
         } else if self.headers.len() >= limits.headers {
             return Err(Stop::Fault(Check::TooManyHeaders));
         } else {
-            let (name, value) = parse_header(alloc, command.has_escapes(), line)?;
+            let (name, value) = parse_header(alloc, command.has_escapes(), line, rest)?;
             self.headers.push(name, value)?;
         }
         self.parsed += next;
@@ -130,13 +131,16 @@ impl PartialFrame {
     {
         let rest = &text[self.parsed..];
         let (body, next) = take_body(limits, counted, rest, &mut self.searched)?;
-        let body = Octets::from_slice(alloc, body)?;
+        let body = Octets::from_front(alloc, rest, body.len())?;
         let end = self.parsed + next;
-        let partial = mem::replace(self, PartialFrame::new(alloc));
+        let headers = mem::replace(&mut self.headers, Headers::new(alloc));
+        self.awaited = Awaited::CommandLine;
+        self.parsed = 0;
+        self.searched = 0;
         Ok((
             RawFrame {
                 command,
-                headers: partial.headers,
+                headers,
                 body,
             },
             end,

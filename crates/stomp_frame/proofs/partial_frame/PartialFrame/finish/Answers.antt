@@ -1,3 +1,4 @@
+use Rattle.std.proofs.Common.{sym}
 use Rattle.std.proofs.lemmas.List.{take_rest}
 use Rattle.std.proofs.lemmas.Result.{err_from_is_err_and}
 use Rattle.stomp_frame.proofs.PartialFrames.{body_stops, body_whole}
@@ -16,4 +17,4 @@ returns-clause-read c =
     let partial = c.args.self.now in
     let text = c.args.text.now in
     let read = rw (take_rest text partial.parsed) at c.in_ok-body.ensures.read in
-    rw (c.replace-partial.ensures.value, c.in_ok-body-2.ensures) (body_whole c.args.limits.now text partial.awaited partial.headers partial.parsed partial.searched c.in_ok-body.next c.args.command c.args.counted c.in_ok-body.body.now c.requires.awaited c.requires.partial read)
+    rw (c.replace-headers.ensures.value, c.in_ok-body-2.ensures, sym c.in_ok-body.ensures.front) (body_whole c.args.limits.now text partial.awaited partial.headers partial.parsed partial.searched c.in_ok-body.next c.args.command c.args.counted c.in_ok-body.body.now c.requires.awaited c.requires.partial read)
