@@ -1,5 +1,5 @@
 -- What is read is spelled so, and what is spelled so is read.
-use Rattle.std.proofs.Common.{◌≡◌, ◌≢◌, ℕ, ◌+◌, ◌⊎◌, inl, inr, List, [], ◌∷◌, ◌++◌, length, Option, Some, None, Result, Ok, Err, refl, sym, ap, subst, ◌∙◌, arith}
+use Rattle.std.proofs.Common.{◌≡◌, ◌≢◌, ℕ, ◌+◌, ◌⊎◌, inl, inr, List, [], ◌∷◌, ◌++◌, length, Some, None, Result, Ok, Err, refl, sym, ap, subst, ◌∙◌, arith}
 use Rattle.std.specs.Prelude.{IfOk, IfErr}
 use Rattle.std.specs.List.{AllByRecursion}
 use Rattle.std.proofs.lemmas.Bool.{cases_eq}
@@ -10,6 +10,7 @@ use Rattle.stomp_escape.specs.declared.fault.EscapeFault.TheVariants.{Undefined,
 use Rattle.stomp_escape.specs.Escape.{letter_of, escaped_octet, escaped, Spells, IsFirstFault, IsSpelled, IsFaulty, IsUnbroken, Gives}
 use Rattle.stomp_escape.specs.Inner.Unescaping.{octet_of, before, unescaped_from, unescaped, with_front}
 use Rattle.stomp_escape.proofs.Steps.{plain_at, escape_at, undefined_at, cut_at, nothing_at}
+use Rattle.stomp_escape.proofs.Letters.{option_cases}
 
 -- An escaped text spells what was escaped.
 pub Spells-escaped : (v : List ℕ) → Spells (escaped v) v
@@ -35,10 +36,6 @@ with_front-nil (Err e) = refl
 before-with_front : (b : ℕ) (v : List ℕ) (r : Result (List ℕ) EscapeFault) → before b (with_front v r) ≡ with_front (b ∷ v) r
 before-with_front b v (Ok w) = refl
 before-with_front b v (Err e) = refl
-
-option_cases : (o : Option ℕ) → ((c : ℕ) × (o ≡ Some c)) ⊎ (o ≡ None)
-option_cases None = inr refl
-option_cases (Some c) = inl (c, refl)
 
 -- Reading goes through what is spelled.
 pub through : (v front tail : List ℕ) (at : ℕ) → Spells front v → unescaped_from at (front ++ tail) ≡ with_front v (unescaped_from (at + length front) tail)

@@ -4,16 +4,18 @@ use Rattle.std.proofs.lemmas.Bool.{agree_below_at, eqb-true}
 use Rattle.std.specs.List.{flat_map, range_with_len}
 use Rattle.std.specs.Option.{option_map_or}
 use Rattle.std.proofs.lemmas.Bool.Decides.{nat_tests}
-use Rattle.stomp_escape.specs.Inner.Escaping.{first, letter_or_zero}
+use Rattle.stomp_escape.specs.Inner.Escaping.{first_written, letter_or_zero}
 use Rattle.stomp_escape.specs.Inner.Unescaping.{octet_of}
 
 -- each octet as it is written, in two places
 abbrev pub table : List ℕ
-table = flat_map (λ b. first b ∷ letter_or_zero b ∷ []) (range_with_len 0 256)
+table = flat_map (λ b. first_written b ∷ letter_or_zero b ∷ []) (range_with_len 0 256)
 
-pub first_at : (b : ℕ) → b < 256 → get_or table (2 * b) 0 ≡ first b
-first_at b lt = eqb-true _ _ (agree_below_at (λ x. eqb (get_or table (2 * x) 0) (first x)) (λ _. true) 256 b refl lt)
+-- the first of an octet's two places
+pub first_at : (b : ℕ) → b < 256 → get_or table (2 * b) 0 ≡ first_written b
+first_at b lt = eqb-true _ _ (agree_below_at (λ x. eqb (get_or table (2 * x) 0) (first_written x)) (λ _. true) 256 b refl lt)
 
+-- and the second
 pub second_at : (b : ℕ) → b < 256 → get_or table (2 * b + 1) 0 ≡ letter_or_zero b
 second_at b lt = eqb-true _ _ (agree_below_at (λ x. eqb (get_or table (2 * x + 1) 0) (letter_or_zero x)) (λ _. true) 256 b refl lt)
 
@@ -24,9 +26,10 @@ octets = replicate 92 0 ++ 92 ∷ (replicate 6 0 ++ 58 ∷ (replicate 10 0 ++ 10
 octet_at : (c : ℕ) → c < 256 → get_or octets c 0 ≡ option_map_or (λ o. o) (octet_of c) 0
 octet_at c lt = eqb-true _ _ (agree_below_at (λ x. eqb (get_or octets x 0) (option_map_or (λ o. o) (octet_of x) 0)) (λ _. true) 256 c refl lt)
 
-octet_cases : (o : Option ℕ) → ((b : ℕ) × (o ≡ Some b)) ⊎ (o ≡ None)
-octet_cases None = inr refl
-octet_cases (Some b) = inl (b, refl)
+-- an option is Some or None
+pub option_cases : (o : Option ℕ) → ((b : ℕ) × (o ≡ Some b)) ⊎ (o ≡ None)
+option_cases None = inr refl
+option_cases (Some b) = inl (b, refl)
 
 octet_some : (c b : ℕ) → octet_of c ≡ Some b → b ≡ 0 → ⊥
 octet_some c b e same = grind (arith, nat_tests)
@@ -35,7 +38,7 @@ octet_some c b e same = grind (arith, nat_tests)
 pub octet_none : (c : ℕ) → c < 256 → get_or octets c 0 ≡ 0 → None ≡ octet_of c
 octet_none c lt zero =
     let found = octet_at c lt in
-    elim (octet_cases (octet_of c)) [
+    elim (option_cases (octet_of c)) [
       | inl (b, some) ↦ absurd (octet_some c b some (sym (found ∙ ap (λ o. option_map_or (λ x. x) o 0) some) ∙ zero))
       | inr none ↦ sym none
     ]
@@ -44,7 +47,7 @@ octet_none c lt zero =
 pub octet_found : (c : ℕ) → c < 256 → (get_or octets c 0 ≡ 0 → ⊥) → Some (get_or octets c 0) ≡ octet_of c
 octet_found c lt ne =
     let found = octet_at c lt in
-    elim (octet_cases (octet_of c)) [
+    elim (option_cases (octet_of c)) [
       | inl (b, some) ↦ ap (λ (x : ℕ). Some x) (found ∙ ap (λ o. option_map_or (λ x. x) o 0) some) ∙ sym some
       | inr none ↦ absurd (ne (found ∙ ap (λ o. option_map_or (λ x. x) o 0) none))
     ]

@@ -1,10 +1,10 @@
 -- What was written or read, and what waits to be copied behind it.
-use Rattle.std.proofs.Common.{◌≡◌, ℕ, ◌+◌, ◌-◌, ◌<◌, ◌≤◌, ◌⊎◌, inl, inr, List, [], ◌∷◌, ◌++◌, length, take, drop, get_or, not, eqb, subst, Option, Some, None, Result, Ok, Err, refl, sym, ap, ◌∙◌, append_assoc, arith, take-add}
+use Rattle.std.proofs.Common.{◌≡◌, ℕ, ◌+◌, ◌-◌, ◌<◌, ◌≤◌, inl, inr, List, [], ◌∷◌, ◌++◌, length, take, drop, get_or, not, eqb, subst, Some, Result, Ok, Err, refl, sym, ap, ◌∙◌, append_assoc, arith, take-add}
 use Rattle.std.specs.Prelude.{OnErr}
 use Rattle.std.proofs.lemmas.List.{append-nil, take_more, take-append-drop, length-take-le}
 use Rattle.std.proofs.lemmas.Grind.{flat_map-append}
 use Rattle.stomp_escape.specs.Escape.{letter_of, escaped_octet, escaped, AppendsFront}
-use Rattle.stomp_escape.specs.Inner.Escaping.{first, letter_or_zero}
+use Rattle.stomp_escape.specs.Inner.Escaping.{first_written, letter_or_zero}
 use mir.Val.{bool_byte}
 use borrow.Rule.Slice.PartMut.{put_mid, post_of}
 use Rattle.std.proofs.lemmas.Bool.{cases_eq, ne_eqb}
@@ -13,15 +13,12 @@ use Rattle.std.proofs.Math.Seq.{take-append-add}
 use Rattle.stomp_escape.specs.declared.fault.EscapeFault.{EscapeFault}
 use Rattle.stomp_escape.specs.Inner.Unescaping.{octet_of, unescaped_from, with_front}
 use Rattle.stomp_escape.proofs.Steps.{goes_plain, goes_escape}
+use Rattle.stomp_escape.proofs.Letters.{option_cases}
 
 escaped_more : (text : List ℕ) (at : ℕ) → at < length text → escaped (take (at + 1) text) ≡ escaped (take at text) ++ escaped_octet (get_or text at 0)
 escaped_more text at lt =
     let b = get_or text at 0 in
     ap escaped (take_more text at 0 lt) ∙ flat_map-append escaped_octet (take at text) (b ∷ []) ∙ ap (λ (w : List ℕ). escaped (take at text) ++ w) (append-nil (escaped_octet b))
-
-option_cases : (o : Option ℕ) → ((c : ℕ) × (o ≡ Some c)) ⊎ (o ≡ None)
-option_cases None = inr refl
-option_cases (Some c) = inl (c, refl)
 
 -- how many octets its escape adds
 abbrev pub extra : ℕ → ℕ
@@ -30,13 +27,13 @@ extra b = bool_byte (not (eqb (letter_or_zero b) 0))
 has_letter : (b c : ℕ) → letter_of b ≡ Some c → c ≡ 0 → ⊥
 has_letter b c e same = grind (arith, nat_tests)
 
--- what was put behind the first n, of which so many stay
+-- what was put after the first n, of which k stay
 put_front : (xs ys : List ℕ) (n m k : ℕ) → n ≤ length xs → take (n + k) (put_mid n m xs ys) ≡ take n xs ++ take k (ys ++ post_of n m xs)
 put_front xs ys n m k within =
     subst (λ (i : ℕ). take (i + k) (put_mid n m xs ys) ≡ take n xs ++ take k (ys ++ post_of n m xs)) (length-take-le n xs within) (take-append-add (take n xs) (ys ++ post_of n m xs) k)
 
--- two octets put behind the first n, of which one or both stay: the octet is escaped there
-pub put_escaped : (xs ys : List ℕ) (n m b : ℕ) → n ≤ length xs → ys ≡ first b ∷ letter_or_zero b ∷ [] → take (n + (1 + extra b)) (put_mid n m xs ys) ≡ take n xs ++ escaped_octet b
+-- two octets put after the first n, of which one or both stay: the octet is escaped there
+pub put_escaped : (xs ys : List ℕ) (n m b : ℕ) → n ≤ length xs → ys ≡ first_written b ∷ letter_or_zero b ∷ [] → take (n + (1 + extra b)) (put_mid n m xs ys) ≡ take n xs ++ escaped_octet b
 put_escaped xs ys n m b within e =
     put_front xs ys n m (1 + extra b) within ∙ elim (option_cases (letter_of b)) [
       | inl (c, some) ↦ rw (e, some, ne_eqb c 0 (has_letter b c some)) refl
@@ -44,7 +41,7 @@ put_escaped xs ys n m b within e =
     ]
 
 -- one more octet is escaped
-pub escaped_next : (xs ys front text : List ℕ) (n m at : ℕ) → at < length text → n ≤ length xs → ys ≡ first (get_or text at 0) ∷ letter_or_zero (get_or text at 0) ∷ [] → take n xs ≡ front ++ escaped (take at text)
+pub escaped_next : (xs ys front text : List ℕ) (n m at : ℕ) → at < length text → n ≤ length xs → ys ≡ first_written (get_or text at 0) ∷ letter_or_zero (get_or text at 0) ∷ [] → take n xs ≡ front ++ escaped (take at text)
     → take (n + (1 + extra (get_or text at 0))) (put_mid n m xs ys) ≡ front ++ escaped (take (at + 1) text)
 escaped_next xs ys front text n m at inside within e so_far =
     let b = get_or text at 0 in

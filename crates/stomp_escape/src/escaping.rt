@@ -2,7 +2,7 @@
 
 ghost use Rattle.std.specs.Prelude.{◌≡◌, ◌++◌, ◌∷◌, [], ◌+◌, ◌*◌, ◌≤◌, length, take, IfOk, OnOk, OnErr};
 ghost use Rattle.stomp_escape.specs.Escape.{escaped, Spells, IsUnbroken, AppendsFront};
-ghost use Rattle.stomp_escape.specs.Inner.Escaping.{first, letter_or_zero};
+ghost use Rattle.stomp_escape.specs.Inner.Escaping.{first_written, letter_or_zero};
 
 use crate::no_memory::NoMemory;
 use crate::octets::Octets;
@@ -38,8 +38,8 @@ const WRITTEN: [u8; 512] = [
 
 /// The octet as it is written: itself and 0, or the two octets of its escape.
 #[inline(always)]
-fn written(octet: u8) -> [u8; 2]
-    ensures { result ≡ first octet ∷ letter_or_zero octet ∷ [] }
+fn octets_for(octet: u8) -> [u8; 2]
+    ensures { result ≡ first_written octet ∷ letter_or_zero octet ∷ [] }
 {
     let at = 2 * usize::from(octet);
     [WRITTEN[at], WRITTEN[at + 1]]
@@ -51,7 +51,7 @@ fn plain_front(text: &[u8]) -> usize
     ensures plain { escaped (take result text.now) ≡ take result text.now }
 {
     for at in 0..text.len() {
-        if written(text[at])[1] != 0 {
+        if octets_for(text[at])[1] != 0 {
             return at;
         }
     }
@@ -59,8 +59,8 @@ fn plain_front(text: &[u8]) -> usize
 }
 
 /// Writes the escaped text of a few octets into a line, from this place on, and returns where it ends. The line has room
-/// for two octets for each. None of them takes a branch of its own: two octets are put for each, and the second is written
-/// over where the octet has no escape.
+/// for two octets for each. None of them takes a branch of its own: two octets are put for each, and the next one begins
+/// over the second where the octet has no escape. So one octet of the line after the end may be another than before.
 pub fn escape_at(text: &[u8], line: &mut [u8], start: usize) -> usize
     requires { start + 2 * length text.now ≤ length line.old }
     ensures end { result ≤ start + 2 * length text.now }
@@ -68,7 +68,7 @@ pub fn escape_at(text: &[u8], line: &mut [u8], start: usize) -> usize
 {
     let mut end = start;
     for at in 0..text.len() {
-        let octets = written(text[at]);
+        let octets = octets_for(text[at]);
         line[end..end + 2].copy_from_slice(&octets);
         end += 1 + usize::from(octets[1] != 0);
     }

@@ -70,7 +70,7 @@ impl Octets {
         Ok(Octets { alloc, room })
     }
 
-    /// A copy of the first `len` octets of a text. Where the text has 24 octets, a few are copied faster than by `from_slice`.
+    /// A copy of a text's first `len` octets. Up to 24 are copied faster than by `from_slice` where the text has at least 24.
     #[inline]
     pub fn from_front(alloc: Global, text: &[u8], len: usize) -> Result<Octets, NoMemory>
         requires { len ≤ length text.now }

@@ -24,16 +24,17 @@ impl Model for ShortOctets {
     ghost invariant = { λ s. s.len ≤ 24 };
 }
 
-/// Copies these octets to the front by their first `half` and their last, which overlap where they aren't twice as many.
+/// Copies these octets to the front in two copies of `size` octets, the first ones and the last ones, which overlap where
+/// there are fewer than twice as many.
 #[inline(always)]
-fn copy_ends(octets: &[u8], to: &mut [u8; 24], half: usize)
-    requires least { half ≤ length octets.now }
-    requires most { length octets.now ≤ 2 * half }
+fn copy_ends(octets: &[u8], to: &mut [u8; 24], size: usize)
+    requires least { size ≤ length octets.now }
+    requires most { length octets.now ≤ 2 * size }
     requires fits { length octets.now ≤ 24 }
     ensures { take (length octets.now) to.new ≡ octets.now }
 {
-    let rest = octets.len() - half;
-    to[..half].copy_from_slice(&octets[..half]);
+    let rest = octets.len() - size;
+    to[..size].copy_from_slice(&octets[..size]);
     to[rest..octets.len()].copy_from_slice(&octets[rest..]);
 }
 
@@ -75,7 +76,7 @@ impl ShortOctets {
         short
     }
 
-    /// The first `len` octets of a text, which fit. As many as fit are copied, whatever `len` is.
+    /// The first `len` octets of a text, which fit. 24 octets are copied, whatever `len` is.
     #[inline(always)]
     pub(crate) fn from_front(text: &[u8], len: usize) -> ShortOctets
         requires fits { len ≤ 24 }

@@ -169,12 +169,14 @@ fn takes_letters(alloc: Global, len: usize) -> Result<bool, NoMemory> {
 fn octets_outgrow_their_value(rt: HostRuntime) -> Result<(), Fail> {
     for len in 0..=25 {
         assert!(rt; grows_from(rt.alloc(), len)?);
+    }
+    for len in [24, 25] {
         assert!(rt; takes_letters(rt.alloc(), len)?);
     }
     Ok(())
 }
 
-/// The first octets of a text that is longer or shorter than what lies in a list's own value, or just so long.
+/// The first octets of a text that is shorter or longer than what lies in a list's own value, or of the same length.
 #[test]
 fn fronts_are_copied(rt: HostRuntime) -> Result<(), Fail> {
     for text in [&LETTERS[..7], &LETTERS[..24], LETTERS] {
@@ -229,7 +231,8 @@ const PIECES: [(&[u8], &[u8]); 6] = [
     (b"\xff", b"\xff"),
 ];
 
-/// Octets are escaped 32 at once, and wait to be copied in lists of 64: at each place of a value of about so many.
+/// Octets are escaped 32 at a time and read 64 at a time: values of about these lengths, with an octet of each kind at each
+/// place.
 #[test]
 fn escapes_at_each_place(rt: HostRuntime) -> Result<(), Fail> {
     for len in [1usize, 31, 32, 33, 65] {
@@ -245,7 +248,7 @@ fn escapes_at_each_place(rt: HostRuntime) -> Result<(), Fail> {
     Ok(())
 }
 
-/// A text is read 64 octets at once: a fault is told by its place in the whole text.
+/// Texts are read 64 octets at a time: a fault has its place in the whole text.
 #[test]
 fn faults_at_each_place(rt: HostRuntime) -> Result<(), Fail> {
     for place in 60..70 {

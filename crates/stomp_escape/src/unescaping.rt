@@ -10,7 +10,7 @@ use crate::fault::EscapeFault;
 use crate::octets::Octets;
 use std::alloc::Global;
 
-/// How many octets of a text are read at once, into a buffer: each as one octet, or an escape's two as one.
+/// How many octets of a text are read at a time, or one more where the last begins an escape.
 const PIECE: usize = 64;
 
 /// The octet whose escape has each letter, or 0 where there is none.
@@ -38,18 +38,18 @@ fn octet_for(letter: u8) -> Option<u8>
     Some(octet)
 }
 
-/// Reads the text from this place on, up to its first fault, until `PIECE` octets of it are read; an escape that begins among
-/// these is read whole. Returns where the text goes on, and how many octets it was read as.
+/// Reads the text from `start` on, up to its first fault or past `PIECE` octets; an escape that begins within them is read
+/// whole. Returns where the text goes on, and how many octets wait in the buffer.
 #[inline(always)]
 fn read_piece(
     text: &[u8],
     start: usize,
-    piece: &mut [u8; 64],
+    waiting: &mut [u8; 64],
 ) -> Result<(usize, usize), EscapeFault>
     requires { start ≤ length text.now }
     ensures onward { IfOk result (λ r. (start < length text.now → start < r.0) × (r.0 ≤ length text.now)) }
     ensures fits { IfOk result (λ r. r.1 ≤ 64) }
-    ensures read { IfOk result (λ r. unescaped_after (take r.1 piece.new) r.0 (drop r.0 text.now)
+    ensures read { IfOk result (λ r. unescaped_after (take r.1 waiting.new) r.0 (drop r.0 text.now)
         ≡ unescaped_from start (drop start text.now)) }
     ensures fault { IfErr result (λ e. Err e ≡ unescaped_from start (drop start text.now)) }
 {
@@ -58,7 +58,7 @@ fn read_piece(
     let mut n = 0;
     while at < end {
         if text[at] != b'\\' {
-            piece[n] = text[at];
+            waiting[n] = text[at];
             at += 1;
         } else if at + 1 == text.len() {
             return Err(EscapeFault::Cut);
@@ -66,7 +66,7 @@ fn read_piece(
             let Some(octet) = octet_for(text[at + 1]) else {
                 return Err(EscapeFault::Undefined(at));
             };
-            piece[n] = octet;
+            waiting[n] = octet;
             at += 2;
         }
         n += 1;
@@ -78,12 +78,12 @@ fn read_piece(
 fn read(alloc: Global, text: &[u8]) -> Result<Octets, EscapeFault>
     ensures { Gives result (unescaped text.now) }
 {
-    let mut piece = [0u8; PIECE];
-    let (mut at, n) = read_piece(text, 0, &mut piece)?;
-    let mut out = Octets::from_front(alloc, &piece, n)?;
+    let mut waiting = [0u8; PIECE];
+    let (mut at, n) = read_piece(text, 0, &mut waiting)?;
+    let mut out = Octets::from_front(alloc, &waiting, n)?;
     while at < text.len() {
-        let (next, n) = read_piece(text, at, &mut piece)?;
-        out.extend(&piece[..n])?;
+        let (next, n) = read_piece(text, at, &mut waiting)?;
+        out.extend(&waiting[..n])?;
         at = next;
     }
     Ok(out)

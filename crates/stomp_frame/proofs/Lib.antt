@@ -6,7 +6,7 @@ pub mod FirstFailed
 pub mod Whole
 pub mod Unread
 pub mod Unfound
-pub mod UsualLanes
+pub mod Masks
 pub mod Usual
 pub mod OfAKind
 pub mod PartialFrames

@@ -3,10 +3,10 @@
 ghost use Rattle.std.specs.Prelude.{◌+◌, ◌≤◌, length};
 ghost use Rattle.stomp_frame.specs.Inner.PartialFrames.{IsUnfound};
 
-use crate::usual_run::{LANES, first_set};
+use crate::lanes::{LANES, first_set};
 use std::simd::prelude::*;
 
-/// How many of the 16 octets from this place on come before the first of these two.
+/// How many of the 16 octets from this place on come before the first of these two, at least.
 #[inline(always)]
 fn run_without(text: &[u8], at: usize, one: u8, other: u8) -> usize
     requires within { at + 16 ≤ length text.now }
@@ -21,8 +21,8 @@ fn run_without(text: &[u8], at: usize, one: u8, other: u8) -> usize
     first_set(stops.to_bitmask())
 }
 
-/// How many octets before `end` come before the first of these two, at least: those that are looked at 16 at once. At most
-/// 15 behind `end` may be looked at, too.
+/// How many octets before `end` come before the first of these two, at least: those that are looked at 16 at once. Up to 15
+/// octets from `end` on may be looked at, too.
 #[inline(always)]
 fn lanes_without(text: &[u8], end: usize, one: u8, other: u8) -> usize
     requires { end ≤ length text.now }
@@ -41,7 +41,7 @@ fn lanes_without(text: &[u8], end: usize, one: u8, other: u8) -> usize
     at
 }
 
-/// How many octets before `end` come before the first of these two.
+/// How many octets before `end` come before the first of these two, which may be one octet twice; at least.
 #[inline(always)]
 #[tactic(auto, using(crate::proofs::Unfound::unfound_more))]
 pub(crate) fn front_without(text: &[u8], end: usize, one: u8, other: u8) -> usize

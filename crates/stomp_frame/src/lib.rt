@@ -11,6 +11,7 @@ mod content_length;
 mod fault;
 mod front_without;
 mod headers;
+mod lanes;
 pub mod law;
 mod limits;
 mod line;

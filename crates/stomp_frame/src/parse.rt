@@ -48,12 +48,12 @@ fn find_colon(line: &[u8], text: &[u8]) -> Option<(usize, bool)>
     ensures plain { (escapes : Bool) → IfSome result
         (λ p. p.1 ≡ true → field_of escapes (take p.0 line.now) ≡ Ok (take p.0 line.now)) }
 {
-    let plain = front_without(text, line.len(), b':', b'\\');
-    let at = find_from(b':', line, plain, line.len())?;
-    Some((at, plain >= at))
+    let front = front_without(text, line.len(), b':', b'\\');
+    let at = find_from(b':', line, front, line.len())?;
+    Some((at, front == at))
 }
 
-/// A name or a value, which is the front of a text. It is copied as it is where it is plain: where it has no backslash.
+/// A name or a value, which is the front of a text. Where it has no backslash it is plain, and copied as it is.
 #[inline(always)]
 fn parse_front(
     alloc: Global,

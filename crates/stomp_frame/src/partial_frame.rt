@@ -133,6 +133,7 @@ impl PartialFrame {
         let (body, next) = take_body(limits, counted, rest, &mut self.searched)?;
         let body = Octets::from_front(alloc, rest, body.len())?;
         let end = self.parsed + next;
+        // Field by field, which moves less than a whole partial frame.
         let headers = mem::replace(&mut self.headers, Headers::new(alloc));
         self.awaited = Awaited::CommandLine;
         self.parsed = 0;

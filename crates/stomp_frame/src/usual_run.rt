@@ -1,24 +1,10 @@
 //! Searching a text for an octet that wants a closer look.
 
 ghost use Rattle.std.specs.Prelude.{◌≡◌, ◌+◌, ◌≤◌, length};
-ghost use Rattle.stomp_frame.specs.Inner.Usual.{AreUsual, first_set};
+ghost use Rattle.stomp_frame.specs.Inner.Usual.{AreUsual};
 
+use crate::lanes::{LANES, first_set};
 use std::simd::prelude::*;
-
-/// How many octets are looked at at once.
-pub(crate) const LANES: usize = 16;
-
-/// The place of the lowest bit that is set, or 16.
-#[inline(always)]
-pub(crate) fn first_set(mask: u64) -> usize
-    ensures { result ≡ first_set mask }
-{
-    if mask == 0 {
-        LANES
-    } else {
-        mask.trailing_zeros() as usize
-    }
-}
 
 /// How many of the 16 octets from this place on come before the first that isn't from 14 to 127.
 #[inline(always)]

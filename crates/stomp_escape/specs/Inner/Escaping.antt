@@ -7,6 +7,6 @@ use Rattle.stomp_escape.specs.Escape.{letter_of}
 abbrev pub letter_or_zero : ℕ → ℕ
 letter_or_zero b = option_map_or (λ c. c) (letter_of b) 0
 
--- the first octet as which it is written
-abbrev pub first : ℕ → ℕ
-first b = option_map_or (λ c. 92) (letter_of b) b
+-- the first octet that it is written as
+abbrev pub first_written : ℕ → ℕ
+first_written b = option_map_or (λ c. 92) (letter_of b) b

@@ -5,7 +5,7 @@ use Rattle.stomp_escape.proofs.unescaping.read.Given as goal
 abbrev pub invariant-loop-at : goal.invariant-loop-at
 invariant-loop-at l = record {
   within : l.at ≤ length l.text;
-  sized : length l.piece ≡ 64;
+  sized : length l.waiting ≡ 64;
   reads : unescaped_after l.out l.at (drop l.at l.text) ≡ unescaped l.text;
 }
 

@@ -8,8 +8,8 @@ invariant-loop-at l = record {
   within : l.at ≤ length l.text;
   room : l.start + l.n ≤ l.at;
   few : l.start + l.n ≤ l.end;
-  sized : length l.piece ≡ 64;
-  reads : unescaped_after (take l.n l.piece) l.at (drop l.at l.text) ≡ unescaped_from l.start (drop l.start l.text);
+  sized : length l.waiting ≡ 64;
+  reads : unescaped_after (take l.n l.waiting) l.at (drop l.at l.text) ≡ unescaped_from l.start (drop l.start l.text);
 }
 
 abbrev pub decreases-loop-at : goal.decreases-loop-at

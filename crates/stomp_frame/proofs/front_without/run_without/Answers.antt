@@ -2,7 +2,7 @@ use Rattle.std.proofs.Common.{◌≡◌, ℕ, List, length, true, eqb, cond, bit
 use Rattle.std.proofs.lemmas.Bool.{eq-eqb, cases_Bool}
 use Rattle.std.proofs.lemmas.Simd.{zip2_splat, length-chunk}
 use lib.Lanes.{zip2, chunk, top}
-use Rattle.stomp_frame.proofs.UsualLanes.{joined, run_within, run_unfound}
+use Rattle.stomp_frame.proofs.Masks.{joined, run_within, run_unfound}
 use Rattle.stomp_frame.proofs.front_without.run_without.Goals as goal
 
 -- which lanes have this octet

@@ -1,7 +1,7 @@
 use Rattle.std.proofs.Common.{leb, cond, bit_or, refl}
 use Rattle.std.proofs.lemmas.Simd.{zip2_splat, length-chunk}
 use lib.Lanes.{chunk}
-use Rattle.stomp_frame.proofs.UsualLanes.{joined, splat_is, itself, run_within, run_usual}
+use Rattle.stomp_frame.proofs.Masks.{joined, splat_is, itself, run_within, run_usual}
 use Rattle.stomp_frame.proofs.usual_run.usual_run.Goals as goal
 
 pub returns-clause-within : goal.returns-clause-within

@@ -1,6 +1,6 @@
 use Rattle.std.proofs.Common.{ℕ, ◌+◌, ◌*◌, ◌∷◌, [], get_or, ap, ap₂, ◌∙◌}
 use Rattle.stomp_escape.proofs.Letters.{table, first_at, second_at}
-use Rattle.stomp_escape.proofs.escaping.written.Goals as goal
+use Rattle.stomp_escape.proofs.escaping.octets_for.Goals as goal
 
 pub returns : goal.returns
 returns c =
