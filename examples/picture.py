@@ -21,7 +21,7 @@ def read(lines):
     commits, logs, subs, queued, handed = {}, set(), {}, set(), set()
     for line in lines:
         word, *rest = line.split(' ')
-        if word == 'commit':
+        if word == 'commit' and len(rest) == 4:
             sender, seq, stamp, topics = rest
             commits[sender, seq] = stamp_of(stamp), [int(t) for t in topics.split(',')]
         elif word == 'log':
@@ -60,7 +60,11 @@ def draw(commits, logs, subs, queued, handed):
 
 
 def main():
-    for line in draw(*read(sys.stdin.read().split('\n'))):
+    lines = sys.stdin.read().split('\n')
+    words = {line.split(' ')[0] for line in lines if line}
+    if 'bad' in words or words and words <= {'log', 'span', 'queue'}:
+        sys.exit('picture.py: this is a trace or a refused script; pass what `stompd script` writes of a script that it runs')
+    for line in draw(*read(lines)):
         print(line)
 
 

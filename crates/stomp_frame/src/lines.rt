@@ -91,6 +91,7 @@ pub(crate) fn find_from(octet: u8, text: &[u8], searched: usize, end: usize) -> 
 
 /// The content of the line at the front, whose LF isn't among the first `searched` octets, and where the text goes on
 /// after it.
+#[inline(always)]
 #[tactic(auto, unfolding(crate::specs::Inner::Parser::line_at))]
 pub(crate) fn take_line<'a>(
     limits: &Limits,
