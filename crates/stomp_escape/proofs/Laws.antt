@@ -1,7 +1,6 @@
 -- What is read is spelled so, and what is spelled so is read.
 use Rattle.std.proofs.Common.{◌≡◌, ◌≢◌, ℕ, ◌+◌, ◌⊎◌, inl, inr, List, [], ◌∷◌, ◌++◌, length, Some, None, Result, Ok, Err, refl, sym, ap, subst, ◌∙◌, arith}
 use Rattle.std.specs.Prelude.{IfOk, IfErr}
-use Rattle.std.specs.List.{AllByRecursion}
 use Rattle.std.proofs.lemmas.Bool.{cases_eq}
 use Rattle.std.proofs.lemmas.Bool.Decides.{nat_tests}
 use Rattle.std.proofs.lemmas.List.{append-nil}
@@ -135,11 +134,6 @@ pub Spells-only : (text v w : List ℕ) → Spells text v → Spells text w → 
 Spells-only text v w s t =
     let same : Ok v ≡ Ok w = sym (read_again text v s) ∙ read_again text w t in
     cc
-
--- A text without a backslash spells itself, and is read as itself.
-pub Spells-plain : (text : List ℕ) → AllByRecursion (λ (b : ℕ). b ≢ 92) text → Spells text text
-Spells-plain [] all = refl
-Spells-plain (b ∷ text) all = (text, Spells-plain text all.1, inr (all.0, refl))
 
 -- Each text spells a value or has a first fault, never both, and only one.
 pub spelled_or_fault : (text : List ℕ) → IsSpelled text ⊎ IsFaulty text

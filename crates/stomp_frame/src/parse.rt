@@ -22,23 +22,6 @@ pub(crate) fn parse_command(line: &[u8]) -> Result<Command, Stop>
     }
 }
 
-/// The name or the value that a text is.
-#[inline(always)]
-#[tactic(auto, unfolding(crate::specs::Inner::Parser::field_of))]
-fn parse_field(alloc: Global, escapes: bool, text: &[u8]) -> Result<Octets, Stop>
-    ensures { Returns (λ x. x) result (field_of escapes text.now) }
-{
-    if !escapes {
-        return Ok(Octets::from_slice(alloc, text)?);
-    }
-    match unescape(alloc, text) {
-        Ok(octets) => Ok(octets),
-        Err(EscapeFault::NoMemory) => Err(Stop::Memory),
-        Err(EscapeFault::Undefined(_)) => Err(Stop::Fault(Check::BadEscape)),
-        Err(EscapeFault::Cut) => Err(Stop::Fault(Check::BadEscape)),
-    }
-}
-
 /// The place of the first colon of a line, and whether no backslash comes before it. The line is the front of the text.
 #[inline(always)]
 fn find_colon(line: &[u8], text: &[u8]) -> Option<(usize, bool)>
@@ -53,9 +36,10 @@ fn find_colon(line: &[u8], text: &[u8]) -> Option<(usize, bool)>
     Some((at, front == at))
 }
 
-/// A name or a value, which is the front of a text. Where it has no backslash it is plain, and copied as it is.
+/// A name or a value, which is the front of a text. Where it is plain, or nothing is escaped, it is copied as it is.
 #[inline(always)]
-fn parse_front(
+#[tactic(auto, unfolding(crate::specs::Inner::Parser::field_of))]
+fn parse_field(
     alloc: Global,
     escapes: bool,
     field: &[u8],
@@ -66,10 +50,15 @@ fn parse_front(
     requires plain { plain ≡ true → field_of escapes field.now ≡ Ok field.now }
     ensures { Returns (λ x. x) result (field_of escapes field.now) }
 {
-    if plain {
+    if plain || !escapes {
         return Ok(Octets::from_front(alloc, text, field.len())?);
     }
-    parse_field(alloc, escapes, field)
+    match unescape(alloc, field) {
+        Ok(octets) => Ok(octets),
+        Err(EscapeFault::NoMemory) => Err(Stop::Memory),
+        Err(EscapeFault::Undefined(_)) => Err(Stop::Fault(Check::BadEscape)),
+        Err(EscapeFault::Cut) => Err(Stop::Fault(Check::BadEscape)),
+    }
 }
 
 /// A header's value, which is the front of a text.
@@ -79,7 +68,7 @@ fn parse_value(alloc: Global, escapes: bool, value: &[u8], text: &[u8]) -> Resul
     ensures { Returns (λ x. x) result (field_of escapes value.now) }
 {
     let plain = front_without(text, value.len(), b'\\', b'\\') == value.len();
-    parse_front(alloc, escapes, value, text, plain)
+    parse_field(alloc, escapes, value, text, plain)
 }
 
 /// The name and the value of a header's line, which is the front of a text.
@@ -99,7 +88,7 @@ pub(crate) fn parse_header(
     if at == 0 {
         return Err(Stop::Fault(Check::BadHeader));
     }
-    let name = parse_front(alloc, escapes, &line[..at], text, plain)?;
+    let name = parse_field(alloc, escapes, &line[..at], text, plain)?;
     let value = parse_value(alloc, escapes, &line[at + 1..], &text[at + 1..])?;
     Ok((name, value))
 }
