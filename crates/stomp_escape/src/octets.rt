@@ -70,14 +70,14 @@ impl Octets {
         Ok(Octets { alloc, room })
     }
 
-    /// A copy of a text's first `len` octets. Up to 24 are copied faster than by `from_slice` where the text has at least 24.
+    /// A copy of a text's first `len` octets, or of all where it has no more. Up to 24 are copied faster than by `from_slice`
+    /// where the text has at least 24.
     #[inline]
     pub fn from_front(alloc: Global, text: &[u8], len: usize) -> Result<Octets, NoMemory>
-        requires { len ≤ length text.now }
         ensures { IfOk result (λ o. o ≡ take len text.now) }
     {
         if len > ROOM || text.len() < ROOM {
-            return Octets::from_slice(alloc, &text[..len]);
+            return Octets::from_slice(alloc, &text[..len.min(text.len())]);
         }
         let room = Room::Short(ShortOctets::from_front(text, len));
         Ok(Octets { alloc, room })

@@ -176,13 +176,14 @@ fn octets_outgrow_their_value(rt: HostRuntime) -> Result<(), Fail> {
     Ok(())
 }
 
-/// The first octets of a text that is shorter or longer than what lies in a list's own value, or of the same length.
+/// The first octets of a text that is shorter or longer than what lies in a list's own value, or of the same length; all of
+/// it where it has no more.
 #[test]
 fn fronts_are_copied(rt: HostRuntime) -> Result<(), Fail> {
     for text in [&LETTERS[..7], &LETTERS[..24], LETTERS] {
-        for len in 0..=text.len() {
+        for len in 0..=30 {
             let front = Octets::from_front(rt.alloc(), text, len)?;
-            assert!(rt; is(&front, &text[..len]));
+            assert!(rt; is(&front, &text[..len.min(text.len())]));
         }
     }
     Ok(())
