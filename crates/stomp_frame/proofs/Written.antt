@@ -120,20 +120,7 @@ all_upper (b ∷ text) e =
 
 word_upper : (c : Command) → list_all is_upper (word c) ≡ true
 word_upper Send = refl
-word_upper Subscribe = refl
-word_upper Unsubscribe = refl
-word_upper Begin = refl
-word_upper Commit = refl
-word_upper Abort = refl
-word_upper Ack = refl
-word_upper Nack = refl
-word_upper Disconnect = refl
-word_upper Connect = refl
-word_upper Stomp = refl
-word_upper Connected = refl
-word_upper Message = refl
-word_upper Receipt = refl
-word_upper Error = refl
+word_upper _ = refl
 
 word_is : (limits : Limits) (c : Command) → length (word c) ≤ limits.line → IsLine limits (word c ++ 10 ∷ []) (word c)
 word_is limits c short = let a = all_upper (word c) (word_upper c) in record { ended = inl refl; short = short; plain = a.0; utf8 = IsUtf8-from_ascii (word c) a.1 }

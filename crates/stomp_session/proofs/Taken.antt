@@ -46,19 +46,7 @@ accepts-judged command s f judged step new e judges action receipt follows frame
 connect_or_stomp : (command : Command) → is_connect command ≡ true → (command ≡ commands.Connect) ⊎ (command ≡ commands.Stomp)
 connect_or_stomp commands.Connect e = inl refl
 connect_or_stomp commands.Stomp e = inr refl
-connect_or_stomp commands.Connected e = cc
-connect_or_stomp commands.Send e = cc
-connect_or_stomp commands.Subscribe e = cc
-connect_or_stomp commands.Unsubscribe e = cc
-connect_or_stomp commands.Ack e = cc
-connect_or_stomp commands.Nack e = cc
-connect_or_stomp commands.Begin e = cc
-connect_or_stomp commands.Commit e = cc
-connect_or_stomp commands.Abort e = cc
-connect_or_stomp commands.Disconnect e = cc
-connect_or_stomp commands.Message e = cc
-connect_or_stomp commands.Receipt e = cc
-connect_or_stomp commands.Error e = cc
+connect_or_stomp _ e = cc
 
 -- a STOMP is a CONNECT
 pub accepts-connect : (s : Held) (f : RawFrame) (judged : Judged) (step : Step) (new : Held) → is_connect f.command ≡ true → JudgesAs commands.Connect s f judged new

@@ -517,20 +517,8 @@ no_subscribe_committed (x ∷ xs) id t e = cc
 -- the topic of a SUBSCRIBE is that of its frame
 subscribed_topic : (command : Command) (s : Held) (f : RawFrame) (id : List ℕ) (t : Topic) → action_by command s f ≡ actions.Subscribe id t → topic_of s.names f ≡ t
 subscribed_topic commands.Send s f id t e = absurd (no_subscribe_sent s f (first_of (codes "transaction") f.headers) id t e)
-subscribed_topic commands.Subscribe s f id t e = cc
-subscribed_topic commands.Unsubscribe s f id t e = cc
-subscribed_topic commands.Begin s f id t e = cc
 subscribed_topic commands.Commit s f id t e = absurd (no_subscribe_committed (sends_in (transaction_of f) s.transactions) id t e)
-subscribed_topic commands.Abort s f id t e = cc
-subscribed_topic commands.Ack s f id t e = cc
-subscribed_topic commands.Nack s f id t e = cc
-subscribed_topic commands.Disconnect s f id t e = cc
-subscribed_topic commands.Connect s f id t e = cc
-subscribed_topic commands.Stomp s f id t e = cc
-subscribed_topic commands.Connected s f id t e = cc
-subscribed_topic commands.Message s f id t e = cc
-subscribed_topic commands.Receipt s f id t e = cc
-subscribed_topic commands.Error s f id t e = cc
+subscribed_topic _ s f id t e = cc
 
 no_unsubscribe_sent : (s : Held) (f : RawFrame) (o : Option (List ℕ)) (id : List ℕ) → option_map_or (λ transaction. actions.Nothing) o (commit (send_of s.names f ∷ [])) ≡ actions.Unsubscribe id → Prim.⊥
 no_unsubscribe_sent s f None id e = cc
@@ -543,20 +531,8 @@ no_unsubscribe_committed (x ∷ xs) id e = cc
 -- the id of an UNSUBSCRIBE is that of its frame
 unsubscribed_id : (command : Command) (s : Held) (f : RawFrame) (id : List ℕ) → action_by command s f ≡ actions.Unsubscribe id → id_of f ≡ id
 unsubscribed_id commands.Send s f id e = absurd (no_unsubscribe_sent s f (first_of (codes "transaction") f.headers) id e)
-unsubscribed_id commands.Subscribe s f id e = cc
-unsubscribed_id commands.Unsubscribe s f id e = cc
-unsubscribed_id commands.Begin s f id e = cc
 unsubscribed_id commands.Commit s f id e = absurd (no_unsubscribe_committed (sends_in (transaction_of f) s.transactions) id e)
-unsubscribed_id commands.Abort s f id e = cc
-unsubscribed_id commands.Ack s f id e = cc
-unsubscribed_id commands.Nack s f id e = cc
-unsubscribed_id commands.Disconnect s f id e = cc
-unsubscribed_id commands.Connect s f id e = cc
-unsubscribed_id commands.Stomp s f id e = cc
-unsubscribed_id commands.Connected s f id e = cc
-unsubscribed_id commands.Message s f id e = cc
-unsubscribed_id commands.Receipt s f id e = cc
-unsubscribed_id commands.Error s f id e = cc
+unsubscribed_id _ s f id e = cc
 
 flown_case : (names : List (List ℕ)) (r : Run) (older : List CoreStep) (c : ℕ) (f : RawFrame) (left : Unread) (sends : List SentMessage) (z : Outcome)
     → c < length (final_world r).connections → action_by f.command (session_at (core_at names r older) c) f ≡ actions.Commit sends

@@ -116,21 +116,7 @@ is_plain e = true
 plain_adds : (e : Move) → is_plain e ≡ true → (adds_none e ≡ true) × (opened_by_move e ≡ 0)
 plain_adds (AddsTopic clock) p = absurd (false≢true p)
 plain_adds Opens p = absurd (false≢true p)
-plain_adds (Commits c sends) p = (refl, refl)
-plain_adds (Subscribes c t) p = (refl, refl)
-plain_adds (Unsubscribes c s) p = (refl, refl)
-plain_adds (Disconnects c) p = (refl, refl)
-plain_adds (Errs c) p = (refl, refl)
-plain_adds (Lost c) p = (refl, refl)
-plain_adds (Leaves c) p = (refl, refl)
-plain_adds (Proposes c t memory) p = (refl, refl)
-plain_adds (Decides c) p = (refl, refl)
-plain_adds (Withdraws c) p = (refl, refl)
-plain_adds (Cancels c t) p = (refl, refl)
-plain_adds (Learns t id) p = (refl, refl)
-plain_adds (Releases t) p = (refl, refl)
-plain_adds (Turns t) p = (refl, refl)
-plain_adds (Takes s) p = (refl, refl)
+plain_adds _ p = (refl, refl)
 
 step_plain : (w : World) (e : Move) → is_plain e ≡ true → Grown w (world_after w e) 0
 step_plain w e p =
@@ -150,11 +136,7 @@ run_plain (e ∷ es) w p =
 
 frame_plain : (k : Core) (c : ℕ) (action : Action) → list_all is_plain (option_to_list (frame_move k c action)) ≡ true
 frame_plain k c actions.Connected = refl
-frame_plain k c actions.Nothing = refl
-frame_plain k c (actions.Subscribe id t) = refl
-frame_plain k c (actions.Unsubscribe id) = refl
-frame_plain k c (actions.Commit sends) = refl
-frame_plain k c actions.Disconnect = refl
+frame_plain k c _ = refl
 
 next_plain : (k : Core) (c : ℕ) (a b : Bool) (read : Option RawFrame)
     → list_all is_plain (cond a (Errs c ∷ []) (cond b (option_map_or (λ f. option_to_list (frame_move k c (action_by f.command (session_at k c) f))) read []) [])) ≡ true
@@ -178,18 +160,10 @@ is_open_event e = false
 
 event_plain : (k : Core) (e : Event) (rd : Reading) (o : Outcome) → is_open_event e ≡ false → list_all is_plain (moves k e rd o) ≡ true
 event_plain k Event.Open rd o p = absurd (true≢false p)
-event_plain k (Event.Piece c octets) rd o p = refl
 event_plain k (Event.Next c) rd o p = next_plain k c (is_faulted o) (has_effect o) (frame_in rd)
-event_plain k (Event.Propose c t) rd o p = refl
 event_plain k (Event.Decide c) rd o p = cut_plain c (is_cut o)
-event_plain k (Event.Withdraw c) rd o p = refl
-event_plain k (Event.Cancel c t) rd o p = refl
-event_plain k (Event.Learn t id) rd o p = refl
-event_plain k (Event.Release t) rd o p = refl
-event_plain k (Event.Turn t) rd o p = refl
 event_plain k (Event.Take s) rd o p = take_plain s (is_no_memory o)
-event_plain k (Event.Leave c) rd o p = refl
-event_plain k (Event.Lost c) rd o p = refl
+event_plain k _ rd o p = refl
 
 -- ---- the outcomes of an event
 
@@ -199,23 +173,8 @@ Opened-none os = (o : Outcome) → In o os → opened_by o ≡ 0
 
 both_none : (w : World) (e : Move) (a : Answer) (o : Outcome) → IsAnswer w e a → is_plain e ≡ true → outcome_of a ≡ Some o → (opened_by o ≡ 0) × (opened_by (cut_of o) ≡ 0)
 both_none w e (Answer.Refused why) o h p d = subst (λ z. (opened_by z ≡ 0) × (opened_by (cut_of z) ≡ 0)) (refusal_some (refusal_of why) o d).is (refl, refl)
-both_none w e Answer.Done o h p d = subst (λ z. (opened_by z ≡ 0) × (opened_by (cut_of z) ≡ 0)) (some_same _ o d) (refl, refl)
 both_none w e (Answer.Opened c) o h p d = absurd (false≢true (ap is_plain (sym h.0) ∙ p))
-both_none w e (Answer.Begun txn) o h p d = subst (λ z. (opened_by z ≡ 0) × (opened_by (cut_of z) ≡ 0)) (some_same _ o d) (refl, refl)
-both_none w e (Answer.Subscribed r c u from) o h p d = subst (λ z. (opened_by z ≡ 0) × (opened_by (cut_of z) ≡ 0)) (some_same _ o d) (refl, refl)
-both_none w e (Answer.Unsubscribed r v) o h p d = subst (λ z. (opened_by z ≡ 0) × (opened_by (cut_of z) ≡ 0)) (some_same _ o d) (refl, refl)
-both_none w e (Answer.Leaving c) o h p d = subst (λ z. (opened_by z ≡ 0) × (opened_by (cut_of z) ≡ 0)) (some_same _ o d) (refl, refl)
-both_none w e (Answer.Error c) o h p d = subst (λ z. (opened_by z ≡ 0) × (opened_by (cut_of z) ≡ 0)) (some_same _ o d) (refl, refl)
-both_none w e (Answer.Gone c) o h p d = subst (λ z. (opened_by z ≡ 0) × (opened_by (cut_of z) ≡ 0)) (some_same _ o d) (refl, refl)
-both_none w e (Answer.Ticket i ticket) o h p d = subst (λ z. (opened_by z ≡ 0) × (opened_by (cut_of z) ≡ 0)) (some_same _ o d) (refl, refl)
-both_none w e (Answer.Failed i why) o h p d = subst (λ z. (opened_by z ≡ 0) × (opened_by (cut_of z) ≡ 0)) (some_same _ o d) (refl, refl)
-both_none w e (Answer.Decided i stamp) o h p d = subst (λ z. (opened_by z ≡ 0) × (opened_by (cut_of z) ≡ 0)) (some_same _ o d) (refl, refl)
-both_none w e (Answer.Withdrawn i c) o h p d = subst (λ z. (opened_by z ≡ 0) × (opened_by (cut_of z) ≡ 0)) (some_same _ o d) (refl, refl)
-both_none w e (Answer.Cancelled i u) o h p d = subst (λ z. (opened_by z ≡ 0) × (opened_by (cut_of z) ≡ 0)) (some_same _ o d) (refl, refl)
-both_none w e (Answer.Learnt i u) o h p d = subst (λ z. (opened_by z ≡ 0) × (opened_by (cut_of z) ≡ 0)) (some_same _ o d) (refl, refl)
-both_none w e (Answer.Released u i) o h p d = subst (λ z. (opened_by z ≡ 0) × (opened_by (cut_of z) ≡ 0)) (some_same _ o d) (refl, refl)
-both_none w e (Answer.Turned u n) o h p d = subst (λ z. (opened_by z ≡ 0) × (opened_by (cut_of z) ≡ 0)) (some_same _ o d) (refl, refl)
-both_none w e (Answer.Handed r item) o h p d = subst (λ z. (opened_by z ≡ 0) × (opened_by (cut_of z) ≡ 0)) (some_same _ o d) (refl, refl)
+both_none w e _ o h p d = subst (λ z. (opened_by z ≡ 0) × (opened_by (cut_of z) ≡ 0)) (some_same _ o d) (refl, refl)
 
 move_none : (k : Core) (e : Move) → is_plain e ≡ true → Opened-none (move_outcome k e)
 move_none k e p o i = (both_none k.world e (answer_to k.world e) o (events_are_answered k.world e) p (in_option o _ i)).0
@@ -294,18 +253,7 @@ plain_step k e rd o i p = subst (λ n. Grown k.world (run (moves k e rd o) k.wor
 
 step_case : (k : Core) (e : Event) (rd : Reading) (o : Outcome) → In o (outcomes k e rd) → (b : Bool) → is_open_event e ≡ b → Grown k.world (run (moves k e rd o) k.world) (opened_by o)
 step_case k Event.Open rd o i b p = opens k o rd i
-step_case k (Event.Piece c octets) rd o i b p = plain_step k (Event.Piece c octets) rd o i refl
-step_case k (Event.Next c) rd o i b p = plain_step k (Event.Next c) rd o i refl
-step_case k (Event.Propose c t) rd o i b p = plain_step k (Event.Propose c t) rd o i refl
-step_case k (Event.Decide c) rd o i b p = plain_step k (Event.Decide c) rd o i refl
-step_case k (Event.Withdraw c) rd o i b p = plain_step k (Event.Withdraw c) rd o i refl
-step_case k (Event.Cancel c t) rd o i b p = plain_step k (Event.Cancel c t) rd o i refl
-step_case k (Event.Learn t id) rd o i b p = plain_step k (Event.Learn t id) rd o i refl
-step_case k (Event.Release t) rd o i b p = plain_step k (Event.Release t) rd o i refl
-step_case k (Event.Turn t) rd o i b p = plain_step k (Event.Turn t) rd o i refl
-step_case k (Event.Take s) rd o i b p = plain_step k (Event.Take s) rd o i refl
-step_case k (Event.Leave c) rd o i b p = plain_step k (Event.Leave c) rd o i refl
-step_case k (Event.Lost c) rd o i b p = plain_step k (Event.Lost c) rd o i refl
+step_case k event rd o i b p = plain_step k event rd o i refl
 
 new_count : (i limit : ℕ) (clocks : List ℕ) → length (new_topics i limit clocks) ≡ length clocks
 new_count i limit [] = refl

@@ -252,17 +252,7 @@ step_read k c (Event.Piece d octets) rd o r i h = piece_case k c d octets o (mov
 step_read k c (Event.Next d) rd o r i h =
     subst (λ z. ReadsAfter k c z (cond (d == c) (option_to_list (frame_in rd)) []) (cond (d == c) (left_by (unread_at c k.steps) rd) (unread_at c k.steps)) (run (moves k (Event.Next d) rd o) k.world))
     (sym (same_branch (is_fed o) [])) (next_of k c d rd o (d == c) refl r i h)
-step_read k c Event.Open rd o r i h = quiet k c (moves k Event.Open rd o) (cond (is_fed o) [] []) (same_branch (is_fed o) []) h
-step_read k c (Event.Propose d t) rd o r i h = quiet k c (moves k (Event.Propose d t) rd o) (cond (is_fed o) [] []) (same_branch (is_fed o) []) h
-step_read k c (Event.Decide d) rd o r i h = quiet k c (moves k (Event.Decide d) rd o) (cond (is_fed o) [] []) (same_branch (is_fed o) []) h
-step_read k c (Event.Withdraw d) rd o r i h = quiet k c (moves k (Event.Withdraw d) rd o) (cond (is_fed o) [] []) (same_branch (is_fed o) []) h
-step_read k c (Event.Cancel d t) rd o r i h = quiet k c (moves k (Event.Cancel d t) rd o) (cond (is_fed o) [] []) (same_branch (is_fed o) []) h
-step_read k c (Event.Learn t id) rd o r i h = quiet k c (moves k (Event.Learn t id) rd o) (cond (is_fed o) [] []) (same_branch (is_fed o) []) h
-step_read k c (Event.Release t) rd o r i h = quiet k c (moves k (Event.Release t) rd o) (cond (is_fed o) [] []) (same_branch (is_fed o) []) h
-step_read k c (Event.Turn t) rd o r i h = quiet k c (moves k (Event.Turn t) rd o) (cond (is_fed o) [] []) (same_branch (is_fed o) []) h
-step_read k c (Event.Take s) rd o r i h = quiet k c (moves k (Event.Take s) rd o) (cond (is_fed o) [] []) (same_branch (is_fed o) []) h
-step_read k c (Event.Leave d) rd o r i h = quiet k c (moves k (Event.Leave d) rd o) (cond (is_fed o) [] []) (same_branch (is_fed o) []) h
-step_read k c (Event.Lost d) rd o r i h = quiet k c (moves k (Event.Lost d) rd o) (cond (is_fed o) [] []) (same_branch (is_fed o) []) h
+step_read k c event rd o r i h = quiet k c (moves k event rd o) (cond (is_fed o) [] []) (same_branch (is_fed o) []) h
 
 core_steps : (topics : TopicList) (capacity : ℕ) (steps : List CoreStep) → (core_of topics capacity steps).steps ≡ steps
 core_steps topics capacity steps = ap (λ (k : Core). k.steps) (core_is topics capacity steps)

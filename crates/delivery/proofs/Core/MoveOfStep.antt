@@ -107,23 +107,7 @@ Comes k e rd o =
 -- no answer of the machine is that there was no memory
 pub remembered : (a : Answer) (o : Outcome) → outcome_of a ≡ Some o → is_no_memory o ≡ false
 remembered (Answer.Refused why) o e = let r = refusal_some (refusal_of why) o e in ap is_no_memory (sym r.is)
-remembered Answer.Done o e = ap is_no_memory (sym (some_same _ o e))
-remembered (Answer.Opened c) o e = ap is_no_memory (sym (some_same _ o e))
-remembered (Answer.Begun txn) o e = ap is_no_memory (sym (some_same _ o e))
-remembered (Answer.Subscribed s c t from) o e = ap is_no_memory (sym (some_same _ o e))
-remembered (Answer.Unsubscribed s to) o e = ap is_no_memory (sym (some_same _ o e))
-remembered (Answer.Leaving c) o e = ap is_no_memory (sym (some_same _ o e))
-remembered (Answer.Error c) o e = ap is_no_memory (sym (some_same _ o e))
-remembered (Answer.Gone c) o e = ap is_no_memory (sym (some_same _ o e))
-remembered (Answer.Ticket id ticket) o e = ap is_no_memory (sym (some_same _ o e))
-remembered (Answer.Failed id why) o e = ap is_no_memory (sym (some_same _ o e))
-remembered (Answer.Decided id stamp) o e = ap is_no_memory (sym (some_same _ o e))
-remembered (Answer.Withdrawn id c) o e = ap is_no_memory (sym (some_same _ o e))
-remembered (Answer.Cancelled id t) o e = ap is_no_memory (sym (some_same _ o e))
-remembered (Answer.Learnt id t) o e = ap is_no_memory (sym (some_same _ o e))
-remembered (Answer.Released t id) o e = ap is_no_memory (sym (some_same _ o e))
-remembered (Answer.Turned t count) o e = ap is_no_memory (sym (some_same _ o e))
-remembered (Answer.Handed s item) o e = ap is_no_memory (sym (some_same _ o e))
+remembered _ o e = ap is_no_memory (sym (some_same _ o e))
 
 -- an event that is one move, and its outcome
 alone : (k : Core) (e : Event) (rd : Reading) (o : Outcome) (mv : Move) → IsMoveOf e mv → move_topic k.world mv ≡ event_topic k e rd

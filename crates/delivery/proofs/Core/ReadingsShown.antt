@@ -117,18 +117,7 @@ nothing_read e rd o h g = subst (λ z. reads_as_said e (is_some (frame_in z)) o 
 
 event_shows : (k : Core) (e : Event) (rd : Reading) (o : Outcome) → IsReadAt k e rd → In o (outcomes k e rd) → reads_as_said e (is_some (frame_in rd)) o ≡ true
 event_shows k (Event.Next c) rd o h i = next_shows k c rd o (first_refusal (needs_idle k.world c)) h i
-event_shows k Event.Open rd o h i = nothing_read Event.Open rd o h refl
-event_shows k (Event.Piece c octets) rd o h i = nothing_read (Event.Piece c octets) rd o h refl
-event_shows k (Event.Propose c t) rd o h i = nothing_read (Event.Propose c t) rd o h refl
-event_shows k (Event.Decide c) rd o h i = nothing_read (Event.Decide c) rd o h refl
-event_shows k (Event.Withdraw c) rd o h i = nothing_read (Event.Withdraw c) rd o h refl
-event_shows k (Event.Cancel c t) rd o h i = nothing_read (Event.Cancel c t) rd o h refl
-event_shows k (Event.Learn t id) rd o h i = nothing_read (Event.Learn t id) rd o h refl
-event_shows k (Event.Release t) rd o h i = nothing_read (Event.Release t) rd o h refl
-event_shows k (Event.Turn t) rd o h i = nothing_read (Event.Turn t) rd o h refl
-event_shows k (Event.Take s) rd o h i = nothing_read (Event.Take s) rd o h refl
-event_shows k (Event.Leave c) rd o h i = nothing_read (Event.Leave c) rd o h refl
-event_shows k (Event.Lost c) rd o h i = nothing_read (Event.Lost c) rd o h refl
+event_shows k event rd o h i = nothing_read event rd o h refl
 
 -- each step of a run shows what it read
 pub all_shown : (topics : TopicList) (capacity : ℕ) (steps : List CoreStep) → IsCoreRun topics capacity steps → list_all shows_reading steps ≡ true

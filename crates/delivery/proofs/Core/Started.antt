@@ -167,7 +167,6 @@ quiet_refused why = record { beginnings = λ s past. refl; begun = λ past. refl
 
 happens : (r : Run) (e : Move) → Started (answers_of r) (final_world r) → Started (move_answer (final_world r) e ∷ answers_of r) (move_effect (final_world r) e)
 happens r (AddsTopic clock) h = keeps (answers_of r) (final_world r) _ Done (record { beginnings = λ s past. refl; begun = λ past. refl }) refl h
-happens r Opens h = keeps (answers_of r) (final_world r) _ _ (record { beginnings = λ s past. refl; begun = λ past. refl }) refl h
 happens r (Commits c sends) h = let w = final_world r in keeps (answers_of r) w _ _ (flown_quiet w c sends) (flown_same w c sends) h
 happens r (Subscribes c t) h =
     let w = final_world r in
@@ -175,15 +174,10 @@ happens r (Subscribes c t) h =
 happens r (Unsubscribes c s) h =
     let w = final_world r in
     keeps (answers_of r) w _ _ (record { beginnings = λ q past. refl; begun = λ past. refl }) (closed_same w s (entry_at w s)) h
-happens r (Disconnects c) h = keeps (answers_of r) (final_world r) _ _ (record { beginnings = λ s past. refl; begun = λ past. refl }) refl h
-happens r (Errs c) h = keeps (answers_of r) (final_world r) _ _ (record { beginnings = λ s past. refl; begun = λ past. refl }) refl h
-happens r (Lost c) h = keeps (answers_of r) (final_world r) _ _ (record { beginnings = λ s past. refl; begun = λ past. refl }) refl h
 happens r (Leaves c) h =
     let w = final_world r in let o = oldest_live c 0 w.subscriptions in keeps (answers_of r) w _ _ (left_quiet w c o) (left_same w c o) h
 happens r (Proposes c t memory) h =
     let w = final_world r in let o = proposal_fault w c t memory in keeps (answers_of r) w _ _ (proposed_quiet w c t o) (proposed_same w c t o) h
-happens r (Decides c) h = keeps (answers_of r) (final_world r) _ _ (record { beginnings = λ s past. refl; begun = λ past. refl }) refl h
-happens r (Withdraws c) h = keeps (answers_of r) (final_world r) _ _ (record { beginnings = λ s past. refl; begun = λ past. refl }) refl h
 happens r (Cancels c t) h =
     let w = final_world r in let o = find_leftover t (speaker w c).leftovers in
     keeps (answers_of r) w _ _ (cancelled_quiet t o) (cancelled_same w c t o) h
@@ -191,8 +185,8 @@ happens r (Learns t id) h =
     let w = final_world r in
     keeps (answers_of r) w _ _ (record { beginnings = λ s past. refl; begun = λ past. refl }) (learned_same w t id (find_verdict id w.verdicts)) h
 happens r (Releases t) h = let w = final_world r in keeps (answers_of r) w _ _ (released_quiet t (due_part (topic_at w t))) refl h
-happens r (Turns t) h = keeps (answers_of r) (final_world r) _ _ (record { beginnings = λ s past. refl; begun = λ past. refl }) refl h
 happens r (Takes s) h = let w = final_world r in keeps (answers_of r) w _ _ (taken_quiet w s _) (taken_same w s _) h
+happens r _ h = keeps (answers_of r) (final_world r) _ _ (record { beginnings = λ s past. refl; begun = λ past. refl }) refl h
 
 step : (r : Run) (e : Move) → Started (answers_of r) (final_world r) → Started (answer_to (final_world r) e ∷ answers_of r) (world_after (final_world r) e)
 step r e h =
@@ -254,24 +248,16 @@ asked_at_frontier =
 -- a move changes no beginning, and adds at most one, of a connection that is there
 pub begins_more : (w : World) (e : Move) → move_refusal w e ≡ None
     → (begins_in (move_effect w e) ≡ begins_in w) ⊎ ((x : Beginning) × (x.connection < length w.connections) × (begins_in (move_effect w e) ≡ begins_in w ++ x ∷ []))
-begins_more w (AddsTopic clock) n = inl refl
-begins_more w Opens n = inl refl
 begins_more w (Commits c sends) n = inl (flown_same w c sends)
 begins_more w (Subscribes c t) n =
     inr (record { connection = c; topic = t; from = (topic_at w t).frontier }, connection_there w c (checked w (Subscribes c t) n).0, map_push w.subscriptions _)
 begins_more w (Unsubscribes c s) n = inl (closed_same w s (entry_at w s))
-begins_more w (Disconnects c) n = inl refl
-begins_more w (Errs c) n = inl refl
-begins_more w (Lost c) n = inl refl
 begins_more w (Leaves c) n = inl (left_same w c (oldest_live c 0 w.subscriptions))
 begins_more w (Proposes c t memory) n = inl (proposed_same w c t (proposal_fault w c t memory))
-begins_more w (Decides c) n = inl refl
-begins_more w (Withdraws c) n = inl refl
 begins_more w (Cancels c t) n = inl (cancelled_same w c t (find_leftover t (speaker w c).leftovers))
 begins_more w (Learns t id) n = inl (learned_same w t id (find_verdict id w.verdicts))
-begins_more w (Releases t) n = inl refl
-begins_more w (Turns t) n = inl refl
 begins_more w (Takes s) n = inl (taken_same w s _)
+begins_more w _ n = inl refl
 
 -- there are as many beginnings as subscriptions
 pub begins_count : (w : World) → length (begins_in w) ≡ length w.subscriptions

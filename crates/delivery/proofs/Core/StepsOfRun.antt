@@ -32,24 +32,11 @@ use Rattle.delivery.proofs.Core.ReadingsShown.{ReadsUnless, idle}
 
 -- a refusal of the machine's isn't that there is no frame
 reported : (why : Objection) (r : Refusal) → refusal_of why ≡ Some r → reads_nothing (Outcome.Refused r) ≡ true
-reported Objection.NotPending r e = ap (λ (q : Refusal). reads_nothing (Outcome.Refused q)) (sym (some_same _ r e))
 reported Objection.Foreign r e = none_some r e
 reported Objection.Clash r e = none_some r e
 reported Objection.Decided r e = none_some r e
-reported Objection.NoSub r e = ap (λ (q : Refusal). reads_nothing (Outcome.Refused q)) (sym (some_same _ r e))
-reported Objection.Twice r e = ap (λ (q : Refusal). reads_nothing (Outcome.Refused q)) (sym (some_same _ r e))
-reported Objection.Incomplete r e = ap (λ (q : Refusal). reads_nothing (Outcome.Refused q)) (sym (some_same _ r e))
 reported Objection.SeqFull r e = none_some r e
-reported Objection.NotLeaving r e = ap (λ (q : Refusal). reads_nothing (Outcome.Refused q)) (sym (some_same _ r e))
-reported Objection.NoConn r e = ap (λ (q : Refusal). reads_nothing (Outcome.Refused q)) (sym (some_same _ r e))
-reported Objection.Busy r e = ap (λ (q : Refusal). reads_nothing (Outcome.Refused q)) (sym (some_same _ r e))
-reported Objection.NoFlight r e = ap (λ (q : Refusal). reads_nothing (Outcome.Refused q)) (sym (some_same _ r e))
-reported Objection.NotNamed r e = ap (λ (q : Refusal). reads_nothing (Outcome.Refused q)) (sym (some_same _ r e))
-reported Objection.NotDecided r e = ap (λ (q : Refusal). reads_nothing (Outcome.Refused q)) (sym (some_same _ r e))
-reported Objection.NothingDue r e = ap (λ (q : Refusal). reads_nothing (Outcome.Refused q)) (sym (some_same _ r e))
-reported Objection.Gone r e = ap (λ (q : Refusal). reads_nothing (Outcome.Refused q)) (sym (some_same _ r e))
-reported Objection.Marked r e = ap (λ (q : Refusal). reads_nothing (Outcome.Refused q)) (sym (some_same _ r e))
-reported Objection.NotMarked r e = ap (λ (q : Refusal). reads_nothing (Outcome.Refused q)) (sym (some_same _ r e))
+reported _ r e = ap (λ (q : Refusal). reads_nothing (Outcome.Refused q)) (sym (some_same _ r e))
 
 -- the check of a fault that `next` returns
 abbrev check_of : FrameFault → Option Check
@@ -67,15 +54,7 @@ check_of faults.NoMemory = None
 
 check_of-fault_of : (k : Check) → check_of (fault_of k) ≡ Some k
 check_of-fault_of checks.BadCommand = refl
-check_of-fault_of checks.BadLine = refl
-check_of-fault_of checks.BadHeader = refl
-check_of-fault_of checks.BadEscape = refl
-check_of-fault_of checks.BadText = refl
-check_of-fault_of checks.BadLength = refl
-check_of-fault_of checks.BadEnd = refl
-check_of-fault_of checks.LineTooLong = refl
-check_of-fault_of checks.TooManyHeaders = refl
-check_of-fault_of checks.BodyTooLong = refl
+check_of-fault_of _ = refl
 
 fault_of-only : (j k : Check) → fault_of j ≡ fault_of k → j ≡ k
 fault_of-only j k e = some_same j k (sym (check_of-fault_of j) ∙ (ap check_of e ∙ check_of-fault_of k))
@@ -176,18 +155,7 @@ next_reads k c rd o (Some why) l h i = refused (refusal_of why) refl (in_option 
 pub event_reads : (k : Core) (e : Event) (rd : Reading) (o : Outcome) → ((c : ℕ) → (unread_at c k.steps).limits ≡ reader_limits) → IsReadAt k e rd → In o (outcomes k e rd)
     → rd ≡ reading_at k.steps e o
 event_reads k (Event.Next c) rd o l h i = next_reads k c rd o (first_refusal (needs_idle k.world c)) (l c) h i
-event_reads k Event.Open rd o l h i = h
-event_reads k (Event.Piece c octets) rd o l h i = h
-event_reads k (Event.Propose c t) rd o l h i = h
-event_reads k (Event.Decide c) rd o l h i = h
-event_reads k (Event.Withdraw c) rd o l h i = h
-event_reads k (Event.Cancel c t) rd o l h i = h
-event_reads k (Event.Learn t id) rd o l h i = h
-event_reads k (Event.Release t) rd o l h i = h
-event_reads k (Event.Turn t) rd o l h i = h
-event_reads k (Event.Take s) rd o l h i = h
-event_reads k (Event.Leave c) rd o l h i = h
-event_reads k (Event.Lost c) rd o l h i = h
+event_reads k _ rd o l h i = h
 
 -- ---- all steps
 

@@ -61,17 +61,11 @@ grow_flown w c (first ∷ others) = grow_same w.topics
 grow_effect : (w : World) (e : Move) → Grow w.topics (move_effect w e).topics
 grow_effect w (AddsTopic clock) u =
     at_added (λ v z. (topic_in w.topics u).clock ≤ z.clock) w.topics w.log_limit clock u (λ k. let m : (topic_in w.topics u).clock ≤ 0 = k in omega arith) (omega arith)
-grow_effect w Opens u = omega arith
 grow_effect w (Commits c sends) u = grow_flown w c sends u
 grow_effect w (Subscribes c t) u = grow_topic w.topics t _ (omega arith) u
 grow_effect w (Unsubscribes c s) u = grow_closed w s (entry_at w s) u
-grow_effect w (Disconnects c) u = omega arith
-grow_effect w (Errs c) u = omega arith
-grow_effect w (Lost c) u = omega arith
 grow_effect w (Leaves c) u = grow_left w c (oldest_live c 0 w.subscriptions) u
 grow_effect w (Proposes c t memory) u = grow_proposed w c t (proposal_fault w c t memory) u
-grow_effect w (Decides c) u = omega arith
-grow_effect w (Withdraws c) u = omega arith
 grow_effect w (Cancels c t) u = grow_cancelled w c t (find_leftover t (speaker w c).leftovers) u
 grow_effect w (Learns t id) u = grow_learned w t id (find_verdict id w.verdicts) u
 grow_effect w (Releases t) u =
@@ -81,6 +75,7 @@ grow_effect w (Turns t) u =
     grow_topic w.topics t (after_turn (queue_has_room w) (verdict_in w) (topic_at w t))
     (turn_keeps (λ z. (topic_at w t).clock ≤ z.clock) (queue_has_room w) (verdict_in w) (λ x id v f n k. omega arith) (λ x p e k. k) (topic_at w t) (omega arith)) u
 grow_effect w (Takes s) u = grow_handed w s _ u
+grow_effect w _ u = omega arith
 
 -- no event lowers a topic's clock
 pub clock_grows : (w : World) (e : Move) (u : Topic) → (topic_at w u).clock ≤ (topic_at (world_after w e) u).clock

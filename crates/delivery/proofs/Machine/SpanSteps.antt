@@ -237,22 +237,17 @@ Tells-handed w s (Some item) =
 
 effect_tells : (past : List Answer) (w : World) (e : Move) → Reached past w → TellsOf w (move_effect w e)
 effect_tells past w (AddsTopic clock) r = Tells-added w clock
-effect_tells past w Opens r = Tells-same w
 effect_tells past w (Commits c sends) r = Tells-flown w c sends
 effect_tells past w (Subscribes c t) r = Tells-begun past w c t r
 effect_tells past w (Unsubscribes c s) r = Tells-closed past w s r (entry_at w s) refl
-effect_tells past w (Disconnects c) r = Tells-same w
-effect_tells past w (Errs c) r = Tells-same w
-effect_tells past w (Lost c) r = Tells-same w
 effect_tells past w (Leaves c) r = Tells-left past w c (oldest_live c 0 w.subscriptions) r
 effect_tells past w (Proposes c t memory) r = Tells-proposed w c t (proposal_fault w c t memory)
-effect_tells past w (Decides c) r = Tells-same w
-effect_tells past w (Withdraws c) r = Tells-same w
 effect_tells past w (Cancels c t) r = Tells-cancelled w c t (find_leftover t (speaker w c).leftovers)
 effect_tells past w (Learns t id) r = Tells-learned w t id (find_verdict id w.verdicts)
 effect_tells past w (Releases t) r = Tells-topic w t _ (release_goes w (topic_at w t))
 effect_tells past w (Turns t) r = Tells-topic w t _ (turned_goes w (topic_at w t))
 effect_tells past w (Takes s) r = Tells-handed w s _
+effect_tells past w _ r = Tells-same w
 
 -- each event leaves of every subscription its topic, its beginning, its end and its queue's bound
 pub step_tells : (past : List Answer) (w : World) (e : Move) → Reached past w → TellsOf w (world_after w e)

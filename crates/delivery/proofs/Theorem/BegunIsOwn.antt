@@ -52,23 +52,13 @@ no_take w s None txn e = cc
 no_take w s (Some item) txn e = cc
 
 answer_own : (w : World) (e : Move) (txn : Transaction) → move_answer w e ≡ Begun txn → IsOwn w e txn
-answer_own w (AddsTopic clock) txn e = cc
-answer_own w Opens txn e = cc
 answer_own w (Commits c sends) txn e = own_case w c sends txn e
-answer_own w (Subscribes c t) txn e = cc
-answer_own w (Unsubscribes c s) txn e = cc
-answer_own w (Disconnects c) txn e = cc
-answer_own w (Errs c) txn e = cc
-answer_own w (Lost c) txn e = cc
 answer_own w (Leaves c) txn e = absurd (no_leave w c (oldest_live c 0 w.subscriptions) txn e)
 answer_own w (Proposes c t memory) txn e = absurd (no_propose w c t (proposal_fault w c t memory) txn e)
-answer_own w (Decides c) txn e = cc
-answer_own w (Withdraws c) txn e = cc
 answer_own w (Cancels c t) txn e = absurd (no_cancel t (find_leftover t (speaker w c).leftovers) txn e)
-answer_own w (Learns t i) txn e = cc
 answer_own w (Releases t) txn e = absurd (no_release t (due_part (topic_at w t)) txn e)
-answer_own w (Turns t) txn e = cc
 answer_own w (Takes s) txn e = absurd (no_take w s _ txn e)
+answer_own w _ txn e = cc
 
 -- a transaction that is made has its frame's SENDs, and its connection's sender
 pub flying_is_own : Reported.BegunIsOwn
@@ -131,7 +121,6 @@ handed_speaks w s (Some item) h = h
 
 -- each move keeps it
 pub effect_speaks : (w : World) (e : Move) → Speaks w → Speaks (move_effect w e)
-effect_speaks w (AddsTopic clock) h = h
 effect_speaks w Opens h =
     let new : Connection = record { sender = length w.senders; standing = Standing.Open } in
     let m = push_length w.senders new_sender in let n = push_length w.connections new in let k = h.same in record {
@@ -140,7 +129,6 @@ effect_speaks w Opens h =
           (λ e. h.same ∙ sym e) (λ ne. h.own c (omega arith));
     }
 effect_speaks w (Commits c sends) h = flown_speaks w c sends h
-effect_speaks w (Subscribes c t) h = h
 effect_speaks w (Unsubscribes c s) h = closed_speaks w s (entry_at w s) h
 effect_speaks w (Disconnects c) h = standing_kept w.senders w.connections c Standing.Leaving h
 effect_speaks w (Errs c) h = standing_kept w.senders w.connections c Standing.Leaving h
@@ -152,9 +140,8 @@ effect_speaks w (Withdraws c) h =
     standing_kept _ w.connections c Standing.Leaving (sender_kept w.senders w.connections (connection_at w c).sender _ h)
 effect_speaks w (Cancels c t) h = cancelled_speaks w c t (find_leftover t (speaker w c).leftovers) h
 effect_speaks w (Learns t id) h = learned_speaks w t id (find_verdict id w.verdicts) h
-effect_speaks w (Releases t) h = h
-effect_speaks w (Turns t) h = h
 effect_speaks w (Takes s) h = handed_speaks w s _ h
+effect_speaks w _ h = h
 
 run_speaks : (es : List Move) (w : World) → Speaks w → Speaks (run es w)
 run_speaks [] w h = h

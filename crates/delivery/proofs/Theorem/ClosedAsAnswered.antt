@@ -141,24 +141,18 @@ taken_case w q s (Some item) = inl (
 
 effect_closes : (past : List Answer) (w : World) (e : Move) (s : ℕ) → Reached past w → move_refusal w e ≡ None → StaysOrCloses w (move_effect w e) (move_answer w e) s
 effect_closes past w (AddsTopic clock) s r n = same w _ (move_answer w (AddsTopic clock)) s refl (λ i. i)
-effect_closes past w Opens s r n = same w (move_effect w Opens) (move_answer w Opens) s refl (λ i. i)
 effect_closes past w (Commits c sends) s r n = flown_case w c s sends
 effect_closes past w (Subscribes c t) s r n = begun_case w c s t
 effect_closes past w (Unsubscribes c q) s r n =
     let k = and_parts (ltb q (length w.subscriptions)) (is_live c (subscription_at w q)) (false_not _ (checked w (Unsubscribes c q) n).1.1.1.0) in
     closed_case past w q s r (ltb-true q (length w.subscriptions) k.0) (live_unclosed c (subscription_at w q) k.1) (entry_at w q) refl
-effect_closes past w (Disconnects c) s r n = same w (move_effect w (Disconnects c)) (move_answer w (Disconnects c)) s refl (λ i. i)
-effect_closes past w (Errs c) s r n = same w (move_effect w (Errs c)) (move_answer w (Errs c)) s refl (λ i. i)
-effect_closes past w (Lost c) s r n = same w (move_effect w (Lost c)) (move_answer w (Lost c)) s refl (λ i. i)
 effect_closes past w (Leaves c) s r n = left_case past w c s r (oldest_live c 0 w.subscriptions) refl
 effect_closes past w (Proposes c t memory) s r n = proposed_case w c s t (proposal_fault w c t memory)
-effect_closes past w (Decides c) s r n = same w (move_effect w (Decides c)) (move_answer w (Decides c)) s refl (λ i. i)
-effect_closes past w (Withdraws c) s r n = same w (move_effect w (Withdraws c)) (move_answer w (Withdraws c)) s refl (λ i. i)
 effect_closes past w (Cancels c t) s r n = cancelled_case w c s t (find_leftover t (speaker w c).leftovers)
 effect_closes past w (Learns t id) s r n = learned_case w t id s (find_verdict id w.verdicts)
 effect_closes past w (Releases t) s r n = same w (move_effect w (Releases t)) (move_answer w (Releases t)) s refl (no_release_end t (due_part (topic_at w t)))
-effect_closes past w (Turns t) s r n = same w (move_effect w (Turns t)) (move_answer w (Turns t)) s refl (λ i. i)
 effect_closes past w (Takes q) s r n = taken_case w q s _
+effect_closes past w other s r n = same w (move_effect w other) (move_answer w other) s refl (λ i. i)
 
 closing : (r : Run) (e : Move) (s : ℕ) → StaysOrCloses (final_world r) (world_after (final_world r) e) (answer_to (final_world r) e) s
 closing r e s =

@@ -358,23 +358,13 @@ silent_take w s None past n h = h
 silent_take w s (Some item) past n h = (n, h)
 
 silent_answer : (past : List Answer) (w : World) (e : Move) → Shutting past w.connections w.subscriptions → move_refusal w e ≡ None → SilentAfterClose past → SilentAfterClose (move_answer w e ∷ past)
-silent_answer past w (AddsTopic clock) s e h = h
-silent_answer past w Opens s e h = h
 silent_answer past w (Commits c sends) s e h = silent_flown w c sends past h
-silent_answer past w (Subscribes c t) s e h = h
-silent_answer past w (Unsubscribes c n) s e h = h
-silent_answer past w (Disconnects c) s e h = h
-silent_answer past w (Errs c) s e h = h
-silent_answer past w (Lost c) s e h = h
 silent_answer past w (Leaves c) s e h = silent_leave w c (oldest_live c 0 w.subscriptions) past h
 silent_answer past w (Proposes c t memory) s e h = silent_propose w c t (proposal_fault w c t memory) past h
-silent_answer past w (Decides c) s e h = h
-silent_answer past w (Withdraws c) s e h = h
 silent_answer past w (Cancels c t) s e h = silent_cancel t (find_leftover t (speaker w c).leftovers) past h
-silent_answer past w (Learns t id) s e h = h
 silent_answer past w (Releases t) s e h = silent_release t (due_part (topic_at w t)) past h
-silent_answer past w (Turns t) s e h = h
 silent_answer past w (Takes n) s e h = silent_take w n _ past (not_silent past w n s e) h
+silent_answer past w _ s e h = h
 
 record Both (past : List Answer) (w : World) : Type 0 where
   shutting : Shutting past w.connections w.subscriptions

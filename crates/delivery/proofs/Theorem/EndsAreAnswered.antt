@@ -141,18 +141,12 @@ left_why past w c s end r (Some q) f new = closed_why past w q s end r (leave_en
 
 effect_why : (r : Run) (e : Move) (s : ℕ) (end : Stamp) → move_refusal (final_world r) e ≡ None → s < length (final_world r).subscriptions → New (final_world r) s end (move_effect (final_world r) e) → Why r e s end (move_effect (final_world r) e) (move_answer (final_world r) e)
 effect_why r (AddsTopic clock) s end n l new = absurd (added_ends (final_world r) clock s end new)
-effect_why r Opens s end n l new = absurd (same_topics (final_world r) s end new)
 effect_why r (Commits c sends) s end n l new = absurd (flown_ends (final_world r) c sends s end new)
 effect_why r (Subscribes c t) s end n l new = absurd (begun_ends (final_world r) c t s end l new)
 effect_why r (Unsubscribes c q) s end n l new =
     inl (closed_why (answers_of r) (final_world r) q s end (reached r) (answer_ends (answers_of r) (final_world r) (Unsubscribes c q) q (end_now (final_world r) q) (reached r) n refl) new)
-effect_why r (Disconnects c) s end n l new = absurd (same_topics (final_world r) s end new)
-effect_why r (Errs c) s end n l new = absurd (same_topics (final_world r) s end new)
-effect_why r (Lost c) s end n l new = absurd (same_topics (final_world r) s end new)
 effect_why r (Leaves c) s end n l new = inl (left_why (answers_of r) (final_world r) c s end (reached r) (oldest_live c 0 (final_world r).subscriptions) refl new)
 effect_why r (Proposes c t memory) s end n l new = absurd (proposed_ends (final_world r) c t (proposal_fault (final_world r) c t memory) s end new)
-effect_why r (Decides c) s end n l new = absurd (same_topics (final_world r) s end new)
-effect_why r (Withdraws c) s end n l new = absurd (same_topics (final_world r) s end new)
 effect_why r (Cancels c t) s end n l new = absurd (cancelled_ends (final_world r) c t (find_leftover t (speaker (final_world r) c).leftovers) s end new)
 effect_why r (Learns t id) s end n l new = absurd (learned_ends (final_world r) t id (find_verdict id (final_world r).verdicts) s end new)
 effect_why r (Releases t) s end n l new =
@@ -160,6 +154,7 @@ effect_why r (Releases t) s end n l new =
 effect_why r (Turns t) s end n l new =
     inr (inr (ap Turns (sym (lag_topic (final_world r) t _ s end new))), lag_full r t _ s end l (turned_goes (final_world r) (topic_at (final_world r) t)) new)
 effect_why r (Takes q) s end n l new = absurd (handed_ends (final_world r) q _ s end new)
+effect_why r _ s end n l new = absurd (same_topics (final_world r) s end new)
 
 happens_why : (r : Run) (e : Move) (s : ℕ) (end : Stamp) → s < length (final_world r).subscriptions → New (final_world r) s end (world_after (final_world r) e) → Why r e s end (world_after (final_world r) e) (answer_to (final_world r) e)
 happens_why r e s end l =

@@ -89,23 +89,17 @@ decided_floors past w c r n h d =
     (λ ne. h d ∙ sym (other_row d w.commits new (λ e. ne (sym e ∙ own))))
 
 happens_floors : (past : List Answer) (w : World) (e : Move) → Reached past w → move_refusal w e ≡ None → Floors w.senders w.commits → Floors (move_effect w e).senders (move_effect w e).commits
-happens_floors past w (AddsTopic clock) r n h = h
 happens_floors past w Opens r n h = λ d. at_push (λ (z : SenderState). z.floor ≡ floor_after d zero_stamp w.commits) w.senders d new_sender new_sender (λ e k. k) (h d)
 happens_floors past w (Commits c sends) r n h = flown_floors w c sends h
-happens_floors past w (Subscribes c t) r n h = h
 happens_floors past w (Unsubscribes c s) r n h = closed_floors w s (entry_at w s) h
-happens_floors past w (Disconnects c) r n h = h
-happens_floors past w (Errs c) r n h = h
-happens_floors past w (Lost c) r n h = h
 happens_floors past w (Leaves c) r n h = left_floors w c (oldest_live c 0 w.subscriptions) h
 happens_floors past w (Proposes c t memory) r n h = proposed_floors w c t (proposal_fault w c t memory) h
 happens_floors past w (Decides c) r n h = decided_floors past w c r n h
 happens_floors past w (Withdraws c) r n h = floor_kept w.senders w.commits (connection_at w c).sender _ refl h
 happens_floors past w (Cancels c t) r n h = cancelled_floors w c t (find_leftover t (speaker w c).leftovers) h
 happens_floors past w (Learns t id) r n h = learned_floors w t id (find_verdict id w.verdicts) h
-happens_floors past w (Releases t) r n h = h
-happens_floors past w (Turns t) r n h = h
 happens_floors past w (Takes s) r n h = handed_floors w s _ h
+happens_floors past w _ r n h = h
 
 run_floors : (es : List Move) (past : List Answer) (w : World) → Reached past w → Floors w.senders w.commits → Floors (run es w).senders (run es w).commits
 run_floors [] past w r h = h

@@ -279,19 +279,13 @@ happens_handing past w (AddsTopic clock) r h e = told past (move_effect w (AddsT
           (at_added (λ u z. More (entry_items (find_entry s (topic_in w.topics u).subscriptions)) (entry_items (find_entry s z.subscriptions))) w.topics w.log_limit clock (subscription_at w s).topic
           (λ k. k) (More-same (entry_items (entry_at w s))));
     }) h)
-happens_handing past w Opens r h e = record { held = h.held; fresh = h.fresh }
 happens_handing past w (Commits c sends) r h e = flown_handing past w c sends h
 happens_handing past w (Subscribes c t) r h e = told past (move_effect w (Subscribes c t)) (move_answer w (Subscribes c t)) (λ n. refl) (begun_handing past w c t h)
 happens_handing past w (Unsubscribes c s) r h e =
     told past (close_effect w s) (move_answer w (Unsubscribes c s)) (λ n. refl)
     (grown past w (close_effect w s) (closed_grows past w s r (entry_at w s) refl) h)
-happens_handing past w (Disconnects c) r h e = record { held = h.held; fresh = h.fresh }
-happens_handing past w (Errs c) r h e = record { held = h.held; fresh = h.fresh }
-happens_handing past w (Lost c) r h e = record { held = h.held; fresh = h.fresh }
 happens_handing past w (Leaves c) r h e = left_handing past w c (oldest_live c 0 w.subscriptions) r h
 happens_handing past w (Proposes c t memory) r h e = proposed_handing past w c t (proposal_fault w c t memory) h
-happens_handing past w (Decides c) r h e = record { held = h.held; fresh = h.fresh }
-happens_handing past w (Withdraws c) r h e = record { held = h.held; fresh = h.fresh }
 happens_handing past w (Cancels c t) r h e = cancelled_handing past w c t (find_leftover t (speaker w c).leftovers) h
 happens_handing past w (Learns t id) r h e = learned_handing past w t id (find_verdict id w.verdicts) h
 happens_handing past w (Releases t) r h e = told past (move_effect w (Releases t)) (move_answer w (Releases t)) (λ n. released_handed n t (due_part (topic_at w t)) past)
@@ -302,6 +296,7 @@ happens_handing past w (Turns t) r h e = told past (move_effect w (Turns t)) (mo
     (Keeps-turned (tickets past) w.commits t (queue_has_room w) (verdict_in w) (topic_at w t) r.inv.consistent (finds (tickets past) w r.inv) (r.inv.tied t)).entries)) h)
 happens_handing past w (Takes s) r h e =
     handed_handing past w s (ltb-true s (length w.subscriptions) (false_not (ltb s (length w.subscriptions)) (checked w (Takes s) e).0)) h _ refl
+happens_handing past w _ r h e = record { held = h.held; fresh = h.fresh }
 
 -- each event keeps Handing
 pub step_handing : (past : List Answer) (w : World) (e : Move) → Reached past w → Handing past w → Handing (answer_to w e ∷ past) (world_after w e)

@@ -150,22 +150,17 @@ taken_counts t past w q (Some item) h = h
 
 effect_counts : (t : Topic) (past : List Answer) (w : World) (e : Move) → move_refusal w e ≡ None → Counts t past w → Counts t (move_answer w e ∷ past) (move_effect w e)
 effect_counts t past w (AddsTopic clock) n h = added_counts t past w clock h
-effect_counts t past w Opens n h = h
 effect_counts t past w (Commits c sends) n h = flown_counts t past w c sends h
 effect_counts t past w (Subscribes c u) n h = beside t past w u (topic_with w u) refl h
 effect_counts t past w (Unsubscribes c s) n h = closed_counts t past w s (entry_at w s) h
-effect_counts t past w (Disconnects c) n h = h
-effect_counts t past w (Errs c) n h = h
-effect_counts t past w (Lost c) n h = h
 effect_counts t past w (Leaves c) n h = left_counts t past w c (oldest_live c 0 w.subscriptions) h
 effect_counts t past w (Proposes c u memory) n h = proposed_counts t past w c u (proposal_fault w c u memory) h
-effect_counts t past w (Decides c) n h = h
-effect_counts t past w (Withdraws c) n h = h
 effect_counts t past w (Cancels c u) n h = cancelled_counts t past w c u (find_leftover u (speaker w c).leftovers) h
 effect_counts t past w (Learns u id) n h = learned_counts t past w u id (find_verdict id w.verdicts) h
 effect_counts t past w (Releases u) n h = released_counts t past w u (false_not (is_topic w u) (checked w (Releases u) n).0) (due_part (topic_at w u)) h
 effect_counts t past w (Turns u) n h = turned_counts t past w u (false_not (is_topic w u) (checked w (Turns u) n).0) h
 effect_counts t past w (Takes q) n h = taken_counts t past w q _ h
+effect_counts t past w _ n h = h
 
 run_counts : (t : Topic) (es : List Move) (past : List Answer) (w : World) → Counts t past w → Counts t (answers_from es w past) (run es w)
 run_counts t [] past w h = h

@@ -123,25 +123,15 @@ take_once w s None id why e = cc
 take_once w s (Some item) id why e = cc
 
 answer_once : (past : List Answer) (w : World) (e : Move) (id : TxnId) → Reached past w → move_refusal w e ≡ None → move_answer w e ≡ Failed id ProposeFault.Twice → Prim.⊥
-answer_once past w (AddsTopic clock) id h n e = cc
-answer_once past w Opens id h n e = cc
 answer_once past w (Commits c sends) id h n e = flying_once w c sends id ProposeFault.Twice e
-answer_once past w (Subscribes c t) id h n e = cc
-answer_once past w (Unsubscribes c s) id h n e = cc
-answer_once past w (Disconnects c) id h n e = cc
-answer_once past w (Errs c) id h n e = cc
-answer_once past w (Lost c) id h n e = cc
 answer_once past w (Leaves c) id h n e = leave_once w c (oldest_live c 0 w.subscriptions) id ProposeFault.Twice e
 answer_once past w (Proposes c t memory) id h n e =
     propose_once w c t id (proposal_fault w c t memory)
     (λ k. fault_case (is_pending (undecided_at w c).txn.id (topic_at w t).pending) _ _ (not_waiting past w c t h (asks_of w c t memory n)) (memory_case memory _ k)) e
-answer_once past w (Decides c) id h n e = cc
-answer_once past w (Withdraws c) id h n e = cc
 answer_once past w (Cancels c t) id h n e = cancel_once t (find_leftover t (speaker w c).leftovers) id ProposeFault.Twice e
-answer_once past w (Learns t i) id h n e = cc
 answer_once past w (Releases t) id h n e = release_once t (due_part (topic_at w t)) id ProposeFault.Twice e
-answer_once past w (Turns t) id h n e = cc
 answer_once past w (Takes s) id h n e = take_once w s _ id ProposeFault.Twice e
+answer_once past w _ id h n e = cc
 
 outcome_once : (past : List Answer) (w : World) (e : Move) (id : TxnId) → Reached past w → answer_to w e ≡ Failed id ProposeFault.Twice → Prim.⊥
 outcome_once past w e id h =

@@ -199,22 +199,17 @@ length_flown w c (first ∷ others) = refl
 
 length_effect : (w : World) (e : Move) → AddsNone e → length (move_effect w e).topics ≡ length w.topics
 length_effect w (AddsTopic clock) n = absurd n
-length_effect w Opens n = refl
 length_effect w (Commits c sends) n = length_flown w c sends
 length_effect w (Subscribes c t) n = set_length w.topics t.0 _
 length_effect w (Unsubscribes c s) n = length_closed w s (entry_at w s)
-length_effect w (Disconnects c) n = refl
-length_effect w (Errs c) n = refl
-length_effect w (Lost c) n = refl
 length_effect w (Leaves c) n = length_left w c (oldest_live c 0 w.subscriptions)
 length_effect w (Proposes c t memory) n = length_proposed w c t (proposal_fault w c t memory)
-length_effect w (Decides c) n = refl
-length_effect w (Withdraws c) n = refl
 length_effect w (Cancels c t) n = length_cancelled w c t (find_leftover t (speaker w c).leftovers)
 length_effect w (Learns t id) n = length_learned w t id (find_verdict id w.verdicts)
 length_effect w (Releases t) n = set_length w.topics t.0 _
 length_effect w (Turns t) n = set_length w.topics t.0 _
 length_effect w (Takes s) n = length_handed w s _
+length_effect w _ n = refl
 
 topics_stay : (w : World) (e : Move) → AddsNone e → length (world_after w e).topics ≡ length w.topics
 topics_stay w e n = by_refusal (λ v o. length v.topics ≡ length w.topics) w e (λ why. refl) (λ k. length_effect w e n)

@@ -84,17 +84,11 @@ added_grow w clock s l =
 
 effect_grow : (past : List Answer) (w : World) (e : Move) → Reached past w → Grow w (move_effect w e)
 effect_grow past w (AddsTopic clock) r = added_grow w clock
-effect_grow past w Opens r = Grow-same w
 effect_grow past w (Commits c sends) r = flown_grow w c sends
 effect_grow past w (Subscribes c t) r = begun_grow w c t
 effect_grow past w (Unsubscribes c s) r = (closed_grows past w s r (entry_at w s) refl).more
-effect_grow past w (Disconnects c) r = Grow-same w
-effect_grow past w (Errs c) r = Grow-same w
-effect_grow past w (Lost c) r = Grow-same w
 effect_grow past w (Leaves c) r = left_grow past w c (oldest_live c 0 w.subscriptions) r
 effect_grow past w (Proposes c t memory) r = proposed_grow w c t (proposal_fault w c t memory)
-effect_grow past w (Decides c) r = Grow-same w
-effect_grow past w (Withdraws c) r = Grow-same w
 effect_grow past w (Cancels c t) r = cancelled_grow w c t (find_leftover t (speaker w c).leftovers)
 effect_grow past w (Learns t id) r = learned_grow w t id (find_verdict id w.verdicts)
 effect_grow past w (Releases t) r = Grow-topic w t (after_release (queue_has_room w) (topic_at w t)) (entries_more (topic_in w.topics t) (after_release (queue_has_room w) (topic_at w t))
@@ -102,6 +96,7 @@ effect_grow past w (Releases t) r = Grow-topic w t (after_release (queue_has_roo
 effect_grow past w (Turns t) r = Grow-topic w t (after_turn (queue_has_room w) (verdict_in w) (topic_at w t)) (entries_more (topic_in w.topics t) (after_turn (queue_has_room w) (verdict_in w) (topic_at w t))
     (Keeps-turned (tickets past) w.commits t (queue_has_room w) (verdict_in w) (topic_at w t) r.inv.consistent (finds (tickets past) w r.inv) (r.inv.tied t)).entries)
 effect_grow past w (Takes s) r = taken_grow w s _
+effect_grow past w _ r = Grow-same w
 
 -- what a queue has accepted stays, and more is added at its end alone
 pub queues_grow : Spans.QueuesGrow

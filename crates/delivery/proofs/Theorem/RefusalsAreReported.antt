@@ -22,24 +22,11 @@ use Rattle.delivery.proofs.Theorem.StepLaws.{no_answer, outcome_case, outcome_us
 
 -- what isn't odd is reported, or tells that no sequence number is left
 reported : (why : Objection) → is_odd why ≡ false → (is_reported why ≡ true) ⊎ (why ≡ Objection.SeqFull)
-reported Objection.NotPending e = inl refl
 reported Objection.Foreign e = absurd (true≢false e)
 reported Objection.Clash e = absurd (true≢false e)
 reported Objection.Decided e = absurd (true≢false e)
-reported Objection.NoSub e = inl refl
-reported Objection.Twice e = inl refl
-reported Objection.Incomplete e = inl refl
 reported Objection.SeqFull e = inr refl
-reported Objection.NotLeaving e = inl refl
-reported Objection.NoConn e = inl refl
-reported Objection.Busy e = inl refl
-reported Objection.NoFlight e = inl refl
-reported Objection.NotNamed e = inl refl
-reported Objection.NotDecided e = inl refl
-reported Objection.NothingDue e = inl refl
-reported Objection.Gone e = inl refl
-reported Objection.Marked e = inl refl
-reported Objection.NotMarked e = inl refl
+reported _ e = inl refl
 
 -- no sequence number is left
 abbrev is_full : Objection → Bool
@@ -97,18 +84,14 @@ full_is_commit w (AddsTopic clock) k = absurd (true≢false (refused_none w (Add
 full_is_commit w Opens k = absurd (true≢false (refused_none w Opens Objection.SeqFull tt k))
 full_is_commit w (Subscribes c t) k = absurd (true≢false (refused_none w (Subscribes c t) Objection.SeqFull (refl, (refl, (refl, (refl, tt)))) k))
 full_is_commit w (Unsubscribes c s) k = absurd (true≢false (refused_none w (Unsubscribes c s) Objection.SeqFull (refl, (refl, (refl, (refl, tt)))) k))
-full_is_commit w (Disconnects c) k = absurd (true≢false (refused_none w (Disconnects c) Objection.SeqFull (refl, (refl, (refl, tt))) k))
-full_is_commit w (Errs c) k = absurd (true≢false (refused_none w (Errs c) Objection.SeqFull (refl, (refl, (refl, tt))) k))
-full_is_commit w (Lost c) k = absurd (true≢false (refused_none w (Lost c) Objection.SeqFull (refl, (refl, (refl, tt))) k))
 full_is_commit w (Leaves c) k = absurd (true≢false (refused_none w (Leaves c) Objection.SeqFull (refl, (refl, (refl, (refl, tt)))) k))
 full_is_commit w (Proposes c t memory) k = absurd (true≢false (refused_none w (Proposes c t memory) Objection.SeqFull (refl, (refl, (refl, (refl, (refl, (refl, tt)))))) k))
 full_is_commit w (Decides c) k = absurd (true≢false (refused_none w (Decides c) Objection.SeqFull (refl, (refl, (refl, (refl, (refl, tt))))) k))
 full_is_commit w (Withdraws c) k = absurd (true≢false (refused_none w (Withdraws c) Objection.SeqFull (refl, (refl, (refl, (refl, tt)))) k))
-full_is_commit w (Cancels c t) k = absurd (true≢false (refused_none w (Cancels c t) Objection.SeqFull (refl, (refl, (refl, tt))) k))
 full_is_commit w (Learns t id) k = absurd (true≢false (refused_none w (Learns t id) Objection.SeqFull (refl, tt) k))
 full_is_commit w (Releases t) k = absurd (true≢false (refused_none w (Releases t) Objection.SeqFull (refl, (refl, tt)) k))
 full_is_commit w (Turns t) k = absurd (true≢false (refused_none w (Turns t) Objection.SeqFull (refl, tt) k))
-full_is_commit w (Takes s) k = absurd (true≢false (refused_none w (Takes s) Objection.SeqFull (refl, (refl, (refl, tt))) k))
+full_is_commit w other k = absurd (true≢false (refused_none w other Objection.SeqFull (refl, (refl, (refl, tt))) k))
 
 -- what refuses a move is reported by the core, but for a commit without a sequence number left
 pub refusals_are_reported : Laws.RefusalsAreReported

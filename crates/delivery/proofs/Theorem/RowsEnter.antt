@@ -221,17 +221,11 @@ added_enter past w clock r s l =
 
 effect_enter : (past : List Answer) (w : World) (e : Move) → Reached past w → AllEnter w (move_effect w e)
 effect_enter past w (AddsTopic clock) r = added_enter past w clock r
-effect_enter past w Opens r = Enter-same w
 effect_enter past w (Commits c sends) r = flown_enter w c sends
 effect_enter past w (Subscribes c t) r = begun_enter past w c t r
 effect_enter past w (Unsubscribes c s) r = closed_enter past w s r (entry_at w s) refl
-effect_enter past w (Disconnects c) r = Enter-same w
-effect_enter past w (Errs c) r = Enter-same w
-effect_enter past w (Lost c) r = Enter-same w
 effect_enter past w (Leaves c) r = left_enter past w c (oldest_live c 0 w.subscriptions) r
 effect_enter past w (Proposes c t memory) r = proposed_enter past w c t (proposal_fault w c t memory) r
-effect_enter past w (Decides c) r = Enter-same w
-effect_enter past w (Withdraws c) r = Enter-same w
 effect_enter past w (Cancels c t) r = cancelled_enter past w c t (find_leftover t (speaker w c).leftovers) r
 effect_enter past w (Learns t id) r = learned_enter past w t id (find_verdict id w.verdicts) r
 effect_enter past w (Releases t) r =
@@ -239,6 +233,7 @@ effect_enter past w (Releases t) r =
 effect_enter past w (Turns t) r =
     Enter-topic past w t (after_turn (queue_has_room w) (verdict_in w) (topic_at w t)) r (λ s. found_stepped w s t _ (turn_fills (queue_has_room w) (verdict_in w) (topic_at w t)))
 effect_enter past w (Takes s) r = taken_enter w s _
+effect_enter past w _ r = Enter-same w
 
 -- each event puts each row that it adds to a log into each queue of the topic whose span has no end then
 pub rows_enter : (r : Run) (e : Move) → AllEnter (final_world r) (world_after (final_world r) e)

@@ -77,23 +77,15 @@ begun_here w d c s u t from e =
     }
 
 answer_begun : (w : World) (e : Move) (s c : ℕ) (t : Topic) (from : Stamp) → move_answer w e ≡ Subscribed s c t from → Begun w e s c t from
-answer_begun w (AddsTopic clock) s c t from e = absurd (told_of _ _ e tt)
-answer_begun w Opens s c t from e = absurd (told_of _ _ e tt)
 answer_begun w (Commits d sends) s c t from e = absurd (flying_untold w d sends (told_of _ _ e tt))
 answer_begun w (Subscribes d u) s c t from e = begun_here w d c s u t from e
 answer_begun w (Unsubscribes d r) s c t from e = cc
-answer_begun w (Disconnects d) s c t from e = absurd (told_of _ _ e tt)
-answer_begun w (Errs d) s c t from e = absurd (told_of _ _ e tt)
-answer_begun w (Lost d) s c t from e = absurd (told_of _ _ e tt)
 answer_begun w (Leaves d) s c t from e = absurd (leave_begun w d (oldest_live d 0 w.subscriptions) s c t from e)
 answer_begun w (Proposes d u memory) s c t from e = absurd (propose_untold w d u (proposal_fault w d u memory) (told_of _ _ e tt))
-answer_begun w (Decides d) s c t from e = absurd (told_of _ _ e tt)
-answer_begun w (Withdraws d) s c t from e = absurd (told_of _ _ e tt)
 answer_begun w (Cancels d u) s c t from e = absurd (cancel_untold u (find_leftover u (speaker w d).leftovers) (told_of _ _ e tt))
-answer_begun w (Learns u id) s c t from e = absurd (told_of _ _ e tt)
 answer_begun w (Releases u) s c t from e = absurd (release_untold u (due_part (topic_at w u)) (told_of _ _ e tt))
-answer_begun w (Turns u) s c t from e = absurd (told_of _ _ e tt)
 answer_begun w (Takes r) s c t from e = absurd (take_untold w r _ (told_of _ _ e tt))
+answer_begun w _ s c t from e = absurd (told_of _ _ e tt)
 
 -- subscription s is there, and has this topic and this beginning
 pub record Begins (w : World) (s : ℕ) (t : Topic) (from : Stamp) : Type 0 where
@@ -146,25 +138,17 @@ leave_ends past w c s to r (Some q) f e =
 
 -- the end that an event answers is that of the subscription which it closes
 pub answer_ends : (past : List Answer) (w : World) (e : Move) (s : ℕ) (to : Stamp) → Reached past w → move_refusal w e ≡ None → move_answer w e ≡ Unsubscribed s to → end_at (move_effect w e) s ≡ Some to
-answer_ends past w (AddsTopic clock) s to r n e = absurd (told_of _ _ e tt)
-answer_ends past w Opens s to r n e = absurd (told_of _ _ e tt)
 answer_ends past w (Commits d sends) s to r n e = absurd (flying_untold w d sends (told_of _ _ e tt))
 answer_ends past w (Subscribes d u) s to r n e = cc
 answer_ends past w (Unsubscribes d q) s to r n e =
     let k = and_parts (ltb q (length w.subscriptions)) (is_live d (subscription_at w q)) (false_not _ (checked w (Unsubscribes d q) n).1.1.1.0) in
     ends_as_told past w q s to r (ltb-true q (length w.subscriptions) k.0) (live_open d (subscription_at w q) k.1) e
-answer_ends past w (Disconnects d) s to r n e = absurd (told_of _ _ e tt)
-answer_ends past w (Errs d) s to r n e = absurd (told_of _ _ e tt)
-answer_ends past w (Lost d) s to r n e = absurd (told_of _ _ e tt)
 answer_ends past w (Leaves d) s to r n e = leave_ends past w d s to r (oldest_live d 0 w.subscriptions) refl e
 answer_ends past w (Proposes d u memory) s to r n e = absurd (propose_untold w d u (proposal_fault w d u memory) (told_of _ _ e tt))
-answer_ends past w (Decides d) s to r n e = absurd (told_of _ _ e tt)
-answer_ends past w (Withdraws d) s to r n e = absurd (told_of _ _ e tt)
 answer_ends past w (Cancels d u) s to r n e = absurd (cancel_untold u (find_leftover u (speaker w d).leftovers) (told_of _ _ e tt))
-answer_ends past w (Learns u id) s to r n e = absurd (told_of _ _ e tt)
 answer_ends past w (Releases u) s to r n e = absurd (release_untold u (due_part (topic_at w u)) (told_of _ _ e tt))
-answer_ends past w (Turns u) s to r n e = absurd (told_of _ _ e tt)
 answer_ends past w (Takes q) s to r n e = absurd (take_untold w q _ (told_of _ _ e tt))
+answer_ends past w _ s to r n e = absurd (told_of _ _ e tt)
 
 ends_now : (past : List Answer) (w : World) (e : Move) (s : ℕ) (to : Stamp) → Reached past w → answer_to w e ≡ Unsubscribed s to → end_at (world_after w e) s ≡ Some to
 ends_now past w e s to r =

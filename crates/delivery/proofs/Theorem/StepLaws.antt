@@ -65,23 +65,13 @@ no_take w s (Some item) why e = cc
 
 -- no effect is answered by a refusal
 pub no_answer : (w : World) (e : Move) (why : Objection) → move_answer w e ≡ Refused why → Prim.⊥
-no_answer w (AddsTopic clock) why e = cc
-no_answer w Opens why e = cc
 no_answer w (Commits c sends) why e = no_flying w c sends why e
-no_answer w (Subscribes c t) why e = cc
-no_answer w (Unsubscribes c s) why e = cc
-no_answer w (Disconnects c) why e = cc
-no_answer w (Errs c) why e = cc
-no_answer w (Lost c) why e = cc
 no_answer w (Leaves c) why e = no_leave w c (oldest_live c 0 w.subscriptions) why e
 no_answer w (Proposes c t memory) why e = no_propose w c t (proposal_fault w c t memory) why e
-no_answer w (Decides c) why e = cc
-no_answer w (Withdraws c) why e = cc
 no_answer w (Cancels c t) why e = no_cancel t (find_leftover t (speaker w c).leftovers) why e
-no_answer w (Learns t id) why e = cc
 no_answer w (Releases t) why e = no_release t (due_part (topic_at w t)) why e
-no_answer w (Turns t) why e = cc
 no_answer w (Takes s) why e = no_take w s _ why e
+no_answer w _ why e = cc
 
 -- a refused event changes nothing
 pub refusals_change_nothing : Laws.RefusalsChangeNothing
@@ -124,22 +114,17 @@ handed_topics w s (Some item) = refl
 
 effect_untouched : (w : World) (e : Move) (u : Topic) → u.0 < length w.topics → move_topic w e ≢ Some u → topic_at (move_effect w e) u ≡ topic_at w u
 effect_untouched w (AddsTopic clock) u l ne = at_old (λ z. z ≡ topic_at w u) w.topics u.0 _ (new_topic u 0 0) l refl
-effect_untouched w Opens u l ne = refl
 effect_untouched w (Commits c sends) u l ne = ap (λ z. topic_in z u) (flown_topics w c sends)
 effect_untouched w (Subscribes c t) u l ne = untouched w.topics t u _ ne
 effect_untouched w (Unsubscribes c s) u l ne = closed_untouched w s u (entry_at w s) ne
-effect_untouched w (Disconnects c) u l ne = refl
-effect_untouched w (Errs c) u l ne = refl
-effect_untouched w (Lost c) u l ne = refl
 effect_untouched w (Leaves c) u l ne = left_untouched w c u (oldest_live c 0 w.subscriptions) ne
 effect_untouched w (Proposes c t memory) u l ne = proposed_untouched w c t u (proposal_fault w c t memory) ne
-effect_untouched w (Decides c) u l ne = refl
-effect_untouched w (Withdraws c) u l ne = refl
 effect_untouched w (Cancels c t) u l ne = cancelled_untouched w c t u (find_leftover t (speaker w c).leftovers) ne
 effect_untouched w (Learns t id) u l ne = learned_untouched w t u id (find_verdict id w.verdicts) ne
 effect_untouched w (Releases t) u l ne = untouched w.topics t u _ ne
 effect_untouched w (Turns t) u l ne = untouched w.topics t u _ ne
 effect_untouched w (Takes s) u l ne = ap (λ z. topic_in z u) (handed_topics w s _)
+effect_untouched w _ u l ne = refl
 
 -- an event changes no other topic than its own
 pub others_untouched : Laws.OthersUntouched
@@ -178,23 +163,13 @@ no_ticket_take w s None id ticket e = cc
 no_ticket_take w s (Some item) id ticket e = cc
 
 answer_ticket : (w : World) (e : Move) (id : TxnId) (ticket : Stamp) → move_refusal w e ≡ None → move_answer w e ≡ Ticket id ticket → IsOwn w e id ticket
-answer_ticket w (AddsTopic clock) id ticket n e = cc
-answer_ticket w Opens id ticket n e = cc
 answer_ticket w (Commits c sends) id ticket n e = absurd (no_ticket_flying w c sends id ticket e)
-answer_ticket w (Subscribes c t) id ticket n e = cc
-answer_ticket w (Unsubscribes c s) id ticket n e = cc
-answer_ticket w (Disconnects c) id ticket n e = cc
-answer_ticket w (Errs c) id ticket n e = cc
-answer_ticket w (Lost c) id ticket n e = cc
 answer_ticket w (Leaves c) id ticket n e = absurd (no_ticket_leave w c (oldest_live c 0 w.subscriptions) id ticket e)
 answer_ticket w (Proposes c t memory) id ticket n e = ticket_case w c t memory (proposal_fault w c t memory) id ticket (asks_of w c t memory n) e
-answer_ticket w (Decides c) id ticket n e = cc
-answer_ticket w (Withdraws c) id ticket n e = cc
 answer_ticket w (Cancels c t) id ticket n e = absurd (no_ticket_cancel t (find_leftover t (speaker w c).leftovers) id ticket e)
-answer_ticket w (Learns t i) id ticket n e = cc
 answer_ticket w (Releases t) id ticket n e = absurd (no_ticket_release t (due_part (topic_at w t)) id ticket e)
-answer_ticket w (Turns t) id ticket n e = cc
 answer_ticket w (Takes s) id ticket n e = absurd (no_ticket_take w s _ id ticket e)
+answer_ticket w _ id ticket n e = cc
 
 -- a ticket comes from a topic that is named, one above its clock and its sender's floor
 pub ticket_is_own : Laws.TicketIsOwn
@@ -224,18 +199,14 @@ usual_checks w Opens = tt
 usual_checks w (Commits c sends) = (refl, (refl, (refl, (refl, (refl, tt)))))
 usual_checks w (Subscribes c t) = (refl, (refl, (refl, (refl, tt))))
 usual_checks w (Unsubscribes c s) = (refl, (refl, (refl, (refl, tt))))
-usual_checks w (Disconnects c) = (refl, (refl, (refl, tt)))
-usual_checks w (Errs c) = (refl, (refl, (refl, tt)))
-usual_checks w (Lost c) = (refl, (refl, (refl, tt)))
 usual_checks w (Leaves c) = (refl, (refl, (refl, (refl, tt))))
 usual_checks w (Proposes c t memory) = (refl, (refl, (refl, (refl, (refl, (refl, tt))))))
 usual_checks w (Decides c) = (refl, (refl, (refl, (refl, (refl, tt)))))
 usual_checks w (Withdraws c) = (refl, (refl, (refl, (refl, tt))))
-usual_checks w (Cancels c t) = (refl, (refl, (refl, tt)))
 usual_checks w (Learns t id) = (refl, tt)
 usual_checks w (Releases t) = (refl, (refl, tt))
 usual_checks w (Turns t) = (refl, tt)
-usual_checks w (Takes s) = (refl, (refl, (refl, tt)))
+usual_checks w _ = (refl, (refl, (refl, tt)))
 
 usual_learn : (why : Objection) (o : Option LearnFault) → (o ≡ None) ⊎ (o ≡ Some LearnFault.NotPending) → option_map learn_objection_of o ≡ Some why → is_odd why ≡ false
 usual_learn why o (inl n) e = none_some why (sym (ap (option_map learn_objection_of) n) ∙ e)

@@ -304,14 +304,9 @@ or_right true b e = absurd (true≢false e)
 or_right false b e = e
 
 happens_accounted : (past : List Answer) (w : World) (e : Move) → Reached past w → Accounted past w.senders w.commits → move_refusal w e ≡ None → Accounted (move_answer w e ∷ past) (move_effect w e).senders (move_effect w e).commits
-happens_accounted past w (AddsTopic clock) r h n = note past _ w.senders w.commits refl h
 happens_accounted past w Opens r h n = opened_accounted past _ w.senders w.commits refl h
 happens_accounted past w (Commits c sends) r h n = flown_accounted past w c sends (or_right _ (is_some (speaker w c).flight) (checked w (Commits c sends) n).1.1.0) h
-happens_accounted past w (Subscribes c t) r h n = note past _ w.senders w.commits refl h
 happens_accounted past w (Unsubscribes c s) r h n = same_accounted past _ w (move_effect w (Unsubscribes c s)) refl (closed_senders w s (entry_at w s)) h
-happens_accounted past w (Disconnects c) r h n = note past _ w.senders w.commits refl h
-happens_accounted past w (Errs c) r h n = note past _ w.senders w.commits refl h
-happens_accounted past w (Lost c) r h n = note past _ w.senders w.commits refl h
 happens_accounted past w (Leaves c) r h n = left_accounted past w c (oldest_live c 0 w.subscriptions) h
 happens_accounted past w (Proposes c t memory) r h n = proposed_accounted past w c t (proposal_fault w c t memory) r (asks_of w c t memory n) h
 happens_accounted past w (Decides c) r h n = decided_accounted past w c r n h
@@ -319,8 +314,8 @@ happens_accounted past w (Withdraws c) r h n = withdrawn_accounted past w c r n 
 happens_accounted past w (Cancels c t) r h n = cancelled_accounted past w c t (find_leftover t (speaker w c).leftovers) refl h
 happens_accounted past w (Learns t id) r h n = same_accounted past _ w (move_effect w (Learns t id)) refl (learned_senders w t id (find_verdict id w.verdicts)) h
 happens_accounted past w (Releases t) r h n = released_accounted past w t (due_part (topic_at w t)) h
-happens_accounted past w (Turns t) r h n = note past _ w.senders w.commits refl h
 happens_accounted past w (Takes s) r h n = handed_accounted past w s _ h
+happens_accounted past w _ r h n = note past _ w.senders w.commits refl h
 
 step_accounted : (past : List Answer) (w : World) (e : Move) → Reached past w → Accounted past w.senders w.commits → Accounted (answer_to w e ∷ past) (world_after w e).senders (world_after w e).commits
 step_accounted past w e r h =

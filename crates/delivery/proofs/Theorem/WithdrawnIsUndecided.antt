@@ -62,14 +62,7 @@ take_ends w s None = tt
 take_ends w s (Some item) = tt
 
 answer_ends : (w : World) (e : Move) → move_refusal w e ≡ None → Ends w (move_answer w e)
-answer_ends w (AddsTopic clock) n = tt
-answer_ends w Opens n = tt
 answer_ends w (Commits c sends) n = flying_ends w c sends
-answer_ends w (Subscribes c t) n = tt
-answer_ends w (Unsubscribes c s) n = tt
-answer_ends w (Disconnects c) n = tt
-answer_ends w (Errs c) n = tt
-answer_ends w (Lost c) n = tt
 answer_ends w (Leaves c) n = leave_ends w c (oldest_live c 0 w.subscriptions)
 answer_ends w (Proposes c t memory) n = propose_ends w c t (proposal_fault w c t memory)
 answer_ends w (Decides c) n =
@@ -79,10 +72,9 @@ answer_ends w (Withdraws c) n =
     let f = in_flight w c (checked w (Withdraws c) n).1.1.0 in
     record { sender = (connection_at w c).sender; flight = f.flight; is = f.is; own = ap (λ (z : Undecided). z.txn.id) (sym f.at) }
 answer_ends w (Cancels c t) n = cancel_ends w t (find_leftover t (speaker w c).leftovers)
-answer_ends w (Learns t id) n = tt
 answer_ends w (Releases t) n = release_ends w t (due_part (topic_at w t))
-answer_ends w (Turns t) n = tt
 answer_ends w (Takes s) n = take_ends w s _
+answer_ends w _ n = tt
 
 outcome_ends : (w : World) (e : Move) → Ends w (answer_to w e)
 outcome_ends w e = by_refusal (λ v o. Ends w o) w e (λ why. tt) (λ n. answer_ends w e n)

@@ -101,23 +101,19 @@ leaving : (w : World) (d c : ℕ) → d ≢ c → Stays w (record w { connection
 leaving w d c n = shut w c d (record { sender = (connection_at w d).sender; standing = Standing.Leaving }) n
 
 effect_stays : (w : World) (mv : Move) (c : ℕ) → Apart w mv c → Stays w (move_effect w mv) c
-effect_stays w (AddsTopic clock) c n = refl
 effect_stays w Opens c n = pushed w.connections (record { sender = length w.senders; standing = Standing.Open }) c n
 effect_stays w (Commits d sends) c n = committed w d sends c
-effect_stays w (Subscribes d t) c n = refl
 effect_stays w (Unsubscribes d s) c n = closed w s (entry_at w s) c
 effect_stays w (Disconnects d) c n = leaving w d c n
 effect_stays w (Errs d) c n = leaving w d c n
 effect_stays w (Lost d) c n = leaving w d c n
 effect_stays w (Leaves d) c n = left w d (oldest_live d 0 w.subscriptions) c n
 effect_stays w (Proposes d t memory) c n = proposed w d t (proposal_fault w d t memory) c
-effect_stays w (Decides d) c n = refl
 effect_stays w (Withdraws d) c n = leaving w d c n
 effect_stays w (Cancels d t) c n = cancelled w d t (find_leftover t (speaker w d).leftovers) c
 effect_stays w (Learns t id) c n = learnt w t id (find_verdict id w.verdicts) c
-effect_stays w (Releases t) c n = refl
-effect_stays w (Turns t) c n = refl
 effect_stays w (Takes s) c n = taken w s (slice_get (accepted_at w s) (subscription_at w s).taken) c n
+effect_stays w _ c n = refl
 
 move_stays : (w : World) (mv : Move) (c : ℕ) → Apart w mv c → Stays w (world_after w mv) c
 move_stays w mv c n = by_refusal (λ v o. Stays w v c) w mv (λ why. refl) (λ k. effect_stays w mv c n)
@@ -181,33 +177,12 @@ standing_stays k (Event.Lost d) rd o c n = move_stays k.world (Lost d) c (unlike
 reader_stays : (w : World) (c : ℕ) (u : Unread) (e : Event) (rd : Reading) (o : Outcome) → event_connection w e ≢ Some c → unread_after c u e rd o ≡ u
 reader_stays w c u (Event.Piece d octets) rd o n = ap (λ (b : Bool). cond (b && is_fed o) (fed u octets) u) (differ d c (unlike d c n))
 reader_stays w c u (Event.Next d) rd o n = ap (λ (b : Bool). cond b (left_by u rd) u) (differ d c (unlike d c n))
-reader_stays w c u Event.Open rd o n = refl
-reader_stays w c u (Event.Propose d t) rd o n = refl
-reader_stays w c u (Event.Decide d) rd o n = refl
-reader_stays w c u (Event.Withdraw d) rd o n = refl
-reader_stays w c u (Event.Cancel d t) rd o n = refl
-reader_stays w c u (Event.Learn t id) rd o n = refl
-reader_stays w c u (Event.Release t) rd o n = refl
-reader_stays w c u (Event.Turn t) rd o n = refl
-reader_stays w c u (Event.Take s) rd o n = refl
-reader_stays w c u (Event.Leave d) rd o n = refl
-reader_stays w c u (Event.Lost d) rd o n = refl
+reader_stays w c u _ rd o n = refl
 
 -- no frame of it is asked for
 unasked : (w : World) (c : ℕ) (e : Event) → event_connection w e ≢ Some c → is_next c e ≡ false
 unasked w c (Event.Next d) n = differ d c (unlike d c n)
-unasked w c Event.Open n = refl
-unasked w c (Event.Piece d octets) n = refl
-unasked w c (Event.Propose d t) n = refl
-unasked w c (Event.Decide d) n = refl
-unasked w c (Event.Withdraw d) n = refl
-unasked w c (Event.Cancel d t) n = refl
-unasked w c (Event.Learn t id) n = refl
-unasked w c (Event.Release t) n = refl
-unasked w c (Event.Turn t) n = refl
-unasked w c (Event.Take s) n = refl
-unasked w c (Event.Leave d) n = refl
-unasked w c (Event.Lost d) n = refl
+unasked w c _ n = refl
 
 -- a reply that is only this connection's where its number is
 off : (b q : Bool) (fs : List RawFrame) → b ≡ false → cond (b && q) fs [] ≡ []

@@ -34,24 +34,8 @@ use Rattle.delivery.proofs.Core.Tests.{connection_there}
 -- why a transaction was refused reads the same of what is said
 failed_said : (id : TxnId) (past : List Answer) → failed_title id (said past) ≡ failed_title id past
 failed_said id [] = refl
-failed_said id (Answer.Refused why ∷ past) = failed_said id past
-failed_said id (Answer.Done ∷ past) = failed_said id past
-failed_said id (Answer.Opened c ∷ past) = failed_said id past
-failed_said id (Answer.Begun txn ∷ past) = failed_said id past
-failed_said id (Answer.Subscribed r c u from ∷ past) = failed_said id past
-failed_said id (Answer.Unsubscribed r to ∷ past) = failed_said id past
-failed_said id (Answer.Leaving c ∷ past) = failed_said id past
-failed_said id (Answer.Error c ∷ past) = failed_said id past
-failed_said id (Answer.Gone c ∷ past) = failed_said id past
-failed_said id (Answer.Ticket i ticket ∷ past) = failed_said id past
 failed_said id (Answer.Failed i why ∷ past) = ap (λ (z : List ℕ). cond (same_id i id) (propose_title why) z) (failed_said id past)
-failed_said id (Answer.Decided i stamp ∷ past) = failed_said id past
-failed_said id (Answer.Withdrawn i c ∷ past) = failed_said id past
-failed_said id (Answer.Cancelled i u ∷ past) = failed_said id past
-failed_said id (Answer.Learnt i u ∷ past) = failed_said id past
-failed_said id (Answer.Released u i ∷ past) = failed_said id past
-failed_said id (Answer.Turned u n ∷ past) = failed_said id past
-failed_said id (Answer.Handed r item ∷ past) = failed_said id past
+failed_said id (_ ∷ past) = failed_said id past
 
 -- each marked transaction was refused for what it is marked with
 abbrev AreMarked : List Answer → List SenderState → Type 0
@@ -144,14 +128,9 @@ opened past w h s f fault =
 
 happens : (r : Run) (e : Move) → AreMarked (answers_of r) (final_world r).senders → move_refusal (final_world r) e ≡ None
     → AreMarked (move_answer (final_world r) e ∷ answers_of r) (move_effect (final_world r) e).senders
-happens r (AddsTopic clock) h n = noted (answers_of r) (final_world r).senders (move_answer (final_world r) (AddsTopic clock)) (λ id. refl) h
 happens r Opens h n = noted (answers_of r) ((final_world r).senders ++ new_sender ∷ []) (move_answer (final_world r) Opens) (λ id. refl) (opened (answers_of r) (final_world r) h)
 happens r (Commits c sends) h n = flown (answers_of r) (final_world r) c sends h
-happens r (Subscribes c t) h n = noted (answers_of r) (final_world r).senders (move_answer (final_world r) (Subscribes c t)) (λ id. refl) h
 happens r (Unsubscribes c s) h n = let w = final_world r in noted (answers_of r) (close_effect_of w s (entry_at w s)).senders (move_answer (final_world r) (Unsubscribes c s)) (λ id. refl) (closed (answers_of r) w s (entry_at w s) h)
-happens r (Disconnects c) h n = noted (answers_of r) (final_world r).senders (move_answer (final_world r) (Disconnects c)) (λ id. refl) h
-happens r (Errs c) h n = noted (answers_of r) (final_world r).senders (move_answer (final_world r) (Errs c)) (λ id. refl) h
-happens r (Lost c) h n = noted (answers_of r) (final_world r).senders (move_answer (final_world r) (Lost c)) (λ id. refl) h
 happens r (Leaves c) h n = let w = final_world r in gone (answers_of r) w c (oldest_live c 0 w.subscriptions) h
 happens r (Proposes c t memory) h n =
     let w = final_world r in let k = checked w (Proposes c t memory) n in let fl = in_flight w c k.1.1.0 in
@@ -167,8 +146,8 @@ happens r (Cancels c t) h n = let w = final_world r in cancelled (answers_of r) 
 happens r (Learns t id) h n =
     let w = final_world r in noted (answers_of r) (learn_effect w t id (find_verdict id w.verdicts)).senders (move_answer (final_world r) (Learns t id)) (λ i. refl) (learned (answers_of r) w t id (find_verdict id w.verdicts) h)
 happens r (Releases t) h n = let w = final_world r in released (answers_of r) w t (due_part (topic_at w t)) h
-happens r (Turns t) h n = noted (answers_of r) (final_world r).senders (move_answer (final_world r) (Turns t)) (λ id. refl) h
 happens r (Takes s) h n = let w = final_world r in taken (answers_of r) w s (slice_get (accepted_at w s) (subscription_at w s).taken) h
+happens r other h n = noted (answers_of r) (final_world r).senders (move_answer (final_world r) other) (λ id. refl) h
 
 -- after each run the marked ones were refused so
 pub marked : (r : Run) → AreMarked (answers_of r) (final_world r).senders

@@ -56,28 +56,11 @@ judged_refuses accepted old new left r f g fault h is unanswered refused same = 
 
 memory_or : (fault : FrameFault) → (fault ≡ FrameFault.NoMemory) ⊎ (fault ≢ FrameFault.NoMemory)
 memory_or FrameFault.NoMemory = inl refl
-memory_or FrameFault.BadCommand = inr (λ e. absurd (cc))
-memory_or FrameFault.BadLine = inr (λ e. absurd (cc))
-memory_or FrameFault.BadHeader = inr (λ e. absurd (cc))
-memory_or FrameFault.BadEscape = inr (λ e. absurd (cc))
-memory_or FrameFault.BadText = inr (λ e. absurd (cc))
-memory_or FrameFault.BadLength = inr (λ e. absurd (cc))
-memory_or FrameFault.BadEnd = inr (λ e. absurd (cc))
-memory_or FrameFault.LineTooLong = inr (λ e. absurd (cc))
-memory_or FrameFault.TooManyHeaders = inr (λ e. absurd (cc))
-memory_or FrameFault.BodyTooLong = inr (λ e. absurd (cc))
+memory_or _ = inr (λ e. absurd (cc))
 
 stream : (k : Check) → reader_fault (fault_of k) ≡ ConnectionFault.Stream k
 stream Check.BadCommand = refl
-stream Check.BadLine = refl
-stream Check.BadHeader = refl
-stream Check.BadEscape = refl
-stream Check.BadText = refl
-stream Check.BadLength = refl
-stream Check.BadEnd = refl
-stream Check.LineTooLong = refl
-stream Check.TooManyHeaders = refl
-stream Check.BodyTooLong = refl
+stream _ = refl
 
 -- the reader returns a fault
 pub judged_fails : (accepted : List RawFrame) (old new : OpenLine) (left : Unread) (fault : FrameFault)

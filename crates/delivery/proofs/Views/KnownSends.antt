@@ -100,18 +100,7 @@ next_free k c d rd o None i true e = read_free k c d rd o e (subst (λ n. In o (
 adds_free : (k : Core) (c : ℕ) (e : Event) (rd : Reading) (o : Outcome) → In o (outcomes k e rd)
     → MayAdd k c (record { event = e; reading = rd; outcome = o })
 adds_free k c (Event.Next d) rd o i = next_free k c d rd o (first_refusal (needs_idle k.world d)) i (d == c) refl
-adds_free k c Event.Open rd o i = inl (if_same (has_effect o) [])
-adds_free k c (Event.Piece d octets) rd o i = inl (if_same (has_effect o) [])
-adds_free k c (Event.Propose d t) rd o i = inl (if_same (has_effect o) [])
-adds_free k c (Event.Decide d) rd o i = inl (if_same (has_effect o) [])
-adds_free k c (Event.Withdraw d) rd o i = inl (if_same (has_effect o) [])
-adds_free k c (Event.Cancel d t) rd o i = inl (if_same (has_effect o) [])
-adds_free k c (Event.Learn t id) rd o i = inl (if_same (has_effect o) [])
-adds_free k c (Event.Release t) rd o i = inl (if_same (has_effect o) [])
-adds_free k c (Event.Turn t) rd o i = inl (if_same (has_effect o) [])
-adds_free k c (Event.Take s) rd o i = inl (if_same (has_effect o) [])
-adds_free k c (Event.Leave d) rd o i = inl (if_same (has_effect o) [])
-adds_free k c (Event.Lost d) rd o i = inl (if_same (has_effect o) [])
+adds_free k c _ rd o i = inl (if_same (has_effect o) [])
 
 -- ---- their destinations
 
@@ -131,20 +120,7 @@ known_of : (command : Command) (s : Held) (f : RawFrame) → first_fault ((is_cl
 known_of commands.Send s f e h =
     third (is_closed s.phase) (is_new s.phase) (is_known (field (codes "destination") f) s.names) faults.Closed faults.NotConnected faults.UnknownDestination
     (first_fault ((is_in_no_transaction s f, faults.NoSuchTxn) ∷ (is_in_full_transaction s f, faults.TooManySends) ∷ [])) e
-known_of commands.Connect s f e h = absurd (false≢true h)
-known_of commands.Stomp s f e h = absurd (false≢true h)
-known_of commands.Subscribe s f e h = absurd (false≢true h)
-known_of commands.Unsubscribe s f e h = absurd (false≢true h)
-known_of commands.Begin s f e h = absurd (false≢true h)
-known_of commands.Commit s f e h = absurd (false≢true h)
-known_of commands.Abort s f e h = absurd (false≢true h)
-known_of commands.Disconnect s f e h = absurd (false≢true h)
-known_of commands.Ack s f e h = absurd (false≢true h)
-known_of commands.Nack s f e h = absurd (false≢true h)
-known_of commands.Connected s f e h = absurd (false≢true h)
-known_of commands.Message s f e h = absurd (false≢true h)
-known_of commands.Receipt s f e h = absurd (false≢true h)
-known_of commands.Error s f e h = absurd (false≢true h)
+known_of _ s f e h = absurd (false≢true h)
 
 -- so of each that a run accepted
 known_all : (topics : TopicList) (capacity : ℕ) (steps : List CoreStep) → IsCoreRun topics capacity steps → (c : ℕ)
@@ -266,19 +242,7 @@ made_by : (command : Command) (w : World) (s : Held) (f : RawFrame) (sends : Lis
     → ((x : List ℕ) → AreNamed w (sends_in x s.transactions)) → AreSends w sends
 made_by commands.Send w s f sends e own others = made_alone w s f sends (first_of (codes "transaction") f.headers) e (own refl)
 made_by commands.Commit w s f sends e own others = made_commit w (sends_in (transaction_of f) s.transactions) sends e (others (transaction_of f))
-made_by commands.Connect w s f sends e own others = absurd (cc)
-made_by commands.Stomp w s f sends e own others = absurd (cc)
-made_by commands.Subscribe w s f sends e own others = absurd (cc)
-made_by commands.Unsubscribe w s f sends e own others = absurd (cc)
-made_by commands.Begin w s f sends e own others = absurd (cc)
-made_by commands.Abort w s f sends e own others = absurd (cc)
-made_by commands.Disconnect w s f sends e own others = absurd (cc)
-made_by commands.Ack w s f sends e own others = absurd (cc)
-made_by commands.Nack w s f sends e own others = absurd (cc)
-made_by commands.Connected w s f sends e own others = absurd (cc)
-made_by commands.Message w s f sends e own others = absurd (cc)
-made_by commands.Receipt w s f sends e own others = absurd (cc)
-made_by commands.Error w s f sends e own others = absurd (cc)
+made_by _ w s f sends e own others = absurd (cc)
 
 -- what an accepted frame commits
 pub committed_sends : (k : Core) (c : ℕ) (f : RawFrame) (sends : List SentMessage) → IsReached k → refusal (session_at k c) f ≡ None

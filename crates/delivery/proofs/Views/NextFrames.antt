@@ -164,34 +164,12 @@ connects commands.Connect s f is e = ap is_connect is
 connects commands.Stomp s f is e = ap is_connect is
 connects commands.Send s f is e = connects_sent s f (first_of (codes "transaction") f.headers) e
 connects commands.Commit s f is e = connects_committed f (sends_in (transaction_of f) s.transactions) e
-connects commands.Disconnect s f is e = absurd (cc)
-connects commands.Subscribe s f is e = absurd (cc)
-connects commands.Unsubscribe s f is e = absurd (cc)
-connects commands.Begin s f is e = absurd (cc)
-connects commands.Abort s f is e = absurd (cc)
-connects commands.Ack s f is e = absurd (cc)
-connects commands.Nack s f is e = absurd (cc)
-connects commands.Connected s f is e = absurd (cc)
-connects commands.Message s f is e = absurd (cc)
-connects commands.Receipt s f is e = absurd (cc)
-connects commands.Error s f is e = absurd (cc)
+connects _ s f is e = absurd (cc)
 
 quiet_frame : (command : Command) (s : Held) (f : RawFrame) → action_by command s f ≡ actions.Nothing → is_connect command ≡ false
 quiet_frame commands.Connect s f e = absurd (cc)
 quiet_frame commands.Stomp s f e = absurd (cc)
-quiet_frame commands.Send s f e = refl
-quiet_frame commands.Commit s f e = refl
-quiet_frame commands.Disconnect s f e = refl
-quiet_frame commands.Subscribe s f e = refl
-quiet_frame commands.Unsubscribe s f e = refl
-quiet_frame commands.Begin s f e = refl
-quiet_frame commands.Abort s f e = refl
-quiet_frame commands.Ack s f e = refl
-quiet_frame commands.Nack s f e = refl
-quiet_frame commands.Connected s f e = refl
-quiet_frame commands.Message s f e = refl
-quiet_frame commands.Receipt s f e = refl
-quiet_frame commands.Error s f e = refl
+quiet_frame _ s f e = refl
 
 parts_sent : (s : Held) (f : RawFrame) (o : Option (List ℕ)) → option_map_or (λ transaction. actions.Nothing) o (commit (send_of s.names f ∷ [])) ≡ actions.Disconnect → is_disconnect f.command ≡ true
 parts_sent s f None e = absurd (cc)
@@ -205,18 +183,7 @@ parts : (command : Command) (s : Held) (f : RawFrame) → f.command ≡ command 
 parts commands.Disconnect s f is e = ap is_disconnect is
 parts commands.Send s f is e = parts_sent s f (first_of (codes "transaction") f.headers) e
 parts commands.Commit s f is e = parts_committed f (sends_in (transaction_of f) s.transactions) e
-parts commands.Connect s f is e = absurd (cc)
-parts commands.Stomp s f is e = absurd (cc)
-parts commands.Subscribe s f is e = absurd (cc)
-parts commands.Unsubscribe s f is e = absurd (cc)
-parts commands.Begin s f is e = absurd (cc)
-parts commands.Abort s f is e = absurd (cc)
-parts commands.Ack s f is e = absurd (cc)
-parts commands.Nack s f is e = absurd (cc)
-parts commands.Connected s f is e = absurd (cc)
-parts commands.Message s f is e = absurd (cc)
-parts commands.Receipt s f is e = absurd (cc)
-parts commands.Error s f is e = absurd (cc)
+parts _ s f is e = absurd (cc)
 
 -- ---- CONNECT, and frames that need no more than their RECEIPT
 

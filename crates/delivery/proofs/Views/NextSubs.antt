@@ -50,18 +50,7 @@ begins : (command : Command) (s : Held) (f : RawFrame) (id : List ℕ) (t : Topi
 begins commands.Subscribe s f id t e = cc
 begins commands.Send s f id t e = begins_sent s f (first_of (codes "transaction") f.headers) id t e
 begins commands.Commit s f id t e = begins_committed (sends_in (transaction_of f) s.transactions) id t e
-begins commands.Connect s f id t e = absurd (cc)
-begins commands.Stomp s f id t e = absurd (cc)
-begins commands.Unsubscribe s f id t e = absurd (cc)
-begins commands.Begin s f id t e = absurd (cc)
-begins commands.Abort s f id t e = absurd (cc)
-begins commands.Disconnect s f id t e = absurd (cc)
-begins commands.Ack s f id t e = absurd (cc)
-begins commands.Nack s f id t e = absurd (cc)
-begins commands.Connected s f id t e = absurd (cc)
-begins commands.Message s f id t e = absurd (cc)
-begins commands.Receipt s f id t e = absurd (cc)
-begins commands.Error s f id t e = absurd (cc)
+begins _ s f id t e = absurd (cc)
 
 ends_sent : {A : Type 0} (s : Held) (f : RawFrame) (o : Option (List ℕ)) (id : List ℕ) → option_map_or (λ transaction. actions.Nothing) o (commit (send_of s.names f ∷ [])) ≡ actions.Unsubscribe id → A
 ends_sent s f None id e = absurd (cc)
@@ -76,18 +65,7 @@ ends : (command : Command) (s : Held) (f : RawFrame) (id : List ℕ) → action_
 ends commands.Unsubscribe s f id e = (refl, cc)
 ends commands.Send s f id e = ends_sent s f (first_of (codes "transaction") f.headers) id e
 ends commands.Commit s f id e = ends_committed (sends_in (transaction_of f) s.transactions) id e
-ends commands.Connect s f id e = absurd (cc)
-ends commands.Stomp s f id e = absurd (cc)
-ends commands.Subscribe s f id e = absurd (cc)
-ends commands.Begin s f id e = absurd (cc)
-ends commands.Abort s f id e = absurd (cc)
-ends commands.Disconnect s f id e = absurd (cc)
-ends commands.Ack s f id e = absurd (cc)
-ends commands.Nack s f id e = absurd (cc)
-ends commands.Connected s f id e = absurd (cc)
-ends commands.Message s f id e = absurd (cc)
-ends commands.Receipt s f id e = absurd (cc)
-ends commands.Error s f id e = absurd (cc)
+ends _ s f id e = absurd (cc)
 
 -- ---- SUBSCRIBE
 

@@ -54,44 +54,13 @@ pub record Adds (k : Core) (c : ℕ) (step : CoreStep) : Type 0 where
 
 -- what had its effect isn't a fault
 not_faulted : (o : Outcome) → has_effect o ≡ true → is_faulted o ≡ false
-not_faulted (Outcome.Opened c) e = refl
-not_faulted Outcome.Fed e = refl
-not_faulted Outcome.Done e = refl
-not_faulted (Outcome.Subscribed s from) e = refl
-not_faulted (Outcome.Unsubscribed s to) e = refl
-not_faulted (Outcome.Flying id) e = refl
-not_faulted (Outcome.Proposed n) e = refl
-not_faulted (Outcome.Failed why) e = refl
-not_faulted (Outcome.Decided stamp cut) e = refl
-not_faulted (Outcome.Withdrawn cut) e = refl
-not_faulted Outcome.Cancelled e = refl
-not_faulted Outcome.Learnt e = refl
-not_faulted (Outcome.Released id) e = refl
-not_faulted (Outcome.Turned n) e = refl
-not_faulted (Outcome.Handed n) e = refl
 not_faulted (Outcome.Faulted fault cut) e = absurd (false≢true e)
-not_faulted Outcome.Leaving e = refl
-not_faulted (Outcome.Gone cut) e = refl
-not_faulted (Outcome.Refused why) e = refl
-not_faulted Outcome.NoMemory e = refl
+not_faulted _ e = refl
 
 -- a DISCONNECT asks for the end of its connection
 disconnects : (command : Command) (s : Rattle.stomp_session.specs.Open.Held) (f : RawFrame) → is_disconnect command ≡ true → action_by command s f ≡ actions.Disconnect
 disconnects commands.Disconnect s f e = refl
-disconnects commands.Send s f e = absurd (false≢true e)
-disconnects commands.Subscribe s f e = absurd (false≢true e)
-disconnects commands.Unsubscribe s f e = absurd (false≢true e)
-disconnects commands.Begin s f e = absurd (false≢true e)
-disconnects commands.Commit s f e = absurd (false≢true e)
-disconnects commands.Abort s f e = absurd (false≢true e)
-disconnects commands.Ack s f e = absurd (false≢true e)
-disconnects commands.Nack s f e = absurd (false≢true e)
-disconnects commands.Connect s f e = absurd (false≢true e)
-disconnects commands.Stomp s f e = absurd (false≢true e)
-disconnects commands.Connected s f e = absurd (false≢true e)
-disconnects commands.Message s f e = absurd (false≢true e)
-disconnects commands.Receipt s f e = absurd (false≢true e)
-disconnects commands.Error s f e = absurd (false≢true e)
+disconnects _ s f e = absurd (false≢true e)
 
 -- a connection that no test for a frame stands against is open
 idle_open : (w : World) (c : ℕ) → first_refusal (needs_idle w c) ≡ None → open_in w.connections c ≡ true
@@ -144,18 +113,7 @@ next_adds k c d rd o None n i true e =
 pub adds_one : (k : Core) (c : ℕ) (e : Event) (rd : Reading) (o : Outcome) → In o (outcomes k e rd)
     → (added_by c (record { event = e; reading = rd; outcome = o }) ≡ []) ⊎ Adds k c (record { event = e; reading = rd; outcome = o })
 adds_one k c (Event.Next d) rd o i = next_adds k c d rd o (first_refusal (needs_idle k.world d)) refl i (d == c) refl
-adds_one k c Event.Open rd o i = inl (if_same (has_effect o) [])
-adds_one k c (Event.Piece d octets) rd o i = inl (if_same (has_effect o) [])
-adds_one k c (Event.Propose d t) rd o i = inl (if_same (has_effect o) [])
-adds_one k c (Event.Decide d) rd o i = inl (if_same (has_effect o) [])
-adds_one k c (Event.Withdraw d) rd o i = inl (if_same (has_effect o) [])
-adds_one k c (Event.Cancel d t) rd o i = inl (if_same (has_effect o) [])
-adds_one k c (Event.Learn t id) rd o i = inl (if_same (has_effect o) [])
-adds_one k c (Event.Release t) rd o i = inl (if_same (has_effect o) [])
-adds_one k c (Event.Turn t) rd o i = inl (if_same (has_effect o) [])
-adds_one k c (Event.Take s) rd o i = inl (if_same (has_effect o) [])
-adds_one k c (Event.Leave d) rd o i = inl (if_same (has_effect o) [])
-adds_one k c (Event.Lost d) rd o i = inl (if_same (has_effect o) [])
+adds_one k c _ rd o i = inl (if_same (has_effect o) [])
 
 -- ---- all steps
 

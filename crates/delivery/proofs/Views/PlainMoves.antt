@@ -112,27 +112,19 @@ abbrev pub IsNotShut : World → ℕ → Type 0
 IsNotShut w c = c < length w.connections → open_in w.connections c ≡ false → Prim.⊥
 
 happens : (w : World) (m : Move) (c : ℕ) → IsPlain m → IsNotShut w c → move_refusal w m ≡ None → Keeps w (move_effect w m) c
-happens w (AddsTopic clock) c plain shut n = kept w _ c refl
-happens w Opens c plain shut n = kept w _ c refl
 happens w (Commits d sends) c plain shut n = kept w _ c (flown w d sends)
 happens w (Subscribes d t) c plain shut n = absurd plain
 happens w (Unsubscribes d s) c plain shut n = absurd plain
-happens w (Disconnects d) c plain shut n = kept w _ c refl
-happens w (Errs d) c plain shut n = kept w _ c refl
-happens w (Lost d) c plain shut n = kept w _ c refl
 happens w (Leaves d) c plain shut n =
     let k = checked w (Leaves d) n in
     left w c d (oldest_live d 0 w.subscriptions) refl
     (λ same. shut (subst (λ m. m < length w.connections) same (ltb-true d (length w.connections) (false_not (ltb d (length w.connections)) k.0)))
     (subst (λ m. open_in w.connections m ≡ false) same k.1.1.0))
 happens w (Proposes d t memory) c plain shut n = kept w _ c (proposed w d t (proposal_fault w d t memory))
-happens w (Decides d) c plain shut n = kept w _ c refl
-happens w (Withdraws d) c plain shut n = kept w _ c refl
 happens w (Cancels d t) c plain shut n = kept w _ c (cancelled w d t (find_leftover t (speaker w d).leftovers))
 happens w (Learns t id) c plain shut n = kept w _ c (learned w t id (find_verdict id w.verdicts))
-happens w (Releases t) c plain shut n = kept w _ c refl
-happens w (Turns t) c plain shut n = kept w _ c refl
 happens w (Takes s) c plain shut n = taken w c s _
+happens w _ c plain shut n = kept w _ c refl
 
 move_keeps : (w : World) (m : Move) (c : ℕ) → IsPlain m → IsNotShut w c → Keeps w (world_after w m) c
 move_keeps w m c plain shut = by_refusal (λ v o. Keeps w v c) w m (λ why. kept w w c refl) (λ n. happens w m c plain shut n)

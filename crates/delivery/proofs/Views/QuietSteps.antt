@@ -116,16 +116,7 @@ take_without_is_quiet names s older =
 -- a refused event
 pub refused_is_quiet : (names : List (List ℕ)) (e : Event) (why : Refusal) (older : List CoreStep)
     → IsQuiet names (step_of e Reading.Nothing (Outcome.Refused why)) older
-refused_is_quiet names Event.Open why older = quiet_from names Event.Open (Outcome.Refused why) older (λ c. refl) (λ c. refl) (λ c. refl) (λ s. refl)
 refused_is_quiet names (Event.Piece d octets) why older = quiet_from names (Event.Piece d octets) (Outcome.Refused why) older (λ c. refl) (λ c. not_fed (d == c) _ _) (λ c. refl) (λ s. refl)
 refused_is_quiet names (Event.Next d) why older = quiet_from names (Event.Next d) (Outcome.Refused why) older (λ c. refl) (λ c. if_same (d == c) _) (λ c. no_reply (d == c)) (λ s. refl)
-refused_is_quiet names (Event.Propose d t) why older = quiet_from names (Event.Propose d t) (Outcome.Refused why) older (λ c. refl) (λ c. refl) (λ c. refl) (λ s. refl)
-refused_is_quiet names (Event.Decide d) why older = quiet_from names (Event.Decide d) (Outcome.Refused why) older (λ c. refl) (λ c. refl) (λ c. refl) (λ s. refl)
-refused_is_quiet names (Event.Withdraw d) why older = quiet_from names (Event.Withdraw d) (Outcome.Refused why) older (λ c. refl) (λ c. refl) (λ c. refl) (λ s. refl)
-refused_is_quiet names (Event.Cancel d t) why older = quiet_from names (Event.Cancel d t) (Outcome.Refused why) older (λ c. refl) (λ c. refl) (λ c. refl) (λ s. refl)
-refused_is_quiet names (Event.Learn t id) why older = quiet_from names (Event.Learn t id) (Outcome.Refused why) older (λ c. refl) (λ c. refl) (λ c. refl) (λ s. refl)
-refused_is_quiet names (Event.Release t) why older = quiet_from names (Event.Release t) (Outcome.Refused why) older (λ c. refl) (λ c. refl) (λ c. refl) (λ s. refl)
-refused_is_quiet names (Event.Turn t) why older = quiet_from names (Event.Turn t) (Outcome.Refused why) older (λ c. refl) (λ c. refl) (λ c. refl) (λ s. refl)
 refused_is_quiet names (Event.Take d) why older = quiet_from names (Event.Take d) (Outcome.Refused why) older (λ c. refl) (λ c. refl) (λ c. no_reply _) (λ s. refl)
-refused_is_quiet names (Event.Leave d) why older = quiet_from names (Event.Leave d) (Outcome.Refused why) older (λ c. refl) (λ c. refl) (λ c. refl) (λ s. refl)
-refused_is_quiet names (Event.Lost d) why older = quiet_from names (Event.Lost d) (Outcome.Refused why) older (λ c. refl) (λ c. refl) (λ c. refl) (λ s. refl)
+refused_is_quiet names event why older = quiet_from names event (Outcome.Refused why) older (λ c. refl) (λ c. refl) (λ c. refl) (λ s. refl)

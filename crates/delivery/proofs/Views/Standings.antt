@@ -114,26 +114,23 @@ taken w s None l = shuts w.connections _ _ _ l refl (λ d n. differ _ d n)
 taken w s (Some item) l = stay w.connections _ (λ d. refl)
 
 happens : (w : World) (e : Move) → move_refusal w e ≡ None → Stands w.connections (move_effect w e).connections (move_answer w e)
-happens w (AddsTopic clock) n = stay w.connections _ (λ d. refl)
 happens w Opens n = inr (inr (record { new = record { sender = length w.senders; standing = Standing.Open }; pushed = refl; none = λ d. refl }))
 happens w (Commits c sends) n = flown w c sends
-happens w (Subscribes c t) n = stay w.connections _ (λ d. refl)
 happens w (Unsubscribes c s) n = closed w s (entry_at w s) _ (λ d. refl)
 happens w (Disconnects c) n = shuts w.connections c _ _ (connection_there w c (checked w (Disconnects c) n).0) refl (λ d k. differ c d k)
 happens w (Errs c) n = shuts w.connections c _ _ (connection_there w c (checked w (Errs c) n).0) refl (λ d k. differ c d k)
 happens w (Lost c) n = shuts w.connections c _ _ (connection_there w c (checked w (Lost c) n).0) refl (λ d k. differ c d k)
 happens w (Leaves c) n = gone w c (oldest_live c 0 w.subscriptions) (connection_there w c (checked w (Leaves c) n).0)
 happens w (Proposes c t memory) n = proposed w c t (proposal_fault w c t memory)
-happens w (Decides c) n = stay w.connections _ (λ d. refl)
 happens w (Withdraws c) n = shuts w.connections c _ _ (connection_there w c (checked w (Withdraws c) n).0) refl (λ d k. differ c d k)
 happens w (Cancels c t) n = cancelled w c t (find_leftover t (speaker w c).leftovers)
 happens w (Learns t id) n = learned w t id (find_verdict id w.verdicts) _ (λ d. refl)
 happens w (Releases t) n = released w t (due_part (topic_at w t))
-happens w (Turns t) n = stay w.connections _ (λ d. refl)
 happens w (Takes s) n =
     let k = checked w (Takes s) n in
     let c = (subscription_at w s).connection in
     taken w s _ (open_there w.connections c (false_not (open_in w.connections c) (or_parts _ _ k.1.0).1))
+happens w _ n = stay w.connections _ (λ d. refl)
 
 -- each move changes connections so
 pub stands_after : (w : World) (e : Move) → Stands w.connections (world_after w e).connections (answer_to w e)

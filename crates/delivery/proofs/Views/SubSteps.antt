@@ -168,16 +168,9 @@ plain_event : (k : Core) (e : Event) (rd : Reading) (o : Outcome) → IsOther e 
 plain_event k Event.Open rd o other = plain_if (is_no_memory o) [] (Move.Opens ∷ []) tt (tt, tt)
 plain_event k (Event.Piece c octets) rd o other = tt
 plain_event k (Event.Next c) rd o other = absurd other
-plain_event k (Event.Propose c t) rd o other = (tt, tt)
 plain_event k (Event.Decide c) rd o other = (tt, plain_if (is_cut o) (Move.Lost c ∷ []) [] (tt, tt) tt)
-plain_event k (Event.Withdraw c) rd o other = (tt, tt)
-plain_event k (Event.Cancel c t) rd o other = (tt, tt)
-plain_event k (Event.Learn t id) rd o other = (tt, tt)
-plain_event k (Event.Release t) rd o other = (tt, tt)
-plain_event k (Event.Turn t) rd o other = (tt, tt)
 plain_event k (Event.Take s) rd o other = plain_if (is_no_memory o) [] (Move.Takes s ∷ []) tt (tt, tt)
-plain_event k (Event.Leave c) rd o other = (tt, tt)
-plain_event k (Event.Lost c) rd o other = (tt, tt)
+plain_event k _ rd o other = (tt, tt)
 
 -- nothing is added
 adds_nil : (k : Core) (c : ℕ) (step : CoreStep) → cond (has_effect step.outcome) (frame_from c step) [] ≡ [] → AddsNone k c step
@@ -186,19 +179,8 @@ adds_nil k c step e =
     ∙ ap (subscriptions_left k.names) (append-nil (accepted_of c k.steps))
 
 other_adds : (k : Core) (c : ℕ) (e : Event) (rd : Reading) (o : Outcome) → IsOther e → AddsNone k c (step_of e rd o)
-other_adds k c Event.Open rd o other = adds_nil k c (step_of Event.Open rd o) (if_same (has_effect o) [])
-other_adds k c (Event.Piece d octets) rd o other = adds_nil k c (step_of (Event.Piece d octets) rd o) (if_same (has_effect o) [])
 other_adds k c (Event.Next d) rd o other = absurd other
-other_adds k c (Event.Propose d t) rd o other = adds_nil k c (step_of (Event.Propose d t) rd o) (if_same (has_effect o) [])
-other_adds k c (Event.Decide d) rd o other = adds_nil k c (step_of (Event.Decide d) rd o) (if_same (has_effect o) [])
-other_adds k c (Event.Withdraw d) rd o other = adds_nil k c (step_of (Event.Withdraw d) rd o) (if_same (has_effect o) [])
-other_adds k c (Event.Cancel d t) rd o other = adds_nil k c (step_of (Event.Cancel d t) rd o) (if_same (has_effect o) [])
-other_adds k c (Event.Learn t id) rd o other = adds_nil k c (step_of (Event.Learn t id) rd o) (if_same (has_effect o) [])
-other_adds k c (Event.Release t) rd o other = adds_nil k c (step_of (Event.Release t) rd o) (if_same (has_effect o) [])
-other_adds k c (Event.Turn t) rd o other = adds_nil k c (step_of (Event.Turn t) rd o) (if_same (has_effect o) [])
-other_adds k c (Event.Take s) rd o other = adds_nil k c (step_of (Event.Take s) rd o) (if_same (has_effect o) [])
-other_adds k c (Event.Leave d) rd o other = adds_nil k c (step_of (Event.Leave d) rd o) (if_same (has_effect o) [])
-other_adds k c (Event.Lost d) rd o other = adds_nil k c (step_of (Event.Lost d) rd o) (if_same (has_effect o) [])
+other_adds k c event rd o other = adds_nil k c (step_of event rd o) (if_same (has_effect o) [])
 
 -- ---- a Next of connection d, for every connection
 
@@ -269,18 +251,8 @@ kind : (command : Command) → Mild command ⊎ ((command ≡ commands.Subscribe
 kind commands.Subscribe = inr (inl refl)
 kind commands.Unsubscribe = inr (inr refl)
 kind commands.Send = inl (record { opens = refl; closes = refl; action = λ s f. mild_send s f (first_of (codes "transaction") f.headers) })
-kind commands.Begin = inl (record { opens = refl; closes = refl; action = λ s f. tt })
 kind commands.Commit = inl (record { opens = refl; closes = refl; action = λ s f. mild_commit (sends_in (transaction_of f) s.transactions) })
-kind commands.Abort = inl (record { opens = refl; closes = refl; action = λ s f. tt })
-kind commands.Ack = inl (record { opens = refl; closes = refl; action = λ s f. tt })
-kind commands.Nack = inl (record { opens = refl; closes = refl; action = λ s f. tt })
-kind commands.Disconnect = inl (record { opens = refl; closes = refl; action = λ s f. tt })
-kind commands.Connect = inl (record { opens = refl; closes = refl; action = λ s f. tt })
-kind commands.Stomp = inl (record { opens = refl; closes = refl; action = λ s f. tt })
-kind commands.Connected = inl (record { opens = refl; closes = refl; action = λ s f. tt })
-kind commands.Message = inl (record { opens = refl; closes = refl; action = λ s f. tt })
-kind commands.Receipt = inl (record { opens = refl; closes = refl; action = λ s f. tt })
-kind commands.Error = inl (record { opens = refl; closes = refl; action = λ s f. tt })
+kind _ = inl (record { opens = refl; closes = refl; action = λ s f. tt })
 
 mild_moves : (k : Core) (d : ℕ) (action : Action) → IsMild action → ArePlain (option_to_list (frame_move k d action))
 mild_moves k d actions.Connected m = tt
@@ -555,15 +527,4 @@ pub step_change : (k : Core) (c : ℕ) (e : Event) (rd : Reading) (o : Outcome) 
     → ((d s : ℕ) → s < length k.world.subscriptions → is_live d (subscription_at k.world s) ≡ true → entry_at k.world s ≢ None)
     → open_in (core_after k (step_of e rd o)).world.connections c ≡ true → StepChange k c (step_of e rd o)
 step_change k c (Event.Next d) rd o i entries reading = next_change k c d rd o (entries d) reading (next_kind k d rd o (first_refusal (needs_idle k.world d)) i)
-step_change k c Event.Open rd o i entries reading = other_change k c Event.Open rd o tt i reading
-step_change k c (Event.Piece d octets) rd o i entries reading = other_change k c (Event.Piece d octets) rd o tt i reading
-step_change k c (Event.Propose d t) rd o i entries reading = other_change k c (Event.Propose d t) rd o tt i reading
-step_change k c (Event.Decide d) rd o i entries reading = other_change k c (Event.Decide d) rd o tt i reading
-step_change k c (Event.Withdraw d) rd o i entries reading = other_change k c (Event.Withdraw d) rd o tt i reading
-step_change k c (Event.Cancel d t) rd o i entries reading = other_change k c (Event.Cancel d t) rd o tt i reading
-step_change k c (Event.Learn t id) rd o i entries reading = other_change k c (Event.Learn t id) rd o tt i reading
-step_change k c (Event.Release t) rd o i entries reading = other_change k c (Event.Release t) rd o tt i reading
-step_change k c (Event.Turn t) rd o i entries reading = other_change k c (Event.Turn t) rd o tt i reading
-step_change k c (Event.Take s) rd o i entries reading = other_change k c (Event.Take s) rd o tt i reading
-step_change k c (Event.Leave d) rd o i entries reading = other_change k c (Event.Leave d) rd o tt i reading
-step_change k c (Event.Lost d) rd o i entries reading = other_change k c (Event.Lost d) rd o tt i reading
+step_change k c event rd o i entries reading = other_change k c event rd o tt i reading

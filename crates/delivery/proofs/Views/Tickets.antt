@@ -124,23 +124,17 @@ opened : (w : World) → AreGiven w.senders → AreGiven (w.senders ++ new_sende
 opened w h s f = at_push_two (λ (z : SenderState). z.flight ≡ Some f → Given f) w.senders s new_sender new_sender (λ k e. none_some f e) (λ ne. h s f)
 
 happens : (w : World) (e : Move) → AreGiven w.senders → move_refusal w e ≡ None → AreGiven (move_effect w e).senders
-happens w (AddsTopic clock) h n = h
 happens w Opens h n = opened w h
 happens w (Commits c sends) h n = flown w c sends h
-happens w (Subscribes c t) h n = h
 happens w (Unsubscribes c s) h n = closed w s (entry_at w s) h
-happens w (Disconnects c) h n = h
-happens w (Errs c) h n = h
-happens w (Lost c) h n = h
 happens w (Leaves c) h n = gone w c (oldest_live c 0 w.subscriptions) h
 happens w (Proposes c t memory) h n = proposed w c t (proposal_fault w c t memory) (asks_of w c t memory n) h
 happens w (Decides c) h n = written w.senders (connection_at w c).sender _ (λ f e. none_some f e) h
 happens w (Withdraws c) h n = written w.senders (connection_at w c).sender _ (λ f e. none_some f e) h
 happens w (Cancels c t) h n = cancelled w c t (find_leftover t (speaker w c).leftovers) h
 happens w (Learns t id) h n = learned w t id (find_verdict id w.verdicts) h
-happens w (Releases t) h n = h
-happens w (Turns t) h n = h
 happens w (Takes s) h n = taken w s (slice_get (accepted_at w s) (subscription_at w s).taken) h
+happens w _ h n = h
 
 -- after each run they are so
 pub given : (r : Run) (s : ℕ) (f : Undecided) → (sender_in (final_world r).senders s).flight ≡ Some f → Given f

@@ -92,17 +92,7 @@ unread_step : (k : Core) (c : ℕ) (e : Event) (rd : Reading) (o : Outcome) (u :
     → unread_after c u e rd o ≡ u
 unread_step k c (Event.Next d) rd o u l h i = unread_next k c d rd u l h (d == c) refl
 unread_step k c (Event.Piece d octets) rd o u l h i = unread_piece k c d octets rd o u l i (d == c) refl
-unread_step k c Event.Open rd o u l h i = refl
-unread_step k c (Event.Propose d t) rd o u l h i = refl
-unread_step k c (Event.Decide d) rd o u l h i = refl
-unread_step k c (Event.Withdraw d) rd o u l h i = refl
-unread_step k c (Event.Cancel d t) rd o u l h i = refl
-unread_step k c (Event.Learn t id) rd o u l h i = refl
-unread_step k c (Event.Release t) rd o u l h i = refl
-unread_step k c (Event.Turn t) rd o u l h i = refl
-unread_step k c (Event.Take s) rd o u l h i = refl
-unread_step k c (Event.Leave d) rd o u l h i = refl
-unread_step k c (Event.Lost d) rd o u l h i = refl
+unread_step k c _ rd o u l h i = refl
 
 unfed : (topics : TopicList) (capacity : ℕ) (steps : List CoreStep) → IsCoreRun topics capacity steps → (c : ℕ)
     → length (core_of topics capacity steps).world.connections ≤ c → unread_at c steps ≡ unread_of reader_limits

@@ -49,23 +49,7 @@ begun_case id s txn later n false e m h k z = h k z
 made_seq : (id : TxnId) (s : Topic) (past : List Answer) → Numbered past → names s (topics_of (txn_of_id id past).sends) ≡ true → id.seq ≢ 0
 made_seq id s [] h k = absurd (false≢true k)
 made_seq id s (Answer.Begun txn ∷ past) h k = begun_case id s txn (txn_of_id id past) (txn_count txn.id.sender.0 past) (same_id txn.id id) refl h.0 (made_seq id s past h.1) k
-made_seq id s (Answer.Refused why ∷ past) h k = made_seq id s past h k
-made_seq id s (Answer.Done ∷ past) h k = made_seq id s past h k
-made_seq id s (Answer.Opened c ∷ past) h k = made_seq id s past h k
-made_seq id s (Answer.Subscribed r c u from ∷ past) h k = made_seq id s past h k
-made_seq id s (Answer.Unsubscribed r to ∷ past) h k = made_seq id s past h k
-made_seq id s (Answer.Leaving c ∷ past) h k = made_seq id s past h k
-made_seq id s (Answer.Error c ∷ past) h k = made_seq id s past h k
-made_seq id s (Answer.Gone c ∷ past) h k = made_seq id s past h k
-made_seq id s (Answer.Ticket i ticket ∷ past) h k = made_seq id s past h k
-made_seq id s (Answer.Failed i why ∷ past) h k = made_seq id s past h k
-made_seq id s (Answer.Decided i stamp ∷ past) h k = made_seq id s past h k
-made_seq id s (Answer.Withdrawn i c ∷ past) h k = made_seq id s past h k
-made_seq id s (Answer.Cancelled i u ∷ past) h k = made_seq id s past h k
-made_seq id s (Answer.Learnt i u ∷ past) h k = made_seq id s past h k
-made_seq id s (Answer.Released u i ∷ past) h k = made_seq id s past h k
-made_seq id s (Answer.Turned u n ∷ past) h k = made_seq id s past h k
-made_seq id s (Answer.Handed r item ∷ past) h k = made_seq id s past h k
+made_seq id s (_ ∷ past) h k = made_seq id s past h k
 
 -- an undecided transaction's seq isn't 0
 pub flight_seq : (r : Run) (s : ℕ) (f : Undecided) → (sender_in (final_world r).senders s).flight ≡ Some f → f.txn.id.seq ≢ 0
@@ -112,14 +96,8 @@ same_verdicts : (w v : World) → v.verdicts ≡ w.verdicts → AreOf [] w → A
 same_verdicts w v e h = subst (λ z. (d : Decision) → In d z → d.id.seq ≢ 0) (sym e) h
 
 happens : (r : Run) (e : Move) → AreOf [] (final_world r) → move_refusal (final_world r) e ≡ None → AreOf [] (move_effect (final_world r) e)
-happens r (AddsTopic clock) h n = h
-happens r Opens h n = h
 happens r (Commits c sends) h n = let w = final_world r in same_verdicts w (move_effect w (Commits c sends)) (flown w c sends) h
-happens r (Subscribes c t) h n = h
 happens r (Unsubscribes c s) h n = let w = final_world r in same_verdicts w (move_effect w (Unsubscribes c s)) (closed w s (entry_at w s)) h
-happens r (Disconnects c) h n = h
-happens r (Errs c) h n = h
-happens r (Lost c) h n = h
 happens r (Leaves c) h n = let w = final_world r in same_verdicts w (move_effect w (Leaves c)) (left w c (oldest_live c 0 w.subscriptions)) h
 happens r (Proposes c t memory) h n = let w = final_world r in same_verdicts w (move_effect w (Proposes c t memory)) (proposed w c t (proposal_fault w c t memory)) h
 happens r (Decides c) h n =
@@ -131,12 +109,10 @@ happens r (Decides c) h n =
         | inr k ↦ absurd k
       ]
     ]
-happens r (Withdraws c) h n = h
 happens r (Cancels c t) h n = let w = final_world r in same_verdicts w (move_effect w (Cancels c t)) (cancelled w c t (find_leftover t (speaker w c).leftovers)) h
 happens r (Learns t id) h n = let w = final_world r in same_verdicts w (move_effect w (Learns t id)) (learned w t id (find_verdict id w.verdicts)) h
-happens r (Releases t) h n = h
-happens r (Turns t) h n = h
 happens r (Takes s) h n = let w = final_world r in same_verdicts w (move_effect w (Takes s)) (taken w s (slice_get (accepted_at w s) (subscription_at w s).taken)) h
+happens r _ h n = h
 
 of_transactions : (r : Run) → AreOf [] (final_world r)
 of_transactions =
