@@ -1,4 +1,4 @@
-//! Worked rows of a topic and its subscriptions, each refusal, made schedules, and what is answered when memory runs out.
+//! Worked rows of a topic and its subscriptions, each refusal, made schedules, and what is answered out of memory.
 
 mod calls;
 mod cells;

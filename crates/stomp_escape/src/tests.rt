@@ -44,7 +44,7 @@ fn escapes_there_and_back(rt: HostRuntime) -> Result<(), Fail> {
     Ok(())
 }
 
-/// Whether a value of at most 15 octets is written as this text into a line, behind two octets that are there.
+/// Whether a value of at most 15 octets is written as this text into a line, after two octets that are there.
 fn is_written_at(value: &[u8], text: &[u8]) -> bool {
     let mut line = [b'-'; 32];
     if value.len() > 15 {
@@ -176,8 +176,8 @@ fn octets_outgrow_their_value(rt: HostRuntime) -> Result<(), Fail> {
     Ok(())
 }
 
-/// The first octets of a text that is shorter or longer than what lies in a list's own value, or of the same length; all of
-/// it where it has no more.
+/// The first octets of a text that is shorter or longer than what lies in a list's own value, or of the same length;
+/// all of it where it has no more.
 #[test]
 fn fronts_are_copied(rt: HostRuntime) -> Result<(), Fail> {
     for text in [&LETTERS[..7], &LETTERS[..24], LETTERS] {
@@ -198,25 +198,25 @@ fn repeated(alloc: Global, piece: &[u8], count: usize) -> Result<Octets, NoMemor
     Ok(octets)
 }
 
-/// So many octets `x`, with a piece in place of the one at this place.
-fn with_piece(alloc: Global, len: usize, place: usize, piece: &[u8]) -> Result<Octets, NoMemory> {
-    let mut octets = repeated(alloc, b"x", place)?;
+/// So many octets `x`, with a piece instead of the one at this index.
+fn with_piece(alloc: Global, len: usize, index: usize, piece: &[u8]) -> Result<Octets, NoMemory> {
+    let mut octets = repeated(alloc, b"x", index)?;
     octets.extend(piece)?;
-    for _ in place.saturating_add(1)..len {
+    for _ in index.saturating_add(1)..len {
         octets.push(b'x')?;
     }
     Ok(octets)
 }
 
-/// Whether a value with such an octet at this place is written with this escape there, and read again.
+/// Whether a value with such an octet at this index is written with this escape there, and read again.
 fn is_escaped_at(
     alloc: Global,
     len: usize,
-    place: usize,
+    index: usize,
     pair: (&[u8], &[u8]),
 ) -> Result<bool, NoMemory> {
-    let value = with_piece(alloc, len, place, pair.0)?;
-    let text = with_piece(alloc, len, place, pair.1)?;
+    let value = with_piece(alloc, len, index, pair.0)?;
+    let text = with_piece(alloc, len, index, pair.1)?;
     let escaped = escape(alloc, value.as_slice())?;
     let same = unescape(alloc, text.as_slice()).is_ok_and(|read| is(&read, value.as_slice()));
     Ok(is(&escaped, text.as_slice()) && same)
@@ -232,16 +232,16 @@ const PIECES: [(&[u8], &[u8]); 6] = [
     (b"\xff", b"\xff"),
 ];
 
-/// Octets are escaped 32 at a time and read 64 at a time: values of about these lengths, with an octet of each kind at each
-/// place.
+/// Octets are escaped 32 at a time and read 64 at a time: values of about these lengths, with an octet of each kind
+/// at each index.
 #[test]
-fn escapes_at_each_place(rt: HostRuntime) -> Result<(), Fail> {
+fn escapes_at_each_index(rt: HostRuntime) -> Result<(), Fail> {
     for len in [1usize, 31, 32, 33, 65] {
-        for place in 0..len {
+        for index in 0..len {
             for pair in PIECES {
                 assert!(rt;
-                    is_escaped_at(rt.alloc(), len, place, pair)?,
-                    "{place} of {len}"
+                    is_escaped_at(rt.alloc(), len, index, pair)?,
+                    "{index} of {len}"
                 );
             }
         }
@@ -249,14 +249,14 @@ fn escapes_at_each_place(rt: HostRuntime) -> Result<(), Fail> {
     Ok(())
 }
 
-/// Texts are read 64 octets at a time: a fault has its place in the whole text.
+/// Texts are read 64 octets at a time: a fault has its index in the whole text.
 #[test]
-fn faults_at_each_place(rt: HostRuntime) -> Result<(), Fail> {
-    for place in 60..70 {
-        let undefined = with_piece(rt.alloc(), 80, place, b"\\t")?;
+fn faults_at_each_index(rt: HostRuntime) -> Result<(), Fail> {
+    for index in 60..70 {
+        let undefined = with_piece(rt.alloc(), 80, index, b"\\t")?;
         let found = unescape(rt.alloc(), undefined.as_slice()).err();
-        assert_eq!(rt; found, Some(EscapeFault::Undefined(place)));
-        let cut = with_piece(rt.alloc(), place, place, b"\\")?;
+        assert_eq!(rt; found, Some(EscapeFault::Undefined(index)));
+        let cut = with_piece(rt.alloc(), index, index, b"\\")?;
         let found = unescape(rt.alloc(), cut.as_slice()).err();
         assert_eq!(rt; found, Some(EscapeFault::Cut));
     }

@@ -1,6 +1,9 @@
 //! The program `stompd`.
 #![tactic(auto)]
 
+#[cfg(test)]
+mod tests;
+
 use broker_server::{Counting, run_words};
 use std::process::ExitCode;
 use std::{env, io};

@@ -115,7 +115,7 @@ fn taken(outlet: &mut VecOutlet) -> Option<Answer> {
 }
 
 /// Whether an empty queue of this capacity answers each of these calls as is written beside it, and has then accepted
-/// and handed out this many items.
+/// and given this many items.
 fn answers(
     alloc: Global,
     capacity: usize,

@@ -4,7 +4,7 @@ ghost use Rattle.std.specs.Prelude.{◌≡◌, Some, None, if◌then◌else◌, 
 ghost use Rattle.std.specs.Arc.{arc_value};
 ghost use Rattle.mcast_txn.specs.Ids.{same_id};
 
-use crate::{Cause, Found, Group, ProposeFault, SubState, Verdicts};
+use crate::{Cause, Found, Group, LogRows, ProposeFault, SubState, Verdicts};
 use mcast_txn::{
     Ballot, Draft, Flight, Headers, Octets, Part, Sender, Stamp, Ticket, Topic, Txn, TxnId, Verdict,
 };
@@ -231,6 +231,17 @@ pub(super) fn state(group: &Group<VecOutlet>, number: u64) -> Answer {
     }
 }
 
+/// The seq of the first of the drained rows, which is then taken out; nothing where the row that is lent is another.
+fn first_seq(rows: &mut LogRows) -> Option<u64> {
+    let lent = rows.row(0)?.stamp;
+    let row = rows.take_first()?;
+    if row.stamp == lent {
+        Some(row.id.seq)
+    } else {
+        None
+    }
+}
+
 /// What a drain answers; nothing where a row that is lent isn't the one that is then taken out.
 pub(super) fn drained(group: &mut Group<VecOutlet>) -> Option<Answer> {
     let Ok(mut rows) = group.drain_log() else {
@@ -239,12 +250,7 @@ pub(super) fn drained(group: &mut Group<VecOutlet>) -> Option<Answer> {
     let many = rows.len();
     let mut seqs = [0; SHOWN];
     for seq in seqs.iter_mut().take(many) {
-        let lent = rows.row(0)?.stamp;
-        let row = rows.take_first()?;
-        if row.stamp != lent {
-            return None;
-        }
-        *seq = row.id.seq;
+        *seq = first_seq(&mut rows)?;
     }
     Some(Drained(many, seqs))
 }

@@ -64,10 +64,10 @@ impl Draws {
         let mut order = Vec::new(alloc);
         for i in 0..many {
             order.push(i as u64).ok()?;
-            let place = self.below(i.saturating_add(1)) as usize;
-            if place < order.len() {
+            let other = self.below(i.saturating_add(1)) as usize;
+            if other < order.len() {
                 let last = order.len() - 1;
-                order.swap(place, last);
+                order.swap(other, last);
             }
         }
         Some(order)

@@ -8,7 +8,7 @@ use std::alloc::Global;
 use sub_queue::VecOutlet;
 
 /// Orders of the numbers below some number: that in which transactions are proposed, by their seqs; that in which they
-/// learn, by their places among the proposals; and topic 1's numbers, less 10,000, by the same places.
+/// learn, by their indices among the proposals; and topic 1's numbers, less 10,000, by the same indices.
 #[derive(Drop)]
 struct Orders {
     seqs: Vec<u64>,
@@ -28,9 +28,9 @@ impl Orders {
     }
 }
 
-/// The number at this place, and 0 past the end.
-fn at(order: &[u64], place: u64) -> u64 {
-    order.get(place as usize).copied().unwrap_or(0)
+/// The number at this index, and 0 past the end.
+fn at(order: &[u64], index: u64) -> u64 {
+    order.get(index as usize).copied().unwrap_or(0)
 }
 
 /// Whether each part gets its ticket.
@@ -48,10 +48,10 @@ fn are_proposed(alloc: Global, group: &mut Group<VecOutlet>, seqs: &[u64]) -> bo
 
 /// Whether each learns, in another order; topic 1's numbers are above all tickets, and in an order of their own.
 fn are_learnt(alloc: Global, group: &mut Group<VecOutlet>, orders: &Orders) -> bool {
-    for place in orders.learning.iter() {
-        let number = at(&orders.numbers, *place).saturating_add(10_000);
-        let rows = [(0, place.saturating_add(1)), (1, number)];
-        let seq = at(&orders.seqs, *place);
+    for index in orders.learning.iter() {
+        let number = at(&orders.numbers, *index).saturating_add(10_000);
+        let rows = [(0, index.saturating_add(1)), (1, number)];
+        let seq = at(&orders.seqs, *index);
         if learnt(alloc, group, id(seq), &rows) != Some(Answer::Done) {
             return false;
         }

@@ -41,8 +41,8 @@ fn are_open(group: &mut Group<VecOutlet>, below: u64) -> bool {
     state(group, below) == Nothing
 }
 
-/// Calls again while memory is refused, which it is once at most. Returns the answer, and whether a refusal by 42 changed
-/// nothing that shows, where so many subscriptions are open.
+/// Calls again while memory is refused, which it is once at most. Returns the answer, and whether a refusal by 42
+/// changed nothing that shows, where so many subscriptions are open.
 pub(super) fn at_last(
     alloc: Global,
     group: &mut Group<VecOutlet>,

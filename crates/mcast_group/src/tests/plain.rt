@@ -1,11 +1,11 @@
-//! What a topic answers, by looking back over the list of what happened: it filters and sorts, and holds no clock and no
-//! queue.
+//! What a topic answers, by looking back over the list of what happened: it filters and sorts, and holds no clock and
+//! no queue.
 
-use super::calls::{Answer, SHOWN};
+use super::calls::{Answer, SHOWN, stamp};
 use super::made::{Drawn, MadeCall};
 use crate::Cause;
 use Answer::{Done, Drained, Fault, From, Lagged, Left, Nothing, Open, Released, Took};
-use mcast_txn::{Stamp, Topic};
+use mcast_txn::Stamp;
 use std::alloc::Global;
 
 /// What happened to a transaction, by its seq, or to a subscription, by its number.
@@ -28,16 +28,7 @@ enum Fact {
 
 /// The stamp of a verdict of topics 0 and 1: the greater of its rows.
 fn greater(own: u64, other: u64) -> Stamp {
-    if own > other {
-        return Stamp {
-            n: own,
-            topic: Topic(0),
-        };
-    }
-    Stamp {
-        n: other,
-        topic: Topic(1),
-    }
+    stamp(own, 0).later(stamp(other, 1))
 }
 
 /// A subscription that hasn't ended: the index of its beginning, and its capacity.
@@ -112,10 +103,7 @@ impl Past {
     fn key(&self, seq: u64) -> Stamp {
         match self.learnt(seq) {
             Some(stamp) => stamp,
-            None => Stamp {
-                n: self.ticket(seq).unwrap_or(0),
-                topic: Topic(0),
-            },
+            None => stamp(self.ticket(seq).unwrap_or(0), 0),
         }
     }
 

@@ -65,14 +65,14 @@ fn has_sorted_log(group: &Group<VecOutlet>, past: &Past) -> bool {
     group.held_len() == past.undrained()
 }
 
-/// Which answers came, in the order of `place_of`.
+/// Which answers came, by `kind_index`.
 #[derive(Drop)]
 struct Seen {
     came: [bool; 20],
 }
 
-/// The place of an answer among those that must come.
-fn place_of(answer: Answer) -> usize {
+/// The index of an answer among those that must come.
+fn kind_index(answer: Answer) -> usize {
     match answer {
         Answer::Ticket(_) => 0,
         Answer::Released(_, _, _) => 1,
@@ -110,7 +110,7 @@ fn agrees(alloc: Global, schedule: u32, seen: &mut Seen) -> bool {
         if past.answer(call) != Some(answer) {
             return false;
         }
-        if let Some(came) = seen.came.get_mut(place_of(answer)) {
+        if let Some(came) = seen.came.get_mut(kind_index(answer)) {
             *came = true;
         }
     }

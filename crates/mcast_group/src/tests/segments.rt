@@ -112,8 +112,8 @@ fn drains_at_the_ends_of_segments(rt: HostRuntime) {
     }
 }
 
-/// At a full segment a proposal makes another: out of memory for it, nothing has changed, and the same proposal then gets
-/// its ticket.
+/// At a full segment a proposal makes another: out of memory for it, nothing has changed, and the same proposal then
+/// gets its ticket.
 #[test]
 fn a_full_segment_wants_another(rt: HostRuntime) {
     let alloc = rt.alloc();

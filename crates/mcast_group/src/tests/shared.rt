@@ -29,8 +29,8 @@ fn taken<R: Wait>(rt: &R, taker: &mut Taker) -> Option<u64> {
     Some(item.part.id.seq)
 }
 
-/// What three releases and takes give, at a topic with one subscription, of a queue of two places; and its state then.
-fn three_at_two_places<R: Wait>(
+/// What three releases and takes give, at a topic with one subscription, of a queue of capacity 2; and its state then.
+fn three_at_capacity_two<R: Wait>(
     rt: &R,
     alloc: Global,
 ) -> Option<([Option<u64>; 3], [Option<u64>; 3], Option<SubState>)> {
@@ -55,7 +55,7 @@ fn three_at_two_places<R: Wait>(
 
 #[test]
 fn a_full_queue_of_two_threads_lags(rt: HostRuntime) {
-    let (releases, takes, state) = three_at_two_places(&rt, rt.alloc()).expect(&rt, "memory");
+    let (releases, takes, state) = three_at_capacity_two(&rt, rt.alloc()).expect(&rt, "memory");
     assert_eq!(rt; releases, [Some(1), Some(2), Some(3)]);
     assert_eq!(rt; takes, [Some(1), Some(2), None]);
     assert_eq!(rt; state, Some(SubState::Lag(stamp(2, 0))));

@@ -260,15 +260,15 @@ fn a_refused_subscription_returns_its_outlet(rt: HostRuntime) {
 /// How many subscriptions a topic has at once in `each_has_its_own_queue`, a prime.
 const MANY: u64 = 97;
 
-/// The number of the subscription that begins at this place, and at another step ends there: each once, in no order.
-fn scrambled(place: u64, step: u64) -> u64 {
-    place.wrapping_mul(step) % MANY
+/// The number of the subscription that begins at this index of an order, or at another step ends there: each once.
+fn scrambled(index: u64, step: u64) -> u64 {
+    index.wrapping_mul(step) % MANY
 }
 
 /// Whether subscriptions begin in one order, of which those of even numbers have no room.
 fn all_begin(alloc: Global, group: &mut Group<VecOutlet>) -> bool {
-    for place in 0..MANY {
-        let number = scrambled(place, 31);
+    for index in 0..MANY {
+        let number = scrambled(index, 31);
         if reply(alloc, group, Subscribe(number, (number % 2) as usize)) != Some(From(0)) {
             return false;
         }
@@ -298,7 +298,7 @@ fn ends_as_its_own(alloc: Global, group: &mut Group<VecOutlet>, number: u64) -> 
 
 /// Whether they end in another order, each with what its own queue shows.
 fn all_end(alloc: Global, group: &mut Group<VecOutlet>) -> bool {
-    (0..MANY).all(|place| ends_as_its_own(alloc, group, scrambled(place, 58)))
+    (0..MANY).all(|index| ends_as_its_own(alloc, group, scrambled(index, 58)))
 }
 
 /// A row.

@@ -1,6 +1,6 @@
 //! The faults' numbers, and their messages, which begin with number and name.
 
-use crate::GateFault;
+use crate::{ClaimFault, GateFault};
 use mcast_txn::BallotFault;
 use std::test::Fail;
 
@@ -13,6 +13,21 @@ fn faults_have_their_numbers(rt: HostRuntime) -> Result<(), Fail> {
         (GateFault::SeqFull, 53, b"53 SeqFull: "),
         (GateFault::BelowFloor, 54, b"54 BelowFloor: "),
         (GateFault::NoMemory, 55, b"55 NoMemory: "),
+    ];
+    for (fault, number, front) in rows {
+        let message = format!(in rt.alloc(); "{fault}")?;
+        assert_eq!(rt; fault.number(), number);
+        assert!(rt; message.as_bytes().starts_with(front));
+    }
+    Ok(())
+}
+
+#[test]
+fn a_claims_faults_have_their_numbers(rt: HostRuntime) -> Result<(), Fail> {
+    let rows: [(ClaimFault, u32, &[u8]); 3] = [
+        (ClaimFault::SenderInUse, 77, b"77 SenderInUse: "),
+        (ClaimFault::TooManyClients, 78, b"78 TooManyClients: "),
+        (ClaimFault::NoMemory, 55, b"55 NoMemory: "),
     ];
     for (fault, number, front) in rows {
         let message = format!(in rt.alloc(); "{fault}")?;

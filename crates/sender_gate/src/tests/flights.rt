@@ -31,7 +31,7 @@ fn txn_to(alloc: Global, topics: &[u32]) -> Result<Txn, Fail> {
 }
 
 /// A flight of this gate with SENDs to these topics.
-fn begun(alloc: Global, gate: Gate, topics: &[u32]) -> Result<Flying, Fail> {
+pub(super) fn begun(alloc: Global, gate: Gate, topics: &[u32]) -> Result<Flying, Fail> {
     match gate.begin(alloc, txn_to(alloc, topics)?) {
         Ok(flying) => Ok(flying),
         Err(_) => Err(Fail::new("the flight didn't begin")),

@@ -6,7 +6,7 @@ use mcast_txn::{Draft, Headers, Octets, Sender, Topic, Txn, TxnId};
 use std::alloc::Global;
 use std::test::Fail;
 
-/// Puts a SEND with this letter as its body into the draft; whether there was memory.
+/// Adds a SEND with this letter as its body to the draft; whether there was memory.
 fn has_put(alloc: Global, draft: &mut Draft, topic: u32, letter: u8) -> bool {
     let Ok(body) = Octets::from_slice(alloc, &[letter]) else {
         return false;
@@ -39,7 +39,7 @@ fn txn(alloc: Global) -> Result<Txn, Fail> {
     }
 }
 
-/// The transaction's flight. Where it is refused, gate and transaction are handed back as they were, and it then
+/// The transaction's flight. Where it is refused, gate and transaction are returned as they were, and it then
 /// begins.
 fn begun(alloc: Global) -> Result<Flying, Fail> {
     let gate = Gate::resume(Sender(3), 4, stamp(10, 0));
@@ -70,9 +70,9 @@ fn has_part(flying: &mut Flying, topic: u32, sends: &[(u32, u8)]) -> bool {
     if part.sends.len() != sends.len() || part.topic != Topic(topic) {
         return false;
     }
-    for place in 0..sends.len() {
-        let send = part.sends.get(place);
-        let (index, letter) = sends[place];
+    for i in 0..sends.len() {
+        let send = part.sends.get(i);
+        let (index, letter) = sends[i];
         if send.index != index || send.body.as_slice() != [letter].as_slice() {
             return false;
         }

@@ -321,8 +321,8 @@ fn fault_of_octets(
     Ok(None)
 }
 
-/// What comes first, an octet, how often it comes then, and the fault of it all: a line of 4,097 octets without LF and of
-/// 4,098, and a body of 1,048,576 octets without NULL and of one more.
+/// What comes first, an octet, how often it comes then, and the fault of it all: a line of 4,097 octets without LF
+/// and of 4,098, and a body of 1,048,576 octets without NULL and of one more.
 const AT_LIMITS: &[(&[u8], u8, u32, Option<FrameFault>)] = &[
     (b"SEND\n", b'v', 4097, None),
     (b"SEND\n", b'v', 4098, Some(FrameFault::LineTooLong)),

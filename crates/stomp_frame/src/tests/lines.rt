@@ -1,10 +1,11 @@
-//! Lines with an octet of each kind at each of their places: 16 octets of a line are looked at at once.
+//! Lines with an octet of each kind at each of their indices: 16 octets of a line are looked at at once.
 
 use crate::{FrameReader, Limits};
 use std::alloc::Global;
 use stomp_escape::{NoMemory, Octets};
 
-/// An octet that comes into a value of `x`, and what a reader says then: a fault, or nothing where it is read as itself.
+/// An octet that comes into a value of `x`, and what a reader says then: a fault, or nothing where it is read as
+/// itself.
 const PIECES: &[(&[u8], &[u8])] = &[
     (b"\0", b"2 BadLine"),
     (b"\rx", b"2 BadLine"),
@@ -20,11 +21,11 @@ const PIECES: &[(&[u8], &[u8])] = &[
     (b"~", b""),
 ];
 
-/// A value of so many `x`, with a piece before the one at this place.
-fn value(alloc: Global, len: usize, place: usize, piece: &[u8]) -> Result<Octets, NoMemory> {
+/// A value of so many `x`, with a piece before the one at this index.
+fn value(alloc: Global, len: usize, index: usize, piece: &[u8]) -> Result<Octets, NoMemory> {
     let mut octets = Octets::new(alloc);
     for i in 0..len {
-        if i == place {
+        if i == index {
             octets.extend(piece)?;
         }
         octets.push(b'x')?;
@@ -54,14 +55,14 @@ fn reads(alloc: Global, text: &[u8], value: &[u8], fault: &[u8]) -> bool {
     }
 }
 
-/// Whether a value with a piece at this place is read so, whether its line ends by LF or by CR LF.
+/// Whether a value with a piece at this index is read so, whether its line ends by LF or by CR LF.
 fn is_read_so(
     alloc: Global,
     len: usize,
-    place: usize,
+    index: usize,
     piece: (&[u8], &[u8]),
 ) -> Result<bool, NoMemory> {
-    let value = value(alloc, len, place, piece.0)?;
+    let value = value(alloc, len, index, piece.0)?;
     let by_lf = text_with(alloc, value.as_slice(), b"")?;
     let by_cr_lf = text_with(alloc, value.as_slice(), b"\r")?;
     Ok(
@@ -71,12 +72,12 @@ fn is_read_so(
 }
 
 #[test]
-fn octets_at_each_place_of_a_line(rt: HostRuntime) {
+fn octets_at_each_index_of_a_line(rt: HostRuntime) {
     for len in [1usize, 12, 13, 14, 15, 29, 30, 31, 46] {
-        for place in 0..len {
+        for index in 0..len {
             for &piece in PIECES {
-                let read = is_read_so(rt.alloc(), len, place, piece);
-                assert!(rt; read == Ok(true), "{place} of {len}");
+                let read = is_read_so(rt.alloc(), len, index, piece);
+                assert!(rt; read == Ok(true), "{index} of {len}");
             }
         }
     }

@@ -90,7 +90,7 @@ type Message = (
     &'static [u8],
 );
 
-/// A NULL in the body; headers that are kept back or repeated; escapes; a message-id of the greatest numbers; two
+/// A NULL in the body; headers that are withheld or repeated; escapes; a message-id of the greatest numbers; two
 /// destinations, or none.
 const MESSAGES: &[Message] = &[
     (

@@ -30,7 +30,7 @@ pub(super) enum PlainAction {
     Disconnect,
 }
 
-/// A transaction: how many SENDs it has, its topics, and the SENDs of its parts, one part behind the other.
+/// A transaction: how many SENDs it has, its topics, and the SENDs of its parts, one part after the other.
 #[derive(Debug, PartialEq, Eq, Drop)]
 pub(super) struct PlainTxn {
     pub len: usize,
@@ -55,10 +55,10 @@ fn letter(text: &Octets) -> u8 {
     }
 }
 
-/// Puts the SENDs of a part behind the others.
+/// Adds the SENDs of a part after the others.
 fn add_part(part: &Part, parts: &mut Vec<PlainSend>) -> Result<(), NoMemory> {
-    for place in 0..part.sends.len() {
-        let send = part.sends.get(place);
+    for index in 0..part.sends.len() {
+        let send = part.sends.get(index);
         parts.push(PlainSend {
             topic: part.topic.0,
             index: send.index as usize,

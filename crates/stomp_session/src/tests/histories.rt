@@ -13,14 +13,14 @@ const HISTORIES: u32 = 1_000;
 
 const FRAMES: u8 = 32;
 
-/// The next frame of a history. Fifteen times in sixteen one that would be refused is drawn again, up to eight times, so
-/// that histories get long.
-fn next_frame(draws: &mut Draws, past: &Past, place: u8) -> Made {
+/// The next frame of a history. Fifteen times in sixteen one that would be refused is drawn again, up to eight times,
+/// so that histories get long.
+fn next_frame(draws: &mut Draws, past: &Past, index: u8) -> Made {
     let again = if draws.below(16) == 0 { 0 } else { 8 };
-    let mut made = draws.frame(place);
+    let mut made = draws.frame(index);
     for _ in 0..again {
         if past.refusal(&made).is_some() {
-            made = draws.frame(place);
+            made = draws.frame(index);
         }
     }
     made
@@ -39,8 +39,8 @@ struct Seen {
 
 impl Seen {
     fn has_refusal(&self, number: u32) -> bool {
-        let place = number.wrapping_sub(60) as usize;
-        self.refusals.get(place).copied().unwrap_or(false)
+        let index = number.wrapping_sub(60) as usize;
+        self.refusals.get(index).copied().unwrap_or(false)
     }
 
     fn refusal(&mut self, number: u32) {
@@ -50,7 +50,7 @@ impl Seen {
     }
 
     fn action(&mut self, action: &PlainAction) {
-        let place = match action {
+        let index = match action {
             PlainAction::Connected => 0,
             PlainAction::Nothing => 1,
             PlainAction::Subscribe(_, _) => 2,
@@ -63,7 +63,7 @@ impl Seen {
             }
             PlainAction::Disconnect => 5,
         };
-        self.actions[place] = true;
+        self.actions[index] = true;
     }
 
     fn note(&mut self, told: &PlainAnswer) {
@@ -105,25 +105,25 @@ impl History {
     }
 
     /// Whether the session answers the next frame as the list of the frames before it says.
-    fn agrees(&mut self, alloc: Global, place: u8, seen: &mut Seen) -> Result<bool, Fail> {
-        let made = next_frame(&mut self.draws, &self.past, place);
+    fn agrees(&mut self, alloc: Global, index: u8, seen: &mut Seen) -> Result<bool, Fail> {
+        let made = next_frame(&mut self.draws, &self.past, index);
         let agrees = self.agrees_on(alloc, &made, seen)?;
         self.past.put(&made)?;
         Ok(agrees)
     }
 
-    /// The place of the first frame that is answered otherwise; `FRAMES` if there is none.
+    /// The index of the first frame that is answered otherwise; `FRAMES` if there is none.
     fn first_difference(&mut self, alloc: Global, seen: &mut Seen) -> Result<u8, Fail> {
-        for place in 0..FRAMES {
-            if !self.agrees(alloc, place, seen)? {
-                return Ok(place);
+        for index in 0..FRAMES {
+            if !self.agrees(alloc, index, seen)? {
+                return Ok(index);
             }
         }
         Ok(FRAMES)
     }
 }
 
-/// The place of the first frame of a history that is answered otherwise; `FRAMES` if there is none.
+/// The index of the first frame of a history that is answered otherwise; `FRAMES` if there is none.
 fn first_difference(alloc: Global, history: u32, seen: &mut Seen) -> Result<u8, Fail> {
     let mut history = History::begin(alloc, history)?;
     history.first_difference(alloc, seen)
@@ -138,8 +138,8 @@ fn made_histories(rt: HostRuntime) -> Result<(), Fail> {
         at_both: false,
     };
     for history in 0..HISTORIES {
-        let place = first_difference(rt.alloc(), history, &mut seen)?;
-        assert!(rt; place == FRAMES, "history {history}, frame {place}");
+        let index = first_difference(rt.alloc(), history, &mut seen)?;
+        assert!(rt; index == FRAMES, "history {history}, frame {index}");
     }
     for number in [60, 61, 62, 63, 64, 65, 66, 67, 68, 73] {
         assert!(rt; seen.has_refusal(number), "no {number}");

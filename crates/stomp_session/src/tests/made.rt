@@ -17,8 +17,8 @@ const VERSIONS: [(&[u8], bool); 4] = [
 /// A frame of a history, as plain data: those headers are there that have a value.
 #[derive(Clone, Copy)]
 pub(super) struct Made {
-    /// Its place in its history, from 0, which is the body of a SEND.
-    pub place: u8,
+    /// Its index in its history, from 0, which is the body of a SEND.
+    pub index: u8,
     pub command: Command,
     /// The accept-version, and whether 1.2 is among its versions.
     pub versions: Option<(&'static [u8], bool)>,
@@ -64,7 +64,7 @@ impl Made {
     pub(super) fn frame(&self, alloc: Global) -> Result<ClientFrame, NoMemory> {
         let headers = self.headers(alloc)?;
         if self.command == Command::Send {
-            return classified(alloc, self.command, headers, &[self.place]);
+            return classified(alloc, self.command, headers, &[self.index]);
         }
         classified(alloc, self.command, headers, b"")
     }
@@ -123,9 +123,9 @@ impl Draws {
     }
 
     /// A frame of this command, with the headers that it requires, and some that it may have.
-    fn frame_of(&mut self, place: u8, command: Command) -> Made {
+    fn frame_of(&mut self, index: u8, command: Command) -> Made {
         let mut made = Made {
-            place,
+            index,
             command,
             versions: None,
             id: None,
@@ -153,16 +153,16 @@ impl Draws {
         made
     }
 
-    /// A frame at this place of a history. Most histories begin with a CONNECT or a STOMP.
-    pub(super) fn frame(&mut self, place: u8) -> Made {
-        let command = if place != 0 || self.below(8) == 0 {
+    /// A frame at this index of a history. Most histories begin with a CONNECT or a STOMP.
+    pub(super) fn frame(&mut self, index: u8) -> Made {
+        let command = if index != 0 || self.below(8) == 0 {
             self.command()
         } else if self.below(2) == 0 {
             Command::Connect
         } else {
             Command::Stomp
         };
-        let mut made = self.frame_of(place, command);
+        let mut made = self.frame_of(index, command);
         if command == Command::Send && self.below(4) != 0 {
             made.transaction = Some(self.letter(b"xyxy"));
         }

@@ -1,4 +1,5 @@
-//! Refused growths: they are made by `rt try --test --fail-alloc N`, and each test here holds whichever allocation fails.
+//! Refused growths: they are made by `rt try --test --fail-alloc N`, and each test here holds whichever allocation
+//! fails.
 
 use super::client::{Answer, Client, Pairs, frame_with};
 use crate::{Names, SessionFault};
@@ -25,8 +26,8 @@ fn are_headers(headers: &Headers, pairs: Pairs) -> bool {
     if headers.len() != pairs.len() {
         return false;
     }
-    for place in 0..pairs.len() {
-        if headers.pair(place) != pairs[place] {
+    for index in 0..pairs.len() {
+        if headers.pair(index) != pairs[index] {
             return false;
         }
     }
@@ -200,13 +201,13 @@ fn a_disconnect_takes_none(rt: HostRuntime) {
 
 /// Whether the names are these, in their order.
 fn are_names(names: &Names, want: &[&[u8]]) -> bool {
-    let mut place = 0u32;
+    let mut index = 0u32;
     for name in want {
-        let topic = Topic(place);
+        let topic = Topic(index);
         if names.name(topic) != Some(*name) || names.find(name) != Some(topic) {
             return false;
         }
-        place = place.wrapping_add(1);
+        index = index.wrapping_add(1);
     }
     names.len() == want.len()
 }
@@ -216,10 +217,10 @@ fn are_names(names: &Names, want: &[&[u8]]) -> bool {
 fn names_without_memory(rt: HostRuntime) -> Result<(), Fail> {
     let all: [&[u8]; 5] = [b"A", b"B", b"C", b"D", b"E"];
     let mut names = Names::new(rt.alloc());
-    for place in 0..all.len() {
-        let name = all[place];
+    for index in 0..all.len() {
+        let name = all[index];
         if names.len() < 5 && names.add(name).is_err() {
-            assert!(rt; are_names(&names, &all[..place]));
+            assert!(rt; are_names(&names, &all[..index]));
             assert!(rt; names.find(name).is_none());
             names.add(name)?;
         }

@@ -31,14 +31,14 @@ fn names_transaction(frame: &Made, transaction: Option<u8>) -> bool {
     ) && frame.transaction == transaction
 }
 
-/// Puts those of these SENDs that go to this topic behind the others.
+/// Adds those of these SENDs that go to this topic after the others.
 fn add_part(topic: u32, sends: &[Made], parts: &mut Vec<PlainSend>) -> Result<(), NoMemory> {
     for (index, send) in sends.iter().enumerate() {
         if topic_of(send.destination) == Some(topic) {
             parts.push(PlainSend {
                 topic,
                 index,
-                body: send.place,
+                body: send.index,
                 headers: send.send_headers(),
             })?;
         }
@@ -109,26 +109,26 @@ impl Past {
         }
     }
 
-    /// The frames behind the last one that names the transaction, SENDs aside, where that is a BEGIN: then it is open.
-    fn behind_begin(&self, transaction: Option<u8>) -> Option<&[Made]> {
-        let place = self
+    /// The frames after the last one that names the transaction, SENDs aside, where that is a BEGIN: then it is open.
+    fn after_begin(&self, transaction: Option<u8>) -> Option<&[Made]> {
+        let index = self
             .accepted
             .iter()
             .rposition(|frame| names_transaction(frame, transaction))?;
-        if self.accepted[place].command == Command::Begin {
-            return Some(&self.accepted[place + 1..]);
+        if self.accepted[index].command == Command::Begin {
+            return Some(&self.accepted[index + 1..]);
         }
         None
     }
 
     fn is_begun(&self, transaction: Option<u8>) -> bool {
-        self.behind_begin(transaction).is_some()
+        self.after_begin(transaction).is_some()
     }
 
     /// The SENDs of a transaction that is open.
     fn sends(&self, transaction: Option<u8>) -> Result<Vec<Made>, NoMemory> {
         let mut sends = Vec::new(self.alloc);
-        for frame in self.behind_begin(transaction).unwrap_or(&[]) {
+        for frame in self.after_begin(transaction).unwrap_or(&[]) {
             if frame.command == Command::Send && frame.transaction == transaction {
                 sends.push(*frame)?;
             }
@@ -220,7 +220,7 @@ impl Past {
         Ok(self.answer(frame)? == *told)
     }
 
-    /// Puts an accepted frame behind the others; a refused one closes all.
+    /// Adds an accepted frame after the others; a refused one closes all.
     pub(super) fn put(&mut self, frame: &Made) -> Result<(), NoMemory> {
         if self.refusal(frame).is_some() {
             self.is_refused = true;

@@ -1,4 +1,4 @@
-//! The session's table: one row for each refusal but want of memory; and the messages of faults.
+//! The session's table: one row for each refusal but out of memory; and the messages of faults.
 
 ghost use Rattle.stomp_frame.specs.Headers.{IsText};
 

@@ -6,7 +6,7 @@ use std::alloc::Global;
 use std::test::Fail;
 use stomp_frame::Command;
 
-/// A COMMIT or a SEND behind a script.
+/// A COMMIT or a SEND after a script.
 #[derive(Clone, Copy)]
 struct Row {
     script: &'static [u8],

@@ -173,13 +173,13 @@ fn sees_all(counts: &Counts, capacity: u64) -> bool {
 }
 
 #[test]
-fn two_threads_share_64_places(rt: HostRuntime) {
+fn two_threads_share_a_queue_of_64(rt: HostRuntime) {
     let counts = pumped(&rt, rt.alloc(), 64);
     assert!(rt; counts.is_some_and(|counts| sees_all(&counts, 64)));
 }
 
 #[test]
-fn two_threads_share_one_place(rt: HostRuntime) {
+fn two_threads_share_a_queue_of_one(rt: HostRuntime) {
     let counts = pumped(&rt, rt.alloc(), 1);
     assert!(rt; counts.is_some_and(|counts| sees_all(&counts, 1)));
 }
@@ -192,8 +192,8 @@ fn taken<R: Wait>(rt: &R, taker: &mut Taker) -> Answer {
     }
 }
 
-/// What a queue of one place answers to one thread.
-fn one_place<R: Wait>(rt: &R, alloc: Global) -> Option<[Answer; 9]> {
+/// What a queue of capacity 1 answers to one thread.
+fn queue_of_one<R: Wait>(rt: &R, alloc: Global) -> Option<[Answer; 9]> {
     let (source, mut taker) = ends::<R>(alloc, 1).ok()?;
     let mut pusher = Pusher { source, next: 0 };
     Some([
@@ -222,5 +222,5 @@ fn an_empty_queue_gives_nothing_and_a_full_one_returns(rt: HostRuntime) {
         Took(2),
         Nothing,
     ];
-    assert_eq!(rt; one_place(&rt, rt.alloc()), Some(wanted));
+    assert_eq!(rt; queue_of_one(&rt, rt.alloc()), Some(wanted));
 }

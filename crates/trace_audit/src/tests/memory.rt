@@ -1,4 +1,5 @@
-//! Refused growths: they are made by `rt try --test --fail-alloc N`, and each test here holds whichever allocation fails.
+//! Refused growths: they are made by `rt try --test --fail-alloc N`, and each test here holds whichever allocation
+//! fails.
 
 use super::{Row, row_of};
 use crate::{Agreed, AuditFault, Trace, audit};

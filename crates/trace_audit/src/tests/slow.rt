@@ -7,7 +7,7 @@ use std::alloc::Global;
 type Mark = (u64, u64, (u64, u32));
 
 /// Whether two log rows are of one transaction, and differ.
-fn differ(a: &Row, b: &Row) -> bool {
+fn are_different(a: &Row, b: &Row) -> bool {
     match (a, b) {
         (Row::Log(_, s, q, at, topics), Row::Log(_, r, p, on, others)) => {
             s == r && q == p && !(at == on && topics == others)
@@ -17,7 +17,7 @@ fn differ(a: &Row, b: &Row) -> bool {
 }
 
 /// Whether two log rows are of two transactions, and have one stamp.
-fn collide(a: &Row, b: &Row) -> bool {
+fn are_colliding(a: &Row, b: &Row) -> bool {
     match (a, b) {
         (Row::Log(_, s, q, at, _), Row::Log(_, r, p, on, _)) => !(s == r && q == p) && at == on,
         _ => false,
@@ -25,7 +25,7 @@ fn collide(a: &Row, b: &Row) -> bool {
 }
 
 /// Whether two log rows are of one sender, and the later in stamp isn't the later in seq.
-fn overtake(a: &Row, b: &Row) -> bool {
+fn are_disordered(a: &Row, b: &Row) -> bool {
     match (a, b) {
         (Row::Log(_, s, q, at, _), Row::Log(_, r, p, on, _)) => s == r && at < on && q >= p,
         _ => false,
@@ -33,7 +33,7 @@ fn overtake(a: &Row, b: &Row) -> bool {
 }
 
 /// Whether two log rows, the second added later, are of one log, and the second isn't above.
-fn falls(a: &Row, b: &Row) -> bool {
+fn are_falling(a: &Row, b: &Row) -> bool {
     match (a, b) {
         (Row::Log(t, _, _, at, _), Row::Log(u, _, _, on, _)) => t == u && at >= on,
         _ => false,
@@ -45,7 +45,7 @@ fn is_out_of_order(rows: &[Row]) -> bool {
     for index in 0..rows.len() {
         if rows[index + 1..]
             .iter()
-            .any(|later| falls(&rows[index], later))
+            .any(|later| are_falling(&rows[index], later))
         {
             return true;
         }
@@ -139,16 +139,25 @@ fn has_astray(alloc: Global, rows: &[Row]) -> Option<bool> {
 
 /// The number of the first fault of these rows, or 0; `None` out of memory.
 pub(super) fn judged(alloc: Global, rows: &[Row]) -> Option<u32> {
-    if rows.iter().any(|a| rows.iter().any(|b| differ(a, b))) {
+    if rows
+        .iter()
+        .any(|a| rows.iter().any(|b| are_different(a, b)))
+    {
         return Some(93);
     }
-    if rows.iter().any(|a| rows.iter().any(|b| collide(a, b))) {
+    if rows
+        .iter()
+        .any(|a| rows.iter().any(|b| are_colliding(a, b)))
+    {
         return Some(97);
     }
     if is_out_of_order(rows) {
         return Some(92);
     }
-    if rows.iter().any(|a| rows.iter().any(|b| overtake(a, b))) {
+    if rows
+        .iter()
+        .any(|a| rows.iter().any(|b| are_disordered(a, b)))
+    {
         return Some(94);
     }
     if (0..6u32).any(|topic| rows.iter().any(|row| is_hole(rows, row, topic))) {

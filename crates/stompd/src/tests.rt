@@ -1,0 +1,6 @@
+//! Tests of the layers above the topics, by their public calls alone.
+
+mod broker_core;
+mod draws;
+mod locks;
+mod programs;

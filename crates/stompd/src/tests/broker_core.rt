@@ -1,0 +1,18 @@
+//! The core: its events and reports, its topics, its faults and its traces.
+
+pub(crate) mod asks;
+mod draws;
+mod event_list;
+mod faults;
+mod made;
+mod net;
+mod past;
+mod plain;
+mod printing;
+mod replies;
+mod runs;
+mod subscriptions;
+pub(crate) mod topics;
+mod tracing;
+mod without_memory;
+mod worked_runs;

@@ -1,0 +1,418 @@
+//! Made runs, judged by a plain, slow program: it sorts and filters what the outcomes say, and holds no clock.
+
+use super::asks::{Ask, event, topics};
+use super::draws::Made;
+use super::past::{Flight, Past, Span};
+use super::replies::{Dues, Reply, out};
+use crate::tests::draws::Draws;
+use delivery::{CommitRow, Net, Outcome, QueueItem, QueueReport, Report, agreed, due};
+use mcast_group::Row;
+use mcast_txn::{Released, SentMessage, Stamp, Topic, TxnId};
+use std::alloc::Global;
+use std::test::Fail;
+use stomp_frame::{Headers, NoMemory, Octets};
+
+/// How many runs there are, and how many draws each has.
+const RUNS: u32 = 200;
+
+const DRAWS: u32 = 200;
+
+/// SENDs to these topics, with nothing in them.
+fn sends(alloc: Global, topics: &[u32]) -> Result<Vec<SentMessage>, NoMemory> {
+    let mut sends = Vec::new(alloc);
+    for topic in topics {
+        sends.push(SentMessage {
+            topic: Topic(*topic),
+            headers: Headers::new(alloc),
+            body: Octets::new(alloc),
+        })?;
+    }
+    Ok(sends)
+}
+
+/// The committed transactions.
+fn rows(alloc: Global, commits: &[Flight]) -> Result<Vec<CommitRow>, NoMemory> {
+    let mut rows = Vec::new(alloc);
+    for commit in commits {
+        rows.push(CommitRow {
+            id: commit.id,
+            sends: sends(alloc, commit.topics)?,
+            stamp: commit.stamp,
+        })?;
+    }
+    Ok(rows)
+}
+
+/// Whether the row is of this transaction and stamp.
+fn is_of(row: &Row, id: TxnId, stamp: Stamp) -> bool {
+    row.id == id && row.stamp == stamp
+}
+
+/// Whether the report's commits are those of the outcomes.
+fn has_commits(report: &Report<'_>, past: &Past) -> bool {
+    report.commits_len() == past.commits.len()
+        && (0..past.commits.len()).all(|i| {
+            report.commit(i).is_some_and(|row| is_of(
+                row,
+                past.commits[i].id,
+                past.commits[i].stamp,
+            ))
+        })
+}
+
+/// Whether the stamps rise, and, where one sender has both, its seqs with them.
+fn is_before(a: &CommitRow, b: &CommitRow) -> bool {
+    a.stamp.is_before(b.stamp) && (a.id.sender != b.id.sender || a.id.seq < b.id.seq)
+}
+
+/// Whether the row of the first index comes before that of the second.
+fn stand(rows: &[CommitRow], i: usize, j: usize) -> bool {
+    i < rows.len() && j < rows.len() && is_before(&rows[i], &rows[j])
+}
+
+/// Whether the rows rise, each above all before it.
+fn rise(rows: &[CommitRow]) -> bool {
+    (0..rows.len()).all(|j| (0..j).all(|i| stand(rows, i, j)))
+}
+
+/// Whether a transaction of these SENDs names the topic.
+fn names(row: &CommitRow, t: u32) -> bool {
+    row.sends.iter().any(|send| send.topic.0 == t)
+}
+
+/// Whether the topic's log is a front of the rows that name it.
+fn has_log(report: &Report<'_>, t: usize, rows: &[CommitRow]) -> bool {
+    let Ok(topic) = u32::try_from(t) else {
+        return false;
+    };
+    let mut logged = 0usize;
+    for row in rows {
+        if !names(row, topic) {
+            continue;
+        }
+        let Some(there) = report.log_row(t, logged) else {
+            break;
+        };
+        if !is_of(there, row.id, row.stamp) {
+            return false;
+        }
+        logged = logged.saturating_add(1);
+    }
+    t < report.topics_len() && logged == report.log_len(t)
+}
+
+/// The stamp of the log's last row.
+fn frontier(report: &Report<'_>, topic: u32) -> Stamp {
+    let t = topic as usize;
+    let last = report.log_len(t).checked_sub(1);
+    last.and_then(|i| report.log_row(t, i))
+        .map_or(Stamp::ZERO, |row| row.stamp)
+}
+
+/// Whether an item of a queue is the one that is due: the same SENDs by their indices.
+fn is_due(item: &Released, want: &QueueItem) -> bool {
+    let sends = &item.part.sends;
+    item.part.id == want.id
+        && item.stamp == want.stamp
+        && sends.len() == want.sends.len()
+        && (0..want.sends.len()).all(|i| i < sends.len()
+            && sends.get(i).index == want.sends[i].index)
+}
+
+/// Whether a queue has accepted these items.
+fn has_queued(queue: &QueueReport<'_>, items: &[QueueItem]) -> bool {
+    queue.queued_len() == items.len()
+        && (0..items.len()).all(|i| queue.queued(i).is_some_and(|item| is_due(item, &items[i])))
+}
+
+/// Whether the subscription has the span that the outcomes say, where they say it, and as many items were handed.
+fn has_span(queue: &QueueReport<'_>, span: Span) -> bool {
+    queue.topic().0 == span.topic
+        && queue.from() == span.from
+        && (span.to.is_none() || queue.to() == span.to)
+        && queue.handed_len() == span.handed
+        && queue.handed_len() <= queue.queued_len()
+}
+
+/// The letter of a topic.
+fn letter(topic: u32) -> char {
+    match topic {
+        0 => 'A',
+        1 => 'B',
+        _ => 'C',
+    }
+}
+
+/// What is due to the subscription.
+fn due_to(
+    alloc: Global,
+    report: &Report<'_>,
+    past: &Past,
+    span: Span,
+    s: usize,
+) -> Result<Dues, NoMemory> {
+    let items = due(
+        alloc,
+        rows(alloc, &past.commits)?,
+        Topic(span.topic),
+        span.from,
+        report.subscription(s).and_then(|queue| queue.to()),
+        frontier(report, span.topic),
+    )?;
+    Ok(Dues {
+        id: span.id,
+        topic: letter(span.topic),
+        items,
+    })
+}
+
+/// What is due to each subscription.
+fn dues(alloc: Global, report: &Report<'_>, past: &Past) -> Result<Vec<Dues>, NoMemory> {
+    let mut all = Vec::new(alloc);
+    for s in 0..past.spans.len() {
+        all.push(due_to(alloc, report, past, past.spans[s], s)?)?;
+    }
+    Ok(all)
+}
+
+/// Whether the subscription's queue has accepted what is due.
+fn has_due(report: &Report<'_>, past: &Past, dues: &[Dues], s: usize) -> bool {
+    match report.subscription(s) {
+        Some(queue) if s < past.spans.len() && s < dues.len() => {
+            has_span(&queue, past.spans[s]) && has_queued(&queue, &dues[s].items)
+        }
+        _ => false,
+    }
+}
+
+/// Whether each subscription has.
+fn have_due(report: &Report<'_>, past: &Past, dues: &[Dues]) -> bool {
+    report.subscriptions_len() == past.spans.len()
+        && (0..past.spans.len()).all(|s| has_due(report, past, dues, s))
+}
+
+/// Whether the connection was written what the outcomes say.
+fn has_out(
+    alloc: Global,
+    report: &Report<'_>,
+    past: &Past,
+    dues: &[Dues],
+    c: usize,
+) -> Result<bool, NoMemory> {
+    let text = out(alloc, &past.written, c as u64, dues)?;
+    Ok(report.out(c) == Some(text.as_bytes()))
+}
+
+/// Whether each connection was.
+fn have_outs(
+    alloc: Global,
+    report: &Report<'_>,
+    past: &Past,
+    dues: &[Dues],
+) -> Result<bool, NoMemory> {
+    for c in 0..past.lines.len() {
+        if !has_out(alloc, report, past, dues, c)? {
+            return Ok(false);
+        }
+    }
+    Ok(report.connections_len() == past.lines.len())
+}
+
+/// Whether the report is what the outcomes say.
+fn is_right(alloc: Global, report: &Report<'_>, past: &Past) -> Result<bool, NoMemory> {
+    let sorted = agreed(alloc, rows(alloc, &past.commits)?)?;
+    let dues = dues(alloc, report, past)?;
+    Ok(
+        has_commits(report, past)
+            && rise(&sorted)
+            && (0..report.topics_len()).all(|t| has_log(report, t, &sorted))
+            && have_due(report, past, &dues)
+            && have_outs(alloc, report, past, &dues)?,
+    )
+}
+
+/// Takes the event and keeps its outcome. Whether the outcome may be, and what it is.
+fn told(
+    alloc: Global,
+    net: &mut Net,
+    past: &mut Past,
+    ask: Ask,
+) -> Result<(bool, Outcome), NoMemory> {
+    let event = event(alloc, ask)?;
+    net.reserve(1)?;
+    let outcome = net.step(event);
+    Ok((past.keep(ask, outcome)?, outcome))
+}
+
+/// Feeds the connection, if all that it was fed was read. Whether the outcome may be.
+fn feed(
+    alloc: Global,
+    net: &mut Net,
+    past: &mut Past,
+    c: u64,
+    made: Made,
+) -> Result<bool, NoMemory> {
+    if past.fed(c).is_some() {
+        return Ok(true);
+    }
+    let (may_be, outcome) = told(alloc, net, past, Ask::Piece(c, made.octets))?;
+    if outcome == Outcome::Fed {
+        past.feed(c, Some(made));
+    }
+    Ok(may_be)
+}
+
+/// Reads at most so many frames, until one isn't only done. Whether each outcome may be.
+fn read(
+    alloc: Global,
+    net: &mut Net,
+    past: &mut Past,
+    c: u64,
+    most: u32,
+) -> Result<bool, NoMemory> {
+    for _ in 0..most {
+        let (may_be, outcome) = told(alloc, net, past, Ask::Next(c))?;
+        if !may_be || outcome != Outcome::Done {
+            return Ok(may_be);
+        }
+    }
+    Ok(true)
+}
+
+/// A connection is opened, and sends its CONNECT and a SUBSCRIBE.
+fn connect(alloc: Global, net: &mut Net, past: &mut Past, c: u64) -> Result<bool, NoMemory> {
+    let made = Made {
+        octets: b"CONNECT\naccept-version:1.2\nhost:h\n\n\0SUBSCRIBE\nid:s\ndestination:A\n\n\0",
+        topics: &[0],
+        id: 's',
+        asks: false,
+    };
+    Ok(
+        told(alloc, net, past, Ask::Open)?.0
+            && feed(alloc, net, past, c, made)?
+            && read(alloc, net, past, c, 2)?,
+    )
+}
+
+/// Three connections.
+fn connect_all(alloc: Global, net: &mut Net, past: &mut Past) -> Result<bool, NoMemory> {
+    Ok(
+        connect(alloc, net, past, 0)?
+            && connect(alloc, net, past, 1)?
+            && connect(alloc, net, past, 2)?,
+    )
+}
+
+/// What is drawn.
+fn drawn(
+    alloc: Global,
+    net: &mut Net,
+    past: &mut Past,
+    draws: &mut Draws,
+) -> Result<bool, NoMemory> {
+    let c = draws.below(3) as u64;
+    match draws.below(16) {
+        0..=2 => feed(alloc, net, past, c, draws.made()),
+        3..=5 => read(alloc, net, past, c, draws.below(6)),
+        _ => Ok(told(alloc, net, past, draws.ask())?.0),
+    }
+}
+
+/// Which kinds of outcomes came.
+#[derive(Drop)]
+struct Seen {
+    commits: usize,
+    handed: usize,
+    lags: usize,
+    ends: usize,
+    receipts: usize,
+    errors: usize,
+}
+
+/// Whether the subscription's span ended by a lag.
+fn is_lag(report: &Report<'_>, s: usize) -> bool {
+    report
+        .subscription(s)
+        .is_some_and(|queue| queue.cause() == Some(mcast_group::Cause::Lag))
+}
+
+impl Seen {
+    fn add(&mut self, report: &Report<'_>, past: &Past) {
+        self.commits = self.commits.saturating_add(past.commits.len());
+        for s in 0..past.spans.len() {
+            self.handed = self.handed.saturating_add(past.spans[s].handed);
+            if past.spans[s].to.is_some() {
+                self.ends = self.ends.saturating_add(1);
+            }
+            if is_lag(report, s) {
+                self.lags = self.lags.saturating_add(1);
+            }
+        }
+    }
+
+    /// The RECEIPTs, and the ERRORs that have one.
+    fn add_replies(&mut self, past: &Past) {
+        for written in &past.written {
+            match written.reply {
+                Reply::Receipt => self.receipts = self.receipts.saturating_add(1),
+                Reply::ErrorOfReceipt(_) => self.errors = self.errors.saturating_add(1),
+                _ => {}
+            }
+        }
+    }
+}
+
+/// The core of a run: every eighth has a topic whose clock is nearly full.
+fn new_net(alloc: Global, run: u32) -> Result<Net, NoMemory> {
+    let clock = if run % 8 == 0 { u64::MAX - 2 } else { 4 };
+    let names = if run % 3 == 0 {
+        topics(alloc, &[(b"A".as_slice(), 0), (b"B", clock)])?
+    } else {
+        topics(alloc, &[(b"A".as_slice(), 0), (b"B", clock), (b"C", 2)])?
+    };
+    if run % 2 == 0 {
+        Net::new(alloc, names, 1)
+    } else {
+        Net::new(alloc, names, 8)
+    }
+}
+
+/// Whether each outcome of the run may be, and what is reported at its end is right.
+fn holds(alloc: Global, run: u32, seen: &mut Seen) -> Result<bool, NoMemory> {
+    let mut net = new_net(alloc, run)?;
+    let mut past = Past::new(alloc);
+    let mut draws = Draws::of(run);
+    if !connect_all(alloc, &mut net, &mut past)? {
+        return Ok(false);
+    }
+    for _ in 0..DRAWS {
+        if !drawn(alloc, &mut net, &mut past, &mut draws)? {
+            return Ok(false);
+        }
+    }
+    seen.add(&net.report(), &past);
+    seen.add_replies(&past);
+    is_right(alloc, &net.report(), &past)
+}
+
+#[test]
+fn made_runs(rt: HostRuntime) -> Result<(), Fail> {
+    let mut seen = Seen {
+        commits: 0,
+        handed: 0,
+        lags: 0,
+        ends: 0,
+        receipts: 0,
+        errors: 0,
+    };
+    for run in 0..RUNS {
+        assert!(rt; holds(rt.alloc(), run, &mut seen)?, "run {run}");
+    }
+    assert!(rt; seen.commits > 0);
+    assert!(rt; seen.handed > 0);
+    assert!(rt; seen.lags > 0);
+    assert!(rt; seen.ends > 0);
+    assert!(rt; seen.receipts > 0);
+    assert!(rt; seen.errors > 0);
+    Ok(())
+}

@@ -1,0 +1,126 @@
+//! The subscriptions of one connection: its 64, one too many, and an UNSUBSCRIBE among them.
+
+use super::asks::{CONNECT, topics};
+use delivery::{Event, Net, Outcome, Refusal};
+use mcast_txn::{Stamp, Topic};
+use std::alloc::Global;
+use std::test::Fail;
+use stomp_frame::{NoMemory, Octets};
+
+/// How many subscriptions a connection may have at once.
+const MOST: u8 = 64;
+
+/// Takes the event.
+fn step(net: &mut Net, event: Event) -> Result<Outcome, NoMemory> {
+    net.reserve(1)?;
+    Ok(net.step(event))
+}
+
+/// Feeds the octets to connection 0, and reads a frame.
+fn next(net: &mut Net, octets: Octets) -> Result<Outcome, NoMemory> {
+    step(net, Event::Piece(0, octets))?;
+    step(net, Event::Next(0))
+}
+
+/// What comes of a frame that begins so and ends with the id of this number, two letters.
+fn told(alloc: Global, net: &mut Net, begin: &[u8], number: u8) -> Result<Outcome, NoMemory> {
+    let mut octets = Octets::from_slice(alloc, begin)?;
+    octets.push(b'a' + number / 16)?;
+    octets.push(b'a' + number % 16)?;
+    octets.extend(b"\n\n\0")?;
+    next(net, octets)
+}
+
+fn subscribe(alloc: Global, net: &mut Net, number: u8) -> Result<Outcome, NoMemory> {
+    told(alloc, net, b"SUBSCRIBE\ndestination:A\nid:", number)
+}
+
+fn unsubscribe(alloc: Global, net: &mut Net, number: u8) -> Result<Outcome, NoMemory> {
+    told(alloc, net, b"UNSUBSCRIBE\nid:", number)
+}
+
+/// A core of one topic, with one connection.
+fn connected(alloc: Global) -> Result<Net, NoMemory> {
+    let mut net = Net::new(alloc, topics(alloc, &[(b"A".as_slice(), 0)])?, 4)?;
+    step(&mut net, Event::Open)?;
+    next(&mut net, Octets::from_slice(alloc, CONNECT)?)?;
+    Ok(net)
+}
+
+/// Whether each of the numbers subscribes, as the subscription of that number.
+fn all_subscribe(alloc: Global, net: &mut Net) -> Result<bool, NoMemory> {
+    for number in 0..MOST {
+        if subscribe(alloc, net, number)? != Outcome::Subscribed(number as u64, Stamp::ZERO) {
+            return Ok(false);
+        }
+    }
+    Ok(true)
+}
+
+/// Whether a Leave closes each of them, the oldest first, and then the connection is gone.
+fn all_leave(net: &mut Net) -> Result<bool, NoMemory> {
+    for number in 0..MOST {
+        if step(net, Event::Leave(0))? != Outcome::Unsubscribed(number as u64, Stamp::ZERO) {
+            return Ok(false);
+        }
+    }
+    Ok(step(net, Event::Leave(0))? == Outcome::Gone { cut: false })
+}
+
+/// Whether the connection ended by the fault of this number.
+fn is_fault(outcome: Outcome, number: u32) -> bool {
+    matches!(outcome, Outcome::Faulted { fault, cut: false } if fault.number() == number)
+}
+
+#[test]
+fn a_65th_subscription_is_one_too_many(rt: HostRuntime) -> Result<(), Fail> {
+    let mut net = connected(rt.alloc())?;
+    assert!(rt; all_subscribe(rt.alloc(), &mut net)?);
+    let outcome = subscribe(rt.alloc(), &mut net, MOST)?;
+    assert!(rt; is_fault(outcome, 69));
+    let outcome = step(&mut net, Event::Next(0))?;
+    assert!(rt; outcome == Outcome::Refused(Refusal::Busy));
+    assert_eq!(rt; net.report().subscriptions_len(), 64);
+    assert!(rt; all_leave(&mut net)?);
+    Ok(())
+}
+
+/// Whether a SEND to the topic is committed and released.
+fn is_sent(alloc: Global, net: &mut Net) -> Result<bool, NoMemory> {
+    next(
+        net,
+        Octets::from_slice(alloc, b"SEND\ndestination:A\n\nm\0")?,
+    )?;
+    step(net, Event::Propose(0, Topic(0)))?;
+    step(net, Event::Decide(0))?;
+    Ok(step(net, Event::Turn(Topic(0)))? == Outcome::Turned(1))
+}
+
+/// Whether the queue of this subscription accepted so many items.
+fn has_accepted(net: &Net, s: usize, items: usize) -> bool {
+    net.report()
+        .subscription(s)
+        .is_some_and(|queue| queue.queued_len() == items)
+}
+
+#[test]
+fn an_unsubscribe_among_64(rt: HostRuntime) -> Result<(), Fail> {
+    let mut net = connected(rt.alloc())?;
+    assert!(rt; all_subscribe(rt.alloc(), &mut net)?);
+    let outcome = unsubscribe(rt.alloc(), &mut net, 37)?;
+    assert!(rt; outcome == Outcome::Unsubscribed(37, Stamp::ZERO));
+    let outcome = subscribe(rt.alloc(), &mut net, 37)?;
+    assert!(rt; outcome == Outcome::Subscribed(64, Stamp::ZERO));
+    let outcome = unsubscribe(rt.alloc(), &mut net, 37)?;
+    assert!(rt; outcome == Outcome::Unsubscribed(64, Stamp::ZERO));
+    assert!(rt; is_sent(rt.alloc(), &mut net)?);
+    for s in 0..65usize {
+        assert!(rt;
+            has_accepted(&net, s, if s == 37 || s == 64 { 0 } else { 1 }),
+            "subscription {s}"
+        );
+    }
+    let outcome = unsubscribe(rt.alloc(), &mut net, 37)?;
+    assert!(rt; is_fault(outcome, 64));
+    Ok(())
+}

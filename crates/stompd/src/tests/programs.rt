@@ -1,0 +1,16 @@
+//! Worked examples of the programs, over readers and writers that do as little as they may, or fail.
+
+mod auditing;
+mod ending;
+mod failing;
+mod frame_limits;
+mod limits;
+mod made_scripts;
+mod peers;
+mod print;
+mod relaying;
+mod script_events;
+mod script_rows;
+mod scripting;
+mod scripts;
+mod words;

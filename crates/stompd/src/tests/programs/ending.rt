@@ -1,0 +1,193 @@
+//! Programs, from their words to their status and their line on standard error.
+
+use super::peers::{Source, Target};
+use broker_server::{Counting, Ending, Message, ProgramFault, run_words};
+use std::alloc::{AllocError, Global};
+use std::io;
+use std::io::ErrorKind;
+use std::test::Fail;
+
+const SEND: &[u8] = b"SEND\ndestination:B\n\nhi\0";
+
+const MESSAGE: &[u8] =
+    b"MESSAGE\nsubscription:0\nmessage-id:1.0.0\ndestination:B\ncontent-length:2\n\nhi\0";
+
+const ERROR: &[u8] = b"ERROR\nmessage:67 UnknownDestination\ncontent-length:0\n\n\0";
+
+const ROW: &[u8] = b"log 0 0 1 1.0 0\n";
+
+const YES: &[u8] = b"agreed 0 1 1.0 0\ncomplete\n";
+
+const SPAN: &[u8] = b"span 7 0 0.0 -\nqueue 7 0 1 1.0\n";
+
+const NO: &[u8] = b"no 96 QueueRow 7\n";
+
+const BAD: &[u8] = b"bad 90 BadRow 1\n";
+
+/// What fails of a run.
+#[derive(Clone, Copy)]
+enum Fails {
+    Nothing,
+    Read,
+    Flush,
+}
+
+/// How `stompd relay NAME` ends over a SEND to B, and whether it wrote this.
+fn relay(
+    alloc: Global,
+    name: &str,
+    fails: Fails,
+    output: &[u8],
+) -> Result<(Ending, bool), AllocError> {
+    let mut words = Vec::new(alloc);
+    words.push(String::from_str(alloc, "relay")?)?;
+    words.push(String::from_str(alloc, name)?)?;
+    run(alloc, words, SEND, fails, output)
+}
+
+/// How `stompd audit` ends over this text, and whether it wrote this.
+fn audited(
+    alloc: Global,
+    text: &[u8],
+    fails: Fails,
+    output: &[u8],
+) -> Result<(Ending, bool), AllocError> {
+    let mut words = Vec::new(alloc);
+    words.push(String::from_str(alloc, "audit")?)?;
+    run(alloc, words, text, fails, output)
+}
+
+/// How these words end over this input, and whether this was written.
+fn run(
+    alloc: Global,
+    words: Vec<String>,
+    input: &[u8],
+    fails: Fails,
+    output: &[u8],
+) -> Result<(Ending, bool), AllocError> {
+    let mut reader = Counting::new(Source::of(input));
+    let mut writer = Counting::new(Target::with_room(alloc, 1024)?);
+    match fails {
+        Fails::Nothing => (),
+        Fails::Read => reader.inner.fails_at = 1,
+        Fails::Flush => writer.inner.fails_flush = true,
+    }
+    let ended = run_words(alloc, Ok(words), &mut reader, &mut writer);
+    Ok((ended, writer.inner.taken.as_slice() == output))
+}
+
+/// How words that aren't these of a program end, where nothing is read or written.
+fn refused(alloc: Global, words: io::Result<Vec<String>>) -> Result<Option<Ending>, AllocError> {
+    let mut reader = Counting::new(Source::of(SEND));
+    let mut writer = Counting::new(Target::with_room(alloc, 1024)?);
+    let ended = run_words(alloc, words, &mut reader, &mut writer);
+    let untouched = (
+        reader.inner.reads,
+        writer.inner.writes,
+        writer.inner.flushes,
+    ) == (0, 0, 0);
+    Ok(if untouched { Some(ended) } else { None })
+}
+
+const IO_FAULT: Ending = Ending {
+    status: 5,
+    message: Some(Message::Fault(ProgramFault::Io)),
+};
+
+const NO_MEMORY: Ending = Ending {
+    status: 4,
+    message: Some(Message::Fault(ProgramFault::NoMemory)),
+};
+
+const WELL: Ending = Ending {
+    status: 0,
+    message: None,
+};
+
+const USAGE: Ending = Ending {
+    status: 1,
+    message: Some(Message::Usage),
+};
+
+const BAD_INPUT: Ending = Ending {
+    status: 2,
+    message: None,
+};
+
+const REFUSED: Ending = Ending {
+    status: 3,
+    message: None,
+};
+
+/// A name or a text, what fails, what is written, and how the run ends.
+type Row<T> = (T, Fails, &'static [u8], Ending);
+
+const RELAYED: &[Row<&str>] = &[
+    ("B", Fails::Nothing, MESSAGE, WELL),
+    ("A", Fails::Nothing, ERROR, BAD_INPUT),
+    ("B", Fails::Read, b"", IO_FAULT),
+    ("B", Fails::Flush, MESSAGE, IO_FAULT),
+];
+
+#[test]
+fn relays_to_its_name(rt: HostRuntime) -> Result<(), Fail> {
+    for (name, fails, output, wanted) in RELAYED {
+        let (ended, written) = relay(rt.alloc(), name, *fails, output)?;
+        assert!(rt; ended == *wanted && written);
+    }
+    Ok(())
+}
+
+const AUDITED: &[Row<&[u8]>] = &[
+    (ROW, Fails::Nothing, YES, WELL),
+    (SPAN, Fails::Nothing, NO, REFUSED),
+    (SEND, Fails::Nothing, BAD, BAD_INPUT),
+    (ROW, Fails::Read, b"", IO_FAULT),
+    (ROW, Fails::Flush, YES, IO_FAULT),
+];
+
+#[test]
+fn audits_its_input(rt: HostRuntime) -> Result<(), Fail> {
+    for (text, fails, output, wanted) in AUDITED {
+        let (ended, written) = audited(rt.alloc(), text, *fails, output)?;
+        assert!(rt; ended == *wanted && written);
+    }
+    Ok(())
+}
+
+/// Whether a run is right; `None` where it ended without memory, with its status and its line, or had none to begin with.
+fn is_right(run: Result<(Ending, bool), AllocError>) -> Option<bool> {
+    match run {
+        Ok((ended, _)) if ended == NO_MEMORY => None,
+        Ok((ended, written)) => Some(ended == WELL && written),
+        Err(_) => None,
+    }
+}
+
+/// Where a growth is refused, the status is 4 with its line, or the run is right; the second time it is right.
+#[test]
+fn ends_without_memory(rt: HostRuntime) {
+    let mut answer = is_right(relay(rt.alloc(), "B", Fails::Nothing, MESSAGE));
+    if answer.is_none() {
+        answer = is_right(relay(rt.alloc(), "B", Fails::Nothing, MESSAGE));
+    }
+    assert!(rt; answer == Some(true));
+    answer = is_right(audited(rt.alloc(), ROW, Fails::Nothing, YES));
+    if answer.is_none() {
+        answer = is_right(audited(rt.alloc(), ROW, Fails::Nothing, YES));
+    }
+    assert!(rt; answer == Some(true));
+}
+
+#[test]
+fn wrong_words(rt: HostRuntime) -> Result<(), Fail> {
+    let alloc = rt.alloc();
+    assert!(rt; refused(alloc, Ok(Vec::new(alloc)))? == Some(USAGE));
+    for &(kind, ended) in &[
+        (ErrorKind::InvalidData, USAGE),
+        (ErrorKind::OutOfMemory, NO_MEMORY),
+    ] {
+        assert!(rt; refused(alloc, Err(io::Error::from(kind)))? == Some(ended));
+    }
+    Ok(())
+}
