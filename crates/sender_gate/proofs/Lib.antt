@@ -1,1 +1,4 @@
+pub mod ClaimLemmas
 pub mod FlightLemmas
+pub mod KeptLemmas
+pub mod SenderRows

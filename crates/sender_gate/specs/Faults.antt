@@ -1,7 +1,9 @@
--- The numbers of a gate's faults (own).
+-- The numbers of the faults of a gate and of a claim (own).
 use Rattle.std.specs.Prelude.{ℕ}
 use Rattle.mcast_txn.specs.declared.fault.BallotFault.{BallotFault}
 use Rattle.mcast_txn.specs.declared.fault.BallotFault.TheVariants as ballot
+use Rattle.sender_gate.specs.declared.fault.ClaimFault.{ClaimFault}
+use Rattle.sender_gate.specs.declared.fault.ClaimFault.TheVariants as claim
 use Rattle.sender_gate.specs.declared.fault.GateFault.{GateFault}
 use Rattle.sender_gate.specs.declared.fault.GateFault.TheVariants as gate
 
@@ -17,3 +19,8 @@ gate_number gate.NoMemory = 55
 abbrev pub gate_fault : BallotFault → GateFault
 gate_fault ballot.NotNamed = gate.NotNamed
 gate_fault ballot.Twice = gate.Twice
+
+abbrev pub claim_number : ClaimFault → ℕ
+claim_number claim.SenderInUse = 77
+claim_number claim.TooManyClients = 78
+claim_number claim.NoMemory = 55

@@ -1,2 +1,4 @@
 -- These modules only serve proofs: no public contract cites them, and nobody need believe them.
+pub mod Claims
 pub mod Flights
+pub mod Stored

@@ -1,3 +1,4 @@
 pub mod Faults
 pub mod Gate
 pub mod Inner
+pub mod Senders

@@ -1,7 +1,7 @@
-//! What a gate refuses.
+//! What a gate refuses, and a claim of a sender.
 
 ghost use Rattle.std.specs.Prelude.{◌≡◌};
-ghost use Rattle.sender_gate.specs.Faults.{gate_number, gate_fault};
+ghost use Rattle.sender_gate.specs.Faults.{claim_number, gate_number, gate_fault};
 
 use mcast_txn::BallotFault;
 use thiserror::Error;
@@ -53,6 +53,33 @@ impl From<BallotFault> for GateFault {
         match fault {
             BallotFault::NotNamed => GateFault::NotNamed,
             BallotFault::Twice => GateFault::Twice,
+        }
+    }
+}
+
+/// Why a sender can't be claimed.
+#[derive(Clone, Copy, Debug, PartialEq, Eq, Error)]
+pub enum ClaimFault {
+    /// 77: the sender of this client-id is in use.
+    #[error("77 SenderInUse: wait until the connection of this client-id is gone, or take another client-id")]
+    SenderInUse,
+    /// 78: as many client-ids are kept as may be, or no number is left for a sender.
+    #[error("78 TooManyClients: take a client-id that is kept, or none")]
+    TooManyClients,
+    /// 55: there was no memory to keep the client-id; nothing changed.
+    #[error("55 NoMemory: out of memory for the client-id; claim it again")]
+    NoMemory,
+}
+
+impl ClaimFault {
+    /// Its number: 77, 78 or 55.
+    pub fn number(self) -> u32
+        ensures { result ≡ claim_number self }
+    {
+        match self {
+            ClaimFault::SenderInUse => 77,
+            ClaimFault::TooManyClients => 78,
+            ClaimFault::NoMemory => 55,
         }
     }
 }

@@ -45,7 +45,7 @@ impl Model for Flying {
 }
 
 impl Flying {
-    // A flight with this ballot and these parts.
+    /// A flight with this ballot and these parts.
     pub(crate) fn new(floor: Stamp, ballot: Ballot, parts: Parts) -> Flying
         requires { IsFlying floor ballot.tickets parts.slots }
         ensures { result ≡ record {
@@ -91,7 +91,8 @@ impl Flying {
     /// Takes the topic's part out, with no memory: `None` where it was taken out before, or where the transaction
     /// doesn't name the topic. The part has the flight itself, and so its cell.
     pub fn part(&mut self, topic: Topic) -> Option<Arc<Part>>
-        ensures part { option_map (λ part. data_of (arc_value part)) result ≡ held_at topic self.old.state.parts }
+        ensures part { option_map (λ part. data_of (arc_value part)) result
+            ≡ held_at topic self.old.state.parts }
         ensures own { IfSome result (λ part. flight_of_part (arc_value part) ≡ self.old.flight) }
         ensures taken { self.new ≡ record self.old {
           state = record self.old.state { parts = with_slot topic None self.old.state.parts };
@@ -118,7 +119,7 @@ impl Flying {
     }
 
     /// Ends with the verdict, whose stamp is the sender's new floor, with no memory. Refused (52) where a topic gave
-    /// no ticket: the flight is then handed back.
+    /// no ticket: the flight is then returned.
     pub fn decide(self) -> Result<(Gate, Box<Verdict>), (Flying, GateFault)>
         ensures incomplete { is_err result ≡ list_any (λ s. is_none s.1) self.state.tickets }
         ensures id { IfOk result (λ decided. decided.1.value.id ≡ self.state.id) }
@@ -141,7 +142,7 @@ impl Flying {
     }
 
     /// Ends without a verdict, with no memory: the floor stays, the number stays used, and the tickets that were put
-    /// are handed back, by rising topic.
+    /// are returned, by rising topic.
     pub fn withdraw(self) -> (Gate, Tickets)
         ensures gate { result.0 ≡ gate_after self.state self.state.floor }
         ensures tickets { result.1 ≡ tickets_put (ballot_of self.state) }

@@ -36,7 +36,7 @@ impl Gate {
         Gate::resume(sender, 0, Stamp::ZERO)
     }
 
-    /// A sender that goes on behind this transaction and with this floor.
+    /// A sender whose last transaction has this number, and which has this floor.
     pub fn resume(sender: Sender, seq: u64, floor: Stamp) -> Gate
         ensures { result ≡ record { sender = sender; seq = seq; floor = floor } }
     {
@@ -65,8 +65,8 @@ impl Gate {
     }
 
     /// Sends the transaction on its way, as the sender's next one. It makes the room that the flight's calls need.
-    /// Refused: 53 where the sender has used its last number, 55 for want of memory; gate and transaction are then
-    /// handed back.
+    /// Refused: 53 where the sender has used its last number, 55 out of memory; gate and transaction are then
+    /// returned.
     pub fn begin(self, alloc: Global, txn: Txn) -> Result<Flying, (Gate, Txn, GateFault)>
         ensures ok { IfOk result (λ flying. flying.state ≡ flight_of self txn) }
         ensures flight { IfOk result (λ flying. flight_id flying.flight ≡ next_id self) }

@@ -1,0 +1,27 @@
+-- What a claim that isn't refused goes on with. Only proofs go by it; no public contract speaks of it.
+use Rattle.std.specs.Prelude.{◌≡◌, ℕ, true, List, slice_get, slice_set, Option, Some, None, is_some}
+use Rattle.mcast_txn.specs.declared.id.Sender.{Sender}
+use Rattle.sender_gate.specs.declared.claim.Claim.{Claim}
+use Rattle.sender_gate.specs.declared.claim.Claim.TheVariants as claims
+use Rattle.sender_gate.specs.Senders.{KeptSender, SendersState, after_claim, claimed}
+
+-- the senders with this one, in use, at a place
+abbrev pub with_used_at : ℕ → KeptSender → SendersState → SendersState
+with_used_at place k s = record s { kept = slice_set s.kept place (record k { gate = None }) }
+
+-- The kept sender at a place is the one that is claimed.
+pub record IsClaimedAt (client : Option (List ℕ)) (s : SendersState) (place : ℕ) : Type 0 where
+  pub kept : KeptSender
+  pub found : claimed client s ≡ Some kept
+  pub at : slice_get s.kept place ≡ Some kept
+  pub after : after_claim client s ≡ with_used_at place kept s
+
+-- This sender is the next, and none is kept that the claim could go on with.
+pub record IsNextSender (client : Option (List ℕ)) (s : SendersState) (sender : Sender) : Type 0 where
+  pub none : claimed client s ≡ None
+  pub number : sender.0 ≡ s.begun
+
+-- What is claimed is there for this claim: a kept sender isn't in use.
+abbrev pub IsClaim : Option (List ℕ) → SendersState → Claim → Type 0
+IsClaim client s (claims.Kept place) = (at : IsClaimedAt client s place) × (is_some at.kept.gate ≡ true)
+IsClaim client s (claims.New sender) = IsNextSender client s sender
