@@ -10,7 +10,7 @@ use Rattle.std.proofs.lemmas.List.{map-append, take-append-drop, take_more}
 use Rattle.std.proofs.lemmas.List.Elements.{filter-append}
 use Rattle.std.proofs.lemmas.Option.{get_or_from_slice_get, slice_get_within}
 use Rattle.mcast_txn.specs.Lists.{In, Rises, RisesBy}
-use Rattle.mcast_txn.specs.Span.{LogRow, in_span, row_stamp, up_to}
+use Rattle.mcast_txn.specs.Span.{LogRow, in_span, row_stamp, up_to, row_mark}
 use Rattle.mcast_txn.specs.Stamp.{stamp_lt}
 use Rattle.mcast_txn.specs.declared.stamp.Stamp.{Stamp}
 use Rattle.mcast_txn.specs.TopicSet.{IsTopicSet, names}
@@ -19,10 +19,10 @@ use Rattle.mcast_txn.proofs.Members.{In-append_left, In-get_or, In-map, filter_n
 use Rattle.mcast_txn.proofs.Orders.{lt_asym, lt_le, lt_trans}
 use Rattle.mcast_group.specs.Machine.{Entry, TopicState, find_entry}
 use Rattle.mcast_group.specs.Sound.{IsSound}
-use Rattle.trace_audit.specs.declared.mark.Mark.{Mark}
+use Rattle.mcast_txn.specs.declared.mark.Mark.{Mark}
 use Rattle.trace_audit.specs.declared.row.TraceRow.{TraceRow}
 use Rattle.trace_audit.specs.declared.fault.AddFault.{AddFault}
-use Rattle.trace_audit.specs.Trace.{Lines, rise_after, row_mark}
+use Rattle.trace_audit.specs.Trace.{TraceData, rise_after}
 use Rattle.trace_audit.specs.Rows.{is_misfit, says_misfit, with_row}
 use Rattle.broker_locks.specs.declared.kept_span.KeptSpan.{KeptSpan}
 use Rattle.broker_locks.specs.Inner.KeptRows.{RowsKept, kept_sub, lag_at, entry_lag, span_trace, spans_rows, trace_kept}
@@ -32,36 +32,36 @@ use Rattle.broker_locks.proofs.TraceKept.{above_first, marks_more}
 
 -- ---- rows one after the other
 
-pub with_append : (a b : List TraceRow) (lines : Lines) → with_rows (a ++ b) lines ≡ with_rows b (with_rows a lines)
+pub with_append : (a b : List TraceRow) (lines : TraceData) → with_rows (a ++ b) lines ≡ with_rows b (with_rows a lines)
 with_append [] b lines = refl
 with_append (r ∷ a) b lines = with_append a b (with_row r lines)
 
-fit_append : (a b : List TraceRow) (lines : Lines) → AllFit a lines → AllFit b (with_rows a lines) → AllFit (a ++ b) lines
+fit_append : (a b : List TraceRow) (lines : TraceData) → AllFit a lines → AllFit b (with_rows a lines) → AllFit (a ++ b) lines
 fit_append [] b lines h k = k
 fit_append (r ∷ a) b lines h k = (h.0, fit_append a b (with_row r lines) h.1 k)
 
 -- rows after others
-pub adds_then : (a b : List TraceRow) (old mid new : Lines) → AddsAll a old mid → AddsAll b mid new → AddsAll (a ++ b) old new
+pub adds_then : (a b : List TraceRow) (old mid new : TraceData) → AddsAll a old mid → AddsAll b mid new → AddsAll (a ++ b) old new
 adds_then a b old mid new so_far more = record {
   fit = fit_append a b old so_far.fit (subst (AllFit b) so_far.is more.fit);
   is = more.is ∙ (ap (with_rows b) so_far.is ∙ sym (with_append a b old));
 }
 
 -- one row
-pub adds_one : (r : TraceRow) (old new : Lines) → is_misfit r old ≡ false → new ≡ with_row r old → AddsAll (r ∷ []) old new
+pub adds_one : (r : TraceRow) (old new : TraceData) → is_misfit r old ≡ false → new ≡ with_row r old → AddsAll (r ∷ []) old new
 adds_one r old new fits is = record { fit = (fits, tt); is = is }
 
 -- no row
-pub adds_no_row : (rows : List TraceRow) (old : Lines) → rows ≡ [] → AddsAll rows old old
+pub adds_no_row : (rows : List TraceRow) (old : TraceData) → rows ≡ [] → AddsAll rows old old
 adds_no_row rows old none = subst (λ (z : List TraceRow). AddsAll z old old) (sym none) (record { fit = tt; is = refl })
 
 -- the first row was refused
-pub adds_none : (fault : AddFault) (r : TraceRow) (rows : List TraceRow) (old new : Lines) → new ≡ old → is_misfit r old ≡ says_misfit fault → AddsFirst fault (r ∷ rows) old new
+pub adds_none : (fault : AddFault) (r : TraceRow) (rows : List TraceRow) (old new : TraceData) → new ≡ old → is_misfit r old ≡ says_misfit fault → AddsFirst fault (r ∷ rows) old new
 adds_none fault r rows old new same misfit =
     record { added = []; refused = r; others = rows; are = refl; adds = record { fit = tt; is = same }; misfit = ap (is_misfit r) same ∙ misfit }
 
 -- the first rows were added, and then the first of those that follow
-pub adds_more : (fault : AddFault) (rows a b : List TraceRow) (old mid new : Lines) → rows ≡ a ++ b → AddsAll a old mid → AddsFirst fault b mid new → AddsFirst fault rows old new
+pub adds_more : (fault : AddFault) (rows a b : List TraceRow) (old mid new : TraceData) → rows ≡ a ++ b → AddsAll a old mid → AddsFirst fault b mid new → AddsFirst fault rows old new
 adds_more fault rows a b old mid new all so_far f = record {
   added = a ++ f.added;
   refused = f.refused;
@@ -72,7 +72,7 @@ adds_more fault rows a b old mid new all so_far f = record {
 }
 
 -- the first of some rows are the first of more
-pub adds_before : (fault : AddFault) (rows a b : List TraceRow) (old new : Lines) → rows ≡ a ++ b → AddsFirst fault a old new → AddsFirst fault rows old new
+pub adds_before : (fault : AddFault) (rows a b : List TraceRow) (old new : TraceData) → rows ≡ a ++ b → AddsFirst fault a old new → AddsFirst fault rows old new
 adds_before fault rows a b old new all f = record {
   added = f.added;
   refused = f.refused;
@@ -93,7 +93,7 @@ split_at : {X : Type 0} (xs : List X) (i : ℕ) (x : X) → slice_get xs i ≡ S
 split_at xs i x is =
     sym (take-append-drop (i + 1) xs) ∙ (ap (λ z. z ++ drop (i + 1) xs) (taken_one xs i x is) ∙ append_assoc (take i xs) (x ∷ []) (drop (i + 1) xs))
 
-module _ {X : Type 0} (f : X → TraceRow) (xs : List X) (i : ℕ) (x : X) (is : slice_get xs i ≡ Some x) (old mid new : Lines) (so_far : AddsAll (map f (take i xs)) old mid) where
+module _ {X : Type 0} (f : X → TraceRow) (xs : List X) (i : ℕ) (x : X) (is : slice_get xs i ≡ Some x) (old mid new : TraceData) (so_far : AddsAll (map f (take i xs)) old mid) where
   pub map_more : AddsAll (f x ∷ []) mid new → AddsAll (map f (take (i + 1) xs)) old new
   map_more adds =
       subst (λ (rows : List TraceRow). AddsAll rows old new) (sym (ap (map f) (taken_one xs i x is) ∙ map-append f (take i xs) (x ∷ [])))
@@ -105,7 +105,7 @@ module _ {X : Type 0} (f : X → TraceRow) (xs : List X) (i : ℕ) (x : X) (is :
       adds_more fault (map f xs) (map f (take i xs)) (f x ∷ map f (drop (i + 1) xs)) old mid new
       (ap (map f) (split_at xs i x is) ∙ map-append f (take i xs) (x ∷ drop (i + 1) xs)) so_far first
 
-module _ {X : Type 0} (f : X → List TraceRow) (xs : List X) (i : ℕ) (x : X) (is : slice_get xs i ≡ Some x) (old mid new : Lines) (so_far : AddsAll (flat_map f (take i xs)) old mid) where
+module _ {X : Type 0} (f : X → List TraceRow) (xs : List X) (i : ℕ) (x : X) (is : slice_get xs i ≡ Some x) (old mid new : TraceData) (so_far : AddsAll (flat_map f (take i xs)) old mid) where
   whole : flat_map f (take (i + 1) xs) ≡ flat_map f (take i xs) ++ f x
   whole = ap (flat_map f) (taken_one xs i x is) ∙ (flat_map-append f (take i xs) (x ∷ []) ∙ ap (λ (z : List TraceRow). flat_map f (take i xs) ++ z) (append-nil (f x)))
 
@@ -185,7 +185,7 @@ lies_in from to log i r is above before =
     let a : stamp_lt from r.stamp ≡ true = subst (λ (z : LogRow). stamp_lt from z.stamp ≡ true) e above in
     let b : up_to to r.stamp ≡ true = subst (λ (z : LogRow). up_to to z.stamp ≡ true) e before in rw (a, b) refl
 
-module _ (sub : ℕ) (from : Stamp) (to : Option Stamp) (log : List LogRow) (i : ℕ) (r : LogRow) (is : slice_get log i ≡ Some r) (within : in_span from to r.stamp ≡ true) (old mid new : Lines)
+module _ (sub : ℕ) (from : Stamp) (to : Option Stamp) (log : List LogRow) (i : ℕ) (r : LogRow) (is : slice_get log i ≡ Some r) (within : in_span from to r.stamp ≡ true) (old mid new : TraceData)
     (so_far : AddsAll (map (queue_row sub) (marks_between from to (take i log))) old mid) where
   -- its mark is added
   pub marks_more_rows : AddsAll (queue_row sub (row_mark r) ∷ []) mid new → AddsAll (map (queue_row sub) (marks_between from to (take (i + 1) log))) old new
@@ -358,8 +358,8 @@ topics_rise [] rises = refl
 topics_rise (t ∷ ts) rises = topics_rise_after t ts rises.0 rises.1
 
 -- a row whose topics rise fits exactly where its topic is one of them
-pub row_fits : (t : Topic) (r : LogRow) (lines : Lines) → IsTopicSet r.topics → names t r.topics ≡ true → is_misfit (logged_row t r) lines ≡ false
+pub row_fits : (t : Topic) (r : LogRow) (lines : TraceData) → IsTopicSet r.topics → names t r.topics ≡ true → is_misfit (logged_row t r) lines ≡ false
 row_fits t r lines set e = ap not (and_from (rise_after None r.topics) (names t r.topics) (topics_rise r.topics set.rising) e)
 
-pub row_misfits : (t : Topic) (r : LogRow) (lines : Lines) → names t r.topics ≡ false → is_misfit (logged_row t r) lines ≡ true
+pub row_misfits : (t : Topic) (r : LogRow) (lines : TraceData) → names t r.topics ≡ false → is_misfit (logged_row t r) lines ≡ true
 row_misfits t r lines e = rw e (ap not (and_false (rise_after None r.topics)))

@@ -18,11 +18,11 @@ use Rattle.sub_queue.specs.Shown.{Room, Shown}
 use Rattle.mcast_group.specs.declared.fault.ProposeFault.TheVariants.{Twice}
 use Rattle.mcast_group.specs.declared.fault.LearnFault.{LearnFault}
 use Rattle.mcast_group.specs.Group.{GroupState, Turns, group_after_release, group_after_releases, group_after_subscribe, group_after_tries, group_after_unsubscribe, result_of}
-use Rattle.mcast_group.specs.Machine.{Entry, Pending, TopicState, after_cancel, after_drain, after_learn, after_propose, after_subscribe, after_unsubscribe, end_of, find_entry, new_topic, cancel_fault, cancel_fault_of, find_pending, next_number, propose_fault, subscribe_fault, after_release, after_release_if, after_tries, after_try, decided_stamp, due_part, learn_fault, parts_without, row_of, with_stamp}
+use Rattle.mcast_group.specs.Machine.{Entry, Pending, TopicState, after_cancel, after_drain, after_learn, after_propose, after_subscribe, after_unsubscribe, end_of, find_entry, new_topic, cancel_fault, cancel_fault_of, find_pending, next_number, propose_fault, subscribe_fault, after_release, after_tries, after_try, decided_stamp, due_part, learn_fault, parts_without, row_of, with_stamp}
 use Rattle.mcast_group.specs.Sound.{IsSound, RisesById}
 use Rattle.mcast_group.proofs.Allowed.{keeps_sound}
 use Rattle.mcast_group.proofs.Indices.{without_at}
-use Rattle.mcast_group.proofs.Parts.{due_is, found_part, insert_length, map_length}
+use Rattle.mcast_group.proofs.Parts.{due_is, found_part, insert_length, map_length, after_release_if}
 use Rattle.mcast_group.proofs.Releasing.{placed_at}
 use Rattle.broker_locks.specs.Place.{IsBalanced, PlaceState, any_verdict, is_part_at, new_place, place_after_subscribe, place_after_unsubscribe, place_fault, place_subscribe_fault, rows_since, source_answers}
 use Rattle.broker_locks.specs.Inner.KeptRows.{RowsKept, place_with, trace_kept}
@@ -39,9 +39,9 @@ both x = length x.pending + length x.held
 -- one part less
 pub without_shorter : (ps : List Pending) (p : Pending) → RisesById ps → In p ps → length (parts_without p.part.id ps) + 1 ≡ length ps
 without_shorter ps p rises at =
-    let place = placed_at p ps at in
-    let e = without_at ps place.place p rises place.within (place.is p) in
-    ap (λ (l : List Pending). length l + 1) e ∙ remove_shorter ps place.place place.within
+    let placed = placed_at p ps at in
+    let e = without_at ps placed.index p rises placed.within (placed.is p) in
+    ap (λ (l : List Pending). length l + 1) e ∙ remove_shorter ps placed.index placed.within
   where
     remove_shorter : (xs : List Pending) (i : ℕ) → i < length xs → length (remove xs i) + 1 ≡ length xs
     remove_shorter xs i h = omega (arith, length-remove xs i h)

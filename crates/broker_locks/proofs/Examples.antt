@@ -10,11 +10,11 @@ use Rattle.broker_locks.specs.declared.fault.CommitFault.TheVariants.{LogFull, A
 use Rattle.broker_locks.specs.Commits.{IsCommitted, IsRefused}
 use Rattle.mcast_txn.specs.Span.{LogRow}
 use Rattle.mcast_group.specs.Machine.{TopicState, new_topic}
-use Rattle.trace_audit.specs.declared.mark.Mark.{Mark}
+use Rattle.mcast_txn.specs.declared.mark.Mark.{Mark}
 use Rattle.trace_audit.specs.declared.row.TraceRow.{TraceRow}
 use Rattle.trace_audit.specs.declared.row.TraceRow.TheVariants as row
 use Rattle.trace_audit.specs.declared.fault.AddFault.TheVariants.{Misfit, NoMemory}
-use Rattle.trace_audit.specs.Trace.{Lines, no_lines}
+use Rattle.trace_audit.specs.Trace.{TraceData, no_trace_data}
 use Rattle.broker_locks.specs.Gathering.{IsTraceLeft}
 use Rattle.broker_locks.specs.KeptTrace.{AddsFirst, KeptSub, KeptTrace, kept_after_subscribe, kept_after_unsubscribe, marks_between, rows_kept, was_used}
 use Rattle.broker_locks.specs.Place.{PlaceState, new_place, place_fault, place_after_propose, rows_given}
@@ -173,11 +173,11 @@ begun_between = refl
 abbrev span_4 : TraceRow
 span_4 = row.Span (record { sub = 4; topic = at_topic 0; from = stamp 1; to = Some (stamp 2) })
 
-abbrev lines_of_4 : Lines
-lines_of_4 = with_rows (span_4 ∷ queue_line 4 2 ∷ []) no_lines
+abbrev lines_of_4 : TraceData
+lines_of_4 = with_rows (span_4 ∷ queue_line 4 2 ∷ []) no_trace_data
 
 -- a second span of subscription 4 is refused by 98, after the rows before it
-second_span : AddsFirst Misfit (span_4 ∷ queue_line 4 2 ∷ span_4 ∷ queue_line 4 2 ∷ []) no_lines lines_of_4
+second_span : AddsFirst Misfit (span_4 ∷ queue_line 4 2 ∷ span_4 ∷ queue_line 4 2 ∷ []) no_trace_data lines_of_4
 second_span = record {
   added = span_4 ∷ queue_line 4 2 ∷ [];
   refused = span_4;
@@ -188,11 +188,11 @@ second_span = record {
 }
 
 -- and another row by 91 alone
-no_memory : AddsFirst NoMemory (span_4 ∷ queue_line 4 2 ∷ []) no_lines (with_rows (span_4 ∷ []) no_lines)
+no_memory : AddsFirst NoMemory (span_4 ∷ queue_line 4 2 ∷ []) no_trace_data (with_rows (span_4 ∷ []) no_trace_data)
 no_memory = record { added = span_4 ∷ []; refused = queue_line 4 2; others = []; are = refl; adds = record { fit = (refl, tt); is = refl }; misfit = refl }
 
 -- a broker of two topics, at which nothing was done, gathers an empty trace
-gathered_empty : IsTraceLeft 2 no_lines
+gathered_empty : IsTraceLeft 2 no_trace_data
 gathered_empty = record {
   places = new_place (at_topic 0) 8 3 true ∷ new_place (at_topic 1) 8 3 true ∷ [];
   many = refl;

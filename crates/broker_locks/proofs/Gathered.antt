@@ -5,7 +5,7 @@ use Rattle.std.proofs.lemmas.Grind.{flat_map-append}
 use Rattle.mcast_group.specs.Machine.{TopicState}
 use Rattle.trace_audit.specs.declared.fault.AddFault.{AddFault}
 use Rattle.trace_audit.specs.declared.row.TraceRow.{TraceRow}
-use Rattle.trace_audit.specs.Trace.{Lines, no_lines}
+use Rattle.trace_audit.specs.Trace.{TraceData, no_trace_data}
 use Rattle.broker_locks.specs.Gathering.{traces_left}
 use Rattle.broker_locks.specs.KeptTrace.{AddsAll, AddsFirst, KeptTrace, rows_kept, topic_trace}
 use Rattle.broker_locks.specs.Place.{IsBalanced, PlaceState, place_rows}
@@ -28,15 +28,15 @@ rows_more places place =
     ∙ (ap (λ (z : List TopicTrace). rows_left places ++ flat_map topic_rows z) (append-nil (traces_left place))
     ∙ ap (λ (z : List TraceRow). rows_left places ++ z) (rows_of_place place.group.topic place.kept)))
 
-pub gathered_more : (places : List PlaceState) (place : PlaceState) (mid new : Lines) → AddsAll (rows_left places) no_lines mid → AddsAll (place_rows place) mid new → AddsAll (rows_left (places ++ place ∷ [])) no_lines new
+pub gathered_more : (places : List PlaceState) (place : PlaceState) (mid new : TraceData) → AddsAll (rows_left places) no_trace_data mid → AddsAll (place_rows place) mid new → AddsAll (rows_left (places ++ place ∷ [])) no_trace_data new
 gathered_more places place mid new so_far adds =
-    subst (λ (z : List TraceRow). AddsAll z no_lines new) (sym (rows_more places place)) (adds_then (rows_left places) (place_rows place) no_lines mid new so_far adds)
+    subst (λ (z : List TraceRow). AddsAll z no_trace_data new) (sym (rows_more places place)) (adds_then (rows_left places) (place_rows place) no_trace_data mid new so_far adds)
 
 -- a row of the next place was refused
-pub gathered_first : (fault : AddFault) (places : List PlaceState) (place : PlaceState) (mid new : Lines) → AddsAll (rows_left places) no_lines mid → AddsFirst fault (place_rows place) mid new
-    → AddsFirst fault (rows_left (places ++ place ∷ [])) no_lines new
+pub gathered_first : (fault : AddFault) (places : List PlaceState) (place : PlaceState) (mid new : TraceData) → AddsAll (rows_left places) no_trace_data mid → AddsFirst fault (place_rows place) mid new
+    → AddsFirst fault (rows_left (places ++ place ∷ [])) no_trace_data new
 gathered_first fault places place mid new so_far first =
-    adds_more fault (rows_left (places ++ place ∷ [])) (rows_left places) (place_rows place) no_lines mid new (rows_more places place) so_far first
+    adds_more fault (rows_left (places ++ place ∷ [])) (rows_left places) (place_rows place) no_trace_data mid new (rows_more places place) so_far first
 
 pub balanced_more : (places : List PlaceState) (place : PlaceState) → AllByRecursion IsBalanced places → IsBalanced place → AllByRecursion IsBalanced (places ++ place ∷ [])
 balanced_more [] place each b = (b, tt)

@@ -10,7 +10,7 @@ use Rattle.mcast_txn.proofs.Members.{In-map}
 use Rattle.mcast_group.specs.Machine.{Entry, TopicState, after_drain, after_subscribe, after_unsubscribe, end_of, find_entry, subscribe_fault}
 use Rattle.mcast_group.specs.Sound.{IsSound}
 use Rattle.mcast_group.specs.declared.fault.SubFault.TheVariants.{SubInUse}
-use Rattle.trace_audit.specs.declared.mark.Mark.{Mark}
+use Rattle.mcast_txn.specs.declared.mark.Mark.{Mark}
 use Rattle.broker_locks.specs.declared.kept_span.KeptSpan.{KeptSpan}
 use Rattle.broker_locks.specs.Inner.KeptRows.{RowsKept, kept_sub, span_after_end, span_number, trace_kept}
 use Rattle.broker_locks.specs.KeptTrace.{IsEndOf, KeepsTrace, KeptEnd, KeptSub, end_kept, insert_by_number, kept_after_drain, kept_after_subscribe, kept_after_unsubscribe, kept_end, marks_between, no_trace, sub_after_end}

@@ -7,7 +7,7 @@ use Rattle.std.proofs.lemmas.List.{map-append}
 use Rattle.std.proofs.lemmas.List.Elements.{filter-append}
 use Rattle.mcast_txn.specs.Ballot.{Decision}
 use Rattle.mcast_txn.specs.Lists.{In, Rises, RisesBy}
-use Rattle.mcast_txn.specs.Span.{Item, LogRow, in_span, row_stamp}
+use Rattle.mcast_txn.specs.Span.{Item, LogRow, in_span, row_stamp, row_mark, item_mark}
 use Rattle.mcast_txn.specs.Stamp.{stamp_lt}
 use Rattle.mcast_txn.specs.declared.id.TxnId.{TxnId}
 use Rattle.mcast_txn.specs.declared.stamp.Stamp.{Stamp}
@@ -18,15 +18,14 @@ use Rattle.mcast_txn.proofs.Sorting.{Rises-push}
 use Rattle.mcast_group.specs.declared.cause.Cause.TheVariants.{Asked, Lag}
 use Rattle.mcast_group.specs.declared.fault.LearnFault.{LearnFault}
 use Rattle.mcast_group.specs.Group.{GroupState, group_after_release, group_after_releases}
-use Rattle.mcast_group.specs.Machine.{Entry, Pending, TopicState, after_drain, after_learn, after_release, after_release_if, after_release_of, after_subscribe, after_tries, after_try, after_unsubscribe, decided_stamp, due_part, end_of, entry_after, find_entry, insert_entry, item_of, key, learn_fault, row_of, subscribe_fault}
+use Rattle.mcast_group.specs.Machine.{Entry, Pending, TopicState, after_drain, after_learn, after_release, after_release_of, after_subscribe, after_tries, after_try, after_unsubscribe, decided_stamp, due_part, end_of, entry_after, find_entry, insert_entry, item_of, key, learn_fault, row_of, subscribe_fault}
 use Rattle.mcast_group.specs.Sound.{IsSound}
 use Rattle.mcast_group.proofs.Allowed.{keeps_sound}
 use Rattle.mcast_group.proofs.Numbers.{In-entry, In-entry_cases}
-use Rattle.mcast_group.proofs.Parts.{due_is, none_some, some_same}
+use Rattle.mcast_group.proofs.Parts.{due_is, none_some, some_same, after_release_if}
 use Rattle.mcast_group.proofs.Queues.{delivered_from, delivered_number}
-use Rattle.trace_audit.specs.declared.mark.Mark.{Mark}
-use Rattle.trace_audit.specs.Trace.{row_mark}
-use Rattle.broker_locks.specs.KeptTrace.{HasEntry, HasSub, IsEndOf, KeepsTrace, KeptEnd, KeptSub, KeptTrace, end_kept, insert_by_number, item_mark, kept_after_drain, kept_after_subscribe, kept_after_unsubscribe, kept_end, marks_between, sub_after_end, whole_log}
+use Rattle.mcast_txn.specs.declared.mark.Mark.{Mark}
+use Rattle.broker_locks.specs.KeptTrace.{HasEntry, HasSub, IsEndOf, KeepsTrace, KeptEnd, KeptSub, KeptTrace, end_kept, insert_by_number, kept_after_drain, kept_after_subscribe, kept_after_unsubscribe, kept_end, marks_between, sub_after_end, whole_log}
 
 -- ---- marks
 

@@ -6,20 +6,20 @@ use Rattle.std.proofs.lemmas.Grind.{flat_map-append}
 use Rattle.std.proofs.lemmas.List.Elements.{filter-append}
 use Rattle.mcast_txn.specs.declared.id.Topic.{Topic}
 use Rattle.mcast_txn.specs.Lists.{In}
-use Rattle.mcast_txn.specs.Span.{LogRow, in_span, last_stamp, up_to}
+use Rattle.mcast_txn.specs.Span.{LogRow, in_span, last_stamp, up_to, row_mark}
 use Rattle.mcast_txn.specs.Stamp.{stamp_lt, zero_stamp}
 use Rattle.mcast_txn.specs.TopicSet.{names}
 use Rattle.mcast_txn.proofs.Members.{In-append_left, In-map_cases, filter_none, filter_same}
 use Rattle.mcast_txn.proofs.Orders.{lt_le, zero_least}
-use Rattle.trace_audit.specs.declared.mark.Mark.{Mark}
+use Rattle.mcast_txn.specs.declared.mark.Mark.{Mark}
 use Rattle.trace_audit.specs.declared.row.SpanRow.{SpanRow}
 use Rattle.trace_audit.specs.declared.row.QueueRow.{QueueRow}
 use Rattle.trace_audit.specs.declared.row.TraceRow.{TraceRow}
 use Rattle.trace_audit.specs.declared.row.TraceRow.TheVariants as row
 use Rattle.trace_audit.specs.Explained.{rows_at}
-use Rattle.trace_audit.specs.Line.{LogLine}
+use Rattle.trace_audit.specs.Logs.{LogLine}
 use Rattle.trace_audit.specs.Rows.{with_row}
-use Rattle.trace_audit.specs.Trace.{Lines, no_lines, rows_of, log_of, row_mark, queue_mark, queue_of}
+use Rattle.trace_audit.specs.Trace.{TraceData, no_trace_data, rows_of, log_of, queue_mark, queue_of}
 use Rattle.broker_locks.specs.TopicTraces.{SubTrace, TopicTrace, log_rows, sub_rows, topic_rows, with_rows, topics_trace, NoneTwice, is_due_to, ExplainedIsDue}
 
 -- ---- lists
@@ -95,7 +95,7 @@ queue_lines (row.Span line) = []
 queue_lines (row.Queue line) = line ∷ []
 
 -- what rows add to a trace
-pub rows_added : (rows : List TraceRow) (lines : Lines) → with_rows rows lines ≡ record {
+pub rows_added : (rows : List TraceRow) (lines : TraceData) → with_rows rows lines ≡ record {
   logs = lines.logs ++ flat_map log_lines rows;
   spans = lines.spans ++ flat_map span_lines rows;
   queues = lines.queues ++ flat_map queue_lines rows;
@@ -204,14 +204,14 @@ number_of_line s line k = let m = In-map_cases _ line s.marks k in ap (λ (z : Q
 -- a topic's log in the trace is its log
 pub log_is : (topics : List TopicTrace) (x : TopicTrace) → In x topics → NoneTwice (λ x. x.topic.0) topics → log_of x.topic (topics_trace topics).logs ≡ x.log
 log_is topics x k once =
-    ap (λ (lines : Lines). log_of x.topic lines.logs) (rows_added (flat_map topic_rows topics) no_lines)
+    ap (λ (lines : TraceData). log_of x.topic lines.logs) (rows_added (flat_map topic_rows topics) no_trace_data)
     ∙ (ap (λ z. log_of x.topic z) (logs_are topics)
     ∙ (ap rows_of (made_of_item topic_lines (λ (y : TopicTrace). y.topic.0) (λ (line : LogLine). line.topic.0) topic_of_line x topics k once) ∙ rows_back x.topic x.log))
 
 -- a subscription's queue in the trace is its rows
 pub queue_is : (topics : List TopicTrace) (s : SubTrace) → In s (flat_map (λ x. x.subs) topics) → NoneTwice (λ s. s.number) (flat_map (λ x. x.subs) topics) → queue_of s.number (topics_trace topics).queues ≡ s.marks
 queue_is topics s k once =
-    ap (λ (lines : Lines). queue_of s.number lines.queues) (rows_added (flat_map topic_rows topics) no_lines)
+    ap (λ (lines : TraceData). queue_of s.number lines.queues) (rows_added (flat_map topic_rows topics) no_trace_data)
     ∙ (ap (λ z. queue_of s.number z) (queues_are topics)
     ∙ (ap (λ z. map queue_mark z) (made_of_item sub_lines (λ (y : SubTrace). y.number) (λ (line : QueueRow). line.sub) number_of_line s (flat_map (λ x. x.subs) topics) k once) ∙ marks_back s.number s.marks))
 
@@ -260,7 +260,7 @@ pub explained_is_due : ExplainedIsDue
 explained_is_due topics agreed run e x s k h =
     let log : log_of x.topic (topics_trace topics).logs ≡ x.log = log_is topics x k run.topics_differ in
     let queue : queue_of s.number (topics_trace topics).queues ≡ s.marks = queue_is topics s (In-flat_map (λ (y : TopicTrace). y.subs) x s topics k h) run.subs_differ in
-    let spans : (topics_trace topics).spans ≡ flat_map span_lines (flat_map topic_rows topics) = ap (λ (lines : Lines). lines.spans) (rows_added (flat_map topic_rows topics) no_lines) in
+    let spans : (topics_trace topics).spans ≡ flat_map span_lines (flat_map topic_rows topics) = ap (λ (lines : TraceData). lines.spans) (rows_added (flat_map topic_rows topics) no_trace_data) in
     let there : In (span_of x.topic s) (topics_trace topics).spans = subst (λ z. In (span_of x.topic s) z) (sym spans) (span_is_in topics x s k h) in
     sym queue
     ∙ (e.queues (span_of x.topic s) there

@@ -4,14 +4,14 @@ use Rattle.std.specs.Prelude.{Option, Some, None, if◌then◌else◌}
 use Rattle.std.specs.List.{filter, flat_map, list_any}
 use Rattle.mcast_txn.specs.declared.stamp.Stamp.{Stamp}
 use Rattle.mcast_txn.specs.Lists.{In, Rises, RisesBy}
-use Rattle.mcast_txn.specs.Span.{Item, LogRow, in_span, row_stamp}
+use Rattle.mcast_txn.specs.Span.{Item, LogRow, in_span, row_stamp, row_mark, item_mark}
 use Rattle.mcast_txn.specs.Stamp.{stamp_lt}
 use Rattle.mcast_group.specs.Machine.{Entry, EntryEnd, TopicState, end_of, find_entry}
-use Rattle.trace_audit.specs.declared.mark.Mark.{Mark}
+use Rattle.mcast_txn.specs.declared.mark.Mark.{Mark}
 use Rattle.trace_audit.specs.declared.row.TraceRow.{TraceRow}
 use Rattle.trace_audit.specs.declared.fault.AddFault.{AddFault}
 use Rattle.trace_audit.specs.Rows.{is_misfit, says_misfit, with_row}
-use Rattle.trace_audit.specs.Trace.{Lines, row_mark}
+use Rattle.trace_audit.specs.Trace.{TraceData}
 use Rattle.broker_locks.specs.TopicTraces.{SubTrace, TopicTrace, topic_rows, with_rows}
 
 -- What is kept of an ended subscription.
@@ -47,10 +47,6 @@ whole_log x kept = kept.drained ++ x.held
 
 -- ---- what a topic leaves for a trace
 
--- an item's mark
-abbrev pub item_mark : Item → Mark
-item_mark item = record { id = item.id; stamp = item.stamp }
-
 -- a subscription that wasn't ended: its span so far, and the rows that its source pushed
 abbrev pub entry_trace : Entry → SubTrace
 entry_trace e = record { number = e.number; from = e.from; to = e.to; marks = map item_mark e.accepted }
@@ -82,19 +78,19 @@ rows_kept x None = []
 rows_kept x (Some kept) = topic_rows (topic_trace x kept)
 
 -- each of these rows fits the trace that has the ones before it
-abbrev pub AllFit : List TraceRow → Lines → Type 0
+abbrev pub AllFit : List TraceRow → TraceData → Type 0
 AllFit [] lines = Unit {0}
 AllFit (r ∷ rows) lines = (is_misfit r lines ≡ false) × AllFit rows (with_row r lines)
 
 -- These rows were added to a trace, in order, and each of them fit.
-pub record AddsAll (rows : List TraceRow) (old new : Lines) : Type 0 where
+pub record AddsAll (rows : List TraceRow) (old new : TraceData) : Type 0 where
   pub fit : AllFit rows old
   pub is : new ≡ with_rows rows old
 
 -- The first of these rows were added to a trace, up to one that was refused.
 -- refused, others: the one that was refused, and those after it.
 -- misfit: the fault is 98 exactly where that one doesn't fit the trace as it is then.
-pub record AddsFirst (fault : AddFault) (rows : List TraceRow) (old new : Lines) : Type 0 where
+pub record AddsFirst (fault : AddFault) (rows : List TraceRow) (old new : TraceData) : Type 0 where
   pub added : List TraceRow
   pub refused : TraceRow
   pub others : List TraceRow

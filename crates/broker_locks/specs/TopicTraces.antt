@@ -4,15 +4,15 @@ use Rattle.std.specs.List.{filter, flat_map}
 use Rattle.mcast_txn.specs.declared.id.Topic.{Topic}
 use Rattle.mcast_txn.specs.declared.stamp.Stamp.{Stamp}
 use Rattle.mcast_txn.specs.Lists.{In}
-use Rattle.mcast_txn.specs.Span.{LogRow, in_span, last_stamp}
+use Rattle.mcast_txn.specs.Span.{LogRow, in_span, last_stamp, row_mark}
 use Rattle.mcast_txn.specs.Stamp.{stamp_lt, zero_stamp}
 use Rattle.mcast_txn.specs.TopicSet.{names}
-use Rattle.trace_audit.specs.declared.mark.Mark.{Mark}
+use Rattle.mcast_txn.specs.declared.mark.Mark.{Mark}
 use Rattle.trace_audit.specs.declared.row.TraceRow.{TraceRow}
 use Rattle.trace_audit.specs.declared.row.TraceRow.TheVariants as row
 use Rattle.trace_audit.specs.Explained.{IsExplainedBy}
 use Rattle.trace_audit.specs.Rows.{with_row}
-use Rattle.trace_audit.specs.Trace.{Lines, no_lines, row_mark}
+use Rattle.trace_audit.specs.Trace.{TraceData, no_trace_data}
 
 -- What is kept of a subscription.
 -- number: its number.
@@ -57,13 +57,13 @@ abbrev pub topic_rows : TopicTrace → List TraceRow
 topic_rows x = log_rows x.topic x.log ++ flat_map (sub_rows x.topic) x.subs
 
 -- a trace with these rows more
-abbrev pub with_rows : List TraceRow → Lines → Lines
+abbrev pub with_rows : List TraceRow → TraceData → TraceData
 with_rows [] lines = lines
 with_rows (r ∷ rows) lines = with_rows rows (with_row r lines)
 
 -- the trace of these topics
-abbrev pub topics_trace : List TopicTrace → Lines
-topics_trace topics = with_rows (flat_map topic_rows topics) no_lines
+abbrev pub topics_trace : List TopicTrace → TraceData
+topics_trace topics = with_rows (flat_map topic_rows topics) no_trace_data
 
 -- no item's number is that of a later one
 abbrev pub NoneTwice : {X : Type 0} → (X → ℕ) → List X → Type 0

@@ -51,8 +51,8 @@ impl<R: Wait> Drop for Broker<R> {
 }
 
 impl<R: Wait> Broker<R> {
-    /// A broker of these topics, whose subscriptions have queues of this capacity, 1 to 4,096; whether a trace of its run is
-    /// kept.
+    /// A broker of these topics, whose subscriptions have queues of this capacity, 1 to 4,096; whether a trace of its
+    /// run is kept.
     pub fn new(
         alloc: Global,
         topics: Topics,
@@ -78,8 +78,8 @@ impl<R: Wait> Broker<R> {
         &self.topics
     }
 
-    /// Begins a subscription at the topic: its number, the frontier then, and the end that takes. The k-th at topic t of m
-    /// has number `k * m + t`. Refused: 47 where there is no such topic or no number is left, 42 out of memory.
+    /// Begins a subscription at the topic: its number, the frontier then, and the end that takes. The k-th at topic t
+    /// of m has number `k * m + t`. Refused: 47 where there is no such topic or no number is left, 42 out of memory.
     pub fn subscribe(&self, rt: &R, topic: Topic) -> Result<Subscribed, SubFault>
         ensures nowhere { length self.now.topics.names ≤ topic.0 → result ≡ Err SubInUse }
         ensures number { IfOk result
@@ -99,8 +99,8 @@ impl<R: Wait> Broker<R> {
         Ok(Subscribed { sub, start, taker })
     }
 
-    /// Ends the topic's subscription of this number, and returns what it leaves, with no memory. Refused by 48 where there
-    /// is none.
+    /// Ends the topic's subscription of this number, and returns what it leaves, with no memory. Refused by 48 where
+    /// there is none.
     pub fn unsubscribe(&self, rt: &R, topic: Topic, sub: u64) -> Result<Ended<Source<R>>, NoSub>
         ensures nowhere { length self.now.topics.names ≤ topic.0 → IsErr result }
     {
@@ -151,9 +151,9 @@ impl<R: Wait> Broker<R> {
         }
     }
 
-    /// The trace of the run: what each topic leaves for it, by the topics' numbers; an empty one where no trace is kept. No
-    /// lock is taken, since nobody else has the broker. Refused by 91 out of memory; 98, where what two topics leave doesn't
-    /// fit together, never comes, but that is not proved.
+    /// The trace of the run: what each topic leaves for it, by the topics' numbers; an empty one where no trace is
+    /// kept. No lock is taken, since nobody else has the broker. Refused by 91 out of memory; 98, where what two topics
+    /// leave doesn't fit together, never comes, but that is not proved.
     pub fn into_trace(self) -> Result<Trace, AddFault>
         ensures gathered { IfOk result (IsTraceLeft (length self.topics.names)) }
         ensures refused { IfErr result (StopsGathering (length self.topics.names)) }
@@ -171,18 +171,18 @@ impl<R: Wait> Broker<R> {
         Ok(trace)
     }
 
-    // The lock of a topic, if it is there.
+    /// The lock of a topic, if it is there.
     pub(crate) fn lock_of(&self, topic: Topic) -> Option<&Mutex<LockedTopic<R>>> {
         self.locks.get(topic.0 as usize)
     }
 
-    // Where it allocates.
+    /// Where it allocates.
     pub(crate) fn alloc(&self) -> Global {
         self.alloc
     }
 }
 
-// A lock for each topic.
+/// A lock for each topic.
 fn locks_of<R: Wait>(
     alloc: Global,
     topics: &Topics,

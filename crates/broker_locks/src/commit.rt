@@ -47,8 +47,8 @@ pub fn commit_on<P: Places, Q: Point>(
     }
 }
 
-// Decides a flight all of whose parts were entered, and sets its verdict in its cell. Where the cell has another, the
-// parts are cancelled.
+/// Decides a flight all of whose parts were entered, and sets its verdict in its cell. Where the cell has another, the
+/// parts are cancelled.
 fn settle<P: Places>(
     flying: Flying,
     flight: &Flight,
@@ -56,9 +56,11 @@ fn settle<P: Places>(
 ) -> Result<(Gate, Stamp), (Gate, CommitFault)>
     requires complete { list_any (λ slot. is_none slot.1) flying.state.tickets ≡ false }
     requires entered { AreUncancelled (topics_given flying.state) flying.state.id (P.rows places.old) }
-    ensures decided { IfOk result (λ done. IsDecidedGate flying.state done.0 × (done.1 ≡ done.0.floor) × (P.rows places.new ≡ P.rows places.old)) }
+    ensures decided { IfOk result (λ done. IsDecidedGate flying.state done.0 × (done.1 ≡ done.0.floor)
+        × (P.rows places.new ≡ P.rows places.old)) }
     ensures refused { IfErr result (λ refused. IsDecidedGate flying.state refused.0 × (refused.1 ≡ commit.AlreadySet)
-        × (P.rows places.new ≡ P.rows places.old ++ map (cancelled_at flying.state.id) (topics_given flying.state))) }
+        × (P.rows places.new
+        ≡ P.rows places.old ++ map (cancelled_at flying.state.id) (topics_given flying.state))) }
 {
     let id = flying.id();
     let Ok((gate, verdict)) = flying.decide() else {
@@ -75,7 +77,7 @@ fn settle<P: Places>(
     }
 }
 
-// Enters the parts by rising topic, up to the first that is refused.
+/// Enters the parts by rising topic, up to the first that is refused.
 fn propose_all<P: Places, Q: Point>(
     flying: &mut Flying,
     places: &mut P,
@@ -102,20 +104,22 @@ fn propose_all<P: Places, Q: Point>(
     Ok(())
 }
 
-// Cancels a withdrawn transaction at each topic that gave it a ticket.
+/// Cancels a withdrawn transaction at each topic that gave it a ticket.
 fn cancel_all<P: Places>(places: &mut P, tickets: &Tickets, id: TxnId)
     requires { AreUncancelled (map (λ t. t.topic) tickets.now) id (P.rows places.old) }
-    ensures { P.rows places.new ≡ P.rows places.old ++ map (cancelled_at id) (map (λ t. t.topic) tickets.now) }
+    ensures { P.rows places.new
+        ≡ P.rows places.old ++ map (cancelled_at id) (map (λ t. t.topic) tickets.now) }
 {
     for k in 0..tickets.len() {
         places.cancel(tickets.get(k).topic, id);
     }
 }
 
-// Cancels a decided transaction at each of its topics.
+/// Cancels a decided transaction at each of its topics.
 fn cancel_decided<P: Places>(places: &mut P, rows: &[Stamp], id: TxnId)
     requires { AreUncancelled (map (λ row. row.topic) rows.now) id (P.rows places.old) }
-    ensures { P.rows places.new ≡ P.rows places.old ++ map (cancelled_at id) (map (λ row. row.topic) rows.now) }
+    ensures { P.rows places.new
+        ≡ P.rows places.old ++ map (cancelled_at id) (map (λ row. row.topic) rows.now) }
 {
     for row in rows {
         places.cancel(row.topic, id);

@@ -23,8 +23,8 @@ use std::sync::Wait;
 use sub_queue::Source;
 use trace_audit::{AddFault, SpanRow, Trace};
 
-/// The rows that were drained from a place's log, and the subscriptions that ever began there, by rising number, so that
-/// one is found by halving.
+/// The rows that were drained from a place's log, and the subscriptions that ever began there, by rising number, so
+/// that one is found by halving.
 pub(crate) struct KeptRows {
     alloc: Global,
     drained: Vec<Row>,
@@ -59,7 +59,7 @@ impl KeptRows {
     ghost use Rattle.broker_locks.specs.Inner.KeptRows.{span_after_end, span_number, span_row, spans_rows, trace_kept};
     ghost use Rattle.broker_locks.specs.KeptTrace.{insert_by_number};
 
-    // Nothing yet, which takes no memory.
+    /// Nothing yet, which takes no memory.
     pub(crate) fn new(alloc: Global) -> KeptRows
         ensures { result ≡ record { drained = []; spans = [] } }
     {
@@ -70,14 +70,15 @@ impl KeptRows {
         }
     }
 
-    // The index of the subscription of this number, or else the one at which it would come.
+    /// The index of the subscription of this number, or else the one at which it would come.
     fn search(&self, number: u64) -> Result<usize, usize>
         ensures { Finds span_number self.now.spans number result }
     {
         self.spans.binary_search_by_key(&number, |span| span.number)
     }
 
-    // Drains the group's log into its rows. Returns what held them there, without a row. Out of memory, nothing has changed.
+    /// Drains the group's log into its rows. Returns what held them there, without a row. Out of memory, nothing has
+    /// changed.
     pub(crate) fn drain<R: Wait>(
         &mut self,
         group: &mut Group<Source<R>>,
@@ -93,8 +94,8 @@ impl KeptRows {
         Ok(rows)
     }
 
-    // Begins a subscription of the group whose number was never used. Refused by 47 where it was, and as by the group; then
-    // nothing has changed, and the source is returned.
+    /// Begins a subscription of the group whose number was never used. Refused by 47 where it was, and as by the group;
+    /// then nothing has changed, and the source is returned.
     pub(crate) fn subscribe<R: Wait>(
         &mut self,
         group: &mut Group<Source<R>>,
@@ -108,10 +109,12 @@ impl KeptRows {
         ensures allowed { OnOk result (subscribe_fault number group.old.topic ≡ None) }
         ensures group { OnOk result (group.new ≡ group_after_subscribe number (shown_of_source source).room group.old) }
         ensures spans { OnOk result (self.new ≡ record self.old {
-          spans = insert_by_number span_number (record { number = number; from = group.old.topic.frontier; to = None }) self.old.spans;
+          spans = insert_by_number span_number
+              (record { number = number; from = group.old.topic.frontier; to = None }) self.old.spans;
         }) }
         ensures fault { IfErr result (λ e. e.0 ≡ sub_refusal
-            (if list_any (λ s. s.number == number) self.old.spans then Some SubFault.SubInUse else subscribe_fault number group.old.topic)) }
+            (if list_any (λ s. s.number == number) self.old.spans then Some SubFault.SubInUse
+            else subscribe_fault number group.old.topic)) }
         ensures back { IfErr result (λ e. shown_of_source e.1 ≡ shown_of_source source) }
         ensures err { OnErr result ((self.new ≡ self.old) × (group.new ≡ group.old)) }
     {
@@ -133,7 +136,7 @@ impl KeptRows {
         Ok(from)
     }
 
-    // The subscription of this number was ended with this stamp, if there is one.
+    /// The subscription of this number was ended with this stamp, if there is one.
     pub(crate) fn end(&mut self, number: u64, to: Stamp)
         ensures { self.new ≡ record self.old { spans = map (span_after_end number to) self.old.spans } }
     {
@@ -142,7 +145,7 @@ impl KeptRows {
         }
     }
 
-    // A subscription with this span, as it is now.
+    /// A subscription with this span, as it is now.
     fn span_row<R: Wait>(group: &Group<Source<R>>, span: KeptSpan) -> SpanRow
         ensures { result ≡ span_row group.now.topic span }
     {
@@ -159,7 +162,7 @@ impl KeptRows {
         }
     }
 
-    // Adds each subscription: its span, and the rows of the log, drained and held, that lie in it.
+    /// Adds each subscription: its span, and the rows of the log, drained and held, that lie in it.
     fn add_subscriptions<R: Wait>(
         &self,
         group: &Group<Source<R>>,
@@ -171,7 +174,8 @@ impl KeptRows {
         ensures ok { OnOk result
             (AddsAll (spans_rows group.now.topic (drained.now ++ held.now) self.now.spans) trace.old trace.new) }
         ensures err { IfErr result
-            (λ fault. AddsFirst fault (spans_rows group.now.topic (drained.now ++ held.now) self.now.spans) trace.old trace.new) }
+            (λ fault. AddsFirst fault (spans_rows group.now.topic (drained.now ++ held.now) self.now.spans)
+            trace.old trace.new) }
     {
         for span in &self.spans {
             add_subscription(trace, KeptRows::span_row(group, *span), drained, held)?;
@@ -179,8 +183,8 @@ impl KeptRows {
         Ok(())
     }
 
-    // Adds what the topic leaves for a trace: its log, drained and held, and its subscriptions. Refused, by 98 where a row
-    // doesn't fit the trace, and by 91 out of memory, the rows before the refused one were added.
+    /// Adds what the topic leaves for a trace: its log, drained and held, and its subscriptions. Refused, by 98 where a
+    /// row doesn't fit the trace, and by 91 out of memory, the rows before the refused one were added.
     pub(crate) fn rows<R: Wait>(
         &self,
         group: &Group<Source<R>>,
@@ -189,9 +193,12 @@ impl KeptRows {
         requires sound { IsSound group.now.topic }
         requires traced { KeepsTrace group.now.topic (trace_kept group.now.topic.held self.now) }
         ensures ok { OnOk result
-            (AddsAll (topic_rows (topic_trace group.now.topic (trace_kept group.now.topic.held self.now))) trace.old trace.new) }
+            (AddsAll (topic_rows (topic_trace group.now.topic (trace_kept group.now.topic.held self.now)))
+            trace.old trace.new) }
         ensures err { IfErr result
-            (λ fault. AddsFirst fault (topic_rows (topic_trace group.now.topic (trace_kept group.now.topic.held self.now))) trace.old trace.new) }
+            (λ fault. AddsFirst fault
+            (topic_rows (topic_trace group.now.topic (trace_kept group.now.topic.held self.now)))
+            trace.old trace.new) }
     {
         let drained = LogSection::of_drained(&self.drained);
         let held = LogSection::of_held(group);
@@ -201,7 +208,7 @@ impl KeptRows {
     }
 }
 
-// Moves the rows to the end of those that were drained before, where there is room for them.
+/// Moves the rows to the end of those that were drained before, where there is room for them.
 fn put_rows(drained: &mut Vec<Row>, rows: &mut LogRows)
     requires { vec_len drained.old + length rows.old ≤ vec_capacity drained.old }
     ensures all { drained.new.items ≡ drained.old.items ++ rows.old }

@@ -26,6 +26,3 @@ pub use place::Place;
 pub use places::Places;
 pub use point::Point;
 pub use subscribed::Subscribed;
-
-#[cfg(test)]
-mod tests;

@@ -33,8 +33,8 @@ impl<'a, R: Wait> Locked<'a, R> {
 impl<'a, R: Wait> Places for Locked<'a, R> {
     ghost rows = { λ l. l.done.rows };
 
-    /// Enters the part behind its topic's lock. Refused as by the place, 49 also where there is no such topic, 42 also where
-    /// there is no memory for what is stored of it.
+    /// Enters the part behind its topic's lock. Refused as by the place, 49 also where there is no such topic, 42 also
+    /// where there is no memory for what is stored of it.
     fn propose(&mut self, floor: Stamp, part: Arc<Part>) -> Result<Ticket, ProposeFault> {
         let Some(lock) = self.broker.lock_of(part.topic) else {
             return Err(ProposeFault::Twice);

@@ -25,8 +25,8 @@ impl<R: Wait> Drop for LockedTopic<R> {
 }
 
 impl<R: Wait> LockedTopic<R> {
-    /// Begins the next subscription, the k-th from 0, at this topic of so many, and returns its number, `k * topics + topic`,
-    /// and the frontier. Refused: 47 where no number is left, and as by the place; nothing has changed then.
+    /// Begins the next subscription, the k-th from 0, at this topic of so many, and returns its number, `k * topics +
+    /// topic`, and the frontier. Refused: 47 where no number is left, and as by the place; nothing has changed then.
     pub(crate) fn subscribe(
         &mut self,
         topics: u64,
@@ -58,7 +58,7 @@ impl<R: Wait> LockedTopic<R> {
     }
 }
 
-// The number of the k-th subscription, from 0, at this topic of so many, if it fits.
+/// The number of the k-th subscription, from 0, at this topic of so many, if it fits.
 fn number_of(k: u64, topics: u64, topic: Topic) -> Option<u64>
     ensures { IfSome result (λ number. number ≡ k * topics + topic.0) }
 {

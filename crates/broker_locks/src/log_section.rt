@@ -12,8 +12,8 @@ use std::marker::Model;
 use std::sync::Wait;
 use sub_queue::Source;
 
-/// Rows that a topic released, in order: those that were drained, or else those that its group holds. In contracts it is the
-/// list of them.
+/// Rows that a topic released, in order: those that were drained, or else those that its group holds. In contracts it
+/// is the list of them.
 #[derive(Drop)]
 pub(crate) struct LogSection<'a, R: Wait> {
     drained: &'a [Row],
@@ -30,7 +30,7 @@ impl<'a, R: Wait> Model for LogSection<'a, R> {
 }
 
 impl<'a, R: Wait> LogSection<'a, R> {
-    // The rows that were drained.
+    /// The rows that were drained.
     pub(crate) fn of_drained(drained: &'a [Row]) -> LogSection<'a, R>
         ensures { result ≡ drained.now }
     {
@@ -40,7 +40,7 @@ impl<'a, R: Wait> LogSection<'a, R> {
         }
     }
 
-    // The rows that the group holds.
+    /// The rows that the group holds.
     pub(crate) fn of_held(group: &'a Group<Source<R>>) -> LogSection<'a, R>
         ensures { result ≡ group.now.topic.held }
     {
@@ -50,7 +50,7 @@ impl<'a, R: Wait> LogSection<'a, R> {
         }
     }
 
-    // How many rows it has.
+    /// How many rows it has.
     pub(crate) fn len(&self) -> usize
         ensures { result ≡ length self.now }
     {
@@ -60,7 +60,7 @@ impl<'a, R: Wait> LogSection<'a, R> {
         }
     }
 
-    // The row at index `i`, from 0, or `None` past the last.
+    /// The row at index `i`, from 0, or `None` past the last.
     pub(crate) fn row(&self, i: usize) -> Option<&Row>
         ensures { option_map (λ row. row.now) result ≡ slice_get self.now i }
     {
@@ -70,12 +70,14 @@ impl<'a, R: Wait> LogSection<'a, R> {
         }
     }
 
-    // How many of its rows have at most this stamp; they are the first ones. It halves.
+    /// How many of its rows have at most this stamp; they are the first ones. It halves.
     pub(crate) fn count_to(&self, stamp: Stamp) -> usize
         requires { Rises row_stamp self.now }
         ensures within { result ≤ length self.now }
-        ensures past { (i : ℕ) (d : LogRow) → i < result → stamp_lt stamp (get_or self.now i d).stamp ≡ false }
-        ensures above { (i : ℕ) (d : LogRow) → result ≤ i → i < length self.now → stamp_lt stamp (get_or self.now i d).stamp ≡ true }
+        ensures past { (i : ℕ) (d : LogRow) → i < result
+            → stamp_lt stamp (get_or self.now i d).stamp ≡ false }
+        ensures above { (i : ℕ) (d : LogRow) → result ≤ i → i < length self.now
+            → stamp_lt stamp (get_or self.now i d).stamp ≡ true }
     {
         let mut low = 0;
         let mut high = self.len();
@@ -91,12 +93,13 @@ impl<'a, R: Wait> LogSection<'a, R> {
         low
     }
 
-    // How many of its rows aren't past the end, where there is one; they are the first ones.
+    /// How many of its rows aren't past the end, where there is one; they are the first ones.
     pub(crate) fn count_up_to(&self, to: Option<Stamp>) -> usize
         requires { Rises row_stamp self.now }
         ensures within { result ≤ length self.now }
         ensures before { (i : ℕ) (d : LogRow) → i < result → up_to to (get_or self.now i d).stamp ≡ true }
-        ensures after { (i : ℕ) (d : LogRow) → result ≤ i → i < length self.now → up_to to (get_or self.now i d).stamp ≡ false }
+        ensures after { (i : ℕ) (d : LogRow) → result ≤ i → i < length self.now
+            → up_to to (get_or self.now i d).stamp ≡ false }
     {
         match to {
             Some(to) => self.count_to(to),

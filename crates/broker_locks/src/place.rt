@@ -25,8 +25,8 @@ use std::sync::{Arc, Wait};
 use sub_queue::Source;
 use trace_audit::{AddFault, Trace};
 
-/// What one topic's lock guards: the topic's group, over queues that two threads share, how many tickets it gave, rows it
-/// released and parts were cancelled, and, where a trace is kept, what the topic leaves for it.
+/// What one topic's lock guards: the topic's group, over queues that two threads share, how many tickets it gave, rows
+/// it released and parts were cancelled, and, where a trace is kept, what the topic leaves for it.
 pub struct Place<R: Wait> {
     group: Group<Source<R>>,
     tickets: u64,
@@ -62,8 +62,8 @@ impl<R: Wait> Model for Place<R> {
 }
 
 impl<R: Wait> Place<R> {
-    /// The place of an empty topic with this clock, of at most `log_limit` parts and rows, taken together; whether it keeps
-    /// a trace. It takes no memory.
+    /// The place of an empty topic with this clock, of at most `log_limit` parts and rows, taken together; whether it
+    /// keeps a trace. It takes no memory.
     pub fn new(
         alloc: Global,
         topic: Topic,
@@ -112,9 +112,9 @@ impl<R: Wait> Place<R> {
         }
     }
 
-    /// Enters a part, and gives its ticket. Refused, in this order: 49 where the part isn't of this topic or a part of the
-    /// transaction is pending, 40 where no number is left, 41 where the log is at its limit, 42 out of memory; the place
-    /// is then as it was.
+    /// Enters a part, and gives its ticket. Refused, in this order: 49 where the part isn't of this topic or a part of
+    /// the transaction is pending, 40 where no number is left, 41 where the log is at its limit, 42 out of memory; the
+    /// place is then as it was.
     pub fn propose(&mut self, floor: Stamp, part: Arc<Part>) -> Result<Ticket, ProposeFault>
         ensures allowed { OnOk result (place_fault floor (data_of (arc_value part)) self.old ≡ None) }
         ensures ticket { IfOk result (λ ticket. ticket ≡ record {
@@ -148,9 +148,9 @@ impl<R: Wait> Place<R> {
     }
 
     /// Turns the topic: each pending part learns the verdict that its flight's cell holds, and what is due is released;
-    /// then the log is drained, into the trace where one is kept. Returns how many rows were released, and the drained rows
-    /// that no trace keeps, for the caller to let go once the lock is free. Out of memory for the drain, the turn stands, and
-    /// nothing is drained. It may wait for a take that is under way.
+    /// then the log is drained, into the trace where one is kept. Returns how many rows were released, and the drained
+    /// rows that no trace keeps, for the caller to let go once the lock is free. Out of memory for the drain, the turn
+    /// stands, and nothing is drained. It may wait for a take that is under way.
     pub fn head(&mut self, rt: &R) -> Result<(u64, LogRows), NoMemory>
         ensures { HasTurned self.old self.new result }
     {
@@ -159,8 +159,8 @@ impl<R: Wait> Place<R> {
         Ok((count, rows))
     }
 
-    // Drains the log, into the trace where one is kept. Returns the rows that no trace keeps. Out of memory, nothing has
-    // changed.
+    /// Drains the log, into the trace where one is kept. Returns the rows that no trace keeps. Out of memory, nothing
+    /// has changed.
     fn drain(&mut self) -> Result<LogRows, NoMemory>
         ensures rows { IfOk result (λ rows. rows ≡ rows_given self.old) }
         ensures ok { OnOk result (self.new ≡ place_after_drain self.old) }
@@ -172,7 +172,7 @@ impl<R: Wait> Place<R> {
         }
     }
 
-    // Turns the topic.
+    /// Turns the topic.
     fn turn(&mut self, rt: &R) -> u64
         ensures { (turned : GroupState) × Turns source_answers any_verdict self.old.group turned
             × (self.new ≡ place_after_turn turned self.old) × (result ≡ rows_since self.old.group turned) }
@@ -205,8 +205,9 @@ impl<R: Wait> Place<R> {
         }
     }
 
-    /// Ends the subscription of this number, with no memory, and returns what it leaves. A trace that is kept has its last
-    /// stamp then, and the rows that its source pushed. Refused by 48 where there is none; the place is then as it was.
+    /// Ends the subscription of this number, with no memory, and returns what it leaves. A trace that is kept has its
+    /// last stamp then, and the rows that its source pushed. Refused by 48 where there is none; the place is then as it
+    /// was.
     pub fn unsubscribe(&mut self, number: u64) -> Result<Ended<Source<R>>, NoSub>
         ensures left { IfOk result
             (λ left. HasLeft number self.old.group (shown_of_source left.outlet) left.to left.cause) }
@@ -221,10 +222,10 @@ impl<R: Wait> Place<R> {
         Ok(ended)
     }
 
-    /// Adds what the topic leaves for a trace, where one is kept: the rows that it released, drained and held, in order, and
-    /// for each of its subscriptions, ended ones too, its span and the rows that its source pushed. Refused, the rows before
-    /// the refused one were added: 98 where that one doesn't fit the trace, as a second span of one subscription doesn't, and
-    /// 91 where it does, and there is no memory for it.
+    /// Adds what the topic leaves for a trace, where one is kept: the rows that it released, drained and held, in
+    /// order, and for each of its subscriptions, ended ones too, its span and the rows that its source pushed. Refused,
+    /// the rows before the refused one were added: 98 where that one doesn't fit the trace, as a second span of one
+    /// subscription doesn't, and 91 where it does, and there is no memory for it.
     pub fn rows(&self, trace: &mut Trace) -> Result<(), AddFault>
         ensures balanced { IsBalanced self.now }
         ensures ok { OnOk result (AddsAll (place_rows self.now) trace.old trace.new) }
@@ -244,14 +245,14 @@ impl<R: Wait> Place<R> {
     }
 }
 
-// Whether the part is of this topic, which its transaction names.
+/// Whether the part is of this topic, which its transaction names.
 fn is_part_at(topic: Topic, part: &Part) -> bool
     ensures { result ≡ is_part_at topic (data_of part.now) }
 {
     part.topic.0 == topic.0 && names(topic, part.topics.as_slice())
 }
 
-// Whether a topic is one of these.
+/// Whether a topic is one of these.
 pub(crate) fn names(topic: Topic, topics: &[Topic]) -> bool
     ensures { result ≡ names topic topics.now }
 {

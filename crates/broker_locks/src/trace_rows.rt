@@ -16,7 +16,7 @@ use std::alloc::Global;
 use std::sync::Wait;
 use trace_audit::{AddFault, LogRow, QueueRow, SpanRow, Trace, TraceRow};
 
-// A row of a topic's log as a row of a trace, with a copy of its topics.
+/// A row of a topic's log as a row of a trace, with a copy of its topics.
 fn log_row(alloc: Global, topic: Topic, row: &Row) -> Result<LogRow, NoMemory>
     ensures { IfOk result (λ line. line ≡ record { topic = topic; row = row.now }) }
 {
@@ -28,7 +28,8 @@ fn log_row(alloc: Global, topic: Topic, row: &Row) -> Result<LogRow, NoMemory>
     })
 }
 
-// Adds a row of a topic's log. Whether it fits is tested before its topics are copied, so that 91 comes only where it does.
+/// Adds a row of a topic's log. Whether it fits is tested before its topics are copied, so that 91 comes only where it
+/// does.
 fn add_log_row(alloc: Global, trace: &mut Trace, topic: Topic, row: &Row) -> Result<(), AddFault>
     ensures ok { OnOk result (AddsAll (logged_row topic row.now ∷ []) trace.old trace.new) }
     ensures fault { IfErr result (λ fault. is_misfit (logged_row topic row.now) trace.old ≡ says_misfit fault) }
@@ -43,7 +44,7 @@ fn add_log_row(alloc: Global, trace: &mut Trace, topic: Topic, row: &Row) -> Res
     trace.add(TraceRow::Log(line))
 }
 
-// Adds the rows of a section of a topic's log, in their order.
+/// Adds the rows of a section of a topic's log, in their order.
 pub(crate) fn add_log<R: Wait>(
     alloc: Global,
     trace: &mut Trace,
@@ -59,13 +60,14 @@ pub(crate) fn add_log<R: Wait>(
     Ok(())
 }
 
-// Adds the queue rows of a subscription: the rows of a section of the log that lie in its span, found by halving.
+/// Adds the queue rows of a subscription: the rows of a section of the log that lie in its span, found by halving.
 fn add_marks<R: Wait>(trace: &mut Trace, span: SpanRow, log: &LogSection<R>) -> Result<(), AddFault>
     requires { Rises row_stamp log.now }
     ensures ok { OnOk result
         (AddsAll (map (queue_row span.sub) (marks_between span.from span.to log.now)) trace.old trace.new) }
     ensures err { IfErr result
-        (λ fault. AddsFirst fault (map (queue_row span.sub) (marks_between span.from span.to log.now)) trace.old trace.new) }
+        (λ fault. AddsFirst fault (map (queue_row span.sub) (marks_between span.from span.to log.now))
+        trace.old trace.new) }
 {
     let end = log.count_up_to(span.to);
     for i in log.count_to(span.from)..end {
@@ -80,7 +82,7 @@ fn add_marks<R: Wait>(trace: &mut Trace, span: SpanRow, log: &LogSection<R>) -> 
     Ok(())
 }
 
-// Adds a subscription: its span, and the rows of both sections of the log that lie in it as its queue.
+/// Adds a subscription: its span, and the rows of both sections of the log that lie in it as its queue.
 pub(crate) fn add_subscription<R: Wait>(
     trace: &mut Trace,
     span: SpanRow,
@@ -91,7 +93,8 @@ pub(crate) fn add_subscription<R: Wait>(
     ensures ok { OnOk result
         (AddsAll (sub_rows span.topic (sub_in_log span (drained.now ++ held.now))) trace.old trace.new) }
     ensures err { IfErr result
-        (λ fault. AddsFirst fault (sub_rows span.topic (sub_in_log span (drained.now ++ held.now))) trace.old trace.new) }
+        (λ fault. AddsFirst fault (sub_rows span.topic (sub_in_log span (drained.now ++ held.now)))
+        trace.old trace.new) }
 {
     trace.add(TraceRow::Span(span))?;
     add_marks(trace, span, drained)?;

@@ -10,7 +10,7 @@ use Rattle.trace_audit.specs.Explained.{IsCompleteBy}
 use Rattle.trace_audit.specs.Faults.{audit_fault, is_whole}
 use Rattle.trace_audit.specs.Inner.Reading.{read_from}
 use Rattle.trace_audit.specs.Parsing.{lines_of, AddsLines, IsFirstBad}
-use Rattle.trace_audit.specs.Trace.{Lines, no_lines}
+use Rattle.trace_audit.specs.Trace.{TraceData, no_trace_data}
 use Rattle.trace_audit.proofs.OneList.{one_list, some_list}
 use Rattle.trace_audit.proofs.Refuting.{refuses, complete, completed}
 use Rattle.trace_audit.proofs.Rows.{adds_reads, reads_adds, bad_first, first_bad}
@@ -28,13 +28,13 @@ one_bool false true p q = absurd (let e = q refl in cc)
 some_is : {A : Type 0} (x y : A) → ◌≡◌ {A = Option A} (Some x) (Some y) → x ≡ y
 some_is x y e = cc
 
-ok_is : (x y : Lines) → ◌≡◌ {A = Result Lines ℕ} (Ok x) (Ok y) → x ≡ y
+ok_is : (x y : TraceData) → ◌≡◌ {A = Result TraceData ℕ} (Ok x) (Ok y) → x ≡ y
 ok_is x y e = cc
 
-err_is : (m n : ℕ) → ◌≡◌ {A = Result Lines ℕ} (Err m) (Err n) → m ≡ n
+err_is : (m n : ℕ) → ◌≡◌ {A = Result TraceData ℕ} (Err m) (Err n) → m ≡ n
 err_is m n e = cc
 
-one_yes : (trace : Lines) (output other : List ℕ) (status third : ℕ) → IsYes trace output status → IsYes trace other third → (output ≡ other) × (status ≡ third)
+one_yes : (trace : TraceData) (output other : List ℕ) (status third : ℕ) → IsYes trace output status → IsYes trace other third → (output ≡ other) × (status ≡ third)
 one_yes trace output other status third p q =
     let rows = one_list trace p.rows q.rows p.explained q.explained in
     let whole : p.complete ≡ q.complete = one_bool p.complete q.complete
@@ -42,22 +42,22 @@ one_yes trace output other status third p q =
     (λ yes. p.whole.1 (subst (λ (z : List LogRow). IsCompleteBy z trace) (sym rows) (q.whole.0 yes))) in
     (p.written ∙ ap (λ (z : List LogRow). agreed_text z p.complete) rows ∙ ap (λ (b : Bool). agreed_text q.rows b) whole ∙ sym q.written, p.status_is ∙ sym q.status_is)
 
-one_no : (trace : Lines) (output other : List ℕ) (status third : ℕ) → IsNo trace output status → IsNo trace other third → (output ≡ other) × (status ≡ third)
+one_no : (trace : TraceData) (output other : List ℕ) (status third : ℕ) → IsNo trace output status → IsNo trace other third → (output ≡ other) × (status ≡ third)
 one_no trace output other status third p q =
     let fault : p.fault ≡ q.fault = some_is p.fault q.fault (sym p.refused.first ∙ q.refused.first) in
     (p.written ∙ ap refusal_text fault ∙ sym q.written, p.status_is ∙ sym q.status_is)
 
-one_verdict : (trace : Lines) (output other : List ℕ) (status third : ℕ) → IsYes trace output status ⊎ IsNo trace output status → IsYes trace other third ⊎ IsNo trace other third → (output ≡ other) × (status ≡ third)
+one_verdict : (trace : TraceData) (output other : List ℕ) (status third : ℕ) → IsYes trace output status ⊎ IsNo trace output status → IsYes trace other third ⊎ IsNo trace other third → (output ≡ other) × (status ≡ third)
 one_verdict trace output other status third (inl p) (inl q) = one_yes trace output other status third p q
 one_verdict trace output other status third (inl p) (inr q) = absurd (q.refused.unexplained p.rows p.explained)
 one_verdict trace output other status third (inr p) (inl q) = absurd (p.refused.unexplained q.rows q.explained)
 one_verdict trace output other status third (inr p) (inr q) = one_no trace output other status third p q
 
-pub one_trace : (lines : List (List ℕ)) (a b : Lines) → AddsLines lines no_lines a → AddsLines lines no_lines b → a ≡ b
-one_trace lines a b p q = ok_is a b (sym (adds_reads 1 lines no_lines a p) ∙ adds_reads 1 lines no_lines b q)
+pub one_trace : (lines : List (List ℕ)) (a b : TraceData) → AddsLines lines no_trace_data a → AddsLines lines no_trace_data b → a ≡ b
+one_trace lines a b p q = ok_is a b (sym (adds_reads 1 lines no_trace_data a p) ∙ adds_reads 1 lines no_trace_data b q)
 
-pub no_trace : (lines : List (List ℕ)) (a : Lines) (n : ℕ) → AddsLines lines no_lines a → IsFirstBad lines n → Prim.⊥
-no_trace lines a n p q = let e = sym (adds_reads 1 lines no_lines a p) ∙ bad_first lines n q in cc
+pub no_trace : (lines : List (List ℕ)) (a : TraceData) (n : ℕ) → AddsLines lines no_trace_data a → IsFirstBad lines n → Prim.⊥
+no_trace lines a n p q = let e = sym (adds_reads 1 lines no_trace_data a p) ∙ bad_first lines n q in cc
 
 one_line : (lines : List (List ℕ)) (m n : ℕ) → IsFirstBad lines m → IsFirstBad lines n → m ≡ n
 one_line lines m n p q = err_is m n (sym (bad_first lines m p) ∙ bad_first lines n q)
@@ -65,7 +65,7 @@ one_line lines m n p q = err_is m n (sym (bad_first lines m p) ∙ bad_first lin
 one_judged : (input output other : List ℕ) (status third : ℕ) → IsJudged input output status → IsJudged input other third → (output ≡ other) × (status ≡ third)
 one_judged input output other status third (inl p) (inl q) =
     let same = one_trace (lines_of input) p.0 q.0 p.1 q.1 in
-    one_verdict q.0 output other status third (subst (λ (z : Lines). IsYes z output status ⊎ IsNo z output status) same p.2) q.2
+    one_verdict q.0 output other status third (subst (λ (z : TraceData). IsYes z output status ⊎ IsNo z output status) same p.2) q.2
 one_judged input output other status third (inl p) (inr q) = absurd (no_trace (lines_of input) p.0 q.0 p.1 q.1)
 one_judged input output other status third (inr p) (inl q) = absurd (no_trace (lines_of input) q.0 p.0 q.1 p.1)
 one_judged input output other status third (inr p) (inr q) =
@@ -81,7 +81,7 @@ one_audit input output other status third (inr p) (inr q) = (p.1 ∙ sym q.1, p.
 
 -- ---- some output
 
-some_verdict : (lines : List (List ℕ)) (trace : Lines) → AddsLines lines no_lines trace → (output : List ℕ) × (status : ℕ) × (IsYes trace output status ⊎ IsNo trace output status)
+some_verdict : (lines : List (List ℕ)) (trace : TraceData) → AddsLines lines no_trace_data trace → (output : List ℕ) × (status : ℕ) × (IsYes trace output status ⊎ IsNo trace output status)
 some_verdict lines trace a = go (audit_fault trace) refl
   where
     go : (fault : Option AuditFault) → audit_fault trace ≡ fault → (output : List ℕ) × (status : ℕ) × (IsYes trace output status ⊎ IsNo trace output status)
@@ -102,11 +102,11 @@ some_verdict lines trace a = go (audit_fault trace) refl
     go (Some fault) e = (refusal_text fault, 3, inr (record { fault = fault; refused = refuses trace fault e; written = refl; status_is = refl }))
 
 some_judged : (input : List ℕ) → (output : List ℕ) × (status : ℕ) × IsJudged input output status
-some_judged input = go (read_from 1 (lines_of input) no_lines) refl
+some_judged input = go (read_from 1 (lines_of input) no_trace_data) refl
   where
-    go : (r : Result Lines ℕ) → read_from 1 (lines_of input) no_lines ≡ r → (output : List ℕ) × (status : ℕ) × IsJudged input output status
+    go : (r : Result TraceData ℕ) → read_from 1 (lines_of input) no_trace_data ≡ r → (output : List ℕ) × (status : ℕ) × IsJudged input output status
     go (Ok trace) e =
-        let a = reads_adds 1 (lines_of input) no_lines trace e in
+        let a = reads_adds 1 (lines_of input) no_trace_data trace e in
         let v = some_verdict (lines_of input) trace a in
         (v.0, v.1, inl (trace, a, v.2))
     go (Err n) e = (bad_text (BadRow n), 2, inr (n, first_bad (lines_of input) n e, refl, refl))

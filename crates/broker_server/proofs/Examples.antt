@@ -10,13 +10,13 @@ use Rattle.stomp_frame.specs.Reader.{Unread}
 use Rattle.stomp_frame.specs.Inner.Parser.{Open, frame_at, line_at, after_eols}
 use Rattle.stomp_frame.specs.Headers.{IsPair}
 use Rattle.stomp_frame.specs.ServerFrames.{error_frame}
-use Rattle.stomp_frame.specs.Writing.{spelled, IsWritable, IsWithin}
+use Rattle.stomp_frame.specs.Writing.{spelling_of, IsWritable, IsWithin}
 use Rattle.stomp_frame.proofs.Whole.{answers_none}
 use Rattle.stomp_frame.proofs.Written.{spelled_first}
 use Rattle.broker_server.specs.Relay.{standard, IsRelayed}
 use Rattle.broker_server.specs.RelayFaults.{relay_fault}
 use Rattle.broker_server.specs.declared.relay_fault.RelayFault.TheVariants.{UnknownDestination}
-use Rattle.broker_server.specs.Inner.Steps.{reading}
+use Rattle.broker_server.specs.Inner.Steps.{unread_text}
 use Rattle.broker_server.proofs.AsciiTexts.{is_ascii, is_text}
 
 -- ---- two SENDs to `A`, with the bodies `hi` and `a`, NULL, `b`
@@ -91,7 +91,7 @@ no_more = refl
 ends : Leaves standard [] [] × IsOpen standard []
 unfolding after_eols
 ends =
-    let last = answers_none (reading []) no_more in
+    let last = answers_none (unread_text []) no_more in
     let none : last.0 ≡ [] = ap (λ (u : Unread). u.text) (sym last.3) in
     (subst (Leaves standard []) none last.1, subst (IsOpen standard) none last.2)
 
@@ -99,8 +99,8 @@ ends =
 pub are_two_frames : Stream standard two_sends (hi ∷ a_null_b ∷ []) []
 are_two_frames =
     let second = spelled_first standard a_null_b [] a_null_b_writable a_null_b_within in
-    let first = spelled_first standard hi (spelled a_null_b) hi_writable hi_within in
-    (spelled a_null_b, first, ([], second, ends.0))
+    let first = spelled_first standard hi (spelling_of a_null_b) hi_writable hi_within in
+    (spelling_of a_null_b, first, ([], second, ends.0))
 
 -- The relay to `A` of these SENDs writes these MESSAGEs, with status 0.
 pub two_are_relayed : IsRelayed (codes "A") two_sends two_messages 0

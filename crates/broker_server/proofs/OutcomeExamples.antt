@@ -13,7 +13,7 @@ use Rattle.delivery.specs.declared.connection_fault.ConnectionFault.TheVariants 
 use Rattle.delivery.specs.declared.refusal.Refusal.TheVariants as refusal
 use Rattle.delivery.specs.declared.outcome.Outcome.TheVariants as outcome
 use Rattle.broker_server.specs.OutcomeText.{outcome_text}
-use Rattle.broker_server.specs.ShownText.{shown_text}
+use Rattle.broker_server.specs.EscapedText.{escaped_text}
 
 abbrev stamp : ℕ → ℕ → Stamp
 stamp n t = record { n = n; topic = record { 0 = t } }
@@ -104,7 +104,7 @@ refused = refl
 no_memory : outcome_text outcome.NoMemory ≡ codes "no memory"
 no_memory = refl
 
--- ---- octets as they are shown
+-- ---- octets in TEXT
 
-ends_are_escaped : shown_text (codes "a\nb\r\\") ≡ codes "a\\nb\\r\\\\"
+ends_are_escaped : escaped_text (codes "a\nb\r\\") ≡ codes "a\\nb\\r\\\\"
 ends_are_escaped = refl

@@ -4,19 +4,19 @@ use Rattle.std.specs.List.{AllByRecursion, enumerate_from, filter, flat_map, lis
 use Rattle.std.proofs.lemmas.Bool.{and_parts, eq-eqb, eqb-true, cases_Bool}
 use Rattle.mcast_txn.specs.declared.id.Topic.{Topic}
 use Rattle.mcast_txn.specs.Lists.{In}
-use Rattle.mcast_txn.specs.Span.{LogRow, Item, in_span}
+use Rattle.mcast_txn.specs.Span.{LogRow, Item, in_span, row_mark}
 use Rattle.mcast_txn.proofs.Members.{In-map, In-map_cases, In-filter, In-filter_cases}
 use Rattle.trace_audit.specs.declared.row.SpanRow.{SpanRow}
 use Rattle.trace_audit.specs.declared.row.QueueRow.{QueueRow}
 use Rattle.trace_audit.specs.declared.row.TraceRow.{TraceRow}
 use Rattle.trace_audit.specs.declared.row.TraceRow.TheVariants as row
 use Rattle.trace_audit.specs.Explained.{rows_at, IsExplainedBy}
-use Rattle.trace_audit.specs.Line.{LogLine}
+use Rattle.trace_audit.specs.Logs.{LogLine}
 use Rattle.trace_audit.specs.Parsing.{lines_of, AddsLines}
-use Rattle.trace_audit.specs.Report.{rows_in}
+use Rattle.trace_audit.specs.PrintedRows.{rows_in}
 use Rattle.trace_audit.specs.Rereading.{AddsRows, AreAlike}
 use Rattle.trace_audit.specs.Rows.{with_row}
-use Rattle.trace_audit.specs.Trace.{Lines, no_lines, rows_of, log_of, queue_of, row_mark, marks_in, fits, has_span}
+use Rattle.trace_audit.specs.Trace.{TraceData, no_trace_data, rows_of, log_of, queue_of, marks_in, fits, has_span}
 use Rattle.trace_audit.proofs.Rereading.{printed_is_read}
 use Rattle.delivery.specs.Core.Account.{account_of}
 use Rattle.delivery.specs.Core.Reports.{QueueReport, Report, report_of}
@@ -33,11 +33,11 @@ use Rattle.broker_server.proofs.AuditLemmas.{one_trace, no_trace}
 
 -- ---- the rows of a net's trace fit, one after the other
 
-then_add : (xs ys : List TraceRow) (a b c : Lines) → AddsRows xs a b → AddsRows ys b c → AddsRows (xs ++ ys) a c
-then_add [] ys a b c x y = subst (λ (z : Lines). AddsRows ys z c) x y
+then_add : (xs ys : List TraceRow) (a b c : TraceData) → AddsRows xs a b → AddsRows ys b c → AddsRows (xs ++ ys) a c
+then_add [] ys a b c x y = subst (λ (z : TraceData). AddsRows ys z c) x y
 then_add (r ∷ xs) ys a b c x y = (x.0, then_add xs ys (with_row r a) b c x.1 y)
 
-adds_logs : (ls : List LogLine) (old : Lines) → list_all (λ (l : LogLine). fits l) ls ≡ true
+adds_logs : (ls : List LogLine) (old : TraceData) → list_all (λ (l : LogLine). fits l) ls ≡ true
     → AddsRows (map (λ (l : LogLine). row.Log l) ls) old (record old { logs = old.logs ++ ls })
 adds_logs [] old f = ap (λ (z : List LogLine). record old { logs = z }) (append-nil old.logs)
 adds_logs (l ∷ ls) old f =
@@ -70,7 +70,7 @@ not_same n sub l = elim (cases_Bool (n == sub)) [
   | inr e ↦ e
 ]
 
-adds_spans : (n : ℕ) (spans : List SpanRow) (old : Lines) → Numbered n spans → NoneFrom n old.spans
+adds_spans : (n : ℕ) (spans : List SpanRow) (old : TraceData) → Numbered n spans → NoneFrom n old.spans
     → AddsRows (map (λ (s : SpanRow). row.Span s) spans) old (record old { spans = old.spans ++ spans })
 adds_spans n [] old c none = ap (λ (z : List SpanRow). record old { spans = z }) (append-nil old.spans)
 adds_spans n (s ∷ spans) old c none = (
@@ -85,7 +85,7 @@ adds_spans n (s ∷ spans) old c none = (
 abbrev HaveSpans : List QueueRow → List SpanRow → Type 0
 HaveSpans queues spans = AllByRecursion (λ (q : QueueRow). has_span q.sub spans ≡ true) queues
 
-adds_queues : (queues : List QueueRow) (old : Lines) → HaveSpans queues old.spans
+adds_queues : (queues : List QueueRow) (old : TraceData) → HaveSpans queues old.spans
     → AddsRows (map (λ (q : QueueRow). row.Queue q) queues) old (record old { queues = old.queues ++ queues })
 adds_queues [] old h = ap (λ (z : List QueueRow). record old { queues = z }) (append-nil old.queues)
 adds_queues (q ∷ queues) old h = (
@@ -130,27 +130,27 @@ have_spans n (q ∷ subs) =
     (own_span n q.queued (traced_span n q) (spans_from (n + 1) subs) refl)
     (still_have (traced_span n q) (queues_from (n + 1) subs) (spans_from (n + 1) subs) (have_spans (n + 1) subs))
 
-report_adds : (r : Report) → list_all (λ (l : LogLine). fits l) (trace_of r).logs ≡ true → AddsRows (rows_in (trace_of r)) no_lines (trace_of r)
+report_adds : (r : Report) → list_all (λ (l : LogLine). fits l) (trace_of r).logs ≡ true → AddsRows (rows_in (trace_of r)) no_trace_data (trace_of r)
 report_adds r f =
     let t = trace_of r in
     let ls = map (λ (l : LogLine). row.Log l) t.logs in
     let ss = map (λ (s : SpanRow). row.Span s) t.spans in
     let qs = map (λ (q : QueueRow). row.Queue q) t.queues in
-    let logged : Lines = record { logs = t.logs; spans = []; queues = [] } in
-    let spanned : Lines = record { logs = t.logs; spans = t.spans; queues = [] } in
-    then_add (ls ++ ss) qs no_lines spanned t
-    (then_add ls ss no_lines logged spanned (adds_logs t.logs no_lines f) (adds_spans 0 t.spans logged (numbered 0 r.subscriptions) (λ sub l. refl)))
+    let logged : TraceData = record { logs = t.logs; spans = []; queues = [] } in
+    let spanned : TraceData = record { logs = t.logs; spans = t.spans; queues = [] } in
+    then_add (ls ++ ss) qs no_trace_data spanned t
+    (then_add ls ss no_trace_data logged spanned (adds_logs t.logs no_trace_data f) (adds_spans 0 t.spans logged (numbered 0 r.subscriptions) (λ sub l. refl)))
     (adds_queues t.queues spanned (have_spans 0 r.subscriptions))
 
 -- ---- of a net
 
-net_adds : (net : KeptRun) (trace : Lines) → IsTraced net trace → AddsRows (rows_in trace) no_lines trace
+net_adds : (net : KeptRun) (trace : TraceData) → IsTraced net trace → AddsRows (rows_in trace) no_trace_data trace
 net_adds net trace traced =
     let r = report_of (core_of_net net) in
     let d = delivers net.topics net.capacity (steps_of_net net) traced.is_delivered.is_run in
     let fit : list_all (λ (l : LogLine). fits l) (trace_of r).logs ≡ true =
     all_pass (λ (l : LogLine). fits l) (trace_of r).logs (row_fits (account_of net.topics.names (steps_of_net net)) r d) in
-    subst (λ (z : Lines). AddsRows (rows_in z) no_lines z) (sym traced.is_trace) (report_adds r fit)
+    subst (λ (z : TraceData). AddsRows (rows_in z) no_trace_data z) (sym traced.is_trace) (report_adds r fit)
 
 -- ---- what is alike has the same explanation
 
@@ -163,7 +163,7 @@ row_of_log t logs r k =
 logged_again : (a b : List LogLine) (r : LogRow) → ((t : Topic) → log_of t a ≡ log_of t b) → In r (rows_of a) → In r (rows_of b)
 logged_again a b r same k = let at = row_in_log a r k in row_of_log at.0 b r (subst (λ (z : List LogRow). In r z) (same at.0) at.1)
 
-alike_is_explained : (a b : Lines) (rows : List LogRow) → AreAlike a b → IsExplainedBy rows a → IsExplainedBy rows b
+alike_is_explained : (a b : TraceData) (rows : List LogRow) → AreAlike a b → IsExplainedBy rows a → IsExplainedBy rows b
 alike_is_explained a b rows alike e = record {
   rises = e.rises;
   of_logs = λ r k. logged_again a.logs b.logs r alike.logs (e.of_logs r k);
@@ -181,8 +181,8 @@ alike_is_explained a b rows alike e = record {
 
 -- it is read as a trace that some list explains
 record Read (output : List ℕ) : Type 0 where
-  trace : Lines
-  added : AddsLines (lines_of output) no_lines trace
+  trace : TraceData
+  added : AddsLines (lines_of output) no_trace_data trace
   rows : List LogRow
   explained : IsExplainedBy rows trace
 
@@ -191,17 +191,17 @@ is_read text output status run =
     let again = printed_is_read (rows_in run.trace) run.rows run.trace (net_adds run.net run.trace run.traced) run.in_range run.printed in
     record {
       trace = again.0;
-      added = subst (λ (z : List ℕ). AddsLines (lines_of z) no_lines again.0) (sym run.written) again.1;
+      added = subst (λ (z : List ℕ). AddsLines (lines_of z) no_trace_data again.0) (sym run.written) again.1;
       rows = run.traced.is_explained.rows;
       explained = alike_is_explained run.trace again.0 run.traced.is_explained.rows again.2 run.traced.is_explained.explained;
     }
 
 is_yes : (output answer : List ℕ) (status : ℕ) → Read output → IsAudited output answer status → (length output ≤ input_limit)
-    → (trace : Lines) × AddsLines (lines_of output) no_lines trace × IsYes trace answer status
+    → (trace : TraceData) × AddsLines (lines_of output) no_trace_data trace × IsYes trace answer status
 is_yes output answer status read (inl (short, inl (trace, added, inl said))) within = (trace, added, said)
 is_yes output answer status read (inl (short, inl (trace, added, inr denied))) within =
     let same = one_trace (lines_of output) read.trace trace read.added added in
-    absurd (denied.refused.unexplained read.rows (subst (λ (z : Lines). IsExplainedBy read.rows z) same read.explained))
+    absurd (denied.refused.unexplained read.rows (subst (λ (z : TraceData). IsExplainedBy read.rows z) same read.explained))
 is_yes output answer status read (inl (short, inr (line, bad, written, is))) within = absurd (no_trace (lines_of output) read.trace line read.added bad)
 is_yes output answer status read (inr (long, written, is)) within = absurd (omega arith)
 

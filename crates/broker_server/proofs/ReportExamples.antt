@@ -8,7 +8,7 @@ use Rattle.mcast_txn.specs.Span.{LogRow, Item}
 use Rattle.mcast_group.specs.declared.cause.Cause.TheVariants.{Lag}
 use Rattle.delivery.specs.Core.Reports.{Report}
 use Rattle.broker_server.specs.ReportText.{report_text}
-use Rattle.broker_server.specs.ShownText.{shown_text}
+use Rattle.broker_server.specs.EscapedText.{escaped_text}
 
 abbrev stamp : ℕ → ℕ → Stamp
 stamp n t = record { n = n; topic = record { 0 = t } }
@@ -47,5 +47,5 @@ unfolding digits
 is_printed = refl
 
 -- octets outside space to ~ : NULL, tab, 127 and 128
-others_by_number : shown_text (0 ∷ 9 ∷ 127 ∷ 128 ∷ []) ≡ codes "\\0\\x09\\x7f\\x80"
+others_by_number : escaped_text (0 ∷ 9 ∷ 127 ∷ 128 ∷ []) ≡ codes "\\0\\x09\\x7f\\x80"
 others_by_number = refl

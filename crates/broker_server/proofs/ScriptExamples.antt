@@ -8,8 +8,8 @@ use Rattle.delivery.specs.declared.event.Event.{Event}
 use Rattle.delivery.specs.declared.event.Event.TheVariants as event
 use Rattle.broker_server.specs.Script.{SpellsEvent, SpellsLine, NamesCapacity, NamesTopic, SaysNothing, Asks, ScriptData, no_script, capacity_of, is_in_place, IsScript, IsMisplaced, IsFirstBadLine, bad_script_text, event_line}
 use Rattle.broker_server.specs.ScriptText.{SpellsText}
-use Rattle.broker_server.specs.ShownText.{shown_text}
-use Rattle.broker_server.specs.Inner.ScriptReading.{line_read, worded, topic_read}
+use Rattle.broker_server.specs.EscapedText.{escaped_text}
+use Rattle.broker_server.specs.Inner.ScriptReading.{line_read, words_read, topic_read}
 use Rattle.broker_server.specs.declared.script.script_fault.ScriptFault.TheVariants as fault
 use Rattle.broker_server.proofs.ScriptLines.{line_again}
 
@@ -94,11 +94,11 @@ script = (
 -- ---- a bad line
 
 none_read : line_read (codes "turn 00") ≡ None
-unfolding line_read worded topic_read spelled_number
+unfolding line_read words_read topic_read spelled_number
 none_read = refl
 
 turn_00 : IsMisplaced (codes "turn 00") no_script
-turn_00 said s = absurd (let k = line_again (codes "turn 00") said s in let e = none_read in cc)
+turn_00 content s = absurd (let k = line_again (codes "turn 00") content s in let e = none_read in cc)
 
 third : IsFirstBadLine (codes "# two\n\nturn 00\nopen") 3
 third = record {

@@ -10,7 +10,7 @@ use Rattle.std.proofs.lemmas.Slice.Eq.{bytes_eq-Decides}
 use Rattle.mcast_txn.specs.declared.id.Topic.{Topic}
 use Rattle.mcast_txn.specs.declared.id.TxnId.{TxnId}
 use Rattle.trace_audit.specs.Parsing.{cut}
-use Rattle.trace_audit.specs.Text.{spaced, id_text, IsTopicInRange, IsIdInRange}
+use Rattle.trace_audit.specs.Text.{spaced_text, id_text, IsTopicInRange, IsIdInRange}
 use Rattle.trace_audit.specs.Inner.Reading.{◌>>=◌, spelled_number}
 use Rattle.trace_audit.proofs.Cuts.{Without, cut_splits, cut_first, some_is}
 use Rattle.trace_audit.proofs.Spelling.{bound, passed, number_spelled, number_again, number_without}
@@ -19,7 +19,7 @@ use Rattle.delivery.specs.declared.event.Event.TheVariants as event
 use Rattle.broker_server.specs.Programs.{is_graphic, is_name}
 use Rattle.broker_server.specs.Script.{SpellsEvent, ScriptLine, SaysNothing, NamesCapacity, NamesTopic, Asks, IsSkipped, SpellsLine}
 use Rattle.broker_server.specs.ScriptText.{SpellsText}
-use Rattle.broker_server.specs.Inner.ScriptReading.{text_read, topic_read, number_then, pair_read, id_read, learn_read, piece_read, name_read, asks, Reader, reader, settings, readers, read_by, worded, line_read, HasName}
+use Rattle.broker_server.specs.Inner.ScriptReading.{text_read, topic_read, number_then, pair_read, id_read, learn_read, piece_read, name_read, asks, Reader, reader, settings, readers, read_by, words_read, line_read, HasName}
 use Rattle.broker_server.proofs.ScriptTexts.{read_spelled, read_again}
 
 -- ---- fields
@@ -145,52 +145,52 @@ name_again name n named lt =
 
 -- what a reader reads of the text after its word is what a line of both says
 abbrev IsSound : Reader → Type 0
-IsSound r = (text : List ℕ) (said : ScriptLine) → r.reads text ≡ Some said → SpellsLine (r.word ++ 32 ∷ text) said
+IsSound r = (text : List ℕ) (content : ScriptLine) → r.reads text ≡ Some content → SpellsLine (r.word ++ 32 ∷ text) content
 
-asked : {A : Type 0} (f : A → Event) (fields : Option A) (said : ScriptLine) → asks f fields ≡ Some said → (x : A) × (fields ≡ Some x) × (Asks (f x) ≡ said)
-asked f fields said e = let b = bound fields (λ x. Some (Asks (f x))) said e in (b.0, b.1, some_is (Asks (f b.0)) said b.2)
+asked : {A : Type 0} (f : A → Event) (fields : Option A) (content : ScriptLine) → asks f fields ≡ Some content → (x : A) × (fields ≡ Some x) × (Asks (f x) ≡ content)
+asked f fields content e = let b = bound fields (λ x. Some (Asks (f x))) content e in (b.0, b.1, some_is (Asks (f b.0)) content b.2)
 
-number_sound : (word : List ℕ) (f : ℕ → Event) → ((line : List ℕ) (n : ℕ) → n < 2 ^ 64 → line ≡ spaced (word ∷ decimal n ∷ []) → SpellsEvent line (f n)) → IsSound (reader word (λ text. asks f (spelled_number text)))
-number_sound word f h text said e =
-    let a = asked f (spelled_number text) said e in
+number_sound : (word : List ℕ) (f : ℕ → Event) → ((line : List ℕ) (n : ℕ) → n < 2 ^ 64 → line ≡ spaced_text (word ∷ decimal n ∷ []) → SpellsEvent line (f n)) → IsSound (reader word (λ text. asks f (spelled_number text)))
+number_sound word f h text content e =
+    let a = asked f (spelled_number text) content e in
     let s = number_spelled text a.0 a.1 in
     subst (SpellsLine (word ++ 32 ∷ text)) a.2 (h (word ++ 32 ∷ text) a.0 s.1 (ap (λ (z : List ℕ). word ++ 32 ∷ z) s.0))
 
-topic_sound : (word : List ℕ) (f : Topic → Event) → ((line : List ℕ) (t : Topic) → IsTopicInRange t → line ≡ spaced (word ∷ decimal t.0 ∷ []) → SpellsEvent line (f t)) → IsSound (reader word (λ text. asks f (topic_read text)))
-topic_sound word f h text said e =
-    let a = asked f (topic_read text) said e in
+topic_sound : (word : List ℕ) (f : Topic → Event) → ((line : List ℕ) (t : Topic) → IsTopicInRange t → line ≡ spaced_text (word ∷ decimal t.0 ∷ []) → SpellsEvent line (f t)) → IsSound (reader word (λ text. asks f (topic_read text)))
+topic_sound word f h text content e =
+    let a = asked f (topic_read text) content e in
     let s = topic_spelled text a.0 a.1 in
     subst (SpellsLine (word ++ 32 ∷ text)) a.2 (h (word ++ 32 ∷ text) a.0 s.1 (ap (λ (z : List ℕ). word ++ 32 ∷ z) s.0))
 
-pair_sound : (word : List ℕ) (f : ℕ × Topic → Event) → ((line : List ℕ) (p : ℕ × Topic) → (p.0 < 2 ^ 64) × IsTopicInRange p.1 → line ≡ spaced (word ∷ decimal p.0 ∷ decimal p.1.0 ∷ []) → SpellsEvent line (f p)) → IsSound (reader word (λ text. asks f (pair_read text)))
-pair_sound word f h text said e =
-    let a = asked f (pair_read text) said e in
+pair_sound : (word : List ℕ) (f : ℕ × Topic → Event) → ((line : List ℕ) (p : ℕ × Topic) → (p.0 < 2 ^ 64) × IsTopicInRange p.1 → line ≡ spaced_text (word ∷ decimal p.0 ∷ decimal p.1.0 ∷ []) → SpellsEvent line (f p)) → IsSound (reader word (λ text. asks f (pair_read text)))
+pair_sound word f h text content e =
+    let a = asked f (pair_read text) content e in
     let s = pair_spelled text a.0 a.1 in
     subst (SpellsLine (word ++ 32 ∷ text)) a.2 (h (word ++ 32 ∷ text) a.0 (s.0, s.1) (ap (λ (z : List ℕ). word ++ 32 ∷ z) s.2))
 
 learn_sound : IsSound (reader (codes "learn") (λ text. asks (λ p. event.Learn p.0 p.1) (learn_read text)))
-learn_sound text said e =
-    let a = asked (λ (p : Topic × TxnId). event.Learn p.0 p.1) (learn_read text) said e in
+learn_sound text content e =
+    let a = asked (λ (p : Topic × TxnId). event.Learn p.0 p.1) (learn_read text) content e in
     let s = learn_spelled text a.0 a.1 in
     subst (SpellsLine (codes "learn" ++ 32 ∷ text)) a.2 ([], tt, (s.0, s.1), ap (λ (z : List ℕ). codes "learn" ++ 32 ∷ z) s.2)
 
 piece_sound : IsSound (reader (codes "piece") (λ text. asks (λ p. event.Piece p.0 p.1) (piece_read text)))
-piece_sound text said e =
-    let a = asked (λ (p : ℕ × List ℕ). event.Piece p.0 p.1) (piece_read text) said e in
+piece_sound text content e =
+    let a = asked (λ (p : ℕ × List ℕ). event.Piece p.0 p.1) (piece_read text) content e in
     let s = piece_spelled text a.0 a.1 in
     subst (SpellsLine (codes "piece" ++ 32 ∷ text)) a.2 (s.0, (s.2, s.3), s.1, ap (λ (z : List ℕ). codes "piece" ++ 32 ∷ z) s.4)
 
 capacity_sound : IsSound (reader (codes "capacity") (λ text. spelled_number text >>= λ n. Some (NamesCapacity n)))
-capacity_sound text said e =
-    let b = bound (spelled_number text) (λ n. Some (NamesCapacity n)) said e in
+capacity_sound text content e =
+    let b = bound (spelled_number text) (λ n. Some (NamesCapacity n)) content e in
     let s = number_spelled text b.0 b.1 in
-    subst (SpellsLine (codes "capacity" ++ 32 ∷ text)) (some_is (NamesCapacity b.0) said b.2) (s.1, ap (λ (z : List ℕ). codes "capacity" ++ 32 ∷ z) s.0)
+    subst (SpellsLine (codes "capacity" ++ 32 ∷ text)) (some_is (NamesCapacity b.0) content b.2) (s.1, ap (λ (z : List ℕ). codes "capacity" ++ 32 ∷ z) s.0)
 
 name_sound : IsSound (reader (codes "topic") (λ text. name_read text >>= λ p. Some (NamesTopic p.0 p.1)))
-name_sound text said e =
-    let b = bound (name_read text) (λ p. Some (NamesTopic p.0 p.1)) said e in
+name_sound text content e =
+    let b = bound (name_read text) (λ p. Some (NamesTopic p.0 p.1)) content e in
     let s = name_spelled text b.0 b.1 in
-    subst (SpellsLine (codes "topic" ++ 32 ∷ text)) (some_is (NamesTopic b.0.0 b.0.1) said b.2) (s.0, s.1, ap (λ (z : List ℕ). codes "topic" ++ 32 ∷ z) s.2)
+    subst (SpellsLine (codes "topic" ++ 32 ∷ text)) (some_is (NamesTopic b.0.0 b.0.1) content b.2) (s.0, s.1, ap (λ (z : List ℕ). codes "topic" ++ 32 ∷ z) s.2)
 
 sound : AllByRecursion IsSound readers
 sound = (
@@ -237,37 +237,37 @@ sound = (
 same_text : (a b : List ℕ) → bytes_eq a b ≡ true → a ≡ b
 same_text a b e = (bytes_eq-Decides a b).0 e
 
-by_spelled : (rs : List Reader) → AllByRecursion IsSound rs → (word text : List ℕ) (said : ScriptLine) → read_by rs word text ≡ Some said → SpellsLine (word ++ 32 ∷ text) said
-by_spelled [] all word text said e = absurd cc
-by_spelled (r ∷ rs) all word text said e = go (bytes_eq word r.word) refl e (by_spelled rs all.1 word text said)
+by_spelled : (rs : List Reader) → AllByRecursion IsSound rs → (word text : List ℕ) (content : ScriptLine) → read_by rs word text ≡ Some content → SpellsLine (word ++ 32 ∷ text) content
+by_spelled [] all word text content e = absurd cc
+by_spelled (r ∷ rs) all word text content e = go (bytes_eq word r.word) refl e (by_spelled rs all.1 word text content)
   where
-    go : (b : Bool) → bytes_eq word r.word ≡ b → cond b (r.reads text) (read_by rs word text) ≡ Some said → (read_by rs word text ≡ Some said → SpellsLine (word ++ 32 ∷ text) said) → SpellsLine (word ++ 32 ∷ text) said
-    go true same k later = subst (λ (z : List ℕ). SpellsLine (z ++ 32 ∷ text) said) (sym (same_text word r.word same)) (all.0 text said k)
+    go : (b : Bool) → bytes_eq word r.word ≡ b → cond b (r.reads text) (read_by rs word text) ≡ Some content → (read_by rs word text ≡ Some content → SpellsLine (word ++ 32 ∷ text) content) → SpellsLine (word ++ 32 ∷ text) content
+    go true same k later = subst (λ (z : List ℕ). SpellsLine (z ++ 32 ∷ text) content) (sym (same_text word r.word same)) (all.0 text content k)
     go false other k later = later k
 
-worded_spelled : (line : List ℕ) (said : ScriptLine) → worded line ≡ Some said → SpellsLine line said
-unfolding worded
-worded_spelled line said e = go (cut 32 line) refl e
+words_spelled : (line : List ℕ) (content : ScriptLine) → words_read line ≡ Some content → SpellsLine line content
+unfolding words_read
+words_spelled line content e = go (cut 32 line) refl e
   where
-    go : (o : Option (List ℕ × List ℕ)) → cut 32 line ≡ o → option_map_or (λ p. read_by readers p.0 p.1) o (cond (bytes_eq line (codes "open")) (Some (Asks event.Open)) None) ≡ Some said → SpellsLine line said
-    go (Some p) c k = subst (λ (z : List ℕ). SpellsLine z said) (sym (cut_splits 32 line p c).0) (by_spelled readers sound p.0 p.1 said k)
+    go : (o : Option (List ℕ × List ℕ)) → cut 32 line ≡ o → option_map_or (λ p. read_by readers p.0 p.1) o (cond (bytes_eq line (codes "open")) (Some (Asks event.Open)) None) ≡ Some content → SpellsLine line content
+    go (Some p) c k = subst (λ (z : List ℕ). SpellsLine z content) (sym (cut_splits 32 line p c).0) (by_spelled readers sound p.0 p.1 content k)
     go None c k =
-        let p = passed (bytes_eq line (codes "open")) (Some (Asks event.Open)) said k in
-        subst (SpellsLine line) (some_is (Asks event.Open) said p.1) ([], tt, tt, same_text line (codes "open") p.0)
+        let p = passed (bytes_eq line (codes "open")) (Some (Asks event.Open)) content k in
+        subst (SpellsLine line) (some_is (Asks event.Open) content p.1) ([], tt, tt, same_text line (codes "open") p.0)
 
 -- what is read of a line is what it says
-pub line_spelled : (line : List ℕ) (said : ScriptLine) → line_read line ≡ Some said → SpellsLine line said
+pub line_spelled : (line : List ℕ) (content : ScriptLine) → line_read line ≡ Some content → SpellsLine line content
 unfolding line_read
-line_spelled [] said e = subst (SpellsLine []) (some_is SaysNothing said e) tt
-line_spelled (b ∷ line) said e = elim (cases_eq b 35) [
-  | inl same ↦ subst (SpellsLine (b ∷ line)) (some_is SaysNothing said (sym (rw (eq-eqb b 35 same) refl) ∙ e)) same
-  | inr other ↦ worded_spelled (b ∷ line) said (sym (rw (ne_eqb b 35 other) refl) ∙ e)
+line_spelled [] content e = subst (SpellsLine []) (some_is SaysNothing content e) tt
+line_spelled (b ∷ line) content e = elim (cases_eq b 35) [
+  | inl same ↦ subst (SpellsLine (b ∷ line)) (some_is SaysNothing content (sym (rw (eq-eqb b 35 same) refl) ∙ e)) same
+  | inr other ↦ words_spelled (b ∷ line) content (sym (rw (ne_eqb b 35 other) refl) ∙ e)
 ]
 
 -- ---- what a line says is read
 
 event_read : (line : List ℕ) (e : Event) → SpellsEvent line e → line_read line ≡ Some (Asks e)
-unfolding line_read worded
+unfolding line_read words_read
 event_read line event.Open (text, of, range, is) = rw is refl
 event_read line (event.Piece c octets) (text, of, range, is) = rw (is, piece_again c text octets range of.0 of.1) refl
 event_read line (event.Next c) (text, of, range, is) = rw (is, number_again c range) refl
@@ -288,15 +288,15 @@ skipped_read [] s = refl
 skipped_read (b ∷ line) s = rw (eq-eqb b 35 s) refl
 
 capacity_read : (line : List ℕ) (n : ℕ) → SpellsLine line (NamesCapacity n) → line_read line ≡ Some (NamesCapacity n)
-unfolding line_read worded
+unfolding line_read words_read
 capacity_read line n s = rw (s.1, number_again n s.0) refl
 
 topic_line_read : (line name : List ℕ) (clock : ℕ) → SpellsLine line (NamesTopic name clock) → line_read line ≡ Some (NamesTopic name clock)
-unfolding line_read worded
+unfolding line_read words_read
 topic_line_read line name clock s = rw (s.2, name_again name clock s.0 s.1) refl
 
 -- what a line says is read of it
-pub line_again : (line : List ℕ) (said : ScriptLine) → SpellsLine line said → line_read line ≡ Some said
+pub line_again : (line : List ℕ) (content : ScriptLine) → SpellsLine line content → line_read line ≡ Some content
 line_again line SaysNothing s = skipped_read line s
 line_again line (NamesCapacity n) s = capacity_read line n s
 line_again line (NamesTopic name clock) s = topic_line_read line name clock s
@@ -307,7 +307,7 @@ some_name [] e none = cc
 some_name (b ∷ name) e none = cc
 
 -- a topic's name that is read isn't empty
-pub has_name : (line : List ℕ) (said : ScriptLine) → line_read line ≡ Some said → HasName said
+pub has_name : (line : List ℕ) (content : ScriptLine) → line_read line ≡ Some content → HasName content
 has_name line SaysNothing e = tt
 has_name line (NamesCapacity n) e = tt
 has_name line (NamesTopic name clock) e = let s = line_spelled line (NamesTopic name clock) e in some_name name s.0

@@ -16,8 +16,8 @@ use Rattle.delivery.specs.declared.event.Event.{Event}
 use Rattle.delivery.specs.declared.event.Event.TheVariants as event
 use Rattle.broker_server.specs.Script.{event_line, IsEventInRange, IsTextOf, SpellsEvent, Asks, ScriptData, no_script, with_line, AddsScript, IsScript}
 use Rattle.broker_server.specs.ScriptPrinting.{text_of_event, event_text, IsSpellable, PrintedIsScript}
-use Rattle.broker_server.specs.ShownText.{short_letter, is_printable, hex_escape, shown_octet, shown_text}
-use Rattle.broker_server.proofs.ScriptTexts.{shown_spells}
+use Rattle.broker_server.specs.EscapedText.{short_letter, is_printable, hex_escape, octet_in_text, escaped_text}
+use Rattle.broker_server.proofs.ScriptTexts.{escaped_spells}
 
 -- ---- no line has a LF
 
@@ -30,8 +30,8 @@ letter_is_none b c e same = grind (arith, nat_tests)
 printable_is_none : (b : ℕ) → is_printable b ≡ true → b ≢ 10
 printable_is_none b e same = grind (arith, nat_tests)
 
-shown_one : (b : ℕ) → Without 10 (shown_octet b)
-shown_one b = go (short_letter b) refl
+octet_without : (b : ℕ) → Without 10 (octet_in_text b)
+octet_without b = go (short_letter b) refl
   where
     other : (x : Bool) → is_printable b ≡ x → Without 10 (cond x (b ∷ []) (hex_escape b))
     other true e = (printable_is_none b e, tt)
@@ -41,9 +41,9 @@ shown_one b = go (short_letter b) refl
     go (Some letter) e = ((λ h. absurd (omega arith)), (letter_is_none b letter e, tt))
     go None e = other (is_printable b) refl
 
-shown_without : (octets : List ℕ) → Without 10 (shown_text octets)
-shown_without [] = tt
-shown_without (b ∷ octets) = Without-append 10 (shown_octet b) (shown_text octets) (shown_one b) (shown_without octets)
+escaped_without : (octets : List ℕ) → Without 10 (escaped_text octets)
+escaped_without [] = tt
+escaped_without (b ∷ octets) = Without-append 10 (octet_in_text b) (escaped_text octets) (octet_without b) (escaped_without octets)
 
 number_10 : (n : ℕ) → n < 2 ^ 64 → Without 10 (decimal n)
 number_10 n lt = number_without 10 n (omega arith) lt
@@ -63,7 +63,7 @@ word_10 (b ∷ word) e =
 
 line_without : (e : Event) → IsSpellable e → Without 10 (event_line e (text_of_event e))
 line_without event.Open p = word_10 (codes "open") refl
-line_without (event.Piece c octets) p = two_10 (codes "piece") _ (word_10 (codes "piece") refl) (two_10 (decimal c) (shown_text octets) (number_10 c p.0) (shown_without octets))
+line_without (event.Piece c octets) p = two_10 (codes "piece") _ (word_10 (codes "piece") refl) (two_10 (decimal c) (escaped_text octets) (number_10 c p.0) (escaped_without octets))
 line_without (event.Next c) p = two_10 (codes "next") _ (word_10 (codes "next") refl) (number_10 c p)
 line_without (event.Propose c t) p = two_10 (codes "propose") _ (word_10 (codes "propose") refl) (two_10 (decimal c) _ (number_10 c p.0) (topic_10 t p.1))
 line_without (event.Decide c) p = two_10 (codes "decide") _ (word_10 (codes "decide") refl) (number_10 c p)
@@ -78,7 +78,7 @@ line_without (event.Lost c) p = two_10 (codes "lost") _ (word_10 (codes "lost") 
 
 -- ---- each line spells its event
 
-some_octet : (b : ℕ) (rest : List ℕ) → shown_octet b ++ rest ≢ []
+some_octet : (b : ℕ) (rest : List ℕ) → octet_in_text b ++ rest ≢ []
 some_octet b rest = go (short_letter b)
   where
     other : (x : Bool) → cond x (b ∷ []) (hex_escape b) ++ rest ≢ []
@@ -89,13 +89,13 @@ some_octet b rest = go (short_letter b)
     go (Some letter) h = cc
     go None h = other (is_printable b) h
 
-some_text : (octets : List ℕ) → octets ≢ [] → shown_text octets ≢ []
+some_text : (octets : List ℕ) → octets ≢ [] → escaped_text octets ≢ []
 some_text [] some h = some refl
-some_text (b ∷ octets) some h = some_octet b (shown_text octets) h
+some_text (b ∷ octets) some h = some_octet b (escaped_text octets) h
 
 line_spells : (e : Event) → IsSpellable e → SpellsEvent (event_line e (text_of_event e)) e
 line_spells event.Open p = ([], tt, p, refl)
-line_spells (event.Piece c octets) p = (shown_text octets, (some_text octets p.1, shown_spells octets p.2), p.0, refl)
+line_spells (event.Piece c octets) p = (escaped_text octets, (some_text octets p.1, escaped_spells octets p.2), p.0, refl)
 line_spells (event.Next c) p = ([], tt, p, refl)
 line_spells (event.Propose c t) p = ([], tt, p, refl)
 line_spells (event.Decide c) p = ([], tt, p, refl)

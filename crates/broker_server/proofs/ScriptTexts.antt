@@ -12,7 +12,7 @@ use Rattle.trace_audit.proofs.Spelling.{bound}
 use Rattle.std.specs.Fmt.{digit_glyph}
 use Rattle.std.specs.List.{AllByRecursion, flat_map}
 use Rattle.std.specs.Option.{option_map_or}
-use Rattle.broker_server.specs.ShownText.{short_letter, is_printable, hex_escape, shown_octet, shown_text}
+use Rattle.broker_server.specs.EscapedText.{short_letter, is_printable, hex_escape, octet_in_text, escaped_text}
 use Rattle.broker_server.specs.ScriptText.{SpellsOctet, SpellsText}
 use Rattle.broker_server.specs.Inner.ScriptReading.{short_octet, hex_value, hex_read, escape_read, At, Between, Escaped, AtHigh, AtLow, text_from, text_read}
 
@@ -226,10 +226,10 @@ unfolding text_read
 read_again [] v some s = absurd (some refl)
 read_again (b ∷ text) v some s = spelled_read v (b ∷ text) s
 
--- ---- what is shown
+-- ---- the TEXT that is written
 
-shown_one : (b : ℕ) → b < 256 → SpellsOctet (shown_octet b) b
-shown_one b lt = go (short_letter b) refl
+octet_spells : (b : ℕ) → b < 256 → SpellsOctet (octet_in_text b) b
+octet_spells b lt = go (short_letter b) refl
   where
     other : short_letter b ≡ None → (x : Bool) → SpellsOctet (cond x (b ∷ []) (hex_escape b)) b
     other none true = inl ((λ (same : b ≡ 92). let k = ap short_letter same in grind (arith, nat_tests)), refl)
@@ -239,7 +239,7 @@ shown_one b lt = go (short_letter b) refl
     go (Some letter) e = inr (inl (letter, e, refl))
     go None e = other e (is_printable b)
 
--- what is shown of octets spells them
-pub shown_spells : (octets : List ℕ) → AllByRecursion (λ b. b < 256) octets → SpellsText (shown_text octets) octets
-shown_spells [] all = refl
-shown_spells (b ∷ octets) all = (shown_octet b, shown_text octets, refl, shown_one b all.0, shown_spells octets all.1)
+-- the TEXT that is written of octets spells them
+pub escaped_spells : (octets : List ℕ) → AllByRecursion (λ b. b < 256) octets → SpellsText (escaped_text octets) octets
+escaped_spells [] all = refl
+escaped_spells (b ∷ octets) all = (octet_in_text b, escaped_text octets, refl, octet_spells b all.0, escaped_spells octets all.1)

@@ -25,13 +25,13 @@ use Rattle.broker_server.proofs.Scripts.{script_or_bad}
 use Rattle.broker_server.proofs.NoRows.{no_rows}
 use Rattle.broker_server.proofs.SomeRun.{some_run}
 use Rattle.trace_audit.specs.Parsing.{lines_of}
-use Rattle.trace_audit.specs.Trace.{Lines, no_lines}
+use Rattle.trace_audit.specs.Trace.{TraceData, no_trace_data}
 
 -- a script has as many clocks as names
 abbrev AreAsMany : ScriptData → Type 0
 AreAsMany script = length script.topics.clocks ≡ length script.topics.names
 
-one_more : (said : ScriptLine) (script : ScriptData) → AreAsMany script → AreAsMany (with_line said script)
+one_more : (content : ScriptLine) (script : ScriptData) → AreAsMany script → AreAsMany (with_line content script)
 one_more ScriptLine.SaysNothing script e = e
 one_more (ScriptLine.NamesCapacity n) script e = e
 one_more (ScriptLine.NamesTopic name clock) script e =
@@ -101,15 +101,15 @@ some_traced_run text script is =
     let r = some_net text script is in
     let k = core_of_net r.net in
     let d = delivers r.net.topics r.net.capacity (steps_of_net r.net) r.delivered.is_run in
-    let none : trace_of (report_of k) ≡ no_lines = no_rows (account_of r.net.topics.names (steps_of_net r.net)) (report_of k) d r.no_commits r.no_subscriptions in (
+    let none : trace_of (report_of k) ≡ no_trace_data = no_rows (account_of r.net.topics.names (steps_of_net r.net)) (report_of k) d r.no_commits r.no_subscriptions in (
       [],
       record {
         script = script;
         spelled = is;
         net = r.net;
         run = r.run;
-        trace = no_lines;
-        traced = subst (λ (z : Lines). IsTraced r.net z) none (traced r.net r.as_many r.delivered);
+        trace = no_trace_data;
+        traced = subst (λ (z : TraceData). IsTraced r.net z) none (traced r.net r.as_many r.delivered);
         in_range = tt;
         rows = [];
         printed = record { ordered = tt; same = λ key. refl };

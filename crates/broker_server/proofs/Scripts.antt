@@ -3,119 +3,92 @@ use Rattle.std.proofs.Common.{◌≡◌, ℕ, ◌+◌, ◌⊎◌, Bool, true, fa
 use Rattle.std.specs.Prelude.{IfOk, IfErr}
 use Rattle.std.proofs.lemmas.Bool.{cases_Bool}
 use Rattle.trace_audit.specs.Parsing.{lines_of}
+use Rattle.trace_audit.specs.Inner.InTurn.{AddsInTurn}
 use Rattle.trace_audit.specs.Inner.Reading.{◌>>=◌}
 use Rattle.trace_audit.proofs.Cuts.{some_is}
+use Rattle.trace_audit.proofs.InTurn.{in_turn, in_turn_again, first_refused, first_refused_again}
 use Rattle.trace_audit.proofs.Spelling.{bound, passed}
 use Rattle.broker_server.specs.Script.{ScriptLine, SpellsLine, ScriptData, no_script, is_in_place, with_line, AddsScript, IsScript, IsMisplaced, IsFirstBadLine, IsScriptFault, GivesScript}
-use Rattle.broker_server.specs.Inner.ScriptReading.{line_read, placed, script_added, script_from, ReadsScript}
+use Rattle.broker_server.specs.Inner.ScriptReading.{line_read, after_content, after_line, script_from, ReadsScript}
 use Rattle.broker_server.specs.declared.script.script_fault.ScriptFault.{ScriptFault}
 use Rattle.broker_server.specs.declared.script.script_fault.ScriptFault.TheVariants as fault
 use Rattle.broker_server.proofs.ScriptLines.{line_spelled, line_again}
 
 -- ---- one line more
 
-line_adds : (line : List ℕ) (old new : ScriptData) → script_added line old ≡ Some new
-    → (said : ScriptLine) × SpellsLine line said × (is_in_place said old ≡ true) × (with_line said old ≡ new)
-unfolding script_added
+line_adds : (line : List ℕ) (old new : ScriptData) → after_line line old ≡ Some new
+    → (content : ScriptLine) × SpellsLine line content × (is_in_place content old ≡ true) × (with_line content old ≡ new)
+unfolding after_line
 line_adds line old new e =
-    let b = bound (line_read line) (λ said. placed said old) new e in
+    let b = bound (line_read line) (λ content. after_content content old) new e in
     let p = passed (is_in_place b.0 old) (Some (with_line b.0 old)) new b.2 in
     (b.0, line_spelled line b.0 b.1, p.0, some_is (with_line b.0 old) new p.1)
 
-line_added : (line : List ℕ) (said : ScriptLine) (old : ScriptData) → SpellsLine line said → is_in_place said old ≡ true → script_added line old ≡ Some (with_line said old)
-unfolding script_added
-line_added line said old s fit = rw (line_again line said s, fit) refl
+line_added : (line : List ℕ) (content : ScriptLine) (old : ScriptData) → SpellsLine line content → is_in_place content old ≡ true → after_line line old ≡ Some (with_line content old)
+unfolding after_line
+line_added line content old s fit = rw (line_again line content s, fit) refl
 
-line_bad : (line : List ℕ) (old : ScriptData) → script_added line old ≡ None → IsMisplaced line old
-line_bad line old e = λ said s. elim (cases_Bool (is_in_place said old)) [
-  | inl fit ↦ absurd (let k = sym e ∙ line_added line said old s fit in cc)
+line_bad : (line : List ℕ) (old : ScriptData) → after_line line old ≡ None → IsMisplaced line old
+line_bad line old e = λ content s. elim (cases_Bool (is_in_place content old)) [
+  | inl fit ↦ absurd (let k = sym e ∙ line_added line content old s fit in cc)
   | inr misfit ↦ misfit
 ]
 
-bad_again : (line : List ℕ) (old : ScriptData) → IsMisplaced line old → script_added line old ≡ None
-bad_again line old bad = go (script_added line old) refl
+bad_again : (line : List ℕ) (old : ScriptData) → IsMisplaced line old → after_line line old ≡ None
+bad_again line old bad = go (after_line line old) refl
   where
-    go : (o : Option ScriptData) → script_added line old ≡ o → script_added line old ≡ None
+    go : (o : Option ScriptData) → after_line line old ≡ o → after_line line old ≡ None
     go None e = e
     go (Some new) e = let a = line_adds line old new e in absurd (let k = sym a.2 ∙ bad a.0 a.1 in true≢false k)
 
 -- ---- whole texts
 
+-- lines that are added in turn say what may stand there, and in order they lead to the same script
+lines_add : (lines : List (List ℕ)) (old new : ScriptData) → AddsInTurn after_line lines old new → AddsScript lines old new
+lines_add [] old new a = a
+lines_add (line ∷ lines) old new a =
+    let s = line_adds line old a.0 a.1 in
+    (s.0, s.1, s.2, subst (λ (z : ScriptData). AddsScript lines z new) (sym s.3) (lines_add lines a.0 new a.2))
+
+-- lines that say what may stand there are added in turn
+lines_again : (lines : List (List ℕ)) (old new : ScriptData) → AddsScript lines old new → AddsInTurn after_line lines old new
+lines_again [] old new a = a
+lines_again (line ∷ lines) old new a = (with_line a.0 old, line_added line a.0 old a.1 a.2, lines_again lines (with_line a.0 old) new a.3)
+
 reads_adds : (n : ℕ) (lines : List (List ℕ)) (old new : ScriptData) → script_from n lines old ≡ Ok new → AddsScript lines old new
-reads_adds n [] old new e = cc
-reads_adds n (line ∷ lines) old new e = go (script_added line old) refl (λ mid f. reads_adds (n + 1) lines mid new f)
-  where
-    go : (o : Option ScriptData) → script_added line old ≡ o → ((mid : ScriptData) → script_from (n + 1) lines mid ≡ Ok new → AddsScript lines mid new) → AddsScript (line ∷ lines) old new
-    go None k later = absurd (let f : Err n ≡ Ok new = sym (rw k refl) ∙ e in cc)
-    go (Some mid) k later =
-        let a = line_adds line old mid k in
-        (a.0, a.1, a.2, subst (λ (z : ScriptData). AddsScript lines z new) (sym a.3) (later mid (sym (rw k refl) ∙ e)))
+reads_adds n lines old new e = lines_add lines old new (in_turn after_line n lines old new e)
 
 adds_reads : (n : ℕ) (lines : List (List ℕ)) (old new : ScriptData) → AddsScript lines old new → script_from n lines old ≡ Ok new
-adds_reads n [] old new a = ap Ok (sym a)
-adds_reads n (line ∷ lines) old new a = rw (line_added line a.0 old a.1 a.2) (adds_reads (n + 1) lines (with_line a.0 old) new a.3)
+adds_reads n lines old new a = in_turn_again after_line n lines old new (lines_again lines old new a)
 
--- these lines are added, and the next one can't be
-record BadAfter (n : ℕ) (lines : List (List ℕ)) (old : ScriptData) (m : ℕ) : Type 0 where
-  front : List (List ℕ)
-  line : List ℕ
-  back : List (List ℕ)
-  script : ScriptData
-  cut : lines ≡ front ++ line ∷ back
-  number : m ≡ length front + n
-  added : AddsScript front old script
-  bad : IsMisplaced line script
-
-reads_bad : (n : ℕ) (lines : List (List ℕ)) (old : ScriptData) (m : ℕ) → script_from n lines old ≡ Err m → BadAfter n lines old m
-reads_bad n [] old m e = absurd cc
-reads_bad n (line ∷ lines) old m e = go (script_added line old) refl (λ mid f. reads_bad (n + 1) lines mid m f)
-  where
-    go : (o : Option ScriptData) → script_added line old ≡ o → ((mid : ScriptData) → script_from (n + 1) lines mid ≡ Err m → BadAfter (n + 1) lines mid m) → BadAfter n (line ∷ lines) old m
-    go None k later = record {
-      front = [];
-      line = line;
-      back = lines;
-      script = old;
-      cut = refl;
-      number = (let f : Err n ≡ Err m = sym (rw k refl) ∙ e in let g : m ≡ n = cc in g ∙ omega arith);
-      added = refl;
-      bad = line_bad line old k;
-    }
-    go (Some mid) k later =
-        let a = line_adds line old mid k in
-        let b = later mid (sym (rw k refl) ∙ e) in
-        record {
-          front = line ∷ b.front;
-          line = b.line;
-          back = b.back;
-          script = b.script;
-          cut = ap (λ (z : List (List ℕ)). line ∷ z) b.cut;
-          number = (let f = b.number in omega arith);
-          added = (a.0, a.1, a.2, subst (λ (z : ScriptData). AddsScript b.front z b.script) (sym a.3) b.added);
-          bad = b.bad;
-        }
-
-bad_reads : (n : ℕ) (front : List (List ℕ)) (line : List ℕ) (back : List (List ℕ)) (old script : ScriptData) → AddsScript front old script → IsMisplaced line script
-    → script_from n (front ++ line ∷ back) old ≡ Err (length front + n)
-bad_reads n [] line back old script a bad =
-    let e : script_added line old ≡ None = bad_again line old (subst (IsMisplaced line) a bad) in
-    let z : n ≡ 0 + n = omega arith in
-    rw e (ap Err z)
-bad_reads n (next ∷ front) line back old script a bad =
-    let r = bad_reads (n + 1) front line back (with_line a.0 old) script a.3 bad in
-    let m : length front + (n + 1) ≡ length (next ∷ front) + n = omega arith in
-    rw (line_added next a.0 old a.1 a.2) (r ∙ ap Err m)
-
+-- where reading fails with a number, it is that of the first line that can't be added
 first_bad : (text : List ℕ) (m : ℕ) → script_from 1 (lines_of text) no_script ≡ Err m → IsFirstBadLine text m
 first_bad text m e =
-    let b = reads_bad 1 (lines_of text) no_script m e in
-    record { front = b.front; line = b.line; back = b.back; script = b.script; cut = b.cut; number = b.number; added = b.added; bad = b.bad }
+    let b = first_refused after_line 1 (lines_of text) no_script m e in
+    record {
+      front = b.front;
+      line = b.line;
+      back = b.back;
+      script = b.state;
+      cut = b.cut;
+      number = b.number;
+      added = lines_add b.front no_script b.state b.added;
+      bad = line_bad b.line b.state b.refused;
+    }
 
 -- where a line is the first that can't be added, reading fails with its number
 bad_first : (text : List ℕ) (m : ℕ) → IsFirstBadLine text m → script_from 1 (lines_of text) no_script ≡ Err m
 bad_first text m b =
-    ap (λ (z : List (List ℕ)). script_from 1 z no_script) b.cut ∙ bad_reads 1 b.front b.line b.back no_script b.script b.added b.bad
-    ∙ ap Err (sym b.number)
+    first_refused_again after_line 1 (lines_of text) no_script m (record {
+      front = b.front;
+      line = b.line;
+      back = b.back;
+      state = b.script;
+      cut = b.cut;
+      number = b.number;
+      added = lines_again b.front no_script b.script b.added;
+      refused = bad_again b.line b.script b.bad;
+    })
 
 -- ---- what the reader returned
 

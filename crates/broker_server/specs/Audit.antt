@@ -7,12 +7,12 @@ use Rattle.trace_audit.specs.Answers.{IsRefusal}
 use Rattle.trace_audit.specs.AuditText.{agreed_text, refusal_text, bad_text}
 use Rattle.trace_audit.specs.Explained.{IsExplainedBy, IsCompleteBy}
 use Rattle.trace_audit.specs.Parsing.{lines_of, AddsLines, IsFirstBad}
-use Rattle.trace_audit.specs.Trace.{Lines, no_lines}
+use Rattle.trace_audit.specs.Trace.{TraceData, no_trace_data}
 use Rattle.broker_server.specs.Input.{input_limit, too_long}
 
 -- A yes: this list explains the trace. It is written, and whether each transaction of it is in the log of
 -- each of its topics.
-pub record IsYes (trace : Lines) (output : List ℕ) (status : ℕ) : Type 0 where
+pub record IsYes (trace : TraceData) (output : List ℕ) (status : ℕ) : Type 0 where
   pub rows : List LogRow
   pub complete : Bool
   pub explained : IsExplainedBy rows trace
@@ -21,7 +21,7 @@ pub record IsYes (trace : Lines) (output : List ℕ) (status : ℕ) : Type 0 whe
   pub status_is : status ≡ 0
 
 -- A no: no list explains the trace. The first fault that speaks against it is written.
-pub record IsNo (trace : Lines) (output : List ℕ) (status : ℕ) : Type 0 where
+pub record IsNo (trace : TraceData) (output : List ℕ) (status : ℕ) : Type 0 where
   pub fault : AuditFault
   pub refused : IsRefusal fault trace
   pub written : output ≡ refusal_text fault
@@ -31,7 +31,7 @@ pub record IsNo (trace : Lines) (output : List ℕ) (status : ℕ) : Type 0 wher
 -- the first line that spells no row or one that doesn't fit.
 abbrev pub IsJudged : List ℕ → List ℕ → ℕ → Type 0
 IsJudged input output status =
-    ((trace : Lines) × AddsLines (lines_of input) no_lines trace
+    ((trace : TraceData) × AddsLines (lines_of input) no_trace_data trace
     × (IsYes trace output status ⊎ IsNo trace output status))
     ⊎ ((line : ℕ) × IsFirstBad (lines_of input) line
     × (output ≡ bad_text (BadRow line)) × (status ≡ 2))

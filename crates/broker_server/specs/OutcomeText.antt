@@ -2,7 +2,7 @@
 use Rattle.std.specs.Prelude.{◌≡◌, ℕ, ◌<◌, ◌^◌, false, List, [], ◌∷◌, codes, decimal}
 use Rattle.mcast_group.specs.Faults.{propose_title}
 use Rattle.stomp_session.specs.declared.fault.SessionFault.TheVariants as session
-use Rattle.trace_audit.specs.Text.{spaced, id_text, stamp_text, IsIdInRange, IsStampInRange}
+use Rattle.trace_audit.specs.Text.{spaced_text, id_text, stamp_text, IsIdInRange, IsStampInRange}
 use Rattle.delivery.specs.Faults.{connection_title, refusal_title}
 use Rattle.delivery.specs.declared.connection_fault.ConnectionFault.{ConnectionFault}
 use Rattle.delivery.specs.declared.connection_fault.ConnectionFault.TheVariants as connection
@@ -13,27 +13,27 @@ use Rattle.delivery.specs.declared.outcome.Outcome.TheVariants as outcome
 -- after stamp 2 of topic 1 is `sub 3 from 2.1`, and a refusal `refused 86 NothingDue`. Whether the reply was
 -- left out doesn't show.
 abbrev pub outcome_text : Outcome → List ℕ
-outcome_text (outcome.Opened c) = spaced (codes "conn" ∷ decimal c ∷ [])
+outcome_text (outcome.Opened c) = spaced_text (codes "conn" ∷ decimal c ∷ [])
 outcome_text outcome.Fed = codes "fed"
 outcome_text outcome.Done = codes "done"
 outcome_text (outcome.Subscribed s from) =
-    spaced (codes "sub" ∷ decimal s ∷ codes "from" ∷ stamp_text from ∷ [])
+    spaced_text (codes "sub" ∷ decimal s ∷ codes "from" ∷ stamp_text from ∷ [])
 outcome_text (outcome.Unsubscribed s to) =
-    spaced (codes "unsub" ∷ decimal s ∷ codes "to" ∷ stamp_text to ∷ [])
-outcome_text (outcome.Flying id) = spaced (codes "flight" ∷ id_text id ∷ [])
-outcome_text (outcome.Proposed n) = spaced (codes "ticket" ∷ decimal n ∷ [])
-outcome_text (outcome.Failed why) = spaced (codes "failed" ∷ propose_title why ∷ [])
-outcome_text (outcome.Decided stamp cut) = spaced (codes "stamp" ∷ stamp_text stamp ∷ [])
+    spaced_text (codes "unsub" ∷ decimal s ∷ codes "to" ∷ stamp_text to ∷ [])
+outcome_text (outcome.Flying id) = spaced_text (codes "flight" ∷ id_text id ∷ [])
+outcome_text (outcome.Proposed n) = spaced_text (codes "ticket" ∷ decimal n ∷ [])
+outcome_text (outcome.Failed why) = spaced_text (codes "failed" ∷ propose_title why ∷ [])
+outcome_text (outcome.Decided stamp cut) = spaced_text (codes "stamp" ∷ stamp_text stamp ∷ [])
 outcome_text (outcome.Withdrawn cut) = codes "withdrawn"
 outcome_text outcome.Cancelled = codes "cancelled"
 outcome_text outcome.Learnt = codes "learnt"
-outcome_text (outcome.Released id) = spaced (codes "released" ∷ id_text id ∷ [])
-outcome_text (outcome.Turned count) = spaced (codes "turned" ∷ decimal count ∷ [])
-outcome_text (outcome.Handed count) = spaced (codes "handed" ∷ decimal count ∷ [])
-outcome_text (outcome.Faulted why cut) = spaced (codes "error" ∷ connection_title why ∷ [])
+outcome_text (outcome.Released id) = spaced_text (codes "released" ∷ id_text id ∷ [])
+outcome_text (outcome.Turned count) = spaced_text (codes "turned" ∷ decimal count ∷ [])
+outcome_text (outcome.Handed count) = spaced_text (codes "handed" ∷ decimal count ∷ [])
+outcome_text (outcome.Faulted why cut) = spaced_text (codes "error" ∷ connection_title why ∷ [])
 outcome_text outcome.Leaving = codes "leaving"
 outcome_text (outcome.Gone cut) = codes "gone"
-outcome_text (outcome.Refused why) = spaced (codes "refused" ∷ refusal_title why ∷ [])
+outcome_text (outcome.Refused why) = spaced_text (codes "refused" ∷ refusal_title why ∷ [])
 outcome_text outcome.NoMemory = codes "no memory"
 
 -- ---- what a line shows

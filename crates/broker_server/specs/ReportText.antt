@@ -2,14 +2,14 @@
 use Rattle.std.specs.Prelude.{ℕ, List, [], ◌∷◌, ◌++◌, codes, decimal}
 use Rattle.std.specs.List.{flat_map, enumerate_from}
 use Rattle.mcast_txn.specs.Span.{LogRow, Item}
-use Rattle.trace_audit.specs.Text.{spaced, id_text, stamp_text, topics_text, row_text}
+use Rattle.trace_audit.specs.Text.{spaced_text, id_text, stamp_text, topics_text, row_text}
 use Rattle.trace_audit.specs.declared.row.TraceRow.TheVariants as row
 use Rattle.delivery.specs.Core.Reports.{Report, QueueReport}
-use Rattle.broker_server.specs.ShownText.{shown_text}
+use Rattle.broker_server.specs.EscapedText.{escaped_text}
 
 -- a line of these fields
 abbrev pub line_of : List (List ℕ) → List ℕ
-line_of fields = spaced fields ++ 10 ∷ []
+line_of fields = spaced_text fields ++ 10 ∷ []
 
 -- a decided transaction, as `commit 0 1 2.1 0,1`
 abbrev pub commit_line : LogRow → List ℕ
@@ -41,10 +41,10 @@ abbrev pub subscription_lines : ℕ × QueueReport → List ℕ
 subscription_lines (s, q) =
     span_line s q ++ flat_map (queue_line s) q.queued ++ flat_map (handed_line s) q.handed
 
--- what comes after a connection's number: a space and the shown octets, or nothing where there are none
+-- what comes after a connection's number: a space and the octets' TEXT, or nothing where there are none
 abbrev pub out_rest : List ℕ → List ℕ
 out_rest [] = []
-out_rest (b ∷ octets) = 32 ∷ shown_text (b ∷ octets)
+out_rest (b ∷ octets) = 32 ∷ escaped_text (b ∷ octets)
 
 -- the octets out of a connection, with its number: `out 0`, or `out 0 RECEIPT\nreceipt-id:r\n\n\0`
 abbrev pub out_line : ℕ × List ℕ → List ℕ

@@ -17,23 +17,6 @@ abbrev pub Writes : (List ℕ → List ℕ → ℕ → Type 0) → Option (List 
 Writes IsWritten unread old new answer = IfOk answer (λ status. IfSome unread (λ input.
     (output : List ℕ) × Appends old new output × IsWritten input output status))
 
--- It has then written the relay of all of them to the topic of this name.
-abbrev pub Relays : List ℕ → Option (List ℕ) → Option (List ℕ) → Option (List ℕ) → Result ℕ ProgramFault
-    → Type 0
-Relays name unread old new answer = Writes (IsRelayed name) unread old new answer
-
--- It has then written the audit of all of them.
-abbrev pub Audits : Option (List ℕ) → Option (List ℕ) → Option (List ℕ) → Result ℕ ProgramFault → Type 0
-Audits unread old new answer = Writes IsAudited unread old new answer
-
--- It has then written the outcomes and the report of the script that they are.
-abbrev pub Scripts : Option (List ℕ) → Option (List ℕ) → Option (List ℕ) → Result ℕ ProgramFault → Type 0
-Scripts unread old new answer = Writes IsScripted unread old new answer
-
--- It has then written the trace of the script that they are.
-abbrev pub ScriptTraces : Option (List ℕ) → Option (List ℕ) → Option (List ℕ) → Result ℕ ProgramFault → Type 0
-ScriptTraces unread old new answer = Writes IsScriptTraced unread old new answer
-
 -- what a program writes of an input, and its status
 abbrev pub IsWrittenBy : Asked → List ℕ → List ℕ → ℕ → Type 0
 IsWrittenBy (ToRelay name) = IsRelayed name
@@ -50,15 +33,20 @@ HasCause remaining reader read writer wrote =
     ⊎ ((wrote ≡ writer)
     × (Fails reader read ⊎ RunsOut reader read (remaining reader.inner) (remaining read.inner)))
 
--- A run of the program that finds its reader and writer as `reader` and `writer`, leaves them as `read` and
--- `wrote`, and returns this answer. `remaining` is what a reader has left, `contents` what a writer took.
-pub record IsRun {R W : Type 0} (remaining : R → Option (List ℕ)) (contents : W → Option (List ℕ))
-    (asked : Asked) (reader read : Counting R) (writer wrote : Counting W)
-    (answer : Result ℕ ProgramFault) : Type 0 where
-  pub written : Writes (IsWrittenBy asked) (remaining reader.inner) (contents writer.inner)
-      (contents wrote.inner) answer
+-- A run of a program, which is known by what it writes of an input and by its status: `IsWritten`, as
+-- `IsAudited` is the audit's. It finds its reader and writer as `reader` and `writer`, leaves them as `read`
+-- and `wrote`, and returns this answer. `remaining` is what a reader has left, `contents` what a writer took.
+-- So an audit that meets the end at once writes `complete`, and one whose first read fails writes nothing
+-- (proofs/RunExamples.antt, `nothing_is_audited`, `a_read_failed`).
+pub record IsRun {R W : Type 0} (IsWritten : List ℕ → List ℕ → ℕ → Type 0)
+    (remaining : R → Option (List ℕ)) (contents : W → Option (List ℕ))
+    (reader read : Counting R) (writer wrote : Counting W) (answer : Result ℕ ProgramFault) : Type 0 where
+  -- with a status it has written what is to be written of all that the reader had
+  pub written : Writes IsWritten (remaining reader.inner) (contents writer.inner) (contents wrote.inner)
+      answer
   -- after a status the last call of the writer was a flush that succeeded
   pub flushed : OnOk answer (IsTrue wrote.flushed)
+  -- a fault of input or output has a cause that was counted
   pub io : IsErrOf answer Io → HasCause remaining reader read writer wrote
   -- how often the reader is called at most
   pub reads : read.calls ≤ plus reader.calls max_reads

@@ -4,7 +4,7 @@ use Rattle.std.specs.Option.{option_map_or}
 use Rattle.mcast_txn.specs.declared.id.Topic.{Topic}
 use Rattle.stomp_session.specs.Names.{is_known}
 use Rattle.trace_audit.specs.Parsing.{lines_of}
-use Rattle.trace_audit.specs.Text.{spaced, id_text, IsTopicInRange, IsIdInRange}
+use Rattle.trace_audit.specs.Text.{spaced_text, id_text, IsTopicInRange, IsIdInRange}
 use Rattle.delivery.specs.Topics.{TopicList, no_topics, max_topics}
 use Rattle.delivery.specs.declared.event.Event.{Event}
 use Rattle.delivery.specs.declared.event.Event.TheVariants as event
@@ -19,18 +19,18 @@ use Rattle.broker_server.specs.declared.script.script_fault.ScriptFault.TheVaria
 -- at topic 1 is `learn 1 0 2`.
 abbrev pub event_line : Event → List ℕ → List ℕ
 event_line event.Open text = codes "open"
-event_line (event.Piece c octets) text = spaced (codes "piece" ∷ decimal c ∷ text ∷ [])
-event_line (event.Next c) text = spaced (codes "next" ∷ decimal c ∷ [])
-event_line (event.Propose c t) text = spaced (codes "propose" ∷ decimal c ∷ decimal t.0 ∷ [])
-event_line (event.Decide c) text = spaced (codes "decide" ∷ decimal c ∷ [])
-event_line (event.Withdraw c) text = spaced (codes "withdraw" ∷ decimal c ∷ [])
-event_line (event.Cancel c t) text = spaced (codes "cancel" ∷ decimal c ∷ decimal t.0 ∷ [])
-event_line (event.Learn t id) text = spaced (codes "learn" ∷ decimal t.0 ∷ id_text id ∷ [])
-event_line (event.Release t) text = spaced (codes "release" ∷ decimal t.0 ∷ [])
-event_line (event.Turn t) text = spaced (codes "turn" ∷ decimal t.0 ∷ [])
-event_line (event.Take s) text = spaced (codes "take" ∷ decimal s ∷ [])
-event_line (event.Leave c) text = spaced (codes "leave" ∷ decimal c ∷ [])
-event_line (event.Lost c) text = spaced (codes "lost" ∷ decimal c ∷ [])
+event_line (event.Piece c octets) text = spaced_text (codes "piece" ∷ decimal c ∷ text ∷ [])
+event_line (event.Next c) text = spaced_text (codes "next" ∷ decimal c ∷ [])
+event_line (event.Propose c t) text = spaced_text (codes "propose" ∷ decimal c ∷ decimal t.0 ∷ [])
+event_line (event.Decide c) text = spaced_text (codes "decide" ∷ decimal c ∷ [])
+event_line (event.Withdraw c) text = spaced_text (codes "withdraw" ∷ decimal c ∷ [])
+event_line (event.Cancel c t) text = spaced_text (codes "cancel" ∷ decimal c ∷ decimal t.0 ∷ [])
+event_line (event.Learn t id) text = spaced_text (codes "learn" ∷ decimal t.0 ∷ id_text id ∷ [])
+event_line (event.Release t) text = spaced_text (codes "release" ∷ decimal t.0 ∷ [])
+event_line (event.Turn t) text = spaced_text (codes "turn" ∷ decimal t.0 ∷ [])
+event_line (event.Take s) text = spaced_text (codes "take" ∷ decimal s ∷ [])
+event_line (event.Leave c) text = spaced_text (codes "leave" ∷ decimal c ∷ [])
+event_line (event.Lost c) text = spaced_text (codes "lost" ∷ decimal c ∷ [])
 
 -- an event's numbers are below 2^64, and its topic is below 2^32
 abbrev pub IsEventInRange : Event → Type 0
@@ -76,9 +76,10 @@ IsSkipped (b ∷ line) = b ≡ 35
 -- at 9. A number has one spelling, and fields are parted by one space: `turn 00` and `turn  0` say nothing.
 abbrev pub SpellsLine : List ℕ → ScriptLine → Type 0
 SpellsLine line SaysNothing = IsSkipped line
-SpellsLine line (NamesCapacity n) = (n < 2 ^ 64) × (line ≡ spaced (codes "capacity" ∷ decimal n ∷ []))
+SpellsLine line (NamesCapacity n) = (n < 2 ^ 64) × (line ≡ spaced_text (codes "capacity" ∷ decimal n ∷ []))
 SpellsLine line (NamesTopic name clock) =
-    (is_name name ≡ true) × (clock < 2 ^ 64) × (line ≡ spaced (codes "topic" ∷ name ∷ decimal clock ∷ []))
+    (is_name name ≡ true) × (clock < 2 ^ 64)
+    × (line ≡ spaced_text (codes "topic" ∷ name ∷ decimal clock ∷ []))
 SpellsLine line (Asks e) = SpellsEvent line e
 
 -- ---- scripts
@@ -131,8 +132,8 @@ with_line (Asks e) script = record script { events = script.events ++ e ∷ [] }
 abbrev pub AddsScript : List (List ℕ) → ScriptData → ScriptData → Type 0
 AddsScript [] old new = new ≡ old
 AddsScript (line ∷ lines) old new =
-    (said : ScriptLine) × SpellsLine line said × (is_in_place said old ≡ true)
-    × AddsScript lines (with_line said old) new
+    (content : ScriptLine) × SpellsLine line content × (is_in_place content old ≡ true)
+    × AddsScript lines (with_line content old) new
 
 -- The text is this script. So the empty text is the script without lines.
 abbrev pub IsScript : List ℕ → ScriptData → Type 0
@@ -140,7 +141,8 @@ IsScript text script = AddsScript (lines_of text) no_script script
 
 -- the line says nothing that may stand after these lines
 abbrev pub IsMisplaced : List ℕ → ScriptData → Type 0
-IsMisplaced line script = (said : ScriptLine) → SpellsLine line said → is_in_place said script ≡ false
+IsMisplaced line script =
+    (content : ScriptLine) → SpellsLine line content → is_in_place content script ≡ false
 
 -- Line n of the text, from 1, is the first that says nothing that may stand there. Lines that are skipped
 -- count, so the first bad line of `# two`, an empty line and `turn 00` is line 3.
@@ -178,4 +180,4 @@ script_words fault.NoMemory = codes "NoMemory" ∷ []
 
 -- that a text is no script: the fault's number and its name, as `bad 110 BadLine 3`
 abbrev pub bad_script_text : ScriptFault → List ℕ
-bad_script_text f = spaced (codes "bad" ∷ decimal (script_number f) ∷ script_words f) ++ 10 ∷ []
+bad_script_text f = spaced_text (codes "bad" ∷ decimal (script_number f) ∷ script_words f) ++ 10 ∷ []

@@ -4,14 +4,14 @@ use Rattle.std.specs.List.{AllByRecursion, flat_map}
 use Rattle.delivery.specs.declared.event.Event.{Event}
 use Rattle.delivery.specs.declared.event.Event.TheVariants as event
 use Rattle.broker_server.specs.Script.{event_line, IsEventInRange, no_script, IsScript}
-use Rattle.broker_server.specs.ShownText.{shown_text}
+use Rattle.broker_server.specs.EscapedText.{escaped_text}
 
--- the TEXT that shows the octets of a piece
+-- the TEXT of a piece's octets; other events have none
 abbrev pub text_of_event : Event → List ℕ
-text_of_event (event.Piece c octets) = shown_text octets
+text_of_event (event.Piece c octets) = escaped_text octets
 text_of_event _ = []
 
--- an event's line and its LF, where the octets of a piece are shown as in an `out` line
+-- an event's line and its LF, where the TEXT of a piece is as in an `out` line
 abbrev pub event_text : Event → List ℕ
 event_text e = event_line e (text_of_event e) ++ 10 ∷ []
 

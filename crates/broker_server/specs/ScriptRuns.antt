@@ -1,10 +1,10 @@
 -- What the programs `script` and `trace` write, as a function of the text that they read.
 use Rattle.std.specs.Prelude.{◌≡◌, ◌⊎◌, ℕ, ◌<◌, ◌≤◌, List, [], ◌∷◌, ◌++◌, length}
 use Rattle.std.specs.List.{AllByRecursion, flat_map}
-use Rattle.trace_audit.specs.Report.{rows_in, text_of, IsReport}
+use Rattle.trace_audit.specs.PrintedRows.{rows_in, text_of, IsReport}
 use Rattle.trace_audit.specs.Text.{IsRowInRange}
 use Rattle.trace_audit.specs.Parsing.{lines_of, AddsLines}
-use Rattle.trace_audit.specs.Trace.{Lines, no_lines}
+use Rattle.trace_audit.specs.Trace.{TraceData, no_trace_data}
 use Rattle.trace_audit.specs.declared.row.TraceRow.{TraceRow}
 use Rattle.delivery.specs.declared.kept.Kept.{Kept}
 use Rattle.delivery.specs.Nets.{KeptRun, events_of, IsDelivered}
@@ -47,7 +47,7 @@ pub record IsTracedRun (text output : List ℕ) (status : ℕ) : Type 0 where
   pub spelled : IsScript text script
   pub net : KeptRun
   pub run : HasRun script net
-  pub trace : Lines
+  pub trace : TraceData
   pub traced : IsTraced net trace
   pub in_range : AllByRecursion IsRowInRange (rows_in trace)
   pub rows : List TraceRow
@@ -86,4 +86,4 @@ abbrev pub TracesAuditToYes : Type 0
 TracesAuditToYes =
     (input output answer : List ℕ) (status : ℕ) → IsScriptTraced input output 0
     → length output ≤ input_limit → IsAudited output answer status
-    → (trace : Lines) × AddsLines (lines_of output) no_lines trace × IsYes trace answer status
+    → (trace : TraceData) × AddsLines (lines_of output) no_trace_data trace × IsYes trace answer status

@@ -1,6 +1,6 @@
 -- The TEXT of a script's line: how octets are spelled there (own).
 use Rattle.std.specs.Prelude.{◌≡◌, ◌≢◌, ◌⊎◌, ℕ, ◌<◌, List, [], ◌∷◌, ◌++◌, Some}
-use Rattle.broker_server.specs.ShownText.{short_letter, hex_escape}
+use Rattle.broker_server.specs.EscapedText.{short_letter, hex_escape}
 
 -- The text spells this octet: as itself, unless it is a backslash; by its short escape; or by `\x` and its
 -- two digits. So `A` and `\x41` both spell 65, and `\X41`, `\x4B` and `\t` spell no octet.

@@ -1,14 +1,13 @@
-//! The audit of a trace.
+//! The program `audit`: the audit of a trace.
 
-ghost use Rattle.std.specs.Prelude.{◌≡◌, ◌≢◌, ◌⊎◌, ◌↔◌, ◌≤◌, false, List, ℕ, Err, IfErr, IfOk, IsErrOf, IsTrue, OnOk};
+ghost use Rattle.std.specs.Prelude.{◌≡◌, ◌⊎◌, ◌↔◌, false, List, ℕ, IfErr, IfOk, IsTrue, OnOk};
 ghost use Rattle.std.specs.Io.KnownBytes.{Appends};
 ghost use Rattle.trace_audit.specs.Answers.{IsRefusal, says_no_memory};
 ghost use Rattle.trace_audit.specs.AuditText.{refusal_text};
 ghost use Rattle.trace_audit.specs.Parsing.{lines_of, AddsLines, IsParseFault};
-ghost use Rattle.trace_audit.specs.Trace.{no_lines};
-ghost use Rattle.broker_server.specs.Audit.{IsJudged, IsYes, IsNo};
-ghost use Rattle.broker_server.specs.Counts.{plus, max_reads, FailsNot};
-ghost use Rattle.broker_server.specs.Runs.{Audits, HasCause};
+ghost use Rattle.trace_audit.specs.Trace.{no_trace_data};
+ghost use Rattle.broker_server.specs.Audit.{IsAudited, IsJudged, IsYes, IsNo};
+ghost use Rattle.broker_server.specs.Runs.{IsRun};
 ghost use Rattle.broker_server.specs.Inner.Steps.{Heard};
 
 use crate::counting::Counting;
@@ -34,15 +33,8 @@ pub fn run_audit<R: Read, W: Write>(
     reader: &mut Counting<R>,
     writer: &mut Counting<W>,
 ) -> Result<u8, ProgramFault>
-    ensures audited { Audits (R.remaining reader.old.inner)
-        (W.contents writer.old.inner) (W.contents writer.new.inner) result }
-    ensures flushed { OnOk result (IsTrue writer.new.flushed) }
-    ensures io { IsErrOf result ProgramFault.Io
-        → HasCause R.remaining reader.old reader.new writer.old writer.new }
-    ensures reads { reader.new.calls ≤ plus reader.old.calls max_reads }
-    // A failure is never passed over.
-    ensures heard { (result ≢ Err ProgramFault.Io)
-        → FailsNot reader.old reader.new × FailsNot writer.old writer.new }
+    ensures { IsRun IsAudited R.remaining W.contents
+        reader.old reader.new writer.old writer.new result }
 {
     let mut text = Octets::new(alloc);
     if gather(alloc, reader, &mut text)? {
@@ -73,7 +65,7 @@ fn judge<W: Write>(
 
 /// The trace of a text, which is let go.
 fn read(alloc: Global, text: Octets) -> Result<Trace, ParseFault>
-    ensures found { IfOk result (λ trace. AddsLines (lines_of text) no_lines trace) }
+    ensures found { IfOk result (λ trace. AddsLines (lines_of text) no_trace_data trace) }
     ensures fault { IfErr result (λ fault. IsParseFault text fault) }
 {
     Trace::parse(alloc, text.as_slice())
@@ -117,7 +109,7 @@ fn refuse<W: Write>(
     fault: AuditFault,
     writer: &mut Counting<W>,
 ) -> Result<u8, ProgramFault>
-    ensures said { OnOk result (says_no_memory fault ≡ false) }
+    ensures not_memory { OnOk result (says_no_memory fault ≡ false) }
     ensures written { OnOk result
         (Appends (W.contents writer.old.inner) (W.contents writer.new.inner) (refusal_text fault)) }
     ensures status { IfOk result (λ status. status ≡ 3) }

@@ -13,7 +13,8 @@ use std::io::{ErrorKind, Read};
 /// How many octets of input are taken.
 const INPUT_LIMIT: usize = 16_777_216;
 
-/// How often the reader is called at most: once for each octet, once for the octet past the limit, and once for the end.
+/// How often the reader is called at most: once for each octet, once for the octet past the limit, and once for the
+/// end.
 const MAX_READS: u64 = 16_777_218;
 
 /// How many octets are read at once.

@@ -2,7 +2,7 @@
 
 ghost use Rattle.std.specs.Prelude.{◌≡◌};
 ghost use Rattle.std.specs.Option.{option_map};
-ghost use Rattle.stomp_frame.specs.ServerFrames.{rendered};
+ghost use Rattle.stomp_frame.specs.ServerFrames.{raw_of_server};
 ghost use Rattle.broker_server.specs.Inner.Steps.{last_error};
 
 use crate::relay_fault::RelayFault;
@@ -22,7 +22,7 @@ pub(crate) enum Last {
 impl Last {
     /// Its ERROR (STOMP 1.2, "ERROR"), if it has one.
     pub(crate) fn error(&self) -> Option<ServerFrame<'_>>
-        ensures { option_map rendered result ≡ last_error self.now }
+        ensures { option_map raw_of_server result ≡ last_error self.now }
     {
         match self {
             Last::Refused(fault, frame) => Some(ServerFrame::Error {

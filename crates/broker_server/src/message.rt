@@ -1,7 +1,7 @@
 //! The lines on standard error.
 
 ghost use Rattle.std.specs.Prelude.{◌≡◌};
-ghost use Rattle.broker_server.specs.Ended.{message_text};
+ghost use Rattle.broker_server.specs.Endings.{message_text};
 
 use crate::program::USAGE;
 use crate::program_fault::ProgramFault;

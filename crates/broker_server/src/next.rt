@@ -1,7 +1,7 @@
 //! What the relay does next.
 
 ghost use Rattle.std.specs.Prelude.{◌≡◌, ◌≢◌, IfOk};
-ghost use Rattle.broker_server.specs.Inner.Steps.{reading, next_of_fault, IsNextOfFrame, IsNext};
+ghost use Rattle.broker_server.specs.Inner.Steps.{unread_text, next_of_fault, IsNextOfFrame, IsNext};
 
 use crate::last::Last;
 use crate::relay_fault::RelayFault;
@@ -24,7 +24,7 @@ impl Next {
         name: &[u8],
         frames: &mut FrameReader,
     ) -> Result<Next, NoMemory>
-        requires { frames.old ≡ reading frames.old.text }
+        requires { frames.old ≡ unread_text frames.old.text }
         ensures { IfOk result (λ next. IsNext name.now frames.old next frames.new) }
     {
         match frames.next(alloc) {

@@ -3,8 +3,8 @@
 ghost use Rattle.std.specs.Prelude.{◌≡◌, ◌++◌, [], IfOk, OnOk, IsTrue};
 ghost use Rattle.std.specs.Io.KnownBytes.{Appends};
 ghost use Rattle.std.specs.Option.{option_map, option_map_or};
-ghost use Rattle.stomp_frame.specs.Writing.{spelled};
-ghost use Rattle.stomp_frame.specs.ServerFrames.{rendered};
+ghost use Rattle.stomp_frame.specs.Writing.{spelling_of};
+ghost use Rattle.stomp_frame.specs.ServerFrames.{raw_of_server};
 ghost use Rattle.broker_server.specs.Input.{too_long};
 ghost use Rattle.broker_server.specs.Inner.Steps.{Heard, Sends};
 
@@ -23,7 +23,7 @@ pub(crate) fn put<W: Write>(
     writer: &mut Counting<W>,
 ) -> Result<(), ProgramFault>
     ensures sent { OnOk result (Sends (W.contents writer.old.inner) waiting.old
-        (W.contents writer.new.inner) waiting.new (spelled (rendered frame.now))) }
+        (W.contents writer.new.inner) waiting.new (spelling_of (raw_of_server frame.now))) }
     ensures heard { Heard result writer.old writer.new }
 {
     write_server(frame, waiting)?;
@@ -65,9 +65,9 @@ pub(crate) fn finish<W: Write>(
 ) -> Result<u8, ProgramFault>
     ensures written { OnOk result
         (Appends (W.contents writer.old.inner) (W.contents writer.new.inner)
-        (waiting.old ++ option_map_or spelled (option_map rendered error.entry) [])) }
+        (waiting.old ++ option_map_or spelling_of (option_map raw_of_server error.entry) [])) }
     ensures status { IfOk result (λ status.
-        status ≡ option_map_or (λ f. 2) (option_map rendered error.entry) 0) }
+        status ≡ option_map_or (λ f. 2) (option_map raw_of_server error.entry) 0) }
     ensures flushed { OnOk result (IsTrue writer.new.flushed) }
     ensures heard { Heard result writer.old writer.new }
 {

@@ -1,10 +1,8 @@
-//! What the script's program writes: outcomes and reports, as lines.
+//! What the program `script` writes: outcomes and reports, as lines.
 
+mod escaped_text;
 mod outcome;
 mod report;
-mod shown;
-#[cfg(test)]
-pub(crate) mod tests;
 
 pub use outcome::print_outcome;
 pub use report::print_report;

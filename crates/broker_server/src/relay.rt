@@ -1,14 +1,12 @@
-//! The relay of one topic.
+//! The program `relay`: the relay of one topic.
 
-ghost use Rattle.std.specs.Prelude.{◌≡◌, ◌≢◌, ◌≤◌, List, ℕ, Err, IfOk, IsErrOf, length};
-ghost use Rattle.std.specs.Prelude.{IsTrue, OnOk};
+ghost use Rattle.std.specs.Prelude.{◌≡◌, ◌≤◌, List, ℕ, IfOk, IsTrue, OnOk, length};
 ghost use Rattle.std.specs.Io.KnownBytes.{Appends};
-ghost use Rattle.stomp_frame.specs.ServerFrames.{rendered};
-ghost use Rattle.broker_server.specs.Counts.{plus, max_reads, FailsNot};
+ghost use Rattle.stomp_frame.specs.ServerFrames.{raw_of_server};
 ghost use Rattle.broker_server.specs.Input.{input_limit};
-ghost use Rattle.broker_server.specs.Relay.{message, IsAnswered};
-ghost use Rattle.broker_server.specs.Runs.{Relays, HasCause};
-ghost use Rattle.broker_server.specs.Inner.Steps.{reading, Heard};
+ghost use Rattle.broker_server.specs.Relay.{message, IsAnswered, IsRelayed};
+ghost use Rattle.broker_server.specs.Runs.{IsRun};
+ghost use Rattle.broker_server.specs.Inner.Steps.{unread_text, Heard};
 
 use crate::counting::Counting;
 use crate::input::gather;
@@ -34,15 +32,8 @@ pub fn run_relay<R: Read, W: Write>(
     reader: &mut Counting<R>,
     writer: &mut Counting<W>,
 ) -> Result<u8, ProgramFault>
-    ensures relayed { Relays name.now (R.remaining reader.old.inner)
-        (W.contents writer.old.inner) (W.contents writer.new.inner) result }
-    ensures flushed { OnOk result (IsTrue writer.new.flushed) }
-    ensures io { IsErrOf result ProgramFault.Io
-        → HasCause R.remaining reader.old reader.new writer.old writer.new }
-    ensures reads { reader.new.calls ≤ plus reader.old.calls max_reads }
-    // A failure is never passed over.
-    ensures heard { (result ≢ Err ProgramFault.Io)
-        → FailsNot reader.old reader.new × FailsNot writer.old writer.new }
+    ensures { IsRun (IsRelayed name.now) R.remaining W.contents
+        reader.old reader.new writer.old writer.new result }
 {
     let mut frames = FrameReader::new(alloc, Limits::standard());
     if gather(alloc, reader, &mut frames)? {
@@ -54,7 +45,7 @@ pub fn run_relay<R: Read, W: Write>(
 
 /// The message of a frame, with this number.
 fn message(n: u64, frame: &RawFrame) -> ServerFrame<'_>
-    ensures { rendered result ≡ message n frame.now }
+    ensures { raw_of_server result ≡ message n frame.now }
 {
     ServerFrame::Message {
         subscription: b"0",
@@ -73,7 +64,7 @@ fn relay_frames<W: Write>(
     frames: &mut FrameReader,
     writer: &mut Counting<W>,
 ) -> Result<u8, ProgramFault>
-    requires fresh { frames.old ≡ reading frames.old.text }
+    requires fresh { frames.old ≡ unread_text frames.old.text }
     requires short { length frames.old.text ≤ input_limit }
     ensures answered { IfOk result (λ status. (output : List ℕ)
         × Appends (W.contents writer.old.inner) (W.contents writer.new.inner) output

@@ -3,20 +3,20 @@
 ghost use Rattle.std.specs.Prelude.{◌≡◌, ◌≢◌, ◌<◌, ◌≤◌, ◌∷◌, [], ℕ, Ok, Err, IfOk, IfErr};
 ghost use Rattle.trace_audit.specs.Parsing.{lines_of};
 ghost use Rattle.broker_server.specs.Script.{ScriptData, NamesCapacity, NamesTopic, Asks, no_script, capacity_of, IsScript, IsFirstBadLine, IsScriptFault, GivesScript};
-ghost use Rattle.broker_server.specs.Inner.ScriptReading.{HasName, LeavesScript, ReadsScript, placed, said_of, script_added, script_from};
+ghost use Rattle.broker_server.specs.Inner.ScriptReading.{HasName, LeavesScript, ReadsScript, after_content, script_line_of, after_line, script_from};
 ghost use Rattle.broker_server.specs.declared.script.script_fault.ScriptFault.TheVariants as script_faults;
 
-mod fields;
-mod line;
+mod field_reading;
+mod line_content;
+mod line_reading;
 mod misread;
-mod said;
 mod script_fault;
-mod text;
+mod text_reading;
 
 use delivery::{Event, EventList, MAX_CAPACITY, Topics};
-use line::read_line;
+use line_content::LineContent;
+use line_reading::read_line;
 use misread::Misread;
-use said::Said;
 pub use script_fault::ScriptFault;
 use std::alloc::Global;
 use std::marker::Model;
@@ -25,8 +25,8 @@ use trace_audit::first_line;
 /// The capacity of a subscription's queue where a script names none.
 const CAPACITY: usize = 64;
 
-/// A script: the capacity of each subscription's queue, 1 to 4,096, or 64 where it names none; its topics, numbered from
-/// 0; and its events in order. In contracts it is these three.
+/// A script: the capacity of each subscription's queue, 1 to 4,096, or 64 where it names none; its topics, numbered
+/// from 0; and its events in order. In contracts it is these three.
 #[derive(Drop)]
 pub struct Script {
     named_capacity: Option<usize>,
@@ -46,8 +46,8 @@ impl Model for Script {
 }
 
 impl Script {
-    /// The script that a text spells, a line for the capacity, each topic and each event; empty lines and those that begin
-    /// with `#` say nothing. Each line ends in LF; the last may lack it.
+    /// The script that a text spells, a line for the capacity, each topic and each event; empty lines and those that
+    /// begin with `#` say nothing. Each line ends in LF; the last may lack it.
     ///
     /// Errors: `BadLine` (110) with the number of the first line, from 1, that says nothing, or nothing that may stand
     /// there; `NoMemory` (111).
@@ -76,7 +76,7 @@ impl Script {
         (named_capacity.unwrap_or(CAPACITY), topics, events)
     }
 
-    // A script without lines.
+    /// A script without lines.
     fn new(alloc: Global) -> Script
         ensures { result ≡ no_script }
     {
@@ -87,7 +87,7 @@ impl Script {
         }
     }
 
-    // The script that a text spells.
+    /// The script that a text spells.
     fn read(alloc: Global, text: &[u8]) -> Result<Script, ScriptFault>
         ensures { ReadsScript result (script_from 1 (lines_of text.now) no_script) }
     {
@@ -107,30 +107,30 @@ impl Script {
         Ok(script)
     }
 
-    // Adds what a line says, where it may stand there.
-    #[tactic(auto, unfolding(crate::specs::Inner::ScriptReading::script_added))]
+    /// Adds a line.
+    #[tactic(auto, unfolding(crate::specs::Inner::ScriptReading::after_line))]
     fn add_line(&mut self, alloc: Global, line: &[u8]) -> Result<(), Misread>
-        ensures { LeavesScript result self.new (script_added line.now self.old) }
+        ensures { LeavesScript result self.new (after_line line.now self.old) }
     {
-        self.place(read_line(alloc, line)?)
+        self.add_content(read_line(alloc, line)?)
     }
 
-    // Adds what was said, where it may stand there.
-    fn place(&mut self, said: Said) -> Result<(), Misread>
-        requires { HasName (said_of said) }
-        ensures { LeavesScript result self.new (placed (said_of said.entry) self.old) }
+    /// Adds what a line says, where it may stand there.
+    fn add_content(&mut self, content: LineContent) -> Result<(), Misread>
+        requires { HasName (script_line_of content) }
+        ensures { LeavesScript result self.new (after_content (script_line_of content.entry) self.old) }
     {
-        match said {
-            Said::Nothing => Ok(()),
-            Said::Capacity(n) => self.name_capacity(n),
-            Said::Topic(name, clock) => self.name_topic(name, clock),
-            Said::Event(event) => self.ask(event),
+        match content {
+            LineContent::Nothing => Ok(()),
+            LineContent::Capacity(n) => self.name_capacity(n),
+            LineContent::Topic(name, clock) => self.name_topic(name, clock),
+            LineContent::Event(event) => self.ask(event),
         }
     }
 
-    // Names the capacity.
+    /// Names the capacity.
     fn name_capacity(&mut self, n: u64) -> Result<(), Misread>
-        ensures { LeavesScript result self.new (placed (NamesCapacity n) self.old) }
+        ensures { LeavesScript result self.new (after_content (NamesCapacity n) self.old) }
     {
         let is_first = self.events.is_empty() && self.named_capacity.is_none();
         if !is_first || n < 1 || n > MAX_CAPACITY as u64 {
@@ -140,10 +140,10 @@ impl Script {
         Ok(())
     }
 
-    // Adds a topic.
+    /// Adds a topic.
     fn name_topic(&mut self, name: &[u8], clock: u64) -> Result<(), Misread>
         requires { name.now ≢ [] }
-        ensures { LeavesScript result self.new (placed (NamesTopic name.now clock) self.old) }
+        ensures { LeavesScript result self.new (after_content (NamesTopic name.now clock) self.old) }
     {
         if !self.events.is_empty() || !self.topics.may_add(name) {
             return Err(Misread::Bad);
@@ -152,9 +152,9 @@ impl Script {
         Ok(())
     }
 
-    // Adds an event.
+    /// Adds an event.
     fn ask(&mut self, event: Event) -> Result<(), Misread>
-        ensures { LeavesScript result self.new (placed (Asks event) self.old) }
+        ensures { LeavesScript result self.new (after_content (Asks event) self.old) }
     {
         match self.events.push(event) {
             Ok(()) => Ok(()),

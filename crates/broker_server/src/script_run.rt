@@ -1,4 +1,4 @@
-//! Running a script.
+//! What the programs `script` and `trace` share: a text is read as a script, and run, or refused.
 
 ghost use Rattle.std.specs.Prelude.{◌≡◌, List, ℕ, IfErr, IfOk, IsTrue, OnOk};
 ghost use Rattle.std.specs.Io.KnownBytes.{Appends};
@@ -15,8 +15,8 @@ use std::alloc::Global;
 use std::io::Write;
 use stomp_frame::{NoMemory, Octets};
 
-/// A core that has taken all events of the script that the text is, or why the text is none. The text is let go before the
-/// first event.
+/// A core that has taken all events of the script that the text is, or why the text is none. The text is let go before
+/// the first event.
 pub(crate) fn run_text(alloc: Global, text: Octets) -> Result<Net, ScriptFault>
     ensures ran { IfOk result (λ net. (script : ScriptData) × IsScript text script × HasRun script net) }
     ensures fault { IfErr result (λ fault. IsScriptFault text fault) }

@@ -1,13 +1,12 @@
-//! The run of a script.
+//! The program `script`: a script's run, with what came of each event, and its report.
 
-ghost use Rattle.std.specs.Prelude.{◌≡◌, ◌≢◌, ◌⊎◌, ◌≤◌, ◌++◌, List, ℕ, Err, IfErr, IfOk, IsErrOf, IsTrue, OnOk};
+ghost use Rattle.std.specs.Prelude.{◌≡◌, ◌⊎◌, ◌++◌, List, ℕ, IfOk, IsTrue, OnOk};
 ghost use Rattle.std.specs.Io.KnownBytes.{Appends};
 ghost use Rattle.delivery.specs.Core.Reports.{Report};
 ghost use Rattle.delivery.specs.Nets.{IsDelivered};
-ghost use Rattle.broker_server.specs.Counts.{plus, max_reads, FailsNot};
 ghost use Rattle.broker_server.specs.ReportText.{report_text};
-ghost use Rattle.broker_server.specs.Runs.{Scripts, HasCause};
-ghost use Rattle.broker_server.specs.ScriptRuns.{outcome_lines, IsScriptRun, IsRefusedScript};
+ghost use Rattle.broker_server.specs.Runs.{IsRun};
+ghost use Rattle.broker_server.specs.ScriptRuns.{outcome_lines, IsScriptRun, IsRefusedScript, IsScripted};
 ghost use Rattle.broker_server.specs.Inner.Steps.{Heard, Sends};
 
 use crate::counting::Counting;
@@ -21,10 +20,10 @@ use std::alloc::Global;
 use std::io::{Read, Write};
 use stomp_frame::Octets;
 
-/// Runs the script that the reader's whole input is: writes a line for what came of each event, in their order, and then
-/// the report. The status is 0. Where a line is wrong, nothing is run, the status is 2, and the only output is the line
-/// `bad 110 BadLine LINE` with the number of the first such line, from 1; where the input is longer than 16,777,216 octets,
-/// it is `bad 112 TooLong`. Nothing is written before the whole input was read.
+/// Runs the script that the reader's whole input is: writes a line for what came of each event, in their order, and
+/// then the report. The status is 0. Where a line is wrong, nothing is run, the status is 2, and the only output is the
+/// line `bad 110 BadLine LINE` with the number of the first such line, from 1; where the input is longer than
+/// 16,777,216 octets, it is `bad 112 TooLong`. Nothing is written before the whole input was read.
 ///
 /// Errors: `Io` (status 5) where a read or a write failed, a write took nothing, or the input hadn't
 /// ended after 16,777,218 reads (a read that is interrupted is one of these, and is tried again);
@@ -34,15 +33,8 @@ pub fn run_script<R: Read, W: Write>(
     reader: &mut Counting<R>,
     writer: &mut Counting<W>,
 ) -> Result<u8, ProgramFault>
-    ensures scripted { Scripts (R.remaining reader.old.inner)
-        (W.contents writer.old.inner) (W.contents writer.new.inner) result }
-    ensures flushed { OnOk result (IsTrue writer.new.flushed) }
-    ensures io { IsErrOf result ProgramFault.Io
-        → HasCause R.remaining reader.old reader.new writer.old writer.new }
-    ensures reads { reader.new.calls ≤ plus reader.old.calls max_reads }
-    // A failure is never passed over.
-    ensures heard { (result ≢ Err ProgramFault.Io)
-        → FailsNot reader.old reader.new × FailsNot writer.old writer.new }
+    ensures { IsRun IsScripted R.remaining W.contents
+        reader.old reader.new writer.old writer.new result }
 {
     let mut text = Octets::new(alloc);
     if gather(alloc, reader, &mut text)? {

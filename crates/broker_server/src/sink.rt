@@ -16,10 +16,10 @@ pub(crate) trait Sink {
 }
 
 impl Sink for FrameReader {
-    ghost use Rattle.broker_server.specs.Inner.Steps.{reading};
+    ghost use Rattle.broker_server.specs.Inner.Steps.{unread_text};
 
-    // It has the text to read, under the standard limits.
-    ghost holds = { λ frames text. frames ≡ reading text };
+    // It has the text to read, under the standard limits, and returned no fault.
+    ghost holds = { λ frames text. frames ≡ unread_text text };
 
     /// Feeds the piece.
     fn put(&mut self, piece: &[u8]) -> Result<(), NoMemory> {

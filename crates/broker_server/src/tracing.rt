@@ -1,16 +1,15 @@
-//! The trace of a script's run.
+//! The program `trace`: the trace of a script's run.
 
-ghost use Rattle.std.specs.Prelude.{◌≡◌, ◌≢◌, ◌⊎◌, ◌≤◌, List, ℕ, Err, IfErr, IfOk, IsErrOf, IsTrue, OnOk};
+ghost use Rattle.std.specs.Prelude.{◌≡◌, ◌⊎◌, List, ℕ, IfOk, IsTrue, OnOk};
 ghost use Rattle.std.specs.Io.KnownBytes.{Appends};
 ghost use Rattle.std.specs.List.{AllByRecursion};
-ghost use Rattle.trace_audit.specs.Report.{rows_in, text_of, IsReport};
+ghost use Rattle.trace_audit.specs.PrintedRows.{rows_in, text_of, IsReport};
 ghost use Rattle.trace_audit.specs.Text.{IsRowInRange};
-ghost use Rattle.trace_audit.specs.Trace.{Lines};
+ghost use Rattle.trace_audit.specs.Trace.{TraceData};
 ghost use Rattle.trace_audit.specs.declared.row.TraceRow.{TraceRow};
 ghost use Rattle.delivery.specs.Traces.{IsTraced};
-ghost use Rattle.broker_server.specs.Counts.{plus, max_reads, FailsNot};
-ghost use Rattle.broker_server.specs.Runs.{ScriptTraces, HasCause};
-ghost use Rattle.broker_server.specs.ScriptRuns.{IsTracedRun, IsRefusedScript};
+ghost use Rattle.broker_server.specs.Runs.{IsRun};
+ghost use Rattle.broker_server.specs.ScriptRuns.{IsTracedRun, IsRefusedScript, IsScriptTraced};
 ghost use Rattle.broker_server.specs.Inner.Steps.{Heard};
 
 use crate::counting::Counting;
@@ -23,10 +22,10 @@ use std::alloc::Global;
 use std::io::{Read, Write};
 use stomp_frame::{NoMemory, Octets};
 
-/// Runs the script that the reader's whole input is, as `run_script` does, and writes the trace of that run. The status is
-/// 0. Where a line is wrong, nothing is run, the status is 2, and the only output is the line `bad 110 BadLine LINE` with
-/// the number of the first such line, from 1; where the input is longer than 16,777,216 octets, it is `bad 112 TooLong`.
-/// Nothing is written before the whole input was read.
+/// Runs the script that the reader's whole input is, as `run_script` does, and writes the trace of that run. The status
+/// is 0. Where a line is wrong, nothing is run, the status is 2, and the only output is the line `bad 110 BadLine LINE`
+/// with the number of the first such line, from 1; where the input is longer than 16,777,216 octets, it is
+/// `bad 112 TooLong`. Nothing is written before the whole input was read.
 ///
 /// Errors: `Io` (status 5) where a read or a write failed, a write took nothing, or the input hadn't
 /// ended after 16,777,218 reads (a read that is interrupted is one of these, and is tried again);
@@ -36,15 +35,8 @@ pub fn run_trace<R: Read, W: Write>(
     reader: &mut Counting<R>,
     writer: &mut Counting<W>,
 ) -> Result<u8, ProgramFault>
-    ensures traced { ScriptTraces (R.remaining reader.old.inner)
-        (W.contents writer.old.inner) (W.contents writer.new.inner) result }
-    ensures flushed { OnOk result (IsTrue writer.new.flushed) }
-    ensures io { IsErrOf result ProgramFault.Io
-        → HasCause R.remaining reader.old reader.new writer.old writer.new }
-    ensures reads { reader.new.calls ≤ plus reader.old.calls max_reads }
-    // A failure is never passed over.
-    ensures heard { (result ≢ Err ProgramFault.Io)
-        → FailsNot reader.old reader.new × FailsNot writer.old writer.new }
+    ensures { IsRun IsScriptTraced R.remaining W.contents
+        reader.old reader.new writer.old writer.new result }
 {
     let mut text = Octets::new(alloc);
     if gather(alloc, reader, &mut text)? {
@@ -74,7 +66,8 @@ fn trace_script<W: Write>(
 
 /// The text of the trace of a run, which is let go.
 fn trace_text(alloc: Global, net: Net) -> Result<Octets, NoMemory>
-    ensures { IfOk result (λ text. (trace : Lines) × IsTraced net trace × AllByRecursion IsRowInRange (rows_in trace)
+    ensures { IfOk result (λ text. (trace : TraceData) × IsTraced net trace
+        × AllByRecursion IsRowInRange (rows_in trace)
         × ((rows : List TraceRow) × IsReport rows trace × (text ≡ text_of rows))) }
 {
     let trace = net.trace()?;

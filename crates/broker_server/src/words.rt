@@ -1,13 +1,13 @@
 //! A program, from the words on its command line to its end.
 
 ghost use Rattle.std.specs.Prelude.{◌≡◌, ℕ, None, Result, IfErr, IfOk, IfSome, map, string_bytes};
-ghost use Rattle.broker_server.specs.Ended.{ending_of, usage_end, IsUnreadEnd};
+ghost use Rattle.broker_server.specs.Endings.{ending_of, usage_ending, IsUnreadEnding};
 ghost use Rattle.broker_server.specs.Programs.{asked_by};
-ghost use Rattle.broker_server.specs.Runs.{IsRun};
+ghost use Rattle.broker_server.specs.Runs.{IsWrittenBy, IsRun};
 
 use crate::audit::run_audit;
 use crate::counting::Counting;
-use crate::ended::Ended;
+use crate::ending::Ending;
 use crate::program::Program;
 use crate::program_fault::ProgramFault;
 use crate::relay::run_relay;
@@ -27,29 +27,30 @@ pub fn run_words<R: Read, W: Write>(
     words: io::Result<Vec<String>>,
     reader: &mut Counting<R>,
     writer: &mut Counting<W>,
-) -> Ended
-    ensures unread { IfErr words (λ error. IsUnreadEnd error result
+) -> Ending
+    ensures unread { IfErr words (λ error. IsUnreadEnding error result
         × (reader.new ≡ reader.old) × (writer.new ≡ writer.old)) }
     ensures usage { IfOk words (λ words. asked_by (map string_bytes words.items) ≡ None
-        → (result ≡ usage_end) × (reader.new ≡ reader.old) × (writer.new ≡ writer.old)) }
+        → (result ≡ usage_ending) × (reader.new ≡ reader.old) × (writer.new ≡ writer.old)) }
     // The end is that of what a run of the program that is asked for returns.
     ensures run { IfOk words (λ words.
         IfSome (asked_by (map string_bytes words.items)) (λ asked.
         (answer : Result ℕ ProgramFault) × (result ≡ ending_of answer)
-        × IsRun R.remaining W.contents asked reader.old reader.new writer.old writer.new answer)) }
+        × IsRun (IsWrittenBy asked) R.remaining W.contents
+        reader.old reader.new writer.old writer.new answer)) }
 {
     let words = match words {
         Ok(words) => words,
         Err(e) if e.kind() == ErrorKind::OutOfMemory => {
-            return Ended::by(Err(ProgramFault::NoMemory));
+            return Ending::by(Err(ProgramFault::NoMemory));
         }
-        Err(_) => return Ended::by_usage(),
+        Err(_) => return Ending::by_usage(),
     };
     match Program::parse(words.as_slice()) {
-        Some(Program::Relay(name)) => Ended::by(run_relay(alloc, name, reader, writer)),
-        Some(Program::Script) => Ended::by(run_script(alloc, reader, writer)),
-        Some(Program::Trace) => Ended::by(run_trace(alloc, reader, writer)),
-        Some(Program::Audit) => Ended::by(run_audit(alloc, reader, writer)),
-        None => Ended::by_usage(),
+        Some(Program::Relay(name)) => Ending::by(run_relay(alloc, name, reader, writer)),
+        Some(Program::Script) => Ending::by(run_script(alloc, reader, writer)),
+        Some(Program::Trace) => Ending::by(run_trace(alloc, reader, writer)),
+        Some(Program::Audit) => Ending::by(run_audit(alloc, reader, writer)),
+        None => Ending::by_usage(),
     }
 }

@@ -8,8 +8,8 @@ use Rattle.trace_audit.specs.declared.row.QueueRow.{QueueRow}
 use Rattle.trace_audit.specs.declared.fault.AuditFault.{AuditFault}
 use Rattle.trace_audit.specs.Answers.{IsRefusal}
 use Rattle.trace_audit.specs.Explained.{IsExplainedBy, IsCompleteBy}
-use Rattle.trace_audit.specs.Line.{LogLine}
-use Rattle.trace_audit.specs.Trace.{Lines}
+use Rattle.trace_audit.specs.Logs.{LogLine}
+use Rattle.trace_audit.specs.Trace.{TraceData}
 use Rattle.delivery.specs.Topics.{TopicList}
 use Rattle.delivery.specs.Nets.{KeptRun, steps_of_net, core_of_net, HasReport}
 use Rattle.delivery.specs.Theorem.Settled.{IsSettled}
@@ -37,7 +37,7 @@ traced_queue s q = map (λ item. record { sub = s; id = item.id; stamp = item.st
 -- The trace of a report: the logs by topic, each in its order, and by subscription the spans and what the
 -- queues accepted. So of a closed subscription 0 of topic 0, whose queue accepted what the log has, it is
 -- `log 0 0 1 1.0 0`, `span 0 0 0.0 1.0`, `queue 0 0 1 1.0`.
-abbrev pub trace_of : Report → Lines
+abbrev pub trace_of : Report → TraceData
 trace_of r = record {
   logs = flat_map (λ p. traced_log p.0 p.1) (enumerate_from 0 r.logs);
   spans = map (λ p. traced_span p.0 p.1) (enumerate_from 0 r.subscriptions);
@@ -56,14 +56,14 @@ AllSettled count account = (t : Topic) → t.0 < count → IsSettled t account
 
 -- A list of transactions explains the trace, and it is complete where each of so many topics is settled by
 -- this account. `proofs/Traces/Examples` has a run of two topics with its rows.
-pub record IsExplained (count : ℕ) (account : List Answer) (trace : Lines) : Type 0 where
+pub record IsExplained (count : ℕ) (account : List Answer) (trace : TraceData) : Type 0 where
   pub rows : List LogRow
   pub explained : IsExplainedBy rows trace
   pub complete : AllSettled count account → IsCompleteBy rows trace
 
 -- The trace of a net: that of its core's report, which is delivered. It is explained, and complete where all
 -- of its topics are settled by the account of its steps.
-pub record IsTraced (net : KeptRun) (trace : Lines) : Type 0 where
+pub record IsTraced (net : KeptRun) (trace : TraceData) : Type 0 where
   pub is_trace : trace ≡ trace_of (report_of (core_of_net net))
   pub is_delivered : HasReport net
   pub is_explained : IsExplained (length net.topics.names) (account_of_net net) trace
@@ -82,11 +82,12 @@ RunsAreExplained =
 -- no fault is the refusal of a net's trace
 abbrev pub TracesAreAccepted : Type 0
 TracesAreAccepted =
-    (net : KeptRun) (trace : Lines) (fault : AuditFault) → IsTraced net trace → IsRefusal fault trace → Prim.⊥
+    (net : KeptRun) (trace : TraceData) (fault : AuditFault)
+    → IsTraced net trace → IsRefusal fault trace → Prim.⊥
 
 -- where each topic is settled, whichever rows explain a net's trace are in the logs of all their topics
 abbrev pub TracesAreComplete : Type 0
 TracesAreComplete =
-    (net : KeptRun) (trace : Lines) → IsTraced net trace
+    (net : KeptRun) (trace : TraceData) → IsTraced net trace
     → AllSettled (length net.topics.names) (account_of_net net)
     → (rows : List LogRow) → IsExplainedBy rows trace → IsCompleteBy rows trace

@@ -7,8 +7,8 @@ use std::alloc::Global;
 use std::marker::Model;
 use stomp_frame::NoMemory;
 
-/// The rows of the commit list in the order of Decide, with room for those that are promised. In contracts it is its rows,
-/// and how many more are promised.
+/// The rows of the commit list in the order of Decide, with room for those that are promised. In contracts it is its
+/// rows, and how many more are promised.
 #[derive(Drop)]
 pub(crate) struct CommitList {
     rows: Vec<Row>,

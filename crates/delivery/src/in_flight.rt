@@ -15,8 +15,8 @@ use sender_gate::{Flying, Gate, GateFault};
 use std::marker::Model;
 use std::sync::Arc;
 
-/// A transaction in flight, without its cell: the core keeps verdicts in a table. In contracts it is what the flight is but
-/// for that.
+/// A transaction in flight, without its cell: the core keeps verdicts in a table. In contracts it is what the flight
+/// is but for that.
 #[derive(Drop)]
 pub(crate) struct InFlight {
     flying: Flying,
@@ -59,7 +59,8 @@ impl InFlight {
         self.flying.floor()
     }
 
-    /// Takes the topic's part out: `None` where it was taken out before, or where the transaction doesn't name the topic.
+    /// Takes the topic's part out: `None` where it was taken out before, or where the transaction doesn't name the
+    /// topic.
     pub(crate) fn part(&mut self, topic: Topic) -> Option<Arc<Part>>
         ensures part { option_map (λ part. data_of (arc_value part)) result ≡ held_at topic self.old.parts }
         ensures taken { self.new ≡ record self.old { parts = with_slot topic None self.old.parts } }

@@ -178,9 +178,9 @@ pub fn answers()
     ensures { MovesAreAnswered }
 {}
 
-/// A topic is tied to the tickets that it gave: their numbers rise along the run, above its opening clock, and its pending
-/// parts are exactly those of its uncancelled tickets whose transactions aren't in its log. A sender's floor is the stamp
-/// of its last committed transaction, or zero, whatever was withdrawn.
+/// A topic is tied to the tickets that it gave: their numbers rise along the run, above its opening clock, and its
+/// pending parts are exactly those of its uncancelled tickets whose transactions aren't in its log. A sender's floor
+/// is the stamp of its last committed transaction, or zero, whatever was withdrawn.
 pub fn tied()
     ensures topics { TopicsAreTied }
     ensures senders { SendersAreFloored }
@@ -192,36 +192,38 @@ pub fn examples()
     ensures { WorkedRows }
 {}
 
-/// Every run of the core is delivered: what was read are the first frames of each connection's octets; the account of the
-/// run is read off its events, these frames and the outcomes alone; and each commit, log, span, queue and octet out that the
-/// core reports is the one that they tell. The steps may be refused, may find no memory, and may cut a stream anywhere.
+/// Every run of the core is delivered: what was read are the first frames of each connection's octets; the account of
+/// the run is read off its events, these frames and the outcomes alone; and each commit, log, span, queue and octet
+/// out that the core reports is the one that they tell. The steps may be refused, may find no memory, and may cut a
+/// stream anywhere.
 pub fn delivery()
     ensures { RunsDeliver }
 {}
 
-/// Each step of a run of the core, whatever came before it: its outcome is one that its event may have; what is refused changes
-/// nothing; an event at one topic changes no other; tickets, stamps, items and ends of spans are as the rules say.
+/// Each step of a run of the core, whatever came before it: its outcome is one that its event may have; what is
+/// refused changes nothing; an event at one topic changes no other; tickets, stamps, items and ends of spans are as
+/// the rules say.
 pub fn steps()
     ensures { StepsHaveStepped }
 {}
 
-/// The steps of a run of the core are those of its kept run: what each of its events read is decided by the octets that were
-/// fed and by the outcomes, and by nothing else.
+/// The steps of a run of the core are those of its kept run: what each of its events read is decided by the octets
+/// that were fed and by the outcomes, and by nothing else.
 pub fn readings()
     ensures { StepsAreKept }
 {}
 
-/// What an open connection's session has open are the connection's subscriptions that aren't closed, so an UNSUBSCRIBE that it
-/// accepts ends one of them, and 48 never comes of a Next. An event of one connection changes no other: a Take is of its
-/// subscription's.
+/// What an open connection's session has open are the connection's subscriptions that aren't closed, so an
+/// UNSUBSCRIBE that it accepts ends one of them, and 48 never comes of a Next. An event of one connection changes no
+/// other: a Take is of its subscription's.
 pub fn connections()
     ensures live { OpenAreLive }
     ensures ends { UnsubscribesFind }
     ensures others { OtherConnectionsStay }
 {}
 
-/// The trace of every run is explained, so an audit of it is a yes unless memory runs out, and complete where all of its
-/// topics are settled.
+/// The trace of every run is explained, so an audit of it is a yes unless memory runs out, and complete where all of
+/// its topics are settled.
 pub fn traces_are_explained()
     ensures explained { RunsAreExplained }
     ensures accepted { TracesAreAccepted }

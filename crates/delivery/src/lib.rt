@@ -3,19 +3,19 @@
 
 mod commit_list;
 mod connection_fault;
-mod dues;
+mod endpoint;
 mod event;
 mod event_list;
 mod in_flight;
 mod kept;
 pub mod law;
-mod line;
 mod messages;
 mod net;
 mod net_state;
-mod open_line;
+mod not_started;
+mod open_endpoint;
+mod oracle;
 mod outcome;
-mod plain;
 mod refusal;
 mod sender_state;
 mod sending;
@@ -25,16 +25,13 @@ mod table;
 mod topics;
 
 pub use connection_fault::ConnectionFault;
-pub use dues::{QueueItem, due};
 pub use event::Event;
 pub use event_list::EventList;
 pub use kept::Kept;
 pub use net::{MAX_CAPACITY, Net};
 pub use net_state::{QueueReport, Report};
+pub use oracle::agreed::{CommitRow, agreed};
+pub use oracle::due::{QueueItem, due};
 pub use outcome::Outcome;
-pub use plain::{CommitRow, agreed};
 pub use refusal::Refusal;
 pub use topics::{MAX_TOPICS, Topics};
-
-#[cfg(test)]
-mod tests;

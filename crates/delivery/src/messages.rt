@@ -2,16 +2,16 @@
 
 ghost use Rattle.std.specs.Prelude.{◌≡◌, ◌++◌, OnOk, OnErr};
 ghost use Rattle.std.specs.List.{flat_map};
-ghost use Rattle.stomp_frame.specs.Writing.{spelled, Extends};
+ghost use Rattle.stomp_frame.specs.Writing.{spelling_of, Extends};
 ghost use Rattle.delivery.specs.Core.Output.{item_messages};
 
 use mcast_txn::Released;
 use stomp_frame::{NoMemory, Octets, ServerFrame, write_server};
 
-/// Appends the MESSAGE of each SEND of the item's part, for the subscription of this id; after `NoMemory` perhaps only the
-/// first ones.
+/// Appends the MESSAGE of each SEND of the item's part, for the subscription of this id; after `NoMemory` perhaps
+/// only the first ones.
 fn put_messages(id: &[u8], item: &Released, out: &mut Octets) -> Result<(), NoMemory>
-    ensures ok { OnOk result (out.new ≡ out.old ++ flat_map spelled (item_messages id.now item.now)) }
+    ensures ok { OnOk result (out.new ≡ out.old ++ flat_map spelling_of (item_messages id.now item.now)) }
     ensures err { OnErr result (Extends out.old out.new) }
 {
     let sends = &item.part.sends;
@@ -30,10 +30,10 @@ fn put_messages(id: &[u8], item: &Released, out: &mut Octets) -> Result<(), NoMe
     Ok(())
 }
 
-/// Appends the MESSAGE of each SEND of the item's part, for the subscription of this id: each octet is copied once. After
-/// `NoMemory` the octets are what they were.
+/// Appends the MESSAGE of each SEND of the item's part, for the subscription of this id: each octet is copied once.
+/// After `NoMemory` the octets are what they were.
 pub(crate) fn write_messages(id: &[u8], item: &Released, out: &mut Octets) -> Result<(), NoMemory>
-    ensures ok { OnOk result (out.new ≡ out.old ++ flat_map spelled (item_messages id.now item.now)) }
+    ensures ok { OnOk result (out.new ≡ out.old ++ flat_map spelling_of (item_messages id.now item.now)) }
     ensures err { OnErr result (out.new ≡ out.old) }
 {
     let before = out.len();

@@ -20,8 +20,8 @@ use trace_audit::Trace;
 /// The greatest capacity of a subscription's queue, in items.
 pub const MAX_CAPACITY: usize = 4096;
 
-/// The core: topics, connections, senders and subscriptions over events. In contracts it is the topics that it began with,
-/// the capacity of its queues, its kept run, and how many more events it has room to keep.
+/// The core: topics, connections, senders and subscriptions over events. In contracts it is the topics that it began
+/// with, the capacity of its queues, its kept run, and how many more events it has room to keep.
 pub struct Net {
     clocks: Vec<u64>,
     state: NetState,
@@ -115,8 +115,8 @@ impl Net {
         Report { state: &self.state }
     }
 
-    /// The trace of all events so far: each topic's log, each subscription's span, and what its queue accepted, delivered or
-    /// not. An audit of it is a yes, unless memory runs out (`law::traces_are_explained`).
+    /// The trace of all events so far: each topic's log, each subscription's span, and what its queue accepted,
+    /// delivered or not. An audit of it is a yes, unless memory runs out (`law::traces_are_explained`).
     pub fn trace(&self) -> Result<Trace, NoMemory>
         ensures { IfOk result (λ trace. IsTraced self.now trace) }
     {
@@ -138,8 +138,8 @@ impl Net {
         outcome
     }
 
-    /// Takes each of these events, in their order, as `step` does. Out of memory to keep them all, no event is taken, all
-    /// stays but the spare room, and the events are dropped.
+    /// Takes each of these events, in their order, as `step` does. Out of memory to keep them all, no event is taken,
+    /// all stays but the spare room, and the events are dropped.
     pub fn run(&mut self, events: EventList) -> Result<(), NoMemory>
         ensures taken { OnOk result (HasTaken events self.old self.new) }
         ensures room { self.old.spare ≤ self.new.spare + length events }

@@ -5,14 +5,14 @@ ghost use Rattle.std.specs.Option.{option_map};
 ghost use Rattle.mcast_group.specs.Counted.{takes_of};
 ghost use Rattle.mcast_group.specs.Group.{GroupState, group_after_release};
 ghost use Rattle.mcast_group.specs.Machine.{due_part};
-ghost use Rattle.stomp_frame.specs.ServerFrames.{rendered};
-ghost use Rattle.stomp_frame.specs.Writing.{spelled};
+ghost use Rattle.stomp_frame.specs.ServerFrames.{raw_of_server};
+ghost use Rattle.stomp_frame.specs.Writing.{spelling_of};
 ghost use Rattle.delivery.specs.Topics.{max_topics};
 ghost use Rattle.delivery.specs.Machine.World.{new_topics};
 ghost use Rattle.delivery.specs.Core.State.{Core, log_limit, new_core};
 ghost use Rattle.delivery.specs.Inner.Senders.{IsSpeaker};
-ghost use Rattle.delivery.specs.Inner.Stands.{IsReached, Makes, IsChecked, line_objection};
-ghost use Rattle.delivery.specs.Inner.View.{LineView, view_of, new_group, leaving_line, fed_line, written_line, with_new_line};
+ghost use Rattle.delivery.specs.Inner.Stands.{IsReached, Makes, IsChecked, endpoint_objection};
+ghost use Rattle.delivery.specs.Inner.View.{EndpointView, view_of, new_group, leaving_endpoint, fed_endpoint, written_endpoint, with_new_endpoint};
 ghost use Rattle.delivery.specs.declared.event.Event.{Event as Asked};
 
 mod answer;
@@ -28,7 +28,7 @@ mod turns;
 mod txns;
 
 use crate::commit_list::CommitList;
-use crate::line::Line;
+use crate::endpoint::Endpoint;
 use crate::outcome::Outcome;
 use crate::refusal::Refusal;
 use crate::sender_state::SenderState;
@@ -49,9 +49,9 @@ use sub_queue::VecOutlet;
 /// The most parts and rows of a topic, taken together.
 const LOG_LIMIT: usize = 65_536;
 
-/// What the core holds: of each topic its group, of each sender its transaction and its verdicts, of each connection its
-/// line, each subscription, and the commit list, with a row promised to each transaction that is on its way. In contracts it
-/// is the view of a core.
+/// What the core holds: of each topic its group, of each sender its transaction and its verdicts, of each connection
+/// its endpoint, each subscription, and the commit list, with a row promised to each transaction that is on its way.
+/// In contracts it is the view of a core.
 #[derive(Drop)]
 pub(crate) struct NetState {
     alloc: Global,
@@ -60,7 +60,7 @@ pub(crate) struct NetState {
     groups: Vec<Group<VecOutlet>>,
     senders: Vec<SenderState>,
     table: Table,
-    lines: Vec<Line>,
+    endpoints: Vec<Endpoint>,
     subs: Vec<Sub>,
     commits: CommitList,
 }
@@ -79,7 +79,7 @@ impl Model for NetState {
       groups = n.groups.items;
       senders = n.senders.items;
       verdicts = n.table;
-      lines = n.lines.items;
+      endpoints = n.endpoints.items;
       subs = n.subs.items;
       commits = n.commits.rows;
     } };
@@ -109,7 +109,8 @@ impl NetState {
         capacity: usize,
     ) -> Result<NetState, NoMemory>
         requires { length clocks.now ≤ max_topics }
-        ensures { IfOk result (λ state. state ≡ view_of (new_core (record { names = names; clocks = clocks.now }) capacity)) }
+        ensures { IfOk result (λ state. state
+            ≡ view_of (new_core (record { names = names; clocks = clocks.now }) capacity)) }
     {
         let groups = new_groups(alloc, clocks)?;
         Ok(NetState {
@@ -119,69 +120,72 @@ impl NetState {
             groups,
             senders: Vec::new(alloc),
             table: Table::new(alloc),
-            lines: Vec::new(alloc),
+            endpoints: Vec::new(alloc),
             subs: Vec::new(alloc),
             commits: CommitList::new(alloc),
         })
     }
 
     /// The sender of a connection that is there and isn't gone: 80 where there is none, 87 where it is gone.
-    fn check_there(&self, c: u64) -> Result<u64, Refusal>
-        ensures { IsSpeaker result self.now c }
+    fn check_there(&self, connection: u64) -> Result<u64, Refusal>
+        ensures { IsSpeaker result self.now connection }
     {
-        let Some(line) = self.lines.get(c as usize) else {
+        let Some(endpoint) = self.endpoints.get(connection as usize) else {
             return Err(Refusal::NoConn);
         };
-        match line.stage {
-            Stage::Open(_) => Ok(line.sender),
-            Stage::Leaving(_) => Ok(line.sender),
+        match endpoint.stage {
+            Stage::Open(_) => Ok(endpoint.sender),
+            Stage::Leaving(_) => Ok(endpoint.sender),
             Stage::Gone => Err(Refusal::Gone),
         }
     }
 
-    /// Whether the connection's octets and frames may be read: 80 where there is none, 87 where it is gone, 81 where it is
-    /// leaving.
-    fn check_open(&self, c: u64) -> Result<(), Refusal>
-        ensures { IsChecked result (line_objection (slice_get self.now.lines c)) }
+    /// Whether the connection's octets and frames may be read: 80 where there is none, 87 where it is gone, 81 where
+    /// it is leaving.
+    fn check_open(&self, connection: u64) -> Result<(), Refusal>
+        ensures { IsChecked result (endpoint_objection (slice_get self.now.endpoints connection)) }
     {
-        self.check_there(c)?;
-        let line = &self.lines[c as usize];
-        match line.stage {
+        self.check_there(connection)?;
+        let endpoint = &self.endpoints[connection as usize];
+        match endpoint.stage {
             Stage::Leaving(_) => Err(Refusal::Busy),
             _ => Ok(()),
         }
     }
 
     /// The connection is leaving; with it is the receipt that its DISCONNECT asked for.
-    fn begin_leaving(&mut self, c: u64, parting: Option<Octets>)
-        requires { c < length self.old.lines }
-        ensures { (d : LineView) → self.new ≡ record self.old {
-          lines = set self.old.lines c (leaving_line parting (get_or self.old.lines c d));
+    fn begin_leaving(&mut self, connection: u64, parting: Option<Octets>)
+        requires { connection < length self.old.endpoints }
+        ensures { (d : EndpointView) → self.new ≡ record self.old {
+          endpoints = set self.old.endpoints connection
+              (leaving_endpoint parting (get_or self.old.endpoints connection d));
         } }
     {
-        let line = &mut self.lines[c as usize];
-        line.stage = Stage::Leaving(parting);
+        let endpoint = &mut self.endpoints[connection as usize];
+        endpoint.stage = Stage::Leaving(parting);
     }
 
     /// Writes a frame to the connection. After `NoMemory` all is what it was.
-    fn write(&mut self, c: u64, frame: &ServerFrame) -> Result<(), NoMemory>
-        requires { c < length self.old.lines }
-        ensures ok { OnOk result ((d : LineView) → self.new ≡ record self.old {
-          lines = set self.old.lines c (written_line (spelled (rendered frame.now)) (get_or self.old.lines c d));
+    fn write(&mut self, connection: u64, frame: &ServerFrame) -> Result<(), NoMemory>
+        requires { connection < length self.old.endpoints }
+        ensures ok { OnOk result ((d : EndpointView) → self.new ≡ record self.old {
+          endpoints = set self.old.endpoints connection
+              (written_endpoint (spelling_of (raw_of_server frame.now)) (get_or self.old.endpoints connection d));
         }) }
         ensures err { OnErr result (self.new ≡ self.old) }
     {
-        let line = &mut self.lines[c as usize];
-        line.write(frame)
+        let endpoint = &mut self.endpoints[connection as usize];
+        endpoint.write(frame)
     }
 
     /// The connection is lost: 80 where there is none, 87 where it is gone, 81 where it is leaving. It takes no memory.
-    pub(crate) fn lost(&mut self, c: u64) -> Outcome
-        ensures { (k : Core) → IsReached k → self.old ≡ view_of k → Makes k (Asked.Lost c) result self.new }
+    pub(crate) fn lost(&mut self, connection: u64) -> Outcome
+        ensures { (k : Core) → IsReached k → self.old ≡ view_of k
+            → Makes k (Asked.Lost connection) result self.new }
     {
-        match self.check_open(c) {
+        match self.check_open(connection) {
             Ok(()) => {
-                self.begin_leaving(c, None);
+                self.begin_leaving(connection, None);
                 Outcome::Leaving
             }
             Err(refusal) => Outcome::Refused(refusal),
@@ -189,17 +193,17 @@ impl NetState {
     }
 
     /// One more sender and its connection. After `NoMemory` all is what it was.
-    fn add_line(&mut self) -> Result<(), NoMemory>
-        ensures ok { OnOk result (self.new ≡ with_new_line self.old) }
+    fn add_endpoint(&mut self) -> Result<(), NoMemory>
+        ensures ok { OnOk result (self.new ≡ with_new_endpoint self.old) }
         ensures err { OnErr result (self.new ≡ self.old) }
     {
-        self.lines.reserve(1)?;
+        self.endpoints.reserve(1)?;
         self.senders.reserve(1)?;
         let names = self.names.clone()?;
         self.table.add_sender(self.alloc)?;
         let sender = self.senders.len() as u64;
-        self.lines
-            .push_reserved(Line::new(self.alloc, names, sender));
+        self.endpoints
+            .push_reserved(Endpoint::new(self.alloc, names, sender));
         self.senders
             .push_reserved(SenderState::new(self.alloc, Sender(sender)));
         Ok(())
@@ -209,32 +213,33 @@ impl NetState {
     pub(crate) fn open(&mut self) -> Outcome
         ensures { (k : Core) → IsReached k → self.old ≡ view_of k → Makes k Asked.Open result self.new }
     {
-        let c = self.lines.len() as u64;
-        match self.add_line() {
-            Ok(()) => Outcome::Opened(c),
+        let connection = self.endpoints.len() as u64;
+        match self.add_endpoint() {
+            Ok(()) => Outcome::Opened(connection),
             Err(NoMemory) => Outcome::NoMemory,
         }
     }
 
     /// Feeds these octets to the connection's reader. After `NoMemory` all is what it was.
-    fn feed(&mut self, c: u64, octets: &[u8]) -> Result<(), NoMemory>
-        requires { c < length self.old.lines }
-        ensures ok { OnOk result ((d : LineView) → self.new ≡ record self.old {
-          lines = set self.old.lines c (fed_line octets.now (get_or self.old.lines c d));
+    fn feed(&mut self, connection: u64, octets: &[u8]) -> Result<(), NoMemory>
+        requires { connection < length self.old.endpoints }
+        ensures ok { OnOk result ((d : EndpointView) → self.new ≡ record self.old {
+          endpoints = set self.old.endpoints connection
+              (fed_endpoint octets.now (get_or self.old.endpoints connection d));
         }) }
         ensures err { OnErr result (self.new ≡ self.old) }
     {
-        let line = &mut self.lines[c as usize];
-        line.feed(octets)
+        let endpoint = &mut self.endpoints[connection as usize];
+        endpoint.feed(octets)
     }
 
     /// The connection is fed these octets: 80 where there is none, 87 where it is gone, 81 where it is leaving.
-    pub(crate) fn piece(&mut self, c: u64, octets: &[u8]) -> Outcome
+    pub(crate) fn piece(&mut self, connection: u64, octets: &[u8]) -> Outcome
         ensures { (k : Core) → IsReached k → self.old ≡ view_of k
-            → Makes k (Asked.Piece c octets.now) result self.new }
+            → Makes k (Asked.Piece connection octets.now) result self.new }
     {
-        match self.check_open(c) {
-            Ok(()) => match self.feed(c, octets) {
+        match self.check_open(connection) {
+            Ok(()) => match self.feed(connection, octets) {
                 Ok(()) => Outcome::Fed,
                 Err(NoMemory) => Outcome::NoMemory,
             },
@@ -245,7 +250,8 @@ impl NetState {
     /// Releases the part that is due at the topic of this index, if one is: of which transaction it was.
     fn release_at(&mut self, index: usize) -> Option<TxnId>
         requires { index < length self.old.groups }
-        ensures due { (d : GroupState) → result ≡ option_map (λ p. p.part.id) (due_part (get_or self.old.groups index d).topic) }
+        ensures due { (d : GroupState) → result
+            ≡ option_map (λ p. p.part.id) (due_part (get_or self.old.groups index d).topic) }
         ensures groups { (d : GroupState) → self.new ≡ record self.old {
           groups = set self.old.groups index
               (group_after_release (takes_of (get_or self.old.groups index d)) (get_or self.old.groups index d));
@@ -260,10 +266,11 @@ impl NetState {
 
     /// The topic releases the part that is due: 84 where there is no such topic, 86 where nothing is due. It takes no
     /// memory.
-    pub(crate) fn release(&mut self, t: Topic) -> Outcome
-        ensures { (k : Core) → IsReached k → self.old ≡ view_of k → Makes k (Asked.Release t) result self.new }
+    pub(crate) fn release(&mut self, topic: Topic) -> Outcome
+        ensures { (k : Core) → IsReached k → self.old ≡ view_of k
+            → Makes k (Asked.Release topic) result self.new }
     {
-        let index = t.0 as usize;
+        let index = topic.0 as usize;
         if index >= self.groups.len() {
             return Outcome::Refused(Refusal::NotNamed);
         }

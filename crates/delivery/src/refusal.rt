@@ -26,8 +26,8 @@ pub enum Refusal {
     /// 80: there is no such connection.
     #[error("80 NoConn: name a connection that was opened")]
     NoConn,
-    /// 81: no frame is read while the connection is leaving or has an undecided transaction; one that is leaving can't be
-    /// lost; and it isn't gone before its transaction was decided or withdrawn and all was cancelled.
+    /// 81: no frame is read while the connection is leaving or has an undecided transaction; one that is leaving
+    /// can't be lost; and it isn't gone before its transaction was decided or withdrawn and all was cancelled.
     #[error("81 Busy: let the connection's transaction end first; nothing is read once it is leaving")]
     Busy,
     /// 82: the octets that the connection was fed hold no further frame yet.

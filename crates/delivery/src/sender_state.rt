@@ -11,11 +11,12 @@ ghost use Rattle.mcast_group.specs.Machine.{last_number};
 ghost use Rattle.sender_gate.specs.Gate.{next_id};
 ghost use Rattle.delivery.specs.Machine.World.{new_sender};
 ghost use Rattle.delivery.specs.Inner.Rooms.{is_flying};
-ghost use Rattle.delivery.specs.Inner.Senders.{gate_of, begun_sender, decide_refusal, decision_of, decided_row, decided_sender, flight_refusal, part_refusal, part_in, taken_sender, put_sender, marked_sender, withdraw_refusal, mark_of, withdrawn_sender, leftover_at, leftover_in};
+ghost use Rattle.delivery.specs.Inner.Senders.{gate_of, launched_sender, decide_refusal, decision_of, decided_row, decided_sender, flight_refusal, part_refusal, part_in, taken_sender, put_sender, failed_sender, withdraw_refusal, failure_of, withdrawn_sender, leftover_at, leftover_in};
 ghost use Rattle.delivery.specs.Inner.View.{sender_view};
 ghost use Rattle.delivery.specs.Inner.Leaving.{is_busy};
 
 use crate::in_flight::InFlight;
+use crate::not_started::NotStarted;
 use crate::refusal::Refusal;
 use crate::sending::Sending;
 use mcast_group::{ProposeFault, Row};
@@ -25,7 +26,6 @@ use std::alloc::Global;
 use std::marker::Model;
 use std::mem;
 use std::sync::Arc;
-use stomp_frame::NoMemory;
 
 /// A sender: its transaction, if one is undecided, and the tickets that it has to cancel.
 #[derive(Drop)]
@@ -41,9 +41,9 @@ impl Model for SenderState {
 
     ghost Value = { SenderView };
 
-    ghost view = { λ s. record { sending = s.sending; leftovers = s.leftovers.items } };
+    ghost view = { λ state. record { sending = state.sending; leftovers = state.leftovers.items } };
 
-    ghost invariant = { λ s. KeepsRoom s.sending (vec_len s.leftovers) (vec_capacity s.leftovers) };
+    ghost invariant = { λ state. KeepsRoom state.sending (vec_len state.leftovers) (vec_capacity state.leftovers) };
 }
 
 impl SenderState {
@@ -57,24 +57,24 @@ impl SenderState {
         }
     }
 
-    /// Begins a transaction, if none is undecided, with all the room that its end may need. After `NoMemory` it is what it
-    /// was, as it is where it has used its last number.
-    pub(crate) fn begin(&mut self, alloc: Global, txn: Txn) -> Result<TxnId, NoMemory>
+    /// Launches a transaction, if none is undecided, with all the room that its end may need. Where it isn't launched
+    /// the sender is what it was.
+    pub(crate) fn launch(&mut self, alloc: Global, txn: Txn) -> Result<TxnId, NotStarted>
         ensures id { IfOk result (λ id. id ≡ next_id (gate_of self.old.sending)) }
         ensures last { IfOk result (λ id. id.seq ≤ last_number) }
         ensures flying { OnOk result (is_flying self.new.sending ≡ true) }
         ensures idle { OnOk result (is_flying self.old.sending ≡ false) }
-        ensures ok { OnOk result (self.new ≡ begun_sender txn self.old) }
+        ensures ok { OnOk result (self.new ≡ launched_sender txn self.old) }
         ensures err { OnErr result (self.new ≡ self.old) }
     {
         let Sending::Idle(gate) = &self.sending else {
-            return Err(NoMemory);
+            return Err(NotStarted::InUse);
         };
         let gate = Gate::resume(gate.sender(), gate.seq(), gate.floor());
         let topics = txn.share_topics()?;
         self.leftovers.reserve(topics.len())?;
         let Ok(flying) = gate.begin(alloc, txn) else {
-            return Err(NoMemory);
+            return Err(NotStarted::NoMemory);
         };
         let flying = InFlight::new(flying);
         let id = flying.id();
@@ -95,7 +95,8 @@ impl SenderState {
     }
 
     /// Decides its transaction: the verdict, and the row of the commit list. It takes no memory. Refused where none is
-    /// undecided (83), where a topic refused it (88), and where a topic gave no ticket yet (52); it is then what it was.
+    /// undecided (83), where a topic refused it (88), and where a topic gave no ticket yet (52); it is then what it
+    /// was.
     pub(crate) fn decide(&mut self) -> Result<(Box<Verdict>, Row), Refusal>
         ensures refused { result_err result ≡ decide_refusal self.old.sending }
         ensures verdict { IfOk result (λ decided. decided.0.value ≡ decision_of self.old.sending) }
@@ -145,25 +146,26 @@ impl SenderState {
     }
 
     /// Takes the part at the topic out of its transaction, to be proposed, with the sender's floor. It takes no memory.
-    /// Refused where none is undecided (83), where a topic refused it (88), where it doesn't name the topic (84), and where
-    /// the part was taken out before (51).
-    pub(crate) fn take_part(&mut self, t: Topic) -> Result<(Stamp, Arc<Part>), Refusal>
-        ensures refused { result_err result ≡ part_refusal t self.old.sending }
+    /// Refused where none is undecided (83), where a topic refused it (88), where it doesn't name the topic (84), and
+    /// where the part was taken out before (51).
+    pub(crate) fn take_part(&mut self, topic: Topic) -> Result<(Stamp, Arc<Part>), Refusal>
+        ensures refused { result_err result ≡ part_refusal topic self.old.sending }
         ensures floor { IfOk result (λ taken. taken.0 ≡ (gate_of self.old.sending).floor) }
-        ensures part { IfOk result (λ taken. Some (data_of (arc_value taken.1)) ≡ part_in t self.old.sending) }
-        ensures own { IfOk result (λ taken. (arc_value taken.1).topic ≡ t) }
+        ensures part { IfOk result (λ taken. Some (data_of (arc_value taken.1))
+            ≡ part_in topic self.old.sending) }
+        ensures own { IfOk result (λ taken. (arc_value taken.1).topic ≡ topic) }
         ensures flown { OnOk result (is_flying self.old.sending ≡ true) }
         ensures flying { is_flying self.new.sending ≡ is_flying self.old.sending }
-        ensures new { self.new ≡ taken_sender t self.old }
+        ensures new { self.new ≡ taken_sender topic self.old }
     {
         match &mut self.sending {
             Sending::Idle(_) => Err(Refusal::NoFlight),
             Sending::Marked(_, _, _) => Err(Refusal::Marked),
             Sending::Flying(flying, _) => {
-                if !has_topic(flying.topics().as_slice(), t) {
+                if !has_topic(flying.topics().as_slice(), topic) {
                     return Err(Refusal::NotNamed);
                 }
-                match flying.part(t) {
+                match flying.part(topic) {
                     Some(part) => Ok((flying.floor(), part)),
                     None => Err(Refusal::Twice),
                 }
@@ -181,10 +183,10 @@ impl SenderState {
         }
     }
 
-    /// Marks its transaction, which a topic refused. It takes no memory.
-    pub(crate) fn mark(&mut self, fault: ProposeFault)
+    /// Its transaction fails: a topic refused it, and why. It takes no memory.
+    pub(crate) fn fail(&mut self, fault: ProposeFault)
         ensures ended { is_flying self.new.sending ≡ false }
-        ensures new { self.new ≡ marked_sender fault self.old }
+        ensures new { self.new ≡ failed_sender fault self.old }
     {
         match mem::replace(&mut self.sending, Sending::Idle(Gate::new(Sender(0)))) {
             Sending::Flying(flying, _) => {
@@ -199,7 +201,7 @@ impl SenderState {
     /// Refused where none is undecided (83), and where no topic refused it (89).
     pub(crate) fn withdraw(&mut self) -> Result<ProposeFault, Refusal>
         ensures refused { result_err result ≡ withdraw_refusal self.old.sending }
-        ensures fault { IfOk result (λ fault. Some fault ≡ mark_of self.old.sending) }
+        ensures fault { IfOk result (λ fault. Some fault ≡ failure_of self.old.sending) }
         ensures flying { is_flying self.new.sending ≡ is_flying self.old.sending }
         ensures err { OnErr result (self.new ≡ self.old) }
         ensures new { self.new ≡ withdrawn_sender self.old }
@@ -222,12 +224,12 @@ impl SenderState {
     }
 
     /// Where the first ticket is that it has to cancel at the topic, and whose it is.
-    pub(crate) fn leftover(&self, t: Topic) -> Option<(usize, TxnId)>
-        ensures at { option_map (λ found. found.0) result ≡ leftover_at t self.now }
+    pub(crate) fn leftover(&self, topic: Topic) -> Option<(usize, TxnId)>
+        ensures at { option_map (λ found. found.0) result ≡ leftover_at topic self.now }
         ensures there { IfSome result (λ found. found.0 < length self.now.leftovers) }
         ensures id { IfSome result (λ found. found.1 ≡ (leftover_in self.now found.0).id) }
     {
-        let index = index_of(&self.leftovers, t)?;
+        let index = index_of(&self.leftovers, topic)?;
         Some((index, self.leftovers[index].id))
     }
 
@@ -241,18 +243,18 @@ impl SenderState {
 }
 
 /// The index of the first ticket of the topic.
-fn index_of(leftovers: &[Ticket], t: Topic) -> Option<usize>
-    ensures at { result ≡ position (λ k. k.topic.0 == t.0) leftovers.now }
+fn index_of(leftovers: &[Ticket], topic: Topic) -> Option<usize>
+    ensures at { result ≡ position (λ k. k.topic.0 == topic.0) leftovers.now }
     ensures there { IfSome result (λ index. index < length leftovers.now) }
 {
-    leftovers.iter().position(|k| k.topic.0 == t.0)
+    leftovers.iter().position(|k| k.topic.0 == topic.0)
 }
 
 /// Whether the topic is one of these, which rise.
-fn has_topic(topics: &[Topic], t: Topic) -> bool
-    ensures { result ≡ names t topics.now }
+fn has_topic(topics: &[Topic], topic: Topic) -> bool
+    ensures { result ≡ names topic topics.now }
 {
-    topics.iter().any(|u| u.0 == t.0)
+    topics.iter().any(|u| u.0 == topic.0)
 }
 
 /// Puts the tickets at the end.

@@ -11,8 +11,8 @@ use std::alloc::Global;
 use std::marker::Model;
 use stomp_frame::NoMemory;
 
-/// The verdicts of transactions, by sender and seq. In contracts it is, for each sender, the verdicts of its transactions
-/// so far, of which the first has seq 1.
+/// The verdicts of transactions, by sender and seq. In contracts it is, for each sender, the verdicts of its
+/// transactions so far, of which the first has seq 1.
 #[derive(Drop)]
 pub(crate) struct Table {
     senders: Vec<Vec<Option<Box<Verdict>>>>,
@@ -49,7 +49,7 @@ impl Table {
     }
 
     /// One more transaction of this sender, which isn't decided. After `NoMemory` the table is what it was.
-    pub(crate) fn add_slot(&mut self, sender: usize) -> Result<(), NoMemory>
+    pub(crate) fn add_seq(&mut self, sender: usize) -> Result<(), NoMemory>
         ensures ok { OnOk result (self.new ≡ set self.old sender (get_or self.old sender [] ++ None ∷ [])) }
         ensures err { OnErr result (self.new ≡ self.old) }
     {
@@ -64,7 +64,7 @@ impl Table {
     }
 
     /// One transaction of this sender fewer: the last one, which isn't decided.
-    pub(crate) fn drop_slot(&mut self, sender: usize)
+    pub(crate) fn drop_seq(&mut self, sender: usize)
         ensures { self.new ≡ set self.old sender
             (take (length (get_or self.old sender []) - 1) (get_or self.old sender [])) }
     {

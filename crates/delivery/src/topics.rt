@@ -13,8 +13,9 @@ use stomp_session::Names;
 /// The most topics that a core has.
 pub const MAX_TOPICS: usize = 1024;
 
-/// The topics that a core begins with, numbered from 0 in the order in which they were added: of each its name, which no
-/// other has, and the number that its clock begins at. In contracts it is the list of the names and that of the clocks.
+/// The topics that a core begins with, numbered from 0 in the order in which they were added: of each its name, which
+/// no other has, and the number that its clock begins at. In contracts it is the list of the names and that of the
+/// clocks.
 #[derive(Drop)]
 pub struct Topics {
     names: Names,
@@ -54,7 +55,8 @@ impl Topics {
         (names, clocks)
     }
 
-    /// Whether a topic of this name may be added: the name isn't empty, no topic has it, and there are fewer than 1,024.
+    /// Whether a topic of this name may be added: the name isn't empty, no topic has it, and there are fewer than
+    /// 1,024.
     pub fn may_add(&self, name: &[u8]) -> bool
         ensures { IsTrue result ↔ MayAdd name.now self.now }
     {

@@ -11,7 +11,7 @@ use Rattle.mcast_group.specs.declared.subscription.Subscription.{Subscription}
 use Rattle.mcast_group.specs.Machine.{Entry}
 use Rattle.mcast_group.specs.Group.{entries_after}
 use Rattle.mcast_group.specs.Inner.GroupInvariant.{Gave, entry_of}
-use Rattle.mcast_group.specs.Inner.Subscriptions.{IsPlaceFor, insert_sub}
+use Rattle.mcast_group.specs.Inner.Subscriptions.{IsIndexFor, insert_sub}
 use Rattle.mcast_group.proofs.Numbers.{Numbers-insert}
 use Rattle.mcast_group.proofs.Parts.{map_length}
 use Rattle.mcast_group.proofs.Queues.{delivered_number}
@@ -63,7 +63,7 @@ number_not_found {Q = Q} subs n free =
     let t : ltb (length subs) (length subs) ≡ false = grind (arith, nat_tests) in
     rw (e, t) refl
 
--- one that is put into the gap of its number is at its place
+-- one that is put into the gap of its number is where insert_sub puts it
 puts_in_gap : {Q : Type 0} (subs : List (Subscription Q)) (i : ℕ) (s : Subscription Q) → IsGap number_of subs s.number i → insert subs i s ≡ insert_sub s subs
 puts_in_gap [] zero s gap = refl
 puts_in_gap [] (suc i) s gap = refl
@@ -72,9 +72,9 @@ puts_in_gap (z ∷ subs) (suc i) s gap =
     let ih = puts_in_gap subs i s (record { in_range = omega (arith, gap.in_range); below = λ j d h. gap.below (suc j) d (omega arith); above = λ j d h l. gap.above (suc j) d (omega arith) (omega arith) }) in
     grind (arith, nat_tests, gap.below 0 s (omega arith))
 
--- the gap of a number is the place for it
-pub place_found : {Q : Type 0} (subs : List (Subscription Q)) (n i : ℕ) → IsGap number_of subs n i → IsPlaceFor n subs i
-place_found {Q = Q} subs n i gap = record {
+-- the gap of a number is the index for it
+pub index_found : {Q : Type 0} (subs : List (Subscription Q)) (n i : ℕ) → IsGap number_of subs n i → IsIndexFor n subs i
+index_found {Q = Q} subs n i gap = record {
   within = gap.in_range;
   free = none_in_gap number_of subs n i gap;
   puts = λ s e. puts_in_gap subs i s (subst (λ (k : ℕ). IsGap number_of subs k i) (sym e) gap);
@@ -87,7 +87,7 @@ each_in P [] all e i = absurd i
 each_in P (x ∷ es) all e (inl k) = subst P k all.0
 each_in P (x ∷ es) all e (inr i) = each_in P es all.1 e i
 
--- they rise after one whose number is free was put at its place
+-- they rise after one whose number is free was put among them
 pub rises_inserted : {Q : Type 0} (shown : Q → Shown) (s : Subscription Q) (subs : List (Subscription Q)) → RisesBy number_of subs → AllByRecursion (λ (z : Subscription Q). z.number ≢ s.number) subs → RisesBy number_of (insert_sub s subs)
 rises_inserted shown s subs rises free =
     let before = rises-map (λ (z : Entry). z.number) (entry_of shown) subs rises in
@@ -142,19 +142,19 @@ rises_set {Q = Q} subs i new d l e rises =
 pub record HasSearched {Q : Type 0} (subs : List (Subscription Q)) (n : ℕ) (r : Result ℕ ℕ) : Type 0 where
   pub found : IfOk r (λ i. position (λ (z : Subscription Q). z.number == n) subs ≡ Some i)
   pub absent : OnErr r (position (λ (z : Subscription Q). z.number == n) subs ≡ None)
-  pub place : IfErr r (IsPlaceFor n subs)
+  pub index : IfErr r (IsIndexFor n subs)
 
--- a binary search by number finds the first of the number, or the place for it
+-- a binary search by number finds the first of the number, or the index for it
 pub has_searched : {Q : Type 0} (subs : List (Subscription Q)) (n : ℕ) (r : Result ℕ ℕ) → RisesBy number_of subs → Finds number_of subs n r → HasSearched subs n r
-has_searched subs n (Ok i) rises finds = record { found = number_found subs n i rises finds.found; absent = tt; place = tt }
+has_searched subs n (Ok i) rises finds = record { found = number_found subs n i rises finds.found; absent = tt; index = tt }
 has_searched subs n (Err i) rises finds = record {
   found = tt;
   absent = number_not_found subs n (none_in_gap number_of subs n i finds.absent);
-  place = place_found subs n i finds.absent;
+  index = index_found subs n i finds.absent;
 }
 
--- they rise after an insertion at its place, and where it was refused
-pub rises_tried : {Q : Type 0} (shown : Q → Shown) (subs : List (Subscription Q)) (i : ℕ) (s : Subscription Q) (b : Bool) → IsPlaceFor s.number subs i → RisesBy number_of subs → RisesBy number_of (cond b (insert subs i s) subs)
-rises_tried shown subs i s true place rises =
-    subst (RisesBy number_of) (sym (place.puts s refl)) (rises_inserted shown s subs rises place.free)
-rises_tried shown subs i s false place rises = rises
+-- they rise after an insertion at the index for its number, and where it was refused
+pub rises_tried : {Q : Type 0} (shown : Q → Shown) (subs : List (Subscription Q)) (i : ℕ) (s : Subscription Q) (b : Bool) → IsIndexFor s.number subs i → RisesBy number_of subs → RisesBy number_of (cond b (insert subs i s) subs)
+rises_tried shown subs i s true index rises =
+    subst (RisesBy number_of) (sym (index.puts s refl)) (rises_inserted shown s subs rises index.free)
+rises_tried shown subs i s false index rises = rises

@@ -64,7 +64,7 @@ fewer n m (p ∷ ps) (c ∷ cs) l h = ((let a : n ≤ length c = h.0.0 in omega 
 pub AreOf-more : (p : TopicPart) (c : List TopicPart) → AreOf p c → AreOf p (c ++ p ∷ [])
 AreOf-more p c h = AreOf-push p p c h refl
 
--- a part and its copies are inserted at one place: each part has its copies
+-- a part and its copies are inserted at one index: each part has its copies
 pub copies_insert : (n i : ℕ) (ps : List Pending) (cs : List (List TopicPart)) (p : Pending) (c : List TopicPart) → i ≤ length ps → HaveCopies n ps cs → n ≤ length c → AreOf p.part c → HaveCopies n (insert ps i p) (insert cs i c)
 copies_insert n zero ps cs p c l h m a = ((m, a), h)
 copies_insert n (suc i) [] cs p c l h m a = absurd (omega arith)

@@ -7,13 +7,14 @@ use Rattle.mcast_txn.specs.Lists.{In}
 use Rattle.mcast_txn.specs.Ballot.{Decision}
 use Rattle.mcast_txn.specs.Span.{Item}
 use Rattle.sub_queue.specs.Shown.{Room, has_room}
-use Rattle.mcast_group.specs.Machine.{TopicState, Entry, Pending, entry_after, due_part, item_of, after_release, after_release_of, after_release_if, after_releases, after_try, after_tries, learn_fault, after_learn, decided_stamp}
+use Rattle.mcast_group.specs.Machine.{TopicState, Entry, Pending, entry_after, due_part, item_of, after_release, after_release_of, after_releases, after_try, after_tries, learn_fault, after_learn, decided_stamp}
 use Rattle.mcast_group.specs.declared.fault.LearnFault.{LearnFault}
 use Rattle.mcast_group.specs.Group.{GroupState, AnswersEach, MayAnswer, group_after_releases, group_after_release, room_at, shows, group_after_tries}
 use Rattle.mcast_group.specs.Sound.{NumbersDiffer}
 use Rattle.mcast_group.specs.Counted.{CountedReleases, CountedTurns, counted, takes_in, takes_of, takes_with}
 use Rattle.mcast_group.proofs.Queues.{delivered_number}
 use Rattle.mcast_group.proofs.Releasing.{differ_same}
+use Rattle.mcast_group.proofs.Parts.{after_release_if}
 
 -- ---- two answers that agree where they are asked
 

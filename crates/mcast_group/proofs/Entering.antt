@@ -12,7 +12,7 @@ use Rattle.mcast_txn.proofs.Members.{In-get_or}
 use Rattle.sub_queue.specs.Shown.{Shown}
 use Rattle.mcast_group.specs.declared.subscription.Subscription.{Subscription}
 use Rattle.mcast_group.specs.Sound.{IsSound}
-use Rattle.mcast_group.specs.Machine.{TopicState, Entry, Pending, is_pending, key, next_number, propose_checks, propose_fault, after_cancel, after_drain}
+use Rattle.mcast_group.specs.Machine.{TopicState, Entry, Pending, is_pending, key, next_number, propose_refusals, propose_fault, after_cancel, after_drain}
 use Rattle.mcast_group.specs.Group.{after_enter}
 use Rattle.mcast_group.specs.Inner.Copies.{HaveCopies}
 use Rattle.mcast_group.specs.Inner.GroupInvariant.{IsKept, entry_of}
@@ -39,11 +39,11 @@ kept_grown shown spare x capacity after copies old new h l e grown = record {
   spares = λ s stands n.
       let w = placed_at s new stands in
       let m = same_many shown old new e in
-      let i : w.place < length new = w.within in
-      let j : w.place < length old = omega arith in
-      let was : (get_or old w.place s).to ≡ None = sym (was_open shown old new w.place s j i e) ∙ (ap (λ (z : Subscription _). z.to) (w.is s) ∙ n) in
-      let a : length x.pending ≤ spare (get_or old w.place s).outlet = h.spares (get_or old w.place s) (In-get_or old w.place s j) was in
-      let b : spare (get_or old w.place s).outlet ≤ spare s.outlet = subst (λ (z : Subscription _). spare (get_or old w.place s).outlet ≤ spare z.outlet) (w.is s) (grown w.place s j) in
+      let i : w.index < length new = w.within in
+      let j : w.index < length old = omega arith in
+      let was : (get_or old w.index s).to ≡ None = sym (was_open shown old new w.index s j i e) ∙ (ap (λ (z : Subscription _). z.to) (w.is s) ∙ n) in
+      let a : length x.pending ≤ spare (get_or old w.index s).outlet = h.spares (get_or old w.index s) (In-get_or old w.index s j) was in
+      let b : spare (get_or old w.index s).outlet ≤ spare s.outlet = subst (λ (z : Subscription _). spare (get_or old w.index s).outlet ≤ spare z.outlet) (w.is s) (grown w.index s j) in
       omega arith;
   copied = subst (λ (n : ℕ). HaveCopies n x.pending copies) (sym (same_many shown old new e)) h.copied;
 }
@@ -60,9 +60,9 @@ kept_entered shown spare x y capacity after n copies more old new floor part h o
       spares = λ s stands o.
           let w = placed_at s new stands in
           let m = same_many shown old new same in
-          let i : w.place < length new = w.within in
-          let j : w.place < length old = omega arith in
-          let a : length x.pending + 1 ≤ spare s.outlet = subst (λ (z : Subscription _). z.to ≡ None → length x.pending + 1 ≤ spare z.outlet) (w.is s) (left w.place s j) o in
+          let i : w.index < length new = w.within in
+          let j : w.index < length old = omega arith in
+          let a : length x.pending + 1 ≤ spare s.outlet = subst (λ (z : Subscription _). z.to ≡ None → length x.pending + 1 ≤ spare z.outlet) (w.is s) (left w.index s j) o in
           omega arith;
       copied = subst (λ (k : ℕ). HaveCopies k y.pending more) (sym (same_many shown old new same)) copied;
     }
@@ -95,6 +95,6 @@ pub record IsGreatest (part : TopicPart) (n : ℕ) (x : TopicState) : Type 0 whe
 
 pub is_greatest : (floor : Stamp) (part : TopicPart) (n : ℕ) (x : TopicState) → IsSound x → n ≡ next_number floor x → propose_fault floor part x ≡ None → IsGreatest part n x
 is_greatest floor part n x h e none = record {
-  free = (passes (propose_checks floor part x) none).0;
+  free = (passes (propose_refusals floor part x) none).0;
   above = λ q k. lt_by_number (key q) (record { n = n; topic = part.topic }) (let l : (key q).n ≤ x.clock = h.clock_keys q k in omega arith);
 }

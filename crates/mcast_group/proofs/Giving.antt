@@ -46,7 +46,7 @@ set_same [] i d y e l = absurd (omega arith)
 set_same (x ∷ xs) zero d y e l = ap (λ (z : _). z ∷ xs) e
 set_same (x ∷ xs) (suc i) d y e l = ap (λ (z : List _). x ∷ z) (set_same xs i d y e (omega arith))
 
--- what is the same at one place is the same in all
+-- what is the same at one index is the same in all
 pub rooms_more : {S T : Type 0} (g : S → T) (i : ℕ) (subs old : List S) (new d : S) → i < length subs → map g subs ≡ map g old → g new ≡ g (get_or subs i d) → map g (set subs i new) ≡ map g old
 rooms_more g i subs old new d l h n = rw map-set (set_same (map g subs) i (g d) (g new) (n ∙ sym (get_or-map g subs i d)) (rw length-map l) ∙ h)
 

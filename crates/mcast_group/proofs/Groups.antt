@@ -12,7 +12,8 @@ use Rattle.mcast_group.specs.declared.fault.LearnFault.TheVariants.{Foreign, Cla
 use Rattle.mcast_group.specs.declared.fault.CancelFault.TheVariants.{Decided}
 use Rattle.mcast_group.specs.Group.{topic_state}
 use Rattle.mcast_txn.specs.Span.{LogRow}
-use Rattle.mcast_group.specs.Machine.{TopicState, Pending, Entry, key, find_pending, is_pending, parts_without, is_foreign, clashes, last_number, propose_fault, learn_fault_of, after_learn, with_stamp, cancel_fault, after_cancel, least_part, due_part, row_of, item_of, entry_after, after_release_of, after_release_if, after_release}
+use Rattle.mcast_group.specs.Machine.{TopicState, Pending, Entry, key, find_pending, is_pending, parts_without, is_foreign, clashes, last_number, propose_fault, learn_fault_of, after_learn, with_stamp, cancel_fault, after_cancel, least_part, due_part, row_of, item_of, entry_after, after_release_of, after_release}
+use Rattle.mcast_group.proofs.Parts.{after_release_if}
 
 -- ---- what stands against a proposal
 

@@ -14,12 +14,12 @@ use Rattle.std.proofs.lemmas.Bool.Decides.{nat_tests}
 use Rattle.mcast_group.specs.declared.fault.LearnFault.{LearnFault}
 use Rattle.mcast_group.specs.declared.subscription.Subscription.{Subscription}
 use Rattle.mcast_group.specs.Sound.{IsSound, RisesById}
-use Rattle.mcast_group.specs.Machine.{TopicState, Pending, Entry, decided_stamp, key, learn_fault, after_learn, with_stamp, after_try, after_tries, due_part, after_release, after_release_if, row_of}
+use Rattle.mcast_group.specs.Machine.{TopicState, Pending, Entry, decided_stamp, key, learn_fault, after_learn, with_stamp, after_try, after_tries, due_part, after_release, row_of}
 use Rattle.mcast_group.specs.Group.{AreFound, CanLearn, GroupState, Tries, TriesAll, Turns, group_after_releases, group_after_release, group_after_tries}
 use Rattle.mcast_group.specs.Inner.Copies.{HaveCopies}
 use Rattle.mcast_group.specs.Inner.GroupInvariant.{IsKept}
-use Rattle.mcast_group.proofs.Parts.{map_length, told_how}
-use Rattle.mcast_group.proofs.Indices.{part_at as place_of_part}
+use Rattle.mcast_group.proofs.Parts.{map_length, told_how, after_release_if}
+use Rattle.mcast_group.proofs.Indices.{part_at as index_of_part}
 use Rattle.mcast_group.proofs.Keeping.{Learns, key_past, learns_is, Sound-learned}
 use Rattle.mcast_txn.specs.Stamp.{stamp_lt}
 use Rattle.mcast_txn.proofs.Members.{In-get_or}
@@ -33,8 +33,8 @@ copies_told id stamp n (p ∷ ps) [] h = h
 copies_told id stamp n (p ∷ ps) (c ∷ cs) h = ((h.0.0, rw (told_how id stamp p).part h.0.1), copies_told id stamp n ps cs h.1)
 
 -- IsKept holds after a stamp is learnt
-pub kept_learned : {Q : Type 0} (spare : Q → ℕ) (x y : TopicState) (capacity : ℕ) (copies : List (List TopicPart)) (subs : List (Subscription Q)) (id : TxnId) (place : ℕ) (stamp : Stamp) → IsKept spare x capacity copies subs → CanLearn id place stamp x → y ≡ after_learn id stamp x → IsKept spare y capacity copies subs
-kept_learned spare x y capacity copies subs id place stamp h can e =
+pub kept_learned : {Q : Type 0} (spare : Q → ℕ) (x y : TopicState) (capacity : ℕ) (copies : List (List TopicPart)) (subs : List (Subscription Q)) (id : TxnId) (index : ℕ) (stamp : Stamp) → IsKept spare x capacity copies subs → CanLearn id index stamp x → y ≡ after_learn id stamp x → IsKept spare y capacity copies subs
+kept_learned spare x y capacity copies subs id index stamp h can e =
     let m = map_length (with_stamp id stamp) x.pending in
     subst (λ (z : TopicState). IsKept spare z capacity copies subs) (sym e) (record {
       sound = subst (λ (s : Stamp). IsSound (after_learn id s x)) (sym can.is) (Sound-learned id can.verdict x h.sound (learns_is id can.verdict x can.allowed));
@@ -53,15 +53,15 @@ pub may_learn : (id : TxnId) (i : ℕ) (stamp : Stamp) (x : TopicState) → IsSo
 may_learn id i stamp x h can =
     let l = learns_is id can.verdict x can.allowed in
     record {
-      within = (place_of_part id x.pending i l.part can.at).in_range;
+      within = (index_of_part id x.pending i l.part can.at).in_range;
       past = λ d. rw (can.is, sym (own l d)) (key_past id can.verdict x l);
-      free = λ d q k e. h.one_part q (get_or x.pending i d) k (In-get_or x.pending i d (place_of_part id x.pending i d can.at).in_range)
-          (subst (λ (z : TxnId). same_id q.part.id z ≡ true) (sym (place_of_part id x.pending i d can.at).is) (l.new q k (e ∙ can.is)));
+      free = λ d q k e. h.one_part q (get_or x.pending i d) k (In-get_or x.pending i d (index_of_part id x.pending i d can.at).in_range)
+          (subst (λ (z : TxnId). same_id q.part.id z ≡ true) (sym (index_of_part id x.pending i d can.at).is) (l.new q k (e ∙ can.is)));
     }
   where
     own : (l : Learns id can.verdict x) (d : Pending) → l.part ≡ get_or x.pending i d
     own l d =
-        let at = place_of_part id x.pending i d can.at in
+        let at = index_of_part id x.pending i d can.at in
         h.one_part l.part (get_or x.pending i d) l.stands (In-get_or x.pending i d at.in_range) (id_same l.part.part.id (get_or x.pending i d).part.id (l.is ∙ sym at.is))
 
 -- ---- one part
@@ -113,7 +113,7 @@ same_parts id (Some v) x = go (learn_fault id v x)
     go None = told_parts id (decided_stamp v) x.pending
     go (Some fault) = refl
 
--- pending lists of the same parts have the same part at each place
+-- pending lists of the same parts have the same part at each index
 pub part_at : (ps qs : List Pending) (i : ℕ) (d : Pending) → parts ps ≡ parts qs → (get_or ps i d).part ≡ (get_or qs i d).part
 part_at [] [] i d e = refl
 part_at [] (q ∷ qs) i d e = cc

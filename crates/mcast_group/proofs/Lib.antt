@@ -19,5 +19,5 @@ pub mod TurnEmpties
 pub mod Turns
 pub mod Rows
 pub mod Segments
-pub mod Places
+pub mod KeyIndices
 pub mod ByKey

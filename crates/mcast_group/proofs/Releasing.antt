@@ -90,7 +90,7 @@ copies_length n [] (c ∷ cs) h = absurd h
 copies_length n (p ∷ ps) [] h = absurd h
 copies_length n (p ∷ ps) (c ∷ cs) h = let ih = copies_length n ps cs h.1 in omega arith
 
--- the list of copies at a part's place has at least n, all of that part
+-- the list of copies at a part's index has at least n, all of that part
 pub copies_at : (n : ℕ) (ps : List Pending) (cs : List (List TopicPart)) (i : ℕ) (p : Pending) (c : List TopicPart) → HaveCopies n ps cs → i < length ps → p ≡ get_or ps i p → c ≡ get_or cs i c → (n ≤ length c) × AreOf p.part c
 copies_at n [] cs i p c h l e k = absurd (omega arith)
 copies_at n (q ∷ ps) [] i p c h l e k = absurd h
@@ -108,27 +108,27 @@ copies_remove n (p ∷ ps) (c ∷ cs) (suc i) h = (h.0, copies_remove n ps cs i 
 
 -- ---- what a group keeps
 
--- x stands at a place
+-- x stands at an index
 pub record Placed {X : Type 0} (x : X) (xs : List X) : Type 0 where
-  pub place : ℕ
-  pub within : place < length xs
-  pub is : (d : X) → get_or xs place d ≡ x
+  pub index : ℕ
+  pub within : index < length xs
+  pub is : (d : X) → get_or xs index d ≡ x
 
--- what is in a list is at a place of it
+-- what is in a list is at an index of it
 pub placed_at : {X : Type 0} (x : X) (xs : List X) → In x xs → Placed x xs
 placed_at x [] h = absurd h
-placed_at x (y ∷ xs) (inl e) = record { place = 0; within = omega arith; is = λ d. e }
+placed_at x (y ∷ xs) (inl e) = record { index = 0; within = omega arith; is = λ d. e }
 placed_at x (y ∷ xs) (inr h) =
     let p = placed_at x xs h in
-    let l : p.place < length xs = p.within in
-    record { place = suc p.place; within = omega arith; is = p.is }
+    let l : p.index < length xs = p.within in
+    record { index = suc p.index; within = omega arith; is = p.is }
 
 map_at : {X Y : Type 0} (f : X → Y) (xs : List X) (i : ℕ) (d : X) → get_or (map f xs) i (f d) ≡ f (get_or xs i d)
 map_at f [] i d = refl
 map_at f (x ∷ xs) zero d = refl
 map_at f (x ∷ xs) (suc i) d = map_at f xs i d
 
--- what is at a place of a mapped list is f of what is there in the list
+-- what is at an index of a mapped list is f of what is there in the list
 pub map_within : {X Y : Type 0} (f : X → Y) (xs : List X) (i : ℕ) (d : Y) (e : X) → i < length xs → get_or (map f xs) i d ≡ f (get_or xs i e)
 map_within f [] i d e l = absurd (omega arith)
 map_within f (x ∷ xs) zero d e l = refl
@@ -185,7 +185,7 @@ module _ {Q : Type 0} (shown : Q → Shown) (spare : Q → ℕ) (x : TopicState)
             let m = length_push x.held (row_of p) in omega arith;
         spares = λ s stands n.
             let w = placed_at s new stands in
-            let k = w.place in
+            let k = w.index in
             let in_old : k < length old = subst (λ (m : ℕ). k < m) many w.within in
             let d = get_or old k s in
             let here : entry_of shown s ≡ entry_after takes x.frontier (item_of p) (entry_of shown d) =
@@ -241,15 +241,15 @@ some_released may x y rooms after p es due t e k = (
       ∙ ap (λ (z : List Room). record { topic = after_release t.takes x; rooms = z }) k,
 )
 
--- the part at the place of least key is due, once it has learnt
-pub due_found : (x : TopicState) (place : ℕ) (q p : Pending) → ((d : Pending) → least_part x.pending ≡ Some (get_or x.pending place d)) → place < length x.pending → q ≡ get_or x.pending place q → p ≡ get_or x.pending place p → is_some q.learnt ≡ true → due_part x ≡ Some p
-due_found x place q p low l e k learnt =
-    let same : q ≡ p = e ∙ (get_or_default x.pending place q p l ∙ sym k) in
+-- the part at the index of least key is due, once it has learnt
+pub due_found : (x : TopicState) (index : ℕ) (q p : Pending) → ((d : Pending) → least_part x.pending ≡ Some (get_or x.pending index d)) → index < length x.pending → q ≡ get_or x.pending index q → p ≡ get_or x.pending index p → is_some q.learnt ≡ true → due_part x ≡ Some p
+due_found x index q p low l e k learnt =
+    let same : q ≡ p = e ∙ (get_or_default x.pending index q p l ∙ sym k) in
     due_here x p (low p ∙ ap Some (sym k)) (subst (λ (z : Pending). is_some z.learnt ≡ true) same learnt)
 
 -- nothing is due where the part of least key has learnt no stamp
-pub none_learnt : (x : TopicState) (place : ℕ) (q : Pending) → ((d : Pending) → least_part x.pending ≡ Some (get_or x.pending place d)) → q ≡ get_or x.pending place q → is_some q.learnt ≡ false → due_part x ≡ None
-none_learnt x place q low e learnt = rw (low q, ← e, learnt) refl
+pub none_learnt : (x : TopicState) (index : ℕ) (q : Pending) → ((d : Pending) → least_part x.pending ≡ Some (get_or x.pending index d)) → q ≡ get_or x.pending index q → is_some q.learnt ≡ false → due_part x ≡ None
+none_learnt x index q low e learnt = rw (low q, ← e, learnt) refl
 
 -- nothing is due where nothing is pending
 pub none_pending : (x : TopicState) → x.pending ≡ [] → due_part x ≡ None

@@ -93,7 +93,7 @@ entries_with {Q = Q} shown s (y ∷ ys) = go (nat_lt s.number y.number) (entries
     go true ih = refl
     go false ih = ap (λ (es : List Entry). entry_of shown y ∷ es) ih
 
--- the rooms after an insertion have the new one at its entry's place
+-- the rooms after an insertion have the new one where its entry is
 pub rooms_are_with : {Q : Type 0} (shown : Q → Shown) (s : Subscription Q) (subs : List (Subscription Q)) → map (room_of shown) (insert_sub s subs) ≡ rooms_with s.number (room_of shown s) (map (entry_of shown) subs) (map (room_of shown) subs)
 rooms_are_with shown s [] = refl
 rooms_are_with {Q = Q} shown s (y ∷ ys) = go (nat_lt s.number y.number) (rooms_are_with shown s ys)
@@ -102,14 +102,14 @@ rooms_are_with {Q = Q} shown s (y ∷ ys) = go (nat_lt s.number y.number) (rooms
     go true ih = refl
     go false ih = ap (λ (rs : List Room). room_of shown y ∷ rs) ih
 
--- a subscription at its place, with nothing accepted, is the machine's new entry
+-- a subscription at its index, with nothing accepted, is the machine's new entry
 pub subscribed_state : {Q : Type 0} (shown : Q → Shown) (t : Topic) (clock limit : ℕ) (ps : List Pending) (base : Stamp) (rows : List LogRow) (f : Stamp) (subs : List (Subscription Q)) (s : Subscription Q) → entry_of shown s ≡ record { number = s.number; from = f; to = None; accepted = [] } → topic_state t clock limit ps base rows f (map (entry_of shown) (insert_sub s subs)) ≡ after_subscribe s.number (topic_state t clock limit ps base rows f (map (entry_of shown) subs))
 subscribed_state shown t clock limit ps base rows f subs s e =
     ap (λ (es : List Entry). topic_state t clock limit ps base rows f es) (entries_with shown s subs ∙ ap (λ (z : Entry). insert_entry z (map (entry_of shown) subs)) e)
 
 -- ---- one that ends
 
--- the subscription at a place, which is the first of its number
+-- the subscription at an index, which is the first of its number
 pub record EndsAt {Q : Type 0} (shown : Q → Shown) (n : ℕ) (subs : List (Subscription Q)) (i : ℕ) (d : Subscription Q) : Type 0 where
   pub found : find_entry n (map (entry_of shown) subs) ≡ Some (entry_of shown (get_or subs i d))
   pub roomed : room_at n (map (entry_of shown) subs) (map (room_of shown) subs) ≡ Some (room_of shown (get_or subs i d))
@@ -162,7 +162,7 @@ ends_at shown n (s ∷ subs) (suc i) d l e f =
       left = λ h. rw a (ap (λ (es : List Entry). entry_of shown s ∷ es) (ih.left h.1));
     }
 
--- where a place is found for a number, its subscription is there
+-- where an index is found for a number, its subscription is there
 pub ends_found : {Q : Type 0} (shown : Q → Shown) (n : ℕ) (subs : List (Subscription Q)) (i : ℕ) (d : Subscription Q) → position (λ (z : Subscription Q). z.number == n) subs ≡ Some i → (i < length subs) × EndsAt shown n subs i d
 ends_found {Q = Q} shown n subs i d e =
     let k = position-Some (λ (z : Subscription Q). z.number == n) subs i d e in (k.0, ends_at shown n subs i d k.0 k.1 k.2)
@@ -185,7 +185,7 @@ kept_unsubscribed shown spare x y capacity copies subs n i h e l =
       copied = fewer (length subs) (length (remove subs i)) x.pending copies (omega arith) h.copied;
     })
 
--- ending a subscription is refused where no place is found for its number
+-- ending a subscription is refused where no index is found for its number
 pub no_sub : {Q : Type 0} (shown : Q → Shown) (x : TopicState) (n : ℕ) (subs : List (Subscription Q)) → x.subscriptions ≡ map (entry_of shown) subs → position (λ (z : Subscription Q). z.number == n) subs ≡ None → unsubscribe_fault n x ≡ Some (record {})
 no_sub {Q = Q} shown x n subs e p =
     let a : is_some (find_entry n x.subscriptions) ≡ false = ap (λ (es : List Entry). is_some (find_entry n es)) e ∙ (entry_any shown n subs ∙ none_at (λ (z : Subscription Q). z.number == n) subs p) in

@@ -8,9 +8,10 @@ use Rattle.mcast_group.specs.Fitting.{Fits}
 use Rattle.mcast_group.specs.Group.{AreFound, GroupState, MayBeFound, ReleasesAll, TriesAll, Turns}
 use Rattle.mcast_group.specs.Group.{group_after_release, group_after_releases, group_after_tries}
 use Rattle.mcast_group.specs.Machine.{TopicState, Entry, Pending, HasOneRowEach, due_part, key, parts_without, row_of}
-use Rattle.mcast_group.specs.Machine.{after_release, after_release_if, after_releases, after_tries}
+use Rattle.mcast_group.specs.Machine.{after_release, after_releases, after_tries}
 use Rattle.mcast_group.specs.Sound.{IsSound}
 use Rattle.mcast_group.proofs.Turning.{turn_none}
+use Rattle.mcast_group.proofs.Parts.{after_release_if}
 
 -- a topic without its subscriptions
 abbrev bare : TopicState → TopicState

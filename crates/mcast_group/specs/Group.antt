@@ -156,7 +156,7 @@ abbrev pub shown_at : ℕ → GroupState → Option Shown
 shown_at number g =
     shown_with (find_entry number g.topic.subscriptions) (room_at number g.topic.subscriptions g.rooms)
 
--- the rooms with that of a new subscription of this number, at its entry's place
+-- the rooms with that of a new subscription of this number, where its entry is
 abbrev pub rooms_with : ℕ → Room → List Entry → List Room → List Room
 rooms_with number room [] rooms = room ∷ []
 rooms_with number room (e ∷ es) [] = room ∷ []
@@ -221,6 +221,6 @@ abbrev pub or_no_memory : Option ProposeFault → ProposeFault
 or_no_memory None = ProposeFault.NoMemory
 or_no_memory (Some fault) = fault
 
--- why a proposal is refused: by the first of its tests that holds, or else for out of memory
+-- why a proposal is refused: by the first of its refusals that applies, or else for out of memory
 abbrev pub propose_refusal : Stamp → TopicPart → TopicState → ProposeFault
 propose_refusal floor part x = or_no_memory (propose_fault floor part x)

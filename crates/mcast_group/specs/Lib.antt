@@ -2,7 +2,7 @@ pub mod Machine
 pub mod Sound
 pub mod Fitting
 pub mod Group
-pub mod Kept
+pub mod Noted
 pub mod Counted
 pub mod Laws
 pub mod Faults

@@ -3,7 +3,7 @@
 use Rattle.std.specs.Prelude.{◌≡◌, ℕ, zero, suc, ◌+◌, ◌-◌, ◌==◌, nat_lt, max, Bool, false, not, ◌&&◌, ◌||◌}
 use Rattle.std.specs.Prelude.{List, [], ◌∷◌, ◌++◌, map, length, filter, Option, Some, None, if◌then◌else◌}
 use Rattle.std.specs.List.{find, list_any}
-use Rattle.std.specs.Option.{is_some, option_map}
+use Rattle.std.specs.Option.{is_some, option_and_then, option_map, option_map_or}
 use Rattle.mcast_txn.specs.declared.id.Topic.{Topic}
 use Rattle.mcast_txn.specs.declared.id.TxnId.{TxnId}
 use Rattle.mcast_txn.specs.declared.stamp.Stamp.{Stamp}
@@ -129,16 +129,16 @@ least_part (p ∷ ps) = Some (least_part_from p ps)
 abbrev pub next_number : Stamp → TopicState → ℕ
 next_number floor x = max x.clock floor.n + 1
 
--- the tests of a proposal, in this order
-abbrev pub propose_checks : Stamp → TopicPart → TopicState → List (Bool × ProposeFault)
-propose_checks floor part x =
+-- the refusals of a proposal, in this order
+abbrev pub propose_refusals : Stamp → TopicPart → TopicState → List (Bool × ProposeFault)
+propose_refusals floor part x =
     (is_pending part.id x.pending, ProposeFault.Twice)
     ∷ (not (nat_lt (max x.clock floor.n) last_number), ProposeFault.ClockFull)
     ∷ (not (nat_lt (length x.pending + length x.held) x.log_limit), ProposeFault.LogFull) ∷ []
 
 -- why the topic gives no ticket: the part is pending, no number is left, or the log is at its limit
 abbrev pub propose_fault : Stamp → TopicPart → TopicState → Option ProposeFault
-propose_fault floor part x = first_refusal (propose_checks floor part x)
+propose_fault floor part x = first_refusal (propose_refusals floor part x)
 
 -- the part is pending with the next number, which becomes the clock
 abbrev pub after_propose : Stamp → TopicPart → TopicState → TopicState
@@ -234,24 +234,15 @@ after_release_of takes p x = record x {
   subscriptions = map (entry_after takes x.frontier (item_of p)) x.subscriptions;
 }
 
--- the part, if it has learnt its stamp
-abbrev pub if_learnt : Option Pending → Option Pending
-if_learnt None = None
-if_learnt (Some p) = if is_some p.learnt then Some p else None
-
 -- The part that is due: that of least key, if it has learnt its stamp. So where one part has learnt (11, 2)
 -- and another waits with ticket (1, 1), nothing is due; once the other has learnt (10, 0), it is due.
 abbrev pub due_part : TopicState → Option Pending
-due_part x = if_learnt (least_part x.pending)
+due_part x = option_and_then (λ p. if is_some p.learnt then Some p else None) (least_part x.pending)
 
--- the release of this part, if there is one
-abbrev pub after_release_if : (Entry → Bool) → TopicState → Option Pending → TopicState
-after_release_if takes x None = x
-after_release_if takes x (Some p) = after_release_of takes p x
-
--- the release of what is due, if anything is
+-- The release of what is due, if anything is. So once the other has learnt (10, 0), its row is added to the
+-- log, and (10, 0) is the frontier; a second release adds (11, 2), and a third changes nothing.
 abbrev pub after_release : (Entry → Bool) → TopicState → TopicState
-after_release takes x = after_release_if takes x (due_part x)
+after_release takes x = option_map_or (λ p. after_release_of takes p x) (due_part x) x
 
 -- ---- turn
 

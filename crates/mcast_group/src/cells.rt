@@ -12,8 +12,8 @@ use mcast_txn::{Part, Seen, Verdict};
 pub struct Cells;
 
 impl Cells {
-    /// The verdict that the cell of the part's own flight gives, once it is set, with a note of that cell that knows it.
-    /// It takes no memory.
+    /// The verdict that the cell of the part's own flight gives, once it is set, with a note of that cell that knows
+    /// it. It takes no memory.
     pub fn look(part: &Part) -> Option<(&Verdict, Seen)>
         ensures { IfSome result (λ found. found.1 ≡ sight_of (flight_of_part part.now) found.0.now) }
     {

@@ -34,7 +34,7 @@ impl Model for Copies {
 }
 
 impl Copies {
-    // Takes one out.
+    /// Takes one out.
     pub(crate) fn take(&mut self) -> Option<Arc<Part>>
         ensures none { IfNone result (length self.old ≡ 0) }
         ensures is { IfSome result (λ part. In (data_of (arc_value part)) self.old) }
@@ -44,7 +44,7 @@ impl Copies {
         self.parts.pop()
     }
 
-    // `many` copies of a part.
+    /// `many` copies of a part.
     pub(crate) fn of(alloc: Global, part: &PendingPart, many: usize) -> Result<Copies, NoMemory>
         ensures many { IfOk result (λ copies. many ≤ length copies) }
         ensures of { IfOk result (λ copies. AreOf part.now.part copies) }
@@ -58,7 +58,7 @@ impl Copies {
         Ok(copies)
     }
 
-    // One copy more.
+    /// One copy more.
     pub(crate) fn add(&mut self, part: &PendingPart) -> Result<(), NoMemory>
         ensures ok { OnOk result (self.new ≡ self.old ++ part.now.part ∷ []) }
         ensures err { OnErr result (self.new ≡ self.old) }
@@ -69,14 +69,16 @@ impl Copies {
     }
 }
 
-// One copy more of each part; where there was no memory, each has as many as it had, or one more.
+/// One copy more of each part; where there was no memory, each has as many as it had, or one more.
 pub(crate) fn add_to_each(
     copies: &mut VecDeque<Copies>,
     pending: &PendingParts,
 ) -> Result<(), NoMemory>
     requires { length copies.old.items ≡ length pending.now }
-    ensures ok { OnOk result ((n : ℕ) → HaveCopies n pending.now copies.old.items → HaveCopies (n + 1) pending.now copies.new.items) }
-    ensures kept { (n : ℕ) → HaveCopies n pending.now copies.old.items → HaveCopies n pending.now copies.new.items }
+    ensures ok { OnOk result ((n : ℕ) → HaveCopies n pending.now copies.old.items
+        → HaveCopies (n + 1) pending.now copies.new.items) }
+    ensures kept { (n : ℕ) → HaveCopies n pending.now copies.old.items
+        → HaveCopies n pending.now copies.new.items }
 {
     for i in 0..pending.len() {
         copies[i].add(pending.at(i))?;
@@ -84,7 +86,7 @@ pub(crate) fn add_to_each(
     Ok(())
 }
 
-// Takes out the copies at an index.
+/// Takes out the copies at an index.
 pub(crate) fn take_at(copies: &mut VecDeque<Copies>, index: usize) -> Copies
     requires { index < length copies.old.items }
     ensures value { result ≡ slice_index_or copies.old.items index result }

@@ -4,14 +4,14 @@ ghost use Rattle.std.specs.Prelude.{◌≡◌, IfSome};
 ghost use Rattle.std.specs.Arc.{arc_value};
 ghost use Rattle.std.specs.Option.{is_some};
 ghost use Rattle.mcast_txn.specs.Part.{data_of, flight_of_part};
-ghost use Rattle.mcast_group.specs.Kept.{IsSightOf};
+ghost use Rattle.mcast_group.specs.Noted.{IsSightOf};
 
 use mcast_txn::{Part, Seen, Stamp};
 use std::marker::Model;
 use std::sync::Arc;
 
-/// A part that its topic has released, the stamp with which it was, and the note of its flight's cell that was kept beside
-/// it, where the cell told the stamp. In contracts it is these, and its flight.
+/// A part that its topic has released, the stamp with which it was, and the note of its flight's cell that was kept
+/// beside it, where the cell told the stamp. In contracts it is these, and its flight.
 #[derive(Drop)]
 pub struct Departed {
     part: Arc<Part>,
@@ -23,7 +23,7 @@ impl Model for Departed {
     ghost use Rattle.std.specs.Prelude.{IfSome};
     ghost use Rattle.std.specs.Arc.{arc_value};
     ghost use Rattle.mcast_txn.specs.Part.{data_of, flight_of_part};
-    ghost use Rattle.mcast_group.specs.Kept.{DepartedState, IsSightOf};
+    ghost use Rattle.mcast_group.specs.Noted.{DepartedState, IsSightOf};
 
     ghost Value = { DepartedState };
 
@@ -38,7 +38,7 @@ impl Model for Departed {
 }
 
 impl Departed {
-    // A part that leaves.
+    /// A part that leaves.
     pub(crate) fn new(part: Arc<Part>, stamp: Stamp, seen: Option<Seen>) -> Departed
         requires { IfSome seen (IsSightOf (flight_of_part (arc_value part)) stamp) }
         ensures { result ≡ record {

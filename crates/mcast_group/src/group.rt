@@ -180,8 +180,10 @@ impl<Q: Outlet + Drop> Group<Q> {
 
     /// `release`, which returns the part itself, with the note of its flight's cell that was kept beside it.
     pub fn release_part(&mut self, needs: &Q::Needs) -> Option<Departed>
-        ensures due { option_map (λ departed. departed.part) result ≡ option_map (λ p. p.part) (due_part self.old.topic) }
-        ensures stamp { option_map (λ departed. departed.stamp) result ≡ option_map key (due_part self.old.topic) }
+        ensures due { option_map (λ departed. departed.part) result
+            ≡ option_map (λ p. p.part) (due_part self.old.topic) }
+        ensures stamp { option_map (λ departed. departed.stamp) result
+            ≡ option_map key (due_part self.old.topic) }
         ensures released { Releases Q.may_accept self.old self.new }
     {
         let index = self.pending.least_index()?;
@@ -201,11 +203,12 @@ impl<Q: Outlet + Drop> Group<Q> {
     /// Gives the transaction's part its stamp by its verdict, with no memory; the same verdict again changes nothing.
     /// Refused, in this order: 43 where no part of the transaction is pending, 44 where the verdict is another
     /// transaction's or has another number for this topic, 45 where another stamp was learnt or another part has
-    /// this one; the topic is then as it was. Where the cell of the part's flight tells this stamp, a note of it is kept
-    /// beside the part until its release.
+    /// this one; the topic is then as it was. Where the cell of the part's flight tells this stamp, a note of it is
+    /// kept beside the part until its release.
     pub fn learn(&mut self, id: TxnId, verdict: &Verdict) -> Result<(), LearnFault>
         ensures answer { result ≡ result_of (learn_fault id verdict.now self.old.topic) }
-        ensures ok { OnOk result (self.new ≡ record self.old { topic = after_learn id (decided_stamp verdict.now) self.old.topic }) }
+        ensures ok { OnOk result (self.new
+            ≡ record self.old { topic = after_learn id (decided_stamp verdict.now) self.old.topic }) }
         ensures err { OnErr result (self.new ≡ self.old) }
     {
         let index = self.pending.index_to_learn(id, verdict)?;
@@ -246,7 +249,8 @@ impl<Q: Outlet + Drop> Group<Q> {
           topic = self.old.topic.topic;
           n = next_number floor self.old.topic;
         }) }
-        ensures ok { OnOk result (self.new ≡ record self.old { topic = after_propose floor (data_of (arc_value part)) self.old.topic }) }
+        ensures ok { OnOk result (self.new
+            ≡ record self.old { topic = after_propose floor (data_of (arc_value part)) self.old.topic }) }
         ensures fault { IfErr result
             (λ fault. fault ≡ propose_refusal floor (data_of (arc_value part)) self.old.topic) }
         ensures err { OnErr result (self.new ≡ self.old) }
@@ -273,11 +277,13 @@ impl<Q: Outlet + Drop> Group<Q> {
         })
     }
 
-    // Puts a part among the pending ones, with all that its release will need.
+    /// Puts a part among the pending ones, with all that its release will need.
     fn enter(&mut self, part: Arc<Part>, n: u64) -> Result<(), NoMemory>
         requires own { (arc_value part).topic ≡ self.old.topic.topic }
-        requires may { (floor : Stamp) × (n ≡ next_number floor self.old.topic) × (propose_fault floor (data_of (arc_value part)) self.old.topic ≡ None) }
-        ensures ok { OnOk result (self.new ≡ record self.old { topic = after_enter n (data_of (arc_value part)) self.old.topic }) }
+        requires may { (floor : Stamp) × (n ≡ next_number floor self.old.topic)
+            × (propose_fault floor (data_of (arc_value part)) self.old.topic ≡ None) }
+        ensures ok { OnOk result (self.new
+            ≡ record self.old { topic = after_enter n (data_of (arc_value part)) self.old.topic }) }
         ensures err { OnErr result (self.new ≡ self.old) }
     {
         let entry = PendingPart::new(part, n)?;
@@ -340,7 +346,8 @@ impl<Q: Outlet + Drop> Group<Q> {
     /// Ends the subscription of this number, with no memory, and returns what it leaves. Refused by 48 where there
     /// is none; the topic is then as it was.
     pub fn unsubscribe(&mut self, number: u64) -> Result<Ended<Q>, NoSub>
-        ensures left { IfOk result (λ left. HasLeft number self.old (Q.shown left.outlet) left.to left.cause) }
+        ensures left { IfOk result
+            (λ left. HasLeft number self.old (Q.shown left.outlet) left.to left.cause) }
         ensures ok { OnOk result (self.new ≡ group_after_unsubscribe number self.old) }
         ensures fault { IfErr result (λ fault. unsubscribe_fault number self.old.topic ≡ Some fault) }
         ensures err { OnErr result (self.new ≡ self.old) }
@@ -372,10 +379,11 @@ impl<Q: Outlet + Drop> Group<Q> {
         Some(&self.subscriptions.at(index).outlet)
     }
 
-    // Learns for the part at an index the verdict that is found, if it isn't refused.
+    /// Learns for the part at an index the verdict that is found, if it isn't refused.
     fn try_to_learn<V: Verdicts>(&mut self, index: usize, verdicts: &V)
         requires { index < length self.old.topic.pending }
-        ensures { (d : Pending) → Tries (MayBeFound (V.finds verdicts.now)) (slice_index_or self.old.topic.pending index d) self.old self.new }
+        ensures { (d : Pending) → Tries (MayBeFound (V.finds verdicts.now))
+            (slice_index_or self.old.topic.pending index d) self.old self.new }
     {
         let part = self.pending.at(index).part();
         let id = part.id;
@@ -390,7 +398,7 @@ impl<Q: Outlet + Drop> Group<Q> {
         self.store(id, at, stamp);
     }
 
-    // Writes a stamp that isn't refused.
+    /// Writes a stamp that isn't refused.
     fn store(&mut self, id: TxnId, index: usize, stamp: Stamp)
         requires { CanLearn id index stamp self.old.topic }
         ensures { self.new ≡ record self.old { topic = after_learn id stamp self.old.topic } }
@@ -399,7 +407,7 @@ impl<Q: Outlet + Drop> Group<Q> {
         self.clock = self.clock.max(stamp.n);
     }
 
-    // Releases until nothing is due.
+    /// Releases until nothing is due.
     fn release_all(&mut self, needs: &Q::Needs)
         ensures { ReleasesAll Q.may_accept self.old self.new }
     {
@@ -420,7 +428,8 @@ impl Group<VecOutlet> {
 
     /// `turn` where each outlet counts what was taken: the machine's own, with what was found.
     pub fn turn_counted<V: Verdicts>(&mut self, verdicts: &V) -> u64
-        ensures turned { (find : TxnId → Option Decision) × AreFound (V.finds verdicts.now) find self.old.topic.pending
+        ensures turned { (find : TxnId → Option Decision)
+            × AreFound (V.finds verdicts.now) find self.old.topic.pending
             × (self.new ≡ record self.old { topic = after_turn (takes_of self.old) find self.old.topic })
             × (Fits find self.old.topic → self.new.topic.pending ≡ []) }
         ensures count { result ≡ length self.new.topic.held - length self.old.topic.held }
@@ -449,7 +458,7 @@ impl Group<VecOutlet> {
     }
 }
 
-// Makes room for a subscription: in its outlet, and a copy of each pending part for it.
+/// Makes room for a subscription: in its outlet, and a copy of each pending part for it.
 fn make_room<Q: Outlet + Drop>(
     sub: &mut Subscription<Q>,
     copies: &mut VecDeque<Copies>,
@@ -459,15 +468,17 @@ fn make_room<Q: Outlet + Drop>(
     ensures entry { entry_of Q.shown sub.new ≡ entry_of Q.shown sub.old }
     ensures shown { Q.shown sub.new.outlet ≡ Q.shown sub.old.outlet }
     ensures spare { OnOk result (sub.new.to ≡ None → length pending.now ≤ Q.spare sub.new.outlet) }
-    ensures more { OnOk result ((n : ℕ) → HaveCopies n pending.now copies.old.items → HaveCopies (n + 1) pending.now copies.new.items) }
-    ensures kept { (n : ℕ) → HaveCopies n pending.now copies.old.items → HaveCopies n pending.now copies.new.items }
+    ensures more { OnOk result ((n : ℕ) → HaveCopies n pending.now copies.old.items
+        → HaveCopies (n + 1) pending.now copies.new.items) }
+    ensures kept { (n : ℕ) → HaveCopies n pending.now copies.old.items
+        → HaveCopies n pending.now copies.new.items }
 {
     sub.outlet.reserve(pending.len())?;
     add_to_each(copies, pending)?;
     Ok(())
 }
 
-// Puts a part and its copies at its index.
+/// Puts a part and its copies at its index.
 fn put(
     pending: &mut PendingParts,
     copies: &mut VecDeque<Copies>,
@@ -478,7 +489,8 @@ fn put(
     requires free { is_pending entry.part.id pending.old ≡ false }
     requires above { (q : Pending) → In q pending.old → stamp_lt (key q) (key entry) ≡ true }
     ensures ok { OnOk result (pending.new ≡ insert_pending entry pending.old) }
-    ensures copies { OnOk result ((n : ℕ) → HaveCopies n pending.old copies.old.items → n ≤ length made → AreOf entry.part made → HaveCopies n pending.new copies.new.items) }
+    ensures copies { OnOk result ((n : ℕ) → HaveCopies n pending.old copies.old.items → n ≤ length made
+        → AreOf entry.part made → HaveCopies n pending.new copies.new.items) }
     ensures err { OnErr result (pending.new ≡ pending.old) }
     ensures kept { OnErr result (copies.new.items ≡ copies.old.items) }
 {

@@ -22,7 +22,7 @@ pub fn turns()
     ensures nothing_due { TurnLeavesNothingDue }
 {}
 
-// A verdict has one row for a topic, by its type.
+/// A verdict has one row for a topic, by its type.
 pub(crate) fn has_one_row_each(verdict: &Verdict)
     ensures { HasOneRowEach verdict.now }
 {
@@ -36,10 +36,10 @@ pub fn counts()
     ensures turns { CountedTurns }
 {}
 
-/// Parts whose flights have one cell, and which were kept with a note of it, were released with one stamp, at whatever topics
-/// and in whatever threads. `Group::release_part` gives such parts. A part gets its note as it learns, and `turn` is
-/// `learn_found` and then `release` until nothing is due, which is `release_part` without the part: so the stamps of what a
-/// turn releases are those of this law.
+/// Parts whose flights have one cell, and which were kept with a note of it, were released with one stamp, at whatever
+/// topics and in whatever threads. `Group::release_part` gives such parts. A part gets its note as it learns, and `turn`
+/// is `learn_found` and then `release` until nothing is due, which is `release_part` without the part: so the stamps of
+/// what a turn releases are those of this law.
 pub fn one_stamp(one: Departed, other: Departed)
     requires cell { cell_of other.flight ≡ cell_of one.flight }
     requires seen { is_some one.seen ≡ true }

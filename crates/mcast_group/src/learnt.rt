@@ -1,7 +1,7 @@
 //! What a pending part has learnt.
 
 ghost use Rattle.std.specs.Prelude.{◌≡◌, IfSome, None, Some};
-ghost use Rattle.mcast_group.specs.Kept.{HasStampOf, IsStampOf};
+ghost use Rattle.mcast_group.specs.Noted.{HasStampOf, IsStampOf};
 
 use mcast_txn::{Seen, Stamp};
 use std::marker::Model;
@@ -16,7 +16,7 @@ pub(crate) struct Learnt {
 
 impl Model for Learnt {
     ghost use Rattle.std.specs.Prelude.{IfSome};
-    ghost use Rattle.mcast_group.specs.Kept.{HasStampOf};
+    ghost use Rattle.mcast_group.specs.Noted.{HasStampOf};
     ghost use Rattle.mcast_group.specs.Inner.Learnt.{LearntState};
 
     ghost Value = { LearntState };
@@ -27,7 +27,7 @@ impl Model for Learnt {
 }
 
 impl Learnt {
-    // Nothing.
+    /// Nothing.
     pub(crate) fn nothing() -> Learnt
         ensures { result ≡ record { stamp = None; seen = None } }
     {
@@ -37,7 +37,7 @@ impl Learnt {
         }
     }
 
-    // This stamp, with a note of its verdict where the cell gave one.
+    /// This stamp, with a note of its verdict where the cell gave one.
     pub(crate) fn of(stamp: Stamp, seen: Option<Seen>) -> Learnt
         requires { IfSome seen (IsStampOf stamp) }
         ensures { result ≡ record { stamp = Some stamp; seen = seen } }
@@ -48,14 +48,14 @@ impl Learnt {
         }
     }
 
-    // The stamp, if there is one.
+    /// The stamp, if there is one.
     pub(crate) fn stamp(&self) -> Option<Stamp>
         ensures { result ≡ self.now.stamp }
     {
         self.stamp
     }
 
-    // The note, if there is one.
+    /// The note, if there is one.
     pub(crate) fn into_seen(self) -> Option<Seen>
         ensures seen { result ≡ self.seen }
         ensures known { IfSome result (HasStampOf self.stamp) }

@@ -37,7 +37,7 @@ impl Model for Log {
 }
 
 impl Log {
-    // One without rows, which takes no memory.
+    /// One without rows, which takes no memory.
     pub(crate) fn new(alloc: Global) -> Log
         ensures { result ≡ record { items = []; capacity = 0 } }
     {
@@ -48,21 +48,21 @@ impl Log {
         }
     }
 
-    // How many rows it has.
+    /// How many rows it has.
     pub(crate) fn len(&self) -> usize
         ensures { result ≡ length self.now.items }
     {
         self.len
     }
 
-    // The row at index `i`, from 0, or `None` past the last.
+    /// The row at index `i`, from 0, or `None` past the last.
     pub(crate) fn row(&self, i: usize) -> Option<&Row>
         ensures { option_map (λ row. row.now) result ≡ slice_get self.now.items i }
     {
         self.segments.get(i / SEGMENT_ROWS)?.row(i % SEGMENT_ROWS)
     }
 
-    // Makes room for `more` rows: a segment is added where those that there are have too little.
+    /// Makes room for `more` rows: a segment is added where those that there are have too little.
     pub(crate) fn reserve(&mut self, more: usize) -> Result<(), NoMemory>
         ensures items { self.new.items ≡ self.old.items }
         ensures capacity { self.old.capacity ≤ self.new.capacity }
@@ -74,7 +74,7 @@ impl Log {
         Ok(())
     }
 
-    // Adds a segment without rows.
+    /// Adds a segment without rows.
     fn add_segment(&mut self) -> Result<(), NoMemory>
         ensures items { self.new.items ≡ self.old.items }
         ensures capacity { self.old.capacity ≤ self.new.capacity }
@@ -88,7 +88,7 @@ impl Log {
         Ok(())
     }
 
-    // One row more, with no memory.
+    /// One row more, with no memory.
     pub(crate) fn push(&mut self, row: Row)
         requires { length self.old.items < self.old.capacity }
         ensures items { self.new.items ≡ self.old.items ++ row ∷ [] }
@@ -98,7 +98,7 @@ impl Log {
         self.len += 1;
     }
 
-    // How many segments have rows.
+    /// How many segments have rows.
     fn used(&self) -> usize
         ensures enough { length self.now.items ≤ 256 * result }
         ensures least { 256 * result < length self.now.items + 256 }
@@ -106,7 +106,7 @@ impl Log {
         self.len.div_ceil(SEGMENT_ROWS)
     }
 
-    // Moves all rows out; room for `more` is there then. Segments without rows stay.
+    /// Moves all rows out; room for `more` is there then. Segments without rows stay.
     pub(crate) fn drain(&mut self, more: usize) -> Result<LogRows, NoMemory>
         ensures rows { IfOk result (λ rows. rows ≡ self.old.items) }
         ensures none { OnOk result (self.new.items ≡ []) }
@@ -120,7 +120,7 @@ impl Log {
         self.drain_segments(more)
     }
 
-    // The same where the first segment alone has rows: they are moved out of it, and it stays with its room.
+    /// The same where the first segment alone has rows: they are moved out of it, and it stays with its room.
     fn drain_first(&mut self, more: usize) -> Result<LogRows, NoMemory>
         requires some { 0 < length self.old.items }
         requires few { length self.old.items < 256 }
@@ -136,7 +136,7 @@ impl Log {
         Ok(LogRows::new(rows, Log::new(self.alloc)))
     }
 
-    // The same by whole segments, whose rows aren't moved.
+    /// The same by whole segments, whose rows aren't moved.
     fn drain_segments(&mut self, more: usize) -> Result<LogRows, NoMemory>
         ensures rows { IfOk result (λ rows. rows ≡ self.old.items) }
         ensures none { OnOk result (self.new.items ≡ []) }
@@ -156,7 +156,7 @@ impl Log {
         Ok(LogRows::new(VecDeque::new(self.alloc), drained))
     }
 
-    // Takes out the first segment, if the log has a row.
+    /// Takes out the first segment, if the log has a row.
     pub(crate) fn take_segment(&mut self) -> Option<VecDeque<Row>>
         ensures some { IfSome result (λ rows. self.old.items ≡ rows.items ++ self.new.items) }
         ensures first { IfSome result (λ rows. 0 < length rows.items) }

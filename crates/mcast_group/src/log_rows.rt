@@ -29,7 +29,7 @@ impl Model for LogRows {
 }
 
 impl LogRows {
-    // The first rows, and the rest of them, which are moved and not copied.
+    /// The first rows, and the rest of them, which are moved and not copied.
     pub(crate) fn new(first: VecDeque<Row>, rest: Log) -> LogRows
         requires fits { length first.items + length rest.items < 2 ^ 64 }
         ensures { result ≡ first.items ++ rest.items }

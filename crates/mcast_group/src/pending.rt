@@ -4,7 +4,7 @@ ghost use Rattle.std.specs.Prelude.{◌≡◌, Some, None, IfOk, IfSome};
 ghost use Rattle.std.specs.Arc.{arc_value};
 ghost use Rattle.std.specs.Option.{is_some};
 ghost use Rattle.mcast_txn.specs.Part.{data_of};
-ghost use Rattle.mcast_group.specs.Kept.{IsSightOf};
+ghost use Rattle.mcast_group.specs.Noted.{IsSightOf};
 ghost use Rattle.mcast_group.specs.Inner.Keys.{keyed_of};
 ghost use Rattle.mcast_group.specs.Machine.{has_row, is_foreign, key, has_learnt_other, row_of, ticket_stamp};
 
@@ -16,8 +16,8 @@ use mcast_txn::{Flight, NoMemory, Part, Seen, Stamp, TopicSet, TxnId, Verdict};
 use std::marker::Model;
 use std::sync::Arc;
 
-/// A part that is pending: the number of its ticket, and its stamp once that is learnt, with the note by which the cell of
-/// its flight told it.
+/// A part that is pending: the number of its ticket, and its stamp once that is learnt, with the note by which the cell
+/// of its flight told it.
 #[derive(Drop)]
 pub(crate) struct PendingPart {
     part: Arc<Part>,
@@ -43,7 +43,7 @@ impl Model for PendingPart {
 }
 
 impl PendingPart {
-    // A part that hasn't learnt its stamp.
+    /// A part that hasn't learnt its stamp.
     pub(crate) fn new(part: Arc<Part>, number: u64) -> Result<PendingPart, NoMemory>
         ensures { IfOk result
             (λ pending. pending ≡ record { part = data_of (arc_value part); number = number; learnt = None }) }
@@ -57,28 +57,28 @@ impl PendingPart {
         })
     }
 
-    // The transaction.
+    /// The transaction.
     pub(crate) fn id(&self) -> TxnId
         ensures { result ≡ self.now.part.id }
     {
         self.part.id
     }
 
-    // The part.
+    /// The part.
     pub(crate) fn part(&self) -> &Part
         ensures { data_of result.now ≡ self.now.part }
     {
         &self.part
     }
 
-    // The part, shared once more.
+    /// The part, shared once more.
     pub(crate) fn share(&self) -> Result<Arc<Part>, NoMemory>
         ensures { IfOk result (λ part. data_of (arc_value part) ≡ self.now.part) }
     {
         Ok(self.part.clone()?)
     }
 
-    // Its ticket as a stamp.
+    /// Its ticket as a stamp.
     fn ticket_stamp(&self) -> Stamp
         ensures { result ≡ ticket_stamp self.now }
     {
@@ -88,7 +88,7 @@ impl PendingPart {
         }
     }
 
-    // What it is ordered by: its stamp, or its ticket while the stamp isn't known.
+    /// What it is ordered by: its stamp, or its ticket while the stamp isn't known.
     pub(crate) fn key(&self) -> Stamp
         ensures { result ≡ key self.now }
     {
@@ -98,14 +98,14 @@ impl PendingPart {
         }
     }
 
-    // Whether it has learnt its stamp.
+    /// Whether it has learnt its stamp.
     pub(crate) fn is_learnt(&self) -> bool
         ensures { result ≡ is_some self.now.learnt }
     {
         self.learnt.stamp().is_some()
     }
 
-    // Takes its stamp, and keeps a note of its flight's cell where that has the stamp.
+    /// Takes its stamp, and keeps a note of its flight's cell where that has the stamp.
     pub(crate) fn learn(&mut self, stamp: Stamp)
         ensures { self.new ≡ record self.old { learnt = Some stamp } }
     {
@@ -113,7 +113,7 @@ impl PendingPart {
         self.learnt = Learnt::of(stamp, seen);
     }
 
-    // Its row of the log, at its key, and itself with its note.
+    /// Its row of the log, at its key, and itself with its note.
     pub(crate) fn depart(self) -> (Row, Departed)
         ensures row { result.0 ≡ row_of self }
         ensures part { result.1.part ≡ self.part }
@@ -134,14 +134,14 @@ impl PendingPart {
         (row, Departed::new(part, stamp, learnt.into_seen()))
     }
 
-    // Whether the verdict is another transaction's, or has another number for the part's topic.
+    /// Whether the verdict is another transaction's, or has another number for the part's topic.
     pub(crate) fn is_foreign(&self, verdict: &Verdict) -> bool
         ensures { result ≡ is_foreign verdict.now self.now }
     {
         verdict.id() != self.part.id || !has_row(verdict.rows(), self.ticket_stamp())
     }
 
-    // Whether it has learnt another stamp.
+    /// Whether it has learnt another stamp.
     pub(crate) fn has_learnt_other(&self, stamp: Stamp) -> bool
         ensures { result ≡ has_learnt_other stamp self.now.learnt }
     {
@@ -151,7 +151,7 @@ impl PendingPart {
         }
     }
 
-    // Its key and its id.
+    /// Its key and its id.
     pub(crate) fn keyed(&self) -> Keyed
         ensures { result ≡ keyed_of self.now }
     {
@@ -162,7 +162,7 @@ impl PendingPart {
     }
 }
 
-// A note of the flight's cell that knows the verdict there, if that has the stamp.
+/// A note of the flight's cell that knows the verdict there, if that has the stamp.
 fn seen_at(flight: &Flight, stamp: Stamp) -> Option<Seen>
     ensures { IfSome result (IsSightOf flight.now stamp) }
 {
@@ -173,7 +173,7 @@ fn seen_at(flight: &Flight, stamp: Stamp) -> Option<Seen>
     Some(seen)
 }
 
-// Whether the ticket that a topic gave is among a verdict's rows.
+/// Whether the ticket that a topic gave is among a verdict's rows.
 fn has_row(rows: &[Stamp], ticket: Stamp) -> bool
     ensures { result ≡ has_row ticket rows.now }
 {

@@ -6,23 +6,23 @@ ghost use Rattle.mcast_txn.specs.Ids.{id_lt, same_id};
 ghost use Rattle.mcast_txn.specs.Lists.{In};
 ghost use Rattle.mcast_txn.specs.Stamp.{stamp_lt};
 ghost use Rattle.mcast_group.specs.Machine.{Pending, clashes, find_pending, insert_pending, is_pending, key, learn_fault_of, least_part};
-ghost use Rattle.mcast_group.specs.Inner.Keys.{IsPlace};
+ghost use Rattle.mcast_group.specs.Inner.Keys.{IsIndexPast};
 
+use crate::boxed_part::BoxedPart;
 use crate::fault::LearnFault;
 use crate::keys::Keys;
 use crate::pending::PendingPart;
-use crate::slot::Slot;
 use mcast_txn::{NoMemory, Stamp, TxnId, Verdict};
 use std::alloc::Global;
 use std::collections::VecDeque;
 use std::marker::Model;
 
-/// The parts that are pending, twice: by rising id, and their keys, falling. So a part is found by halving, and the least
-/// is at the end. In contracts it is the list by id.
+/// The parts that are pending, twice: by rising id, and their keys, falling. So a part is found by halving, and the
+/// least is at the end. In contracts it is the list by id.
 #[derive(Drop)]
 pub(crate) struct PendingParts {
     alloc: Global,
-    slots: VecDeque<Slot>,
+    parts: VecDeque<BoxedPart>,
     keys: Keys,
 }
 
@@ -33,58 +33,58 @@ impl Model for PendingParts {
 
     ghost Value = { List Pending };
 
-    ghost view = { λ p. p.slots.items };
+    ghost view = { λ p. p.parts.items };
 
-    ghost invariant = { λ p. AreKeysOf p.keys p.slots.items };
+    ghost invariant = { λ p. AreKeysOf p.keys p.parts.items };
 }
 
 impl PendingParts {
-    // None, which take no memory.
+    /// None, which take no memory.
     pub(crate) fn new(alloc: Global) -> PendingParts
         ensures { result ≡ [] }
     {
         PendingParts {
             alloc,
-            slots: VecDeque::new(alloc),
+            parts: VecDeque::new(alloc),
             keys: Keys::new(alloc),
         }
     }
 
-    // How many there are.
+    /// How many there are.
     pub(crate) fn len(&self) -> usize
         ensures { result ≡ length self.now }
     {
-        self.slots.len()
+        self.parts.len()
     }
 
-    // The part at an index.
+    /// The part at an index.
     pub(crate) fn at(&self, index: usize) -> &PendingPart
         requires { index < length self.now }
         ensures { result.now ≡ slice_index_or self.now index result.now }
     {
-        self.slots[index].part()
+        self.parts[index].part()
     }
 
-    // How many parts have an id below this one.
-    fn place(&self, id: TxnId) -> usize
-        ensures place { IsPlace (λ p. id_lt p.part.id id) self.now result }
+    /// The index past the parts whose id is below this one.
+    fn index_for(&self, id: TxnId) -> usize
+        ensures index { IsIndexPast (λ p. id_lt p.part.id id) self.now result }
         ensures within { result ≤ length self.now }
     {
-        self.slots.partition_point(|slot| slot.is_before(id))
+        self.parts.partition_point(|boxed| boxed.is_before(id))
     }
 
-    // The index of the transaction's part.
+    /// The index of the transaction's part.
     pub(crate) fn index_of(&self, id: TxnId) -> Option<usize>
         ensures { result ≡ position (λ p. same_id p.part.id id) self.now }
     {
-        let index = self.place(id);
-        if self.slots.get(index)?.id() != id {
+        let index = self.index_for(id);
+        if self.parts.get(index)?.id() != id {
             return None;
         }
         Some(index)
     }
 
-    // The index of the part of least key.
+    /// The index of the part of least key.
     pub(crate) fn least_index(&self) -> Option<usize>
         ensures { MatchOption result (self.now ≡ [])
             (λ i. (i < length self.now) × ((d : Pending) → least_part self.now ≡ Some (slice_index_or self.now i d))) }
@@ -93,7 +93,7 @@ impl PendingParts {
         self.index_of(id)
     }
 
-    // The index of the part that is to learn the verdict's stamp.
+    /// The index of the part that is to learn the verdict's stamp.
     pub(crate) fn index_to_learn(&self, id: TxnId, verdict: &Verdict) -> Result<usize, LearnFault>
         ensures fault { IfErr result
             (λ fault. learn_fault_of verdict.now self.now (find_pending id self.now) ≡ Some fault) }
@@ -113,7 +113,7 @@ impl PendingParts {
         Ok(index)
     }
 
-    // Whether the part has learnt another stamp than the verdict's, or another part has that stamp as its key.
+    /// Whether the part has learnt another stamp than the verdict's, or another part has that stamp as its key.
     fn clashes(&self, part: &PendingPart, verdict: &Verdict) -> bool
         ensures { result ≡ clashes verdict.now part.now self.now }
     {
@@ -121,19 +121,21 @@ impl PendingParts {
         part.has_learnt_other(stamp) || self.keys.has_other_at(part.id(), stamp)
     }
 
-    // The part at an index takes its stamp, which isn't below its key and is no other part's.
+    /// The part at an index takes its stamp, which isn't below its key and is no other part's.
     pub(crate) fn learn(&mut self, index: usize, stamp: Stamp)
         requires within { index < length self.old }
         requires past { (d : Pending) → stamp_lt stamp (key (slice_index_or self.old index d)) ≡ false }
-        requires free { (d q : Pending) → In q self.old → key q ≡ stamp → q ≡ slice_index_or self.old index d }
-        ensures { (d : Pending) → self.new ≡ slice_set self.old index (record (slice_index_or self.old index d) { learnt = Some stamp }) }
+        requires free { (d q : Pending) → In q self.old → key q ≡ stamp
+            → q ≡ slice_index_or self.old index d }
+        ensures { (d : Pending) → self.new
+            ≡ slice_set self.old index (record (slice_index_or self.old index d) { learnt = Some stamp }) }
     {
         let keyed = self.at(index).keyed();
         self.keys.raise(keyed, stamp);
-        self.slots[index].learn(stamp);
+        self.parts[index].learn(stamp);
     }
 
-    // Takes out the part at an index.
+    /// Takes out the part at an index.
     pub(crate) fn remove(&mut self, index: usize) -> PendingPart
         requires { index < length self.old }
         ensures value { result ≡ slice_index_or self.old index result }
@@ -141,10 +143,10 @@ impl PendingParts {
     {
         let keyed = self.at(index).keyed();
         self.keys.remove(keyed);
-        self.slots.remove(index).unwrap().into_part()
+        self.parts.remove(index).unwrap().into_part()
     }
 
-    // Puts a part among the others, whose keys are below its own, and returns its index.
+    /// Puts a part among the others, whose keys are below its own, and returns its index.
     pub(crate) fn insert(&mut self, part: PendingPart) -> Result<usize, NoMemory>
         requires free { is_pending part.part.id self.old ≡ false }
         requires above { (q : Pending) → In q self.old → stamp_lt (key q) (key part) ≡ true }
@@ -154,10 +156,10 @@ impl PendingParts {
         ensures err { OnErr result (self.new ≡ self.old) }
     {
         let keyed = part.keyed();
-        let index = self.place(part.id());
-        let slot = Slot::new(self.alloc, part)?;
+        let index = self.index_for(part.id());
+        let boxed = BoxedPart::new(self.alloc, part)?;
         self.keys.put_greatest(keyed)?;
-        let Ok(()) = self.slots.insert(index, slot) else {
+        let Ok(()) = self.parts.insert(index, boxed) else {
             self.keys.drop_greatest();
             return Err(NoMemory);
         };

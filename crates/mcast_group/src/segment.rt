@@ -31,7 +31,7 @@ impl Model for Segment {
 }
 
 impl Segment {
-    // One without rows.
+    /// One without rows.
     pub(crate) fn new(alloc: Global) -> Result<Segment, NoMemory>
         ensures { IfOk result (λ segment. segment ≡ []) }
     {
@@ -39,21 +39,21 @@ impl Segment {
         Ok(Segment { rows })
     }
 
-    // How many rows it has.
+    /// How many rows it has.
     pub(crate) fn len(&self) -> usize
         ensures { result ≡ length self.now }
     {
         self.rows.len()
     }
 
-    // The row at index `i`, from 0, or `None` past the last.
+    /// The row at index `i`, from 0, or `None` past the last.
     pub(crate) fn row(&self, i: usize) -> Option<&Row>
         ensures { option_map (λ row. row.now) result ≡ slice_get self.now i }
     {
         self.rows.get(i)
     }
 
-    // One row more, with no memory.
+    /// One row more, with no memory.
     pub(crate) fn push(&mut self, row: Row)
         requires { length self.old < 256 }
         ensures { self.new ≡ self.old ++ row ∷ [] }
@@ -61,7 +61,7 @@ impl Segment {
         self.rows.push_back_reserved(row);
     }
 
-    // Moves its rows out into room of their number; its own room stays.
+    /// Moves its rows out into room of their number; its own room stays.
     pub(crate) fn take_rows(&mut self, alloc: Global) -> Result<VecDeque<Row>, NoMemory>
         ensures rows { IfOk result (λ rows. rows.items ≡ self.old) }
         ensures none { OnOk result (self.new ≡ []) }
@@ -72,7 +72,7 @@ impl Segment {
         Ok(rows)
     }
 
-    // Its rows, which aren't moved.
+    /// Its rows, which aren't moved.
     pub(crate) fn into_rows(self) -> VecDeque<Row>
         ensures { result.items ≡ self }
     {

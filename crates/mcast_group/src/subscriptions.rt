@@ -8,18 +8,19 @@ ghost use Rattle.sub_queue.specs.VecQueue.{after_take, shown_of};
 ghost use Rattle.mcast_group.specs.Machine.{item_of, key};
 ghost use Rattle.mcast_group.specs.Inner.Copies.{AreOf};
 ghost use Rattle.mcast_group.specs.Inner.GroupInvariant.{Gave, IsReady, entry_of, room_of};
-ghost use Rattle.mcast_group.specs.Inner.Subscriptions.{IsPlaceFor, insert_sub};
+ghost use Rattle.mcast_group.specs.Inner.Subscriptions.{IsIndexFor, insert_sub};
 ghost use Rattle.mcast_group.specs.declared.subscription.Subscription.{Subscription};
 
 use crate::copies::Copies;
 use crate::pending::PendingPart;
-use crate::subscription::{Subscription, give_all, reserve_each};
+use crate::subscription::Subscription;
 use mcast_txn::{NoMemory, Stamp};
 use std::alloc::Global;
 use std::marker::Model;
 use sub_queue::{Outlet, VecOutlet};
 
-/// The subscriptions of a topic, by rising number, so that one is found by halving. In contracts it is the list of them.
+/// The subscriptions of a topic, by rising number, so that one is found by halving. In contracts it is the list of
+/// them.
 #[derive(Drop)]
 pub(crate) struct Subscriptions<Q: Outlet + Drop> {
     subs: Vec<Subscription<Q>>,
@@ -38,7 +39,7 @@ impl<Q: Outlet + Drop> Model for Subscriptions<Q> {
 }
 
 impl<Q: Outlet + Drop> Subscriptions<Q> {
-    // None, which take no memory.
+    /// None, which take no memory.
     pub(crate) fn new(alloc: Global) -> Subscriptions<Q>
         ensures { result ≡ [] }
     {
@@ -47,14 +48,14 @@ impl<Q: Outlet + Drop> Subscriptions<Q> {
         }
     }
 
-    // How many there are.
+    /// How many there are.
     pub(crate) fn len(&self) -> usize
         ensures { result ≡ length self.now }
     {
         self.subs.len()
     }
 
-    // The subscription at an index.
+    /// The subscription at an index.
     pub(crate) fn at(&self, index: usize) -> &Subscription<Q>
         requires { index < length self.now }
         ensures { result.now ≡ slice_index_or self.now index result.now }
@@ -62,29 +63,29 @@ impl<Q: Outlet + Drop> Subscriptions<Q> {
         &self.subs[index]
     }
 
-    // The index of the subscription of this number, or else the one at which it would come.
+    /// The index of the subscription of this number, or else the one at which it would come.
     pub(crate) fn search(&self, number: u64) -> Result<usize, usize>
         ensures found { IfOk result (λ i. position (λ s. s.number == number) self.now ≡ Some i) }
         ensures absent { OnErr result (position (λ s. s.number == number) self.now ≡ None) }
-        ensures place { IfErr result (IsPlaceFor number self.now) }
+        ensures index { IfErr result (IsIndexFor number self.now) }
     {
         self.subs.binary_search_by_key(&number, |sub| sub.number)
     }
 
-    // The index of the subscription of this number.
+    /// The index of the subscription of this number.
     pub(crate) fn index_of(&self, number: u64) -> Option<usize>
         ensures { result ≡ position (λ s. s.number == number) self.now }
     {
         self.search(number).ok()
     }
 
-    // Puts a subscription at the index where it comes; out of memory, it is returned.
+    /// Puts a subscription at the index where it comes; out of memory, it is returned.
     pub(crate) fn insert(
         &mut self,
         index: usize,
         sub: Subscription<Q>,
     ) -> Result<(), Subscription<Q>>
-        requires { IsPlaceFor sub.number self.old index }
+        requires { IsIndexFor sub.number self.old index }
         ensures ok { OnOk result (self.new ≡ insert_sub sub self.old) }
         ensures err { OnErr result (self.new ≡ self.old) }
         ensures returned { IfErr result (λ returned. returned ≡ sub) }
@@ -95,7 +96,7 @@ impl<Q: Outlet + Drop> Subscriptions<Q> {
         }
     }
 
-    // Takes out the subscription at an index.
+    /// Takes out the subscription at an index.
     pub(crate) fn remove(&mut self, index: usize) -> Subscription<Q>
         requires { index < length self.old }
         ensures value { result ≡ slice_index_or self.old index result }
@@ -104,7 +105,7 @@ impl<Q: Outlet + Drop> Subscriptions<Q> {
         self.subs.remove(index)
     }
 
-    // Gives each open subscription a copy of the part.
+    /// Gives each open subscription a copy of the part.
     pub(crate) fn give_all(
         &mut self,
         needs: &Q::Needs,
@@ -112,32 +113,44 @@ impl<Q: Outlet + Drop> Subscriptions<Q> {
         part: &PendingPart,
         copies: &mut Copies,
     )
-        requires ready { (k : ℕ) (d : Subscription Q) → k < length self.old → IsReady Q.shown Q.spare (key part.now) (slice_index_or self.old k d) }
+        requires ready { (k : ℕ) (d : Subscription Q) → k < length self.old
+            → IsReady Q.shown Q.spare (key part.now) (slice_index_or self.old k d) }
         requires copies { AreOf part.now.part copies.old }
         requires many { length self.old ≤ length copies.old }
         ensures gave { Gave Q.shown Q.may_accept frontier (item_of part.now) self.old self.new }
-        ensures spare { (k : ℕ) (d : Subscription Q) → k < length self.old → Q.spare (slice_index_or self.old k d).outlet ≤ Q.spare (slice_index_or self.new k d).outlet + 1 }
+        ensures spare { (k : ℕ) (d : Subscription Q) → k < length self.old
+            → Q.spare (slice_index_or self.old k d).outlet
+            ≤ Q.spare (slice_index_or self.new k d).outlet + 1 }
     {
-        give_all(&mut self.subs, needs, frontier, part, copies);
+        for sub in self.subs.iter_mut() {
+            sub.give(needs, frontier, part, copies);
+        }
     }
 
-    // Makes room for `more` items in the outlet of each open subscription; no spare falls.
+    /// Makes room for `more` items in the outlet of each open subscription; no spare falls.
     pub(crate) fn reserve_each(&mut self, more: usize) -> Result<(), NoMemory>
         ensures entries { map (entry_of Q.shown) self.new ≡ map (entry_of Q.shown) self.old }
         ensures rooms { map (room_of Q.shown) self.new ≡ map (room_of Q.shown) self.old }
-        ensures spares { (k : ℕ) (d : Subscription Q) → k < length self.old → Q.spare (slice_index_or self.old k d).outlet ≤ Q.spare (slice_index_or self.new k d).outlet }
-        ensures ok { OnOk result ((k : ℕ) (d : Subscription Q) → k < length self.old → (slice_index_or self.new k d).to ≡ None → more ≤ Q.spare (slice_index_or self.new k d).outlet) }
+        ensures spares { (k : ℕ) (d : Subscription Q) → k < length self.old
+            → Q.spare (slice_index_or self.old k d).outlet ≤ Q.spare (slice_index_or self.new k d).outlet }
+        ensures ok { OnOk result ((k : ℕ) (d : Subscription Q) → k < length self.old
+            → (slice_index_or self.new k d).to ≡ None → more ≤ Q.spare (slice_index_or self.new k d).outlet) }
     {
-        reserve_each(&mut self.subs, more)
+        for sub in self.subs.iter_mut() {
+            sub.reserve(more)?;
+        }
+        Ok(())
     }
 }
 
 impl Subscriptions<VecOutlet> {
-    // Takes the next item of the subscription at an index, and returns its index.
+    /// Takes the next item of the subscription at an index, and returns its index.
     pub(crate) fn take(&mut self, index: usize) -> Option<usize>
         requires { index < length self.old }
-        ensures next { (d : Subscription VecOutlet) → result ≡ next_index (shown_of (slice_index_or self.old index d).outlet) }
-        ensures taken { (d : Subscription VecOutlet) → self.new ≡ slice_set self.old index (record (slice_index_or self.old index d) { outlet = after_take (slice_index_or self.old index d).outlet }) }
+        ensures next { (d : Subscription VecOutlet) → result
+            ≡ next_index (shown_of (slice_index_or self.old index d).outlet) }
+        ensures taken { (d : Subscription VecOutlet) → let sub = slice_index_or self.old index d in
+            self.new ≡ slice_set self.old index (record sub { outlet = after_take sub.outlet }) }
     {
         self.subs[index].outlet.take()
     }

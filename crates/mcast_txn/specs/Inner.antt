@@ -1,6 +1,6 @@
 -- These modules only serve proofs: no public contract cites them, and nobody need believe them.
 pub mod Decided
-pub mod Entries
+pub mod DraftSends
 pub mod Sealed
 pub mod Shares
 pub mod SlotIndex

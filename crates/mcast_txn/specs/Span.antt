@@ -2,6 +2,7 @@
 use Rattle.std.specs.Prelude.{Bool, true, not, ◌&&◌, List, Option, Some, None, [], ◌∷◌}
 use Rattle.mcast_txn.specs.declared.id.Topic.{Topic}
 use Rattle.mcast_txn.specs.declared.id.TxnId.{TxnId}
+use Rattle.mcast_txn.specs.declared.mark.Mark.{Mark}
 use Rattle.mcast_txn.specs.declared.parts.part_message.PartMessage.{PartMessage}
 use Rattle.mcast_txn.specs.declared.stamp.Stamp.{Stamp}
 use Rattle.mcast_txn.specs.Stamp.{stamp_lt}
@@ -20,6 +21,10 @@ row_stamp row = row.stamp
 abbrev pub row_id : LogRow → TxnId
 row_id row = row.id
 
+-- a row's mark: whose it is, and at which stamp
+abbrev pub row_mark : LogRow → Mark
+row_mark row = record { id = row.id; stamp = row.stamp }
+
 -- an item of a subscription's queue: a transaction, its stamp, and its part at that topic
 pub record Item : Type 0 where
   pub id : TxnId
@@ -29,6 +34,10 @@ pub record Item : Type 0 where
 -- an item's stamp
 abbrev pub item_stamp : Item → Stamp
 item_stamp item = item.stamp
+
+-- an item's mark: whose it is, and at which stamp
+abbrev pub item_mark : Item → Mark
+item_mark item = record { id = item.id; stamp = item.stamp }
 
 -- a subscription's topic, the stamp after which it begins, and the last stamp of its own, once it is closed
 pub record Span : Type 0 where

@@ -7,7 +7,8 @@ use crate::ballot::Verdict;
 use once_cell::race::Note;
 use std::marker::Model;
 
-/// A note of a flight's cell that knows its verdict. It takes no bytes. In contracts it is the cell's name and the verdict.
+/// A note of a flight's cell that knows its verdict. It takes no bytes. In contracts it is the cell's name and the
+/// verdict.
 #[derive(Drop)]
 pub struct Seen {
     note: Note<Verdict>,

@@ -43,20 +43,20 @@ through [] front tail at s =
     rw (s, none) (sym (with_front-nil (unescaped_from at tail)))
 through (b ∷ v) front tail at (rest, s, inr (ne, e)) =
     let later = through v rest tail (at + 1) s in
-    let place : at + 1 + length rest ≡ at + length front = omega (arith, ap length e) in
-    rw (e) (plain_at at b (rest ++ tail) ne) ∙ ap (before b) later ∙ rw place (before-with_front b v (unescaped_from (at + length front) tail))
+    let index : at + 1 + length rest ≡ at + length front = omega (arith, ap length e) in
+    rw (e) (plain_at at b (rest ++ tail) ne) ∙ ap (before b) later ∙ rw index (before-with_front b v (unescaped_from (at + length front) tail))
 through (b ∷ v) front tail at (rest, s, inl e) =
     elim (option_cases (letter_of b)) [
       | inl (c, l) ↦
           let text : front ≡ 92 ∷ c ∷ rest = e ∙ rw l refl in
           let later = through v rest tail (at + 2) s in
-          let place : at + 2 + length rest ≡ at + length front = omega (arith, ap length text) in
-          rw text (escape_at at 92 c b (rest ++ tail) refl (letter-octet b c l)) ∙ ap (before b) later ∙ rw place (before-with_front b v (unescaped_from (at + length front) tail))
+          let index : at + 2 + length rest ≡ at + length front = omega (arith, ap length text) in
+          rw text (escape_at at 92 c b (rest ++ tail) refl (letter-octet b c l)) ∙ ap (before b) later ∙ rw index (before-with_front b v (unescaped_from (at + length front) tail))
       | inr none ↦
           let text : front ≡ b ∷ rest = e ∙ rw none refl in
           let later = through v rest tail (at + 1) s in
-          let place : at + 1 + length rest ≡ at + length front = omega (arith, ap length text) in
-          rw text (plain_at at b (rest ++ tail) (no_letter b none)) ∙ ap (before b) later ∙ rw place (before-with_front b v (unescaped_from (at + length front) tail))
+          let index : at + 1 + length rest ≡ at + length front = omega (arith, ap length text) in
+          rw text (plain_at at b (rest ++ tail) (no_letter b none)) ∙ ap (before b) later ∙ rw index (before-with_front b v (unescaped_from (at + length front) tail))
     ]
 
 abbrev Found : ℕ → List ℕ → Result (List ℕ) EscapeFault → Type 0

@@ -7,11 +7,11 @@ use Rattle.std.proofs.lemmas.Bool.Decides.{nat_tests}
 use Rattle.stomp_escape.specs.Inner.Escaping.{first_written, letter_or_zero}
 use Rattle.stomp_escape.specs.Inner.Unescaping.{octet_of}
 
--- each octet as it is written, in two places
+-- each octet as it is written, in two octets
 abbrev pub table : List ℕ
 table = flat_map (λ b. first_written b ∷ letter_or_zero b ∷ []) (range_with_len 0 256)
 
--- the first of an octet's two places
+-- the first of an octet's two
 pub first_at : (b : ℕ) → b < 256 → get_or table (2 * b) 0 ≡ first_written b
 first_at b lt = eqb-true _ _ (agree_below_at (λ x. eqb (get_or table (2 * x) 0) (first_written x)) (λ _. true) 256 b refl lt)
 

@@ -1,4 +1,4 @@
--- What was written or read, and what waits to be copied behind it.
+-- What was written or read, and what waits to be copied after it.
 use Rattle.std.proofs.Common.{◌≡◌, ℕ, ◌+◌, ◌-◌, ◌<◌, ◌≤◌, inl, inr, List, [], ◌∷◌, ◌++◌, length, take, drop, get_or, not, eqb, subst, Some, Result, Ok, Err, refl, sym, ap, ◌∙◌, append_assoc, arith, take-add}
 use Rattle.std.specs.Prelude.{OnErr}
 use Rattle.std.proofs.lemmas.List.{append-nil, take_more, take-append-drop, length-take-le}
@@ -51,7 +51,7 @@ escaped_next xs ys front text n m at inside within e so_far =
 pub extra-le : (b : ℕ) → extra b ≤ 1
 extra-le b = elim (cases_eq (letter_or_zero b) 0) [ inl none ↦ rw none (omega arith) | inr some ↦ rw (ne_eqb (letter_or_zero b) 0 some) (omega arith) ]
 
--- a piece of the text is written behind
+-- a piece of the text is appended
 pub piece_written : (old out new text : List ℕ) (at end : ℕ) → at ≤ end → new ≡ out ++ escaped (take (end - at) (drop at text)) → out ≡ old ++ escaped (take at text) → new ≡ old ++ escaped (take end text)
 piece_written old out new text at end le e so_far =
     let piece = take (end - at) (drop at text) in

@@ -35,13 +35,13 @@ AppendsFront text old new = (front rest : List ℕ) × (text ≡ front ++ rest) 
 
 -- Text spells v: each octet of v is written by its escape or, unless it is a backslash, as itself
 -- (STOMP 1.2, "Value Encoding"). So `a\cb` spells `a:b`, and a raw `a:b` does too: whether a raw colon,
--- CR or LF is allowed in a place is for the grammar of frames to say.
+-- CR or LF is allowed somewhere is for the grammar of frames to say.
 abbrev pub Spells : List ℕ → List ℕ → Type 0
 Spells text [] = text ≡ []
 Spells text (b ∷ v) =
     (rest : List ℕ) × Spells rest v × ((text ≡ escaped_octet b ++ rest) ⊎ ((b ≢ 92) × (text ≡ b ∷ rest)))
 
--- The first fault of text from the left, where all before it is spelled: at this place a backslash with
+-- The first fault of text from the left, where all before it is spelled: at this index a backslash with
 -- no letter of an escape after it ("undefined escape sequences such as \t MUST be treated as a fatal
 -- protocol error"; STOMP 1.2, "Value Encoding"), or a backslash that is last. So `ab\x\` has Undefined 2,
 -- and `a\` has Cut. Being out of memory is no fault of a text.

@@ -11,7 +11,7 @@ use std::alloc::Global;
 /// How many octets are escaped at most before they are copied at once, each to two at most.
 const PIECE: usize = 32;
 
-/// Each octet as it is written, in two places: itself and 0, or a backslash and the letter of its escape.
+/// Each octet as it is written, in two octets: itself and 0, or a backslash and the letter of its escape.
 const WRITTEN: [u8; 512] = [
     0, 0, 1, 0, 2, 0, 3, 0, 4, 0, 5, 0, 6, 0, 7, 0, 8, 0, 9, 0, b'\\', b'n', 11, 0, 12, 0, b'\\',
     b'r', 14, 0, 15, 0, 16, 0, 17, 0, 18, 0, 19, 0, 20, 0, 21, 0, 22, 0, 23, 0, 24, 0, 25, 0, 26,
@@ -58,9 +58,10 @@ fn plain_front(text: &[u8]) -> usize
     text.len()
 }
 
-/// Writes the escaped text of a few octets into a line, from this place on, and returns where it ends. The line has room
-/// for two octets for each. None of them takes a branch of its own: two octets are put for each, and the next one begins
-/// over the second where the octet has no escape. So one octet of the line after the end may be another than before.
+/// Writes the escaped text of a few octets into a line, from `start` on, and returns where it ends. The line has room
+/// for two octets for each. None of them takes a branch of its own: two octets are put for each, and the next one
+/// begins over the second where the octet has no escape. So one octet of the line after the end may be another than
+/// before.
 pub fn escape_at(text: &[u8], line: &mut [u8], start: usize) -> usize
     requires { start + 2 * length text.now ≤ length line.old }
     ensures end { result ≤ start + 2 * length text.now }

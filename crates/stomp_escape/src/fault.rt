@@ -12,7 +12,7 @@ use thiserror::Error;
 #[derive(Clone, Copy, Debug, PartialEq, Eq, Error)]
 pub enum EscapeFault {
     /// 1: a backslash whose next octet is none of `r`, `n`, `c` and backslash. With it comes the
-    /// place of the backslash, which is the number of octets before it.
+    /// index of the backslash, which is the number of octets before it.
     #[error("1 Undefined: at octet {0}, write a backslash only before r, n, c or another backslash")]
     Undefined(usize),
     /// 2: the last octet is a backslash that begins an escape.

@@ -7,8 +7,8 @@ mod fault;
 pub mod law;
 mod no_memory;
 mod octets;
-mod room;
 mod short_octets;
+mod storage;
 mod unescaping;
 
 pub use escaping::{escape, escape_at, escape_into};

@@ -3,8 +3,8 @@
 ghost use Rattle.std.specs.Prelude.{◌≡◌, ◌≤◌, ◌↔◌, ◌++◌, ◌∷◌, [], List, ℕ, length, take, IsTrue, IfOk, OnOk, OnErr};
 
 use crate::no_memory::NoMemory;
-use crate::room::Room;
 use crate::short_octets::{ROOM, ShortOctets};
+use crate::storage::Storage;
 use std::alloc::Global;
 use std::marker::Model;
 
@@ -15,7 +15,7 @@ const FIRST_ROOM: usize = 64;
 /// below 256.
 pub struct Octets {
     alloc: Global,
-    room: Room,
+    room: Storage,
 }
 
 impl Drop for Octets {
@@ -42,7 +42,7 @@ impl Octets {
     {
         Octets {
             alloc,
-            room: Room::Short(ShortOctets::new()),
+            room: Storage::Short(ShortOctets::new()),
         }
     }
 
@@ -54,7 +54,7 @@ impl Octets {
         if capacity <= ROOM {
             return Ok(Octets::new(alloc));
         }
-        let room = Room::Long(Vec::with_capacity(alloc, capacity)?);
+        let room = Storage::Long(Vec::with_capacity(alloc, capacity)?);
         Ok(Octets { alloc, room })
     }
 
@@ -63,15 +63,15 @@ impl Octets {
         ensures { IfOk result (λ o. o ≡ octets.now) }
     {
         if octets.len() > ROOM {
-            let room = Room::Long(Vec::from_slice(alloc, octets)?);
+            let room = Storage::Long(Vec::from_slice(alloc, octets)?);
             return Ok(Octets { alloc, room });
         }
-        let room = Room::Short(ShortOctets::from_slice(octets));
+        let room = Storage::Short(ShortOctets::from_slice(octets));
         Ok(Octets { alloc, room })
     }
 
-    /// A copy of a text's first `len` octets, or of all where it has no more. Up to 24 are copied faster than by `from_slice`
-    /// where the text has at least 24.
+    /// A copy of a text's first `len` octets, or of all where it has no more. Up to 24 are copied faster than by
+    /// `from_slice` where the text has at least 24.
     #[inline]
     pub fn from_front(alloc: Global, text: &[u8], len: usize) -> Result<Octets, NoMemory>
         ensures { IfOk result (λ o. o ≡ take len text.now) }
@@ -79,7 +79,7 @@ impl Octets {
         if len > ROOM || text.len() < ROOM {
             return Octets::from_slice(alloc, &text[..len.min(text.len())]);
         }
-        let room = Room::Short(ShortOctets::from_front(text, len));
+        let room = Storage::Short(ShortOctets::from_front(text, len));
         Ok(Octets { alloc, room })
     }
 
@@ -89,15 +89,15 @@ impl Octets {
         ensures err { OnErr result (self.new ≡ self.old) }
     {
         match &mut self.room {
-            Room::Long(octets) => {
+            Storage::Long(octets) => {
                 octets.push(octet)?;
                 Ok(())
             }
-            Room::Short(octets) if octets.has_room(1) => {
+            Storage::Short(octets) if octets.has_room(1) => {
                 octets.push(octet);
                 Ok(())
             }
-            Room::Short(_) => self.outgrow(&[octet]),
+            Storage::Short(_) => self.outgrow(&[octet]),
         }
     }
 
@@ -107,15 +107,15 @@ impl Octets {
         ensures err { OnErr result (self.new ≡ self.old) }
     {
         match &mut self.room {
-            Room::Long(them) => {
+            Storage::Long(them) => {
                 them.extend_from_slice(octets)?;
                 Ok(())
             }
-            Room::Short(them) if them.has_room(octets.len()) => {
+            Storage::Short(them) if them.has_room(octets.len()) => {
                 them.extend(octets);
                 Ok(())
             }
-            Room::Short(_) => self.outgrow(octets),
+            Storage::Short(_) => self.outgrow(octets),
         }
     }
 
@@ -127,7 +127,7 @@ impl Octets {
         let mut grown = Vec::with_capacity(self.alloc, octets.len().saturating_add(FIRST_ROOM))?;
         grown.extend_from_slice(self.as_slice())?;
         grown.extend_from_slice(octets)?;
-        self.room = Room::Long(grown);
+        self.room = Storage::Long(grown);
         Ok(())
     }
 
@@ -136,8 +136,8 @@ impl Octets {
         ensures { result.now ≡ self.now }
     {
         match &self.room {
-            Room::Short(octets) => octets.as_slice(),
-            Room::Long(octets) => octets.as_slice(),
+            Storage::Short(octets) => octets.as_slice(),
+            Storage::Long(octets) => octets.as_slice(),
         }
     }
 
@@ -147,8 +147,8 @@ impl Octets {
         ensures { self.new ≡ take len self.old }
     {
         match &mut self.room {
-            Room::Short(octets) => octets.truncate(len),
-            Room::Long(octets) => octets.truncate(len),
+            Storage::Short(octets) => octets.truncate(len),
+            Storage::Long(octets) => octets.truncate(len),
         }
     }
 
@@ -157,8 +157,8 @@ impl Octets {
         ensures { result ≡ length self.now }
     {
         match &self.room {
-            Room::Short(octets) => octets.len(),
-            Room::Long(octets) => octets.len(),
+            Storage::Short(octets) => octets.len(),
+            Storage::Long(octets) => octets.len(),
         }
     }
 

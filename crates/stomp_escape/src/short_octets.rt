@@ -24,8 +24,8 @@ impl Model for ShortOctets {
     ghost invariant = { λ s. s.len ≤ 24 };
 }
 
-/// Copies these octets to the front in two copies of `size` octets, the first ones and the last ones, which overlap where
-/// there are fewer than twice as many.
+/// Copies these octets to the front in two copies of `size` octets, the first ones and the last ones, which overlap
+/// where there are fewer than twice as many.
 #[inline(always)]
 fn copy_ends(octets: &[u8], to: &mut [u8; 24], size: usize)
     requires least { size ≤ length octets.now }

@@ -38,8 +38,8 @@ fn octet_for(letter: u8) -> Option<u8>
     Some(octet)
 }
 
-/// Reads the text from `start` on, up to its first fault or past `PIECE` octets; an escape that begins within them is read
-/// whole. Returns where the text goes on, and how many octets wait in the buffer.
+/// Reads the text from `start` on, up to its first fault or past `PIECE` octets; an escape that begins within them is
+/// read whole. Returns where the text goes on, and how many octets wait in the buffer.
 #[inline(always)]
 fn read_piece(
     text: &[u8],

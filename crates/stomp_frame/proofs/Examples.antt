@@ -66,7 +66,7 @@ pub open_frame : IsOpen standard (codes "SEND\nk:v\n\nhi")
 unfolding frame_at line_at after_eols checked command_of field_of header_of headers_at counted_at uncounted_at body_at unescaped_from
 open_frame = opens standard (codes "SEND\nk:v\n\nhi") (rw (ascii (codes "SEND") refl, ascii (codes "k:v") refl, ascii [] refl) refl)
 
--- a CR behind a line at the limit may be that of its end
+-- a CR after a line at the limit may be that of its end
 pub open_line : IsOpen small (codes "SEND\nk:345678901234567890\r")
 unfolding frame_at line_at after_eols checked command_of field_of header_of headers_at counted_at uncounted_at body_at unescaped_from
 open_line = opens small (codes "SEND\nk:345678901234567890\r") (rw (ascii (codes "SEND") refl) refl)

@@ -13,7 +13,7 @@ use Rattle.stomp_frame.specs.declared.fault.Check.TheVariants.{BadCommand, BadLi
 use Rattle.stomp_frame.specs.Headers.{Header}
 use Rattle.stomp_frame.specs.Commands.{has_escapes}
 use Rattle.stomp_frame.specs.ContentLength.{length_of, content_length}
-use Rattle.stomp_frame.specs.Checks.{Stage, AtCommand, AtHeader, AtBody, HasLine, IsEndless, HasNoCrOrNull, IsNameless, HasBadEscape, IsCounted, IsEndlessBody, FailsCheck, checks_of, IsFirstFailed, IsAtFault}
+use Rattle.stomp_frame.specs.Checks.{Progress, AtCommand, AtHeader, AtBody, HasLine, IsEndless, HasNoCrOrNull, IsNameless, HasBadEscape, IsCounted, IsEndlessBody, FailsCheck, checks_of, IsFirstFailed, IsAtFault}
 use Rattle.stomp_frame.specs.Inner.Parser.{without_cr, after_eols, frame_at}
 use Rattle.stomp_frame.proofs.Cuts.{Without}
 use Rattle.stomp_frame.proofs.Failing.{FailsAsLine, Passes, FailsAsCommand, FailsAsHeader, FailsAsBody, IsFaulty}
@@ -32,15 +32,15 @@ same_line text c m d n l k =
 not_endless : (limits : Limits) (text content more : List ℕ) → HasLine text content more → IsEndless limits text → ⊥
 not_endless limits text content more l w = absurd (let h = sym (without_cut 10 text w.1) ∙ (cut_line text content more l).1 in cc)
 
-not_long : (limits : Limits) (stage : Stage) (text content more : List ℕ) → HasLine text content more → length content ≤ limits.line → FailsCheck limits stage text LineTooLong → ⊥
-not_long limits stage text content more l le (inl (c, m, k, lt)) = let e = ap length (same_line text c m content more k l) in absurd (omega arith)
-not_long limits stage text content more l le (inr w) = not_endless limits text content more l w
+not_long : (limits : Limits) (progress : Progress) (text content more : List ℕ) → HasLine text content more → length content ≤ limits.line → FailsCheck limits progress text LineTooLong → ⊥
+not_long limits progress text content more l le (inl (c, m, k, lt)) = let e = ap length (same_line text c m content more k l) in absurd (omega arith)
+not_long limits progress text content more l le (inr w) = not_endless limits text content more l w
 
-not_broken : (limits : Limits) (stage : Stage) (text content more : List ℕ) → HasLine text content more → HasNoCrOrNull content → FailsCheck limits stage text BadLine → ⊥
-not_broken limits stage text content more l w (c, m, k, n) = n (subst HasNoCrOrNull (same_line text content more c m l k) w)
+not_broken : (limits : Limits) (progress : Progress) (text content more : List ℕ) → HasLine text content more → HasNoCrOrNull content → FailsCheck limits progress text BadLine → ⊥
+not_broken limits progress text content more l w (c, m, k, n) = n (subst HasNoCrOrNull (same_line text content more c m l k) w)
 
-not_bad_text : (limits : Limits) (stage : Stage) (text content more : List ℕ) → HasLine text content more → IsUtf8 content → FailsCheck limits stage text BadText → ⊥
-not_bad_text limits stage text content more l w (c, m, k, n) = n (subst IsUtf8 (same_line text content more c m l k) w)
+not_bad_text : (limits : Limits) (progress : Progress) (text content more : List ℕ) → HasLine text content more → IsUtf8 content → FailsCheck limits progress text BadText → ⊥
+not_bad_text limits progress text content more l w (c, m, k, n) = n (subst IsUtf8 (same_line text content more c m l k) w)
 
 plain_unbroken : (content : List ℕ) → AllByRecursion (λ b. (b ≢ 10) × (b ≢ 13) × (b ≢ 0)) content → HasNoCrOrNull content
 plain_unbroken [] w = tt
@@ -74,17 +74,17 @@ counted_not_endless limits headers text n (d, h, l) w = absurd (let e = sym h �
 
 -- ---- what reading finds wrong is failed first
 
-by_line : (limits : Limits) (stage : Stage) (text : List ℕ) (checks : List Check) (k : Check) → FailsAsLine limits text k → IsFirstFailed (FailsCheck limits stage text) (LineTooLong ∷ BadLine ∷ BadText ∷ checks) k
-by_line limits stage text checks LineTooLong f = inl (refl, f)
-by_line limits stage text checks BadLine (content, more, l, le, n) = inr (not_long limits stage text content more l le, inl (refl, (content, more, l, n)))
-by_line limits stage text checks BadText (content, more, l, le, w, n) = inr (not_long limits stage text content more l le, inr (not_broken limits stage text content more l w, inl (refl, (content, more, l, n))))
-by_line limits stage text checks k f = absurd f
+by_line : (limits : Limits) (progress : Progress) (text : List ℕ) (checks : List Check) (k : Check) → FailsAsLine limits text k → IsFirstFailed (FailsCheck limits progress text) (LineTooLong ∷ BadLine ∷ BadText ∷ checks) k
+by_line limits progress text checks LineTooLong f = inl (refl, f)
+by_line limits progress text checks BadLine (content, more, l, le, n) = inr (not_long limits progress text content more l le, inl (refl, (content, more, l, n)))
+by_line limits progress text checks BadText (content, more, l, le, w, n) = inr (not_long limits progress text content more l le, inr (not_broken limits progress text content more l w, inl (refl, (content, more, l, n))))
+by_line limits progress text checks k f = absurd f
 
-after_line : (limits : Limits) (stage : Stage) (text content : List ℕ) (checks : List Check) (k : Check) → Passes limits text content → IsFirstFailed (FailsCheck limits stage text) checks k → IsFirstFailed (FailsCheck limits stage text) (LineTooLong ∷ BadLine ∷ BadText ∷ checks) k
-after_line limits stage text content checks k p later =
+after_line : (limits : Limits) (progress : Progress) (text content : List ℕ) (checks : List Check) (k : Check) → Passes limits text content → IsFirstFailed (FailsCheck limits progress text) checks k → IsFirstFailed (FailsCheck limits progress text) (LineTooLong ∷ BadLine ∷ BadText ∷ checks) k
+after_line limits progress text content checks k p later =
     let m = passes_line limits text content p in
     let l = p.2 in
-    inr (not_long limits stage text content m.0 m.1 l.short, inr (not_broken limits stage text content m.0 m.1 (plain_unbroken content l.plain), inr (not_bad_text limits stage text content m.0 m.1 l.utf8, later)))
+    inr (not_long limits progress text content m.0 m.1 l.short, inr (not_broken limits progress text content m.0 m.1 (plain_unbroken content l.plain), inr (not_bad_text limits progress text content m.0 m.1 l.utf8, later)))
 
 command_first : (limits : Limits) (text : List ℕ) (k : Check) → FailsAsCommand limits text k → IsFirstFailed (FailsCheck limits AtCommand text) (checks_of AtCommand) k
 command_first limits text BadCommand (content, p, n) =
@@ -139,20 +139,20 @@ all_plain : (content : List ℕ) → AllByRecursion (λ b. b ≢ 10) content →
 all_plain [] w u = tt
 all_plain (b ∷ content) w u = ((w.0, u.0.0, u.0.1), all_plain content w.1 u.1)
 
-of_line : (limits : Limits) (stage : Stage) (text : List ℕ) (checks : List Check) (k : Check) → IsFirstFailed (FailsCheck limits stage text) (LineTooLong ∷ BadLine ∷ BadText ∷ checks) k → FailsAsLine limits text k ⊎ (IsGood limits text × IsFirstFailed (FailsCheck limits stage text) checks k)
-of_line limits stage text checks k (inl (e, f)) = inl (subst (FailsAsLine limits text) (sym e) f)
-of_line limits stage text checks k (inr (a, rest)) = go rest
+of_line : (limits : Limits) (progress : Progress) (text : List ℕ) (checks : List Check) (k : Check) → IsFirstFailed (FailsCheck limits progress text) (LineTooLong ∷ BadLine ∷ BadText ∷ checks) k → FailsAsLine limits text k ⊎ (IsGood limits text × IsFirstFailed (FailsCheck limits progress text) checks k)
+of_line limits progress text checks k (inl (e, f)) = inl (subst (FailsAsLine limits text) (sym e) f)
+of_line limits progress text checks k (inr (a, rest)) = go rest
   where
     short : (content more : List ℕ) → HasLine text content more → length content ≤ limits.line
     short content more l = elim (cases_lt limits.line (length content)) [ inl lt ↦ absurd (a (inl (content, more, l, lt))) | inr le ↦ le ]
 
-    whole : (FailsCheck limits stage text BadLine → ⊥) → (content more : List ℕ) → HasLine text content more → HasNoCrOrNull content
+    whole : (FailsCheck limits progress text BadLine → ⊥) → (content more : List ℕ) → HasLine text content more → HasNoCrOrNull content
     whole b content more l = elim (cases_Bool (IsBroken content)) [
       | inl t ↦ absurd (b (content, more, l, λ w. absurd (let h = unbroken content w in cc)))
       | inr f ↦ all_unbroken content f
     ]
 
-    good : (FailsCheck limits stage text BadLine → ⊥) → (FailsCheck limits stage text BadText → ⊥) → IsGood limits text
+    good : (FailsCheck limits progress text BadLine → ⊥) → (FailsCheck limits progress text BadText → ⊥) → IsGood limits text
     good b c content more l ne = elim l.ended [
       | inl e ↦ (content ++ 13 ∷ 10 ∷ [], more, record { ended = inr refl; short = short content more l; plain = all_plain content l.one (whole b content more l); utf8 = utf8 }, ne, e ∙ sym (append_assoc content (13 ∷ 10 ∷ []) more))
       | inr (e, last) ↦ (content ++ 10 ∷ [], more, record { ended = inl refl; short = short content more l; plain = all_plain content l.one (whole b content more l); utf8 = utf8 }, ne, e ∙ sym (append_assoc content (10 ∷ []) more))
@@ -164,7 +164,7 @@ of_line limits stage text checks k (inr (a, rest)) = go rest
           | inr u ↦ absurd (c (content, more, l, λ w. absurd (let h = is_utf8-from_IsUtf8 content w in cc)))
         ]
 
-    go : IsFirstFailed (FailsCheck limits stage text) (BadLine ∷ BadText ∷ checks) k → FailsAsLine limits text k ⊎ (IsGood limits text × IsFirstFailed (FailsCheck limits stage text) checks k)
+    go : IsFirstFailed (FailsCheck limits progress text) (BadLine ∷ BadText ∷ checks) k → FailsAsLine limits text k ⊎ (IsGood limits text × IsFirstFailed (FailsCheck limits progress text) checks k)
     go (inl (e, (content, more, l, n))) = inl (subst (FailsAsLine limits text) (sym e) (content, more, l, short content more l, n))
     go (inr (b, inl (e, (content, more, l, n)))) = inl (subst (FailsAsLine limits text) (sym e) (content, more, l, short content more l, whole b content more l, n))
     go (inr (b, inr (c, later))) = inr (good b c, later)

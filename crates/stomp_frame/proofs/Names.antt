@@ -10,15 +10,15 @@ use Rattle.std.proofs.lemmas.List.{append-nil}
 use Rattle.std.proofs.lemmas.List.Folds.{list_any-append}
 use Rattle.std.proofs.lemmas.Slice.Eq.{bytes_eq-Decides}
 use Rattle.stomp_frame.specs.Headers.{Header, first_of}
-use Rattle.stomp_frame.specs.ServerFrames.{first_entries, kept_back}
+use Rattle.stomp_frame.specs.ServerFrames.{first_entries, withheld}
 
 -- the name is among these
 abbrev pub has : List (List ℕ) → List ℕ → Bool
 has names q = list_any (λ n. bytes_eq q n) names
 
--- the names of headers, and those that are kept back
+-- the names of headers, and those that are withheld
 abbrev pub seen : List Header → List (List ℕ)
-seen headers = map (λ h. h.0) headers ++ kept_back
+seen headers = map (λ h. h.0) headers ++ withheld
 
 -- the test that two texts are equal answers the same with the two exchanged
 pub either_way : (xs ys : List ℕ) → bytes_eq xs ys ≡ bytes_eq ys xs
@@ -48,9 +48,9 @@ pub first_has : (hs : List Header) (q : List ℕ) → is_some (first_of q hs) �
 first_has [] q = refl
 first_has (h ∷ hs) q = is_some_cond (bytes_eq h.0 q) h (find (λ g. bytes_eq g.0 q) hs) ∙ ap (λ b. b || is_some (first_of q hs)) (either_way h.0 q) ∙ ap (λ b. bytes_eq q h.0 || b) (first_has hs q)
 
--- what tells whether a header is passed over: the names kept back, and then the first header of that name
-pub seen_is : (hs : List Header) (q : List ℕ) (kept found : Bool) → kept ≡ has kept_back q → found ≡ is_some (first_of q hs) → (kept || found) ≡ has (seen hs) q
-seen_is hs q kept found k f = or_swap kept found ∙ ap (λ b. b || kept) (f ∙ first_has hs q) ∙ ap (λ b. has (map (λ h. h.0) hs) q || b) k ∙ sym (list_any-append (λ n. bytes_eq q n) (map (λ h. h.0) hs) kept_back)
+-- what tells whether a header is passed over: the names withheld, and then the first header of that name
+pub seen_is : (hs : List Header) (q : List ℕ) (kept found : Bool) → kept ≡ has withheld q → found ≡ is_some (first_of q hs) → (kept || found) ≡ has (seen hs) q
+seen_is hs q kept found k f = or_swap kept found ∙ ap (λ b. b || kept) (f ∙ first_has hs q) ∙ ap (λ b. has (map (λ h. h.0) hs) q || b) k ∙ sym (list_any-append (λ n. bytes_eq q n) (map (λ h. h.0) hs) withheld)
 
 -- names that tell the same give the same first entries
 pub same_names : (hs : List Header) (names others : List (List ℕ)) → ((q : List ℕ) → has names q ≡ has others q) → first_entries names hs ≡ first_entries others hs
@@ -59,7 +59,7 @@ same_names (h ∷ hs) names others e =
     same_cond (has names h.0) (has others h.0) (first_entries names hs) (first_entries others hs) (h ∷ first_entries (h.0 ∷ names) hs) (h ∷ first_entries (h.0 ∷ others) hs) (e h.0) (same_names hs names others e)
     (ap (λ (l : List Header). h ∷ l) (same_names hs (h.0 ∷ names) (h.0 ∷ others) (λ q. ap (λ b. bytes_eq q h.0 || b) (e q))))
 
--- one more header behind the others puts its name among those that were seen
+-- one more header after the others puts its name among those that were seen
 pub seen_more : (hs : List Header) (h : Header) (q : List ℕ) → has (seen (hs ++ h ∷ [])) q ≡ has (h.0 ∷ seen hs) q
 seen_more [] h q = refl
 seen_more (g ∷ hs) h q = ap (λ b. bytes_eq q g.0 || b) (seen_more hs h q) ∙ or_third (bytes_eq q g.0) (bytes_eq q h.0) (has (seen hs) q)
@@ -95,14 +95,14 @@ adds_none false b f = refl
 pub again : (names : List (List ℕ)) (name q : List ℕ) → has names name ≡ true → has (name ∷ names) q ≡ has names q
 again names name q e = adds_none (bytes_eq q name) (has names q) (λ t. subst (λ (n : List ℕ). has names n ≡ true) (sym ((bytes_eq-Decides q name).0 t)) e)
 
--- headers whose names are all kept back add nothing to them
-only_kept : (hs : List Header) (q : List ℕ) → AllByRecursion (λ h. IsTrue (has kept_back h.0)) hs → has (seen hs) q ≡ has kept_back q
+-- headers whose names are all withheld add nothing to them
+only_kept : (hs : List Header) (q : List ℕ) → AllByRecursion (λ h. IsTrue (has withheld h.0)) hs → has (seen hs) q ≡ has withheld q
 only_kept [] q w = refl
-only_kept (h ∷ hs) q w = ap (λ b. bytes_eq q h.0 || b) (only_kept hs q w.1) ∙ adds_none (bytes_eq q h.0) (has kept_back q) (λ e. subst (λ (t : List ℕ). has kept_back t ≡ true) (sym ((bytes_eq-Decides q h.0).0 e)) w.0)
+only_kept (h ∷ hs) q w = ap (λ b. bytes_eq q h.0 || b) (only_kept hs q w.1) ∙ adds_none (bytes_eq q h.0) (has withheld q) (λ e. subst (λ (t : List ℕ). has withheld t ≡ true) (sym ((bytes_eq-Decides q h.0).0 e)) w.0)
 
--- where only headers that are kept back were put, all first entries are left to put
-pub none_seen : (out sent : List Header) → AllByRecursion (λ h. IsTrue (has kept_back h.0)) out → out ++ first_entries (seen out) (drop 0 sent) ≡ out ++ first_entries kept_back sent
-none_seen out sent w = ap (λ (l : List Header). out ++ l) (same_names sent (seen out) kept_back (λ q. only_kept out q w))
+-- where only headers that are withheld were put, all first entries are left to put
+pub none_seen : (out sent : List Header) → AllByRecursion (λ h. IsTrue (has withheld h.0)) out → out ++ first_entries (seen out) (drop 0 sent) ≡ out ++ first_entries withheld sent
+none_seen out sent w = ap (λ (l : List Header). out ++ l) (same_names sent (seen out) withheld (λ q. only_kept out q w))
 
 -- once all were seen nothing is left to put
 pub all_seen : (out whole sent : List Header) (i : ℕ) → drop i sent ≡ [] → out ++ first_entries (seen out) (drop i sent) ≡ whole → out ≡ whole

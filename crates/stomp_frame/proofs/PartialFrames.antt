@@ -9,9 +9,9 @@ use Rattle.stomp_frame.specs.declared.raw_frame.RawFrame.{RawFrame}
 use Rattle.stomp_frame.specs.declared.fault.Check.TheVariants.{BadLength, BodyTooLong, TooManyHeaders}
 use Rattle.stomp_frame.specs.declared.fault.Stop.{Stop}
 use Rattle.stomp_frame.specs.declared.fault.Stop.TheVariants as stops
-use Rattle.stomp_frame.specs.declared.partial_frame.PartialFrame.{PartialFrame}
-use Rattle.stomp_frame.specs.declared.awaited.Awaited.{Awaited}
-use Rattle.stomp_frame.specs.declared.awaited.Awaited.TheVariants as awaits
+use Rattle.stomp_frame.specs.declared.reading.partial_frame.PartialFrame.{PartialFrame}
+use Rattle.stomp_frame.specs.declared.reading.awaited.Awaited.{Awaited}
+use Rattle.stomp_frame.specs.declared.reading.awaited.Awaited.TheVariants as awaits
 use Rattle.stomp_frame.specs.Grammar.{eol}
 use Rattle.stomp_frame.specs.Headers.{Header}
 use Rattle.stomp_frame.specs.Commands.{has_escapes}
@@ -27,12 +27,12 @@ use Rattle.stomp_frame.proofs.Steady.{Extends, line_open, line_steady, eols_case
 none_yet : (b : ℕ) (text : List ℕ) → IsUnfound b text 0
 none_yet b text j lt e = absurd (omega arith)
 
-place : (text : List ℕ) (parsed next : ℕ) → next ≤ length (drop parsed text) → parsed ≤ length text → parsed + next + 0 ≤ length text
-place text parsed next le w = omega (arith, length-drop parsed text)
+parsed_within : (text : List ℕ) (parsed next : ℕ) → next ≤ length (drop parsed text) → parsed ≤ length text → parsed + next + 0 ≤ length text
+parsed_within text parsed next le w = omega (arith, length-drop parsed text)
 
 -- ---- now
 
--- with nothing more behind the text
+-- with nothing more after the text
 pub now : (limits : Limits) (text : List ℕ) (awaited : Awaited) (headers : List Header) (parsed searched : ℕ) → IsReadUpTo limits text awaited headers parsed searched → frame_at limits text ≡ frame_resumed limits awaited headers (drop parsed text)
 now limits text awaited headers parsed searched h =
     ap (frame_at limits) (sym (append-nil text)) ∙ h.resumes [] ∙ ap (frame_resumed limits awaited headers) (append-nil (drop parsed text))
@@ -150,7 +150,7 @@ pub held_command : (limits : Limits) (text : List ℕ) (awaited : Awaited) (head
 held_command limits text awaited headers parsed searched next line c s h idem l e le =
     let g = subst (λ (s : Awaited). IsReadUpTo limits text s headers parsed searched) s h in
     record {
-      within = place text parsed next le (omega (arith, g.within));
+      within = parsed_within text parsed next le (omega (arith, g.within));
       few = g.few;
       begun = λ more.
           let here = start_here text awaits.CommandLine headers parsed refl g.begun in
@@ -247,7 +247,7 @@ held_header limits text awaited headers parsed searched next c line entry s h lt
     let rest = drop parsed text in
     let longer : length (headers ++ entry ∷ []) ≡ length headers + 1 = length-append headers (entry ∷ []) in
     let there : IsReadUpTo limits text (awaits.HeaderLine c) (headers ++ entry ∷ []) (parsed + next) 0 = record {
-      within = place text parsed next le (omega (arith, g.within));
+      within = parsed_within text parsed next le (omega (arith, g.within));
       few = omega (arith, longer);
       begun = g.begun;
       resumes = λ more.
@@ -268,7 +268,7 @@ held_empty limits text awaited headers parsed searched next c n line s h l none 
     let g = subst (λ (s : Awaited). IsReadUpTo limits text s headers parsed searched) s h in
     let rest = drop parsed text in
     record {
-      within = place text parsed next le (omega (arith, g.within));
+      within = parsed_within text parsed next le (omega (arith, g.within));
       few = g.few;
       begun = g.begun;
       resumes = λ more.
@@ -313,16 +313,16 @@ pub reading_more : (limits : Limits) (text piece : List ℕ) (start front : ℕ)
 reading_more limits text piece start front partial r =
     let near : start ≤ length text = omega (arith, r.order, r.within) in
     let cut : drop start (text ++ piece) ≡ drop start text ++ piece = drop-append-le start text piece near in
-    let behind : drop front (text ++ piece) ≡ drop front text ++ piece = drop-append-le front text piece r.within in
+    let appended : drop front (text ++ piece) ≡ drop front text ++ piece = drop-append-le front text piece r.within in
     record {
       order = r.order;
       within = omega (arith, r.within, length-append text piece);
       skips = λ more. ap (λ (t : List ℕ). after_eols (t ++ more)) cut ∙ ap after_eols (append_assoc (drop start text) piece more) ∙ r.skips (piece ++ more)
-          ∙ ap after_eols (sym (append_assoc (drop front text) piece more)) ∙ ap (λ (t : List ℕ). after_eols (t ++ more)) (sym behind);
-      read = subst (λ (t : List ℕ). IsPartial limits t partial) (sym behind) (read_up_to_more limits (drop front text) piece partial.awaited partial.headers partial.parsed partial.searched r.read);
+          ∙ ap after_eols (sym (append_assoc (drop front text) piece more)) ∙ ap (λ (t : List ℕ). after_eols (t ++ more)) (sym appended);
+      read = subst (λ (t : List ℕ). IsPartial limits t partial) (sym appended) (read_up_to_more limits (drop front text) piece partial.awaited partial.headers partial.parsed partial.searched r.read);
     }
 
--- skipping ends at the same place from the unread text and from the partial frame
+-- skipping ends at the same octet from the unread text and from the partial frame
 pub same_skipped : (a b c : List ℕ) → ((more : List ℕ) → after_eols (a ++ more) ≡ after_eols (b ++ more)) → ((more : List ℕ) → after_eols (b ++ more) ≡ after_eols (c ++ more)) → after_eols a ≡ after_eols c
 same_skipped a b c p q = ap after_eols (sym (append-nil a)) ∙ p [] ∙ q [] ∙ ap after_eols (append-nil c)
 

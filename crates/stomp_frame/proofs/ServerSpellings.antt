@@ -7,8 +7,8 @@ use Rattle.std.proofs.lemmas.Grind.{flat_map-append}
 use Rattle.std.proofs.lemmas.List.Folds.{list_any-append}
 use Rattle.stomp_escape.specs.Escape.{escaped}
 use Rattle.stomp_frame.specs.Headers.{Header}
-use Rattle.stomp_frame.specs.Writing.{header_line, header_lines, spelled, Extends}
-use Rattle.stomp_frame.specs.ServerFrames.{optional, first_entries, kept_back, message_id, receipt_frame, error_frame}
+use Rattle.stomp_frame.specs.Writing.{header_line, header_lines, spelling_of, Extends}
+use Rattle.stomp_frame.specs.ServerFrames.{optional_header, first_entries, withheld, message_id, receipt_frame, error_frame}
 use Rattle.stomp_frame.proofs.Digits.{decimal_plain, id_plain}
 use Rattle.stomp_frame.proofs.Names.{has, seen, either_way, seen_more, rest_at, same_names, at_cons, again}
 use Rattle.stomp_frame.proofs.Written.{taken}
@@ -48,7 +48,7 @@ split : (xs ys : List Header) (tail : List ℕ) → lines (xs ++ ys) ++ tail ≡
 split xs ys tail = ap (λ (t : List ℕ). t ++ tail) (flat_map-append (λ h. header_line true h ++ 10 ∷ []) xs ys) ∙ append_assoc (lines xs) (lines ys) tail
 
 -- a RECEIPT, appended in parts
-pub receipt_put : (old b e id : List ℕ) → b ≡ old ++ (codes "RECEIPT\nreceipt-id:" ++ (escaped id ++ 10 ∷ [])) → e ≡ b ++ 10 ∷ 0 ∷ [] → e ≡ old ++ spelled (receipt_frame id)
+pub receipt_put : (old b e id : List ℕ) → b ≡ old ++ (codes "RECEIPT\nreceipt-id:" ++ (escaped id ++ 10 ∷ [])) → e ≡ b ++ 10 ∷ 0 ∷ [] → e ≡ old ++ spelling_of (receipt_frame id)
 receipt_put old b e id p q =
     let word = codes "RECEIPT" ++ 10 ∷ [] in
     let line = line_of (codes "receipt-id") id in
@@ -60,13 +60,13 @@ receipt_put old b e id p q =
 
 -- a MESSAGE's headers, appended in parts
 pub headers_put : (old a b c d e subscription id : List ℕ) (destination : Option (List ℕ)) (size : List ℕ) (others : List Header) → a ≡ old ++ (codes "MESSAGE\nsubscription:" ++ (escaped subscription ++ 10 ∷ [])) → b ≡ a ++ line_of (codes "message-id") id
-    → c ≡ b ++ lines (optional (codes "destination") destination) → d ≡ c ++ line_of (codes "content-length") size → e ≡ d ++ lines others
-    → e ≡ old ++ (codes "MESSAGE\n" ++ lines ((codes "subscription", subscription) ∷ (codes "message-id", id) ∷ (optional (codes "destination") destination ++ (codes "content-length", size) ∷ others)))
+    → c ≡ b ++ lines (optional_header (codes "destination") destination) → d ≡ c ++ line_of (codes "content-length") size → e ≡ d ++ lines others
+    → e ≡ old ++ (codes "MESSAGE\n" ++ lines ((codes "subscription", subscription) ∷ (codes "message-id", id) ∷ (optional_header (codes "destination") destination ++ (codes "content-length", size) ∷ others)))
 headers_put old a b c d e subscription id destination size others pa pb pc pd pe =
     let s = line_of (codes "subscription") subscription in
     let word = codes "MESSAGE\n" in
     let i = line_of (codes "message-id") id in
-    let own = optional (codes "destination") destination in
+    let own = optional_header (codes "destination") destination in
     let l = line_of (codes "content-length") size in
     let last = lines others in
     pe ∙ ap (λ (t : List ℕ). t ++ last) (pd ∙ ap (λ (t : List ℕ). t ++ l) (pc ∙ ap (λ (t : List ℕ). t ++ lines own) (pb ∙ ap (λ (t : List ℕ). t ++ i) pa)))
@@ -78,12 +78,12 @@ headers_put old a b c d e subscription id destination size others pa pb pc pd pe
     ∙ ap (λ (t : List ℕ). old ++ (word ++ (s ++ (i ++ t)))) (sym (flat_map-append (λ h. header_line true h ++ 10 ∷ []) own ((codes "content-length", size) ∷ others)))
 
 -- an ERROR, appended in parts
-pub error_put : (old b c d e message : List ℕ) (receipt : Option (List ℕ)) (version : Bool) → b ≡ old ++ (codes "ERROR\nmessage:" ++ (escaped message ++ 10 ∷ [])) → c ≡ b ++ lines (optional (codes "receipt-id") receipt)
-    → d ≡ c ++ lines (optional (codes "version") (if version then Some (codes "1.2") else None)) → e ≡ d ++ (codes "content-length:0" ++ 10 ∷ 10 ∷ 0 ∷ []) → e ≡ old ++ spelled (error_frame message receipt version)
+pub error_put : (old b c d e message : List ℕ) (receipt : Option (List ℕ)) (version : Bool) → b ≡ old ++ (codes "ERROR\nmessage:" ++ (escaped message ++ 10 ∷ [])) → c ≡ b ++ lines (optional_header (codes "receipt-id") receipt)
+    → d ≡ c ++ lines (optional_header (codes "version") (if version then Some (codes "1.2") else None)) → e ≡ d ++ (codes "content-length:0" ++ 10 ∷ 10 ∷ 0 ∷ []) → e ≡ old ++ spelling_of (error_frame message receipt version)
 error_put old b c d e message receipt version pb pc pd pe =
     let word = codes "ERROR" ++ 10 ∷ [] in
-    let asked = optional (codes "receipt-id") receipt in
-    let told = optional (codes "version") (if version then Some (codes "1.2") else None) in
+    let asked = optional_header (codes "receipt-id") receipt in
+    let told = optional_header (codes "version") (if version then Some (codes "1.2") else None) in
     let last : List Header = (codes "content-length", codes "0") ∷ [] in
     let tail = 10 ∷ 0 ∷ [] in
     let first = line_of (codes "message") message in
@@ -109,10 +109,10 @@ or_swap true false = refl
 or_swap false true = refl
 or_swap false false = refl
 
--- whether a header is dropped: its name is kept back, or was before
-pub dropped_by : (hs : List Header) (q : List ℕ) (kept before : Bool) → kept ≡ has kept_back q → before ≡ list_any (λ h. bytes_eq h.0 q) hs → (kept || before) ≡ has (seen hs) q
+-- whether a header is dropped: its name is withheld, or came before
+pub dropped_by : (hs : List Header) (q : List ℕ) (kept before : Bool) → kept ≡ has withheld q → before ≡ list_any (λ h. bytes_eq h.0 q) hs → (kept || before) ≡ has (seen hs) q
 dropped_by hs q kept before k f =
-    or_swap kept before ∙ ap (λ b. b || kept) (f ∙ before_has hs q) ∙ ap (λ b. has (map (λ h. h.0) hs) q || b) k ∙ sym (list_any-append (λ n. bytes_eq q n) (map (λ h. h.0) hs) kept_back)
+    or_swap kept before ∙ ap (λ b. b || kept) (f ∙ before_has hs q) ∙ ap (λ b. has (map (λ h. h.0) hs) q || b) k ∙ sym (list_any-append (λ n. bytes_eq q n) (map (λ h. h.0) hs) withheld)
 
 -- what is still due after the first i headers
 abbrev pub due : List Header → ℕ → List ℕ

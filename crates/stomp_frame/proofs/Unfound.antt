@@ -10,7 +10,7 @@ use Rattle.stomp_frame.specs.Inner.PartialFrames.{IsUnfound}
 use Rattle.stomp_frame.proofs.Cuts.{cut_found, cut_none}
 use Rattle.stomp_frame.proofs.Steady.{line_open, line_endless, line_steady, uncounted_cut, uncounted_none, uncounted_steady}
 
--- ---- the place
+-- ---- the index
 
 -- one octet more that isn't it
 pub unfound_more : (b : ℕ) (text : List ℕ) (n : ℕ) → IsUnfound b text n → (get_or text n 0 ≡ b → ⊥) → IsUnfound b text (n + 1)
@@ -39,7 +39,7 @@ place_none b text searched end le within unfound h j lt e =
           h (j - searched) (omega arith) (omega (arith, size text searched end le within)) (eq-eqb _ _ same)
     ]
 
--- the first place in a window is the first in the text
+-- the first index in a window is the first in the text
 pub place_found : (b : ℕ) (text : List ℕ) (searched end at : ℕ) → searched ≤ end → end ≤ length text → IsUnfound b text searched → IsFirstByte (is_byte b) (take (end - searched) (drop searched text)) (Some at)
     → (searched + at < end) × (cut b text ≡ Some (take (searched + at) text, drop (searched + at + 1) text))
 place_found b text searched end at le within unfound h =

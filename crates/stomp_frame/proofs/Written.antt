@@ -19,7 +19,7 @@ use Rattle.stomp_frame.specs.Headers.{Header, IsText, IsPair}
 use Rattle.stomp_frame.specs.Commands.{word, has_escapes, may_have_body}
 use Rattle.stomp_frame.specs.ContentLength.{length_of, content_length}
 use Rattle.stomp_frame.specs.Grammar.{IsLine, Encodes, IsHeader, AreHeaders, IsSpelling, BeginsWith}
-use Rattle.stomp_frame.specs.Writing.{written, header_line, header_lines, spelled, IsBare, SaysLength, HasItsLength, IsWritable, IsWithin}
+use Rattle.stomp_frame.specs.Writing.{written_text, header_line, header_lines, spelling_of, IsBare, SaysLength, HasItsLength, IsWritable, IsWithin}
 use Rattle.stomp_frame.proofs.Digits.{says}
 use Rattle.stomp_frame.proofs.Texts.{escaped_utf8, with_ascii, option_cases}
 
@@ -55,14 +55,14 @@ two_bare [] w = (tt, tt)
 two_bare (b ∷ v) w = let later = two_bare v w.1 in (((w.0.0, w.0.1), later.0), (w.0.2, later.1))
 
 record IsField (escapes : Bool) (v : List ℕ) : Type 0 where
-  stands : Encodes escapes (written escapes v) v
-  plain : AllByRecursion Plain (written escapes v)
-  utf8 : IsUtf8 (written escapes v)
+  stands : Encodes escapes (written_text escapes v) v
+  plain : AllByRecursion Plain (written_text escapes v)
+  utf8 : IsUtf8 (written_text escapes v)
 
 field_escaped : (v : List ℕ) → IsText v → IsField true v
 field_escaped v t = record { stands = Spells-escaped v; plain = (plain_escaped v t.no_null).0; utf8 = escaped_utf8 v [] t.utf8 }
 
-name_field : (escapes : Bool) (h : Header) → IsPair h → IsBare escapes h → IsField escapes h.0 × AllByRecursion (λ b. b ≢ 58) (written escapes h.0)
+name_field : (escapes : Bool) (h : Header) → IsPair h → IsBare escapes h → IsField escapes h.0 × AllByRecursion (λ b. b ≢ 58) (written_text escapes h.0)
 name_field true h w bare = (field_escaped h.0 w.name, (plain_escaped h.0 w.name.no_null).1)
 name_field false h w bare = let two = two_bare h.0 bare.0 in (record { stands = refl; plain = plain_bare h.0 w.name.no_null two.0; utf8 = w.name.utf8 }, two.1)
 
@@ -70,7 +70,7 @@ value_field : (escapes : Bool) (h : Header) → IsPair h → IsBare escapes h �
 value_field true h w bare = field_escaped h.1 w.value
 value_field false h w bare = record { stands = refl; plain = plain_bare h.1 w.value.no_null bare.1; utf8 = w.value.utf8 }
 
-written_some : (escapes : Bool) (v : List ℕ) → v ≢ [] → written escapes v ≢ []
+written_some : (escapes : Bool) (v : List ℕ) → v ≢ [] → written_text escapes v ≢ []
 written_some false v ne e = ne e
 written_some true [] ne e = ne refl
 written_some true (b ∷ v) ne e =
@@ -84,9 +84,9 @@ header_is limits escapes h w bare short =
     let n = name_field escapes h w bare in
     let v = value_field escapes h w bare in
     record {
-      name = written escapes h.0;
-      value = written escapes h.1;
-      line = record { ended = inl refl; short = short; plain = all_append Plain (written escapes h.0) (58 ∷ written escapes h.1) n.0.plain (((λ e. omega arith), (λ e. omega arith), (λ e. omega arith)), v.plain); utf8 = with_ascii (written escapes h.0) 58 (written escapes h.1) (omega arith) n.0.utf8 v.utf8 };
+      name = written_text escapes h.0;
+      value = written_text escapes h.1;
+      line = record { ended = inl refl; short = short; plain = all_append Plain (written_text escapes h.0) (58 ∷ written_text escapes h.1) n.0.plain (((λ e. omega arith), (λ e. omega arith), (λ e. omega arith)), v.plain); utf8 = with_ascii (written_text escapes h.0) 58 (written_text escapes h.1) (omega arith) n.0.utf8 v.utf8 };
       named = (written_some escapes h.0 w.named, n.1);
       encodes = (n.0.stands, v.stands);
     }
@@ -138,7 +138,7 @@ body_is false body None lt few h = rw h.0 tt
 body_is false body (Some d) lt few h = rw h.0 h.1
 
 -- what is written of a frame is a spelling of it
-pub spelled_is : (limits : Limits) (f : RawFrame) → IsWritable f → IsWithin limits f → IsSpelling limits (spelled f) f
+pub spelled_is : (limits : Limits) (f : RawFrame) → IsWritable f → IsWithin limits f → IsSpelling limits (spelling_of f) f
 spelled_is limits f w i =
     record {
       first = word f.command ++ 10 ∷ [];
@@ -152,11 +152,11 @@ spelled_is limits f w i =
     }
 
 -- what is written of a frame, with more after it, begins with the frame
-pub spelled_first : (limits : Limits) (f : RawFrame) (more : List ℕ) → IsWritable f → IsWithin limits f → BeginsWith limits (spelled f ++ more) f more
+pub spelled_first : (limits : Limits) (f : RawFrame) (more : List ℕ) → IsWritable f → IsWithin limits f → BeginsWith limits (spelling_of f ++ more) f more
 spelled_first limits f more w i =
     record {
       eols = [];
-      spelling = spelled f;
+      spelling = spelling_of f;
       are_eols = ([], refl);
       is_spelling = spelled_is limits f w i;
       parts = refl;

@@ -6,7 +6,7 @@ use Rattle.stomp_frame.specs.declared.fault.Check.{Check}
 use Rattle.stomp_frame.specs.Faults.{fault_of}
 use Rattle.stomp_frame.specs.Grammar.{Stream}
 use Rattle.stomp_frame.specs.Checks.{IsOpen, IsAtFault}
-use Rattle.stomp_frame.specs.Reader.{Unread, unread_of, fed, ReadsNext}
+use Rattle.stomp_frame.specs.Reader.{Unread, unread_of, with_piece, ReadsNext}
 
 -- A new reader was fed the octets of text, in any pieces and with any calls of `next` between them, which
 -- returned the frames given; and now it is this reader. Calls that found no memory changed nothing and are
@@ -14,7 +14,7 @@ use Rattle.stomp_frame.specs.Reader.{Unread, unread_of, fed, ReadsNext}
 pub data HasRead (limits : Limits) : List ℕ → List RawFrame → Unread → Type 0 where
   begins : HasRead limits [] [] (unread_of limits)
   feeds : (text : List ℕ) (given : List RawFrame) (reader : Unread) (piece : List ℕ)
-      → HasRead limits text given reader → HasRead limits (text ++ piece) given (fed reader piece)
+      → HasRead limits text given reader → HasRead limits (text ++ piece) given (with_piece reader piece)
   gives : (text : List ℕ) (given : List RawFrame) (old new : Unread) (f : RawFrame)
       → HasRead limits text given old → ReadsNext old (Ok (Some f)) new
       → HasRead limits text (given ++ f ∷ []) new

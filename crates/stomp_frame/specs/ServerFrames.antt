@@ -5,8 +5,8 @@ use Rattle.std.specs.Option.{option_map, option_map_or}
 use Rattle.std.specs.Str.{bytes_eq}
 use Rattle.stomp_frame.specs.declared.command.Command.TheVariants as commands
 use Rattle.stomp_frame.specs.declared.raw_frame.RawFrame.{RawFrame}
-use Rattle.stomp_frame.specs.declared.server_frame.ServerFrame.{ServerFrame}
-use Rattle.stomp_frame.specs.declared.server_frame.ServerFrame.TheVariants.{Connected, Message, Receipt, Error}
+use Rattle.stomp_frame.specs.declared.server.server_frame.ServerFrame.{ServerFrame}
+use Rattle.stomp_frame.specs.declared.server.server_frame.ServerFrame.TheVariants.{Connected, Message, Receipt, Error}
 use Rattle.stomp_frame.specs.Headers.{Header, IsText, first_of}
 
 -- The first entry of each header whose name isn't among these.
@@ -17,8 +17,8 @@ first_entries names (h ∷ hs) =
     else h ∷ first_entries (h.0 ∷ names) hs
 
 -- The headers of a SEND that its MESSAGE doesn't pass on, or has of its own (own).
-abbrev pub kept_back : List (List ℕ)
-kept_back =
+abbrev pub withheld : List (List ℕ)
+withheld =
     codes "destination" ∷ codes "transaction" ∷ codes "receipt" ∷ codes "content-length"
     ∷ codes "subscription" ∷ codes "message-id" ∷ codes "ack" ∷ []
 
@@ -28,17 +28,17 @@ abbrev pub message_id : ℕ → ℕ → ℕ → List ℕ
 message_id n topic index = decimal n ++ codes "." ++ decimal topic ++ codes "." ++ decimal index
 
 -- A header that is left out where there is no value.
-abbrev pub optional : List ℕ → Option (List ℕ) → List Header
-optional name value = option_map_or (λ v. (name, v) ∷ []) value []
+abbrev pub optional_header : List ℕ → Option (List ℕ) → List Header
+optional_header name value = option_map_or (λ v. (name, v) ∷ []) value []
 
 -- The headers of a MESSAGE, of a SEND with these headers and a body of this size (STOMP 1.2, "MESSAGE"):
--- its own, and those of the SEND but for those that are kept back. That destination is left out where the
+-- its own, and those of the SEND but for those that are withheld. That destination is left out where the
 -- SEND has none is (own).
 abbrev pub message_headers : List ℕ → List ℕ → List Header → ℕ → List Header
 message_headers subscription id sent size =
     (codes "subscription", subscription) ∷ (codes "message-id", id)
-    ∷ (optional (codes "destination") (first_of (codes "destination") sent)
-    ++ (codes "content-length", decimal size) ∷ first_entries kept_back sent)
+    ∷ (optional_header (codes "destination") (first_of (codes "destination") sent)
+    ++ (codes "content-length", decimal size) ∷ first_entries withheld sent)
 
 -- A SEND as a subscriber gets it (STOMP 1.2, "MESSAGE"): those headers and its body.
 abbrev pub message_frame : List ℕ → List ℕ → List Header → List ℕ → RawFrame
@@ -53,8 +53,8 @@ message_frame subscription id sent body = record {
 abbrev pub error_headers : List ℕ → Option (List ℕ) → Bool → List Header
 error_headers message receipt version =
     (codes "message", message)
-    ∷ (optional (codes "receipt-id") receipt
-    ++ (optional (codes "version") (if version then Some (codes "1.2") else None)
+    ∷ (optional_header (codes "receipt-id") receipt
+    ++ (optional_header (codes "version") (if version then Some (codes "1.2") else None)
     ++ (codes "content-length", codes "0") ∷ []))
 
 -- An ERROR, which has no body.
@@ -78,12 +78,13 @@ abbrev pub receipt_frame : List ℕ → RawFrame
 receipt_frame id = record { command = commands.Receipt; headers = (codes "receipt-id", id) ∷ []; body = [] }
 
 -- The raw frame of a server's frame.
-abbrev pub rendered : ServerFrame → RawFrame
-rendered Connected = connected_frame
-rendered (Message subscription n topic index headers body) =
+abbrev pub raw_of_server : ServerFrame → RawFrame
+raw_of_server Connected = connected_frame
+raw_of_server (Message subscription n topic index headers body) =
     message_frame subscription.now (message_id n topic index) headers.now body.now
-rendered (Receipt id) = receipt_frame id.now
-rendered (Error message receipt version) = error_frame message.now (option_map (λ r. r.now) receipt) version
+raw_of_server (Receipt id) = receipt_frame id.now
+raw_of_server (Error message receipt version) =
+    error_frame message.now (option_map (λ r. r.now) receipt) version
 
 -- The texts that it borrows are UTF-8 without NULL.
 abbrev pub IsRenderable : ServerFrame → Type 0

@@ -6,7 +6,7 @@ ghost use Rattle.std.specs.Option.{option_map};
 ghost use Rattle.std.specs.Str.{bytes_eq};
 ghost use Rattle.stomp_frame.specs.Headers.{IsPair, IsText, first_of, without_first};
 
-use crate::lines::is_utf8;
+use crate::reading::lines::is_utf8;
 use std::alloc::Global;
 use std::marker::Model;
 use stomp_escape::{NoMemory, Octets};

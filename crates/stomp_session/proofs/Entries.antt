@@ -8,10 +8,10 @@ use Rattle.std.specs.Str.{bytes_eq}
 use Rattle.indexmap.specs.IndexMap.{insert_entry, set_value_at}
 use Rattle.indexmap.specs.IndexSet.{insert_key}
 use Rattle.mcast_txn.specs.declared.draft.sent_message.SentMessage.{SentMessage}
-use Rattle.stomp_session.specs.Names.{is_known, place_of, with_name}
+use Rattle.stomp_session.specs.Names.{is_known, index_of, with_name}
 use Rattle.stomp_session.specs.Inner.Stored.{octets_of, entries_of}
 use Rattle.stomp_session.specs.Refusals.{is_open, sends_in}
-use Rattle.stomp_session.specs.Inner.Effects.{place_of_id, entries_without, with_send}
+use Rattle.stomp_session.specs.Inner.Effects.{index_of_id, entries_without, with_send}
 
 -- a name or an id, as a set or a map holds it
 abbrev pub Key : Type 0
@@ -42,10 +42,10 @@ if_append false ks k = octets_of-append ks
 pub octets_of-insert_key : (ks : List Key) (k : Key) → octets_of (insert_key same_key ks k) ≡ with_name k.items (octets_of ks)
 octets_of-insert_key ks k = if_append (list_any (same_key k) ks) ks k ∙ ap (λ b. if b then octets_of ks else octets_of ks ++ k.items ∷ []) (sym (is_known-octets_of k.items ks))
 
--- a name's place is that of its key
-pub place_of-octets_of : (name : List ℕ) (ks : List Key) → place_of name (octets_of ks) ≡ position_or_len (is_key name) ks
-place_of-octets_of name [] = refl
-place_of-octets_of name (k ∷ ks) = grind (arith, place_of-octets_of name ks)
+-- a name's index is that of its key
+pub index_of-octets_of : (name : List ℕ) (ks : List Key) → index_of name (octets_of ks) ≡ position_or_len (is_key name) ks
+index_of-octets_of name [] = refl
+index_of-octets_of name (k ∷ ks) = grind (arith, index_of-octets_of name ks)
 
 -- an id is open if and only if its key is found
 pub is_open-lookup : {X : Type 0} (id : List ℕ) (es : List (Key × X)) → is_open id (entries_of es) ≡ is_some (lookup (is_key id) es)
@@ -85,29 +85,29 @@ lookup-entries_of id (e ∷ es) = ap (cond (bytes_eq id e.0.items) (Some e.1)) (
 pub sends_in-lookup : (id : List ℕ) (es : List (Key × List SentMessage)) (d : List SentMessage) → lookup (is_key id) es ≡ Some d → sends_in id (entries_of es) ≡ d
 sends_in-lookup id es d at = ap (λ o. unwrap_or o []) (lookup-entries_of id es ∙ at)
 
--- one more SEND for the entry at the place of this id
+-- one more SEND for the entry at the index of this id
 pub entries_of-set_value_at : (id : List ℕ) (send : SentMessage) (es : List (Key × List SentMessage)) (i : ℕ) (d : List SentMessage)
-    → i ≡ place_of_id id (entries_of es) → slice_get (values_of es) i ≡ Some d
+    → i ≡ index_of_id id (entries_of es) → slice_get (values_of es) i ≡ Some d
     → entries_of (set_value_at es i (d ++ send ∷ [])) ≡ with_send id send (entries_of es)
-entries_of-set_value_at id send [] i d place at = refl
-entries_of-set_value_at id send (e ∷ es) i d place at = by (bytes_eq id e.0.items) refl i place at (λ j. entries_of-set_value_at id send es j d)
+entries_of-set_value_at id send [] i d index at = refl
+entries_of-set_value_at id send (e ∷ es) i d index at = by (bytes_eq id e.0.items) refl i index at (λ j. entries_of-set_value_at id send es j d)
   where
-    by : (b : Bool) → bytes_eq id e.0.items ≡ b → (i : ℕ) → i ≡ place_of_id id (entries_of (e ∷ es)) → slice_get (values_of (e ∷ es)) i ≡ Some d
-        → ((j : ℕ) → j ≡ place_of_id id (entries_of es) → slice_get (values_of es) j ≡ Some d → entries_of (set_value_at es j (d ++ send ∷ [])) ≡ with_send id send (entries_of es))
+    by : (b : Bool) → bytes_eq id e.0.items ≡ b → (i : ℕ) → i ≡ index_of_id id (entries_of (e ∷ es)) → slice_get (values_of (e ∷ es)) i ≡ Some d
+        → ((j : ℕ) → j ≡ index_of_id id (entries_of es) → slice_get (values_of es) j ≡ Some d → entries_of (set_value_at es j (d ++ send ∷ [])) ≡ with_send id send (entries_of es))
         → entries_of (set_value_at (e ∷ es) i (d ++ send ∷ [])) ≡ with_send id send (entries_of (e ∷ es))
-    by true t zero place at rest = let g : e.1 ≡ d = cc in rw t (ap (λ sends. (e.0.items, sends ++ send ∷ []) ∷ entries_of es) (sym g))
-    by true t (suc i) place at rest = let none : suc i ≡ 0 = rw t at place in absurd (omega (arith, none))
-    by false t zero place at rest = let none : 0 ≡ 1 + place_of_id id (entries_of es) = rw t at place in absurd (omega (arith, none))
-    by false t (suc i) place at rest =
-        let next : suc i ≡ 1 + place_of_id id (entries_of es) = rw t at place in
+    by true t zero index at rest = let g : e.1 ≡ d = cc in rw t (ap (λ sends. (e.0.items, sends ++ send ∷ []) ∷ entries_of es) (sym g))
+    by true t (suc i) index at rest = let none : suc i ≡ 0 = rw t at index in absurd (omega (arith, none))
+    by false t zero index at rest = let none : 0 ≡ 1 + index_of_id id (entries_of es) = rw t at index in absurd (omega (arith, none))
+    by false t (suc i) index at rest =
+        let next : suc i ≡ 1 + index_of_id id (entries_of es) = rw t at index in
         rw t (ap (λ them. (e.0.items, e.1) ∷ them) (rest i (omega (arith, next)) at))
 
--- the place of an id is the index of its key
-pub place_of_id-entries_of : {X : Type 0} (id : List ℕ) (es : List (Key × X)) → place_of_id id (entries_of es) ≡ position_or_len (is_key id) (keys_of es)
-place_of_id-entries_of id [] = refl
-place_of_id-entries_of id (e ∷ es) = grind (arith, place_of_id-entries_of id es)
+-- the index of an id is the index of its key
+pub index_of_id-entries_of : {X : Type 0} (id : List ℕ) (es : List (Key × X)) → index_of_id id (entries_of es) ≡ position_or_len (is_key id) (keys_of es)
+index_of_id-entries_of id [] = refl
+index_of_id-entries_of id (e ∷ es) = grind (arith, index_of_id-entries_of id es)
 
--- a place that is found is the one that position_or_len gives
+-- a index that is found is the one that position_or_len gives
 pub position-Some : {X : Type 0} (p : X → Bool) (xs : List X) (i : ℕ) → position p xs ≡ Some i → i ≡ position_or_len p xs
 position-Some p xs i at = by (nat_lt (position_or_len p xs) (length xs)) at
   where

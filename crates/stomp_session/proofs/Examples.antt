@@ -7,7 +7,7 @@ use Rattle.stomp_session.specs.declared.phase.Phase.TheVariants.{New, Connected,
 use Rattle.stomp_session.specs.declared.fault.SessionFault.TheVariants as faults
 use Rattle.stomp_session.specs.Open.{open_subscriptions, open_transactions, phase_of, held_after}
 use Rattle.stomp_session.specs.Frames.{send_of}
-use Rattle.stomp_session.specs.Refusals.{refusal}
+use Rattle.stomp_session.specs.Refusals.{session_fault}
 use Rattle.stomp_session.specs.Answers.{takes_memory}
 use Rattle.stomp_session.specs.Versions.{has_version}
 
@@ -56,10 +56,10 @@ phases_follow = (refl, refl, refl)
 
 -- a frame before the CONNECT; an id that is open; the destination comes before the id
 pub refusals_in_order :
-    (refusal (held_after names []) (subscribe (codes "a") (codes "A")) ≡ Some faults.NotConnected)
-    × (refusal (held_after names (connect ∷ subscribe (codes "a") (codes "A") ∷ [])) (subscribe (codes "a") (codes "A")) ≡ Some faults.SubIdInUse)
-    × (refusal (held_after names (connect ∷ subscribe (codes "a") (codes "A") ∷ [])) (subscribe (codes "a") (codes "q")) ≡ Some faults.UnknownDestination)
-    × (refusal (held_after names (connect ∷ subscribe (codes "a") (codes "A") ∷ unsubscribe (codes "a") ∷ [])) (subscribe (codes "a") (codes "A")) ≡ None)
+    (session_fault (held_after names []) (subscribe (codes "a") (codes "A")) ≡ Some faults.NotConnected)
+    × (session_fault (held_after names (connect ∷ subscribe (codes "a") (codes "A") ∷ [])) (subscribe (codes "a") (codes "A")) ≡ Some faults.SubIdInUse)
+    × (session_fault (held_after names (connect ∷ subscribe (codes "a") (codes "A") ∷ [])) (subscribe (codes "a") (codes "q")) ≡ Some faults.UnknownDestination)
+    × (session_fault (held_after names (connect ∷ subscribe (codes "a") (codes "A") ∷ unsubscribe (codes "a") ∷ [])) (subscribe (codes "a") (codes "A")) ≡ None)
 refusals_in_order = (refl, refl, refl, refl)
 
 -- a version is an item of a list between commas, without the spaces round it

@@ -18,8 +18,8 @@ use Rattle.stomp_session.specs.declared.fault.SessionFault.{SessionFault}
 use Rattle.stomp_session.specs.declared.fault.SessionFault.TheVariants as faults
 use Rattle.stomp_session.specs.Frames.{topic_of, id_of, transaction_of, is_subscribe, is_unsubscribe, is_begin, is_end, is_send, is_disconnect, names_subscription, names_transaction, is_send_in, send_of}
 use Rattle.stomp_session.specs.Open.{Held, subscriptions_left, transactions_left, is_connected, is_ended, phase_of, held_after}
-use Rattle.stomp_session.specs.Refusals.{is_closed, is_new, is_open, is_full, has_other_ack, has_unknown_destination, open_tests, tests_by}
-use Rattle.stomp_session.specs.FirstRefusal.{Test, first_fault}
+use Rattle.stomp_session.specs.Refusals.{Condition, is_closed, is_new, is_open, is_full, has_other_ack, has_unknown_destination, open_refusals, refusals_by}
+use Rattle.mcast_txn.specs.Checks.{first_refusal}
 use Rattle.stomp_session.specs.Inner.Effects.{entries_without, with_send, effect, refusal_by}
 use Rattle.stomp_session.proofs.LeftOpen.{opened, opened-quiet, opened-open, opened-close, opened-send, list_any-push}
 
@@ -133,27 +133,27 @@ held_after-live names frames going = λ i. record {
   transactions = if going i then [] else transactions_left names frames;
 }
 
--- where no fault is found, the first test doesn't apply
-first_fault-none : (test : Test) (others : List Test) → first_fault (test ∷ others) ≡ None → (test.0 ≡ false) × (first_fault others ≡ None)
-first_fault-none test others none = by test.0 none
+-- where no fault is found, the first condition doesn't hold
+first_refusal-none : (condition : Condition) (others : List Condition) → first_refusal (condition ∷ others) ≡ None → (condition.0 ≡ false) × (first_refusal others ≡ None)
+first_refusal-none condition others none = by condition.0 none
   where
-    by : (b : Bool) → (if b then Some test.1 else first_fault others) ≡ None → (b ≡ false) × (first_fault others ≡ None)
+    by : (b : Bool) → (if b then Some condition.1 else first_refusal others) ≡ None → (b ≡ false) × (first_refusal others ≡ None)
     by true none = cc
     by false none = (refl, none)
 
 -- a frame that is accepted comes before the session's end
 accepted-going : (command : Command) (names : List (List ℕ)) (frames : List RawFrame) (f : RawFrame) → refusal_by command (held_after names frames) f ≡ None → is_ended frames ≡ false
 accepted-going command names frames f none =
-    by (is_ended frames) (first_fault-none (is_closed (phase_of frames), faults.Closed) (open_tests command (held_after names frames) f) none).0
+    by (is_ended frames) (first_refusal-none (is_closed (phase_of frames), faults.Closed) (open_refusals command (held_after names frames) f) none).0
   where
     by : (b : Bool) → is_closed (if b then Closed else (if is_connected frames then Connected else New)) ≡ false → b ≡ false
     by true none = none
     by false none = refl
 
 -- and any but a CONNECT after a CONNECT
-accepted-connected : (b : Bool) (others : List Test)
-    → first_fault ((is_closed (if b then Connected else New), faults.Closed) ∷ (is_new (if b then Connected else New), faults.NotConnected) ∷ others) ≡ None
-    → (b ≡ true) × (first_fault others ≡ None)
+accepted-connected : (b : Bool) (others : List Condition)
+    → first_refusal ((is_closed (if b then Connected else New), faults.Closed) ∷ (is_new (if b then Connected else New), faults.NotConnected) ∷ others) ≡ None
+    → (b ≡ true) × (first_refusal others ≡ None)
 accepted-connected true others none = (refl, none)
 accepted-connected false others none = cc
 
@@ -161,11 +161,11 @@ or_all : (a : Bool) → (a || true) ≡ true
 or_all true = refl
 or_all false = refl
 
-first : (a b : Bool) (x y : SessionFault) → first_fault ((a, x) ∷ (b, y) ∷ []) ≡ None → a ≡ false
+first : (a b : Bool) (x y : SessionFault) → first_refusal ((a, x) ∷ (b, y) ∷ []) ≡ None → a ≡ false
 first true b x y none = cc
 first false b x y none = refl
 
-third : (a b c d : Bool) (x y z w : SessionFault) → first_fault ((a, x) ∷ (b, y) ∷ (c, z) ∷ (d, w) ∷ []) ≡ None → c ≡ false
+third : (a b c d : Bool) (x y z w : SessionFault) → first_refusal ((a, x) ∷ (b, y) ∷ (c, z) ∷ (d, w) ∷ []) ≡ None → c ≡ false
 third true b c d x y z w none = cc
 third false true c d x y z w none = cc
 third false false true d x y z w none = cc
@@ -192,14 +192,14 @@ module _ (names : List (List ℕ)) (frames : List RawFrame) (f : RawFrame) where
       λ i. record { names = names; phase = phase_now i; subscriptions = subscriptions_are i; transactions = transactions_are i } in
       sym now ∙ sym (held_after-live names (frames ++ f ∷ []) goes_on)
 
-  -- the tests of a frame but CONNECT, where no fault is found
-  connected-tests : (others : List Test) → is_ended frames ≡ false
-      → first_fault ((is_closed (phase_of frames), faults.Closed) ∷ (is_new (phase_of frames), faults.NotConnected) ∷ others) ≡ None
-      → (is_connected frames ≡ true) × (first_fault others ≡ None)
-  connected-tests others going none =
+  -- what a frame but CONNECT is refused for, where no fault is found
+  connected-refusals : (others : List Condition) → is_ended frames ≡ false
+      → first_refusal ((is_closed (phase_of frames), faults.Closed) ∷ (is_new (phase_of frames), faults.NotConnected) ∷ others) ≡ None
+      → (is_connected frames ≡ true) × (first_refusal others ≡ None)
+  connected-refusals others going none =
       accepted-connected (is_connected frames) others
       (let phase_is : phase_of frames ≡ (if is_connected frames then Connected else New) = ap (λ b. if b then Closed else (if is_connected frames then Connected else New)) going in
-      subst (λ p. first_fault ((is_closed p, faults.Closed) ∷ (is_new p, faults.NotConnected) ∷ others) ≡ None) phase_is none)
+      subst (λ p. first_refusal ((is_closed p, faults.Closed) ∷ (is_new p, faults.NotConnected) ∷ others) ≡ None) phase_is none)
 
   -- any but a CONNECT or a DISCONNECT
   connected-push : (subscriptions : List (List ℕ × Topic)) (transactions : List (List ℕ × List SentMessage))
@@ -226,7 +226,7 @@ module _ (names : List (List ℕ)) (frames : List RawFrame) (f : RawFrame) where
   subscribe-follows e none =
       let s : Held = held_after names frames in
       let going : is_ended frames ≡ false = accepted-going commands.Subscribe names frames f none in
-      let checked : (is_connected frames ≡ true) × (first_fault (tests_by commands.Subscribe s f) ≡ None) = connected-tests (tests_by commands.Subscribe s f) going none in
+      let checked : (is_connected frames ≡ true) × (first_refusal (refusals_by commands.Subscribe s f) ≡ None) = connected-refusals (refusals_by commands.Subscribe s f) going none in
       let shut_here : is_open (id_of f) s.subscriptions ≡ false = third (has_other_ack f) (has_unknown_destination s f) (is_open (id_of f) s.subscriptions) (is_full s.subscriptions) faults.AckMode faults.UnknownDestination faults.SubIdInUse faults.TooManySubs checked.1 in
       let shut : is_open (id_of f) (subscriptions_left names frames) ≡ false = subst (λ b. is_open (id_of f) (if b then [] else subscriptions_left names frames) ≡ false) going shut_here in
       to_live commands.Subscribe going (connected-push _ _ going (ap is_disconnect e) checked.0
@@ -238,7 +238,7 @@ module _ (names : List (List ℕ)) (frames : List RawFrame) (f : RawFrame) where
   unsubscribe-follows e none =
       let s : Held = held_after names frames in
       let going : is_ended frames ≡ false = accepted-going commands.Unsubscribe names frames f none in
-      let checked : (is_connected frames ≡ true) × (first_fault (tests_by commands.Unsubscribe s f) ≡ None) = connected-tests (tests_by commands.Unsubscribe s f) going none in
+      let checked : (is_connected frames ≡ true) × (first_refusal (refusals_by commands.Unsubscribe s f) ≡ None) = connected-refusals (refusals_by commands.Unsubscribe s f) going none in
       to_live commands.Unsubscribe going (connected-push _ _ going (ap is_disconnect e) checked.0
       (subscriptions_left-close names frames f (ap is_subscribe e) (ap is_unsubscribe e))
       (transactions_left-quiet names frames f (ap is_begin e) (ap is_end e) (not_send (ap is_send e))))
@@ -248,7 +248,7 @@ module _ (names : List (List ℕ)) (frames : List RawFrame) (f : RawFrame) where
   begin-follows e none =
       let s : Held = held_after names frames in
       let going : is_ended frames ≡ false = accepted-going commands.Begin names frames f none in
-      let checked : (is_connected frames ≡ true) × (first_fault (tests_by commands.Begin s f) ≡ None) = connected-tests (tests_by commands.Begin s f) going none in
+      let checked : (is_connected frames ≡ true) × (first_refusal (refusals_by commands.Begin s f) ≡ None) = connected-refusals (refusals_by commands.Begin s f) going none in
       let shut_here : is_open (transaction_of f) s.transactions ≡ false = first (is_open (transaction_of f) s.transactions) (is_full s.transactions) faults.TxnInUse faults.TooManyTxns checked.1 in
       let shut : is_open (transaction_of f) (transactions_left names frames) ≡ false = subst (λ b. is_open (transaction_of f) (if b then [] else transactions_left names frames) ≡ false) going shut_here in
       to_live commands.Begin going (connected-push _ _ going (ap is_disconnect e) checked.0
@@ -260,7 +260,7 @@ module _ (names : List (List ℕ)) (frames : List RawFrame) (f : RawFrame) where
   commit-follows e none =
       let s : Held = held_after names frames in
       let going : is_ended frames ≡ false = accepted-going commands.Commit names frames f none in
-      let checked : (is_connected frames ≡ true) × (first_fault (tests_by commands.Commit s f) ≡ None) = connected-tests (tests_by commands.Commit s f) going none in
+      let checked : (is_connected frames ≡ true) × (first_refusal (refusals_by commands.Commit s f) ≡ None) = connected-refusals (refusals_by commands.Commit s f) going none in
       to_live commands.Commit going (connected-push _ _ going (ap is_disconnect e) checked.0
       (subscriptions_left-quiet names frames f (ap is_subscribe e) (ap is_unsubscribe e))
       (transactions_left-close names frames f (ap is_begin e) (ap is_end e) (not_send (ap is_send e))))
@@ -270,7 +270,7 @@ module _ (names : List (List ℕ)) (frames : List RawFrame) (f : RawFrame) where
   abort-follows e none =
       let s : Held = held_after names frames in
       let going : is_ended frames ≡ false = accepted-going commands.Abort names frames f none in
-      let checked : (is_connected frames ≡ true) × (first_fault (tests_by commands.Abort s f) ≡ None) = connected-tests (tests_by commands.Abort s f) going none in
+      let checked : (is_connected frames ≡ true) × (first_refusal (refusals_by commands.Abort s f) ≡ None) = connected-refusals (refusals_by commands.Abort s f) going none in
       to_live commands.Abort going (connected-push _ _ going (ap is_disconnect e) checked.0
       (subscriptions_left-quiet names frames f (ap is_subscribe e) (ap is_unsubscribe e))
       (transactions_left-close names frames f (ap is_begin e) (ap is_end e) (not_send (ap is_send e))))
@@ -309,7 +309,7 @@ module _ (names : List (List ℕ)) (frames : List RawFrame) (f : RawFrame) where
   send-follows e none =
       let s : Held = held_after names frames in
       let going : is_ended frames ≡ false = accepted-going commands.Send names frames f none in
-      let checked : (is_connected frames ≡ true) × (first_fault (tests_by commands.Send s f) ≡ None) = connected-tests (tests_by commands.Send s f) going none in
+      let checked : (is_connected frames ≡ true) × (first_refusal (refusals_by commands.Send s f) ≡ None) = connected-refusals (refusals_by commands.Send s f) going none in
       to_live commands.Send going (by going checked.0 (first_of (codes "transaction") f.headers) refl e)
     where
       by : is_ended frames ≡ false → is_connected frames ≡ true → (o : Option (List ℕ)) → first_of (codes "transaction") f.headers ≡ o → f.command ≡ commands.Send

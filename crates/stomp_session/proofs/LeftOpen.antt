@@ -8,6 +8,7 @@ use Rattle.stomp_frame.specs.declared.raw_frame.RawFrame.{RawFrame}
 use Rattle.mcast_txn.specs.declared.draft.sent_message.SentMessage.{SentMessage}
 use Rattle.stomp_session.specs.Refusals.{is_open}
 use Rattle.stomp_session.specs.Inner.Effects.{entries_without, with_send}
+use Rattle.std.proofs.lemmas.Bool.{or_parts}
 
 or_none : (a : Bool) → (a || false) ≡ a
 or_none true = refl
@@ -26,14 +27,6 @@ and_not_or true true c = refl
 and_not_or true false c = refl
 and_not_or false b c = refl
 
-neither_first : (a b : Bool) → (a || b) ≡ false → a ≡ false
-neither_first true b e = absurd (true≢false e)
-neither_first false b e = refl
-
-neither_second : (a b : Bool) → (a || b) ≡ false → b ≡ false
-neither_second true b e = absurd (true≢false e)
-neither_second false b e = e
-
 and_first : (a b : Bool) → (a && b) ≡ true → a ≡ true
 and_first true b e = refl
 and_first false b e = absurd (true≢false (sym e))
@@ -51,15 +44,15 @@ list_any-push p frames f = list_any-append p frames (f ∷ []) ∙ ap (λ b. lis
 pub entries_without-shut : {X : Type 0} (id : List ℕ) (them : List (List ℕ × X)) → is_open id them ≡ false → entries_without id them ≡ them
 entries_without-shut id [] shut = refl
 entries_without-shut id (o ∷ them) shut =
-    let here : bytes_eq id o.0 ≡ false = neither_first (bytes_eq id o.0) (is_open id them) shut in
-    rw here (ap (λ rest. o ∷ rest) (entries_without-shut id them (neither_second (bytes_eq id o.0) (is_open id them) shut)))
+    let here : bytes_eq id o.0 ≡ false = (or_parts (bytes_eq id o.0) (is_open id them) shut).0 in
+    rw here (ap (λ rest. o ∷ rest) (entries_without-shut id them (or_parts (bytes_eq id o.0) (is_open id them) shut).1))
 
 -- a SEND in a transaction that isn't open changes nothing
 pub with_send-shut : (x : List ℕ) (send : SentMessage) (them : List (List ℕ × List SentMessage)) → is_open x them ≡ false → with_send x send them ≡ them
 with_send-shut x send [] shut = refl
 with_send-shut x send (o ∷ them) shut =
-    let here : bytes_eq x o.0 ≡ false = neither_first (bytes_eq x o.0) (is_open x them) shut in
-    rw here (ap (λ rest. o ∷ rest) (with_send-shut x send them (neither_second (bytes_eq x o.0) (is_open x them) shut)))
+    let here : bytes_eq x o.0 ≡ false = (or_parts (bytes_eq x o.0) (is_open x them) shut).0 in
+    rw here (ap (λ rest. o ∷ rest) (with_send-shut x send them (or_parts (bytes_eq x o.0) (is_open x them) shut).1))
 
 module _ {X : Type 0} (opens : RawFrame → Bool) (names_it : List ℕ → RawFrame → Bool) (id : RawFrame → List ℕ) (value : RawFrame → List RawFrame → X) where
   -- g opens one that no later frame names
@@ -78,11 +71,11 @@ module _ {X : Type 0} (opens : RawFrame → Bool) (names_it : List ℕ → RawFr
   pub is_open-unnamed : ((x : List ℕ) (g : RawFrame) → opens g ≡ true → names_it x g ≡ bytes_eq (id g) x)
       → (x : List ℕ) (frames : List RawFrame) → list_any (names_it x) frames ≡ false → is_open x (opened frames) ≡ false
   is_open-unnamed by_id x [] unnamed = refl
-  is_open-unnamed by_id x (g ∷ after) unnamed = by (stays g after) refl (is_open-unnamed by_id x after (neither_second (names_it x g) (list_any (names_it x) after) unnamed))
+  is_open-unnamed by_id x (g ∷ after) unnamed = by (stays g after) refl (is_open-unnamed by_id x after (or_parts (names_it x g) (list_any (names_it x) after) unnamed).1)
     where
       by : (b : Bool) → stays g after ≡ b → is_open x (opened after) ≡ false → is_open x (if b then (id g, value g after) ∷ opened after else opened after) ≡ false
       by true there rest =
-          let other : bytes_eq x (id g) ≡ false = nat_list_eq_equiv.symm x (id g) ∙ sym (by_id x g (and_first (opens g) (not (list_any (names_it (id g)) after)) there)) ∙ neither_first (names_it x g) (list_any (names_it x) after) unnamed in
+          let other : bytes_eq x (id g) ≡ false = nat_list_eq_equiv.symm x (id g) ∙ sym (by_id x g (and_first (opens g) (not (list_any (names_it (id g)) after)) there)) ∙ (or_parts (names_it x g) (list_any (names_it x) after) unnamed).0 in
           rw other rest
       by false there rest = rest
 
@@ -106,9 +99,9 @@ module _ {X : Type 0} (opens : RawFrame → Bool) (names_it : List ℕ → RawFr
             → (is_open (id f) (opened after) ≡ false → opened (after ++ f ∷ []) ≡ opened after ++ (id f, value f []) ∷ [])
             → opened (g ∷ after ++ f ∷ []) ≡ (if b then (id g, value g after) ∷ opened after else opened after) ++ (id f, value f []) ∷ []
         by true there shut rest =
-            let other : names_it (id g) f ≡ false = by_id (id g) ∙ neither_first (bytes_eq (id f) (id g)) (is_open (id f) (opened after)) shut in
+            let other : names_it (id g) f ≡ false = by_id (id g) ∙ (or_parts (bytes_eq (id f) (id g)) (is_open (id f) (opened after)) shut).0 in
             let kept : stays g (after ++ f ∷ []) ≡ true = stays-push g after f ∙ ap (λ b. stays g after && not b) other ∙ and_all (stays g after) ∙ there in
-            let tail : opened (after ++ f ∷ []) ≡ opened after ++ (id f, value f []) ∷ [] = rest (neither_second (bytes_eq (id f) (id g)) (is_open (id f) (opened after)) shut) in
+            let tail : opened (after ++ f ∷ []) ≡ opened after ++ (id f, value f []) ∷ [] = rest (or_parts (bytes_eq (id f) (id g)) (is_open (id f) (opened after)) shut).1 in
             λ i. cond (kept i) ((id g, same g after i) ∷ tail i) (tail i)
         by false there shut rest =
             let gone : stays g (after ++ f ∷ []) ≡ false = stays-push g after f ∙ ap (λ b. b && not (names_it (id g) f)) there in

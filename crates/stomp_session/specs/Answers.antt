@@ -14,7 +14,7 @@ use Rattle.stomp_session.specs.declared.fault.SessionFault.{SessionFault}
 use Rattle.stomp_session.specs.declared.fault.SessionFault.TheVariants.{NoMemory}
 use Rattle.stomp_session.specs.Frames.{topic_of, id_of, transaction_of, send_of}
 use Rattle.stomp_session.specs.Open.{Held}
-use Rattle.stomp_session.specs.Refusals.{sends_in, refusal}
+use Rattle.stomp_session.specs.Refusals.{sends_in, session_fault}
 
 -- a transaction of these SENDs; none where there are none
 abbrev pub commit : List SentMessage → Action
@@ -37,7 +37,7 @@ action_by _ s f = actions.Nothing
 
 -- The frame is accepted, with this action and the receipt that it asks for.
 pub record Accepts (s : Held) (f : RawFrame) (step : Step) : Type 0 where
-  pub accepted : refusal s f ≡ None
+  pub accepted : session_fault s f ≡ None
   pub action : step.action ≡ action_by f.command s f
   pub receipt : step.receipt ≡ receipt_of f
 
@@ -47,7 +47,7 @@ IsTextIn (actions.Subscribe id topic) = IsText id
 IsTextIn (actions.Unsubscribe id) = IsText id
 IsTextIn _ = Unit {0}
 
--- What is handed out is text, so that a server's frame can be written with it: the receipt, and the
+-- What is returned is text, so that a server's frame can be written with it: the receipt, and the
 -- action's id.
 pub record AreTexts (step : Step) : Type 0 where
   pub receipt : IfSome step.receipt IsText
@@ -70,5 +70,5 @@ takes_memory _ s f = false
 -- The frame is refused by its first refusal; or there is none, and it takes memory and there was none.
 abbrev pub Refuses : Held → RawFrame → SessionFault → Type 0
 Refuses s f fault =
-    (refusal s f ≡ Some fault) ⊎ ((refusal s f ≡ None) × (fault ≡ NoMemory)
+    (session_fault s f ≡ Some fault) ⊎ ((session_fault s f ≡ None) × (fault ≡ NoMemory)
     × (takes_memory f.command s f ≡ true))

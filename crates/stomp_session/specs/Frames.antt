@@ -8,7 +8,7 @@ use Rattle.stomp_frame.specs.declared.raw_frame.RawFrame.{RawFrame}
 use Rattle.stomp_frame.specs.Headers.{first_of}
 use Rattle.mcast_txn.specs.declared.id.Topic.{Topic}
 use Rattle.mcast_txn.specs.declared.draft.sent_message.SentMessage.{SentMessage}
-use Rattle.stomp_session.specs.Names.{place_of}
+use Rattle.stomp_session.specs.Names.{index_of}
 
 -- the value of a header that the case table requires of the frame
 abbrev pub field : List ℕ → RawFrame → List ℕ
@@ -16,7 +16,7 @@ field name f = option_map_or (λ value. value) (first_of name f.headers) []
 
 -- the topic of a SEND's or a SUBSCRIBE's destination
 abbrev pub topic_of : List (List ℕ) → RawFrame → Topic
-topic_of names f = record { 0 = place_of (field (codes "destination") f) names }
+topic_of names f = record { 0 = index_of (field (codes "destination") f) names }
 
 -- a SUBSCRIBE's or an UNSUBSCRIBE's subscription
 abbrev pub id_of : RawFrame → List ℕ

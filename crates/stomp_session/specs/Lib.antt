@@ -3,7 +3,6 @@ pub mod Frames
 pub mod Open
 pub mod Versions
 pub mod Faults
-pub mod FirstRefusal
 pub mod Refusals
 pub mod Answers
 pub mod Inner

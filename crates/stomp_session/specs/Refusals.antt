@@ -15,11 +15,15 @@ use Rattle.stomp_session.specs.declared.phase.Phase.{Phase}
 use Rattle.stomp_session.specs.declared.phase.Phase.TheVariants as phases
 use Rattle.stomp_session.specs.declared.fault.SessionFault.{SessionFault}
 use Rattle.stomp_session.specs.declared.fault.SessionFault.TheVariants.{NotConnected, AlreadyConnected, NoVersion, SubIdInUse, NoSuchSub, TxnInUse, NoSuchTxn, UnknownDestination, AckMode, TooManySubs, TooManyTxns, TooManySends, Closed}
-use Rattle.stomp_session.specs.FirstRefusal.{Test, first_fault}
+use Rattle.mcast_txn.specs.Checks.{first_refusal}
 use Rattle.stomp_session.specs.Names.{is_known}
 use Rattle.stomp_session.specs.Frames.{field, id_of, transaction_of}
 use Rattle.stomp_session.specs.Open.{Held}
 use Rattle.stomp_session.specs.Versions.{has_version}
+
+-- a condition, and the fault of a frame that meets it
+abbrev pub Condition : Type 0
+Condition = Bool × SessionFault
 
 -- the most subscriptions, and the most transactions, that may be open in a connection
 abbrev pub open_limit : ℕ
@@ -71,45 +75,45 @@ is_in_full_transaction s f =
     option_map_or (λ x. is_full_of_sends (sends_in x s.transactions))
     (first_of (codes "transaction") f.headers) false
 
--- the tests of each frame, in their order, after those of every frame
-abbrev pub tests_by : Command → Held → RawFrame → List Test
-tests_by commands.Subscribe s f =
+-- what each command's frame is refused for, in order, after what every frame is
+abbrev pub refusals_by : Command → Held → RawFrame → List Condition
+refusals_by commands.Subscribe s f =
     (has_other_ack f, AckMode)
     ∷ (has_unknown_destination s f, UnknownDestination)
     ∷ (is_open (id_of f) s.subscriptions, SubIdInUse)
     ∷ (is_full s.subscriptions, TooManySubs)
     ∷ []
-tests_by commands.Unsubscribe s f = (not (is_open (id_of f) s.subscriptions), NoSuchSub) ∷ []
-tests_by commands.Begin s f =
+refusals_by commands.Unsubscribe s f = (not (is_open (id_of f) s.subscriptions), NoSuchSub) ∷ []
+refusals_by commands.Begin s f =
     (is_open (transaction_of f) s.transactions, TxnInUse)
     ∷ (is_full s.transactions, TooManyTxns)
     ∷ []
-tests_by commands.Send s f =
+refusals_by commands.Send s f =
     (has_unknown_destination s f, UnknownDestination)
     ∷ (is_in_no_transaction s f, NoSuchTxn)
     ∷ (is_in_full_transaction s f, TooManySends)
     ∷ []
-tests_by commands.Commit s f = (not (is_open (transaction_of f) s.transactions), NoSuchTxn) ∷ []
-tests_by commands.Abort s f = (not (is_open (transaction_of f) s.transactions), NoSuchTxn) ∷ []
-tests_by _ s f = []
+refusals_by commands.Commit s f = (not (is_open (transaction_of f) s.transactions), NoSuchTxn) ∷ []
+refusals_by commands.Abort s f = (not (is_open (transaction_of f) s.transactions), NoSuchTxn) ∷ []
+refusals_by _ s f = []
 
 -- a CONNECT needs a session that isn't connected yet, and this version
-abbrev pub connect_tests : Held → RawFrame → List Test
-connect_tests s f =
+abbrev pub connect_refusals : Held → RawFrame → List Condition
+connect_refusals s f =
     (not (is_new s.phase), AlreadyConnected)
     ∷ (not (has_version (codes "1.2") (field (codes "accept-version") f)), NoVersion)
     ∷ []
 
 -- any other frame needs a session that is connected
-abbrev pub open_tests : Command → Held → RawFrame → List Test
-open_tests commands.Connect s f = connect_tests s f
-open_tests commands.Stomp s f = connect_tests s f
-open_tests command s f = (is_new s.phase, NotConnected) ∷ tests_by command s f
+abbrev pub open_refusals : Command → Held → RawFrame → List Condition
+open_refusals commands.Connect s f = connect_refusals s f
+open_refusals commands.Stomp s f = connect_refusals s f
+open_refusals command s f = (is_new s.phase, NotConnected) ∷ refusals_by command s f
 
--- and each needs one that isn't closed
-abbrev pub tests : Held → RawFrame → List Test
-tests s f = (is_closed s.phase, Closed) ∷ open_tests f.command s f
+-- and each needs one that isn't closed: all that a frame is refused for, in order
+abbrev pub refusals : Held → RawFrame → List Condition
+refusals s f = (is_closed s.phase, Closed) ∷ open_refusals f.command s f
 
 -- why the frame is refused, or None where it's accepted
-abbrev pub refusal : Held → RawFrame → Option SessionFault
-refusal s f = first_fault (tests s f)
+abbrev pub session_fault : Held → RawFrame → Option SessionFault
+session_fault s f = first_refusal (refusals s f)

@@ -46,8 +46,8 @@ pub enum SessionFault {
     /// 71: the transaction has 64 SENDs.
     #[error("71 TooManySends: a transaction has at most 64 SENDs")]
     TooManySends,
-    /// 72: there was no memory for a SUBSCRIBE, a BEGIN, a SEND, or a COMMIT of a transaction with SENDs; the frame had no
-    /// effect, and the session is closed.
+    /// 72: there was no memory for a SUBSCRIBE, a BEGIN, a SEND, or a COMMIT of a transaction with SENDs; the frame
+    /// had no effect, and the session is closed.
     #[error("72 NoMemory: out of memory for the frame; connect again")]
     NoMemory,
     /// 73: the session is closed.

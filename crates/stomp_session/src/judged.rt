@@ -45,7 +45,7 @@ fn take_receipt(command: Command, headers: &mut Headers) -> Option<Octets>
 
 impl Judged {
     /// The step of the frame, whose id and receipt are moved out of it.
-    pub(crate) fn step(self, frame: RawFrame) -> Step
+    pub(crate) fn into_step(self, frame: RawFrame) -> Step
         requires { HasItsId self frame }
         ensures action { result.action ≡ action_of self (id_of frame) }
         ensures receipt { result.receipt ≡ receipt_of frame }

@@ -2,7 +2,7 @@
 
 ghost use Rattle.std.specs.Prelude.{◌≡◌, ◌↔◌, ◌<◌, ◌^◌, [], IsTrue, length, is_some, slice_get, IfSome, OnOk, OnErr};
 ghost use Rattle.std.specs.Option.{option_map};
-ghost use Rattle.stomp_session.specs.Names.{is_known, place_of, with_name};
+ghost use Rattle.stomp_session.specs.Names.{is_known, index_of, with_name};
 
 use indexmap::IndexSet;
 use mcast_txn::Topic;
@@ -10,8 +10,8 @@ use std::alloc::Global;
 use std::marker::Model;
 use stomp_frame::NoMemory;
 
-/// The names of the topics, each once: a topic's number is the place of its name, from 0. In contracts it is the list of
-/// the names.
+/// The names of the topics, each once: a topic's number is the index of its name, from 0. In contracts it is the list
+/// of the names.
 #[derive(Drop)]
 pub struct Names {
     alloc: Global,
@@ -54,8 +54,8 @@ impl Names {
         self.names.is_empty()
     }
 
-    /// Puts a name behind the others, where it isn't there yet; a name which is there keeps its number. There must be fewer than
-    /// 2^32 names before. After `NoMemory` the names are what they were.
+    /// Adds a name after the others, where it isn't there yet; a name that is there keeps its number. There must be
+    /// fewer than 2^32 names before. After `NoMemory` the names are what they were.
     pub fn add(&mut self, name: &[u8]) -> Result<(), NoMemory>
         requires { length self.old < 2 ^ 32 }
         ensures ok { OnOk result (self.new ≡ with_name name.now self.old) }
@@ -69,10 +69,10 @@ impl Names {
     /// The topic of this name, or `None` where no topic has it. It is found without a walk.
     pub fn find(&self, name: &[u8]) -> Option<Topic>
         ensures known { is_some result ≡ is_known name.now self.now }
-        ensures place { IfSome result (λ topic. topic.0 ≡ place_of name.now self.now) }
+        ensures index { IfSome result (λ topic. topic.0 ≡ index_of name.now self.now) }
     {
-        let place = self.names.get_index_of(name)?;
-        Some(Topic(place as u32))
+        let index = self.names.get_index_of(name)?;
+        Some(Topic(index as u32))
     }
 
     /// The name of a topic, or `None` where there are fewer names.

@@ -11,7 +11,8 @@ use std::alloc::Global;
 use std::marker::Model;
 use stomp_frame::NoMemory;
 
-/// The most subscriptions, and the most transactions, that may be open in a connection (our choice, not the standard's).
+/// The most subscriptions, and the most transactions, that may be open in a connection (our choice, not the
+/// standard's).
 const OPEN_LIMIT: usize = 64;
 
 /// The subscriptions, or the transactions, of a connection that are open, by their ids, in the order in which they

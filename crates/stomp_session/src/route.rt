@@ -2,7 +2,7 @@
 
 use mcast_txn::Topic;
 
-/// Where an accepted SEND goes: to this topic, in the open transaction at this place if it names one.
+/// Where an accepted SEND goes: to this topic, and into the open transaction at this index, if it names one.
 #[derive(Clone, Copy)]
 pub(crate) struct Route {
     pub topic: Topic,

@@ -9,7 +9,7 @@ ghost use Rattle.stomp_session.specs.declared.action.Action.TheVariants as actio
 ghost use Rattle.stomp_session.specs.declared.phase.Phase.TheVariants as phases;
 ghost use Rattle.stomp_session.specs.declared.fault.SessionFault.TheVariants as faults;
 ghost use Rattle.stomp_session.specs.Open.{after_close, held_after, StandsFor};
-ghost use Rattle.stomp_session.specs.FirstRefusal.{first_fault};
+ghost use Rattle.mcast_txn.specs.Checks.{first_refusal};
 ghost use Rattle.stomp_session.specs.Refusals.{is_closed, is_new, has_other_ack};
 ghost use Rattle.stomp_session.specs.Answers.{Accepts, AreTexts, Refuses};
 ghost use Rattle.stomp_session.specs.Inner.Effects.{AcceptsAs, Handles, IsRouteOf, RefusesAs, refusal_by};
@@ -62,7 +62,12 @@ impl Model for Session {
 
     ghost Value = { Held };
 
-    ghost view = { λ s. record { names = s.names.value; phase = s.phase; subscriptions = s.subscriptions; transactions = s.transactions } };
+    ghost view = { λ s. record {
+      names = s.names.value;
+      phase = s.phase;
+      subscriptions = s.subscriptions;
+      transactions = s.transactions;
+    } };
 
     ghost invariant = { λ s. IsSoundSession s.phase s.subscriptions s.transactions };
 }
@@ -133,7 +138,7 @@ impl Session {
     /// Whether it is connected: 60 before a CONNECT, 73 where it is closed.
     fn connected(&self) -> Result<(), SessionFault>
         ensures ok { OnOk result (self.now.phase ≡ phases.Connected) }
-        ensures err { IfErr result (λ fault. Some fault ≡ first_fault
+        ensures err { IfErr result (λ fault. Some fault ≡ first_refusal
             ((is_closed self.now.phase, faults.Closed) ∷ (is_new self.now.phase, faults.NotConnected) ∷ [])) }
     {
         match self.phase {
@@ -257,7 +262,7 @@ impl Session {
             .find(frame.destination())
             .ok_or(SessionFault::UnknownDestination)?;
         let transaction = match frame.raw.headers.first(b"transaction") {
-            Some(name) => Some(self.transactions.place_for_send(name)?),
+            Some(name) => Some(self.transactions.index_for_send(name)?),
             None => None,
         };
         let receipt = receipt(self.alloc, &frame.raw.headers)?;
@@ -283,9 +288,9 @@ impl Session {
             body,
         } = frame.raw;
         let sent = match transaction {
-            Some(place) => self
+            Some(index) => self
                 .transactions
-                .add(place, topic, headers, body)
+                .add(index, topic, headers, body)
                 .map(|()| Action::Nothing),
             None => single(self.alloc, topic, headers, body),
         };
@@ -318,9 +323,10 @@ impl Session {
     /// Takes a frame: what the connection has to do for it, or the first of its refusals with the frame as it came.
     ///
     /// 73 where the session is closed. A CONNECT is refused by 61 and 62, any other frame before it by 60.
-    /// SUBSCRIBE: 68, 67, 63, 69. UNSUBSCRIBE: 64. BEGIN: 65, 70. SEND: 67, 66, 71. COMMIT and ABORT: 66. Out of memory,
-    /// 72, comes last, and only at SUBSCRIBE, BEGIN, SEND and a COMMIT whose transaction has SENDs. Each refusal but 73
-    /// closes the session, as DISCONNECT does: its open subscriptions end, and its open transactions are aborted.
+    /// SUBSCRIBE: 68, 67, 63, 69. UNSUBSCRIBE: 64. BEGIN: 65, 70. SEND: 67, 66, 71. COMMIT and ABORT: 66. Out of
+    /// memory, 72, comes last, and only at SUBSCRIBE, BEGIN, SEND and a COMMIT whose transaction has SENDs. Each
+    /// refusal but 73 closes the session, as DISCONNECT does: its open subscriptions end, and its open transactions
+    /// are aborted.
     pub fn step(&mut self, frame: ClientFrame) -> Result<Step, (ClientFrame, SessionFault)>
         ensures accepted { IfOk result (λ step. (frames : List Frame) → StandsFor self.old frames
             → Accepts (held_after self.old.names frames) (raw_of frame) step
@@ -342,7 +348,7 @@ impl Session {
                         Err((frame, fault)) => self.refused(ClientFrame::Send(frame), fault),
                     },
                     $(ClientFrame::$case(frame) => match self.$method(&frame) {
-                        Ok(judged) => Ok(judged.step(frame.raw)),
+                        Ok(judged) => Ok(judged.into_step(frame.raw)),
                         Err(fault) => self.refused(ClientFrame::$case(frame), fault),
                     },)*
                 }

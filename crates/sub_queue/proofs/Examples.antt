@@ -7,7 +7,7 @@ use Rattle.mcast_txn.specs.Lists.{Rises}
 use Rattle.mcast_txn.specs.declared.stamp.Stamp.{Stamp}
 use Rattle.mcast_txn.specs.Span.{Item, item_stamp}
 use Rattle.sub_queue.specs.declared.rule.Knowledge.{Knowledge}
-use Rattle.sub_queue.specs.Rule.{known, pushing, taking, Agrees, IsInOrder, rest_of}
+use Rattle.sub_queue.specs.Rule.{knowledge, pusher_knowledge, taker_knowledge, Agrees, IsInOrder, rest_of}
 use Rattle.sub_queue.specs.Shown.{Shown, IsAboveLast, after_push, has_room, next_index, room_after_take, untaken}
 use Rattle.sub_queue.specs.VecQueue.{VecQueue, after_take, shown_of}
 use Rattle.sub_queue.proofs.RisingItems.{rises_after_push}
@@ -72,14 +72,14 @@ pushed = item 1 ∷ item 2 ∷ item 4 ∷ []
 abbrev held : List Item
 held = item 2 ∷ item 4 ∷ []
 
-held_is_left : rest_of (known true pushed true (item 1 ∷ [])) ≡ held
+held_is_left : rest_of (knowledge true pushed true (item 1 ∷ [])) ≡ held
 held_is_left = refl
 
 pushed_rises : Rises item_stamp pushed
 pushed_rises =
     rises_after_push (item 1 ∷ item 2 ∷ []) (item 4) (rises_after_push (item 1 ∷ []) (item 2) (rises_after_push [] (item 1) tt tt) refl) refl
 
-in_order : IsInOrder held (pushing pushed ∷ taking (item 1 ∷ []) ∷ [])
+in_order : IsInOrder held (pusher_knowledge pushed ∷ taker_knowledge (item 1 ∷ []) ∷ [])
 in_order = record {
   source = 0;
   taker = 1;
@@ -90,9 +90,9 @@ in_order = record {
   agree = agree;
 }
   where
-    agree : (n : ℕ) (v : Knowledge) → get_elem? (pushing pushed ∷ taking (item 1 ∷ []) ∷ []) n ≡ some v → Agrees 0 1 pushed (item 1 ∷ []) n v
-    agree zero v at = subst (Agrees 0 1 pushed (item 1 ∷ []) 0) (some-injective (pushing pushed) v at)
+    agree : (n : ℕ) (v : Knowledge) → get_elem? (pusher_knowledge pushed ∷ taker_knowledge (item 1 ∷ []) ∷ []) n ≡ some v → Agrees 0 1 pushed (item 1 ∷ []) n v
+    agree zero v at = subst (Agrees 0 1 pushed (item 1 ∷ []) 0) (some-injective (pusher_knowledge pushed) v at)
         (record { pushes = λ _. (refl, refl); takes = λ no. absurd (true≢false (sym no)) })
-    agree (suc zero) v at = subst (Agrees 0 1 pushed (item 1 ∷ []) 1) (some-injective (taking (item 1 ∷ [])) v at)
+    agree (suc zero) v at = subst (Agrees 0 1 pushed (item 1 ∷ []) 1) (some-injective (taker_knowledge (item 1 ∷ [])) v at)
         (record { pushes = λ no. absurd (true≢false (sym no)); takes = λ _. (refl, refl) })
     agree (suc (suc n)) v at = absurd (some-ne-none v (sym at))

@@ -9,7 +9,7 @@ use Rattle.crossbeam_queue.proofs.Lists.{at_set}
 use Rattle.mcast_txn.specs.Lists.{Rises}
 use Rattle.mcast_txn.specs.Span.{Item, item_stamp}
 use Rattle.sub_queue.specs.declared.rule.Knowledge.{Knowledge}
-use Rattle.sub_queue.specs.Rule.{known, pushing, taking, nothing, after_pushing, after_taking, Agrees, IsInOrder, EndsWith, rest_of, IsFront}
+use Rattle.sub_queue.specs.Rule.{knowledge, pusher_knowledge, taker_knowledge, no_knowledge, after_pushing, after_taking, Agrees, IsInOrder, EndsWith, rest_of, IsFront}
 use Rattle.sub_queue.specs.Shown.{IsAboveLast}
 use Rattle.sub_queue.proofs.RisingItems.{rises_after_push, rises_front}
 
@@ -38,23 +38,23 @@ is_front : (v : Knowledge) (items : List Item) → v.pushed ≡ v.taken ++ items
 is_front v items e = e ∙ ap (λ xs. v.taken ++ xs) (sym (left_is v items e))
 
 -- an empty queue, with one end that pushes and takes
-pub begins : IsInOrder [] (known true [] true [] ∷ [])
+pub begins : IsInOrder [] (knowledge true [] true [] ∷ [])
 begins = record { source = 0; taker = 0; pushed = []; taken = []; order = refl; rises = tt; agree = only }
   where
-    only : (n : ℕ) (v : Knowledge) → get_elem? (known true [] true [] ∷ []) n ≡ some v → Agrees 0 0 [] [] n v
-    only zero v at = subst (Agrees 0 0 [] [] 0) (some-injective (known true [] true []) v at) (record { pushes = λ _. (refl, refl); takes = λ _. (refl, refl) })
+    only : (n : ℕ) (v : Knowledge) → get_elem? (knowledge true [] true [] ∷ []) n ≡ some v → Agrees 0 0 [] [] n v
+    only zero v at = subst (Agrees 0 0 [] [] 0) (some-injective (knowledge true [] true []) v at) (record { pushes = λ _. (refl, refl); takes = λ _. (refl, refl) })
     only (suc n) v at = absurd (some-ne-none v (sym at))
 
 -- an end that pushes and takes is split into one that pushes and one that takes
-pub splits : (n : ℕ) (v : Knowledge) → v.pushes ≡ true → v.takes ≡ true → Forks IsInOrder n v (pushing v.pushed) (taking v.taken)
+pub splits : (n : ℕ) (v : Knowledge) → v.pushes ≡ true → v.takes ≡ true → Forks IsInOrder n v (pusher_knowledge v.pushed) (taker_knowledge v.taken)
 splits n v pushes takes items ends h at =
     let mine = h.agree n v at in
-    let first = set ends n (pushing v.pushed) in
+    let first = set ends n (pusher_knowledge v.pushed) in
     let Agreed : ℕ → Knowledge → Type 0 = Agrees h.source (length first) h.pushed h.taken in
-    let this : Agreed n (pushing v.pushed) = record { pushes = λ _. mine.pushes pushes; takes = λ no. absurd (true≢false (sym no)) } in
+    let this : Agreed n (pusher_knowledge v.pushed) = record { pushes = λ _. mine.pushes pushes; takes = λ no. absurd (true≢false (sym no)) } in
     let others : (m : ℕ) (u : Knowledge) → m ≢ n → get_elem? ends m ≡ some u → Agreed m u =
     λ m u apart there. record { pushes = (h.agree m u there).pushes; takes = λ yes. absurd (apart (((h.agree m u there).takes yes).0 ∙ sym (mine.takes takes).0)) } in
-    let second : Agreed (length first) (taking v.taken) = record { pushes = λ no. absurd (true≢false (sym no)); takes = λ _. (refl, (mine.takes takes).1) } in
+    let second : Agreed (length first) (taker_knowledge v.taken) = record { pushes = λ no. absurd (true≢false (sym no)); takes = λ _. (refl, (mine.takes takes).1) } in
     record {
       source = h.source;
       taker = length first;
@@ -62,8 +62,8 @@ splits n v pushes takes items ends h at =
       taken = h.taken;
       order = h.order;
       rises = h.rises;
-      agree = λ m u there. elim (at_push first (taking v.taken) u m there) [
-        | inl e ↦ all_after Agreed ends n (pushing v.pushed) this others m u e
+      agree = λ m u there. elim (at_push first (taker_knowledge v.taken) u m there) [
+        | inl e ↦ all_after Agreed ends n (pusher_knowledge v.pushed) this others m u e
         | inr e ↦ subst (λ k. Agreed k u) (sym e.0) (subst (Agreed (length first)) e.1 second)
       ];
     }
@@ -96,8 +96,8 @@ pub push_finds_full : (n : ℕ) (v : Knowledge) → v.pushes ≡ true → Learns
 push_finds_full n v pushes items ends h at = (h.taken, ((h.agree n v at).pushes pushes).1 ∙ h.order)
 
 -- the rule after a take
-after_take : (n : ℕ) (v : Knowledge) → v.takes ≡ true → (item : Item) (items : List Item) (ends : List Knowledge) → IsInOrder (item ∷ items) ends → get_elem? ends n ≡ some v → IsInOrder items (set ends n (after_taking item v))
-after_take n v takes item items ends h at =
+rule_after_take : (n : ℕ) (v : Knowledge) → v.takes ≡ true → (item : Item) (items : List Item) (ends : List Knowledge) → IsInOrder (item ∷ items) ends → get_elem? ends n ≡ some v → IsInOrder items (set ends n (after_taking item v))
+rule_after_take n v takes item items ends h at =
     let mine = h.agree n v at in
     let more = h.taken ++ item ∷ [] in
     let Agreed : ℕ → Knowledge → Type 0 = Agrees h.source h.taker h.pushed more in
@@ -121,7 +121,7 @@ take_gives n v takes item items ends h at =
     let order : h.pushed ≡ more ++ items = h.order ∙ sym (append_assoc h.taken (item ∷ []) items) in
     let rises : Rises item_stamp more = rises_front more items (subst (Rises item_stamp) order h.rises) in (
       after_taking item v,
-      after_take n v takes item items ends h at,
+      rule_after_take n v takes item items ends h at,
       (refl, subst (λ xs. Rises item_stamp (xs ++ item ∷ [])) (sym ((h.agree n v at).takes takes).1) rises),
     )
 
@@ -131,16 +131,16 @@ take_finds_empty n v takes items ends h at =
     subst (Rises item_stamp) (sym ((h.agree n v at).takes takes).1) (rises_front h.taken items (subst (Rises item_stamp) h.order h.rises))
 
 -- an end that pushes and one that takes are joined
-pub joins : (n : ℕ) (v : Knowledge) (other : ℕ) (u : Knowledge) → v.pushes ≡ true → u.takes ≡ true → Merges IsInOrder n v other u (known true v.pushed true u.taken) nothing
+pub joins : (n : ℕ) (v : Knowledge) (other : ℕ) (u : Knowledge) → v.pushes ≡ true → u.takes ≡ true → Merges IsInOrder n v other u (knowledge true v.pushed true u.taken) no_knowledge
 joins n v other u pushes takes items ends h at two at' =
-    let both = known true v.pushed true u.taken in
+    let both = knowledge true v.pushed true u.taken in
     let mine = (h.agree n v at).pushes pushes in
     let theirs : (other ≡ h.taker) × (u.taken ≡ h.taken) = elim (at_set ends n other both u at') [
       | inl e ↦ absurd (two e.0)
       | inr e ↦ (h.agree other u e.1).takes takes
     ] in
     let Agreed : ℕ → Knowledge → Type 0 = Agrees h.source n h.pushed h.taken in
-    let spent : Agreed other nothing = record { pushes = λ no. absurd (true≢false (sym no)); takes = λ no. absurd (true≢false (sym no)) } in
+    let spent : Agreed other no_knowledge = record { pushes = λ no. absurd (true≢false (sym no)); takes = λ no. absurd (true≢false (sym no)) } in
     let this : Agreed n both = record { pushes = λ _. mine; takes = λ _. (refl, theirs.1) } in
     let others : (m : ℕ) (w : Knowledge) → m ≢ other → get_elem? (set ends n both) m ≡ some w → Agreed m w =
     λ m w apart there. elim (at_set ends n m both w there) [
@@ -154,7 +154,7 @@ joins n v other u pushes takes items ends h at two at' =
       taken = h.taken;
       order = h.order;
       rises = h.rises;
-      agree = all_after Agreed (set ends n both) other nothing spent others;
+      agree = all_after Agreed (set ends n both) other no_knowledge spent others;
     }
 
 -- what an end that pushes and takes knows of all the rest
@@ -176,6 +176,6 @@ left_gives n v pushes takes item items ends h at =
     let w = after_taking item v in
     let e' : w.pushed ≡ w.taken ++ items = e ∙ sym (append_assoc v.taken (item ∷ []) items) in (
       w,
-      after_take n v takes item items ends h at,
+      rule_after_take n v takes item items ends h at,
       (refl, left_is v (item ∷ items) e ∙ ap (λ xs. item ∷ xs) (sym (left_is w items e')), is_front w items e'),
     )

@@ -9,7 +9,7 @@ use Rattle.sub_queue.specs.declared.rule.Knowledge.{Knowledge}
 abbrev ResultType : {A B : Type 0} → (A → B) → Type 0
 ResultType {A} {B} f = B
 
--- what tells a queue from any other: the table of its places, of which each end's pass is one
+-- what tells a queue from any other: the table that has the passes of its ends
 abbrev pub QueueId : Type 0
 QueueId = ResultType (λ (pass : Pass Item Knowledge). pass.table_id)
 

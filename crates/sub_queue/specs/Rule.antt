@@ -14,8 +14,8 @@ abbrev pub knowledge_of : {T : Type 0} → Pass T Knowledge → Knowledge
 knowledge_of pass = view pass
 
 -- what an end knows, in order: whether it pushes, what was pushed, whether it takes, what was taken
-abbrev pub known : Bool → List Item → Bool → List Item → Knowledge
-known pushes pushed takes taken = record {
+abbrev pub knowledge : Bool → List Item → Bool → List Item → Knowledge
+knowledge pushes pushed takes taken = record {
   pushes = pushes;
   pushed = pushed;
   takes = takes;
@@ -23,16 +23,16 @@ known pushes pushed takes taken = record {
 }
 
 -- an end that pushes alone, and knows what was pushed
-abbrev pub pushing : List Item → Knowledge
-pushing pushed = known true pushed false []
+abbrev pub pusher_knowledge : List Item → Knowledge
+pusher_knowledge pushed = knowledge true pushed false []
 
 -- an end that takes alone, and knows what was taken
-abbrev pub taking : List Item → Knowledge
-taking taken = known false [] true taken
+abbrev pub taker_knowledge : List Item → Knowledge
+taker_knowledge taken = knowledge false [] true taken
 
 -- an end that neither pushes nor takes
-abbrev pub nothing : Knowledge
-nothing = known false [] false []
+abbrev pub no_knowledge : Knowledge
+no_knowledge = knowledge false [] false []
 
 -- one more item was pushed
 abbrev pub after_pushing : Item → Knowledge → Knowledge

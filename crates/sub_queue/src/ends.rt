@@ -5,21 +5,21 @@ ghost use Rattle.mcast_txn.specs.Lists.{Rises};
 ghost use Rattle.mcast_txn.specs.Span.{item_stamp};
 
 use crate::left::Left;
-use crate::line_end::LineEnd;
+use crate::queue_end::QueueEnd;
 use crate::source::Source;
 use crate::taker::Taker;
 use mcast_txn::NoMemory;
 use std::alloc::Global;
 use std::marker::PhantomData;
 
-/// An empty queue of `capacity` places, as its two ends, each for a thread of its own. Out of memory there is none.
+/// An empty queue of this capacity, as its two ends, each for a thread of its own. Out of memory there is none.
 pub fn ruled<R>(alloc: Global, capacity: usize) -> Result<(Source<R>, Taker), NoMemory>
     requires { 0 < capacity }
     ensures one { IfOk result (λ ends. ends.1 ≡ ends.0) }
     ensures empty { IfOk result (λ ends. ends.0.items ≡ []) }
     ensures capacity { IfOk result (λ ends. ends.0.capacity ≡ capacity) }
 {
-    let (pusher, taker) = LineEnd::two(alloc, capacity)?;
+    let (pusher, taker) = QueueEnd::two(alloc, capacity)?;
     let source = Source {
         end: pusher,
         runtime: PhantomData,

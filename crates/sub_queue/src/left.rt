@@ -2,7 +2,7 @@
 
 ghost use Rattle.std.specs.Prelude.{◌≡◌, [], ◌∷◌, length, MatchOption};
 
-use crate::line_end::LineEnd;
+use crate::queue_end::QueueEnd;
 use mcast_txn::Released;
 use std::marker::Model;
 use std::sync::Wait;
@@ -10,7 +10,7 @@ use std::sync::Wait;
 /// What was pushed and not taken. In contracts it is the list of these items.
 #[derive(Drop)]
 pub struct Left {
-    pub(crate) end: LineEnd,
+    pub(crate) end: QueueEnd,
 }
 
 impl Model for Left {
@@ -36,7 +36,8 @@ impl Left {
 
     /// The next item, or `None` where none is left.
     pub fn next<R: Wait>(&mut self, rt: &R) -> Option<Released>
-        ensures next { MatchOption result ((self.old ≡ []) × (self.new ≡ [])) (λ item. self.old ≡ item ∷ self.new) }
+        ensures next { MatchOption result ((self.old ≡ []) × (self.new ≡ []))
+            (λ item. self.old ≡ item ∷ self.new) }
     {
         self.end.take_left(rt)
     }

@@ -3,8 +3,8 @@
 
 mod ends;
 mod left;
-mod line_end;
 mod outlet;
+mod queue_end;
 mod rule;
 mod source;
 mod taker;

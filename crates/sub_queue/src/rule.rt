@@ -23,30 +23,30 @@ pub(crate) struct Knowledge {
 pub(crate) struct InOrder;
 
 impl Protocol<Released, Knowledge> for InOrder {
-    ghost use Rattle.sub_queue.specs.Rule.{IsInOrder, known};
+    ghost use Rattle.sub_queue.specs.Rule.{IsInOrder, knowledge};
 
     ghost holds = { IsInOrder };
 
-    ghost first = { known true [] true [] };
+    ghost first = { knowledge true [] true [] };
 }
 
 /// One end with both rights, as two ends with one each, or two as one.
 pub(crate) struct TwoEnds;
 
 impl Split<Knowledge> for TwoEnds {
-    ghost use Rattle.sub_queue.specs.Rule.{pushing, taking};
+    ghost use Rattle.sub_queue.specs.Rule.{pusher_knowledge, taker_knowledge};
 
-    ghost left = { λ v. pushing v.pushed };
+    ghost left = { λ v. pusher_knowledge v.pushed };
 
-    ghost right = { λ v. taking v.taken };
+    ghost right = { λ v. taker_knowledge v.taken };
 }
 
 impl Join<Knowledge> for TwoEnds {
-    ghost use Rattle.sub_queue.specs.Rule.{known, nothing};
+    ghost use Rattle.sub_queue.specs.Rule.{knowledge, no_knowledge};
 
-    ghost both = { λ v w. known true v.pushed true w.taken };
+    ghost both = { λ v w. knowledge true v.pushed true w.taken };
 
-    ghost spent = { nothing };
+    ghost spent = { no_knowledge };
 }
 
 /// A push: it puts the item at the end of what was pushed. Where the queue is full, what was pushed ends with what the
@@ -86,7 +86,7 @@ impl Lesson<Released, Knowledge> for TakesLeft {
 }
 
 /// A queue under the rule.
-pub(crate) type Line = RuledArrayQueue<Released, Knowledge, InOrder>;
+pub(crate) type SharedQueue = RuledArrayQueue<Released, Knowledge, InOrder>;
 
 /// What carries an end's knowledge. It has no bytes.
-pub(crate) type LinePass = Pass<Released, Knowledge>;
+pub(crate) type EndPass = Pass<Released, Knowledge>;

@@ -5,17 +5,17 @@ ghost use Rattle.std.proofs.Common.{refl};
 ghost use Rattle.sub_queue.specs.Ends.{End, shown_of_source, with_item};
 ghost use Rattle.sub_queue.specs.Shown.{IsAboveLast, IsFull};
 
-use crate::line_end::LineEnd;
 use crate::outlet::Outlet;
+use crate::queue_end::QueueEnd;
 use mcast_txn::{NoMemory, Released};
 use std::marker::{Model, PhantomData};
 use std::sync::Wait;
 
-/// The end of a shared queue that pushes: an outlet under a runtime. In contracts it is its queue, the capacity, and the
-/// items that were pushed. How many of them were taken it doesn't know.
+/// The end of a shared queue that pushes: an outlet under a runtime. In contracts it is its queue, the capacity, and
+/// the items that were pushed. How many of them were taken it doesn't know.
 #[derive(Drop)]
 pub struct Source<R> {
-    pub(crate) end: LineEnd,
+    pub(crate) end: QueueEnd,
     pub(crate) runtime: PhantomData<R>,
 }
 
@@ -38,7 +38,7 @@ impl<R: Wait> Outlet for Source<R> {
 
     ghost may_accept = { λ s answer. answer ≡ false → IsFull s };
 
-    /// Does nothing: the queue has its places from the beginning.
+    /// Does nothing: the queue has its memory from the beginning.
     fn reserve(&mut self, additional: usize) -> Result<(), NoMemory>
         ensures same { self.new ≡ self.old }
         ensures room { (result ≡ Ok tt) × (additional ≤ 2 ^ 64) }

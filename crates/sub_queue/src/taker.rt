@@ -5,7 +5,7 @@ ghost use Rattle.mcast_txn.specs.Lists.{Rises};
 ghost use Rattle.mcast_txn.specs.Span.{item_stamp};
 ghost use Rattle.sub_queue.specs.Ends.{End, with_item};
 
-use crate::line_end::LineEnd;
+use crate::queue_end::QueueEnd;
 use mcast_txn::Released;
 use std::marker::Model;
 use std::sync::Wait;
@@ -13,7 +13,7 @@ use std::sync::Wait;
 /// The end of a shared queue that takes. In contracts it is its queue, the capacity, and the items that were taken.
 #[derive(Drop)]
 pub struct Taker {
-    pub(crate) end: LineEnd,
+    pub(crate) end: QueueEnd,
 }
 
 impl Model for Taker {
@@ -28,7 +28,8 @@ impl Taker {
     /// Takes the next item, with no memory, or `None` where the queue was empty at one moment of the call. What was
     /// taken rises strictly in stamp. It may wait for a push that is under way.
     pub fn take<R: Wait>(&mut self, rt: &R) -> Option<Released>
-        ensures taken { MatchOption result (self.new ≡ self.old) (λ item. self.new ≡ with_item item self.old) }
+        ensures taken { MatchOption result (self.new ≡ self.old)
+            (λ item. self.new ≡ with_item item self.old) }
         ensures rises { Rises item_stamp self.new.items }
     {
         self.end.take(rt)

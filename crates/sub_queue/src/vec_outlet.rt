@@ -12,8 +12,8 @@ use mcast_txn::{NoMemory, Released};
 use std::alloc::Global;
 use std::marker::Model;
 
-/// A queue that is a vector: all items that it accepted, of which the first were taken. It accepts an item exactly where
-/// fewer than its capacity are untaken. In contracts it is what it shows, and how many pushes need no memory.
+/// A queue that is a vector: all items that it accepted, of which the first were taken. It accepts an item exactly
+/// where fewer than its capacity are untaken. In contracts it is what it shows, and how many pushes need no memory.
 #[derive(Drop)]
 pub struct VecOutlet {
     items: Vec<Released>,
@@ -40,7 +40,8 @@ impl Model for VecOutlet {
 impl VecOutlet {
     /// An empty queue, with room for at most `capacity` untaken items. It takes no memory yet.
     pub fn new(alloc: Global, capacity: usize) -> VecOutlet
-        ensures { shown_of result ≡ record { accepted = []; room = record { capacity = capacity; taken = Some 0 } } }
+        ensures { shown_of result
+            ≡ record { accepted = []; room = record { capacity = capacity; taken = Some 0 } } }
     {
         VecOutlet {
             items: Vec::new(alloc),

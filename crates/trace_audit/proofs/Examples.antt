@@ -9,9 +9,9 @@ use Rattle.mcast_txn.specs.Stamp.{same_stamp, stamp_lt}
 use Rattle.std.specs.List.{list_any}
 use Rattle.trace_audit.specs.Explained.{IsExplainedBy, IsCompleteBy}
 use Rattle.trace_audit.specs.Faults.{audit_fault, is_whole}
-use Rattle.trace_audit.specs.Line.{LogLine}
+use Rattle.trace_audit.specs.Logs.{LogLine}
 use Rattle.trace_audit.specs.Inner.Sorting.{IsSortingOf}
-use Rattle.trace_audit.specs.Trace.{Lines, no_lines, rows_of}
+use Rattle.trace_audit.specs.Trace.{TraceData, no_trace_data, rows_of}
 use Rattle.trace_audit.specs.declared.fault.AuditFault.TheVariants as audit
 use Rattle.trace_audit.specs.declared.row.SpanRow.{SpanRow}
 use Rattle.trace_audit.specs.declared.row.QueueRow.{QueueRow}
@@ -36,7 +36,7 @@ row sender seq s topics = record { id = id sender seq; topics = topics; stamp = 
 abbrev line : ℕ → LogRow → LogLine
 line t r = record { topic = topic t; row = r }
 
-abbrev of_logs : List LogLine → Lines
+abbrev of_logs : List LogLine → TraceData
 of_logs logs = record { logs = logs; spans = []; queues = [] }
 
 -- two transactions to two topics
@@ -46,7 +46,7 @@ first = row 1 1 (stamp 2 0) both
 abbrev second : LogRow
 second = row 0 1 (stamp 2 1) both
 
-abbrev crossing : Lines
+abbrev crossing : TraceData
 crossing = of_logs (line 0 first ∷ line 0 second ∷ line 1 first ∷ line 1 second ∷ [])
 
 -- ---- explained traces
@@ -85,11 +85,11 @@ crossing_is_explained = explains crossing crossing.logs (first ∷ second ∷ []
 crossing_is_complete : IsCompleteBy (first ∷ second ∷ []) crossing
 crossing_is_complete = complete crossing (first ∷ second ∷ []) crossing_is_explained refl
 
-nothing_is_explained : IsExplainedBy [] no_lines
-nothing_is_explained = explains no_lines [] [] refl refl refl sorting_none
+nothing_is_explained : IsExplainedBy [] no_trace_data
+nothing_is_explained = explains no_trace_data [] [] refl refl refl sorting_none
 
-nothing_is_complete : IsCompleteBy [] no_lines
-nothing_is_complete = complete no_lines [] nothing_is_explained refl
+nothing_is_complete : IsCompleteBy [] no_trace_data
+nothing_is_complete = complete no_trace_data [] nothing_is_explained refl
 
 -- without the fourth row it is explained still, and not complete
 lacks_the_last : audit_fault (of_logs (line 0 first ∷ line 0 second ∷ line 1 first ∷ [])) ≡ None
@@ -125,7 +125,7 @@ span = record { sub = 7; topic = topic 0; from = stamp 2 0; to = None }
 abbrev queued : LogRow → QueueRow
 queued r = record { sub = 7; id = r.id; stamp = r.stamp }
 
-abbrev with_queue : List QueueRow → Lines
+abbrev with_queue : List QueueRow → TraceData
 with_queue queues = record crossing { spans = span ∷ []; queues = queues }
 
 -- the span begins after the first row's stamp

@@ -16,15 +16,15 @@ use Rattle.mcast_txn.proofs.Members.{In-append_left, In-map, In-map_cases, In-fi
 use Rattle.mcast_txn.proofs.Orders.{lt_irrefl, lt_asym, le_trans, same_topics, equal_stamps, id_equal}
 use Rattle.mcast_txn.proofs.Sorting.{Rises-filter, same_rising}
 use Rattle.trace_audit.specs.Explained.{rows_at, IsExplainedBy}
-use Rattle.trace_audit.specs.Faults.{differ, collide, overtake, some_two, falls, out_of_order, log_has_row, reaches, is_hole, holes, same_mark, is_astray, astray, lesser, least, audit_fault}
-use Rattle.trace_audit.specs.Line.{LogLine}
+use Rattle.trace_audit.specs.Faults.{are_different, are_colliding, are_disordered, some_two, are_falling, is_out_of_order, log_has_row, log_has_row_from, is_hole, holes, same_mark, is_astray, astray_subs, lesser, least, audit_fault}
+use Rattle.trace_audit.specs.Logs.{LogLine}
 use Rattle.trace_audit.specs.Inner.Sorting.{IsSortingOf}
-use Rattle.trace_audit.specs.Trace.{Lines, rows_of, log_of, queue_of, marks_in, fits}
+use Rattle.trace_audit.specs.Trace.{TraceData, rows_of, log_of, queue_of, marks_in, fits}
 use Rattle.std.specs.Option.{option_map, option_or}
 use Rattle.mcast_txn.specs.Checks.{first_refusal}
 use Rattle.trace_audit.specs.declared.fault.AuditFault.{AuditFault}
 use Rattle.trace_audit.specs.declared.fault.AuditFault.TheVariants as audit
-use Rattle.trace_audit.specs.declared.mark.Mark.{Mark}
+use Rattle.mcast_txn.specs.declared.mark.Mark.{Mark}
 use Rattle.trace_audit.specs.declared.row.SpanRow.{SpanRow}
 
 -- ---- tests
@@ -116,34 +116,34 @@ rows_equal a b e f g =
     ∙ (ap (λ (z : List Topic). log_row b.id z a.stamp) f ∙ ap (λ (z : Stamp). log_row b.id b.topics z) g)
 
 -- without two verdicts, a transaction has one row
-pub one_row : (logs : List LogLine) (a b : LogRow) → some_two differ logs ≡ false → In a (rows_of logs) → In b (rows_of logs) → same_id a.id b.id ≡ true → a ≡ b
+pub one_row : (logs : List LogLine) (a b : LogRow) → some_two are_different logs ≡ false → In a (rows_of logs) → In b (rows_of logs) → same_id a.id b.id ≡ true → a ≡ b
 one_row logs a b h i j e =
     let s = same_stamp a.stamp b.stamp in
     let t = pointwise same_number a.topics b.topics in
-    let p = and_parts s t (open_test (same_id a.id b.id) (s && t) (none_two differ logs a b h i j) e) in
+    let p = and_parts s t (open_test (same_id a.id b.id) (s && t) (none_two are_different logs a b h i j) e) in
     rows_equal a b (id_equal a.id b.id e) (topics_equal a.topics b.topics p.1) (stamps_equal a.stamp b.stamp p.0)
 
 -- and a stamp too, where no two transactions share one
-pub one_stamp : (logs : List LogLine) (a b : LogRow) → some_two differ logs ≡ false → some_two collide logs ≡ false → In a (rows_of logs) → In b (rows_of logs) → same_stamp a.stamp b.stamp ≡ true → a ≡ b
+pub one_stamp : (logs : List LogLine) (a b : LogRow) → some_two are_different logs ≡ false → some_two are_colliding logs ≡ false → In a (rows_of logs) → In b (rows_of logs) → same_stamp a.stamp b.stamp ≡ true → a ≡ b
 one_stamp logs a b h k i j e =
-    one_row logs a b h i j (shut_test (same_id a.id b.id) (same_stamp a.stamp b.stamp) (none_two collide logs a b k i j) e)
+    one_row logs a b h i j (shut_test (same_id a.id b.id) (same_stamp a.stamp b.stamp) (none_two are_colliding logs a b k i j) e)
 
 -- ---- the list
 
--- where no two rows differ or collide, each row of the logs is among the sorted ones
-pub all_in : (rows : List LogRow) (logs : List LogLine) → some_two differ logs ≡ false → some_two collide logs ≡ false → IsSortingOf rows (rows_of logs) → (q : LogRow) → In q (rows_of logs) → In q rows
+-- where no two rows are different or colliding, each row of the logs is among the sorted ones
+pub all_in : (rows : List LogRow) (logs : List LogLine) → some_two are_different logs ≡ false → some_two are_colliding logs ≡ false → IsSortingOf rows (rows_of logs) → (q : LogRow) → In q (rows_of logs) → In q rows
 all_in rows logs h k sorting q i =
     let f = any_found (λ (own : LogRow). same_stamp own.stamp q.stamp) rows (sorting.stamped q i) in
     let e : f.it ≡ q = one_stamp logs f.it q h k (sorting.of_all f.it f.stands) i f.passes in
     subst (λ (z : LogRow). In z rows) e f.stands
 
-seqs : (rows : List LogRow) (logs : List LogLine) → some_two overtake logs ≡ false → ((q : LogRow) → In q rows → In q (rows_of logs)) → Rises row_stamp rows → SenderOrder row_id rows
+seqs : (rows : List LogRow) (logs : List LogLine) → some_two are_disordered logs ≡ false → ((q : LogRow) → In q rows → In q (rows_of logs)) → Rises row_stamp rows → SenderOrder row_id rows
 seqs [] logs h from up = tt
 seqs (x ∷ xs) logs h from up = (
   (λ y k e.
       let s : (x.id.sender.0 == y.id.sender.0) ≡ true = eq-eqb x.id.sender.0 y.id.sender.0 (ap (λ (z : _). z.0) e) in
       third (x.id.sender.0 == y.id.sender.0) (stamp_lt x.stamp y.stamp) (nat_lt x.id.seq y.id.seq)
-      (none_two overtake logs x y h (from x (inl refl)) (from y (inr k))) s (up.0 y k)),
+      (none_two are_disordered logs x y h (from x (inl refl)) (from y (inr k))) s (up.0 y k)),
   seqs xs logs h (λ q k. from q (inr k)) up.1,
 )
 
@@ -178,22 +178,22 @@ in_rows t q logs i =
     let m = log_member t q logs i in
     subst (λ (z : LogRow). In z (rows_of logs)) m.is (In-map (λ (l : LogLine). l.row) m.line logs m.stands)
 
-rises_case : (t : Topic) (x : LogLine) (xs : List LogLine) (b : Bool) → (x.topic.0 == t.0) ≡ b → list_any (λ (y : LogLine). falls x y) xs ≡ false → Rises row_stamp (log_of t xs) → Rises row_stamp (map (λ (l : LogLine). l.row) (cond b (x ∷ filter (at_topic t) xs) (filter (at_topic t) xs)))
+rises_case : (t : Topic) (x : LogLine) (xs : List LogLine) (b : Bool) → (x.topic.0 == t.0) ≡ b → list_any (λ (y : LogLine). are_falling x y) xs ≡ false → Rises row_stamp (log_of t xs) → Rises row_stamp (map (λ (l : LogLine). l.row) (cond b (x ∷ filter (at_topic t) xs) (filter (at_topic t) xs)))
 rises_case t x xs false e h ih = ih
 rises_case t x xs true e h ih = (
   (λ y k.
       let m = log_member t y xs k in
       let same : (x.topic.0 == m.line.topic.0) ≡ true = eq-eqb x.topic.0 m.line.topic.0 (eqb-true x.topic.0 t.0 e ∙ sym (eqb-true m.line.topic.0 t.0 m.topic)) in
       subst (λ (z : LogRow). stamp_lt x.row.stamp z.stamp ≡ true) m.is
-      (open_test (x.topic.0 == m.line.topic.0) (stamp_lt x.row.stamp m.line.row.stamp) (none_at (λ (y : LogLine). falls x y) m.line xs h m.stands) same)),
+      (open_test (x.topic.0 == m.line.topic.0) (stamp_lt x.row.stamp m.line.row.stamp) (none_at (λ (y : LogLine). are_falling x y) m.line xs h m.stands) same)),
   ih,
 )
 
 -- where no log is out of order, a topic's log rises
-pub log_rises : (t : Topic) (logs : List LogLine) → out_of_order logs ≡ false → Rises row_stamp (log_of t logs)
+pub log_rises : (t : Topic) (logs : List LogLine) → is_out_of_order logs ≡ false → Rises row_stamp (log_of t logs)
 log_rises t [] h = tt
 log_rises t (x ∷ xs) h =
-    let p = or_parts (list_any (λ (y : LogLine). falls x y) xs) (out_of_order xs) h in
+    let p = or_parts (list_any (λ (y : LogLine). are_falling x y) xs) (is_out_of_order xs) h in
     rises_case t x xs (x.topic.0 == t.0) refl p.0 (log_rises t xs p.1)
 
 last_ge : (x : LogRow) (xs : List LogRow) → Rises row_stamp (x ∷ xs) → stamp_lt (last_stamp x.stamp xs) x.stamp ≡ false
@@ -223,7 +223,7 @@ last_of s [] ne = absurd (ne refl)
 last_of s (x ∷ xs) ne = last_in x xs
 
 -- a log that isn't empty reaches each stamp up to its last
-log_reaches : (t : Topic) (stamp : Stamp) (logs : List LogLine) → log_of t logs ≢ [] → stamp_lt (last_stamp zero_stamp (log_of t logs)) stamp ≡ false → reaches t stamp logs ≡ true
+log_reaches : (t : Topic) (stamp : Stamp) (logs : List LogLine) → log_of t logs ≢ [] → stamp_lt (last_stamp zero_stamp (log_of t logs)) stamp ≡ false → log_has_row_from t stamp logs ≡ true
 log_reaches t stamp logs ne h =
     let l = last_of zero_stamp (log_of t logs) ne in
     let m = log_member t l.row logs l.stands in
@@ -277,7 +277,7 @@ named_in t topics h =
     subst (λ (z : Topic). In z topics) (same_topics f.it t (eqb-true f.it.0 t.0 f.passes)) f.stands
 
 -- without two verdicts, a log that has a row of the transaction has this row
-pub row_in_log : (t : Topic) (q : LogRow) (logs : List LogLine) → some_two differ logs ≡ false → In q (rows_of logs) → log_has_row t q.id logs ≡ true → In q (log_of t logs)
+pub row_in_log : (t : Topic) (q : LogRow) (logs : List LogLine) → some_two are_different logs ≡ false → In q (rows_of logs) → log_has_row t q.id logs ≡ true → In q (log_of t logs)
 row_in_log t q logs h i e =
     let f = any_found (λ (line : LogLine). line.topic.0 == t.0 && same_id line.row.id q.id) logs e in
     let p = and_parts (f.it.topic.0 == t.0) (same_id f.it.row.id q.id) f.passes in
@@ -289,14 +289,14 @@ has_member t q logs h ne i n below =
     let m = In-map_cases (λ (l : LogLine). l.row) q logs i in
     let shut : is_hole logs m.from.row t ≡ false = no_hole logs m.from t h m.stands
     (subst (λ (z : LogRow). In t z.topics) (sym m.is) (named_in t q.topics n)) in
-    shut_test (log_has_row t q.id logs) (reaches t q.stamp logs)
+    shut_test (log_has_row t q.id logs) (log_has_row_from t q.stamp logs)
     (subst (λ (z : LogRow). is_hole logs z t ≡ false) m.is shut) (log_reaches t q.stamp logs ne below)
 
 -- the row names t, and is at most the last stamp of t's log
 abbrev pub kept_at : Topic → List LogLine → LogRow → Bool
 kept_at t logs row = names t row.topics && up_to (Some (last_stamp zero_stamp (log_of t logs))) row.stamp
 
-log_is : (rows : List LogRow) (logs : List LogLine) (t : Topic) → list_all (λ (line : LogLine). fits line) logs ≡ true → some_two differ logs ≡ false → some_two collide logs ≡ false → out_of_order logs ≡ false → least (holes logs) ≡ None → IsSortingOf rows (rows_of logs) → log_of t logs ≢ [] → log_of t logs ≡ rows_at t (log_of t logs) rows
+log_is : (rows : List LogRow) (logs : List LogLine) (t : Topic) → list_all (λ (line : LogLine). fits line) logs ≡ true → some_two are_different logs ≡ false → some_two are_colliding logs ≡ false → is_out_of_order logs ≡ false → least (holes logs) ≡ None → IsSortingOf rows (rows_of logs) → log_of t logs ≢ [] → log_of t logs ≡ rows_at t (log_of t logs) rows
 log_is rows logs t fit h k order whole sorting ne =
     same_rising row_stamp (log_of t logs) (filter (kept_at t logs) rows) up (Rises-filter row_stamp (kept_at t logs) rows sorting.rises) to from
   where
@@ -340,12 +340,12 @@ marks_equal (x ∷ xs) (y ∷ ys) e =
     let g : xs ≡ ys = marks_equal xs ys p.1 in
     rw (f, g) refl
 
-queue_is : (lines : Lines) (line : SpanRow) → least (astray lines) ≡ None → In line lines.spans → queue_of line.sub lines.queues ≡ marks_in line lines.logs
+queue_is : (lines : TraceData) (line : SpanRow) → least (astray_subs lines) ≡ None → In line lines.spans → queue_of line.sub lines.queues ≡ marks_in line lines.logs
 queue_is lines line h i = go (pointwise same_mark (queue_of line.sub lines.queues) (marks_in line lines.logs)) refl
   where
     go : (b : Bool) → pointwise same_mark (queue_of line.sub lines.queues) (marks_in line lines.logs) ≡ b → queue_of line.sub lines.queues ≡ marks_in line lines.logs
     go true e = marks_equal _ _ e
-    go false e = absurd (least_none (astray lines) h line.sub
+    go false e = absurd (least_none (astray_subs lines) h line.sub
         (In-map (λ (l : SpanRow). l.sub) line (filter (λ (l : SpanRow). is_astray lines l) lines.spans)
         (In-filter (λ (l : SpanRow). is_astray lines l) line lines.spans i (not_true _ e))))
 
@@ -358,19 +358,19 @@ fault_by a b c d h q =
     (option_or (option_map (λ n. audit.Hole (record { 0 = n })) h) (option_map (λ n. audit.QueueRow n) q))
 
 -- no test of the trace holds
-pub record IsClean (lines : Lines) : Type 0 where
-  pub verdicts : some_two differ lines.logs ≡ false
-  pub stamps : some_two collide lines.logs ≡ false
-  pub order : out_of_order lines.logs ≡ false
-  pub senders : some_two overtake lines.logs ≡ false
+pub record IsClean (lines : TraceData) : Type 0 where
+  pub verdicts : some_two are_different lines.logs ≡ false
+  pub stamps : some_two are_colliding lines.logs ≡ false
+  pub order : is_out_of_order lines.logs ≡ false
+  pub senders : some_two are_disordered lines.logs ≡ false
   pub holes : least (holes lines.logs) ≡ None
-  pub queues : least (astray lines) ≡ None
+  pub queues : least (astray_subs lines) ≡ None
 
 -- where nothing speaks against a trace, no test of it holds
-pub clean : (lines : Lines) → audit_fault lines ≡ None → IsClean lines
-clean lines e = go (some_two differ lines.logs) (some_two collide lines.logs) (out_of_order lines.logs) (some_two overtake lines.logs) (least (holes lines.logs)) (least (astray lines)) refl refl refl refl refl refl e
+pub clean : (lines : TraceData) → audit_fault lines ≡ None → IsClean lines
+clean lines e = go (some_two are_different lines.logs) (some_two are_colliding lines.logs) (is_out_of_order lines.logs) (some_two are_disordered lines.logs) (least (holes lines.logs)) (least (astray_subs lines)) refl refl refl refl refl refl e
   where
-    go : (a b c d : Bool) (h q : Option ℕ) → some_two differ lines.logs ≡ a → some_two collide lines.logs ≡ b → out_of_order lines.logs ≡ c → some_two overtake lines.logs ≡ d → least (holes lines.logs) ≡ h → least (astray lines) ≡ q → fault_by a b c d h q ≡ None → IsClean lines
+    go : (a b c d : Bool) (h q : Option ℕ) → some_two are_different lines.logs ≡ a → some_two are_colliding lines.logs ≡ b → is_out_of_order lines.logs ≡ c → some_two are_disordered lines.logs ≡ d → least (holes lines.logs) ≡ h → least (astray_subs lines) ≡ q → fault_by a b c d h q ≡ None → IsClean lines
     go true b c d h q e1 e2 e3 e4 e5 e6 e = absurd cc
     go false true c d h q e1 e2 e3 e4 e5 e6 e = absurd cc
     go false false true d h q e1 e2 e3 e4 e5 e6 e = absurd cc
@@ -381,7 +381,7 @@ clean lines e = go (some_two differ lines.logs) (some_two collide lines.logs) (o
         record { verdicts = e1; stamps = e2; order = e3; senders = e4; holes = e5; queues = e6 }
 
 -- a trace against which nothing speaks is explained by its rows, sorted
-pub explained : (lines : Lines) (rows : List LogRow) → list_all (λ (line : LogLine). fits line) lines.logs ≡ true → IsClean lines → IsSortingOf rows (rows_of lines.logs) → IsExplainedBy rows lines
+pub explained : (lines : TraceData) (rows : List LogRow) → list_all (λ (line : LogLine). fits line) lines.logs ≡ true → IsClean lines → IsSortingOf rows (rows_of lines.logs) → IsExplainedBy rows lines
 explained lines rows fit c sorting = record {
   rises = sorting.rises;
   of_logs = sorting.of_all;

@@ -14,21 +14,21 @@ use Rattle.mcast_txn.specs.Span.{LogRow}
 use Rattle.mcast_txn.specs.Stamp.{same_stamp, stamp_lt}
 use Rattle.mcast_txn.proofs.Members.{In-map, In-get_or, any_found, any_from}
 use Rattle.mcast_txn.proofs.Orders.{lt_irrefl, lt_trans, id_itself}
-use Rattle.trace_audit.specs.Faults.{log_has_row, reaches, is_hole}
-use Rattle.trace_audit.specs.Line.{LogLine}
+use Rattle.trace_audit.specs.Faults.{log_has_row, log_has_row_from, is_hole}
+use Rattle.trace_audit.specs.Logs.{LogLine}
 use Rattle.trace_audit.specs.Inner.Chained.{Chained, Above, IsIndex, comes_before, is_from}
-use Rattle.trace_audit.specs.Inner.Orders.{shown}
+use Rattle.trace_audit.specs.Inner.Orders.{rows_of_refs}
 use Rattle.trace_audit.specs.Trace.{rows_of}
 use Rattle.trace_audit.proofs.Explaining.{none_at, and_true, not_true, not_false, one_row, one_stamp}
 use Rattle.trace_audit.proofs.Refuting.{refuted, stamp_itself}
 
 -- ---- chains by index
 
-In-at : {X : Type 0} (rows : List (Bor X)) (k : ℕ) (d : Bor X) → k < length rows → In (get_or rows k d).now (shown rows)
+In-at : {X : Type 0} (rows : List (Bor X)) (k : ℕ) (d : Bor X) → k < length rows → In (get_or rows k d).now (rows_of_refs rows)
 In-at rows k d l = In-map (λ r. r.now) (get_or rows k d) rows (In-get_or rows k d l)
 
 -- an item is in the relation to each at a later index
-pub chain_at : {X : Type 0} (R : X → X → Type 0) (rows : List (Bor X)) (i j : ℕ) (d : Bor X) → Chained R (shown rows) → i < j → j < length rows → R (get_or rows i d).now (get_or rows j d).now
+pub chain_at : {X : Type 0} (R : X → X → Type 0) (rows : List (Bor X)) (i j : ℕ) (d : Bor X) → Chained R (rows_of_refs rows) → i < j → j < length rows → R (get_or rows i d).now (get_or rows j d).now
 chain_at R [] i j d c l m = absurd (omega arith)
 chain_at R (x ∷ xs) i zero d c l m = absurd (omega arith)
 chain_at R (x ∷ xs) zero (suc j) d c l m = c.0 (get_or xs j d).now (In-at xs j d (omega arith))
@@ -56,7 +56,7 @@ three k i = go (nat_lt k i) refl
     go false e = turned (le_cases i k (le e))
 
 -- a test that an item passes wherever a later one does
-pub parted : {X : Type 0} (R : X → X → Type 0) (p : X → Bool) (rows : List (Bor X)) → Chained R (shown rows) → ((x y : X) → R x y → p y ≡ true → p x ≡ true) → IsPartitionedBy (λ r. p r.now) rows
+pub parted : {X : Type 0} (R : X → X → Type 0) (p : X → Bool) (rows : List (Bor X)) → Chained R (rows_of_refs rows) → ((x y : X) → R x y → p y ≡ true → p x ≡ true) → IsPartitionedBy (λ r. p r.now) rows
 parted R p rows c keeps i j d l m e = go (le_cases i j l)
   where
     go : (i < j) ⊎ (i ≡ j) → p (get_or rows i d).now ≡ true
@@ -69,17 +69,17 @@ find_case : {X : Type 0} (q : X → Bool) (x : X) (xs : List X) (b : Bool) → q
 find_case q x xs b e f = rw (e ∙ f) refl
 
 -- where no item passes a test, none is found
-pub find_none : {X : Type 0} (q : X → Bool) (rows : List (Bor X)) → ((k : ℕ) (d : Bor X) → k < length rows → q (get_or rows k d).now ≡ false) → find q (shown rows) ≡ None
+pub find_none : {X : Type 0} (q : X → Bool) (rows : List (Bor X)) → ((k : ℕ) (d : Bor X) → k < length rows → q (get_or rows k d).now ≡ false) → find q (rows_of_refs rows) ≡ None
 find_none q [] h = refl
 find_none q (x ∷ xs) h =
-    find_case q x.now (shown xs) (q x.now) refl (h 0 x (omega arith)) ∙ find_none q xs (λ k d l. h (suc k) d (omega arith))
+    find_case q x.now (rows_of_refs xs) (q x.now) refl (h 0 x (omega arith)) ∙ find_none q xs (λ k d l. h (suc k) d (omega arith))
 
 -- where an item passes and none before it does, it is the one found
-pub find_at : {X : Type 0} (q : X → Bool) (rows : List (Bor X)) (i : ℕ) (d : Bor X) → i < length rows → ((k : ℕ) (d : Bor X) → k < i → q (get_or rows k d).now ≡ false) → q (get_or rows i d).now ≡ true → find q (shown rows) ≡ Some (get_or rows i d).now
+pub find_at : {X : Type 0} (q : X → Bool) (rows : List (Bor X)) (i : ℕ) (d : Bor X) → i < length rows → ((k : ℕ) (d : Bor X) → k < i → q (get_or rows k d).now ≡ false) → q (get_or rows i d).now ≡ true → find q (rows_of_refs rows) ≡ Some (get_or rows i d).now
 find_at q [] i d l h e = absurd (omega arith)
 find_at q (x ∷ xs) zero d l h e = rw e refl
 find_at q (x ∷ xs) (suc i) d l h e =
-    find_case q x.now (shown xs) (q x.now) refl (h 0 x (omega arith)) ∙ find_at q xs i d (omega arith) (λ k f m. h (suc k) f (omega arith)) e
+    find_case q x.now (rows_of_refs xs) (q x.now) refl (h 0 x (omega arith)) ∙ find_at q xs i d (omega arith) (λ k f m. h (suc k) f (omega arith)) e
 
 -- what passes is the one found, or comes after it
 pub record FoundFirst {X : Type 0} (R : X → X → Type 0) (q : X → Bool) (xs : List X) (y : X) : Type 0 where
@@ -173,14 +173,14 @@ early t stamp rows i point k d l =
     before_not_from (get_or rows k d).now.topic.0 t.0 (stamp_lt (get_or rows k d).now.row.stamp stamp) (point.0 k d (omega arith) l)
 
 -- where the line at the partition point is of the topic, its stamp is the log's first from the given one on
-pub found_here : (t : Topic) (stamp : Stamp) (rows : List (Bor LogLine)) (i : ℕ) (d : Bor LogLine) → PointOf t stamp rows i → i < length rows → (get_or rows i d).now.topic.0 ≡ t.0 → Some (get_or rows i d).now.row.stamp ≡ option_map (λ line. line.row.stamp) (find (λ line. is_from t stamp line) (shown rows))
+pub found_here : (t : Topic) (stamp : Stamp) (rows : List (Bor LogLine)) (i : ℕ) (d : Bor LogLine) → PointOf t stamp rows i → i < length rows → (get_or rows i d).now.topic.0 ≡ t.0 → Some (get_or rows i d).now.row.stamp ≡ option_map (λ line. line.row.stamp) (find (λ line. is_from t stamp line) (rows_of_refs rows))
 found_here t stamp rows i d point l e =
     ap (option_map (λ (line : LogLine). line.row.stamp))
     (sym (find_at (is_from t stamp) rows i d l (early t stamp rows i point)
     (not_before_from (get_or rows i d).now.topic.0 t.0 (stamp_lt (get_or rows i d).now.row.stamp stamp) (point.1 i d (omega arith) l) e)))
 
 -- where the line at the partition point is of another topic, the log has no stamp from the given one on
-pub found_beyond : (t : Topic) (stamp : Stamp) (rows : List (Bor LogLine)) (i : ℕ) (d : Bor LogLine) → IsIndex rows → PointOf t stamp rows i → i < length rows → (get_or rows i d).now.topic.0 ≢ t.0 → None ≡ option_map (λ line. line.row.stamp) (find (λ line. is_from t stamp line) (shown rows))
+pub found_beyond : (t : Topic) (stamp : Stamp) (rows : List (Bor LogLine)) (i : ℕ) (d : Bor LogLine) → IsIndex rows → PointOf t stamp rows i → i < length rows → (get_or rows i d).now.topic.0 ≢ t.0 → None ≡ option_map (λ line. line.row.stamp) (find (λ line. is_from t stamp line) (rows_of_refs rows))
 found_beyond t stamp rows i d index point l e =
     ap (option_map (λ (line : LogLine). line.row.stamp)) (sym (find_none (is_from t stamp) rows none))
   where
@@ -202,7 +202,7 @@ found_beyond t stamp rows i d index point l e =
         subst (λ (r : Bor LogLine). is_from t stamp r.now ≡ false) (get_or_default rows k d f m) (at_d k m (three k i))
 
 -- where the partition point is the end, the log has no stamp from the given one on
-pub found_none : (t : Topic) (stamp : Stamp) (rows : List (Bor LogLine)) (i : ℕ) → PointOf t stamp rows i → i ≡ length rows → None ≡ option_map (λ line. line.row.stamp) (find (λ line. is_from t stamp line) (shown rows))
+pub found_none : (t : Topic) (stamp : Stamp) (rows : List (Bor LogLine)) (i : ℕ) → PointOf t stamp rows i → i ≡ length rows → None ≡ option_map (λ line. line.row.stamp) (find (λ line. is_from t stamp line) (rows_of_refs rows))
 found_none t stamp rows i point e =
     ap (option_map (λ (line : LogLine). line.row.stamp)) (sym (find_none (is_from t stamp) rows (λ k d l. early t stamp rows i point k d (subst (λ n. k < n) (sym e) l))))
 
@@ -224,33 +224,33 @@ record HasRow (t : Topic) (q : LogRow) (lines : List LogLine) : Type 0 where
   topic : (line.topic.0 == t.0) ≡ true
   is : line.row ≡ q
 
-has_line : (t : Topic) (q : LogRow) (rows : List (Bor LogLine)) → IsIndex rows → In q (rows_of (shown rows)) → log_has_row t q.id (shown rows) ≡ true → HasRow t q (shown rows)
+has_line : (t : Topic) (q : LogRow) (rows : List (Bor LogLine)) → IsIndex rows → In q (rows_of (rows_of_refs rows)) → log_has_row t q.id (rows_of_refs rows) ≡ true → HasRow t q (rows_of_refs rows)
 has_line t q rows index i e =
-    let f = any_found (λ (line : LogLine). line.topic.0 == t.0 && same_id line.row.id q.id) (shown rows) e in
+    let f = any_found (λ (line : LogLine). line.topic.0 == t.0 && same_id line.row.id q.id) (rows_of_refs rows) e in
     let p = and_parts (f.it.topic.0 == t.0) (same_id f.it.row.id q.id) f.passes in
     record {
       line = f.it;
       stands = f.stands;
       topic = p.0;
-      is = one_row (shown rows) f.it.row q index.one_verdict (In-map (λ (l : LogLine). l.row) f.it (shown rows) f.stands) i p.1;
+      is = one_row (rows_of_refs rows) f.it.row q index.one_verdict (In-map (λ (l : LogLine). l.row) f.it (rows_of_refs rows) f.stands) i p.1;
     }
 
 -- the log has the row exactly where the first stamp from its own on is its own
-pub has_row_is : (t : Topic) (q : LogRow) (rows : List (Bor LogLine)) → IsIndex rows → In q (rows_of (shown rows)) → log_has_row t q.id (shown rows) ≡ says (find (λ line. is_from t q.stamp line) (shown rows)) q
-has_row_is t q rows index i = go (find (λ line. is_from t q.stamp line) (shown rows)) refl
+pub has_row_is : (t : Topic) (q : LogRow) (rows : List (Bor LogLine)) → IsIndex rows → In q (rows_of (rows_of_refs rows)) → log_has_row t q.id (rows_of_refs rows) ≡ says (find (λ line. is_from t q.stamp line) (rows_of_refs rows)) q
+has_row_is t q rows index i = go (find (λ line. is_from t q.stamp line) (rows_of_refs rows)) refl
   where
-    missing : find (λ line. is_from t q.stamp line) (shown rows) ≡ None → log_has_row t q.id (shown rows) ≡ true → Prim.⊥
+    missing : find (λ line. is_from t q.stamp line) (rows_of_refs rows) ≡ None → log_has_row t q.id (rows_of_refs rows) ≡ true → Prim.⊥
     missing e h =
         let m = has_line t q rows index i h in
-        true≢false (sym (at_row t q m.line m.topic m.is) ∙ none_at (λ line. is_from t q.stamp line) m.line (shown rows) (find_any (λ line. is_from t q.stamp line) (shown rows) e) m.stands)
+        true≢false (sym (at_row t q m.line m.topic m.is) ∙ none_at (λ line. is_from t q.stamp line) m.line (rows_of_refs rows) (find_any (λ line. is_from t q.stamp line) (rows_of_refs rows) e) m.stands)
 
-    other : (y : LogLine) → find (λ line. is_from t q.stamp line) (shown rows) ≡ Some y → same_stamp y.row.stamp q.stamp ≡ false → log_has_row t q.id (shown rows) ≡ true → Prim.⊥
+    other : (y : LogLine) → find (λ line. is_from t q.stamp line) (rows_of_refs rows) ≡ Some y → same_stamp y.row.stamp q.stamp ≡ false → log_has_row t q.id (rows_of_refs rows) ≡ true → Prim.⊥
     other y e s h = which (f.first m.line m.stands (at_row t q m.line m.topic m.is))
       where
-        f : FoundFirst Above (λ line. is_from t q.stamp line) (shown rows) y
-        f = found_first Above (λ line. is_from t q.stamp line) (shown rows) y index.rises e
+        f : FoundFirst Above (λ line. is_from t q.stamp line) (rows_of_refs rows) y
+        f = found_first Above (λ line. is_from t q.stamp line) (rows_of_refs rows) y index.rises e
 
-        m : HasRow t q (shown rows)
+        m : HasRow t q (rows_of_refs rows)
         m = has_line t q rows index i h
 
         p : ((y.topic.0 == t.0) ≡ true) × (not (stamp_lt y.row.stamp q.stamp) ≡ true)
@@ -265,19 +265,19 @@ has_row_is t q rows index i = go (find (λ line. is_from t q.stamp line) (shown 
         which (inr k) =
             true≢false (sym (subst (λ (z : LogRow). stamp_lt y.row.stamp z.stamp ≡ true) m.is (k.1 topics)) ∙ not_false _ p.1)
 
-    same : (y : LogLine) → find (λ line. is_from t q.stamp line) (shown rows) ≡ Some y → same_stamp y.row.stamp q.stamp ≡ true → log_has_row t q.id (shown rows) ≡ true
+    same : (y : LogLine) → find (λ line. is_from t q.stamp line) (rows_of_refs rows) ≡ Some y → same_stamp y.row.stamp q.stamp ≡ true → log_has_row t q.id (rows_of_refs rows) ≡ true
     same y e s =
-        let f = found_first Above (λ line. is_from t q.stamp line) (shown rows) y index.rises e in
+        let f = found_first Above (λ line. is_from t q.stamp line) (rows_of_refs rows) y index.rises e in
         let p = and_parts (y.topic.0 == t.0) (not (stamp_lt y.row.stamp q.stamp)) f.passes in
-        let k : y.row ≡ q = one_stamp (shown rows) y.row q index.one_verdict index.one_stamp (In-map (λ (l : LogLine). l.row) y (shown rows) f.stands) i s in
-        any_from (λ (line : LogLine). line.topic.0 == t.0 && same_id line.row.id q.id) y (shown rows) f.stands
+        let k : y.row ≡ q = one_stamp (rows_of_refs rows) y.row q index.one_verdict index.one_stamp (In-map (λ (l : LogLine). l.row) y (rows_of_refs rows) f.stands) i s in
+        any_from (λ (line : LogLine). line.topic.0 == t.0 && same_id line.row.id q.id) y (rows_of_refs rows) f.stands
         (and_true (y.topic.0 == t.0) (same_id y.row.id q.id) p.0 (subst (λ (z : LogRow). same_id z.id q.id ≡ true) (sym k) (id_itself q.id)))
 
-    tell : (y : LogLine) → find (λ line. is_from t q.stamp line) (shown rows) ≡ Some y → (b : Bool) → same_stamp y.row.stamp q.stamp ≡ b → log_has_row t q.id (shown rows) ≡ b
+    tell : (y : LogLine) → find (λ line. is_from t q.stamp line) (rows_of_refs rows) ≡ Some y → (b : Bool) → same_stamp y.row.stamp q.stamp ≡ b → log_has_row t q.id (rows_of_refs rows) ≡ b
     tell y e true s = same y e s
     tell y e false s = refuted _ (other y e s)
 
-    go : (o : Option LogLine) → find (λ line. is_from t q.stamp line) (shown rows) ≡ o → log_has_row t q.id (shown rows) ≡ says o q
+    go : (o : Option LogLine) → find (λ line. is_from t q.stamp line) (rows_of_refs rows) ≡ o → log_has_row t q.id (rows_of_refs rows) ≡ says o q
     go None e = refuted _ (missing e)
     go (Some y) e = tell y e (same_stamp y.row.stamp q.stamp) refl
 
@@ -291,22 +291,22 @@ abbrev pub tells_other : Option Stamp → Stamp → Bool
 tells_other None s = false
 tells_other (Some found) s = not (same_stamp found s)
 
-has_row_told_own : (t : Topic) (q : LogRow) (rows : List (Bor LogLine)) (o : Option Stamp) → IsIndex rows → In q (rows_of (shown rows)) → o ≡ option_map (λ line. line.row.stamp) (find (λ line. is_from t q.stamp line) (shown rows)) → tells o q.stamp ≡ log_has_row t q.id (shown rows)
+has_row_told_own : (t : Topic) (q : LogRow) (rows : List (Bor LogLine)) (o : Option Stamp) → IsIndex rows → In q (rows_of (rows_of_refs rows)) → o ≡ option_map (λ line. line.row.stamp) (find (λ line. is_from t q.stamp line) (rows_of_refs rows)) → tells o q.stamp ≡ log_has_row t q.id (rows_of_refs rows)
 has_row_told_own t q rows o index i e =
-    ap (λ z. tells z q.stamp) e ∙ (back (find (λ line. is_from t q.stamp line) (shown rows)) ∙ sym (has_row_is t q rows index i))
+    ap (λ z. tells z q.stamp) e ∙ (back (find (λ line. is_from t q.stamp line) (rows_of_refs rows)) ∙ sym (has_row_is t q rows index i))
   where
     back : (f : Option LogLine) → tells (option_map (λ (line : LogLine). line.row.stamp) f) q.stamp ≡ says f q
     back None = refl
     back (Some y) = refl
 
-hole_told_own : (t : Topic) (q : LogRow) (rows : List (Bor LogLine)) (o : Option Stamp) → IsIndex rows → In q (rows_of (shown rows)) → o ≡ option_map (λ line. line.row.stamp) (find (λ line. is_from t q.stamp line) (shown rows)) → tells_other o q.stamp ≡ is_hole (shown rows) q t
+hole_told_own : (t : Topic) (q : LogRow) (rows : List (Bor LogLine)) (o : Option Stamp) → IsIndex rows → In q (rows_of (rows_of_refs rows)) → o ≡ option_map (λ line. line.row.stamp) (find (λ line. is_from t q.stamp line) (rows_of_refs rows)) → tells_other o q.stamp ≡ is_hole (rows_of_refs rows) q t
 hole_told_own t q rows o index i e =
-    ap (λ z. tells_other z q.stamp) e ∙ go (find (λ line. is_from t q.stamp line) (shown rows)) refl
+    ap (λ z. tells_other z q.stamp) e ∙ go (find (λ line. is_from t q.stamp line) (rows_of_refs rows)) refl
   where
-    reached : (y : LogLine) → find (λ line. is_from t q.stamp line) (shown rows) ≡ Some y → reaches t q.stamp (shown rows) ≡ true
+    reached : (y : LogLine) → find (λ line. is_from t q.stamp line) (rows_of_refs rows) ≡ Some y → log_has_row_from t q.stamp (rows_of_refs rows) ≡ true
     reached y f =
-        let p = found_first Above (λ line. is_from t q.stamp line) (shown rows) y index.rises f in
-        any_from (λ (line : LogLine). line.topic.0 == t.0 && not (stamp_lt line.row.stamp q.stamp)) y (shown rows) p.stands p.passes
+        let p = found_first Above (λ line. is_from t q.stamp line) (rows_of_refs rows) y index.rises f in
+        any_from (λ (line : LogLine). line.topic.0 == t.0 && not (stamp_lt line.row.stamp q.stamp)) y (rows_of_refs rows) p.stands p.passes
 
     short : (a b : Bool) → b ≡ false → false ≡ (not a && b)
     short true b f = refl
@@ -316,17 +316,17 @@ hole_told_own t q rows o index i e =
     full true b f = refl
     full false b f = sym f
 
-    go : (f : Option LogLine) → find (λ line. is_from t q.stamp line) (shown rows) ≡ f → tells_other (option_map (λ (line : LogLine). line.row.stamp) f) q.stamp ≡ is_hole (shown rows) q t
-    go None f = short _ _ (find_any (λ line. is_from t q.stamp line) (shown rows) f)
+    go : (f : Option LogLine) → find (λ line. is_from t q.stamp line) (rows_of_refs rows) ≡ f → tells_other (option_map (λ (line : LogLine). line.row.stamp) f) q.stamp ≡ is_hole (rows_of_refs rows) q t
+    go None f = short _ _ (find_any (λ line. is_from t q.stamp line) (rows_of_refs rows) f)
     go (Some y) f =
         ap not (sym (has_row_is t q rows index i ∙ ap (λ z. says z q) f)) ∙ full _ _ (reached y f)
 
 -- the same at a stamp that is the row's
-pub has_row_told : (t : Topic) (q : LogRow) (s : Stamp) (rows : List (Bor LogLine)) (o : Option Stamp) → s ≡ q.stamp → IsIndex rows → In q (rows_of (shown rows)) → o ≡ option_map (λ line. line.row.stamp) (find (λ line. is_from t s line) (shown rows)) → tells o s ≡ log_has_row t q.id (shown rows)
+pub has_row_told : (t : Topic) (q : LogRow) (s : Stamp) (rows : List (Bor LogLine)) (o : Option Stamp) → s ≡ q.stamp → IsIndex rows → In q (rows_of (rows_of_refs rows)) → o ≡ option_map (λ line. line.row.stamp) (find (λ line. is_from t s line) (rows_of_refs rows)) → tells o s ≡ log_has_row t q.id (rows_of_refs rows)
 has_row_told t q s rows o same index i e =
-    ap (tells o) same ∙ has_row_told_own t q rows o index i (e ∙ ap (λ (z : Stamp). option_map (λ (line : LogLine). line.row.stamp) (find (λ line. is_from t z line) (shown rows))) same)
+    ap (tells o) same ∙ has_row_told_own t q rows o index i (e ∙ ap (λ (z : Stamp). option_map (λ (line : LogLine). line.row.stamp) (find (λ line. is_from t z line) (rows_of_refs rows))) same)
 
 -- a log has a hole at a row exactly where its first stamp from the row's on is another than the row's
-pub hole_told : (t : Topic) (q : LogRow) (s : Stamp) (rows : List (Bor LogLine)) (o : Option Stamp) → s ≡ q.stamp → IsIndex rows → In q (rows_of (shown rows)) → o ≡ option_map (λ line. line.row.stamp) (find (λ line. is_from t s line) (shown rows)) → tells_other o s ≡ is_hole (shown rows) q t
+pub hole_told : (t : Topic) (q : LogRow) (s : Stamp) (rows : List (Bor LogLine)) (o : Option Stamp) → s ≡ q.stamp → IsIndex rows → In q (rows_of (rows_of_refs rows)) → o ≡ option_map (λ line. line.row.stamp) (find (λ line. is_from t s line) (rows_of_refs rows)) → tells_other o s ≡ is_hole (rows_of_refs rows) q t
 hole_told t q s rows o same index i e =
-    ap (tells_other o) same ∙ hole_told_own t q rows o index i (e ∙ ap (λ (z : Stamp). option_map (λ (line : LogLine). line.row.stamp) (find (λ line. is_from t z line) (shown rows))) same)
+    ap (tells_other o) same ∙ hole_told_own t q rows o index i (e ∙ ap (λ (z : Stamp). option_map (λ (line : LogLine). line.row.stamp) (find (λ line. is_from t z line) (rows_of_refs rows))) same)

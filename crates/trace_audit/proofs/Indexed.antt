@@ -10,10 +10,10 @@ use Rattle.mcast_txn.specs.Lists.{In}
 use Rattle.mcast_txn.specs.Span.{LogRow}
 use Rattle.mcast_txn.specs.Stamp.{stamp_lt}
 use Rattle.mcast_txn.proofs.Members.{In-get_or, In-map}
-use Rattle.trace_audit.specs.Faults.{some_two, differ, collide, out_of_order, log_has_row, reaches, is_hole}
+use Rattle.trace_audit.specs.Faults.{some_two, are_different, are_colliding, is_out_of_order, log_has_row, log_has_row_from, is_hole}
 use Rattle.trace_audit.specs.Inner.Chained.{IsIndex}
-use Rattle.trace_audit.specs.Inner.Orders.{shown, IsOrdersOf}
-use Rattle.trace_audit.specs.Line.{LogLine}
+use Rattle.trace_audit.specs.Inner.Orders.{rows_of_refs, IsOrdersOf}
+use Rattle.trace_audit.specs.Logs.{LogLine}
 use Rattle.trace_audit.specs.Trace.{rows_of}
 use Rattle.trace_audit.proofs.Least.{rest_is}
 use Rattle.trace_audit.proofs.LogFaults.{moved_two}
@@ -21,11 +21,11 @@ use Rattle.trace_audit.proofs.Neighbours.{chained_from_order, same_order}
 use Rattle.trace_audit.proofs.Putting.{row_moved}
 
 -- logs against which neither verdicts, stamps nor order speak have an index
-pub indexed : (logs : List LogLine) (by_id by_stamp by_topic : List (Bor LogLine)) → IsOrdersOf by_id by_stamp by_topic logs → some_two differ logs ≡ false → some_two collide logs ≡ false → out_of_order logs ≡ false → IsIndex by_topic
+pub indexed : (logs : List LogLine) (by_id by_stamp by_topic : List (Bor LogLine)) → IsOrdersOf by_id by_stamp by_topic logs → some_two are_different logs ≡ false → some_two are_colliding logs ≡ false → is_out_of_order logs ≡ false → IsIndex by_topic
 indexed logs by_id by_stamp by_topic o verdicts stamps order = record {
-  rises = chained_from_order by_topic o.topics_rise (same_order logs (shown by_topic) o.grouping.kept ∙ order);
-  one_verdict = moved_two differ logs (shown by_topic) o.grouping.moved ∙ verdicts;
-  one_stamp = moved_two collide logs (shown by_topic) o.grouping.moved ∙ stamps;
+  rises = chained_from_order by_topic o.topics_rise (same_order logs (rows_of_refs by_topic) o.grouping.kept ∙ order);
+  one_verdict = moved_two are_different logs (rows_of_refs by_topic) o.grouping.moved ∙ verdicts;
+  one_stamp = moved_two are_colliding logs (rows_of_refs by_topic) o.grouping.moved ∙ stamps;
 }
 
 -- whether a log has a row of the transaction is the same of the lines in another order
@@ -35,7 +35,7 @@ has_moved t q logs lines p = sym (list_any-IsPermutation (λ (line : LogLine). l
 -- whether a log has a hole at a row is the same of the lines in another order
 pub hole_moved : (t : Topic) (q : LogRow) (logs lines : List LogLine) → IsPermutation logs lines → is_hole lines q t ≡ is_hole logs q t
 hole_moved t q logs lines p =
-    ap (λ z. not z && reaches t q.stamp lines) (has_moved t q logs lines p)
+    ap (λ z. not z && log_has_row_from t q.stamp lines) (has_moved t q logs lines p)
     ∙ ap (λ z. not (log_has_row t q.id logs) && z) (sym (list_any-IsPermutation (λ (line : LogLine). line.topic.0 == t.0 && not (stamp_lt line.row.stamp q.stamp)) logs lines p))
 
 -- the topics that have a hole at a row are the same of the lines in another order

@@ -4,6 +4,7 @@ mod Examples
 mod TextExamples
 pub mod Explaining
 pub mod Halving
+pub mod InTurn
 pub mod Indexed
 pub mod Least
 pub mod LogFaults

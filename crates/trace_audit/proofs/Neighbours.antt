@@ -13,10 +13,10 @@ use Rattle.mcast_txn.specs.Span.{LogRow, row_stamp}
 use Rattle.mcast_txn.specs.Stamp.{same_stamp, stamp_lt}
 use Rattle.mcast_txn.proofs.Members.{In-map, In-get_or, any_from}
 use Rattle.mcast_txn.proofs.Orders.{lt_irrefl, lt_trans, le_trans, same_stamps, id_equal, id_same}
-use Rattle.trace_audit.specs.Faults.{differ, collide, overtake, some_two, falls, out_of_order}
-use Rattle.trace_audit.specs.Line.{LogLine}
+use Rattle.trace_audit.specs.Faults.{are_different, are_colliding, are_disordered, some_two, are_falling, is_out_of_order}
+use Rattle.trace_audit.specs.Logs.{LogLine}
 use Rattle.trace_audit.specs.Inner.Chained.{Chained, Above}
-use Rattle.trace_audit.specs.Inner.Orders.{shown, IsOrderedById, RisesByStamp, RisesByTopic}
+use Rattle.trace_audit.specs.Inner.Orders.{rows_of_refs, IsOrderedById, RisesByStamp, RisesByTopic}
 use Rattle.trace_audit.specs.Trace.{rows_of, log_of}
 use Rattle.trace_audit.proofs.Explaining.{and_true, not_false, open_test, one_row, rows_equal, topics_equal, stamps_equal, log_rises}
 use Rattle.trace_audit.proofs.OrderLemmas.{chain_shown, chain_pair}
@@ -46,8 +46,8 @@ found_two test rows a b i j e =
     any_from (λ (x : LogLine). list_any (λ (y : LogLine). test x.row y.row) rows) a rows i
     (any_from (λ (y : LogLine). test a.row y.row) b rows j e)
 
-In-shown : (rows : List (Bor LogLine)) (k : ℕ) (d : Bor LogLine) → k < length rows → In (get_or rows k d).now (shown rows)
-In-shown rows k d l = In-map (λ (r : Bor LogLine). r.now) (get_or rows k d) rows (In-get_or rows k d l)
+In-rows_of_refs : (rows : List (Bor LogLine)) (k : ℕ) (d : Bor LogLine) → k < length rows → In (get_or rows k d).now (rows_of_refs rows)
+In-rows_of_refs rows k d l = In-map (λ (r : Bor LogLine). r.now) (get_or rows k d) rows (In-get_or rows k d l)
 
 not_twice : (b : Bool) → false ≡ not b → b ≡ true
 not_twice true e = refl
@@ -59,13 +59,13 @@ some_row (r ∷ rows) k l = r
 
 -- what a walk over neighbours answers, from what each answer says of all rows
 answered : (test : LogRow → LogRow → Bool) (ask : LogLine → LogLine → Bool) (rows : List (Bor LogLine)) (r : Bool) → IsAllAdjacentAnswer (λ x y b. b ≡ not (ask x.now y.now)) rows r
-    → (((k : ℕ) (d : Bor LogLine) → k + 1 < length rows → ask (get_or rows k d).now (get_or rows (k + 1) d).now ≡ false) → some_two test (shown rows) ≡ false)
-    → ((a b : LogLine) → In a (shown rows) → In b (shown rows) → ask a b ≡ true → some_two test (shown rows) ≡ true)
-    → not r ≡ some_two test (shown rows)
+    → (((k : ℕ) (d : Bor LogLine) → k + 1 < length rows → ask (get_or rows k d).now (get_or rows (k + 1) d).now ≡ false) → some_two test (rows_of_refs rows) ≡ false)
+    → ((a b : LogLine) → In a (rows_of_refs rows) → In b (rows_of_refs rows) → ask a b ≡ true → some_two test (rows_of_refs rows) ≡ true)
+    → not r ≡ some_two test (rows_of_refs rows)
 answered test ask rows true h clean found = sym (clean (λ k d l. not_false _ (sym (h k d l))))
 answered test ask rows false h clean found =
     let d = some_row rows h.0 (omega arith) in
-    sym (found (get_or rows h.0 d).now (get_or rows (h.0 + 1) d).now (In-shown rows h.0 d (omega arith)) (In-shown rows (h.0 + 1) d h.1) (not_twice _ (h.2 d)))
+    sym (found (get_or rows h.0 d).now (get_or rows (h.0 + 1) d).now (In-rows_of_refs rows h.0 d (omega arith)) (In-rows_of_refs rows (h.0 + 1) d h.1) (not_twice _ (h.2 d)))
 
 -- no two rows are so, where no two of a chain are
 none_chained : (test : LogRow → LogRow → Bool) (R : LogLine → LogLine → Type 0) (lines : List LogLine) → Chained R lines → ((a b : LogLine) → In a lines → In b lines → R a b ⊎ (R b a ⊎ (a ≡ b)) → test a.row b.row ≡ false) → some_two test lines ≡ false
@@ -77,17 +77,17 @@ none_chained test R lines chain none =
 -- ---- two verdicts
 
 -- rows of one transaction that don't differ are equal
-same_row : (a b : LogRow) → differ a b ≡ false → same_id a.id b.id ≡ true → a ≡ b
+same_row : (a b : LogRow) → are_different a b ≡ false → same_id a.id b.id ≡ true → a ≡ b
 same_row a b h e =
     let s = same_stamp a.stamp b.stamp in
     let t = pointwise (λ (t u : Topic). t.0 == u.0) a.topics b.topics in
     let p = and_parts s t (open_test (same_id a.id b.id) (s && t) h e) in
     rows_equal a b (id_equal a.id b.id e) (topics_equal a.topics b.topics p.1) (stamps_equal a.stamp b.stamp p.0)
 
-same_differ : (a b : LogRow) → (same_id a.id b.id ≡ true → a ≡ b) → differ a b ≡ false
-same_differ a b h = refuted (differ a b) go
+same_differ : (a b : LogRow) → (same_id a.id b.id ≡ true → a ≡ b) → are_different a b ≡ false
+same_differ a b h = refuted (are_different a b) go
   where
-    go : differ a b ≡ true → Prim.⊥
+    go : are_different a b ≡ true → Prim.⊥
     go e =
         let p = and_parts (same_id a.id b.id) (not (same_stamp a.stamp b.stamp && pointwise (λ (t u : Topic). t.0 == u.0) a.topics b.topics)) e in
         let k : (same_stamp a.stamp b.stamp && pointwise (λ (t u : Topic). t.0 == u.0) a.topics b.topics) ≡ true =
@@ -110,13 +110,13 @@ id_back : (a b : LogRow) → same_id a.id b.id ≡ true → same_id b.id a.id �
 id_back a b e = id_same b.id a.id (sym (id_equal a.id b.id e))
 
 -- in rows in order of id, two rows differ exactly where two neighbours do
-pub verdicts_tested : (rows : List (Bor LogLine)) (r : Bool) → IsOrderedById rows → IsAllAdjacentAnswer (λ x y b. b ≡ not (differ x.now.row y.now.row)) rows r → not r ≡ some_two differ (shown rows)
+pub verdicts_tested : (rows : List (Bor LogLine)) (r : Bool) → IsOrderedById rows → IsAllAdjacentAnswer (λ x y b. b ≡ not (are_different x.now.row y.now.row)) rows r → not r ≡ some_two are_different (rows_of_refs rows)
 verdicts_tested rows r up h =
-    answered differ (λ a b. differ a.row b.row) rows r h
-    (λ none. none_chained differ Agrees (shown rows)
+    answered are_different (λ a b. are_different a.row b.row) rows r h
+    (λ none. none_chained are_different Agrees (rows_of_refs rows)
     (chain_shown Agrees agrees_trans rows (λ k d l. (up k d (omega arith) l, same_row (get_or rows k d).now.row (get_or rows (k + 1) d).now.row (none k d l))))
     (λ a b i j c. same_differ a.row b.row (λ e. agreed a b c e)))
-    (λ a b i j e. found_two differ (shown rows) a b i j e)
+    (λ a b i j e. found_two are_different (rows_of_refs rows) a b i j e)
   where
     agreed : (a b : LogLine) → Agrees a b ⊎ (Agrees b a ⊎ (a ≡ b)) → same_id a.row.id b.row.id ≡ true → a.row ≡ b.row
     agreed a b (inl p) e = p.1 e
@@ -136,16 +136,16 @@ apart_trans x y z p q = (
       p.1 f ∙ q.1 (sym f ∙ e)),
 )
 
--- in rows in order of stamp, two rows collide exactly where two neighbours do
-pub stamps_tested : (rows : List (Bor LogLine)) (r : Bool) → RisesByStamp rows → IsAllAdjacentAnswer (λ x y b. b ≡ not (collide x.now.row y.now.row)) rows r → not r ≡ some_two collide (shown rows)
+-- in rows in order of stamp, two rows are colliding exactly where two neighbours do
+pub stamps_tested : (rows : List (Bor LogLine)) (r : Bool) → RisesByStamp rows → IsAllAdjacentAnswer (λ x y b. b ≡ not (are_colliding x.now.row y.now.row)) rows r → not r ≡ some_two are_colliding (rows_of_refs rows)
 stamps_tested rows r up h =
-    answered collide (λ a b. collide a.row b.row) rows r h
-    (λ none. none_chained collide Apart (shown rows)
+    answered are_colliding (λ a b. are_colliding a.row b.row) rows r h
+    (λ none. none_chained are_colliding Apart (rows_of_refs rows)
     (chain_shown Apart apart_trans rows (λ k d l. (up k d (omega arith) l, one (get_or rows k d).now.row (get_or rows (k + 1) d).now.row (none k d l))))
-    (λ a b i j c. refuted (collide a.row b.row) (never a b c)))
-    (λ a b i j e. found_two collide (shown rows) a b i j e)
+    (λ a b i j c. refuted (are_colliding a.row b.row) (never a b c)))
+    (λ a b i j e. found_two are_colliding (rows_of_refs rows) a b i j e)
   where
-    one : (a b : LogRow) → collide a b ≡ false → a.stamp ≡ b.stamp → a.id ≡ b.id
+    one : (a b : LogRow) → are_colliding a b ≡ false → a.stamp ≡ b.stamp → a.id ≡ b.id
     one a b e f = id_equal a.id b.id (both (same_id a.id b.id) (same_stamp a.stamp b.stamp) e (subst (λ z. same_stamp a.stamp z ≡ true) f (stamp_itself a.stamp)))
       where
         both : (s t : Bool) → (not s && t) ≡ false → t ≡ true → s ≡ true
@@ -157,7 +157,7 @@ stamps_tested rows r up h =
     ids a b (inr (inl p)) e = sym (p.1 (sym e))
     ids a b (inr (inr p)) e = ap (λ (z : LogLine). z.row.id) p
 
-    never : (a b : LogLine) → Apart a b ⊎ (Apart b a ⊎ (a ≡ b)) → collide a.row b.row ≡ true → Prim.⊥
+    never : (a b : LogLine) → Apart a b ⊎ (Apart b a ⊎ (a ≡ b)) → are_colliding a.row b.row ≡ true → Prim.⊥
     never a b c e =
         let p = and_parts (not (same_id a.row.id b.row.id)) (same_stamp a.row.stamp b.row.stamp) e in
         true≢false (sym (id_same a.row.id b.row.id (ids a b c (stamps_equal a.row.stamp b.row.stamp p.1))) ∙ not_false _ p.0)
@@ -178,18 +178,18 @@ above_trans x y z p q = (
       lt_trans x.row.stamp y.row.stamp z.row.stamp (p.1 f) (q.1 (sym f ∙ e))),
 )
 
-not_falls : (x y : LogLine) → Above x y → falls x y ≡ false
-not_falls x y a = refuted (falls x y) go
+not_falls : (x y : LogLine) → Above x y → are_falling x y ≡ false
+not_falls x y a = refuted (are_falling x y) go
   where
-    go : falls x y ≡ true → Prim.⊥
+    go : are_falling x y ≡ true → Prim.⊥
     go e =
         let p = and_parts (x.topic.0 == y.topic.0) (not (stamp_lt x.row.stamp y.row.stamp)) e in
         true≢false (sym (a.1 (eqb-true x.topic.0 y.topic.0 p.0)) ∙ not_false _ p.1)
 
-chained_in_order : (lines : List LogLine) → Chained Above lines → out_of_order lines ≡ false
+chained_in_order : (lines : List LogLine) → Chained Above lines → is_out_of_order lines ≡ false
 chained_in_order [] c = refl
 chained_in_order (x ∷ xs) c =
-    rw (none_any (λ (y : LogLine). falls x y) xs (λ y i. not_falls x y (c.0 y i))) (chained_in_order xs c.1)
+    rw (none_any (λ (y : LogLine). are_falling x y) xs (λ y i. not_falls x y (c.0 y i))) (chained_in_order xs c.1)
 
 or_right : (a b : Bool) → b ≡ true → (a || b) ≡ true
 or_right true b e = refl
@@ -199,16 +199,16 @@ or_left : (a b : Bool) → a ≡ true → (a || b) ≡ true
 or_left true b e = refl
 or_left false b e = absurd (false≢true e)
 
-falls_at : (rows : List (Bor LogLine)) (k : ℕ) (d : Bor LogLine) → k + 1 < length rows → falls (get_or rows k d).now (get_or rows (k + 1) d).now ≡ true → out_of_order (shown rows) ≡ true
+falls_at : (rows : List (Bor LogLine)) (k : ℕ) (d : Bor LogLine) → k + 1 < length rows → are_falling (get_or rows k d).now (get_or rows (k + 1) d).now ≡ true → is_out_of_order (rows_of_refs rows) ≡ true
 falls_at [] k d l e = absurd (omega arith)
 falls_at (x ∷ xs) zero d l e =
-    or_left _ _ (any_from (λ (y : LogLine). falls x.now y) (get_or xs 0 d).now (shown xs) (In-shown xs 0 d (omega arith)) e)
+    or_left _ _ (any_from (λ (y : LogLine). are_falling x.now y) (get_or xs 0 d).now (rows_of_refs xs) (In-rows_of_refs xs 0 d (omega arith)) e)
 falls_at (x ∷ xs) (suc k) d l e =
     let f : suc k + 1 ≡ suc (k + 1) = omega arith in
-    or_right _ _ (falls_at xs k d (omega arith) (subst (λ (n : ℕ). falls (get_or xs k d).now (get_or (x ∷ xs) n d).now ≡ true) f e))
+    or_right _ _ (falls_at xs k d (omega arith) (subst (λ (n : ℕ). are_falling (get_or xs k d).now (get_or (x ∷ xs) n d).now ≡ true) f e))
 
 -- rows in order of topic of which no two neighbours fall are chained, each later one above in its log
-pub order_chained : (rows : List (Bor LogLine)) → RisesByTopic rows → ((k : ℕ) (d : Bor LogLine) → k + 1 < length rows → falls (get_or rows k d).now (get_or rows (k + 1) d).now ≡ false) → Chained Above (shown rows)
+pub order_chained : (rows : List (Bor LogLine)) → RisesByTopic rows → ((k : ℕ) (d : Bor LogLine) → k + 1 < length rows → are_falling (get_or rows k d).now (get_or rows (k + 1) d).now ≡ false) → Chained Above (rows_of_refs rows)
 order_chained rows up none =
     chain_shown Above above_trans rows (λ k d l. (
       up k d (omega arith) l,
@@ -216,26 +216,26 @@ order_chained rows up none =
     ))
 
 -- in rows in order of topic, a log is out of order exactly where two neighbours fall
-pub order_tested : (rows : List (Bor LogLine)) (r : Bool) → RisesByTopic rows → IsAllAdjacentAnswer (λ x y b. b ≡ not (falls x.now y.now)) rows r → not r ≡ out_of_order (shown rows)
+pub order_tested : (rows : List (Bor LogLine)) (r : Bool) → RisesByTopic rows → IsAllAdjacentAnswer (λ x y b. b ≡ not (are_falling x.now y.now)) rows r → not r ≡ is_out_of_order (rows_of_refs rows)
 order_tested rows true up h =
-    sym (chained_in_order (shown rows) (order_chained rows up (λ k d l. not_false _ (sym (h k d l)))))
+    sym (chained_in_order (rows_of_refs rows) (order_chained rows up (λ k d l. not_false _ (sym (h k d l)))))
 order_tested rows false up h =
     let d = some_row rows h.0 (omega arith) in
     sym (falls_at rows h.0 d h.1 (not_twice _ (h.2 d)))
 
 -- rows by topic whose logs are in order
-pub chained_from_order : (rows : List (Bor LogLine)) → RisesByTopic rows → out_of_order (shown rows) ≡ false → Chained Above (shown rows)
+pub chained_from_order : (rows : List (Bor LogLine)) → RisesByTopic rows → is_out_of_order (rows_of_refs rows) ≡ false → Chained Above (rows_of_refs rows)
 chained_from_order rows up e =
     order_chained rows up (λ k d l. refuted _ (λ f. true≢false (sym (falls_at rows k d l f) ∙ e)))
 
 -- logs of the same rows by topic are out of order alike
-pub same_order : (logs lines : List LogLine) → ((t : Topic) → filter (λ line. line.topic.0 == t.0) lines ≡ filter (λ line. line.topic.0 == t.0) logs) → out_of_order lines ≡ out_of_order logs
-same_order logs lines kept = go (out_of_order lines) (out_of_order logs) refl refl
+pub same_order : (logs lines : List LogLine) → ((t : Topic) → filter (λ line. line.topic.0 == t.0) lines ≡ filter (λ line. line.topic.0 == t.0) logs) → is_out_of_order lines ≡ is_out_of_order logs
+same_order logs lines kept = go (is_out_of_order lines) (is_out_of_order logs) refl refl
   where
     log_same : (t : Topic) → log_of t lines ≡ log_of t logs
     log_same t = ap rows_of (kept t)
 
-    go : (a b : Bool) → out_of_order lines ≡ a → out_of_order logs ≡ b → out_of_order lines ≡ out_of_order logs
+    go : (a b : Bool) → is_out_of_order lines ≡ a → is_out_of_order logs ≡ b → is_out_of_order lines ≡ is_out_of_order logs
     go true true e f = e ∙ sym f
     go false false e f = e ∙ sym f
     go true false e f = in_order lines (λ t. subst (Rises row_stamp) (sym (log_same t)) (log_rises t logs f)) ∙ sym f
@@ -267,13 +267,13 @@ still false l q e f g = absurd (false≢true f)
 seq_not_below : (a b : TxnId) → id_lt b a ≡ false → a.sender.0 ≡ b.sender.0 → nat_lt b.seq a.seq ≡ false
 seq_not_below a b e f = grind (arith, nat_tests)
 
-follows_from : (x y : LogLine) → id_lt y.row.id x.row.id ≡ false → overtake y.row x.row ≡ false → Follows x y
+follows_from : (x y : LogLine) → id_lt y.row.id x.row.id ≡ false → are_disordered y.row x.row ≡ false → Follows x y
 follows_from x y e f = (
   e,
   (λ g. still _ _ _ f (eq-eqb _ _ (sym g)) (seq_not_below x.row.id y.row.id e g)),
 )
 
-not_overtaken : (lines : List LogLine) (a b : LogLine) → some_two differ lines ≡ false → In a lines → In b lines → Follows a b ⊎ (Follows b a ⊎ (a ≡ b)) → overtake a.row b.row ≡ true → Prim.⊥
+not_overtaken : (lines : List LogLine) (a b : LogLine) → some_two are_different lines ≡ false → In a lines → In b lines → Follows a b ⊎ (Follows b a ⊎ (a ≡ b)) → are_disordered a.row b.row ≡ true → Prim.⊥
 not_overtaken lines a b verdicts i j c e = go c
   where
     parts : (a.row.id.sender.0 == b.row.id.sender.0 ≡ true) × ((stamp_lt a.row.stamp b.row.stamp && not (nat_lt a.row.id.seq b.row.id.seq)) ≡ true)
@@ -296,10 +296,10 @@ not_overtaken lines a b verdicts i j c e = go c
     go (inr (inr p)) = equal (ap (λ (z : LogLine). z.row) p)
 
 -- in rows by id without two verdicts, a row overtakes another exactly where one overtakes its neighbour
-pub senders_tested : (rows : List (Bor LogLine)) (r : Bool) → IsOrderedById rows → some_two differ (shown rows) ≡ false → IsAllAdjacentAnswer (λ x y b. b ≡ not (overtake y.now.row x.now.row)) rows r → not r ≡ some_two overtake (shown rows)
+pub senders_tested : (rows : List (Bor LogLine)) (r : Bool) → IsOrderedById rows → some_two are_different (rows_of_refs rows) ≡ false → IsAllAdjacentAnswer (λ x y b. b ≡ not (are_disordered y.now.row x.now.row)) rows r → not r ≡ some_two are_disordered (rows_of_refs rows)
 senders_tested rows r up verdicts h =
-    answered overtake (λ a b. overtake b.row a.row) rows r h
-    (λ none. none_chained overtake Follows (shown rows)
+    answered are_disordered (λ a b. are_disordered b.row a.row) rows r h
+    (λ none. none_chained are_disordered Follows (rows_of_refs rows)
     (chain_shown Follows follows_trans rows (λ k d l. follows_from (get_or rows k d).now (get_or rows (k + 1) d).now (up k d (omega arith) l) (none k d l)))
-    (λ a b i j c. refuted (overtake a.row b.row) (not_overtaken (shown rows) a b verdicts i j c)))
-    (λ a b i j e. found_two overtake (shown rows) b a j i e)
+    (λ a b i j c. refuted (are_disordered a.row b.row) (not_overtaken (rows_of_refs rows) a b verdicts i j c)))
+    (λ a b i j e. found_two are_disordered (rows_of_refs rows) b a j i e)

@@ -7,10 +7,10 @@ use Rattle.mcast_txn.proofs.Sorting.{same_rising}
 use Rattle.trace_audit.specs.Explained.{IsExplainedBy}
 use Rattle.trace_audit.specs.Faults.{audit_fault}
 use Rattle.trace_audit.specs.Inner.Sorting.{IsSortingOf, put_row}
-use Rattle.trace_audit.specs.Line.{LogLine}
+use Rattle.trace_audit.specs.Logs.{LogLine}
 use Rattle.trace_audit.specs.Parsing.{AddsLines}
 use Rattle.trace_audit.specs.Rows.{is_misfit, with_row}
-use Rattle.trace_audit.specs.Trace.{Lines, no_lines, rows_of, fits}
+use Rattle.trace_audit.specs.Trace.{TraceData, no_trace_data, rows_of, fits}
 use Rattle.trace_audit.specs.declared.row.TraceRow.{TraceRow}
 use Rattle.trace_audit.specs.declared.row.TraceRow.TheVariants as row
 use Rattle.trace_audit.proofs.Explaining.{and_true}
@@ -18,7 +18,7 @@ use Rattle.trace_audit.proofs.Putting.{put_sorted, sorting_none}
 use Rattle.trace_audit.proofs.Refuting.{explains}
 
 -- two lists that explain a trace are the same
-pub one_list : (lines : Lines) (rows others : List LogRow) → IsExplainedBy rows lines → IsExplainedBy others lines → rows ≡ others
+pub one_list : (lines : TraceData) (rows others : List LogRow) → IsExplainedBy rows lines → IsExplainedBy others lines → rows ≡ others
 one_list lines rows others p q = same_rising row_stamp rows others p.rises q.rises (λ r i. q.all r (p.of_logs r i)) (λ r i. p.all r (q.of_logs r i))
 
 sorting_from : (all done rows : List LogRow) → IsSortingOf rows done → (sorted : List LogRow) × IsSortingOf sorted (done ++ all)
@@ -42,17 +42,17 @@ from_not : (b : Bool) → not b ≡ false → b ≡ true
 from_not true e = refl
 from_not false e = absurd (true≢false e)
 
-row_fits : (r : TraceRow) (old : Lines) → is_misfit r old ≡ false → Fit old.logs → Fit (with_row r old).logs
+row_fits : (r : TraceRow) (old : TraceData) → is_misfit r old ≡ false → Fit old.logs → Fit (with_row r old).logs
 row_fits (row.Log line) old e f = fit_push old.logs line f (from_not (fits line) e)
 row_fits (row.Span line) old e f = f
 row_fits (row.Queue line) old e f = f
 
-lines_fit : (texts : List (List ℕ)) (old new : Lines) → AddsLines texts old new → Fit old.logs → Fit new.logs
-lines_fit [] old new e f = subst (λ (z : Lines). Fit z.logs) (sym e) f
+lines_fit : (texts : List (List ℕ)) (old new : TraceData) → AddsLines texts old new → Fit old.logs → Fit new.logs
+lines_fit [] old new e f = subst (λ (z : TraceData). Fit z.logs) (sym e) f
 lines_fit (text ∷ texts) old new a f = lines_fit texts (with_row a.0 old) new a.3 (row_fits a.0 old a.2 f)
 
 -- where nothing speaks against a trace that lines add up to, some list explains it
-pub some_list : (texts : List (List ℕ)) (lines : Lines) → AddsLines texts no_lines lines → audit_fault lines ≡ None → (rows : List LogRow) × IsExplainedBy rows lines
+pub some_list : (texts : List (List ℕ)) (lines : TraceData) → AddsLines texts no_trace_data lines → audit_fault lines ≡ None → (rows : List LogRow) × IsExplainedBy rows lines
 some_list texts lines a none =
     let s = sorting_from (rows_of lines.logs) [] [] sorting_none in
-    (s.0, explains lines lines.logs s.0 refl (lines_fit texts no_lines lines a refl) none s.1)
+    (s.0, explains lines lines.logs s.0 refl (lines_fit texts no_trace_data lines a refl) none s.1)

@@ -5,7 +5,7 @@ use Rattle.std.proofs.lemmas.Bool.{cases_Bool}
 use Rattle.std.proofs.lemmas.Bool.Decides.{nat_tests}
 use Rattle.mcast_txn.specs.Lists.{In}
 use Rattle.mcast_txn.proofs.Members.{In-filter, In-filter_cases}
-use Rattle.trace_audit.specs.Report.{print_key, key_lt, has_key, NeverFalls}
+use Rattle.trace_audit.specs.PrintedRows.{print_key, key_lt, has_key, NeverFalls}
 use Rattle.trace_audit.specs.declared.row.TraceRow.{TraceRow}
 
 not_less : (a b c : ℕ × ℕ) → key_lt b a ≡ false → key_lt c b ≡ false → key_lt c a ≡ false

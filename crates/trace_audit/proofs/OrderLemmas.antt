@@ -13,9 +13,9 @@ use Rattle.mcast_txn.specs.declared.stamp.Stamp.{Stamp}
 use Rattle.mcast_txn.specs.Ids.{id_lt}
 use Rattle.mcast_txn.specs.Lists.{In}
 use Rattle.mcast_txn.specs.Stamp.{stamp_lt, zero_stamp}
-use Rattle.trace_audit.specs.Line.{LogLine}
+use Rattle.trace_audit.specs.Logs.{LogLine}
 use Rattle.trace_audit.specs.Inner.Chained.{Chained}
-use Rattle.trace_audit.specs.Inner.Orders.{shown}
+use Rattle.trace_audit.specs.Inner.Orders.{rows_of_refs}
 
 -- ---- orders as tests
 
@@ -54,15 +54,15 @@ stamp_rises a b = pair_lt a.n b.n a.topic.0 b.topic.0
 -- ---- what a sort moves
 
 -- lines behind references that a sort moved
-pub moved_shown : {X : Type 0} (logs : List X) (rows rows' : List (Bor X)) → shown rows ≡ logs → IsPermutation rows rows' → IsPermutation logs (shown rows')
-moved_shown logs rows rows' e p = subst (λ z. IsPermutation z (shown rows')) e (IsPermutation-map (λ r. r.now) rows rows' p)
+pub moved_shown : {X : Type 0} (logs : List X) (rows rows' : List (Bor X)) → rows_of_refs rows ≡ logs → IsPermutation rows rows' → IsPermutation logs (rows_of_refs rows')
+moved_shown logs rows rows' e p = subst (λ z. IsPermutation z (rows_of_refs rows')) e (IsPermutation-map (λ r. r.now) rows rows' p)
 
-shown_case : {X : Type 0} (p : X → Bool) (r : Bor X) (rows : List (Bor X)) (b : Bool) → filter p (shown rows) ≡ shown (filter (λ r. p r.now) rows) → cond b (r.now ∷ filter p (shown rows)) (filter p (shown rows)) ≡ shown (cond b (r ∷ filter (λ z. p z.now) rows) (filter (λ z. p z.now) rows))
+shown_case : {X : Type 0} (p : X → Bool) (r : Bor X) (rows : List (Bor X)) (b : Bool) → filter p (rows_of_refs rows) ≡ rows_of_refs (filter (λ r. p r.now) rows) → cond b (r.now ∷ filter p (rows_of_refs rows)) (filter p (rows_of_refs rows)) ≡ rows_of_refs (cond b (r ∷ filter (λ z. p z.now) rows) (filter (λ z. p z.now) rows))
 shown_case p r rows true e = ap (λ z. r.now ∷ z) e
 shown_case p r rows false e = e
 
 -- to filter what references show is to show the filtered references
-pub shown_filter : {X : Type 0} (p : X → Bool) (rows : List (Bor X)) → filter p (shown rows) ≡ shown (filter (λ r. p r.now) rows)
+pub shown_filter : {X : Type 0} (p : X → Bool) (rows : List (Bor X)) → filter p (rows_of_refs rows) ≡ rows_of_refs (filter (λ r. p r.now) rows)
 shown_filter p [] = refl
 shown_filter p (r ∷ rows) = shown_case p r rows (p r.now) (shown_filter p rows)
 
@@ -70,10 +70,10 @@ tied : (t u : ℕ) → (not (nat_lt t u) && not (nat_lt u t)) ≡ (u == t)
 tied t u = grind (arith, nat_tests)
 
 -- what has a key is kept in its order by a stable sort by that key
-pub kept_shown : {X : Type 0} (key : X → ℕ) (x : X) (logs : List X) (rows rows' : List (Bor X)) → shown rows ≡ logs → IsStableBy (λ a b. is_lt (nat_cmp (key a.now) (key b.now))) rows rows' → filter (λ line. key line == key x) (shown rows') ≡ filter (λ line. key line == key x) logs
+pub kept_shown : {X : Type 0} (key : X → ℕ) (x : X) (logs : List X) (rows rows' : List (Bor X)) → rows_of_refs rows ≡ logs → IsStableBy (λ a b. is_lt (nat_cmp (key a.now) (key b.now))) rows rows' → filter (λ line. key line == key x) (rows_of_refs rows') ≡ filter (λ line. key line == key x) logs
 kept_shown {X} key x logs rows rows' e stable =
     shown_filter at rows'
-    ∙ (ap shown (filter_agree (λ r. at r.now) (ties less here) same rows' ∙ (stable here ∙ sym (filter_agree (λ r. at r.now) (ties less here) same rows)))
+    ∙ (ap rows_of_refs (filter_agree (λ r. at r.now) (ties less here) same rows' ∙ (stable here ∙ sym (filter_agree (λ r. at r.now) (ties less here) same rows)))
     ∙ (sym (shown_filter at rows) ∙ ap (filter at) e))
   where
     at : X → Bool
@@ -102,11 +102,11 @@ chain_cons {X} R trans x y ys next rest = (below, rest)
     below z (inr i) = trans x y z next (rest.0 z i)
 
 -- where neighbours are in a transitive relation, each is to all later ones
-pub chain_shown : {X : Type 0} (R : X → X → Type 0) → ((x y z : X) → R x y → R y z → R x z) → (rows : List (Bor X)) → ((k : ℕ) (d : Bor X) → k + 1 < length rows → R (get_or rows k d).now (get_or rows (k + 1) d).now) → Chained R (shown rows)
+pub chain_shown : {X : Type 0} (R : X → X → Type 0) → ((x y z : X) → R x y → R y z → R x z) → (rows : List (Bor X)) → ((k : ℕ) (d : Bor X) → k + 1 < length rows → R (get_or rows k d).now (get_or rows (k + 1) d).now) → Chained R (rows_of_refs rows)
 chain_shown R trans [] h = tt
 chain_shown R trans (x ∷ []) h = ((λ y i. absurd i), tt)
 chain_shown R trans (x ∷ y ∷ ys) h =
-    chain_cons R trans x.now y.now (shown ys) (h 0 x (omega arith)) (chain_shown R trans (y ∷ ys) (λ k d l.
+    chain_cons R trans x.now y.now (rows_of_refs ys) (h 0 x (omega arith)) (chain_shown R trans (y ∷ ys) (λ k d l.
     let e : suc k + 1 ≡ suc (k + 1) = omega arith in
     subst (λ (n : ℕ). R (get_or (y ∷ ys) k d).now (get_or (x ∷ y ∷ ys) n d).now) e (h (suc k) d (omega arith))))
 

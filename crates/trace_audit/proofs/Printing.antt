@@ -7,14 +7,14 @@ use Rattle.std.specs.Ordering.{nat_cmp, ordering_then, is_lt}
 use Rattle.std.proofs.lemmas.Bool.{cases_Bool}
 use Rattle.std.proofs.lemmas.List.{append-nil}
 use Rattle.std.proofs.lemmas.Bool.Decides.{nat_tests}
-use Rattle.trace_audit.specs.Inner.Printing.{entry_row, part_after, left_after, IsLonger}
-use Rattle.trace_audit.specs.Report.{print_key, key_lt, has_key, NeverFalls, IsSortOf}
-use Rattle.trace_audit.specs.Text.{joined}
+use Rattle.trace_audit.specs.Inner.Printing.{row_of_ref, part_after, left_after, IsLonger}
+use Rattle.trace_audit.specs.PrintedRows.{print_key, key_lt, has_key, NeverFalls, IsSortOf}
+use Rattle.trace_audit.specs.Text.{joined_text}
 use Rattle.trace_audit.specs.declared.row.TraceRow.{TraceRow}
-use Rattle.trace_audit.specs.declared.text.entry.Entry.{Entry}
+use Rattle.trace_audit.specs.declared.text.row_ref.RowRef.{RowRef}
 
 -- the first text, and then the others
-joined_first : (b : ℕ) (t : List ℕ) (ts : List (List ℕ)) → joined b (t ∷ ts) ≡ t ++ left_after b false ts
+joined_first : (b : ℕ) (t : List ℕ) (ts : List (List ℕ)) → joined_text b (t ∷ ts) ≡ t ++ left_after b false ts
 joined_first b t [] = sym (append-nil t)
 joined_first b t (u ∷ ts) = ap (λ (z : List ℕ). t ++ b ∷ z) (joined_first b u ts)
 
@@ -44,13 +44,13 @@ longer_by old new newer more l e = record { more = l.more ++ more; grown = e ∙
 
 -- ---- sorting
 
--- an entry's key in a report
-abbrev pub entry_key : Entry → ℕ × ℕ
-entry_key e = print_key (entry_row e)
+-- the key in a report of a reference to a row
+abbrev pub key_of_ref : RowRef → ℕ × ℕ
+key_of_ref e = print_key (row_of_ref e)
 
 -- as pairs of numbers are compared
-abbrev pub entry_lt : Entry → Entry → Bool
-entry_lt a b = is_lt (ordering_then (nat_cmp (entry_key a).0 (entry_key b).0) (nat_cmp (entry_key a).1 (entry_key b).1))
+abbrev pub ref_lt : RowRef → RowRef → Bool
+ref_lt a b = is_lt (ordering_then (nat_cmp (key_of_ref a).0 (key_of_ref b).0) (nat_cmp (key_of_ref a).1 (key_of_ref b).1))
 
 tests_are : (p q r s : Bool) → is_lt (ordering_then (cond p Less (cond q Equal Greater)) (cond r Less (cond s Equal Greater))) ≡ (p || (q && r))
 tests_are true q r s = refl
@@ -59,10 +59,10 @@ tests_are false true false true = refl
 tests_are false true false false = refl
 tests_are false false r s = refl
 
-lt_is : (a b : Entry) → entry_lt a b ≡ key_lt (entry_key a) (entry_key b)
-lt_is a b = tests_are (nat_lt (entry_key a).0 (entry_key b).0) ((entry_key a).0 == (entry_key b).0) (nat_lt (entry_key a).1 (entry_key b).1) ((entry_key a).1 == (entry_key b).1)
+lt_is : (a b : RowRef) → ref_lt a b ≡ key_lt (key_of_ref a) (key_of_ref b)
+lt_is a b = tests_are (nat_lt (key_of_ref a).0 (key_of_ref b).0) ((key_of_ref a).0 == (key_of_ref b).0) (nat_lt (key_of_ref a).1 (key_of_ref b).1) ((key_of_ref a).1 == (key_of_ref b).1)
 
-never_falls : (ys : List Entry) → IsSortedBy entry_lt ys → NeverFalls (map entry_row ys)
+never_falls : (ys : List RowRef) → IsSortedBy ref_lt ys → NeverFalls (map row_of_ref ys)
 never_falls [] s = tt
 never_falls (x ∷ []) s = tt
 never_falls (x ∷ y ∷ ys) s = (
@@ -70,18 +70,18 @@ never_falls (x ∷ y ∷ ys) s = (
   never_falls (y ∷ ys) (λ k d low high. let e : suc k + 1 ≡ suc (k + 1) = omega arith in rw e at (s (suc k) d (omega arith) (omega arith))),
 )
 
-filter_map : (p : TraceRow → Bool) (ys : List Entry) → filter p (map entry_row ys) ≡ map entry_row (filter (λ y. p (entry_row y)) ys)
+filter_map : (p : TraceRow → Bool) (ys : List RowRef) → filter p (map row_of_ref ys) ≡ map row_of_ref (filter (λ y. p (row_of_ref y)) ys)
 filter_map p [] = refl
-filter_map p (y ∷ ys) = elim (cases_Bool (p (entry_row y))) [
+filter_map p (y ∷ ys) = elim (cases_Bool (p (row_of_ref y))) [
   | inl held ↦ rw (held, filter_map p ys) refl
   | inr not_held ↦ rw (not_held, filter_map p ys) refl
 ]
 
-filter_same : (p q : Entry → Bool) → ((y : Entry) → q y ≡ p y) → (ys : List Entry) → filter q ys ≡ filter p ys
+filter_same : (p q : RowRef → Bool) → ((y : RowRef) → q y ≡ p y) → (ys : List RowRef) → filter q ys ≡ filter p ys
 filter_same p q h [] = refl
 filter_same p q h (y ∷ ys) = rw (h y, filter_same p q h ys) refl
 
-found_or_none : (p : Entry → Bool) (xs : List Entry) → ((x : Entry) × (p x ≡ true)) ⊎ (filter p xs ≡ [])
+found_or_none : (p : RowRef → Bool) (xs : List RowRef) → ((x : RowRef) × (p x ≡ true)) ⊎ (filter p xs ≡ [])
 found_or_none p [] = inr refl
 found_or_none p (x ∷ xs) = elim (cases_Bool (p x)) [
   | inl held ↦ inl (x, held)
@@ -92,7 +92,7 @@ found_or_none p (x ∷ xs) = elim (cases_Bool (p x)) [
 ]
 
 -- what ties with each that passes a test is what passes it
-stable_at : (p : Entry → Bool) (xs ys : List Entry) → ((x : Entry) → p x ≡ true → (y : Entry) → ties entry_lt x y ≡ p y) → IsStableBy entry_lt xs ys → filter p ys ≡ filter p xs
+stable_at : (p : RowRef → Bool) (xs ys : List RowRef) → ((x : RowRef) → p x ≡ true → (y : RowRef) → ties ref_lt x y ≡ p y) → IsStableBy ref_lt xs ys → filter p ys ≡ filter p xs
 stable_at p xs ys h stable = elim (found_or_none p ys) [
   | inl f ↦ same f.0 f.1
   | inr none ↦ elim (found_or_none p xs) [
@@ -101,18 +101,18 @@ stable_at p xs ys h stable = elim (found_or_none p ys) [
   ]
 ]
   where
-    same : (x : Entry) → p x ≡ true → filter p ys ≡ filter p xs
-    same x held = sym (filter_same p (ties entry_lt x) (h x held) ys) ∙ stable x ∙ filter_same p (ties entry_lt x) (h x held) xs
+    same : (x : RowRef) → p x ≡ true → filter p ys ≡ filter p xs
+    same x held = sym (filter_same p (ties ref_lt x) (h x held) ys) ∙ stable x ∙ filter_same p (ties ref_lt x) (h x held) xs
 
 keys_tie : (k a b : ℕ × ℕ) → (a.0 == k.0 && a.1 == k.1) ≡ true → (not (key_lt a b) && not (key_lt b a)) ≡ (b.0 == k.0 && b.1 == k.1)
 keys_tie k a b e = grind (arith, nat_tests)
 
--- a stable sort of entries by key has their rows in a report's order
-pub is_sort_of : (xs ys : List Entry) → IsSortedBy entry_lt ys → IsStableBy entry_lt xs ys → IsSortOf (map entry_row ys) (map entry_row xs)
+-- a stable sort of references by key has their rows in a report's order
+pub is_sort_of : (xs ys : List RowRef) → IsSortedBy ref_lt ys → IsStableBy ref_lt xs ys → IsSortOf (map row_of_ref ys) (map row_of_ref xs)
 is_sort_of xs ys sorted stable = record {
   ordered = never_falls ys sorted;
   same = λ k.
-      let at = stable_at (λ y. has_key k (entry_row y)) xs ys
-      (λ x held y. rw (lt_is x y, lt_is y x) (keys_tie k (entry_key x) (entry_key y) held)) stable in
-      filter_map (has_key k) ys ∙ ap (map entry_row) at ∙ sym (filter_map (has_key k) xs);
+      let at = stable_at (λ y. has_key k (row_of_ref y)) xs ys
+      (λ x held y. rw (lt_is x y, lt_is y x) (keys_tie k (key_of_ref x) (key_of_ref y) held)) stable in
+      filter_map (has_key k) ys ∙ ap (map row_of_ref) at ∙ sym (filter_map (has_key k) xs);
 }

@@ -15,9 +15,9 @@ use Rattle.mcast_txn.specs.Stamp.{same_stamp, stamp_lt}
 use Rattle.mcast_txn.proofs.Members.{In-append_left, In-push, In-push_cases, In-map, In-map_cases, In-get_or, any_found, any_from}
 use Rattle.mcast_txn.proofs.Orders.{lt_irrefl, lt_asym, le_trans, same_stamps}
 use Rattle.mcast_txn.proofs.Sorting.{In-insert, In-insert_cases, Rises-insert}
-use Rattle.trace_audit.specs.Line.{LogLine}
+use Rattle.trace_audit.specs.Logs.{LogLine}
 use Rattle.trace_audit.specs.Inner.Chained.{Chained}
-use Rattle.trace_audit.specs.Inner.Orders.{shown, told, RisesByStamp}
+use Rattle.trace_audit.specs.Inner.Orders.{rows_of_refs, log_rows_of_refs, RisesByStamp}
 use Rattle.trace_audit.specs.Inner.Sorting.{IsSortingOf, IsAtLeast, put_row}
 use Rattle.trace_audit.specs.Trace.{rows_of}
 use Rattle.trace_audit.proofs.OrderLemmas.{chain_shown}
@@ -75,12 +75,12 @@ last_told s xs y up least e =
     ap (λ (z : LogRow). same_stamp z.stamp s) same ∙ last_is s xs (length xs - 1) y up least (omega arith)
 
 -- the same of the reference that `last` gives
-pub last_shown : (s : Stamp) (rows : List (Bor LogLine)) (y : Bor LogLine) → Rises row_stamp (told rows) → IsAtLeast s (told rows) → Some y ≡ slice_get rows (length rows - 1) → same_stamp y.now.row.stamp s ≡ list_any (λ own. same_stamp own.stamp s) (told rows)
+pub last_shown : (s : Stamp) (rows : List (Bor LogLine)) (y : Bor LogLine) → Rises row_stamp (log_rows_of_refs rows) → IsAtLeast s (log_rows_of_refs rows) → Some y ≡ slice_get rows (length rows - 1) → same_stamp y.now.row.stamp s ≡ list_any (λ own. same_stamp own.stamp s) (log_rows_of_refs rows)
 last_shown s rows y up least e =
-    last_told s (told rows) y.now.row up least
+    last_told s (log_rows_of_refs rows) y.now.row up least
     (ap (λ (o : Option (Bor LogLine)). option_map (λ (r : Bor LogLine). r.now.row) o) e
     ∙ (sym (slice_get-map (λ (r : Bor LogLine). r.now.row) rows (length rows - 1))
-    ∙ ap (λ (n : ℕ). slice_get (told rows) (n - 1)) (sym (length-map rows (λ (r : Bor LogLine). r.now.row)))))
+    ∙ ap (λ (n : ℕ). slice_get (log_rows_of_refs rows) (n - 1)) (sym (length-map rows (λ (r : Bor LogLine). r.now.row)))))
 
 -- a row above all others, of a stamp that none has
 pub put_last : (r : LogRow) (xs : List LogRow) → IsAtLeast r.stamp xs → list_any (λ own. same_stamp own.stamp r.stamp) xs ≡ false → put_row r xs ≡ xs ++ r ∷ []
@@ -144,17 +144,17 @@ row_moved logs lines q p i =
     subst (λ (z : LogRow). In z (rows_of lines)) m.is (In-map (λ (l : LogLine). l.row) m.from lines (In_moved logs lines m.from p m.stands))
 
 -- one row more
-pub one_shown : (rows : List (Bor LogLine)) (i : ℕ) (d : Bor LogLine) → i < length rows → d ≡ get_or rows i d → rows_of (shown (take (i + 1) rows)) ≡ rows_of (shown (take i rows)) ++ d.now.row ∷ []
+pub one_shown : (rows : List (Bor LogLine)) (i : ℕ) (d : Bor LogLine) → i < length rows → d ≡ get_or rows i d → rows_of (rows_of_refs (take (i + 1) rows)) ≡ rows_of (rows_of_refs (take i rows)) ++ d.now.row ∷ []
 one_shown rows i d l e =
-    ap (λ z. rows_of (shown z)) (take_more rows i d l)
+    ap (λ z. rows_of (rows_of_refs z)) (take_more rows i d l)
     ∙ (ap rows_of (map-append (λ (z : Bor LogLine). z.now) (take i rows) (get_or rows i d ∷ []))
-    ∙ (map-append (λ (z : LogLine). z.row) (shown (take i rows)) ((get_or rows i d).now ∷ [])
-    ∙ ap (λ (z : Bor LogLine). rows_of (shown (take i rows)) ++ z.now.row ∷ []) (sym e)))
+    ∙ (map-append (λ (z : LogLine). z.row) (rows_of_refs (take i rows)) ((get_or rows i d).now ∷ [])
+    ∙ ap (λ (z : Bor LogLine). rows_of (rows_of_refs (take i rows)) ++ z.now.row ∷ []) (sym e)))
 
 abbrev NotAbove : LogLine → LogLine → Type 0
 NotAbove x y = stamp_lt y.row.stamp x.row.stamp ≡ false
 
-below_chain : (rows : List (Bor LogLine)) (i : ℕ) (d : Bor LogLine) → Chained NotAbove (shown rows) → i < length rows → (q : LogRow) → In q (rows_of (shown (take i rows))) → stamp_lt (get_or rows i d).now.row.stamp q.stamp ≡ false
+below_chain : (rows : List (Bor LogLine)) (i : ℕ) (d : Bor LogLine) → Chained NotAbove (rows_of_refs rows) → i < length rows → (q : LogRow) → In q (rows_of (rows_of_refs (take i rows))) → stamp_lt (get_or rows i d).now.row.stamp q.stamp ≡ false
 below_chain [] i d c l q k = absurd (omega arith)
 below_chain (x ∷ xs) zero d c l q k = absurd k
 below_chain (x ∷ xs) (suc i) d c l q (inl e) =
@@ -162,7 +162,7 @@ below_chain (x ∷ xs) (suc i) d c l q (inl e) =
 below_chain (x ∷ xs) (suc i) d c l q (inr k) = below_chain xs i d c.1 (omega arith) q k
 
 -- rows before one in the order by stamp aren't above it
-pub taken_below : (rows : List (Bor LogLine)) (i : ℕ) (d : Bor LogLine) → RisesByStamp rows → i < length rows → d ≡ get_or rows i d → (q : LogRow) → In q (rows_of (shown (take i rows))) → stamp_lt d.now.row.stamp q.stamp ≡ false
+pub taken_below : (rows : List (Bor LogLine)) (i : ℕ) (d : Bor LogLine) → RisesByStamp rows → i < length rows → d ≡ get_or rows i d → (q : LogRow) → In q (rows_of (rows_of_refs (take i rows))) → stamp_lt d.now.row.stamp q.stamp ≡ false
 taken_below rows i d up l e q k =
     subst (λ (z : Bor LogLine). stamp_lt z.now.row.stamp q.stamp ≡ false) (sym e)
     (below_chain rows i d (chain_shown NotAbove (λ x y z p r. le_trans x.row.stamp y.row.stamp z.row.stamp p r) rows (λ j f m. up j f (omega arith) m)) l q k)

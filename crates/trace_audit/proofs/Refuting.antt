@@ -17,10 +17,10 @@ use Rattle.mcast_txn.proofs.Members.{In-map, In-map_cases, In-filter, any_found,
 use Rattle.mcast_txn.proofs.Orders.{lt_irrefl, lt_trans, le_trans, id_itself, id_same, id_turned}
 use Rattle.mcast_txn.proofs.Sorting.{Rises-filter, one_member}
 use Rattle.trace_audit.specs.Explained.{IsExplainedBy, IsCompleteBy}
-use Rattle.trace_audit.specs.Faults.{differ, collide, overtake, some_two, falls, out_of_order, log_has_row, reaches, is_hole, holes, same_mark, is_astray, astray, least, audit_fault, is_whole}
-use Rattle.trace_audit.specs.Line.{LogLine}
-use Rattle.trace_audit.specs.Trace.{Lines, rows_of, log_of, queue_of, marks_in, fits}
-use Rattle.trace_audit.specs.declared.mark.Mark.{Mark}
+use Rattle.trace_audit.specs.Faults.{are_different, are_colliding, are_disordered, some_two, are_falling, is_out_of_order, log_has_row, log_has_row_from, is_hole, holes, same_mark, is_astray, astray_subs, least, audit_fault, is_whole}
+use Rattle.trace_audit.specs.Logs.{LogLine}
+use Rattle.trace_audit.specs.Trace.{TraceData, rows_of, log_of, queue_of, marks_in, fits}
+use Rattle.mcast_txn.specs.declared.mark.Mark.{Mark}
 use Rattle.trace_audit.specs.declared.row.SpanRow.{SpanRow}
 use Rattle.trace_audit.specs.Answers.{IsRefusal}
 use Rattle.trace_audit.specs.Inner.Sorting.{IsSortingOf}
@@ -96,10 +96,10 @@ seq_below (x ∷ xs) a b up sq (inr h) (inr k) l e = seq_below xs a b up.1 sq.1 
 
 -- ---- the first four
 
-not_differ : (rows : List LogRow) (a b : LogRow) → SenderOrder row_id rows → In a rows → In b rows → differ a b ≡ false
-not_differ rows a b sq i j = refuted (differ a b) go
+not_differ : (rows : List LogRow) (a b : LogRow) → SenderOrder row_id rows → In a rows → In b rows → are_different a b ≡ false
+not_differ rows a b sq i j = refuted (are_different a b) go
   where
-    go : differ a b ≡ true → Prim.⊥
+    go : are_different a b ≡ true → Prim.⊥
     go h =
         let p = and_parts (same_id a.id b.id) (not (same_stamp a.stamp b.stamp && pointwise (λ (t u : Topic). t.0 == u.0) a.topics b.topics)) h in
         let e : a ≡ b = one_by_id rows a b sq i j p.0 in
@@ -108,19 +108,19 @@ not_differ rows a b sq i j = refuted (differ a b) go
         (and_true (same_stamp a.stamp a.stamp) _ (stamp_itself a.stamp) (topics_itself a.topics)) in
         true≢false (sym k ∙ not_false _ p.1)
 
-not_collide : (rows : List LogRow) (a b : LogRow) → Rises row_stamp rows → In a rows → In b rows → collide a b ≡ false
-not_collide rows a b up i j = refuted (collide a b) go
+not_collide : (rows : List LogRow) (a b : LogRow) → Rises row_stamp rows → In a rows → In b rows → are_colliding a b ≡ false
+not_collide rows a b up i j = refuted (are_colliding a b) go
   where
-    go : collide a b ≡ true → Prim.⊥
+    go : are_colliding a b ≡ true → Prim.⊥
     go h =
         let p = and_parts (not (same_id a.id b.id)) (same_stamp a.stamp b.stamp) h in
         let e : a ≡ b = one_member row_stamp rows a b up i j (stamps_equal a.stamp b.stamp p.1) in
         true≢false (sym (id_same a.id b.id (ap (λ (z : LogRow). z.id) e)) ∙ not_false (same_id a.id b.id) p.0)
 
-not_overtake : (rows : List LogRow) (a b : LogRow) → Rises row_stamp rows → SenderOrder row_id rows → In a rows → In b rows → overtake a b ≡ false
-not_overtake rows a b up sq i j = refuted (overtake a b) go
+not_overtake : (rows : List LogRow) (a b : LogRow) → Rises row_stamp rows → SenderOrder row_id rows → In a rows → In b rows → are_disordered a b ≡ false
+not_overtake rows a b up sq i j = refuted (are_disordered a b) go
   where
-    go : overtake a b ≡ true → Prim.⊥
+    go : are_disordered a b ≡ true → Prim.⊥
     go h =
         let p = and_parts (a.id.sender.0 == b.id.sender.0) (stamp_lt a.stamp b.stamp && not (nat_lt a.id.seq b.id.seq)) h in
         let q = and_parts (stamp_lt a.stamp b.stamp) (not (nat_lt a.id.seq b.id.seq)) p.1 in
@@ -136,13 +136,13 @@ head_below t x xs true e up = up.0
 head_below t x xs false e up = absurd (false≢true e)
 
 -- logs that rise are in order
-pub in_order : (logs : List LogLine) → ((t : Topic) → Rises row_stamp (log_of t logs)) → out_of_order logs ≡ false
+pub in_order : (logs : List LogLine) → ((t : Topic) → Rises row_stamp (log_of t logs)) → is_out_of_order logs ≡ false
 in_order [] up = refl
 in_order (x ∷ xs) up =
-    rw (none_any (λ (y : LogLine). falls x y) xs (λ y i. refuted (falls x y) (go y i)))
+    rw (none_any (λ (y : LogLine). are_falling x y) xs (λ y i. refuted (are_falling x y) (go y i)))
     (in_order xs (λ t. tail_rises t x xs (x.topic.0 == t.0) (up t)))
   where
-    go : (y : LogLine) → In y xs → falls x y ≡ true → Prim.⊥
+    go : (y : LogLine) → In y xs → are_falling x y ≡ true → Prim.⊥
     go y i h =
         let p = and_parts (x.topic.0 == y.topic.0) (not (stamp_lt x.row.stamp y.row.stamp)) h in
         let same : (y.topic.0 == x.topic.0) ≡ true = eq-eqb y.topic.0 x.topic.0 (sym (eqb-true x.topic.0 y.topic.0 p.0)) in
@@ -153,7 +153,7 @@ in_order (x ∷ xs) up =
 nonempty : {X : Type 0} (x : X) (xs : List X) → In x xs → xs ≢ []
 nonempty x xs i e = subst (In x) e i
 
-logs_rise : (lines : Lines) (rows : List LogRow) → IsExplainedBy rows lines → (t : Topic) → Rises row_stamp (log_of t lines.logs)
+logs_rise : (lines : TraceData) (rows : List LogRow) → IsExplainedBy rows lines → (t : Topic) → Rises row_stamp (log_of t lines.logs)
 logs_rise lines rows ex t = go (log_of t lines.logs) refl
   where
     go : (log : List LogRow) → log_of t lines.logs ≡ log → Rises row_stamp (log_of t lines.logs)
@@ -172,12 +172,12 @@ has_from t q logs i =
     (and_true (m.line.topic.0 == t.0) (same_id m.line.row.id q.id) m.topic
     (id_same m.line.row.id q.id (ap (λ (z : LogRow). z.id) m.is)))
 
-not_hole : (lines : Lines) (rows : List LogRow) → IsExplainedBy rows lines → (q : LogRow) (t : Topic) → In q (rows_of lines.logs) → names t q.topics ≡ true → is_hole lines.logs q t ≡ false
+not_hole : (lines : TraceData) (rows : List LogRow) → IsExplainedBy rows lines → (q : LogRow) (t : Topic) → In q (rows_of lines.logs) → names t q.topics ≡ true → is_hole lines.logs q t ≡ false
 not_hole lines rows ex q t i n = refuted (is_hole lines.logs q t) go
   where
     go : is_hole lines.logs q t ≡ true → Prim.⊥
     go h =
-        let p = and_parts (not (log_has_row t q.id lines.logs)) (reaches t q.stamp lines.logs) h in
+        let p = and_parts (not (log_has_row t q.id lines.logs)) (log_has_row_from t q.stamp lines.logs) h in
         let f = any_found (λ (line : LogLine). line.topic.0 == t.0 && not (stamp_lt line.row.stamp q.stamp)) lines.logs p.1 in
         let r = and_parts (f.it.topic.0 == t.0) (not (stamp_lt f.it.row.stamp q.stamp)) f.passes in
         let in_t = in_log t f.it lines.logs f.stands r.0 in
@@ -198,7 +198,7 @@ flat_none f (x ∷ xs) h = rw (h x (inl refl)) (flat_none f xs (λ y k. h y (inr
 pub named_by : (t : Topic) (topics : List Topic) → In t topics → names t topics ≡ true
 named_by t topics i = any_from (λ (u : Topic). u.0 == t.0) t topics i (eq-eqb t.0 t.0 refl)
 
-no_holes : (lines : Lines) (rows : List LogRow) → IsExplainedBy rows lines → least (holes lines.logs) ≡ None
+no_holes : (lines : TraceData) (rows : List LogRow) → IsExplainedBy rows lines → least (holes lines.logs) ≡ None
 no_holes lines rows ex =
     let e : holes lines.logs ≡ [] = flat_none (λ (l : LogLine). map (λ (u : Topic). u.0) (filter (λ (u : Topic). is_hole lines.logs l.row u) l.row.topics)) lines.logs
     (λ l i. ap (map (λ (u : Topic). u.0)) (filter_none (λ (u : Topic). is_hole lines.logs l.row u) l.row.topics
@@ -211,32 +211,32 @@ marks_itself (m ∷ ms) =
     and_true (same_mark m m) (pointwise same_mark ms ms)
     (and_true (same_id m.id m.id) (same_stamp m.stamp m.stamp) (id_itself m.id) (stamp_itself m.stamp)) (marks_itself ms)
 
-not_astray : (lines : Lines) (rows : List LogRow) → IsExplainedBy rows lines → (line : SpanRow) → In line lines.spans → is_astray lines line ≡ false
+not_astray : (lines : TraceData) (rows : List LogRow) → IsExplainedBy rows lines → (line : SpanRow) → In line lines.spans → is_astray lines line ≡ false
 not_astray lines rows ex line i =
     let e : pointwise same_mark (queue_of line.sub lines.queues) (marks_in line lines.logs) ≡ true =
     subst (λ (z : List Mark). pointwise same_mark (queue_of line.sub lines.queues) z ≡ true) (ex.queues line i) (marks_itself (queue_of line.sub lines.queues)) in
     rw e refl
 
-none_astray : (lines : Lines) (rows : List LogRow) → IsExplainedBy rows lines → least (astray lines) ≡ None
+none_astray : (lines : TraceData) (rows : List LogRow) → IsExplainedBy rows lines → least (astray_subs lines) ≡ None
 none_astray lines rows ex =
-    let e : astray lines ≡ [] = ap (map (λ (l : SpanRow). l.sub)) (filter_none (λ (l : SpanRow). is_astray lines l) lines.spans (not_astray lines rows ex)) in
+    let e : astray_subs lines ≡ [] = ap (map (λ (l : SpanRow). l.sub)) (filter_none (λ (l : SpanRow). is_astray lines l) lines.spans (not_astray lines rows ex)) in
     ap least e
 
 -- ---- all of it
 
 -- no test of a trace that is explained holds
-pub unrefuted : (lines : Lines) (rows : List LogRow) → IsExplainedBy rows lines → IsClean lines
+pub unrefuted : (lines : TraceData) (rows : List LogRow) → IsExplainedBy rows lines → IsClean lines
 unrefuted lines rows ex = record {
-  verdicts = no_two differ lines.logs (λ a b i j. not_differ rows a b ex.senders (ex.all a i) (ex.all b j));
-  stamps = no_two collide lines.logs (λ a b i j. not_collide rows a b ex.rises (ex.all a i) (ex.all b j));
+  verdicts = no_two are_different lines.logs (λ a b i j. not_differ rows a b ex.senders (ex.all a i) (ex.all b j));
+  stamps = no_two are_colliding lines.logs (λ a b i j. not_collide rows a b ex.rises (ex.all a i) (ex.all b j));
   order = in_order lines.logs (logs_rise lines rows ex);
-  senders = no_two overtake lines.logs (λ a b i j. not_overtake rows a b ex.rises ex.senders (ex.all a i) (ex.all b j));
+  senders = no_two are_disordered lines.logs (λ a b i j. not_overtake rows a b ex.rises ex.senders (ex.all a i) (ex.all b j));
   holes = no_holes lines rows ex;
   queues = none_astray lines rows ex;
 }
 
 -- no fault is found of a trace that is explained
-pub faultless : (lines : Lines) (rows : List LogRow) → IsExplainedBy rows lines → audit_fault lines ≡ None
+pub faultless : (lines : TraceData) (rows : List LogRow) → IsExplainedBy rows lines → audit_fault lines ≡ None
 faultless lines rows ex =
     let c = unrefuted lines rows ex in
     rw (c.verdicts, c.stamps, c.order, c.senders, c.holes, c.queues) refl
@@ -249,7 +249,7 @@ all_true p [] h = refl
 all_true p (x ∷ xs) h = and_true (p x) (list_all p xs) (h x (inl refl)) (all_true p xs (λ y k. h y (inr k)))
 
 -- where each row is in the log of each of its topics, what explains the trace is complete
-pub complete : (lines : Lines) (rows : List LogRow) → IsExplainedBy rows lines → is_whole lines.logs ≡ true → IsCompleteBy rows lines
+pub complete : (lines : TraceData) (rows : List LogRow) → IsExplainedBy rows lines → is_whole lines.logs ≡ true → IsCompleteBy rows lines
 complete lines rows ex h q t i n =
     let j = ex.of_logs q i in
     let m = In-map_cases (λ (l : LogLine). l.row) q lines.logs j in
@@ -259,7 +259,7 @@ complete lines rows ex h q t i n =
     row_in_log t q lines.logs (unrefuted lines rows ex).verdicts j (subst (λ (z : LogRow). log_has_row t z.id lines.logs ≡ true) m.is there)
 
 -- where what explains the trace is complete, each row is in the log of each of its topics
-pub completed : (lines : Lines) (rows : List LogRow) → IsExplainedBy rows lines → IsCompleteBy rows lines → is_whole lines.logs ≡ true
+pub completed : (lines : TraceData) (rows : List LogRow) → IsExplainedBy rows lines → IsCompleteBy rows lines → is_whole lines.logs ≡ true
 completed lines rows ex h =
     all_true (λ (l : LogLine). list_all (λ (u : Topic). log_has_row u l.row.id lines.logs) l.row.topics) lines.logs
     (λ l i. all_true (λ (u : Topic). log_has_row u l.row.id lines.logs) l.row.topics
@@ -272,14 +272,14 @@ none_is : (f : AuditFault) → None ≡ Some f → Prim.⊥
 none_is f e = cc
 
 -- the first that speaks against a trace is its refusal: no list explains it
-pub refuses : (lines : Lines) (fault : AuditFault) → audit_fault lines ≡ Some fault → IsRefusal fault lines
+pub refuses : (lines : TraceData) (fault : AuditFault) → audit_fault lines ≡ Some fault → IsRefusal fault lines
 refuses lines fault e = record {
   first = e;
   unexplained = λ rows ex. none_is fault (sym (faultless lines rows ex) ∙ e);
 }
 
 -- where nothing speaks against a trace, its sorted rows explain it
-pub explains : (lines : Lines) (logs : List LogLine) (rows : List LogRow) → logs ≡ lines.logs → list_all (λ (line : LogLine). fits line) logs ≡ true → audit_fault lines ≡ None → IsSortingOf rows (rows_of logs) → IsExplainedBy rows lines
+pub explains : (lines : TraceData) (logs : List LogLine) (rows : List LogRow) → logs ≡ lines.logs → list_all (λ (line : LogLine). fits line) logs ≡ true → audit_fault lines ≡ None → IsSortingOf rows (rows_of logs) → IsExplainedBy rows lines
 explains lines logs rows same fit none sorting =
     explained lines rows (subst (λ (z : List LogLine). list_all (λ (line : LogLine). fits line) z ≡ true) same fit) (clean lines none)
     (subst (λ (z : List LogLine). IsSortingOf rows (rows_of z)) same sorting)

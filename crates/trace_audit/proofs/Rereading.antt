@@ -7,13 +7,13 @@ use Rattle.mcast_txn.specs.declared.id.Topic.{Topic}
 use Rattle.mcast_txn.specs.declared.id.TxnId.{TxnId}
 use Rattle.mcast_txn.specs.declared.stamp.Stamp.{Stamp}
 use Rattle.mcast_txn.specs.Lists.{In}
-use Rattle.trace_audit.specs.Line.{LogLine}
+use Rattle.trace_audit.specs.Logs.{LogLine}
 use Rattle.trace_audit.specs.Parsing.{lines_of, AddsLines}
-use Rattle.trace_audit.specs.Report.{rows_in, print_key, has_key, text_of, IsReport}
+use Rattle.trace_audit.specs.PrintedRows.{rows_in, print_key, has_key, text_of, IsReport}
 use Rattle.trace_audit.specs.Rereading.{AddsRows, AreAlike, PrintedIsRead, SortedIsReadAsItself}
 use Rattle.trace_audit.specs.Rows.{is_misfit, with_row}
 use Rattle.trace_audit.specs.Text.{row_text, id_text, stamp_text, end_text, topics_text, IsTopicInRange, IsIdInRange, IsStampInRange, IsRowInRange}
-use Rattle.trace_audit.specs.Trace.{Lines, no_lines, queue_mark, rows_of, has_span}
+use Rattle.trace_audit.specs.Trace.{TraceData, no_trace_data, queue_mark, rows_of, has_span}
 use Rattle.trace_audit.specs.declared.row.SpanRow.{SpanRow}
 use Rattle.trace_audit.specs.declared.row.QueueRow.{QueueRow}
 use Rattle.trace_audit.specs.declared.row.TraceRow.{TraceRow}
@@ -24,20 +24,20 @@ use Rattle.trace_audit.proofs.Spelling.{number_without}
 
 -- ---- rows that fit, whatever they lead to
 
-abbrev Fit : List TraceRow → Lines → Type 0
+abbrev Fit : List TraceRow → TraceData → Type 0
 Fit [] old = Unit {0}
 Fit (r ∷ rows) old = (is_misfit r old ≡ false) × Fit rows (with_row r old)
 
-abbrev after : List TraceRow → Lines → Lines
+abbrev after : List TraceRow → TraceData → TraceData
 after [] old = old
 after (r ∷ rows) old = after rows (with_row r old)
 
-fit_from : (rows : List TraceRow) (old new : Lines) → AddsRows rows old new → Fit rows old × (new ≡ after rows old)
+fit_from : (rows : List TraceRow) (old new : TraceData) → AddsRows rows old new → Fit rows old × (new ≡ after rows old)
 fit_from [] old new a = (tt, a)
 fit_from (r ∷ rows) old new a = let f = fit_from rows (with_row r old) new a.1 in ((a.0, f.0), f.1)
 
 -- two traces have a span of the key's subscription, or neither has
-abbrev Agree : ℕ × ℕ → Lines → Lines → Type 0
+abbrev Agree : ℕ × ℕ → TraceData → TraceData → Type 0
 Agree key a b = key.0 ≡ 1 → has_span key.1 a.spans ≡ has_span key.1 b.spans
 
 span_more : (sub : ℕ) (spans : List SpanRow) (s : SpanRow) → has_span sub (spans ++ s ∷ []) ≡ (has_span sub spans || s.sub == sub)
@@ -56,12 +56,12 @@ or_none : (b : Bool) → (b || false) ≡ b
 or_none true = refl
 or_none false = refl
 
-both_agree : (key : ℕ × ℕ) (r : TraceRow) (a b : Lines) → Agree key a b → Agree key (with_row r a) (with_row r b)
+both_agree : (key : ℕ × ℕ) (r : TraceRow) (a b : TraceData) → Agree key a b → Agree key (with_row r a) (with_row r b)
 both_agree key (row.Log l) a b h = h
 both_agree key (row.Span s) a b h = λ e. rw (span_more key.1 a.spans s, span_more key.1 b.spans s, h e) refl
 both_agree key (row.Queue q) a b h = h
 
-one_agrees : (key : ℕ × ℕ) (r : TraceRow) (a b : Lines) → has_key key r ≡ false → Agree key a b → Agree key (with_row r a) b
+one_agrees : (key : ℕ × ℕ) (r : TraceRow) (a b : TraceData) → has_key key r ≡ false → Agree key a b → Agree key (with_row r a) b
 one_agrees key (row.Log l) a b other h = h
 one_agrees key (row.Span s) a b other h = λ e.
     let o : (s.sub == key.1) ≡ false = not_second (1 == key.0) (s.sub == key.1) (eq-eqb 1 key.0 (sym e)) other in
@@ -72,7 +72,7 @@ one_agrees key (row.Span s) a b other h = λ e.
     not_second false b e h = absurd cc
 one_agrees key (row.Queue q) a b other h = h
 
-fits_alike : (key : ℕ × ℕ) (r : TraceRow) (a b : Lines) → has_key key r ≡ true → Agree key a b → is_misfit r a ≡ is_misfit r b
+fits_alike : (key : ℕ × ℕ) (r : TraceRow) (a b : TraceData) → has_key key r ≡ true → Agree key a b → is_misfit r a ≡ is_misfit r b
 fits_alike key (row.Log l) a b at h = refl
 fits_alike key (row.Span s) a b at h =
     let p = and_parts (1 == key.0) (s.sub == key.1) at in
@@ -82,7 +82,7 @@ fits_alike key (row.Queue q) a b at h =
     rw (eqb-true q.sub key.1 p.1) (ap not (h (sym (eqb-true 1 key.0 p.0))))
 
 -- the rows of one key fit alone
-part_fits : (key : ℕ × ℕ) (rows : List TraceRow) (a b : Lines) → Agree key a b → Fit rows a → Fit (filter (has_key key) rows) b
+part_fits : (key : ℕ × ℕ) (rows : List TraceRow) (a b : TraceData) → Agree key a b → Fit rows a → Fit (filter (has_key key) rows) b
 part_fits key [] a b h f = tt
 part_fits key (r ∷ rows) a b h f = elim (cases_Bool (has_key key r)) [
   | inl at ↦ rw at (sym (fits_alike key r a b at h) ∙ f.0, part_fits key rows (with_row r a) (with_row r b) (both_agree key r a b h) f.1)
@@ -96,7 +96,7 @@ filter_twice p (r ∷ rows) = elim (cases_Bool (p r)) [
   | inr other ↦ rw other (filter_twice p rows)
 ]
 
-part_moves : (key : ℕ × ℕ) (rows : List TraceRow) (a b : Lines) → Agree key a b → Fit (filter (has_key key) rows) a → Fit (filter (has_key key) rows) b
+part_moves : (key : ℕ × ℕ) (rows : List TraceRow) (a b : TraceData) → Agree key a b → Fit (filter (has_key key) rows) a → Fit (filter (has_key key) rows) b
 part_moves key rows a b h f = subst (λ (z : List TraceRow). Fit z b) (filter_twice (has_key key) rows) (part_fits key (filter (has_key key) rows) a b h f)
 
 own_key : (r : TraceRow) → has_key (print_key r) r ≡ true
@@ -104,16 +104,16 @@ own_key (row.Log l) = rw (eq-eqb l.topic.0 l.topic.0 refl) refl
 own_key (row.Span s) = rw (eq-eqb s.sub s.sub refl) refl
 own_key (row.Queue q) = rw (eq-eqb q.sub q.sub refl) refl
 
-kept : (b : Bool) (r : TraceRow) (rows : List TraceRow) (old : Lines) → b ≡ true → Fit (cond b (r ∷ rows) rows) old → (is_misfit r old ≡ false) × Fit rows (with_row r old)
+kept : (b : Bool) (r : TraceRow) (rows : List TraceRow) (old : TraceData) → b ≡ true → Fit (cond b (r ∷ rows) rows) old → (is_misfit r old ≡ false) × Fit rows (with_row r old)
 kept true r rows old e f = f
 kept false r rows old e f = absurd cc
 
-dropped : (b : Bool) (r : TraceRow) (rows : List TraceRow) (old : Lines) → b ≡ false → Fit (cond b (r ∷ rows) rows) old → Fit rows old
+dropped : (b : Bool) (r : TraceRow) (rows : List TraceRow) (old : TraceData) → b ≡ false → Fit (cond b (r ∷ rows) rows) old → Fit rows old
 dropped true r rows old e f = absurd cc
 dropped false r rows old e f = f
 
 -- rows fit where those of each key do
-whole_fits : (rows : List TraceRow) (old : Lines) → ((key : ℕ × ℕ) → Fit (filter (has_key key) rows) old) → Fit rows old
+whole_fits : (rows : List TraceRow) (old : TraceData) → ((key : ℕ × ℕ) → Fit (filter (has_key key) rows) old) → Fit rows old
 whole_fits [] old h = tt
 whole_fits (r ∷ rows) old h =
     let mine = kept (has_key (print_key r) r) r (filter (has_key (print_key r)) rows) old (own_key r) (h (print_key r)) in (
@@ -148,19 +148,19 @@ nothing_more : {X : Type 0} (xs : List X) → xs ≡ xs ++ []
 nothing_more [] = refl
 nothing_more (x ∷ xs) = ap (λ z. x ∷ z) (nothing_more xs)
 
-logs_after : (rows : List TraceRow) (old : Lines) → (after rows old).logs ≡ old.logs ++ logs_of rows
+logs_after : (rows : List TraceRow) (old : TraceData) → (after rows old).logs ≡ old.logs ++ logs_of rows
 logs_after [] old = nothing_more old.logs
 logs_after (row.Log l ∷ rows) old = logs_after rows (with_row (row.Log l) old) ∙ append_assoc old.logs (l ∷ []) (logs_of rows)
 logs_after (row.Span s ∷ rows) old = logs_after rows (with_row (row.Span s) old)
 logs_after (row.Queue q ∷ rows) old = logs_after rows (with_row (row.Queue q) old)
 
-spans_after : (rows : List TraceRow) (old : Lines) → (after rows old).spans ≡ old.spans ++ spans_of rows
+spans_after : (rows : List TraceRow) (old : TraceData) → (after rows old).spans ≡ old.spans ++ spans_of rows
 spans_after [] old = nothing_more old.spans
 spans_after (row.Log l ∷ rows) old = spans_after rows (with_row (row.Log l) old)
 spans_after (row.Span s ∷ rows) old = spans_after rows (with_row (row.Span s) old) ∙ append_assoc old.spans (s ∷ []) (spans_of rows)
 spans_after (row.Queue q ∷ rows) old = spans_after rows (with_row (row.Queue q) old)
 
-queues_after : (rows : List TraceRow) (old : Lines) → (after rows old).queues ≡ old.queues ++ queues_of rows
+queues_after : (rows : List TraceRow) (old : TraceData) → (after rows old).queues ≡ old.queues ++ queues_of rows
 queues_after [] old = nothing_more old.queues
 queues_after (row.Log l ∷ rows) old = queues_after rows (with_row (row.Log l) old)
 queues_after (row.Span s ∷ rows) old = queues_after rows (with_row (row.Span s) old)
@@ -258,28 +258,28 @@ queues_there : (xs : List QueueRow) → queues_of (map (λ (q : QueueRow). row.Q
 queues_there [] = refl
 queues_there (q ∷ xs) = ap (λ (z : List QueueRow). q ∷ z) (queues_there xs)
 
-abbrev log_rows : Lines → List TraceRow
+abbrev log_rows : TraceData → List TraceRow
 log_rows trace = map (λ (l : LogLine). row.Log l) trace.logs
 
-abbrev span_rows : Lines → List TraceRow
+abbrev span_rows : TraceData → List TraceRow
 span_rows trace = map (λ (s : SpanRow). row.Span s) trace.spans
 
-abbrev queue_rows : Lines → List TraceRow
+abbrev queue_rows : TraceData → List TraceRow
 queue_rows trace = map (λ (q : QueueRow). row.Queue q) trace.queues
 
-logs_in : (trace : Lines) → logs_of (rows_in trace) ≡ trace.logs
+logs_in : (trace : TraceData) → logs_of (rows_in trace) ≡ trace.logs
 logs_in trace =
     logs_append (log_rows trace ++ span_rows trace) (queue_rows trace)
     ∙ ap (λ (z : List LogLine). z ++ logs_of (queue_rows trace)) (logs_append (log_rows trace) (span_rows trace))
     ∙ rw (logs_there trace.logs, logs_not_spans trace.spans, logs_not_queues trace.queues) (sym (nothing_more (trace.logs ++ [])) ∙ sym (nothing_more trace.logs))
 
-spans_in : (trace : Lines) → spans_of (rows_in trace) ≡ trace.spans
+spans_in : (trace : TraceData) → spans_of (rows_in trace) ≡ trace.spans
 spans_in trace =
     spans_append (log_rows trace ++ span_rows trace) (queue_rows trace)
     ∙ ap (λ (z : List SpanRow). z ++ spans_of (queue_rows trace)) (spans_append (log_rows trace) (span_rows trace))
     ∙ rw (spans_not_logs trace.logs, spans_there trace.spans, spans_not_queues trace.queues) (sym (nothing_more trace.spans))
 
-queues_in : (trace : Lines) → queues_of (rows_in trace) ≡ trace.queues
+queues_in : (trace : TraceData) → queues_of (rows_in trace) ≡ trace.queues
 queues_in trace =
     queues_append (log_rows trace ++ span_rows trace) (queue_rows trace)
     ∙ ap (λ (z : List QueueRow). z ++ queues_of (queue_rows trace)) (queues_append (log_rows trace) (span_rows trace))
@@ -313,7 +313,7 @@ all_of : (xs : List TraceRow) → ((r : TraceRow) → In r xs → IsRowInRange r
 all_of [] h = tt
 all_of (x ∷ xs) h = (h x (inl refl), all_of xs (λ r k. h r (inr k)))
 
-printed_in_range : (printed : List TraceRow) (trace : Lines) → IsReport printed trace → AllByRecursion IsRowInRange (rows_in trace) → AllByRecursion IsRowInRange printed
+printed_in_range : (printed : List TraceRow) (trace : TraceData) → IsReport printed trace → AllByRecursion IsRowInRange (rows_in trace) → AllByRecursion IsRowInRange printed
 printed_in_range printed trace s a = all_of printed (λ r k.
     let there = in_filter (has_key (print_key r)) r printed (own_key r) k in
     one_of r (rows_in trace) a (of_filter (has_key (print_key r)) r (rows_in trace) (subst (In r) (s.same (print_key r)) there)))
@@ -363,7 +363,7 @@ row_line (row.Queue q) i =
     ((λ e. cc), ((λ e. cc), ((λ e. cc), ((λ e. cc), ((λ e. cc), tt)))))
     (then (decimal q.sub) (id_text q.id ++ 32 ∷ stamp_text q.stamp) (number_line q.sub i.0) txn)
 
-text_adds : (rows : List TraceRow) (old : Lines) → Fit rows old → AllByRecursion IsRowInRange rows → AddsLines (lines_of (text_of rows)) old (after rows old)
+text_adds : (rows : List TraceRow) (old : TraceData) → Fit rows old → AllByRecursion IsRowInRange rows → AddsLines (lines_of (text_of rows)) old (after rows old)
 text_adds [] old f i = refl
 text_adds (r ∷ rows) old f i =
     let lines : lines_of (text_of (r ∷ rows)) ≡ row_text r ∷ lines_of (text_of rows) =
@@ -373,17 +373,17 @@ text_adds (r ∷ rows) old f i =
 
 -- ---- the same logs, spans and queues
 
-alike : (printed : List TraceRow) (trace : Lines) → IsReport printed trace → AreAlike trace (after printed no_lines)
+alike : (printed : List TraceRow) (trace : TraceData) → IsReport printed trace → AreAlike trace (after printed no_trace_data)
 alike printed trace s = record {
   logs = λ t. ap rows_of
       (ap (filter (at_topic t.0)) (sym (logs_in trace)) ∙ logs_at t.0 (rows_in trace) ∙ ap logs_of (sym (s.same (0, t.0)))
-      ∙ sym (logs_at t.0 printed) ∙ ap (filter (at_topic t.0)) (sym (logs_after printed no_lines)));
+      ∙ sym (logs_at t.0 printed) ∙ ap (filter (at_topic t.0)) (sym (logs_after printed no_trace_data)));
   spans = λ k.
       ap (filter (λ (z : SpanRow). z.sub == k)) (sym (spans_in trace)) ∙ spans_at k (rows_in trace) ∙ ap spans_of (sym (s.same (1, k)))
-      ∙ sym (spans_at k printed) ∙ ap (filter (λ (z : SpanRow). z.sub == k)) (sym (spans_after printed no_lines));
+      ∙ sym (spans_at k printed) ∙ ap (filter (λ (z : SpanRow). z.sub == k)) (sym (spans_after printed no_trace_data));
   queues = λ k. ap (map queue_mark)
       (ap (filter (λ (z : QueueRow). z.sub == k)) (sym (queues_in trace)) ∙ queues_at k (rows_in trace) ∙ ap queues_of (sym (s.same (1, k)))
-      ∙ sym (queues_at k printed) ∙ ap (filter (λ (z : QueueRow). z.sub == k)) (sym (queues_after printed no_lines)));
+      ∙ sym (queues_at k printed) ∙ ap (filter (λ (z : QueueRow). z.sub == k)) (sym (queues_after printed no_trace_data)));
 }
 
 -- ---- one group of rows as the trace has it
@@ -405,7 +405,7 @@ only_logs key (row.Log l ∷ g) a e = let h = only_logs key g a.1 e in (ap (λ (
 only_logs key (row.Span s ∷ g) a e = absurd (let p = eqb-true 1 key.0 (and_parts (1 == key.0) (s.sub == key.1) a.0).0 in omega arith)
 only_logs key (row.Queue q ∷ g) a e = absurd (let p = eqb-true 1 key.0 (and_parts (1 == key.0) (q.sub == key.1) a.0).0 in omega arith)
 
-only_queues : (key : ℕ × ℕ) (g : List TraceRow) (old : Lines) → AllAt key g → key.0 ≡ 1 → has_span key.1 old.spans ≡ true → Fit g old
+only_queues : (key : ℕ × ℕ) (g : List TraceRow) (old : TraceData) → AllAt key g → key.0 ≡ 1 → has_span key.1 old.spans ≡ true → Fit g old
     → (logs_of g ≡ []) × (spans_of g ≡ []) × (map (λ (q : QueueRow). row.Queue q) (queues_of g) ≡ g)
 only_queues key [] old a e h f = (refl, refl, refl)
 only_queues key (row.Log l ∷ g) old a e h f = absurd (let p = eqb-true 0 key.0 (and_parts (0 == key.0) (l.topic.0 == key.1) a.0).0 in omega arith)
@@ -422,7 +422,7 @@ in_turn g =
     ++ map (λ (q : QueueRow). row.Queue q) (queues_of g)
 
 -- rows of one key that fit are logs alone, or a span and then its queue
-group_in_turn : (key : ℕ × ℕ) (g : List TraceRow) → AllAt key g → Fit g no_lines → in_turn g ≡ g
+group_in_turn : (key : ℕ × ℕ) (g : List TraceRow) → AllAt key g → Fit g no_trace_data → in_turn g ≡ g
 group_in_turn key [] a f = refl
 group_in_turn key (row.Log l ∷ g) a f =
     let e = eqb-true 0 key.0 (and_parts (0 == key.0) (l.topic.0 == key.1) a.0).0 in
@@ -431,7 +431,7 @@ group_in_turn key (row.Log l ∷ g) a f =
 group_in_turn key (row.Span s ∷ g) a f =
     let p = and_parts (1 == key.0) (s.sub == key.1) a.0 in
     let there : has_span key.1 (s ∷ []) ≡ true = rw p.1 refl in
-    let h = only_queues key g (with_row (row.Span s) no_lines) a.1 (sym (eqb-true 1 key.0 p.0)) there f.1 in
+    let h = only_queues key g (with_row (row.Span s) no_trace_data) a.1 (sym (eqb-true 1 key.0 p.0)) there f.1 in
     rw (h.0, h.1) (ap (λ (z : List TraceRow). row.Span s ∷ z) h.2)
 group_in_turn key (row.Queue q ∷ g) a f = absurd (true≢false f.0)
 
@@ -487,7 +487,7 @@ group_queues p (row.Queue q ∷ rows) = elim (cases_Bool (p (row.Queue q))) [
   | inr other ↦ rw other (group_queues p rows)
 ]
 
-group_is : (key : ℕ × ℕ) (rows : List TraceRow) → Fit rows no_lines → filter (has_key key) (in_turn rows) ≡ filter (has_key key) rows
+group_is : (key : ℕ × ℕ) (rows : List TraceRow) → Fit rows no_trace_data → filter (has_key key) (in_turn rows) ≡ filter (has_key key) rows
 group_is key rows f =
     let p = has_key key in
     let ls = map (λ (l : LogLine). row.Log l) (logs_of rows) in
@@ -499,35 +499,35 @@ group_is key rows f =
     ∙ ap (λ (z : List TraceRow). z ++ filter p ss ++ filter p qs) (group_logs p rows)
     ∙ ap (λ (z : List TraceRow). map (λ (l : LogLine). row.Log l) (logs_of (filter p rows)) ++ z ++ filter p qs) (group_spans p rows)
     ∙ ap (λ (z : List TraceRow). map (λ (l : LogLine). row.Log l) (logs_of (filter p rows)) ++ map (λ (s : SpanRow). row.Span s) (spans_of (filter p rows)) ++ z) (group_queues p rows)
-    ∙ group_in_turn key (filter p rows) (all_at key rows) (part_fits key rows no_lines no_lines (λ _. refl) f)
+    ∙ group_in_turn key (filter p rows) (all_at key rows) (part_fits key rows no_trace_data no_trace_data (λ _. refl) f)
 
 -- rows that were added, kind by kind, are the rows of the trace that they made
-turn_is : (rows : List TraceRow) (trace : Lines) → AddsRows rows no_lines trace → in_turn rows ≡ rows_in trace
+turn_is : (rows : List TraceRow) (trace : TraceData) → AddsRows rows no_trace_data trace → in_turn rows ≡ rows_in trace
 turn_is rows trace a =
-    let f = fit_from rows no_lines trace a in
-    ap (λ (z : List LogLine). map (λ (l : LogLine). row.Log l) z ++ map (λ (s : SpanRow). row.Span s) (spans_of rows) ++ map (λ (q : QueueRow). row.Queue q) (queues_of rows)) (sym (ap (λ (z : Lines). z.logs) f.1 ∙ logs_after rows no_lines))
-    ∙ ap (λ (z : List SpanRow). log_rows trace ++ map (λ (s : SpanRow). row.Span s) z ++ map (λ (q : QueueRow). row.Queue q) (queues_of rows)) (sym (ap (λ (z : Lines). z.spans) f.1 ∙ spans_after rows no_lines))
-    ∙ ap (λ (z : List QueueRow). log_rows trace ++ span_rows trace ++ map (λ (q : QueueRow). row.Queue q) z) (sym (ap (λ (z : Lines). z.queues) f.1 ∙ queues_after rows no_lines))
+    let f = fit_from rows no_trace_data trace a in
+    ap (λ (z : List LogLine). map (λ (l : LogLine). row.Log l) z ++ map (λ (s : SpanRow). row.Span s) (spans_of rows) ++ map (λ (q : QueueRow). row.Queue q) (queues_of rows)) (sym (ap (λ (z : TraceData). z.logs) f.1 ∙ logs_after rows no_trace_data))
+    ∙ ap (λ (z : List SpanRow). log_rows trace ++ map (λ (s : SpanRow). row.Span s) z ++ map (λ (q : QueueRow). row.Queue q) (queues_of rows)) (sym (ap (λ (z : TraceData). z.spans) f.1 ∙ spans_after rows no_trace_data))
+    ∙ ap (λ (z : List QueueRow). log_rows trace ++ span_rows trace ++ map (λ (q : QueueRow). row.Queue q) z) (sym (ap (λ (z : TraceData). z.queues) f.1 ∙ queues_after rows no_trace_data))
 
 -- the rows of a trace that adding rows made fit in the trace's own order
-fits_in_turn : (rows : List TraceRow) (trace : Lines) → AddsRows rows no_lines trace → Fit (rows_in trace) no_lines
+fits_in_turn : (rows : List TraceRow) (trace : TraceData) → AddsRows rows no_trace_data trace → Fit (rows_in trace) no_trace_data
 fits_in_turn rows trace a =
-    let f = fit_from rows no_lines trace a in
-    subst (λ (z : List TraceRow). Fit z no_lines) (turn_is rows trace a)
-    (whole_fits (in_turn rows) no_lines (λ key. subst (λ (z : List TraceRow). Fit z no_lines) (sym (group_is key rows f.0)) (part_fits key rows no_lines no_lines (λ _. refl) f.0)))
+    let f = fit_from rows no_trace_data trace a in
+    subst (λ (z : List TraceRow). Fit z no_trace_data) (turn_is rows trace a)
+    (whole_fits (in_turn rows) no_trace_data (λ key. subst (λ (z : List TraceRow). Fit z no_trace_data) (sym (group_is key rows f.0)) (part_fits key rows no_trace_data no_trace_data (λ _. refl) f.0)))
 
 -- a report of a trace, when read, gives a trace that is alike
 pub printed_is_read : PrintedIsRead
 printed_is_read added printed trace a i s =
     let f = fits_in_turn added trace a in
-    let fits = whole_fits printed no_lines (λ key. subst (λ (z : List TraceRow). Fit z no_lines) (sym (s.same key)) (part_fits key (rows_in trace) no_lines no_lines (λ _. refl) f)) in
-    (after printed no_lines, text_adds printed no_lines fits (printed_in_range printed trace s i), alike printed trace s)
+    let fits = whole_fits printed no_trace_data (λ key. subst (λ (z : List TraceRow). Fit z no_trace_data) (sym (s.same key)) (part_fits key (rows_in trace) no_trace_data no_trace_data (λ _. refl) f)) in
+    (after printed no_trace_data, text_adds printed no_trace_data fits (printed_in_range printed trace s i), alike printed trace s)
 
 -- a report of a trace whose rows were added in that order, when read, gives the same trace
 pub sorted_is_read : SortedIsReadAsItself
 sorted_is_read added printed trace a sorted i s =
-    let f = fit_from added no_lines trace a in
+    let f = fit_from added no_trace_data trace a in
     let same : printed ≡ added = one_report printed added s.ordered sorted
     (λ key. s.same key ∙ ap (filter (has_key key)) (sym (turn_is added trace a)) ∙ group_is key added f.0) in
-    let read = text_adds printed no_lines (subst (λ (z : List TraceRow). Fit z no_lines) (sym same) f.0) (printed_in_range printed trace s i) in
-    subst (λ (z : Lines). AddsLines (lines_of (text_of printed)) no_lines z) (ap (λ (z : List TraceRow). after z no_lines) same ∙ sym f.1) read
+    let read = text_adds printed no_trace_data (subst (λ (z : List TraceRow). Fit z no_trace_data) (sym same) f.0) (printed_in_range printed trace s i) in
+    subst (λ (z : TraceData). AddsLines (lines_of (text_of printed)) no_trace_data z) (ap (λ (z : List TraceRow). after z no_trace_data) same ∙ sym f.1) read

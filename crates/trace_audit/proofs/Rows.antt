@@ -1,17 +1,18 @@
 -- A whole line, and a whole text.
-use Rattle.std.proofs.Common.{◌≡◌, ℕ, ◌+◌, ◌⊎◌, Bool, true, false, cond, List, [], ◌∷◌, ◌++◌, length, length-append, Option, Some, None, Result, Ok, Err, inl, inr, refl, sym, ap, ◌∙◌, subst, arith, true≢false}
+use Rattle.std.proofs.Common.{◌≡◌, ℕ, ◌⊎◌, Bool, true, false, cond, List, [], ◌∷◌, ◌++◌, length, length-append, Option, Some, None, Result, Ok, Err, inl, inr, refl, sym, ap, ◌∙◌, subst, arith, true≢false}
 use Rattle.std.specs.Prelude.{codes, decimal, IfSome, IfOk, IfErr}
 use Rattle.std.specs.Str.{bytes_eq}
 use Rattle.std.proofs.lemmas.Bool.{cases_Bool}
 use Rattle.std.proofs.lemmas.Fmt.{decimal_nonempty}
 use Rattle.std.proofs.lemmas.Slice.Eq.{bytes_eq-Decides}
 use Rattle.mcast_txn.specs.declared.stamp.Stamp.{Stamp}
-use Rattle.trace_audit.specs.Line.{LogLine}
+use Rattle.trace_audit.specs.Logs.{LogLine}
 use Rattle.trace_audit.specs.Parsing.{cut, lines_of, AddsLines, IsBadLine, IsFirstBad, IsParseFault, GivesTrace}
 use Rattle.trace_audit.specs.Rows.{is_misfit, with_row}
 use Rattle.trace_audit.specs.Text.{id_text, stamp_text, end_text, topics_text, row_text, IsStampInRange, IsRowInRange, SpellsRow}
-use Rattle.trace_audit.specs.Trace.{Lines, no_lines}
+use Rattle.trace_audit.specs.Trace.{TraceData, no_trace_data}
 use Rattle.trace_audit.specs.Inner.Reading.{◌>>=◌, number_before, topic_before, id_before, spelled_stamp, stamp_before, spelled_end, spelled_topics, log_of_text, span_of_text, queue_of_text, row_named, spelled_row, line_added, read_from, ReadsAs}
+use Rattle.trace_audit.specs.Inner.InTurn.{AddsInTurn}
 use Rattle.trace_audit.specs.declared.row.SpanRow.{SpanRow}
 use Rattle.trace_audit.specs.declared.row.QueueRow.{QueueRow}
 use Rattle.trace_audit.specs.declared.row.TraceRow.{TraceRow}
@@ -19,6 +20,7 @@ use Rattle.trace_audit.specs.declared.row.TraceRow.TheVariants as row
 use Rattle.trace_audit.specs.declared.text.parse_fault.ParseFault.{ParseFault}
 use Rattle.trace_audit.specs.declared.text.parse_fault.ParseFault.TheVariants as parse
 use Rattle.trace_audit.proofs.Cuts.{cut_splits, some_is}
+use Rattle.trace_audit.proofs.InTurn.{in_turn, in_turn_again, first_refused, first_refused_again}
 use Rattle.trace_audit.proofs.Spelling.{bound, passed, unstopped, number_field, number_field_again, topic_field, topic_field_again, id_field, id_field_again, stamp_spelled, stamp_again, stamp_field, stamp_field_again, topics_spelled, topics_again}
 
 -- ---- the end of a span
@@ -177,7 +179,7 @@ row_read line r s = ap spelled_row s.0 ∙ row_again r s.1
 -- ---- one line more
 
 -- a line that is added spells a row that fits, and the new trace is the old one with this row
-pub line_adds : (line : List ℕ) (old new : Lines) → line_added line old ≡ Some new
+pub line_adds : (line : List ℕ) (old new : TraceData) → line_added line old ≡ Some new
     → (r : TraceRow) × SpellsRow line r × (is_misfit r old ≡ false) × (with_row r old ≡ new)
 unfolding line_added
 line_adds line old new e =
@@ -186,12 +188,12 @@ line_adds line old new e =
     (b.0, row_spelled line b.0 b.1, p.0, some_is (with_row b.0 old) new p.1)
 
 -- a line that spells a row that fits is added: the new trace is the old one with this row
-pub line_again : (line : List ℕ) (r : TraceRow) (old : Lines) → SpellsRow line r → is_misfit r old ≡ false → line_added line old ≡ Some (with_row r old)
+pub line_again : (line : List ℕ) (r : TraceRow) (old : TraceData) → SpellsRow line r → is_misfit r old ≡ false → line_added line old ≡ Some (with_row r old)
 unfolding line_added
 line_again line r old s fit = rw (row_read line r s, fit) refl
 
 -- a line that isn't added spells no row that fits
-pub line_bad : (line : List ℕ) (old : Lines) → line_added line old ≡ None → IsBadLine line old
+pub line_bad : (line : List ℕ) (old : TraceData) → line_added line old ≡ None → IsBadLine line old
 unfolding line_added
 line_bad line old e = λ r s. elim (cases_Bool (is_misfit r old)) [
   | inl misfit ↦ misfit
@@ -199,115 +201,85 @@ line_bad line old e = λ r s. elim (cases_Bool (is_misfit r old)) [
 ]
 
 -- a line that spells no row that fits isn't added
-pub bad_again : (line : List ℕ) (old : Lines) → IsBadLine line old → line_added line old ≡ None
+pub bad_again : (line : List ℕ) (old : TraceData) → IsBadLine line old → line_added line old ≡ None
 bad_again line old bad = go (line_added line old) refl
   where
-    go : (o : Option Lines) → line_added line old ≡ o → line_added line old ≡ None
+    go : (o : Option TraceData) → line_added line old ≡ o → line_added line old ≡ None
     go None e = e
     go (Some new) e = let a = line_adds line old new e in absurd (let k = sym (bad a.0 a.1) ∙ a.2 in true≢false k)
 
 -- ---- whole texts
 
+-- lines that are added in turn spell rows that fit, and the rows lead to the same trace
+lines_add : (lines : List (List ℕ)) (old new : TraceData) → AddsInTurn line_added lines old new → AddsLines lines old new
+lines_add [] old new e = e
+lines_add (line ∷ lines) old new a =
+    let r = line_adds line old a.0 a.1 in
+    (r.0, r.1, r.2, subst (λ (z : TraceData). AddsLines lines z new) (sym r.3) (lines_add lines a.0 new a.2))
+
+-- lines that spell rows that fit are added in turn
+lines_again : (lines : List (List ℕ)) (old new : TraceData) → AddsLines lines old new → AddsInTurn line_added lines old new
+lines_again [] old new e = e
+lines_again (line ∷ lines) old new a = (with_row a.0 old, line_again line a.0 old a.1 a.2, lines_again lines (with_row a.0 old) new a.3)
+
 -- where reading gives a trace, each line adds its row, and the rows lead to this trace
-pub reads_adds : (n : ℕ) (lines : List (List ℕ)) (old new : Lines) → read_from n lines old ≡ Ok new → AddsLines lines old new
-reads_adds n [] old new e = cc
-reads_adds n (line ∷ lines) old new e = go (line_added line old) refl (λ mid f. reads_adds (n + 1) lines mid new f)
-  where
-    go : (o : Option Lines) → line_added line old ≡ o → ((mid : Lines) → read_from (n + 1) lines mid ≡ Ok new → AddsLines lines mid new) → AddsLines (line ∷ lines) old new
-    go None k later = absurd (let f : Err n ≡ Ok new = sym (rw k refl) ∙ e in cc)
-    go (Some mid) k later =
-        let a = line_adds line old mid k in
-        (a.0, a.1, a.2, subst (λ (z : Lines). AddsLines lines z new) (sym a.3) (later mid (sym (rw k refl) ∙ e)))
+pub reads_adds : (n : ℕ) (lines : List (List ℕ)) (old new : TraceData) → read_from n lines old ≡ Ok new → AddsLines lines old new
+reads_adds n lines old new e = lines_add lines old new (in_turn line_added n lines old new e)
 
 -- where each line adds its row, reading gives the trace that the rows lead to
-pub adds_reads : (n : ℕ) (lines : List (List ℕ)) (old new : Lines) → AddsLines lines old new → read_from n lines old ≡ Ok new
-adds_reads n [] old new a = ap Ok (sym a)
-adds_reads n (line ∷ lines) old new a = rw (line_again line a.0 old a.1 a.2) (adds_reads (n + 1) lines (with_row a.0 old) new a.3)
-
--- these lines are added, and the next one can't be
-record BadAfter (n : ℕ) (lines : List (List ℕ)) (old : Lines) (m : ℕ) : Type 0 where
-  front : List (List ℕ)
-  line : List ℕ
-  back : List (List ℕ)
-  trace : Lines
-  cut : lines ≡ front ++ line ∷ back
-  number : m ≡ length front + n
-  added : AddsLines front old trace
-  bad : IsBadLine line trace
-
-reads_bad : (n : ℕ) (lines : List (List ℕ)) (old : Lines) (m : ℕ) → read_from n lines old ≡ Err m → BadAfter n lines old m
-reads_bad n [] old m e = absurd cc
-reads_bad n (line ∷ lines) old m e = go (line_added line old) refl (λ mid f. reads_bad (n + 1) lines mid m f)
-  where
-    go : (o : Option Lines) → line_added line old ≡ o → ((mid : Lines) → read_from (n + 1) lines mid ≡ Err m → BadAfter (n + 1) lines mid m) → BadAfter n (line ∷ lines) old m
-    go None k later = record {
-      front = [];
-      line = line;
-      back = lines;
-      trace = old;
-      cut = refl;
-      number = (let f : Err n ≡ Err m = sym (rw k refl) ∙ e in let g : m ≡ n = cc in g ∙ omega arith);
-      added = refl;
-      bad = line_bad line old k;
-    }
-    go (Some mid) k later =
-        let a = line_adds line old mid k in
-        let b = later mid (sym (rw k refl) ∙ e) in
-        record {
-          front = line ∷ b.front;
-          line = b.line;
-          back = b.back;
-          trace = b.trace;
-          cut = ap (λ (z : List (List ℕ)). line ∷ z) b.cut;
-          number = (let f = b.number in omega arith);
-          added = (a.0, a.1, a.2, subst (λ (z : Lines). AddsLines b.front z b.trace) (sym a.3) b.added);
-          bad = b.bad;
-        }
-
-bad_reads : (n : ℕ) (front : List (List ℕ)) (line : List ℕ) (back : List (List ℕ)) (old trace : Lines) → AddsLines front old trace → IsBadLine line trace
-    → read_from n (front ++ line ∷ back) old ≡ Err (length front + n)
-bad_reads n [] line back old trace a bad =
-    let e : line_added line old ≡ None = bad_again line old (subst (IsBadLine line) a bad) in
-    let z : n ≡ 0 + n = omega arith in
-    rw e (ap Err z)
-bad_reads n (next ∷ front) line back old trace a bad =
-    let r = bad_reads (n + 1) front line back (with_row a.0 old) trace a.3 bad in
-    let m : length front + (n + 1) ≡ length (next ∷ front) + n = omega arith in
-    rw (line_again next a.0 old a.1 a.2) (r ∙ ap Err m)
+pub adds_reads : (n : ℕ) (lines : List (List ℕ)) (old new : TraceData) → AddsLines lines old new → read_from n lines old ≡ Ok new
+adds_reads n lines old new a = in_turn_again line_added n lines old new (lines_again lines old new a)
 
 -- where reading fails with a number, it is that of the first line that can't be added
-pub first_bad : (lines : List (List ℕ)) (m : ℕ) → read_from 1 lines no_lines ≡ Err m → IsFirstBad lines m
+pub first_bad : (lines : List (List ℕ)) (m : ℕ) → read_from 1 lines no_trace_data ≡ Err m → IsFirstBad lines m
 first_bad lines m e =
-    let b = reads_bad 1 lines no_lines m e in
-    record { front = b.front; line = b.line; back = b.back; trace = b.trace; cut = b.cut; number = b.number; added = b.added; bad = b.bad }
+    let b = first_refused line_added 1 lines no_trace_data m e in
+    record {
+      front = b.front;
+      line = b.line;
+      back = b.back;
+      trace = b.state;
+      cut = b.cut;
+      number = b.number;
+      added = lines_add b.front no_trace_data b.state b.added;
+      bad = line_bad b.line b.state b.refused;
+    }
 
 -- where a line is the first that can't be added, reading fails with its number
-pub bad_first : (lines : List (List ℕ)) (m : ℕ) → IsFirstBad lines m → read_from 1 lines no_lines ≡ Err m
+pub bad_first : (lines : List (List ℕ)) (m : ℕ) → IsFirstBad lines m → read_from 1 lines no_trace_data ≡ Err m
 bad_first lines m b =
-    ap (λ (z : List (List ℕ)). read_from 1 z no_lines) b.cut ∙ bad_reads 1 b.front b.line b.back no_lines b.trace b.added b.bad
-    ∙ ap Err (sym b.number)
+    first_refused_again line_added 1 lines no_trace_data m (record {
+      front = b.front;
+      line = b.line;
+      back = b.back;
+      state = b.trace;
+      cut = b.cut;
+      number = b.number;
+      added = lines_again b.front no_trace_data b.trace b.added;
+      refused = bad_again b.line b.trace b.bad;
+    })
 
 -- ---- what the reader returned
 
 -- a trace that was returned is the one that the rows of the lines lead to
-pub is_found : (lines : List (List ℕ)) (r : Result Lines ParseFault) → ReadsAs r (read_from 1 lines no_lines) → IfOk r (λ trace. AddsLines lines no_lines trace)
-is_found lines (Ok trace) h = reads_adds 1 lines no_lines trace (sym h)
+pub is_found : (lines : List (List ℕ)) (r : Result TraceData ParseFault) → ReadsAs r (read_from 1 lines no_trace_data) → IfOk r (λ trace. AddsLines lines no_trace_data trace)
+is_found lines (Ok trace) h = reads_adds 1 lines no_trace_data trace (sym h)
 is_found lines (Err e) h = tt
 
 -- a fault that was returned is that of the text: the first line that can't be added, or no memory
-pub is_fault : (text : List ℕ) (r : Result Lines ParseFault) → ReadsAs r (read_from 1 (lines_of text) no_lines) → IfErr r (λ fault. IsParseFault text fault)
+pub is_fault : (text : List ℕ) (r : Result TraceData ParseFault) → ReadsAs r (read_from 1 (lines_of text) no_trace_data) → IfErr r (λ fault. IsParseFault text fault)
 is_fault text (Ok trace) h = tt
 is_fault text (Err (parse.BadRow n)) h = first_bad (lines_of text) n (sym h)
 is_fault text (Err parse.NoMemory) h = tt
 
 -- where the rows of the lines lead to a trace, it was returned, unless memory ran out
-pub is_only : (lines : List (List ℕ)) (r : Result Lines ParseFault) → ReadsAs r (read_from 1 lines no_lines) → (trace : Lines) → AddsLines lines no_lines trace → GivesTrace r (Ok trace)
-is_only lines (Ok t) h trace a = let f = h ∙ adds_reads 1 lines no_lines trace a in let g : trace ≡ t = cc in ap Ok g
-is_only lines (Err (parse.BadRow n)) h trace a = absurd (let k = h ∙ adds_reads 1 lines no_lines trace a in cc)
+pub is_only : (lines : List (List ℕ)) (r : Result TraceData ParseFault) → ReadsAs r (read_from 1 lines no_trace_data) → (trace : TraceData) → AddsLines lines no_trace_data trace → GivesTrace r (Ok trace)
+is_only lines (Ok t) h trace a = let f = h ∙ adds_reads 1 lines no_trace_data trace a in let g : trace ≡ t = cc in ap Ok g
+is_only lines (Err (parse.BadRow n)) h trace a = absurd (let k = h ∙ adds_reads 1 lines no_trace_data trace a in cc)
 is_only lines (Err parse.NoMemory) h trace a = tt
 
 -- where line n is the first that can't be added, its fault was returned, unless memory ran out
-pub is_only_fault : (lines : List (List ℕ)) (r : Result Lines ParseFault) → ReadsAs r (read_from 1 lines no_lines) → (n : ℕ) → IsFirstBad lines n → GivesTrace r (Err (parse.BadRow n))
+pub is_only_fault : (lines : List (List ℕ)) (r : Result TraceData ParseFault) → ReadsAs r (read_from 1 lines no_trace_data) → (n : ℕ) → IsFirstBad lines n → GivesTrace r (Err (parse.BadRow n))
 is_only_fault lines (Ok t) h n b = absurd (let k = h ∙ bad_first lines n b in cc)
 is_only_fault lines (Err (parse.BadRow m)) h n b = let k : m ≡ n = (let f = h ∙ bad_first lines n b in cc) in ap (λ (z : ℕ). Err (parse.BadRow z)) (sym k)
 is_only_fault lines (Err parse.NoMemory) h n b = tt

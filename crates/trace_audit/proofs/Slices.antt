@@ -5,15 +5,15 @@ use Rattle.std.specs.List.Sorted.{IsPartitionedBy, IsPartitionPoint}
 use Rattle.std.proofs.lemmas.Bool.{eqb-true, false≢true}
 use Rattle.std.proofs.lemmas.Bool.Decides.{nat_tests}
 use Rattle.mcast_txn.specs.declared.stamp.Stamp.{Stamp}
-use Rattle.mcast_txn.specs.Span.{LogRow, in_span, up_to}
+use Rattle.mcast_txn.specs.Span.{LogRow, in_span, up_to, row_mark}
 use Rattle.mcast_txn.specs.Stamp.{stamp_lt, zero_stamp}
 use Rattle.mcast_txn.proofs.Orders.{lt_trans}
-use Rattle.trace_audit.specs.Line.{LogLine}
+use Rattle.trace_audit.specs.Logs.{LogLine}
 use Rattle.trace_audit.specs.declared.row.QueueRow.{QueueRow}
 use Rattle.trace_audit.specs.declared.row.SpanRow.{SpanRow}
 use Rattle.trace_audit.specs.Inner.Chained.{Chained, Above, IsIndex, is_up_to_from, is_up_to_end}
-use Rattle.trace_audit.specs.Inner.Orders.{shown, RisesBySub}
-use Rattle.trace_audit.specs.Trace.{rows_of, marks_in, row_mark}
+use Rattle.trace_audit.specs.Inner.Orders.{rows_of_refs, RisesBySub}
+use Rattle.trace_audit.specs.Trace.{rows_of, marks_in}
 use Rattle.trace_audit.proofs.Halving.{parted}
 use Rattle.trace_audit.proofs.OrderLemmas.{chain_shown}
 
@@ -23,20 +23,20 @@ filter_step : {X : Type 0} (q : X → Bool) (x : X) (xs ys : List X) (b : Bool) 
 filter_step q x xs ys true e f = rw e (ap (λ z. x ∷ z) f)
 filter_step q x xs ys false e f = rw e f
 
-head_slice : {X : Type 0} (q : X → Bool) (rows : List (Bor X)) (n : ℕ) → ((k : ℕ) (d : Bor X) → k < n → k < length rows → q (get_or rows k d).now ≡ true) → ((k : ℕ) (d : Bor X) → n ≤ k → k < length rows → q (get_or rows k d).now ≡ false) → filter q (shown rows) ≡ shown (take n rows)
+head_slice : {X : Type 0} (q : X → Bool) (rows : List (Bor X)) (n : ℕ) → ((k : ℕ) (d : Bor X) → k < n → k < length rows → q (get_or rows k d).now ≡ true) → ((k : ℕ) (d : Bor X) → n ≤ k → k < length rows → q (get_or rows k d).now ≡ false) → filter q (rows_of_refs rows) ≡ rows_of_refs (take n rows)
 head_slice q [] zero h g = refl
 head_slice q [] (suc n) h g = refl
 head_slice q (x ∷ xs) zero h g =
-    filter_step q x.now (shown xs) [] false (g 0 x (omega arith) (omega arith)) (head_slice q xs zero (λ k d l m. absurd (omega arith)) (λ k d l m. g (suc k) d (omega arith) (omega arith)))
+    filter_step q x.now (rows_of_refs xs) [] false (g 0 x (omega arith) (omega arith)) (head_slice q xs zero (λ k d l m. absurd (omega arith)) (λ k d l m. g (suc k) d (omega arith) (omega arith)))
 head_slice q (x ∷ xs) (suc n) h g =
-    filter_step q x.now (shown xs) (shown (take n xs)) true (h 0 x (omega arith) (omega arith)) (head_slice q xs n (λ k d l m. h (suc k) d (omega arith) (omega arith)) (λ k d l m. g (suc k) d (omega arith) (omega arith)))
+    filter_step q x.now (rows_of_refs xs) (rows_of_refs (take n xs)) true (h 0 x (omega arith) (omega arith)) (head_slice q xs n (λ k d l m. h (suc k) d (omega arith) (omega arith)) (λ k d l m. g (suc k) d (omega arith) (omega arith)))
 
 -- where n items from m on pass and no others do, what passes is the slice of n items from m on
-pub slice : {X : Type 0} (q : X → Bool) (rows : List (Bor X)) (m n : ℕ) → ((k : ℕ) (d : Bor X) → k < m → k < length rows → q (get_or rows k d).now ≡ false) → ((k : ℕ) (d : Bor X) → k < n → k < length (drop m rows) → q (get_or (drop m rows) k d).now ≡ true) → ((k : ℕ) (d : Bor X) → n ≤ k → k < length (drop m rows) → q (get_or (drop m rows) k d).now ≡ false) → filter q (shown rows) ≡ shown (take n (drop m rows))
+pub slice : {X : Type 0} (q : X → Bool) (rows : List (Bor X)) (m n : ℕ) → ((k : ℕ) (d : Bor X) → k < m → k < length rows → q (get_or rows k d).now ≡ false) → ((k : ℕ) (d : Bor X) → k < n → k < length (drop m rows) → q (get_or (drop m rows) k d).now ≡ true) → ((k : ℕ) (d : Bor X) → n ≤ k → k < length (drop m rows) → q (get_or (drop m rows) k d).now ≡ false) → filter q (rows_of_refs rows) ≡ rows_of_refs (take n (drop m rows))
 slice q rows zero n f h g = head_slice q rows n h g
 slice q [] (suc m) n f h g = head_slice q [] n h g
 slice q (x ∷ xs) (suc m) n f h g =
-    filter_step q x.now (shown xs) (shown (take n (drop m xs))) false (f 0 x (omega arith) (omega arith)) (slice q xs m n (λ k d l o. f (suc k) d (omega arith) (omega arith)) h g)
+    filter_step q x.now (rows_of_refs xs) (rows_of_refs (take n (drop m xs))) false (f 0 x (omega arith) (omega arith)) (slice q xs m n (λ k d l o. f (suc k) d (omega arith) (omega arith)) h g)
 
 -- what holds of all from an index on holds of what is dropped up to it
 pub from_drop : {X : Type 0} (P : Bor X → Type 0) (rows : List (Bor X)) (m : ℕ) → ((k : ℕ) (d : Bor X) → m ≤ k → k < length rows → P (get_or rows k d)) → (k : ℕ) (d : Bor X) → k < length (drop m rows) → P (get_or (drop m rows) k d)
@@ -45,13 +45,13 @@ from_drop P [] (suc m) h k d l = absurd (omega arith)
 from_drop P (x ∷ xs) (suc m) h k d l = from_drop P xs m (λ j f n o. h (suc j) f (omega arith) (omega arith)) k d l
 
 -- what is left of a chained list after dropping its first items is chained
-pub chained_drop : {X : Type 0} (R : X → X → Type 0) (rows : List (Bor X)) (m : ℕ) → Chained R (shown rows) → Chained R (shown (drop m rows))
+pub chained_drop : {X : Type 0} (R : X → X → Type 0) (rows : List (Bor X)) (m : ℕ) → Chained R (rows_of_refs rows) → Chained R (rows_of_refs (drop m rows))
 chained_drop R rows zero c = c
 chained_drop R [] (suc m) c = c
 chained_drop R (x ∷ xs) (suc m) c = chained_drop R xs m c.1
 
 -- the rows that pass the second test of two, and not the first
-pub between : {X : Type 0} (p1 p2 q : X → Bool) (rows : List (Bor X)) (m n : ℕ) → ((x : X) → q x ≡ (not (p1 x) && p2 x)) → IsPartitionPoint (λ r. p1 r.now ≡ true) (λ r. p1 r.now ≡ false) rows m → IsPartitionPoint (λ r. p2 r.now ≡ true) (λ r. p2 r.now ≡ false) (drop m rows) n → shown (take n (drop m rows)) ≡ filter q (shown rows)
+pub between : {X : Type 0} (p1 p2 q : X → Bool) (rows : List (Bor X)) (m n : ℕ) → ((x : X) → q x ≡ (not (p1 x) && p2 x)) → IsPartitionPoint (λ r. p1 r.now ≡ true) (λ r. p1 r.now ≡ false) rows m → IsPartitionPoint (λ r. p2 r.now ≡ true) (λ r. p2 r.now ≡ false) (drop m rows) n → rows_of_refs (take n (drop m rows)) ≡ filter q (rows_of_refs rows)
 between p1 p2 q rows m n is first second =
     sym (slice q rows m n (λ k d l o. is (get_or rows k d).now ∙ out (p1 (get_or rows k d).now) (p2 (get_or rows k d).now) (first.0 k d (omega arith) l))
     (λ k d l o. is (get_or (drop m rows) k d).now ∙ both (p1 (get_or (drop m rows) k d).now) (p2 (get_or (drop m rows) k d).now) (from_drop (λ r. p1 r.now ≡ false) rows m first.1 k d o) (second.0 k d (omega arith) l))
@@ -68,9 +68,9 @@ between p1 p2 q rows m n is first second =
     late false b e = e
 
 -- the same, where the rest is written in another way
-pub between_rest : {X : Type 0} (p1 p2 q : X → Bool) (rows rest : List (Bor X)) (m n : ℕ) → rest ≡ drop m rows → ((x : X) → q x ≡ (not (p1 x) && p2 x)) → IsPartitionPoint (λ r. p1 r.now ≡ true) (λ r. p1 r.now ≡ false) rows m → IsPartitionPoint (λ r. p2 r.now ≡ true) (λ r. p2 r.now ≡ false) rest n → shown (take n rest) ≡ filter q (shown rows)
+pub between_rest : {X : Type 0} (p1 p2 q : X → Bool) (rows rest : List (Bor X)) (m n : ℕ) → rest ≡ drop m rows → ((x : X) → q x ≡ (not (p1 x) && p2 x)) → IsPartitionPoint (λ r. p1 r.now ≡ true) (λ r. p1 r.now ≡ false) rows m → IsPartitionPoint (λ r. p2 r.now ≡ true) (λ r. p2 r.now ≡ false) rest n → rows_of_refs (take n rest) ≡ filter q (rows_of_refs rows)
 between_rest p1 p2 q rows rest m n e is first second =
-    ap (λ z. shown (take n z)) e ∙ between p1 p2 q rows m n is first (subst (λ z. IsPartitionPoint (λ r. p2 r.now ≡ true) (λ r. p2 r.now ≡ false) z n) e second)
+    ap (λ z. rows_of_refs (take n z)) e ∙ between p1 p2 q rows m n is first (subst (λ z. IsPartitionPoint (λ r. p2 r.now ≡ true) (λ r. p2 r.now ≡ false) z n) e second)
 
 -- ---- queues
 
@@ -80,7 +80,7 @@ SubLe x y = nat_lt y.sub x.sub ≡ false
 sub_trans : (x y z : QueueRow) → SubLe x y → SubLe y z → SubLe x z
 sub_trans x y z e f = grind (arith, nat_tests)
 
-subs_chained : (rows : List (Bor QueueRow)) → RisesBySub rows → Chained SubLe (shown rows)
+subs_chained : (rows : List (Bor QueueRow)) → RisesBySub rows → Chained SubLe (rows_of_refs rows)
 subs_chained rows up = chain_shown SubLe sub_trans rows (λ k d l. up k d (omega arith) l)
 
 below_keeps : (sub a b : ℕ) → nat_lt b a ≡ false → nat_lt b sub ≡ true → nat_lt a sub ≡ true

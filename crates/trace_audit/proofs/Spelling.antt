@@ -12,7 +12,7 @@ use Rattle.mcast_txn.specs.declared.id.Topic.{Topic}
 use Rattle.mcast_txn.specs.declared.id.TxnId.{TxnId}
 use Rattle.mcast_txn.specs.declared.stamp.Stamp.{Stamp}
 use Rattle.trace_audit.specs.Parsing.{cut, onto_first}
-use Rattle.trace_audit.specs.Text.{id_text, stamp_text, topics_text, joined, IsTopicInRange, IsIdInRange, IsStampInRange}
+use Rattle.trace_audit.specs.Text.{id_text, stamp_text, topics_text, joined_text, IsTopicInRange, IsIdInRange, IsStampInRange}
 use Rattle.trace_audit.specs.Inner.Reading.{◌>>=◌, read_on, is_badly_begun, spelled_number, spelled_topic, number_before, topic_before, id_before, spelled_stamp, stamp_before, text_parts, topics_from, spelled_topics}
 use Rattle.trace_audit.proofs.Cuts.{Without, Without-append, cut_splits, cut_first, some_is, parts_first, parts_only}
 
@@ -229,12 +229,12 @@ topics_from_spelled (part ∷ parts) ts e =
     subst (λ (z : List Topic). (part ∷ parts ≡ map (λ (t : Topic). decimal t.0) z) × AllByRecursion IsTopicInRange z) (some_is (t.0 ∷ us.0) ts us.2)
     (ap (λ (z : List ℕ). z ∷ parts) one.0 ∙ ap (λ (z : List (List ℕ)). decimal t.0.0 ∷ z) more.0, (one.1, more.1))
 
-joined_onto : (b x : ℕ) (parts : List (List ℕ)) → joined b (onto_first x parts) ≡ x ∷ joined b parts
+joined_onto : (b x : ℕ) (parts : List (List ℕ)) → joined_text b (onto_first x parts) ≡ x ∷ joined_text b parts
 joined_onto b x [] = refl
 joined_onto b x (p ∷ []) = refl
 joined_onto b x (p ∷ q ∷ parts) = refl
 
-joined_after : (b : ℕ) (parts : List (List ℕ)) → parts ≢ [] → joined b ([] ∷ parts) ≡ b ∷ joined b parts
+joined_after : (b : ℕ) (parts : List (List ℕ)) → parts ≢ [] → joined_text b ([] ∷ parts) ≡ b ∷ joined_text b parts
 joined_after b [] some = absurd (some refl)
 joined_after b (p ∷ parts) some = refl
 
@@ -249,7 +249,7 @@ some_parts b (x ∷ text) e = elim (cases_eq x b) [
     onto_some x [] e = cc
     onto_some x (p ∷ parts) e = cc
 
-joined_parts : (b : ℕ) (text : List ℕ) → joined b (text_parts b text) ≡ text
+joined_parts : (b : ℕ) (text : List ℕ) → joined_text b (text_parts b text) ≡ text
 joined_parts b [] = refl
 joined_parts b (x ∷ text) = elim (cases_eq x b) [
   | inl same ↦ rw (eq-eqb x b same) (joined_after b (text_parts b text) (some_parts b text) ∙ rw (joined_parts b text, same) refl)
@@ -261,7 +261,7 @@ pub topics_spelled : (text : List ℕ) (ts : List Topic) → spelled_topics text
 unfolding spelled_topics
 topics_spelled text ts e =
     let s = topics_from_spelled (text_parts 44 text) ts e in
-    (sym (joined_parts 44 text) ∙ ap (joined 44) s.0, s.1, λ none. some_parts 44 text (s.0 ∙ ap (map (λ (t : Topic). decimal t.0)) none))
+    (sym (joined_parts 44 text) ∙ ap (joined_text 44) s.0, s.1, λ none. some_parts 44 text (s.0 ∙ ap (map (λ (t : Topic). decimal t.0)) none))
 
 topics_from_again : (ts : List Topic) → AllByRecursion IsTopicInRange ts → topics_from (map (λ (t : Topic). decimal t.0) ts) ≡ Some ts
 topics_from_again [] i = refl

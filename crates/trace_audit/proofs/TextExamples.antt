@@ -9,9 +9,9 @@ use Rattle.trace_audit.specs.AuditText.{agreed_text, bad_text, refusal_text}
 use Rattle.trace_audit.specs.declared.fault.AuditFault.TheVariants as audit
 use Rattle.trace_audit.specs.Parsing.{lines_of, AddsLines, IsBadLine, IsFirstBad}
 use Rattle.trace_audit.specs.declared.text.parse_fault.ParseFault.TheVariants as parse
-use Rattle.trace_audit.specs.Report.{key_lt, print_key}
+use Rattle.trace_audit.specs.PrintedRows.{key_lt, print_key}
 use Rattle.trace_audit.specs.Text.{row_text, SpellsRow}
-use Rattle.trace_audit.specs.Trace.{Lines, no_lines}
+use Rattle.trace_audit.specs.Trace.{TraceData, no_trace_data}
 use Rattle.trace_audit.specs.declared.row.TraceRow.{TraceRow}
 use Rattle.trace_audit.specs.declared.row.TraceRow.TheVariants as row
 
@@ -59,10 +59,10 @@ abbrev spelled : SpellsRow (codes "span 3 1 0.0 -") opened
 unfolding digits
 spelled = (refl, (omega arith, omega arith, (omega arith, omega arith), tt))
 
-one_is_added : AddsLines (lines_of (codes "span 3 1 0.0 -\n")) no_lines (record { logs = []; spans = record { sub = 3; topic = topic 1; from = stamp 0 0; to = None } ∷ []; queues = [] })
+one_is_added : AddsLines (lines_of (codes "span 3 1 0.0 -\n")) no_trace_data (record { logs = []; spans = record { sub = 3; topic = topic 1; from = stamp 0 0; to = None } ∷ []; queues = [] })
 one_is_added = (opened, spelled, refl, refl)
 
-no_row_is_empty : (lines : Lines) → IsBadLine [] lines
+no_row_is_empty : (lines : TraceData) → IsBadLine [] lines
 no_row_is_empty lines (row.Log l) s = absurd (let e = s.0 in cc)
 no_row_is_empty lines (row.Span l) s = absurd (let e = s.0 in cc)
 no_row_is_empty lines (row.Queue l) s = absurd (let e = s.0 in cc)

@@ -3,7 +3,7 @@ use Rattle.std.specs.Prelude.{◌≡◌, Bool, true, false, List, Some}
 use Rattle.mcast_txn.specs.Span.{LogRow}
 use Rattle.trace_audit.specs.Explained.{IsExplainedBy}
 use Rattle.trace_audit.specs.Faults.{audit_fault}
-use Rattle.trace_audit.specs.Trace.{Lines}
+use Rattle.trace_audit.specs.Trace.{TraceData}
 use Rattle.trace_audit.specs.declared.fault.AuditFault.{AuditFault}
 use Rattle.trace_audit.specs.declared.fault.AuditFault.TheVariants as audit
 
@@ -23,6 +23,6 @@ says_no_memory (audit.Hole t) = false
 says_no_memory (audit.QueueRow sub) = false
 
 -- the fault is the first that speaks against the trace, and no list explains it
-pub record IsRefusal (fault : AuditFault) (lines : Lines) : Type 0 where
-  pub first : audit_fault lines ≡ Some fault
-  pub unexplained : (rows : List LogRow) → IsExplainedBy rows lines → Prim.⊥
+pub record IsRefusal (fault : AuditFault) (trace : TraceData) : Type 0 where
+  pub first : audit_fault trace ≡ Some fault
+  pub unexplained : (rows : List LogRow) → IsExplainedBy rows trace → Prim.⊥

@@ -2,7 +2,7 @@
 use Rattle.std.specs.Prelude.{ℕ, Bool, List, [], ◌∷◌, ◌++◌, codes, decimal, if◌then◌else◌}
 use Rattle.std.specs.List.{flat_map}
 use Rattle.mcast_txn.specs.Span.{LogRow}
-use Rattle.trace_audit.specs.Text.{spaced, id_text, stamp_text, topics_text}
+use Rattle.trace_audit.specs.Text.{spaced_text, id_text, stamp_text, topics_text}
 use Rattle.trace_audit.specs.Faults.{audit_number}
 use Rattle.trace_audit.specs.Parsing.{parse_number}
 use Rattle.trace_audit.specs.declared.fault.AuditFault.{AuditFault}
@@ -13,7 +13,8 @@ use Rattle.trace_audit.specs.declared.text.parse_fault.ParseFault.TheVariants as
 -- a transaction that all logs agree on, as `agreed 0 1 2.1 0,1`
 abbrev pub agreed_line : LogRow → List ℕ
 agreed_line row =
-    spaced (codes "agreed" ∷ id_text row.id ∷ stamp_text row.stamp ∷ topics_text row.topics ∷ []) ++ 10 ∷ []
+    spaced_text (codes "agreed" ∷ id_text row.id ∷ stamp_text row.stamp ∷ topics_text row.topics ∷ [])
+    ++ 10 ∷ []
 
 -- a yes: a line for each transaction, and then `complete` or `incomplete`
 abbrev pub agreed_text : List LogRow → Bool → List ℕ
@@ -32,7 +33,7 @@ fault_words audit.SameStamp = codes "SameStamp" ∷ []
 
 -- a no: the fault's number and its name, as `no 95 Hole 1`
 abbrev pub refusal_text : AuditFault → List ℕ
-refusal_text fault = spaced (codes "no" ∷ decimal (audit_number fault) ∷ fault_words fault) ++ 10 ∷ []
+refusal_text fault = spaced_text (codes "no" ∷ decimal (audit_number fault) ∷ fault_words fault) ++ 10 ∷ []
 
 -- a fault's name, with its line where it has one
 abbrev pub parse_words : ParseFault → List (List ℕ)
@@ -41,4 +42,4 @@ parse_words parse.NoMemory = codes "NoMemory" ∷ []
 
 -- that a text is no trace: the fault's number and its name, as `bad 90 BadRow 2`
 abbrev pub bad_text : ParseFault → List ℕ
-bad_text fault = spaced (codes "bad" ∷ decimal (parse_number fault) ∷ parse_words fault) ++ 10 ∷ []
+bad_text fault = spaced_text (codes "bad" ∷ decimal (parse_number fault) ∷ parse_words fault) ++ 10 ∷ []

@@ -11,53 +11,55 @@ use Rattle.mcast_txn.specs.Checks.{first_refusal}
 use Rattle.mcast_txn.specs.Ids.{same_id}
 use Rattle.mcast_txn.specs.Span.{LogRow}
 use Rattle.mcast_txn.specs.Stamp.{same_stamp, stamp_lt}
-use Rattle.trace_audit.specs.Line.{LogLine}
-use Rattle.trace_audit.specs.declared.mark.Mark.{Mark}
+use Rattle.trace_audit.specs.Logs.{LogLine}
+use Rattle.mcast_txn.specs.declared.mark.Mark.{Mark}
 use Rattle.trace_audit.specs.declared.row.SpanRow.{SpanRow}
-use Rattle.trace_audit.specs.Trace.{Lines, queue_of, marks_in}
+use Rattle.trace_audit.specs.Trace.{TraceData, queue_of, marks_in}
 use Rattle.trace_audit.specs.declared.fault.AuditFault.{AuditFault}
 use Rattle.trace_audit.specs.declared.fault.AuditFault.TheVariants as audit
 use Rattle.trace_audit.specs.declared.fault.AddFault.{AddFault}
 use Rattle.trace_audit.specs.declared.fault.AddFault.TheVariants as add
 
 -- the rows are of one transaction, and differ in stamp or topics
-abbrev pub differ : LogRow → LogRow → Bool
-differ a b =
+abbrev pub are_different : LogRow → LogRow → Bool
+are_different a b =
     same_id a.id b.id
     && not (same_stamp a.stamp b.stamp && pointwise (λ t u. t.0 == u.0) a.topics b.topics)
 
 -- the rows are of two transactions, and have one stamp
-abbrev pub collide : LogRow → LogRow → Bool
-collide a b = not (same_id a.id b.id) && same_stamp a.stamp b.stamp
+abbrev pub are_colliding : LogRow → LogRow → Bool
+are_colliding a b = not (same_id a.id b.id) && same_stamp a.stamp b.stamp
 
 -- the rows are of one sender, the first is before the second, and its seq isn't below the other's
-abbrev pub overtake : LogRow → LogRow → Bool
-overtake a b = a.id.sender.0 == b.id.sender.0 && (stamp_lt a.stamp b.stamp && not (nat_lt a.id.seq b.id.seq))
+abbrev pub are_disordered : LogRow → LogRow → Bool
+are_disordered a b =
+    a.id.sender.0 == b.id.sender.0 && (stamp_lt a.stamp b.stamp && not (nat_lt a.id.seq b.id.seq))
 
 -- the test holds of some two of the logs' rows
 abbrev pub some_two : (LogRow → LogRow → Bool) → List LogLine → Bool
 some_two test logs = list_any (λ a. list_any (λ b. test a.row b.row) logs) logs
 
 -- the second line, which comes later, is of the first one's log, and isn't above it
-abbrev pub falls : LogLine → LogLine → Bool
-falls a b = a.topic.0 == b.topic.0 && not (stamp_lt a.row.stamp b.row.stamp)
+abbrev pub are_falling : LogLine → LogLine → Bool
+are_falling a b = a.topic.0 == b.topic.0 && not (stamp_lt a.row.stamp b.row.stamp)
 
 -- some log doesn't rise strictly in stamp
-abbrev pub out_of_order : List LogLine → Bool
-out_of_order [] = false
-out_of_order (x ∷ xs) = list_any (λ y. falls x y) xs || out_of_order xs
+abbrev pub is_out_of_order : List LogLine → Bool
+is_out_of_order [] = false
+is_out_of_order (x ∷ xs) = list_any (λ y. are_falling x y) xs || is_out_of_order xs
 
 -- the log of t has a row of the transaction
 abbrev pub log_has_row : Topic → TxnId → List LogLine → Bool
 log_has_row t id logs = list_any (λ line. line.topic.0 == t.0 && same_id line.row.id id) logs
 
 -- the log of t has a row of this stamp or a later one
-abbrev pub reaches : Topic → Stamp → List LogLine → Bool
-reaches t stamp logs = list_any (λ line. line.topic.0 == t.0 && not (stamp_lt line.row.stamp stamp)) logs
+abbrev pub log_has_row_from : Topic → Stamp → List LogLine → Bool
+log_has_row_from t stamp logs =
+    list_any (λ line. line.topic.0 == t.0 && not (stamp_lt line.row.stamp stamp)) logs
 
 -- the log of t goes on to the row's stamp or beyond, and lacks the row
 abbrev pub is_hole : List LogLine → LogRow → Topic → Bool
-is_hole logs row t = not (log_has_row t row.id logs) && reaches t row.stamp logs
+is_hole logs row t = not (log_has_row t row.id logs) && log_has_row_from t row.stamp logs
 
 -- the topics, by their numbers, whose logs lack a row that names them and that they go beyond
 abbrev pub holes : List LogLine → List ℕ
@@ -68,12 +70,12 @@ abbrev pub same_mark : Mark → Mark → Bool
 same_mark a b = same_id a.id b.id && same_stamp a.stamp b.stamp
 
 -- the subscription's queue isn't its topic's log restricted to its span
-abbrev pub is_astray : Lines → SpanRow → Bool
-is_astray lines line = not (pointwise same_mark (queue_of line.sub lines.queues) (marks_in line lines.logs))
+abbrev pub is_astray : TraceData → SpanRow → Bool
+is_astray trace line = not (pointwise same_mark (queue_of line.sub trace.queues) (marks_in line trace.logs))
 
--- the subscriptions whose queues are so
-abbrev pub astray : Lines → List ℕ
-astray lines = map (λ line. line.sub) (filter (λ line. is_astray lines line) lines.spans)
+-- the subscriptions whose queues are astray
+abbrev pub astray_subs : TraceData → List ℕ
+astray_subs trace = map (λ line. line.sub) (filter (λ line. is_astray trace line) trace.spans)
 
 -- the smaller of two, where there are two
 abbrev pub lesser : Option ℕ → Option ℕ → Option ℕ
@@ -91,19 +93,19 @@ abbrev pub hole_fault : List LogLine → Option AuditFault
 hole_fault logs = option_map (λ n. audit.Hole (record { 0 = n })) (least (holes logs))
 
 -- 96, of the least subscription whose queue is astray
-abbrev pub queue_fault : Lines → Option AuditFault
-queue_fault lines = option_map (λ n. audit.QueueRow n) (least (astray lines))
+abbrev pub queue_fault : TraceData → Option AuditFault
+queue_fault trace = option_map (λ n. audit.QueueRow n) (least (astray_subs trace))
 
 -- the first that speaks against the trace
-abbrev pub audit_fault : Lines → Option AuditFault
-audit_fault lines =
+abbrev pub audit_fault : TraceData → Option AuditFault
+audit_fault trace =
     option_or (first_refusal (
-    (some_two differ lines.logs, audit.TwoVerdicts)
-    ∷ (some_two collide lines.logs, audit.SameStamp)
-    ∷ (out_of_order lines.logs, audit.LogOrder)
-    ∷ (some_two overtake lines.logs, audit.SenderOrder)
+    (some_two are_different trace.logs, audit.TwoVerdicts)
+    ∷ (some_two are_colliding trace.logs, audit.SameStamp)
+    ∷ (is_out_of_order trace.logs, audit.LogOrder)
+    ∷ (some_two are_disordered trace.logs, audit.SenderOrder)
     ∷ []))
-    (option_or (hole_fault lines.logs) (queue_fault lines))
+    (option_or (hole_fault trace.logs) (queue_fault trace))
 
 -- each row of a log is in the log of each of its topics
 abbrev pub is_whole : List LogLine → Bool

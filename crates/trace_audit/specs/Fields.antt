@@ -1,6 +1,6 @@
 -- Lines of fields: what each field of a line is written as.
 use Rattle.std.specs.Prelude.{ℕ, List, map, decimal}
-use Rattle.trace_audit.specs.Text.{spaced, id_text, stamp_text, end_text, topics_text}
+use Rattle.trace_audit.specs.Text.{spaced_text, id_text, stamp_text, end_text, topics_text}
 use Rattle.trace_audit.specs.declared.text.field.Field.{Field}
 use Rattle.trace_audit.specs.declared.text.field.Field.TheVariants as field
 
@@ -16,4 +16,4 @@ field_text (field.Topics topics) = topics_text topics.now
 
 -- the fields with a space between each two
 abbrev pub fields_text : List Field → List ℕ
-fields_text fields = spaced (map field_text fields)
+fields_text fields = spaced_text (map field_text fields)

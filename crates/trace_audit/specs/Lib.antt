@@ -3,9 +3,9 @@ pub mod AuditText
 pub mod Explained
 pub mod Faults
 pub mod Fields
-pub mod Line
+pub mod Logs
 pub mod Parsing
-pub mod Report
+pub mod PrintedRows
 pub mod Rereading
 pub mod Rows
 pub mod Text

@@ -3,7 +3,7 @@ use Rattle.std.specs.Prelude.{◌≡◌, ℕ, ◌+◌, true, false, ◌==◌, Li
 use Rattle.std.specs.Option.{option_map}
 use Rattle.trace_audit.specs.Rows.{is_misfit, with_row}
 use Rattle.trace_audit.specs.Text.{SpellsRow}
-use Rattle.trace_audit.specs.Trace.{Lines, no_lines}
+use Rattle.trace_audit.specs.Trace.{TraceData, no_trace_data}
 use Rattle.trace_audit.specs.declared.row.TraceRow.{TraceRow}
 use Rattle.trace_audit.specs.declared.text.parse_fault.ParseFault.{ParseFault}
 use Rattle.trace_audit.specs.declared.text.parse_fault.ParseFault.TheVariants as parse
@@ -26,25 +26,25 @@ cut b [] = None
 cut b (x ∷ text) = if x == b then Some ([], text) else option_map (λ p. (x ∷ p.0, p.1)) (cut b text)
 
 -- each of these lines spells a row that fits, and the rows in order lead from one trace to the other
-abbrev pub AddsLines : List (List ℕ) → Lines → Lines → Type 0
+abbrev pub AddsLines : List (List ℕ) → TraceData → TraceData → Type 0
 AddsLines [] old new = new ≡ old
 AddsLines (line ∷ lines) old new =
     (row : TraceRow) × SpellsRow line row × (is_misfit row old ≡ false)
     × AddsLines lines (with_row row old) new
 
 -- the line can't be added to the trace: it spells no row, or one that doesn't fit
-abbrev pub IsBadLine : List ℕ → Lines → Type 0
-IsBadLine line lines = (row : TraceRow) → SpellsRow line row → is_misfit row lines ≡ true
+abbrev pub IsBadLine : List ℕ → TraceData → Type 0
+IsBadLine line trace = (row : TraceRow) → SpellsRow line row → is_misfit row trace ≡ true
 
 -- line n, from 1, is the first that can't be added
 pub record IsFirstBad (lines : List (List ℕ)) (n : ℕ) : Type 0 where
   pub front : List (List ℕ)
   pub line : List ℕ
   pub back : List (List ℕ)
-  pub trace : Lines
+  pub trace : TraceData
   pub cut : lines ≡ front ++ line ∷ back
   pub number : n ≡ length front + 1
-  pub added : AddsLines front no_lines trace
+  pub added : AddsLines front no_trace_data trace
   pub bad : IsBadLine line trace
 
 -- the fault is that of this text
@@ -53,7 +53,7 @@ IsParseFault text (parse.BadRow n) = IsFirstBad (lines_of text) n
 IsParseFault text parse.NoMemory = Unit {0}
 
 -- what a call returned is this answer, unless memory ran out
-abbrev pub GivesTrace : Result Lines ParseFault → Result Lines ParseFault → Type 0
+abbrev pub GivesTrace : Result TraceData ParseFault → Result TraceData ParseFault → Type 0
 GivesTrace (Ok trace) answer = answer ≡ Ok trace
 GivesTrace (Err (parse.BadRow n)) answer = answer ≡ Err (parse.BadRow n)
 GivesTrace (Err parse.NoMemory) answer = Unit {0}

@@ -11,22 +11,22 @@ use Rattle.trace_audit.specs.declared.row.TraceRow.TheVariants as row
 -- ---- what a row's line is; a number is its decimal digits
 
 -- texts with this octet between each two
-abbrev pub joined : ℕ → List (List ℕ) → List ℕ
-joined b [] = []
-joined b (text ∷ []) = text
-joined b (text ∷ next ∷ texts) = text ++ b ∷ joined b (next ∷ texts)
+abbrev pub joined_text : ℕ → List (List ℕ) → List ℕ
+joined_text b [] = []
+joined_text b (text ∷ []) = text
+joined_text b (text ∷ next ∷ texts) = text ++ b ∷ joined_text b (next ∷ texts)
 
 -- texts with a space between each two
-abbrev pub spaced : List (List ℕ) → List ℕ
-spaced texts = joined 32 texts
+abbrev pub spaced_text : List (List ℕ) → List ℕ
+spaced_text texts = joined_text 32 texts
 
 -- a transaction: its sender and its seq, as `0 1`
 abbrev pub id_text : TxnId → List ℕ
-id_text id = spaced (decimal id.sender.0 ∷ decimal id.seq ∷ [])
+id_text id = spaced_text (decimal id.sender.0 ∷ decimal id.seq ∷ [])
 
 -- a stamp: its number and its topic with a dot between them, as `2.1`
 abbrev pub stamp_text : Stamp → List ℕ
-stamp_text stamp = joined 46 (decimal stamp.n ∷ decimal stamp.topic.0 ∷ [])
+stamp_text stamp = joined_text 46 (decimal stamp.n ∷ decimal stamp.topic.0 ∷ [])
 
 -- the end of a span: its stamp, or `-` where it is open
 abbrev pub end_text : Option Stamp → List ℕ
@@ -35,20 +35,20 @@ end_text (Some stamp) = stamp_text stamp
 
 -- topics with commas between them, as `0,1`
 abbrev pub topics_text : List Topic → List ℕ
-topics_text topics = joined 44 (map (λ t. decimal t.0) topics)
+topics_text topics = joined_text 44 (map (λ t. decimal t.0) topics)
 
 -- A row's line without its end. So transaction 1 of sender 0 in the log of topic 1 is `log 1 0 1 2.1 0,1`,
 -- the open span of subscription 3 at topic 1 is `span 3 1 0.0 -`, and that transaction in its queue
 -- `queue 3 0 1 2.1`.
 abbrev pub row_text : TraceRow → List ℕ
 row_text (row.Log line) =
-    spaced (codes "log" ∷ decimal line.topic.0
+    spaced_text (codes "log" ∷ decimal line.topic.0
     ∷ id_text line.row.id ∷ stamp_text line.row.stamp ∷ topics_text line.row.topics ∷ [])
 row_text (row.Span span) =
-    spaced (codes "span" ∷ decimal span.sub ∷ decimal span.topic.0
+    spaced_text (codes "span" ∷ decimal span.sub ∷ decimal span.topic.0
     ∷ stamp_text span.from ∷ end_text span.to ∷ [])
 row_text (row.Queue line) =
-    spaced (codes "queue" ∷ decimal line.sub ∷ id_text line.id ∷ stamp_text line.stamp ∷ [])
+    spaced_text (codes "queue" ∷ decimal line.sub ∷ id_text line.id ∷ stamp_text line.stamp ∷ [])
 
 -- ---- the numbers that fit their types
 

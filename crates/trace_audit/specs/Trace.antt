@@ -2,22 +2,22 @@
 use Rattle.std.specs.Prelude.{Bool, true, ◌==◌, ◌&&◌, ℕ, nat_lt, List, [], ◌∷◌, Option, Some, None, map}
 use Rattle.std.specs.List.{filter, list_any}
 use Rattle.mcast_txn.specs.declared.id.Topic.{Topic}
-use Rattle.mcast_txn.specs.Span.{LogRow, in_span}
+use Rattle.mcast_txn.specs.Span.{LogRow, in_span, row_mark}
 use Rattle.mcast_txn.specs.TopicSet.{names}
-use Rattle.trace_audit.specs.Line.{LogLine}
-use Rattle.trace_audit.specs.declared.mark.Mark.{Mark}
+use Rattle.trace_audit.specs.Logs.{LogLine}
+use Rattle.mcast_txn.specs.declared.mark.Mark.{Mark}
 use Rattle.trace_audit.specs.declared.row.SpanRow.{SpanRow}
 use Rattle.trace_audit.specs.declared.row.QueueRow.{QueueRow}
 
 -- what a trace has
-pub record Lines : Type 0 where
+pub record TraceData : Type 0 where
   pub logs : List LogLine
   pub spans : List SpanRow
   pub queues : List QueueRow
 
 -- no rows
-abbrev pub no_lines : Lines
-no_lines = record { logs = []; spans = []; queues = [] }
+abbrev pub no_trace_data : TraceData
+no_trace_data = record { logs = []; spans = []; queues = [] }
 
 -- the rows of all logs
 abbrev pub rows_of : List LogLine → List LogRow
@@ -26,10 +26,6 @@ rows_of logs = map (λ line. line.row) logs
 -- a topic's log
 abbrev pub log_of : Topic → List LogLine → List LogRow
 log_of t logs = rows_of (filter (λ line. line.topic.0 == t.0) logs)
-
--- a log row's mark
-abbrev pub row_mark : LogRow → Mark
-row_mark row = record { id = row.id; stamp = row.stamp }
 
 -- a queue row's mark
 abbrev pub queue_mark : QueueRow → Mark

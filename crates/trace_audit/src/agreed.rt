@@ -3,8 +3,8 @@
 use crate::row::LogRow;
 use std::marker::Model;
 
-/// The transactions of a trace by rising stamp, each by a row of one of its logs, and whether each is in the log of each of
-/// its topics. It lends the trace's own rows. In contracts it is the rows, and whether they are complete.
+/// The transactions of a trace by rising stamp, each by a row of one of its logs, and whether each is in the log of
+/// each of its topics. It lends the trace's own rows. In contracts it is the rows, and whether they are complete.
 #[derive(Drop)]
 pub struct Agreed<'a> {
     pub rows: Vec<&'a LogRow>,

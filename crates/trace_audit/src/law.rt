@@ -4,11 +4,11 @@ ghost use Rattle.std.specs.Prelude.{◌≡◌, List};
 ghost use Rattle.mcast_txn.specs.Span.{LogRow};
 ghost use Rattle.trace_audit.specs.Explained.{IsExplainedBy};
 ghost use Rattle.trace_audit.specs.Rereading.{PrintedIsRead, SortedIsReadAsItself};
-ghost use Rattle.trace_audit.specs.Trace.{Lines};
+ghost use Rattle.trace_audit.specs.Trace.{TraceData};
 
 /// A trace is explained by one list of transactions at most.
 pub fn one_list()
-    ensures { (trace : Lines) (rows others : List LogRow)
+    ensures { (trace : TraceData) (rows others : List LogRow)
         → IsExplainedBy rows trace → IsExplainedBy others trace → rows ≡ others }
 {}
 

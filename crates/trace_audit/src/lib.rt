@@ -3,13 +3,12 @@
 
 mod agreed;
 mod auditor;
-mod checks;
 mod fault;
 pub mod law;
+mod log_checks;
 mod logs;
-mod mark;
-mod marks;
 mod orders;
+mod queue_checks;
 mod ranges;
 mod references;
 mod row;
@@ -19,7 +18,6 @@ mod trace;
 pub use agreed::Agreed;
 pub use auditor::audit;
 pub use fault::{AddFault, AuditFault};
-pub use mark::Mark;
 pub use mcast_txn::{NoMemory, Sender, Stamp, Topic, TxnId};
 pub use row::{LogRow, QueueRow, SpanRow, TraceRow};
 pub use text::{Field, ParseFault, first_line, put_line, read_number, split_at_first};

@@ -2,7 +2,7 @@
 
 ghost use Rattle.std.specs.Prelude.{◌≡◌, IfOk};
 ghost use Rattle.std.specs.List.Sorted.{IsPermutation};
-ghost use Rattle.trace_audit.specs.Inner.Orders.{shown, IsOrderedById, RisesByStamp, RisesByTopic, IsGroupingOf, IsOrdersOf};
+ghost use Rattle.trace_audit.specs.Inner.Orders.{rows_of_refs, IsOrderedById, RisesByStamp, RisesByTopic, IsGroupingOf, IsOrdersOf};
 
 use crate::references::references;
 use crate::row::LogRow;
@@ -18,9 +18,10 @@ pub(crate) struct Orders<'a> {
 }
 
 impl<'a> Orders<'a> {
-    // The orders of these rows.
+    /// The orders of these rows.
     pub(crate) fn of(alloc: Global, logs: &'a [LogRow]) -> Result<Orders<'a>, NoMemory>
-        ensures { IfOk result (λ orders. IsOrdersOf orders.by_id.items orders.by_stamp.items orders.by_topic.items logs.now) }
+        ensures { IfOk result (λ orders.
+            IsOrdersOf orders.by_id.items orders.by_stamp.items orders.by_topic.items logs.now) }
     {
         Ok(Orders {
             by_id: by_id(alloc, logs)?,
@@ -29,7 +30,7 @@ impl<'a> Orders<'a> {
         })
     }
 
-    // The rows by stamp. The other orders are let go.
+    /// The rows by stamp. The other orders are let go.
     pub(crate) fn into_by_stamp(self) -> Vec<&'a LogRow>
         ensures { result.items ≡ self.entry.by_stamp.items }
     {
@@ -37,27 +38,27 @@ impl<'a> Orders<'a> {
     }
 }
 
-// The rows by sender, and each sender's by seq.
+/// The rows by sender, and each sender's by seq.
 fn by_id(alloc: Global, logs: &[LogRow]) -> Result<Vec<&LogRow>, NoMemory>
     ensures rises { IfOk result (λ rows. IsOrderedById rows.items) }
-    ensures moved { IfOk result (λ rows. IsPermutation logs.now (shown rows.items)) }
+    ensures moved { IfOk result (λ rows. IsPermutation logs.now (rows_of_refs rows.items)) }
 {
     let mut rows = references(alloc, logs)?;
     rows.sort_unstable_by_key(|row| row.id);
     Ok(rows)
 }
 
-// The rows by stamp.
+/// The rows by stamp.
 fn by_stamp(alloc: Global, logs: &[LogRow]) -> Result<Vec<&LogRow>, NoMemory>
     ensures rises { IfOk result (λ rows. RisesByStamp rows.items) }
-    ensures moved { IfOk result (λ rows. IsPermutation logs.now (shown rows.items)) }
+    ensures moved { IfOk result (λ rows. IsPermutation logs.now (rows_of_refs rows.items)) }
 {
     let mut rows = references(alloc, logs)?;
     rows.sort_unstable_by_key(|row| row.stamp);
     Ok(rows)
 }
 
-// The rows by their logs' topics, each log in its order.
+/// The rows by their logs' topics, each log in its order.
 fn by_topic(alloc: Global, logs: &[LogRow]) -> Result<Vec<&LogRow>, NoMemory>
     ensures rises { IfOk result (λ rows. RisesByTopic rows.items) }
     ensures grouping { IfOk result (λ rows. IsGroupingOf rows.items logs.now) }

@@ -2,7 +2,7 @@
 
 ghost use Rattle.std.specs.Prelude.{◌≡◌, true, map};
 ghost use Rattle.std.specs.List.{AllByRecursion, list_all};
-ghost use Rattle.trace_audit.specs.Report.{rows_in};
+ghost use Rattle.trace_audit.specs.PrintedRows.{rows_in};
 ghost use Rattle.trace_audit.specs.Text.{IsTopicInRange, IsIdInRange, IsStampInRange, IsRowInRange};
 ghost use Rattle.trace_audit.specs.Trace.{fits};
 ghost use Rattle.trace_audit.specs.declared.row.TraceRow.TheVariants as row_kind;
@@ -12,7 +12,8 @@ use crate::trace::Trace;
 use mcast_txn::{Stamp, Topic, TxnId};
 
 impl Trace {
-    /// Each number of its rows fits its type, and each log's row names a topic. It reads the rows, and does nothing else.
+    /// Each number of its rows fits its type, and each log's row names a topic. It reads the rows, and does nothing
+    /// else.
     pub fn numbers_fit(&self)
         ensures { AllByRecursion IsRowInRange (rows_in self.now) }
     {
@@ -22,7 +23,7 @@ impl Trace {
     }
 }
 
-// Those of rows of logs do.
+/// Those of rows of logs do.
 fn logs_fit(logs: &[LogRow])
     requires { list_all (λ line. fits line) logs.now ≡ true }
     ensures { AllByRecursion IsRowInRange (map (λ line. row_kind.Log line) logs.now) }
@@ -32,7 +33,7 @@ fn logs_fit(logs: &[LogRow])
     }
 }
 
-// Those of spans do.
+/// Those of spans do.
 fn spans_fit(spans: &[SpanRow])
     ensures { AllByRecursion IsRowInRange (map (λ span. row_kind.Span span) spans.now) }
 {
@@ -41,7 +42,7 @@ fn spans_fit(spans: &[SpanRow])
     }
 }
 
-// Those of rows of queues do.
+/// Those of rows of queues do.
 fn queues_fit(queues: &[QueueRow])
     ensures { AllByRecursion IsRowInRange (map (λ line. row_kind.Queue line) queues.now) }
 {
@@ -50,7 +51,7 @@ fn queues_fit(queues: &[QueueRow])
     }
 }
 
-// Those of a row of a log do.
+/// Those of a row of a log do.
 fn log_fits(row: &LogRow)
     requires { fits row.now ≡ true }
     ensures { IsRowInRange (row_kind.Log row.now) }
@@ -61,7 +62,7 @@ fn log_fits(row: &LogRow)
     topics_fit(&row.topics);
 }
 
-// Those of a span do.
+/// Those of a span do.
 fn span_fits(row: SpanRow)
     ensures { IsRowInRange (row_kind.Span row) }
 {
@@ -72,7 +73,7 @@ fn span_fits(row: SpanRow)
     }
 }
 
-// Those of a row of a queue do.
+/// Those of a row of a queue do.
 fn queue_fits(row: QueueRow)
     ensures { IsRowInRange (row_kind.Queue row) }
 {
@@ -80,7 +81,7 @@ fn queue_fits(row: QueueRow)
     stamp_fits(row.stamp);
 }
 
-// Those of topics do.
+/// Those of topics do.
 fn topics_fit(topics: &[Topic])
     ensures { AllByRecursion IsTopicInRange topics.now }
 {
@@ -89,14 +90,14 @@ fn topics_fit(topics: &[Topic])
     }
 }
 
-// That of a topic does.
+/// That of a topic does.
 fn topic_fits(topic: Topic)
     ensures { IsTopicInRange topic }
 {
     let _number = topic.0;
 }
 
-// Those of a transaction do.
+/// Those of a transaction do.
 fn id_fits(id: TxnId)
     ensures { IsIdInRange id }
 {
@@ -104,7 +105,7 @@ fn id_fits(id: TxnId)
     let _seq = id.seq;
 }
 
-// Those of a stamp do.
+/// Those of a stamp do.
 fn stamp_fits(stamp: Stamp)
     ensures { IsStampInRange stamp }
 {

@@ -13,11 +13,14 @@ pub struct LogRow {
 }
 
 impl Model for LogRow {
-    ghost use Rattle.trace_audit.specs.Line.{LogLine};
+    ghost use Rattle.trace_audit.specs.Logs.{LogLine};
 
     ghost Value = { LogLine };
 
-    ghost view = { λ r. record { topic = r.topic; row = record { id = r.id; topics = r.topics.items; stamp = r.stamp } } };
+    ghost view = { λ r. record {
+      topic = r.topic;
+      row = record { id = r.id; topics = r.topics.items; stamp = r.stamp };
+    } };
 }
 
 /// A subscription: its number, its topic, the stamp after which it begins, and its last stamp, once it has ended.

@@ -3,7 +3,7 @@
 ghost use Rattle.std.specs.Prelude.{◌≡◌, ◌&&◌, ◌==◌, ℕ, true, false, None, IfErr, OnOk, OnErr};
 ghost use Rattle.std.specs.List.{list_any};
 ghost use Rattle.mcast_txn.specs.TopicSet.{names};
-ghost use Rattle.trace_audit.specs.Trace.{no_lines, rise_after, fits, has_span};
+ghost use Rattle.trace_audit.specs.Trace.{no_trace_data, rise_after, fits, has_span};
 
 use crate::fault::AddFault;
 use crate::row::{LogRow, QueueRow, SpanRow, TraceRow};
@@ -12,8 +12,8 @@ use mcast_txn::Topic;
 use std::alloc::Global;
 use std::marker::Model;
 
-/// What a run left: the rows of its topics' logs, and its subscriptions' spans and queues. In contracts it is these three
-/// lists, each in the order in which the rows were added.
+/// What a run left: the rows of its topics' logs, and its subscriptions' spans and queues. In contracts it is these
+/// three lists, each in the order in which the rows were added.
 #[derive(Drop)]
 pub struct Trace {
     pub(crate) logs: Vec<LogRow>,
@@ -26,13 +26,14 @@ pub struct Trace {
 impl Model for Trace {
     ghost use Rattle.std.specs.Prelude.{◌≡◌, true, map};
     ghost use Rattle.std.specs.List.{list_all};
-    ghost use Rattle.trace_audit.specs.Trace.{Lines, fits};
+    ghost use Rattle.trace_audit.specs.Trace.{TraceData, fits};
 
-    ghost Value = { Lines };
+    ghost Value = { TraceData };
 
     ghost view = { λ t. record { logs = t.logs.items; spans = t.spans.items; queues = t.queues.items } };
 
-    ghost invariant = { λ t. (list_all (λ line. fits line) t.logs.items ≡ true) × (t.subs.keys ≡ map (λ line. line.sub) t.spans.items) };
+    ghost invariant = { λ t. (list_all (λ line. fits line) t.logs.items ≡ true)
+        × (t.subs.keys ≡ map (λ line. line.sub) t.spans.items) };
 }
 
 impl Trace {
@@ -41,7 +42,7 @@ impl Trace {
 
     /// A trace without rows.
     pub fn new(alloc: Global) -> Trace
-        ensures { result ≡ no_lines }
+        ensures { result ≡ no_trace_data }
     {
         Trace {
             logs: Vec::new(alloc),
@@ -73,7 +74,7 @@ impl Trace {
         }
     }
 
-    // Opens a subscription's first span; whether there was memory. If not, the trace is as it was.
+    /// Opens a subscription's first span; whether there was memory. If not, the trace is as it was.
     fn opens(&mut self, row: SpanRow) -> bool
         requires { has_span row.sub self.old.spans ≡ false }
         ensures yes { result ≡ true → self.new ≡ with_row (row_kind.Span row) self.old }
@@ -91,7 +92,7 @@ impl Trace {
         }
     }
 
-    // Whether a row doesn't fit.
+    /// Whether a row doesn't fit.
     fn is_misfit(&self, row: &TraceRow) -> bool
         ensures { result ≡ is_misfit row.now self.now }
     {
@@ -102,7 +103,7 @@ impl Trace {
         }
     }
 
-    // Whether a subscription has a span.
+    /// Whether a subscription has a span.
     fn has_span(&self, sub: u64) -> bool
         ensures { result ≡ has_span sub self.now.spans }
     {
@@ -110,14 +111,14 @@ impl Trace {
     }
 }
 
-// Whether a log row's topics rise, and its log's own is one of them.
+/// Whether a log row's topics rise, and its log's own is one of them.
 fn fits(row: &LogRow) -> bool
     ensures { result ≡ fits row.now }
 {
     rise(&row.topics) && names(row.topic, &row.topics)
 }
 
-// Whether the topics rise strictly.
+/// Whether the topics rise strictly.
 fn rise(topics: &[Topic]) -> bool
     ensures { result ≡ rise_after None topics.now }
 {
@@ -131,7 +132,7 @@ fn rise(topics: &[Topic]) -> bool
     true
 }
 
-// Whether a topic is one of these.
+/// Whether a topic is one of these.
 pub(crate) fn names(topic: Topic, topics: &[Topic]) -> bool
     ensures { result ≡ names topic topics.now }
 {

@@ -4,6 +4,7 @@ use Rattle.std.specs.Option.{option_map, option_map_or}
 use Rattle.std.specs.Str.{bytes_eq}
 use Rattle.mcast_txn.specs.declared.id.Topic.{Topic}
 use Rattle.mcast_txn.specs.declared.id.TxnId.{TxnId}
+use Rattle.trace_audit.specs.Inner.InTurn.{added_from}
 use Rattle.trace_audit.specs.Inner.Reading.{◌>>=◌, spelled_number}
 use Rattle.trace_audit.specs.Parsing.{cut}
 use Rattle.delivery.specs.declared.event.Event.{Event}
@@ -14,8 +15,8 @@ use Rattle.broker_server.specs.declared.script.misread.Misread.{Misread}
 use Rattle.broker_server.specs.declared.script.misread.Misread.TheVariants as misread
 use Rattle.broker_server.specs.declared.script.script_fault.ScriptFault.{ScriptFault}
 use Rattle.broker_server.specs.declared.script.script_fault.ScriptFault.TheVariants as fault
-use Rattle.broker_server.specs.declared.script.said.Said.{Said}
-use Rattle.broker_server.specs.declared.script.said.Said.TheVariants as said
+use Rattle.broker_server.specs.declared.script.line_content.LineContent.{LineContent}
+use Rattle.broker_server.specs.declared.script.line_content.LineContent.TheVariants as content
 
 -- ---- TEXT
 
@@ -145,42 +146,41 @@ abbrev pub read_by : List Reader → List ℕ → List ℕ → Option ScriptLine
 read_by [] word text = None
 read_by (r ∷ rs) word text = if bytes_eq word r.word then r.reads text else read_by rs word text
 
--- a line that isn't skipped
-unfoldable pub worded : List ℕ → Option ScriptLine
-worded line =
+-- what a line says that isn't skipped
+unfoldable pub words_read : List ℕ → Option ScriptLine
+words_read line =
     option_map_or (λ p. read_by readers p.0 p.1) (cut 32 line)
     (if bytes_eq line (codes "open") then Some (Asks event.Open) else None)
 
 unfoldable pub line_read : List ℕ → Option ScriptLine
 line_read [] = Some SaysNothing
-line_read (b ∷ line) = if b == 35 then Some SaysNothing else worded (b ∷ line)
+line_read (b ∷ line) = if b == 35 then Some SaysNothing else words_read (b ∷ line)
 
 -- ---- texts
 
--- what a line says, where it is
-abbrev pub said_of : Said → ScriptLine
-said_of said.Nothing = SaysNothing
-said_of (said.Capacity n) = NamesCapacity n
-said_of (said.Topic name clock) = NamesTopic name.now clock
-said_of (said.Event e) = Asks e
+-- what a line says, of what the code makes of it
+abbrev pub script_line_of : LineContent → ScriptLine
+script_line_of content.Nothing = SaysNothing
+script_line_of (content.Capacity n) = NamesCapacity n
+script_line_of (content.Topic name clock) = NamesTopic name.now clock
+script_line_of (content.Event e) = Asks e
 
 -- a topic's name isn't empty
 abbrev pub HasName : ScriptLine → Type 0
 HasName (NamesTopic name clock) = name ≢ []
 HasName _ = Unit {0}
 
--- the script with what a line says, where it may stand there
-abbrev pub placed : ScriptLine → ScriptData → Option ScriptData
-placed line script = if is_in_place line script then Some (with_line line script) else None
+-- the script after what a line says, where that may stand there
+abbrev pub after_content : ScriptLine → ScriptData → Option ScriptData
+after_content line script = if is_in_place line script then Some (with_line line script) else None
 
-unfoldable pub script_added : List ℕ → ScriptData → Option ScriptData
-script_added line script = line_read line >>= λ said. placed said script
+-- the script after a line
+unfoldable pub after_line : List ℕ → ScriptData → Option ScriptData
+after_line line script = line_read line >>= λ content. after_content content script
 
 -- the script with these lines, or the number of the first that can't stand there, counted from n
 abbrev pub script_from : ℕ → List (List ℕ) → ScriptData → Result ScriptData ℕ
-script_from n [] script = Ok script
-script_from n (line ∷ more) script =
-    option_map_or (λ new. script_from (n + 1) more new) (script_added line script) (Err n)
+script_from n lines script = added_from after_line n lines script
 
 -- what a call returned is what is read, unless memory ran out
 abbrev pub GivesField : {A B : Type 0} → (A → B) → Result A Misread → Option B → Type 0

@@ -22,9 +22,9 @@ use Rattle.broker_server.specs.RelayFaults.{relay_fault, relay_fault_title}
 use Rattle.broker_server.specs.Input.{input_limit}
 use Rattle.broker_server.specs.Relay.{standard, messages, relay_fault_error, ErrorAfterFrames}
 
--- a reader of frames that has this to read and returned no fault yet
-abbrev pub reading : List ℕ → Unread
-reading text = record { limits = standard; text = text; answered = None }
+-- this text is unread, under the standard limits, and no fault was returned yet
+abbrev pub unread_text : List ℕ → Unread
+unread_text text = record { limits = standard; text = text; answered = None }
 
 -- The sink holds the whole input; or more than the limit was read.
 abbrev pub IsGathered : {S : Type 0} → (S → List ℕ → Type 0) → Bool → Option (List ℕ) → Option (List ℕ) → S
@@ -70,7 +70,7 @@ next_of_fault fault = End (Fault fault)
 -- what comes next: the first frame, or the end
 abbrev pub IsNext : List ℕ → Unread → Next → Unread → Type 0
 IsNext name old (Message f) new =
-    BeginsWith standard old.text f new.text × (relay_fault name f ≡ None) × (new ≡ reading new.text)
+    BeginsWith standard old.text f new.text × (relay_fault name f ≡ None) × (new ≡ unread_text new.text)
 IsNext name old (End last) new = IsFinalError name old.text (last_error last)
 
 -- The relay has come so far: the frames that it has read are accepted, and it has written their messages.

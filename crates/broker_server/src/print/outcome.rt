@@ -7,9 +7,9 @@ use delivery::Outcome;
 use stomp_frame::{NoMemory, Octets};
 use trace_audit::{Field, put_line};
 
-/// Appends the outcome's line, as `sub 3 from 2.1`, and LF: a word, and what the outcome has, by its digits or, of a fault
-/// or a refusal, by its number and its name. Whether the reply was left out doesn't show. After `NoMemory` the octets are
-/// what they were.
+/// Appends the outcome's line, as `sub 3 from 2.1`, and LF: a word, and what the outcome has, by its digits or, of a
+/// fault or a refusal, by its number and its name. Whether the reply was left out doesn't show. After `NoMemory` the
+/// octets are what they were.
 pub fn print_outcome(outcome: &Outcome, out: &mut Octets) -> Result<(), NoMemory>
     ensures ok { OnOk result (out.new ≡ out.old ++ (outcome_text outcome.now ++ 10 ∷ [])) }
     ensures err { OnErr result (out.new ≡ out.old) }

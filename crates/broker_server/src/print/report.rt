@@ -6,7 +6,7 @@ ghost use Rattle.stomp_frame.specs.Writing.{Extends};
 ghost use Rattle.broker_server.specs.ReportText.{commit_line, log_line, log_lines, span_line, subscription_lines, out_rest, out_line, report_text};
 ghost use Rattle.broker_server.specs.Inner.Lines.{item_line};
 
-use crate::print::shown::put_shown;
+use crate::print::escaped_text::put_escaped_text;
 use delivery::{QueueReport, Report};
 use itoa::Buffer;
 use mcast_group::Row;
@@ -21,11 +21,11 @@ macro_rules! line {
     };
 }
 
-/// Appends the report's lines, each ended by LF: a `commit` row of each decided transaction, in the order of Decide; the
-/// `log` rows by topic, each log in its order; for each subscription by number its `span`, what its queue accepted as
-/// `queue` rows, and what of that was delivered as `handed` rows; and for each connection by number `out C`, with a space
-/// and the octets that were written to it, if there are any. An octet outside 32 to 126 and a backslash are shown as
-/// escapes: `\n`, `\r`, `\0`, `\\`, or `\xHH`. After `NoMemory` the octets are what they were.
+/// Appends the report's lines, each ended by LF: a `commit` row of each decided transaction, in the order of Decide;
+/// the `log` rows by topic, each log in its order; for each subscription by number its `span`, what its queue accepted
+/// as `queue` rows, and what of that was delivered as `handed` rows; and for each connection by number `out C`, with a
+/// space and the octets that were written to it, if there are any. An octet outside 32 to 126 and a backslash are
+/// written as escapes: `\n`, `\r`, `\0`, `\\`, or `\xHH`. After `NoMemory` the octets are what they were.
 pub fn print_report(report: &Report<'_>, out: &mut Octets) -> Result<(), NoMemory>
     ensures ok { OnOk result (out.new ≡ out.old ++ report_text report.now) }
     ensures err { OnErr result (out.new ≡ out.old) }
@@ -214,7 +214,7 @@ fn put_out(c: usize, octets: &[u8], out: &mut Octets) -> Result<(), NoMemory>
     out.push(b'\n')
 }
 
-/// Appends a space and these octets as they are shown, if there are any.
+/// Appends a space and the TEXT of these octets, if there are any.
 fn put_octets(octets: &[u8], out: &mut Octets) -> Result<(), NoMemory>
     ensures ok { OnOk result (out.new ≡ out.old ++ out_rest octets.now) }
     ensures err { OnErr result (Extends out.old out.new) }
@@ -223,5 +223,5 @@ fn put_octets(octets: &[u8], out: &mut Octets) -> Result<(), NoMemory>
         return Ok(());
     }
     out.push(b' ')?;
-    put_shown(octets, out)
+    put_escaped_text(octets, out)
 }

@@ -9,13 +9,14 @@ use Rattle.mcast_txn.specs.Stamp.{zero_stamp}
 use Rattle.mcast_txn.specs.Agreed.{committed_id, stamp_of, agreed, EachOnce, SenderOrder}
 use Rattle.mcast_txn.specs.Ids.{same_id}
 use Rattle.mcast_txn.specs.Lists.{In}
-use Rattle.mcast_txn.specs.Span.{Item, LogRow, last_stamp}
+use Rattle.mcast_txn.specs.Span.{Item, LogRow, last_stamp, item_mark}
 use Rattle.mcast_group.specs.declared.cause.Cause.{Cause}
 use Rattle.mcast_group.specs.declared.cause.Cause.TheVariants.{Asked, Lag}
 use Rattle.mcast_group.specs.Machine.{TopicState, EntryEnd, new_topic}
 use Rattle.delivery.specs.Topics.{TopicList}
 use Rattle.delivery.specs.Theorem.Due.{due, log_row}
-use Rattle.delivery.specs.Theorem.Laws.{Run, answers_of, final_world, mark_of, Mark, shared_marks}
+use Rattle.mcast_txn.specs.declared.mark.Mark.{Mark}
+use Rattle.delivery.specs.Theorem.Laws.{Run, answers_of, final_world, shared_marks}
 use Rattle.delivery.specs.Machine.Observed.{accepted_at, span_at, log_at, frontier_at, entry_to}
 use Rattle.delivery.specs.Machine.World.{World, Subscription, no_subscription, subscription_at, entry_at}
 use Rattle.delivery.specs.Machine.Moves.{Answer}
@@ -149,7 +150,7 @@ none_shared [] = refl
 none_shared (x ∷ xs) = none_shared xs
 
 alone : (items : List Item) → shared_marks [] items ≡ shared_marks items []
-alone items = sym (none_shared (map mark_of items))
+alone items = sym (none_shared (map item_mark items))
 
 one_order : (r : Run) (names : List (List ℕ)) (steps : List CoreStep) (s q : ℕ)
     → let p = report_at r names steps in shared_marks (queue_in p s).queued (queue_in p q).queued ≡ shared_marks (queue_in p q).queued (queue_in p s).queued

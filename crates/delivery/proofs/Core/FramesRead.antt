@@ -1,6 +1,6 @@
 -- What a run read of a connection are the first frames of its octets, by the grammar.
-use Rattle.std.proofs.Common.{◌≡◌, ℕ, ◌<◌, ◌==◌, Bool, true, false, cond, ◌&&◌, ◌||◌, ◌⊎◌, inl, inr, true≢false, List, [], ◌∷◌, ◌++◌, length, Option, Some, None, refl, sym, ap, subst, ◌∙◌, append_assoc, append-nil, arith}
-use Rattle.std.proofs.lemmas.Bool.{eqb-true, ltb-true, false≢true}
+use Rattle.std.proofs.Common.{◌≡◌, ℕ, ◌<◌, ◌==◌, Bool, true, false, cond, ◌&&◌, ◌⊎◌, inl, inr, true≢false, List, [], ◌∷◌, ◌++◌, length, Option, Some, None, refl, sym, ap, subst, ◌∙◌, append_assoc, append-nil, arith}
+use Rattle.std.proofs.lemmas.Bool.{eqb-true, ltb-true, false≢true, or_parts}
 use Rattle.std.proofs.lemmas.Grind.{flat_map-append}
 use Rattle.std.specs.List.{flat_map}
 use Rattle.std.specs.Option.{option_map_or, option_to_list, option_or}
@@ -8,7 +8,7 @@ use Rattle.stomp_frame.specs.declared.limits.Limits.{Limits}
 use Rattle.stomp_frame.specs.declared.raw_frame.RawFrame.{RawFrame}
 use Rattle.stomp_frame.specs.declared.fault.Check.{Check}
 use Rattle.stomp_frame.specs.Grammar.{AreEols, BeginsWith, eol}
-use Rattle.stomp_frame.specs.Reader.{Unread, fed}
+use Rattle.stomp_frame.specs.Reader.{Unread, with_piece}
 use Rattle.mcast_txn.specs.Checks.{first_refusal}
 use Rattle.mcast_txn.specs.Lists.{In}
 use Rattle.delivery.specs.Topics.{TopicList}
@@ -29,7 +29,7 @@ use Rattle.delivery.proofs.Machine.InvariantIsKept.{passes, false_not}
 use Rattle.delivery.proofs.Core.AccountOfRun.{in_option, refusal_some, world_moved, core_is}
 use Rattle.delivery.proofs.Core.ReadingsShown.{ReadsUnless, all_shown}
 use Rattle.delivery.proofs.Core.Speaking.{open_in}
-use Rattle.delivery.proofs.Views.Standings.{grown, stays_shut}
+use Rattle.delivery.proofs.Views.Endpoints.StandingOfConnection.{grown, stays_shut}
 
 -- the text is these frames, end-of-lines between them, and then this, perhaps behind more end-of-lines
 abbrev Front : Limits → List ℕ → List RawFrame → List ℕ → Type 0
@@ -132,7 +132,7 @@ fed_open k c octets o (Some why) e i f =
     absurd (false≢true (ap is_fed (refusal_some (refusal_of why) o (in_option o _ i)).is ∙ f))
 
 piece_read : (k : Core) (c : ℕ) (octets : List ℕ) (ms : List Move) → first_refusal (needs_open k.world c) ≡ None → ReadsAt k c
-    → ReadsAfter k c octets [] (fed (unread_at c k.steps) octets) (run ms k.world)
+    → ReadsAfter k c octets [] (with_piece (unread_at c k.steps) octets) (run ms k.world)
 piece_read k c octets ms n h =
     let u = unread_at c k.steps in elim h.1 [
       | inr j ↦ absurd (not_shut k.world c n j.0)
@@ -149,7 +149,7 @@ piece_read k c octets ms n h =
 
 piece_case : (k : Core) (c d : ℕ) (octets : List ℕ) (o : Outcome) (ms : List Move) (a b : Bool) → (d == c) ≡ a → is_fed o ≡ b
     → In o (unless (first_refusal (needs_open k.world d)) (Outcome.Fed ∷ Outcome.NoMemory ∷ [])) → ReadsAt k c
-    → ReadsAfter k c (cond b (cond a octets []) []) [] (cond (a && b) (fed (unread_at c k.steps) octets) (unread_at c k.steps)) (run ms k.world)
+    → ReadsAfter k c (cond b (cond a octets []) []) [] (cond (a && b) (with_piece (unread_at c k.steps) octets) (unread_at c k.steps)) (run ms k.world)
 piece_case k c d octets o ms false b e f i h = quiet k c ms (cond b [] []) (same_branch b []) h
 piece_case k c d octets o ms true false e f i h = quiet k c ms [] refl h
 piece_case k c d octets o ms true true e f i h =
@@ -162,11 +162,7 @@ piece_case k c d octets o ms true true e f i h =
 -- one that is read is of an open connection
 idle_open : (w : World) (c : ℕ) → first_refusal (needs_idle w c) ≡ None → IsShut w c → Prim.⊥
 idle_open w c n h =
-    true≢false (sym (false_not _ (or_left _ _ (passes (needs_idle w c) n).1.1.0)) ∙ h.1)
-  where
-    or_left : (a b : Bool) → (a || b) ≡ false → a ≡ false
-    or_left true b e = e
-    or_left false b e = refl
+    true≢false (sym (false_not _ (or_parts _ _ (passes (needs_idle w c) n).1.1.0).0) ∙ h.1)
 
 -- after an ERROR it isn't
 shut_by_error : (w : World) (c : ℕ) → first_refusal (needs_idle w c) ≡ None → IsShut (run (Errs c ∷ []) w) c
@@ -254,7 +250,7 @@ step_read k c (Event.Next d) rd o r i h =
     (sym (same_branch (is_fed o) [])) (next_of k c d rd o (d == c) refl r i h)
 step_read k c event rd o r i h = quiet k c (moves k event rd o) (cond (is_fed o) [] []) (same_branch (is_fed o) []) h
 
-core_steps : (topics : TopicList) (capacity : ℕ) (steps : List CoreStep) → (core_of topics capacity steps).steps ≡ steps
+pub core_steps : (topics : TopicList) (capacity : ℕ) (steps : List CoreStep) → (core_of topics capacity steps).steps ≡ steps
 core_steps topics capacity steps = ap (λ (k : Core). k.steps) (core_is topics capacity steps)
 
 reads_all : (topics : TopicList) (capacity : ℕ) (steps : List CoreStep) → IsCoreRun topics capacity steps → (c : ℕ) → ReadsAt (core_of topics capacity steps) c

@@ -13,7 +13,7 @@ use Rattle.mcast_group.proofs.Parts.{some_same, none_some}
 use Rattle.stomp_session.specs.declared.action.Action.{Action}
 use Rattle.stomp_session.specs.declared.action.Action.TheVariants as actions
 use Rattle.stomp_session.specs.Answers.{action_by}
-use Rattle.stomp_session.specs.Refusals.{refusal}
+use Rattle.stomp_session.specs.Refusals.{session_fault}
 use Rattle.delivery.specs.declared.event.Event.{Event}
 use Rattle.delivery.specs.declared.outcome.Outcome.{Outcome}
 use Rattle.delivery.specs.declared.connection_fault.ConnectionFault.{ConnectionFault}
@@ -186,7 +186,7 @@ found : (k : Core) (c : ℕ) (f : RawFrame) (left : Unread) (o : Outcome) (why :
 found k c f left o (Some fault) e i = erred k c (Reading.Finds f left) fault o i
 found k c f left o None e i = elim (In-append_cases o (frame_outcome k c f) _ i) [
   | inl j ↦ accepted_by k c f left o (action_by f.command (session_at k c) f) refl
-      (unrefused (case_fault f) (refusal (session_at k c) f) (option_and_then (λ mv. move_refusal k.world mv) (frame_move k c (action_by f.command (session_at k c) f))) e) j
+      (unrefused (case_fault f) (session_fault (session_at k c) f) (option_and_then (λ mv. move_refusal k.world mv) (frame_move k c (action_by f.command (session_at k c) f))) e) j
   | inr j ↦ erred k c (Reading.Finds f left) frame_no_memory o j
 ]
 

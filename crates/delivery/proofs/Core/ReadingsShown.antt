@@ -14,7 +14,7 @@ use Rattle.stomp_session.specs.declared.action.Action.{Action}
 use Rattle.stomp_session.specs.declared.action.Action.TheVariants as actions
 use Rattle.stomp_session.specs.declared.fault.SessionFault.{SessionFault}
 use Rattle.stomp_session.specs.Answers.{action_by}
-use Rattle.stomp_session.specs.Refusals.{refusal}
+use Rattle.stomp_session.specs.Refusals.{session_fault}
 use Rattle.delivery.specs.Topics.{TopicList}
 use Rattle.delivery.specs.declared.event.Event.{Event}
 use Rattle.delivery.specs.declared.outcome.Outcome.{Outcome}
@@ -85,11 +85,11 @@ faulted rd fault o h i = elim i [
 found : (k : Core) (c : ℕ) (f : RawFrame) (left : Unread) (o : Outcome) (why : Option ConnectionFault) → frame_fault k c f ≡ why
     → In o (option_map_or fault_outcomes why (frame_outcome k c f ++ fault_outcomes frame_no_memory)) → Shows (Reading.Finds f left) o
 found k c f left o (Some fault) e i =
-    faulted (Reading.Finds f left) fault o (framed (case_fault f) (refusal (session_at k c) f) (option_and_then (λ mv. move_refusal k.world mv) (frame_move k c (action_by f.command (session_at k c) f))) fault e) i
+    faulted (Reading.Finds f left) fault o (framed (case_fault f) (session_fault (session_at k c) f) (option_and_then (λ mv. move_refusal k.world mv) (frame_move k c (action_by f.command (session_at k c) f))) fault e) i
 found k c f left o None e i = elim (In-append_cases o (frame_outcome k c f) _ i) [
   | inl j ↦ read (Reading.Finds f left) o true
       (accepted_said k c (action_by f.command (session_at k c) f) o
-      (unrefused (case_fault f) (refusal (session_at k c) f) (option_and_then (λ mv. move_refusal k.world mv) (frame_move k c (action_by f.command (session_at k c) f))) e) j) refl
+      (unrefused (case_fault f) (session_fault (session_at k c) f) (option_and_then (λ mv. move_refusal k.world mv) (frame_move k c (action_by f.command (session_at k c) f))) e) j) refl
   | inr j ↦ faulted (Reading.Finds f left) frame_no_memory o refl j
 ]
 

@@ -51,8 +51,8 @@ use Rattle.delivery.proofs.Core.AccountOfRun.{refusal_some, core_is}
 use Rattle.delivery.proofs.Core.StepsOfRun.{event_reads}
 use Rattle.delivery.proofs.Core.FramesRead.{limits_are}
 use Rattle.delivery.proofs.Core.MoveOfStep.{IsMoveOf, is_of_frame, is_plain, world_then, Moved, DecidedAndLost, Erred, Comes, remembered, comes}
-use Rattle.delivery.proofs.Views.OfRuns.{machine_run, world_of, by_world}
-use Rattle.delivery.proofs.Views.Tickets.{Given, given, tickets_are}
+use Rattle.delivery.proofs.Views.Runs.ByRunOfCore.{machine_run, world_of, by_world}
+use Rattle.delivery.proofs.Views.Senders.TicketsOfTopics.{Given, given, tickets_are}
 
 -- ---- outcomes and answers
 

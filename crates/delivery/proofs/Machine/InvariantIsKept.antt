@@ -21,7 +21,7 @@ use Rattle.mcast_group.specs.declared.fault.ProposeFault.{ProposeFault}
 use Rattle.mcast_group.specs.declared.fault.LearnFault.{LearnFault}
 use Rattle.mcast_txn.specs.Checks.{first_refusal}
 use Rattle.mcast_txn.specs.Span.{Item}
-use Rattle.mcast_group.specs.Machine.{Pending, Entry, propose_checks, propose_fault, is_pending, after_learn, due_part, after_release, after_turn, decided_stamp}
+use Rattle.mcast_group.specs.Machine.{Pending, Entry, propose_refusals, propose_fault, is_pending, after_learn, due_part, after_release, after_turn, decided_stamp}
 use Rattle.mcast_group.proofs.Parts.{some_same, none_some, not_true}
 use Rattle.delivery.specs.Machine.Objections.{Objection}
 use Rattle.delivery.specs.Machine.World.{World, Undecided, Leftover, SenderState, topic_at, new_sender, connection_at, speaker, entry_at}
@@ -212,7 +212,7 @@ pub record Room (w : World) (c : ℕ) (t : Topic) : Type 0 where
 
 room_of : (w : World) (c : ℕ) (t : Topic) → propose_fault (speaker w c).floor (part_at (undecided_at w c).txn.id (undecided_at w c).txn.sends t) (topic_at w t) ≡ None → Room w c t
 room_of w c t e =
-    let p = passes (propose_checks (speaker w c).floor (part_at (undecided_at w c).txn.id (undecided_at w c).txn.sends t) (topic_at w t)) e in
+    let p = passes (propose_refusals (speaker w c).floor (part_at (undecided_at w c).txn.id (undecided_at w c).txn.sends t) (topic_at w t)) e in
     record { apart = p.0; limit = ltb-true (length (topic_at w t).pending + length (topic_at w t).held) (topic_at w t).log_limit (false_not _ p.1.1.0) }
 
 -- where a proposal has no fault, its transaction isn't pending at the topic, whose log has room

@@ -12,7 +12,7 @@ use Rattle.delivery.specs.Machine.Moves.Answer.{Begun}
 use Rattle.delivery.specs.Machine.Runs.{txn_of_id, txn_count, Numbered}
 
 -- what isn't the head is behind it
-not_head : {X : Type 0} (x y : X) (xs : List X) → (y ≡ x → Prim.⊥) → In x (y ∷ xs) → In x xs
+pub not_head : {X : Type 0} (x y : X) (xs : List X) → (y ≡ x → Prim.⊥) → In x (y ∷ xs) → In x xs
 not_head x y xs ne (inl e) = absurd (ne e)
 not_head x y xs ne (inr k) = k
 

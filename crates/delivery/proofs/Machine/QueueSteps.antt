@@ -6,8 +6,8 @@ use Rattle.mcast_txn.specs.declared.id.TxnId.{TxnId}
 use Rattle.mcast_txn.specs.declared.stamp.Stamp.{Stamp}
 use Rattle.mcast_group.specs.declared.fault.LearnFault.{LearnFault}
 use Rattle.mcast_txn.specs.Span.{Item}
-use Rattle.mcast_group.specs.Machine.{TopicState, Pending, Entry, find_entry, entry_after, due_part, after_release_if, after_release, learn_fault, after_learn, after_try, after_tries, after_releases, after_turn, item_of, decided_stamp}
-use Rattle.mcast_group.proofs.Parts.{none_some}
+use Rattle.mcast_group.specs.Machine.{TopicState, Pending, Entry, find_entry, entry_after, due_part, after_release, learn_fault, after_learn, after_try, after_tries, after_releases, after_turn, item_of, decided_stamp}
+use Rattle.mcast_group.proofs.Parts.{none_some, after_release_if}
 use Rattle.delivery.specs.Machine.World.{World, subscription_at}
 use Rattle.delivery.specs.Machine.Observed.{entry_items, entry_to}
 use Rattle.delivery.specs.Machine.Moves.{queue_has_room, verdict_in}

@@ -15,7 +15,7 @@ use Rattle.mcast_txn.specs.declared.stamp.Stamp.{Stamp}
 use Rattle.mcast_txn.proofs.Orders.{lt_irrefl, lt_asym, lt_le, id_equal, id_same}
 use Rattle.mcast_txn.proofs.Members.{In-map, In-map_cases, In-filter, In-filter_cases, any_found, any_from}
 use Rattle.mcast_txn.proofs.Sorting.{In-sorted, In-sorted_cases, Rises-sorted, Rises-filter, Rises-map, same_rising}
-use Rattle.mcast_txn.specs.Span.{Item, Span, in_span, last_stamp, item_stamp}
+use Rattle.mcast_txn.specs.Span.{Item, Span, in_span, last_stamp, item_stamp, item_mark}
 use Rattle.mcast_group.specs.Sound.{IsQueueOf}
 use Rattle.mcast_group.specs.Machine.{TopicState, Entry, EntryEnd, new_topic, find_entry, key}
 use Rattle.mcast_group.proofs.Parts.{Waits, none_some}
@@ -26,7 +26,8 @@ use Rattle.delivery.specs.Machine.Observed.{entry_items, entry_to, accepted_at, 
 use Rattle.delivery.specs.Machine.Moves.{Move, Answer, world_after, answer_to}
 use Rattle.delivery.specs.Machine.Runs.{run, answers_from}
 use Rattle.delivery.specs.Theorem.Laws
-use Rattle.delivery.specs.Theorem.Laws.{Run, answers_of, final_world, Mark, mark_of, shared_marks}
+use Rattle.mcast_txn.specs.declared.mark.Mark.{Mark}
+use Rattle.delivery.specs.Theorem.Laws.{Run, answers_of, final_world, shared_marks}
 use Rattle.delivery.proofs.Machine.Invariant.{row, Consistent, Tied, Itemed, Logged, topic_in, sub_in, HasEntry, Inv, Holds}
 use Rattle.delivery.proofs.Machine.TopicSteps.{one_commit, key_ticket}
 use Rattle.delivery.proofs.Machine.SubscriptionSteps.{found_entry, finds_entry}
@@ -271,21 +272,21 @@ place id stamp = record { id = id; stamp = stamp }
 -- what stands in both
 shared_to : (cs : List CommitRow) (ts : List CommitRow) (t u : Topic) (xs ys : List Item) → Consistent ts cs → ((i : Item) → In i xs → Itemed cs t i) → ((i : Item) → In i ys → Itemed cs u i) → (p : Mark) → In p (shared_marks xs ys) → In p (shared_marks ys xs)
 shared_to cs ts t u xs ys all hx hy p k =
-    let m = In-filter_cases (is_in ys) p (map mark_of xs) k in
-    let n = In-map_cases mark_of p xs m.stands in
+    let m = In-filter_cases (is_in ys) p (map item_mark xs) k in
+    let n = In-map_cases item_mark p xs m.stands in
     let f = any_found (λ (i : Item). same_id i.id p.id) ys m.passes in
     let a = hx n.from n.stands in let b = hy f.it f.stands in
     let ida : a.row.txn.id ≡ p.id = ap (λ (z : Item). z.id) a.is ∙ ap (λ (z : Mark). z.id) n.is in
     let idb : b.row.txn.id ≡ p.id = ap (λ (z : Item). z.id) b.is ∙ id_equal f.it.id p.id f.passes in
     let same : b.row ≡ a.row = one_commit ts cs all b.row a.row b.stands a.stands (idb ∙ sym ida) in
     let stamp : f.it.stamp ≡ p.stamp = ap (λ (z : Item). z.stamp) (sym b.is) ∙ (ap stamp_of same ∙ (ap (λ (z : Item). z.stamp) a.is ∙ ap (λ (z : Mark). z.stamp) n.is)) in
-    let e : mark_of f.it ≡ p = ap (λ z. place z f.it.stamp) (id_equal f.it.id p.id f.passes) ∙ ap (place p.id) stamp in
-    In-filter (is_in xs) p (map mark_of ys)
-    (subst (λ z. In z (map mark_of ys)) e (In-map mark_of f.it ys f.stands))
+    let e : item_mark f.it ≡ p = ap (λ z. place z f.it.stamp) (id_equal f.it.id p.id f.passes) ∙ ap (place p.id) stamp in
+    In-filter (is_in xs) p (map item_mark ys)
+    (subst (λ z. In z (map item_mark ys)) e (In-map item_mark f.it ys f.stands))
     (any_from (λ (i : Item). same_id i.id p.id) n.from xs n.stands (id_same n.from.id p.id (ap (λ (z : Mark). z.id) n.is)))
 
 shared_rises : (xs ys : List Item) → Rises item_stamp xs → Rises place_stamp (shared_marks xs ys)
-shared_rises xs ys h = Rises-filter place_stamp (is_in ys) (map mark_of xs) (Rises-map item_stamp place_stamp mark_of xs (λ i. refl) h)
+shared_rises xs ys h = Rises-filter place_stamp (is_in ys) (map item_mark xs) (Rises-map item_stamp place_stamp item_mark xs (λ i. refl) h)
 
 -- two subscriptions have the transactions that they share in one order
 pub shared_in_one_order : Laws.SharedInOneOrder

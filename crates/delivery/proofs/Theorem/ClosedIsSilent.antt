@@ -1,7 +1,7 @@
 -- Nothing is handed on of a closed subscription.
-use Rattle.std.proofs.Common.{◌≡◌, ℕ, zero, suc, ◌+◌, ◌<◌, ◌≤◌, ◌==◌, Bool, true, false, cond, not, ◌||◌, inl, inr, List, [], ◌∷◌, ◌++◌, length, get_or, Option, Some, None, refl, sym, ap, subst, ◌∙◌, arith, ltb}
+use Rattle.std.proofs.Common.{◌≡◌, ℕ, zero, suc, ◌+◌, ◌<◌, ◌≤◌, ◌==◌, Bool, true, false, cond, not, inl, inr, List, [], ◌∷◌, ◌++◌, length, get_or, Option, Some, None, refl, sym, ap, subst, ◌∙◌, arith, ltb}
 use Rattle.std.specs.Option.{is_some}
-use Rattle.std.proofs.lemmas.Bool.{true≢false, false≢true, eqb-true, ltb-true, and_parts}
+use Rattle.std.proofs.lemmas.Bool.{true≢false, false≢true, eqb-true, ltb-true, and_parts, or_parts}
 use Rattle.mcast_txn.specs.Lists.{In}
 use Rattle.mcast_txn.specs.Ballot.{Decision}
 use Rattle.mcast_txn.specs.declared.id.Topic.{Topic}
@@ -20,11 +20,11 @@ use Rattle.delivery.specs.Machine.Moves.Answer.{Refused, Done, Opened, Subscribe
 use Rattle.delivery.specs.Machine.Runs.{run, answers_from}
 use Rattle.delivery.specs.Theorem.Settled.{closes, IsSilent, SilentAfterClose}
 use Rattle.delivery.specs.Theorem.Laws
-use Rattle.delivery.specs.Theorem.Laws.{Run, answers_of, final_world}
 use Rattle.delivery.proofs.Machine.Invariant.{topic_in, sub_in}
 use Rattle.delivery.proofs.Machine.SubscriptionSteps.{at_push, at_old, at_end, push_length, set_length, finds_entry}
 use Rattle.delivery.proofs.Machine.InvariantIsKept.{Reached, by_refusal, checked, step_reached, false_not}
 use Rattle.delivery.proofs.Theorem.AcceptedIsDue.{start_reached}
+use Rattle.delivery.proofs.Core.Tests.{connection_there}
 
 -- the answer closes connection c, as a type
 abbrev Closes : ℕ → Answer → Type 0
@@ -122,9 +122,6 @@ Shuts-standing w c standing n = record {
 
 standing_set : (w : World) (c : ℕ) (standing : Standing) → c < length w.connections → is_reading standing ≡ false → is_reading (stands (with_standing w c standing).connections c) ≡ false
 standing_set w c standing l n = at_set_within (λ (z : Connection). is_reading z.standing ≡ false) w.connections c c _ nobody l (λ e. n) (λ ne. absurd (ne refl))
-
-there_is : (w : World) (c : ℕ) → not (ltb c (length w.connections)) ≡ false → c < length w.connections
-there_is w c e = ltb-true c (length w.connections) (false_not (ltb c (length w.connections)) e)
 
 -- a connection is leaving, and the outcome says so
 leaving_shut : (past : List Answer) (w v : World) (o : Answer) (c : ℕ) → c < length w.connections → v.connections ≡ (with_leaving w c).connections → v.subscriptions ≡ w.subscriptions → ((d : ℕ) → Closes d o → c ≡ d) → ((s : ℕ) (to : Stamp) → o ≡ Unsubscribed s to → Prim.⊥) → ((s d : ℕ) (t : Topic) (from : Stamp) → o ≡ Subscribed s d t from → Prim.⊥) → Shutting past w.connections w.subscriptions → Shutting (o ∷ past) v.connections v.subscriptions
@@ -268,14 +265,6 @@ open_there [] c e = absurd (false≢true e)
 open_there (x ∷ xs) zero e = omega arith
 open_there (x ∷ xs) (suc c) e = let l = open_there xs c e in omega arith
 
-or_right : (a b : Bool) → (a || b) ≡ false → b ≡ false
-or_right true b e = absurd (true≢false e)
-or_right false b e = e
-
-or_left : (a b : Bool) → (a || b) ≡ false → a ≡ false
-or_left true b e = e
-or_left false b e = refl
-
 happens_shut : (past : List Answer) (w : World) (e : Move) → Reached past w → Shutting past w.connections w.subscriptions → move_refusal w e ≡ None → Shutting (move_answer w e ∷ past) (move_effect w e).connections (move_effect w e).subscriptions
 happens_shut past w (AddsTopic clock) r h e = note past w.connections w.subscriptions Done closeless_done h
 happens_shut past w Opens r h e =
@@ -299,16 +288,16 @@ happens_shut past w (Unsubscribes c s) r h e =
     let live = and_parts ((subscription_at w s).connection == c) (not (is_some (subscription_at w s).closed)) k.1 in
     closing_shut past w s _ r (ltb-true s (length w.subscriptions) k.0) (none_of (subscription_at w s).closed (not_is (is_some (subscription_at w s).closed) live.1)) h
 happens_shut past w (Disconnects c) r h e =
-    leaving_shut past w (with_leaving w c) (Leaving c) c (there_is w c (checked w (Disconnects c) e).0) refl refl (λ d k. k) (λ s to d. cc) (λ s d t from k. cc) h
+    leaving_shut past w (with_leaving w c) (Leaving c) c (connection_there w c (checked w (Disconnects c) e).0) refl refl (λ d k. k) (λ s to d. cc) (λ s d t from k. cc) h
 happens_shut past w (Errs c) r h e =
-    leaving_shut past w (with_leaving w c) (Error c) c (there_is w c (checked w (Errs c) e).0) refl refl (λ d k. k) (λ s to d. cc) (λ s d t from k. cc) h
+    leaving_shut past w (with_leaving w c) (Error c) c (connection_there w c (checked w (Errs c) e).0) refl refl (λ d k. k) (λ s to d. cc) (λ s d t from k. cc) h
 happens_shut past w (Lost c) r h e =
-    leaving_shut past w (with_leaving w c) (Leaving c) c (there_is w c (checked w (Lost c) e).0) refl refl (λ d k. k) (λ s to d. cc) (λ s d t from k. cc) h
+    leaving_shut past w (with_leaving w c) (Leaving c) c (connection_there w c (checked w (Lost c) e).0) refl refl (λ d k. k) (λ s to d. cc) (λ s d t from k. cc) h
 happens_shut past w (Leaves c) r h e = left_shut past w c r h (oldest_live c 0 w.subscriptions) refl
 happens_shut past w (Proposes c t memory) r h e = proposed_shut past w c t (proposal_fault w c t memory) h
 happens_shut past w (Decides c) r h e = note past w.connections w.subscriptions _ (record { ended = λ s to d. cc; shut = λ d k. k; owner = λ s d t from k. cc }) h
 happens_shut past w (Withdraws c) r h e =
-    leaving_shut past w (move_effect w (Withdraws c)) _ c (there_is w c (checked w (Withdraws c) e).0) refl refl (λ d k. k) (λ s to d. cc) (λ s d t from k. cc) h
+    leaving_shut past w (move_effect w (Withdraws c)) _ c (connection_there w c (checked w (Withdraws c) e).0) refl refl (λ d k. k) (λ s to d. cc) (λ s d t from k. cc) h
 happens_shut past w (Cancels c t) r h e = cancelled_shut past w c t (find_leftover t (speaker w c).leftovers) h
 happens_shut past w (Learns t id) r h e =
     let k = learned_same w t id (find_verdict id w.verdicts) in let v = move_effect w (Learns t id) in
@@ -318,7 +307,7 @@ happens_shut past w (Releases t) r h e = note past w.connections w.subscriptions
 happens_shut past w (Turns t) r h e = note past w.connections w.subscriptions _ (record { ended = λ s to d. cc; shut = λ d k. k; owner = λ s d t from k. cc }) h
 happens_shut past w (Takes s) r h e =
     let p = (checked w (Takes s) e).1.0 in
-    taken_shut past w s (open_there w.connections (subscription_at w s).connection (false_not _ (or_right (is_some (subscription_at w s).closed) _ p))) _ h
+    taken_shut past w s (open_there w.connections (subscription_at w s).connection (false_not _ (or_parts (is_some (subscription_at w s).closed) _ p).1)) _ h
 
 -- ---- silence
 
@@ -326,12 +315,12 @@ happens_shut past w (Takes s) r h e =
 not_silent : (past : List Answer) (w : World) (s : ℕ) → Shutting past w.connections w.subscriptions → move_refusal w (Takes s) ≡ None → IsSilent s past → Prim.⊥
 not_silent past w s h e (inl k) =
     let p = (checked w (Takes s) e).1.0 in
-    true≢false (sym (h.ended s k.0 k.1) ∙ or_left (is_some (subscription_at w s).closed) _ p)
+    true≢false (sym (h.ended s k.0 k.1) ∙ (or_parts (is_some (subscription_at w s).closed) _ p).0)
 not_silent past w s h e (inr k) =
     let p = (checked w (Takes s) e).1.0 in
     let own = h.owner s k.0 k.1 k.2 k.4 in
     let shut = h.shut k.0 k.3 k.5 (closes_is k.0 k.3 k.6) in
-    true≢false (sym (false_not _ (or_right (is_some (subscription_at w s).closed) _ p)) ∙ subst (λ z. is_reading (stands w.connections z) ≡ false) (sym own.1) shut.1)
+    true≢false (sym (false_not _ (or_parts (is_some (subscription_at w s).closed) _ p).1) ∙ subst (λ z. is_reading (stands w.connections z) ≡ false) (sym own.1) shut.1)
 
 silent_flown : (w : World) (c : ℕ) (sends : List SentMessage) (past : List Answer) → SilentAfterClose past → SilentAfterClose (commit_answer w c sends ∷ past)
 silent_flown w c [] past h = h

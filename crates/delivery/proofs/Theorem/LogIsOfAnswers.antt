@@ -19,8 +19,8 @@ use Rattle.mcast_txn.proofs.Members.{In-map, In-map_cases, In-filter, In-filter_
 use Rattle.mcast_txn.proofs.Sorting.{In-sorted, In-sorted_cases, Rises-sorted, Rises-filter, Rises-map, same_rising}
 use Rattle.mcast_group.specs.declared.fault.ProposeFault.{ProposeFault}
 use Rattle.mcast_txn.specs.Span.{LogRow, Item, row_stamp}
-use Rattle.mcast_group.specs.Machine.{TopicState, Pending, Entry, new_topic, due_part, after_propose, after_cancel, after_learn, after_unsubscribe, after_release_if, after_turn, row_of, decided_stamp}
-use Rattle.mcast_group.proofs.Parts.{map_length}
+use Rattle.mcast_group.specs.Machine.{TopicState, Pending, Entry, new_topic, due_part, after_propose, after_cancel, after_learn, after_unsubscribe, after_turn, row_of, decided_stamp}
+use Rattle.mcast_group.proofs.Parts.{map_length, after_release_if}
 use Rattle.mcast_group.proofs.Turns.{turn_grows}
 use Rattle.delivery.specs.Theorem.Due.{log_row}
 use Rattle.delivery.specs.Machine.World.{World, Leftover, start, topic_at, speaker, subscription_at, entry_at, with_topic}

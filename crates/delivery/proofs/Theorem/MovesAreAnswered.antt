@@ -56,7 +56,7 @@ all_closed : (c i : ℕ) (xs : List Subscription) → oldest_live c i xs ≡ Non
 all_closed c i [] e q l = absurd (omega arith)
 all_closed c i (x ∷ xs) e q l = all_case c i x xs (is_live c x) refl (all_closed c (i + 1) xs) e q l
 
-is_oldest : (w : World) (c s : ℕ) → oldest_live c 0 w.subscriptions ≡ Some s → IsOldest w c s
+pub is_oldest : (w : World) (c s : ℕ) → oldest_live c 0 w.subscriptions ≡ Some s → IsOldest w c s
 is_oldest w c s e =
     let h = eldest c 0 s w.subscriptions e in
     let p : s ≡ h.place = (let d : s ≡ 0 + h.place = h.is in omega arith) in record {

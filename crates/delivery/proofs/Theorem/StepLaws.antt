@@ -19,8 +19,8 @@ use Rattle.mcast_group.specs.declared.fault.LearnFault.{LearnFault}
 use Rattle.mcast_group.specs.declared.fault.CancelFault.{CancelFault}
 use Rattle.mcast_txn.specs.Checks.{first_refusal}
 use Rattle.mcast_txn.specs.Span.{Item}
-use Rattle.mcast_group.specs.Machine.{TopicState, Pending, Entry, new_topic, find_entry, find_pending, cancel_fault_of, learn_fault, entry_after, due_part, after_release_if, after_release, item_of}
-use Rattle.mcast_group.proofs.Parts.{found_part, some_same, none_some}
+use Rattle.mcast_group.specs.Machine.{TopicState, Pending, Entry, new_topic, find_entry, find_pending, cancel_fault_of, learn_fault, entry_after, due_part, after_release, item_of}
+use Rattle.mcast_group.proofs.Parts.{found_part, some_same, none_some, after_release_if}
 use Rattle.mcast_group.proofs.Queues.{delivered_number}
 use Rattle.delivery.specs.Machine.Objections.{Objection}
 use Rattle.delivery.specs.Machine.World.{World, Leftover, topic_at, speaker, connection_at, subscription_at, entry_at, start}

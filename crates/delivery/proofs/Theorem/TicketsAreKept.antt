@@ -1,7 +1,7 @@
 -- Where each ticket is: its transaction is undecided, or committed, or it is left over from a withdrawal, or was cancelled.
-use Rattle.std.proofs.Common.{◌≡◌, ◌≢◌, ℕ, ◌+◌, ◌<◌, ◌==◌, Bool, true, false, cond, ◌||◌, ◌⊎◌, inl, inr, List, [], ◌∷◌, ◌++◌, length, map, set, Option, Some, None, refl, sym, ap, subst, ◌∙◌, arith}
+use Rattle.std.proofs.Common.{◌≡◌, ◌≢◌, ℕ, ◌+◌, ◌<◌, ◌==◌, Bool, true, false, cond, ◌⊎◌, inl, inr, List, [], ◌∷◌, ◌++◌, length, map, set, Option, Some, None, refl, sym, ap, subst, ◌∙◌, arith}
 use Rattle.std.specs.Option.{is_some}
-use Rattle.std.proofs.lemmas.Bool.{true≢false, cases_order}
+use Rattle.std.proofs.lemmas.Bool.{true≢false, cases_order, or_parts}
 use Rattle.mcast_txn.specs.Stamp.{greatest}
 use Rattle.mcast_txn.specs.Transaction.{topics_of}
 use Rattle.mcast_txn.specs.Agreed.{Transaction, CommitRow}
@@ -19,7 +19,7 @@ use Rattle.mcast_group.specs.Machine.{Pending, Entry, due_part}
 use Rattle.mcast_group.proofs.Parts.{some_same}
 use Rattle.delivery.specs.Machine.World.{World, Undecided, Leftover, SenderState, new_sender, connection_at, speaker, entry_at, topic_at, start}
 use Rattle.delivery.specs.Machine.Moves.{Move, Answer, world_after, answer_to, move_refusal, move_effect, move_answer, undecided_at, find_leftover, drop_leftover, leftover, find_verdict, oldest_live, insert_ticket, next_txn, next_ticket, commit_effect, commit_answer, proposal_fault, propose_effect, propose_answer, decide_effect, withdraw_effect, cancel_effect, cancel_answer, learn_effect, release_answer, take_effect, take_answer, leave_effect, leave_answer, close_effect_of}
-use Rattle.delivery.specs.Machine.Moves.Move.{AddsTopic, Opens, Commits, Subscribes, Unsubscribes, Disconnects, Errs, Lost, Leaves, Proposes, Decides, Withdraws, Cancels, Learns, Releases, Turns, Takes}
+use Rattle.delivery.specs.Machine.Moves.Move.{Opens, Commits, Unsubscribes, Leaves, Proposes, Decides, Withdraws, Cancels, Learns, Releases, Takes}
 use Rattle.delivery.specs.Machine.Moves.Answer.{Refused, Done, Begun, Ticket, Failed, Decided, Withdrawn, Cancelled}
 use Rattle.delivery.specs.Machine.Runs.{txn_of_id, run, answers_from}
 use Rattle.delivery.specs.Theorem.Laws.{Run, answers_of, final_world}
@@ -299,13 +299,9 @@ opened_accounted past o senders commits e h = let k = note past o senders commit
     there a (inr (inr (inl x))) = inr (inr (inl (x.0, x.1, subst (λ (z : SenderState). In x.1 z.leftovers) (sym (same x.0)) x.2, x.3, x.4)))
     there a (inr (inr (inr x))) = inr (inr (inr x))
 
-or_right : (a b : Bool) → (a || b) ≡ false → b ≡ false
-or_right true b e = absurd (true≢false e)
-or_right false b e = e
-
 happens_accounted : (past : List Answer) (w : World) (e : Move) → Reached past w → Accounted past w.senders w.commits → move_refusal w e ≡ None → Accounted (move_answer w e ∷ past) (move_effect w e).senders (move_effect w e).commits
 happens_accounted past w Opens r h n = opened_accounted past _ w.senders w.commits refl h
-happens_accounted past w (Commits c sends) r h n = flown_accounted past w c sends (or_right _ (is_some (speaker w c).flight) (checked w (Commits c sends) n).1.1.0) h
+happens_accounted past w (Commits c sends) r h n = flown_accounted past w c sends (or_parts _ (is_some (speaker w c).flight) (checked w (Commits c sends) n).1.1.0).1 h
 happens_accounted past w (Unsubscribes c s) r h n = same_accounted past _ w (move_effect w (Unsubscribes c s)) refl (closed_senders w s (entry_at w s)) h
 happens_accounted past w (Leaves c) r h n = left_accounted past w c (oldest_live c 0 w.subscriptions) h
 happens_accounted past w (Proposes c t memory) r h n = proposed_accounted past w c t (proposal_fault w c t memory) r (asks_of w c t memory n) h

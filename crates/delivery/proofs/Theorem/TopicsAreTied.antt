@@ -22,14 +22,14 @@ use Rattle.delivery.specs.Machine.Moves.Answer.{Ticket, Decided, Cancelled}
 use Rattle.delivery.specs.Machine.Runs.{txn_of_id, commits_of}
 use Rattle.delivery.specs.Theorem.Laws.{Run, answers_of, final_world}
 use Rattle.delivery.specs.Theorem.Tied
-use Rattle.delivery.specs.Theorem.Tied.{IsWaiting, IsAccountedFor, HasTicket, IsTied, IsFloored}
+use Rattle.delivery.specs.Theorem.Tied.{IsWaiting, IsAccountedFor, HasTicket}
 use Rattle.delivery.proofs.Machine.Invariant.{row}
 use Rattle.delivery.proofs.Machine.TopicSteps.{key_ticket}
 use Rattle.delivery.proofs.Machine.InvariantIsKept.{tickets}
 use Rattle.delivery.proofs.Theorem.AcceptedIsDue.{reached}
 use Rattle.delivery.proofs.Machine.AnswerLemmas.{made_id, In-ticket}
 use Rattle.delivery.proofs.Theorem.SeqsCount.{seqs_count}
-use Rattle.delivery.proofs.Machine.MadeOnce.{made_is}
+use Rattle.delivery.proofs.Machine.MadeOnce.{made_is, not_head}
 use Rattle.delivery.proofs.Theorem.SettledLeavesNoneOut.{settling_run}
 use Rattle.delivery.proofs.Theorem.NumbersRise.{number_le, rising_run}
 use Rattle.delivery.proofs.Theorem.TicketsAreKept.{IsSomewhere, accounted}
@@ -52,10 +52,6 @@ given_case id i x ticket past ih (inl e) =
     let a : i ≡ id = cc in let b : ticket ≡ x = cc in
     record { it = row (txn_of_id i past) ticket; stands = inl refl; id_is = made_id i past ∙ a; stamp_is = b }
 given_case id i x ticket past ih (inr k) = given_more id x (tickets past) (row (txn_of_id i past) ticket) (ih k)
-
-not_head : {X : Type 0} (x y : X) (xs : List X) → (y ≡ x → Prim.⊥) → In x (y ∷ xs) → In x xs
-not_head x y xs ne (inl e) = absurd (ne e)
-not_head x y xs ne (inr k) = k
 
 given : (id : TxnId) (x : Stamp) (past : List Answer) → In (Ticket id x) past → Given id x (tickets past)
 given id x [] k = absurd k

@@ -11,8 +11,8 @@ use Rattle.mcast_txn.specs.declared.id.TxnId.{TxnId}
 use Rattle.mcast_group.specs.declared.fault.LearnFault.{LearnFault}
 use Rattle.mcast_txn.specs.Checks.{first_refusal}
 use Rattle.mcast_txn.specs.Span.{LogRow}
-use Rattle.mcast_group.specs.Machine.{TopicState, Pending, Entry, row_of, new_topic, learn_fault, after_learn, with_stamp, after_try, after_tries, due_part, after_release_if, after_release, after_releases, after_turn, decided_stamp}
-use Rattle.mcast_group.proofs.Parts.{map_length}
+use Rattle.mcast_group.specs.Machine.{TopicState, Pending, Entry, row_of, new_topic, learn_fault, after_learn, with_stamp, after_try, after_tries, due_part, after_release, after_releases, after_turn, decided_stamp}
+use Rattle.mcast_group.proofs.Parts.{map_length, after_release_if}
 use Rattle.delivery.specs.Machine.Objections.{Objection}
 use Rattle.delivery.specs.Machine.World.{World, topic_at, with_topic}
 use Rattle.delivery.specs.Machine.Observed.{log_at}
@@ -24,6 +24,7 @@ use Rattle.delivery.specs.Theorem.Laws
 use Rattle.delivery.proofs.Theorem.PlainDue.{append_again}
 use Rattle.delivery.proofs.Machine.InvariantIsKept.{by_refusal, checked, false_not}
 use Rattle.delivery.proofs.Theorem.SpansAsAnswered.{within}
+use Rattle.delivery.proofs.Core.ByRun.{run_append}
 
 -- the world after a step: the new one, or the old one where it is refused
 abbrev stepped : World → World → Option Objection → World
@@ -100,10 +101,6 @@ tried_length id (Some v) x = by (learn_fault id v x)
 all_length : (find : TxnId → Option Decision) (ps : List Pending) (x : TopicState) → length (after_tries find ps x).pending ≡ length x.pending
 all_length find [] x = refl
 all_length find (p ∷ ps) x = all_length find ps (after_try p.part.id (find p.part.id) x) ∙ tried_length p.part.id (find p.part.id) x
-
-run_append : (es fs : List Move) (w : World) → run (es ++ fs) w ≡ run fs (run es w)
-run_append [] fs w = refl
-run_append (e ∷ es) fs w = run_append es fs (world_after w e)
 
 abbrev steps_of : Topic → List Pending → List Move
 steps_of t ps = map (λ p. Learns t p.part.id) ps ++ map (λ p. Releases t) ps

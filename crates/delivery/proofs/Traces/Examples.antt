@@ -10,8 +10,8 @@ use Rattle.mcast_txn.specs.Stamp.{same_stamp, stamp_lt}
 use Rattle.trace_audit.specs.Explained.{IsExplainedBy}
 use Rattle.trace_audit.specs.Faults.{audit_fault, is_whole}
 use Rattle.trace_audit.specs.Inner.Sorting.{IsSortingOf}
-use Rattle.trace_audit.specs.Line.{LogLine}
-use Rattle.trace_audit.specs.Trace.{Lines, rows_of}
+use Rattle.trace_audit.specs.Logs.{LogLine}
+use Rattle.trace_audit.specs.Trace.{TraceData, rows_of}
 use Rattle.trace_audit.proofs.Refuting.{explains, complete}
 use Rattle.delivery.specs.declared.event.Event.{Event}
 use Rattle.delivery.specs.Theorem.Settled.{IsSettled, IsResolved}
@@ -47,7 +47,7 @@ first = log_row 1 1 2 0 (0 ∷ 1 ∷ [])
 abbrev second : LogRow
 second = log_row 0 1 2 1 (0 ∷ 1 ∷ [])
 
-abbrev trace : Lines
+abbrev trace : TraceData
 trace = record { logs = line 0 first ∷ line 0 second ∷ line 1 first ∷ line 1 second ∷ []; spans = []; queues = [] }
 
 crossed_trace : trace_of (report_of crossed) ≡ trace

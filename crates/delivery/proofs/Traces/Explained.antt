@@ -8,7 +8,7 @@ use Rattle.mcast_txn.specs.declared.stamp.Stamp.{Stamp}
 use Rattle.mcast_txn.specs.Agreed.{CommitRow, committed_id, stamp_of, agreed}
 use Rattle.mcast_txn.specs.Ids.{same_id}
 use Rattle.mcast_txn.specs.Lists.{In}
-use Rattle.mcast_txn.specs.Span.{LogRow, row_id, row_stamp, in_span, last_stamp, up_to}
+use Rattle.mcast_txn.specs.Span.{LogRow, row_id, row_stamp, in_span, last_stamp, up_to, row_mark}
 use Rattle.mcast_txn.specs.Stamp.{stamp_lt, zero_stamp}
 use Rattle.mcast_txn.specs.TopicSet.{names}
 use Rattle.mcast_txn.specs.Transaction.{topics_of}
@@ -16,8 +16,8 @@ use Rattle.mcast_txn.proofs.Members.{In-map, In-map_cases, In-filter, In-filter_
 use Rattle.mcast_txn.proofs.Orders.{id_equal, id_itself, le_lt, zero_least}
 use Rattle.mcast_txn.proofs.Sorting.{In-sorted_cases, Rises-filter}
 use Rattle.trace_audit.specs.Explained.{rows_at, IsExplainedBy, IsCompleteBy}
-use Rattle.trace_audit.specs.Line.{LogLine}
-use Rattle.trace_audit.specs.Trace.{rows_of, queue_of, row_mark, marks_in}
+use Rattle.trace_audit.specs.Logs.{LogLine}
+use Rattle.trace_audit.specs.Trace.{rows_of, queue_of, marks_in}
 use Rattle.delivery.specs.Theorem.Due.{log_row, item_at, is_due}
 use Rattle.delivery.specs.Machine.Moves.{Answer}
 use Rattle.delivery.specs.Machine.Runs.{commits_of, released_at}

@@ -3,12 +3,12 @@ use Rattle.std.proofs.Common.{◌≡◌, ℕ, suc, ◌+◌, ◌<◌, ◌==◌, i
 use Rattle.std.specs.List.{enumerate_from}
 use Rattle.mcast_txn.specs.declared.id.Topic.{Topic}
 use Rattle.mcast_txn.specs.Lists.{In}
-use Rattle.mcast_txn.specs.Span.{Item, LogRow}
+use Rattle.mcast_txn.specs.Span.{Item, LogRow, row_mark}
 use Rattle.mcast_txn.proofs.Members.{In-map, In-map_cases, In-filter, In-filter_cases}
 use Rattle.trace_audit.specs.declared.row.SpanRow.{SpanRow}
 use Rattle.trace_audit.specs.declared.row.QueueRow.{QueueRow}
-use Rattle.trace_audit.specs.Line.{LogLine}
-use Rattle.trace_audit.specs.Trace.{rows_of, log_of, row_mark, queue_mark, queue_of}
+use Rattle.trace_audit.specs.Logs.{LogLine}
+use Rattle.trace_audit.specs.Trace.{rows_of, log_of, queue_mark, queue_of}
 use Rattle.std.proofs.lemmas.Bool.{eq-eqb}
 use Rattle.delivery.specs.Core.Reports.{QueueReport, Report, no_queue, queue_in, log_in}
 use Rattle.delivery.specs.Traces.{traced_log, traced_span, traced_queue, trace_of}

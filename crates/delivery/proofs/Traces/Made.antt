@@ -14,8 +14,8 @@ use Rattle.mcast_txn.specs.Span.{Item, LogRow}
 use Rattle.mcast_group.specs.Group.{GroupState}
 use Rattle.trace_audit.specs.declared.row.QueueRow.{QueueRow}
 use Rattle.trace_audit.specs.declared.row.SpanRow.{SpanRow}
-use Rattle.trace_audit.specs.Line.{LogLine}
-use Rattle.trace_audit.specs.Trace.{Lines, fits, has_span}
+use Rattle.trace_audit.specs.Logs.{LogLine}
+use Rattle.trace_audit.specs.Trace.{TraceData, fits, has_span}
 use Rattle.delivery.specs.Core.Reports.{QueueReport}
 use Rattle.delivery.specs.Traces.{traced_log, traced_span, traced_queue}
 use Rattle.delivery.proofs.Traces.Lists.{made_of}
@@ -95,52 +95,52 @@ line_fits t rows n row all is =
 -- ---- traces
 
 -- the trace with more rows of logs
-abbrev pub with_logs : Lines → List LogLine → Lines
+abbrev pub with_logs : TraceData → List LogLine → TraceData
 with_logs old rows = record old { logs = old.logs ++ rows }
 
 -- a topic's log grows by a row
-pub log_grows : (old mid new : Lines) (t : Topic) (rows : List LogRow) (n : ℕ) (row : LogRow) (line : LogLine) → slice_get rows n ≡ Some row
+pub log_grows : (old mid new : TraceData) (t : Topic) (rows : List LogRow) (n : ℕ) (row : LogRow) (line : LogLine) → slice_get rows n ≡ Some row
     → mid ≡ with_logs old (traced_log t.0 (take n rows)) → line ≡ record { topic = t; row = row } → new ≡ with_logs mid (line ∷ [])
     → new ≡ with_logs old (traced_log t.0 (take (n + 1) rows))
 log_grows old mid new t rows n row line is so_far made grown =
     let whole : traced_log t.0 (take (n + 1) rows) ≡ traced_log t.0 (take n rows) ++ record { topic = t; row = row } ∷ [] = map_one _ rows n row is in
     grown
     ∙ (ap (λ (z : LogLine). with_logs mid (z ∷ [])) made
-    ∙ (ap (λ (z : Lines). with_logs z (record { topic = t; row = row } ∷ [])) so_far
+    ∙ (ap (λ (z : TraceData). with_logs z (record { topic = t; row = row } ∷ [])) so_far
     ∙ ap (λ (z : List LogLine). record old { logs = z }) (append_assoc old.logs (traced_log t.0 (take n rows)) (record { topic = t; row = row } ∷ [])
     ∙ ap (λ z. old.logs ++ z) (sym whole))))
 
 -- the logs grow by a topic's
-pub logs_grow : (old mid new : Lines) (logs : List (List LogRow)) (n : ℕ) (rows : List LogRow) → slice_get logs n ≡ Some rows
+pub logs_grow : (old mid new : TraceData) (logs : List (List LogRow)) (n : ℕ) (rows : List LogRow) → slice_get logs n ≡ Some rows
     → mid ≡ with_logs old (made_of traced_log 0 (take n logs)) → new ≡ with_logs mid (traced_log n rows)
     → new ≡ with_logs old (made_of traced_log 0 (take (n + 1) logs))
 logs_grow old mid new logs n rows is so_far grown =
     grown
-    ∙ (ap (λ (z : Lines). with_logs z (traced_log n rows)) so_far
+    ∙ (ap (λ (z : TraceData). with_logs z (traced_log n rows)) so_far
     ∙ ap (λ (z : List LogLine). record old { logs = z }) (append_assoc old.logs (made_of traced_log 0 (take n logs)) (traced_log n rows)
     ∙ ap (λ z. old.logs ++ z) (sym (made_one traced_log logs n rows is))))
 
 -- the trace with more rows of queues
-abbrev pub with_queues : Lines → List QueueRow → Lines
+abbrev pub with_queues : TraceData → List QueueRow → TraceData
 with_queues old rows = record old { queues = old.queues ++ rows }
 
 -- a subscription's queue grows by an item
-pub queue_grows : (old mid new : Lines) (s : ℕ) (items : List Item) (n : ℕ) (item : Item) (line : QueueRow) → slice_get items n ≡ Some item
+pub queue_grows : (old mid new : TraceData) (s : ℕ) (items : List Item) (n : ℕ) (item : Item) (line : QueueRow) → slice_get items n ≡ Some item
     → mid ≡ with_queues old (map (queue_row s) (take n items)) → line ≡ queue_row s item → new ≡ with_queues mid (line ∷ [])
     → new ≡ with_queues old (map (queue_row s) (take (n + 1) items))
 queue_grows old mid new s items n item line is so_far made grown =
     grown
     ∙ (ap (λ (z : QueueRow). with_queues mid (z ∷ [])) made
-    ∙ (ap (λ (z : Lines). with_queues z (queue_row s item ∷ [])) so_far
+    ∙ (ap (λ (z : TraceData). with_queues z (queue_row s item ∷ [])) so_far
     ∙ ap (λ (z : List QueueRow). record old { queues = z }) (append_assoc old.queues (map (queue_row s) (take n items)) (queue_row s item ∷ [])
     ∙ ap (λ z. old.queues ++ z) (sym (map_one (queue_row s) items n item is)))))
 
 -- the trace with more spans and rows of queues
-abbrev pub with_subs : Lines → List SpanRow → List QueueRow → Lines
+abbrev pub with_subs : TraceData → List SpanRow → List QueueRow → TraceData
 with_subs old spans rows = record old { spans = spans; queues = old.queues ++ rows }
 
 -- the trace grows by a subscription
-pub subs_grow : (old mid new : Lines) (qs : List QueueReport) (n : ℕ) (q : QueueReport) → slice_get qs n ≡ Some q
+pub subs_grow : (old mid new : TraceData) (qs : List QueueReport) (n : ℕ) (q : QueueReport) → slice_get qs n ≡ Some q
     → mid ≡ with_subs old (span_lines 0 (take n qs)) (made_of traced_queue 0 (take n qs))
     → new ≡ record mid { spans = mid.spans ++ traced_span n q ∷ []; queues = mid.queues ++ traced_queue n q }
     → new ≡ with_subs old (span_lines 0 (take (n + 1) qs)) (made_of traced_queue 0 (take (n + 1) qs))
@@ -152,7 +152,7 @@ subs_grow old mid new qs n q is so_far grown =
     ap (λ z. old.queues ++ z) (made_one traced_queue qs n q is)
     ∙ sym (append_assoc old.queues (made_of traced_queue 0 (take n qs)) (traced_queue n q)) in
     grown
-    ∙ (ap (λ (z : Lines). record z { spans = z.spans ++ traced_span n q ∷ []; queues = z.queues ++ traced_queue n q }) so_far
+    ∙ (ap (λ (z : TraceData). record z { spans = z.spans ++ traced_span n q ∷ []; queues = z.queues ++ traced_queue n q }) so_far
     ∙ λ i. record old { spans = sym spans i; queues = sym rows i })
 
 -- ---- spans

@@ -11,7 +11,7 @@ use Rattle.mcast_txn.specs.TopicSet.{names}
 use Rattle.mcast_txn.proofs.Members.{In-map, In-map_cases, In-filter, In-filter_cases}
 use Rattle.mcast_txn.proofs.TopicLemmas.{topics_rise}
 use Rattle.mcast_group.specs.Group.{GroupState}
-use Rattle.trace_audit.specs.Line.{LogLine}
+use Rattle.trace_audit.specs.Logs.{LogLine}
 use Rattle.trace_audit.specs.Trace.{fits, rise_after}
 use Rattle.delivery.specs.Topics.{max_topics}
 use Rattle.delivery.specs.Nets.{KeptRun}
@@ -27,8 +27,8 @@ use Rattle.delivery.specs.Inner.View.{View}
 use Rattle.delivery.specs.Inner.ViewReports.{report_in}
 use Rattle.delivery.specs.Traces.{trace_of, IsTraced}
 use Rattle.delivery.proofs.Core.DeliversOfRun.{delivers}
-use Rattle.delivery.proofs.Views.KeptRuns.{is_delivered, has_report}
-use Rattle.delivery.proofs.Views.ReportOfView.{reported}
+use Rattle.delivery.proofs.Views.Runs.KeptRuns.{is_delivered, has_report}
+use Rattle.delivery.proofs.Views.Runs.ReportOfView.{reported}
 use Rattle.delivery.proofs.Traces.Lists.{In-take}
 use Rattle.delivery.proofs.Traces.Lines.{log_is}
 use Rattle.delivery.proofs.Traces.Explained.{sequence, at_topic, fronted}

@@ -6,7 +6,7 @@ use Rattle.stomp_frame.specs.declared.raw_frame.RawFrame.{RawFrame}
 use Rattle.mcast_txn.specs.declared.id.Topic.{Topic}
 use Rattle.mcast_txn.specs.Checks.{first_refusal}
 use Rattle.stomp_session.specs.Frames.{id_of}
-use Rattle.stomp_session.specs.Refusals.{refusal}
+use Rattle.stomp_session.specs.Refusals.{session_fault}
 use Rattle.delivery.specs.declared.event.Event.{Event}
 use Rattle.delivery.specs.Topics.{TopicList}
 use Rattle.delivery.specs.Machine.World.{World, Subscription, is_reading, connection_at, subscription_at}
@@ -73,7 +73,7 @@ UnsubscribesFind =
     (topics : TopicList) (capacity : ℕ) (steps : List CoreStep) → length topics.clocks ≡ length topics.names
     → IsCoreRun topics capacity steps → (c : ℕ) (f : RawFrame) → f.command ≡ Command.Unsubscribe
     → let k = core_of topics capacity steps in first_refusal (needs_idle k.world c) ≡ None
-    → refusal (session_at k c) f ≡ None
+    → session_fault (session_at k c) f ≡ None
     → move_refusal k.world (Move.Unsubscribes c (number_by c (id_of f) k.steps)) ≡ None
 
 -- A step changes no connection but its event's own.

@@ -7,7 +7,7 @@ use Rattle.stomp_frame.specs.Cases.{case_fault}
 use Rattle.mcast_txn.specs.Lists.{In}
 use Rattle.mcast_txn.specs.Checks.{first_refusal}
 use Rattle.stomp_session.specs.declared.fault.SessionFault.{SessionFault}
-use Rattle.stomp_session.specs.Refusals.{refusal}
+use Rattle.stomp_session.specs.Refusals.{session_fault}
 use Rattle.stomp_session.specs.Answers.{action_by}
 use Rattle.delivery.specs.declared.event.Event.{Event}
 use Rattle.delivery.specs.declared.outcome.Outcome.{Outcome}
@@ -65,7 +65,7 @@ frame_no_memory = ConnectionFault.Session SessionFault.NoMemory
 abbrev pub frame_fault : Core → ℕ → RawFrame → Option ConnectionFault
 frame_fault k c f =
     option_or (option_map ConnectionFault.Frame (case_fault f))
-    (option_or (option_map ConnectionFault.Session (refusal (session_at k c) f))
+    (option_or (option_map ConnectionFault.Session (session_fault (session_at k c) f))
     (option_map (λ why. frame_no_memory)
     (option_and_then (λ move. move_refusal k.world move)
     (frame_move k c (action_by f.command (session_at k c) f)))))

@@ -10,7 +10,7 @@ use Rattle.stomp_frame.specs.declared.raw_frame.RawFrame.{RawFrame}
 use Rattle.stomp_frame.specs.Cases.{is_connect}
 use Rattle.stomp_frame.specs.Receipts.{receipt_of}
 use Rattle.stomp_frame.specs.ServerFrames.{message_frame, message_id, error_frame, connected_frame, receipt_frame}
-use Rattle.stomp_frame.specs.Writing.{spelled}
+use Rattle.stomp_frame.specs.Writing.{spelling_of}
 use Rattle.stomp_session.specs.declared.fault.SessionFault.{SessionFault}
 use Rattle.stomp_session.specs.Frames.{id_of, is_disconnect}
 use Rattle.delivery.specs.declared.event.Event.{Event}
@@ -120,4 +120,4 @@ text_out names c (step ∷ older) =
     let account = account_of names older in
     text_out names c older
     ++ (if is_cut step.outcome then []
-    else flat_map spelled (replies_to c older account step.event step.reading step.outcome))
+    else flat_map spelling_of (replies_to c older account step.event step.reading step.outcome))

@@ -3,7 +3,7 @@
 use Rattle.std.specs.Prelude.{ℕ, ◌==◌, Bool, true, false, not, ◌&&◌, List, [], ◌∷◌, Option, Some, None, Ok, Err, if◌then◌else◌}
 use Rattle.std.specs.Option.{option_to_list, option_map_or}
 use Rattle.stomp_frame.specs.Faults.{fault_of}
-use Rattle.stomp_frame.specs.Reader.{Unread, unread_of, fed, ReadsNext}
+use Rattle.stomp_frame.specs.Reader.{Unread, unread_of, with_piece, ReadsNext}
 use Rattle.mcast_group.specs.declared.fault.ProposeFault.{ProposeFault}
 use Rattle.stomp_session.specs.declared.action.Action.{Action}
 use Rattle.stomp_session.specs.declared.action.Action.TheVariants as actions
@@ -44,7 +44,7 @@ left_by u (Reading.Fails k left) = left
 
 -- what the reader of connection c stands for after an event
 abbrev pub unread_after : ℕ → Unread → Event → Reading → Outcome → Unread
-unread_after c u (Event.Piece d octets) reading o = if d == c && is_fed o then fed u octets else u
+unread_after c u (Event.Piece d octets) reading o = if d == c && is_fed o then with_piece u octets else u
 unread_after c u (Event.Next d) reading o = if d == c then left_by u reading else u
 unread_after c u e reading o = u
 

@@ -10,14 +10,14 @@ use Rattle.stomp_frame.specs.Cases.{case_fault}
 use Rattle.stomp_frame.specs.Reader.{Unread}
 use Rattle.stomp_frame.specs.Receipts.{receipt_of}
 use Rattle.stomp_frame.specs.ServerFrames.{error_frame, receipt_frame}
-use Rattle.stomp_frame.specs.Writing.{spelled}
+use Rattle.stomp_frame.specs.Writing.{spelling_of}
 use Rattle.stomp_session.specs.declared.action.Step.{Step}
 use Rattle.stomp_session.specs.declared.action.Action.{Action}
 use Rattle.stomp_session.specs.Answers.{Accepts, Refuses, action_by}
 use Rattle.stomp_session.specs.Open.{Held, StandsFor, held_after}
-use Rattle.stomp_session.specs.Refusals.{refusal}
+use Rattle.stomp_session.specs.Refusals.{session_fault}
 use Rattle.delivery.specs.declared.connection_fault.ConnectionFault.{ConnectionFault}
-use Rattle.delivery.specs.declared.open_line.OpenLine.{OpenLine}
+use Rattle.delivery.specs.declared.open_endpoint.OpenEndpoint.{OpenEndpoint}
 use Rattle.delivery.specs.declared.outcome.Outcome.{Outcome}
 use Rattle.delivery.specs.declared.stage.Stage.{Stage}
 use Rattle.delivery.specs.Faults.{connection_title}
@@ -27,18 +27,18 @@ use Rattle.delivery.specs.Core.Steps.{Reading, accepted_of, frame_in}
 use Rattle.delivery.specs.Core.Output.{receipt_asked, says_version}
 use Rattle.delivery.specs.Core.State.{Core, IsReadBy, session_at, unread_at}
 use Rattle.delivery.specs.Core.Outcomes.{reading_outcomes}
-use Rattle.delivery.specs.Inner.Stands.{IsReached, line_objection}
-use Rattle.delivery.specs.Inner.View.{View, LineView, SenderView, view_of, no_line, is_undecided}
+use Rattle.delivery.specs.Inner.Stands.{IsReached, endpoint_objection}
+use Rattle.delivery.specs.Inner.View.{View, EndpointView, SenderView, view_of, no_endpoint, is_undecided}
 
--- ---- one line
+-- ---- one endpoint
 
--- one line is changed so
-abbrev pub changed_line : (LineView → LineView) → ℕ → View → View
-changed_line f c v = record v { lines = set v.lines c (f (get_or v.lines c no_line)) }
+-- one endpoint is changed so
+abbrev pub changed_endpoint : (EndpointView → EndpointView) → ℕ → View → View
+changed_endpoint f c v = record v { endpoints = set v.endpoints c (f (get_or v.endpoints c no_endpoint)) }
 
--- the line at this stage
-abbrev pub staged_line : Stage → LineView → LineView
-staged_line stage line = record line { stage = stage }
+-- the endpoint at this stage
+abbrev pub staged_endpoint : Stage → EndpointView → EndpointView
+staged_endpoint stage endpoint = record endpoint { stage = stage }
 
 -- ---- checks
 
@@ -54,8 +54,8 @@ sending_objection senders s = if is_sending (slice_get senders s) then Some Obje
 -- what stands against a Next of connection c
 abbrev pub idle_objection : View → ℕ → Option Objection
 idle_objection v c =
-    option_or (line_objection (slice_get v.lines c))
-    (sending_objection v.senders (get_or v.lines c no_line).sender)
+    option_or (endpoint_objection (slice_get v.endpoints c))
+    (sending_objection v.senders (get_or v.endpoints c no_endpoint).sender)
 
 -- ---- what is read
 
@@ -87,40 +87,43 @@ IsRefusedAs s f ConnectionFault.Lagged = ⊥
 IsRefusedAs s f ConnectionFault.ReaderNoMemory = ⊥
 
 -- why a frame ends its connection, and the frame, if one was read
-abbrev pub LineFault : Type 0
-LineFault = ConnectionFault × Option RawFrame
+abbrev pub EndpointFault : Type 0
+EndpointFault = ConnectionFault × Option RawFrame
 
--- what an open line, whose session accepted these frames, makes of what it reads
-abbrev pub Judged : List RawFrame → OpenLine → Reading → Result (Option Step) LineFault → OpenLine → Type 0
-Judged accepted old (Reading.Waits left) (Ok None) new = new ≡ record old { reader = left }
-Judged accepted old (Reading.Finds f left) (Ok (Some step)) new =
+-- what an open endpoint, whose session accepted these frames, makes of what it reads
+abbrev pub JudgesReading
+    : List RawFrame → OpenEndpoint → Reading → Result (Option Step) EndpointFault → OpenEndpoint → Type 0
+JudgesReading accepted old (Reading.Waits left) (Ok None) new = new ≡ record old { reader = left }
+JudgesReading accepted old (Reading.Finds f left) (Ok (Some step)) new =
     IsAccepted (held_after old.session.names accepted) f step
     × (new
     ≡ record old { reader = left; session = held_after old.session.names (accepted ++ f ∷ []) })
-Judged accepted old (Reading.Finds f left) (Err e) new =
+JudgesReading accepted old (Reading.Finds f left) (Err e) new =
     (e.1 ≡ Some f) × IsRefusedAs (held_after old.session.names accepted) f e.0
-Judged accepted old Reading.Nothing (Err e) new = (e.1 ≡ None) × (e.0 ≡ ConnectionFault.ReaderNoMemory)
-Judged accepted old (Reading.Fails check left) (Err e) new =
+JudgesReading accepted old Reading.Nothing (Err e) new = (e.1 ≡ None) × (e.0 ≡ ConnectionFault.ReaderNoMemory)
+JudgesReading accepted old (Reading.Fails check left) (Err e) new =
     (e.1 ≡ None) × (e.0 ≡ ConnectionFault.Stream check)
-Judged accepted old reading result new = ⊥
+JudgesReading accepted old reading result new = ⊥
 
--- what its reader reads, and what the line makes of it
+-- what its reader reads, and what the endpoint makes of it
 pub record Judgement
-    (accepted : List RawFrame) (old : OpenLine) (result : Result (Option Step) LineFault) (new : OpenLine)
+    (accepted : List RawFrame) (old : OpenEndpoint) (result : Result (Option Step) EndpointFault)
+    (new : OpenEndpoint)
     : Type 0 where
   pub reading : Reading
   pub read : IsReadBy old.reader reading
-  pub judged : Judged accepted old reading result new
+  pub judged : JudgesReading accepted old reading result new
 
 -- so of each list of frames that its session stands for, while its reader returned no fault
-abbrev pub Judges : OpenLine → Result (Option Step) LineFault → OpenLine → Type 0
+abbrev pub Judges : OpenEndpoint → Result (Option Step) EndpointFault → OpenEndpoint → Type 0
 Judges old result new =
     (accepted : List RawFrame) → StandsFor old.session accepted → old.reader.answered ≡ None
     → Judgement accepted old result new
 
--- the same of a line, if it is open
-abbrev pub JudgesAt : Stage → Result (Option Step) LineFault → Stage → Type 0
-JudgesAt (Stage.Open old) result new = (after : OpenLine) × (new ≡ Stage.Open after) × Judges old result after
+-- the same of an endpoint, if it is open
+abbrev pub JudgesAt : Stage → Result (Option Step) EndpointFault → Stage → Type 0
+JudgesAt (Stage.Open old) result new =
+    (after : OpenEndpoint) × (new ≡ Stage.Open after) × Judges old result after
 JudgesAt (Stage.Leaving parting) result new = Unit {0}
 JudgesAt Stage.Gone result new = Unit {0}
 
@@ -128,22 +131,22 @@ JudgesAt Stage.Gone result new = Unit {0}
 
 -- the text of a fault's ERROR
 abbrev pub error_text : ConnectionFault → Option (List ℕ) → List ℕ
-error_text fault receipt = spelled (error_frame (connection_title fault) receipt (says_version fault))
+error_text fault receipt = spelling_of (error_frame (connection_title fault) receipt (says_version fault))
 
 -- the text of a RECEIPT, if one is asked for
 abbrev pub receipt_text : Option (List ℕ) → List ℕ
-receipt_text receipt = option_map_or (λ id. spelled (receipt_frame id)) receipt []
+receipt_text receipt = option_map_or (λ id. spelling_of (receipt_frame id)) receipt []
 
--- a line that ends by an ERROR of this text, or whose ERROR was left out
-abbrev pub failed_line : Bool → List ℕ → LineView → LineView
-failed_line cut text line = record line {
+-- an endpoint that ends by an ERROR of this text, or whose ERROR was left out
+abbrev pub failed_endpoint : Bool → List ℕ → EndpointView → EndpointView
+failed_endpoint cut text endpoint = record endpoint {
   stage = Stage.Leaving None;
-  output = if cut then line.output else line.output ++ text;
+  output = if cut then endpoint.output else endpoint.output ++ text;
 }
 
--- a line with only this many octets out
-abbrev pub shortened_line : ℕ → LineView → LineView
-shortened_line len line = record line { output = take len line.output }
+-- an endpoint with only this many octets out
+abbrev pub shortened_endpoint : ℕ → EndpointView → EndpointView
+shortened_endpoint len endpoint = record endpoint { output = take len endpoint.output }
 
 -- ---- a frame that ends its connection
 
@@ -164,7 +167,7 @@ pub record HasFault
   pub reading : Reading
   pub stage : Stage
   pub ends : Ends k c reading fault (receipt_asked frame)
-  pub view : held ≡ changed_line (staged_line stage) c (view_of k)
+  pub view : held ≡ changed_endpoint (staged_endpoint stage) c (view_of k)
 
 -- ---- an accepted frame
 
@@ -186,7 +189,7 @@ pub record Asks
   pub idle : first_refusal (needs_idle k.world c) ≡ None
   pub read : IsReadBy (unread_at c k.steps) (Reading.Finds f left)
   pub cased : case_fault f ≡ None
-  pub free : refusal (session_at k c) f ≡ None
+  pub free : session_fault (session_at k c) f ≡ None
   pub does : action_by f.command (session_at k c) f ≡ action
   pub wants : receipt_of f ≡ receipt
-  pub view : held ≡ changed_line (staged_line (accepted_stage k c f left)) c (view_of k)
+  pub view : held ≡ changed_endpoint (staged_endpoint (accepted_stage k c f left)) c (view_of k)

@@ -3,7 +3,7 @@ use Rattle.std.specs.Prelude.{◌≡◌, ◌-◌, ◌++◌, ◌∷◌, [], ℕ, 
 use Rattle.std.specs.List.{list_any, position, remove}
 use Rattle.std.specs.Option.{is_none, is_some, option_map, option_or}
 use Rattle.stomp_frame.specs.ServerFrames.{receipt_frame, error_frame}
-use Rattle.stomp_frame.specs.Writing.{spelled}
+use Rattle.stomp_frame.specs.Writing.{spelling_of}
 use Rattle.mcast_txn.specs.declared.ballot.ticket.Ticket.{Ticket}
 use Rattle.mcast_txn.specs.declared.id.Topic.{Topic}
 use Rattle.mcast_txn.specs.declared.id.TxnId.{TxnId}
@@ -26,13 +26,13 @@ use Rattle.delivery.specs.declared.sending.Sending.{Sending}
 use Rattle.delivery.specs.declared.stage.Stage.{Stage}
 use Rattle.delivery.specs.Machine.Objections.{Objection, refusal_of}
 use Rattle.delivery.specs.Machine.World.{new_sender}
-use Rattle.delivery.specs.Inner.View.{View, SenderView, LineView, sender_view, no_line, leaving_line, group_in, no_group}
+use Rattle.delivery.specs.Inner.View.{View, SenderView, EndpointView, sender_view, no_endpoint, leaving_endpoint, group_in, no_group}
 
 -- ---- whose transaction it is
 
 -- the sender that a connection speaks for
 abbrev pub speaker_at : View → ℕ → ℕ
-speaker_at v c = (get_or v.lines c no_line).sender
+speaker_at v c = (get_or v.endpoints c no_endpoint).sender
 
 -- what stands for a sender that there never was
 abbrev pub no_sender : SenderView
@@ -44,21 +44,21 @@ sender_in v s = get_or v.senders s no_sender
 
 -- what stands against any event of a connection of this stage
 abbrev pub gone_objection : Stage → Option Objection
-gone_objection (Stage.Open line) = None
+gone_objection (Stage.Open endpoint) = None
 gone_objection (Stage.Leaving parting) = None
 gone_objection Stage.Gone = Some Objection.Gone
 
--- the same of a line, if there is one
-abbrev pub there_objection : Option LineView → Option Objection
+-- the same of an endpoint, if there is one
+abbrev pub there_objection : Option EndpointView → Option Objection
 there_objection None = Some Objection.NoConn
-there_objection (Some line) = gone_objection line.stage
+there_objection (Some endpoint) = gone_objection endpoint.stage
 
 -- a connection that is there and isn't gone has this sender; otherwise this is reported
 abbrev pub IsSpeaker : Result ℕ Refusal → View → ℕ → Type 0
 IsSpeaker (Ok s) v c =
-    (there_objection (slice_get v.lines c) ≡ None) × (s ≡ speaker_at v c)
+    (there_objection (slice_get v.endpoints c) ≡ None) × (s ≡ speaker_at v c)
 IsSpeaker (Err refusal) v c =
-    (o : Objection) × (there_objection (slice_get v.lines c) ≡ Some o) × (refusal_of o ≡ Some refusal)
+    (o : Objection) × (there_objection (slice_get v.endpoints c) ≡ Some o) × (refusal_of o ≡ Some refusal)
 
 -- ---- a transaction begins
 
@@ -69,44 +69,44 @@ gate_of (Sending.Flying flight row) = gate_after flight flight.floor
 gate_of (Sending.Marked gate tickets fault) = gate
 
 -- a transaction of these SENDs is on its way, if none was undecided
-abbrev pub begun_sending : List SentMessage → Sending → Sending
-begun_sending sends (Sending.Idle gate) =
+abbrev pub launched_sending : List SentMessage → Sending → Sending
+launched_sending sends (Sending.Idle gate) =
     Sending.Flying (flight_of gate sends)
     (record { id = next_id gate; topics = topics_of sends; stamp = zero_stamp })
-begun_sending sends (Sending.Flying flight row) = Sending.Flying flight row
-begun_sending sends (Sending.Marked gate tickets fault) = Sending.Marked gate tickets fault
+launched_sending sends (Sending.Flying flight row) = Sending.Flying flight row
+launched_sending sends (Sending.Marked gate tickets fault) = Sending.Marked gate tickets fault
 
 -- the same of its sender
-abbrev pub begun_sender : List SentMessage → SenderView → SenderView
-begun_sender sends x = record x { sending = begun_sending sends x.sending }
+abbrev pub launched_sender : List SentMessage → SenderView → SenderView
+launched_sender sends x = record x { sending = launched_sending sends x.sending }
 
 -- the id that its next transaction has
-abbrev pub begun_id : View → ℕ → TxnId
-begun_id v c = next_id (gate_of (sender_in v (speaker_at v c)).sending)
+abbrev pub launched_id : View → ℕ → TxnId
+launched_id v c = next_id (gate_of (sender_in v (speaker_at v c)).sending)
 
 -- with a transaction of these SENDs that the connection's sender has begun
-abbrev pub begun_view : List SentMessage → ℕ → View → View
-begun_view sends c v =
+abbrev pub launched_view : List SentMessage → ℕ → View → View
+launched_view sends c v =
     let s = speaker_at v c in
     record v {
-      senders = set v.senders s (begun_sender sends (sender_in v s));
+      senders = set v.senders s (launched_sender sends (sender_in v s));
       verdicts = set v.verdicts s (get_or v.verdicts s [] ++ None ∷ []);
     }
 
 -- an open connection's transaction asked for this receipt
 abbrev pub asked_stage : Option (List ℕ) → Stage → Stage
-asked_stage receipt (Stage.Open line) = Stage.Open (record line { receipt = receipt })
+asked_stage receipt (Stage.Open endpoint) = Stage.Open (record endpoint { receipt = receipt })
 asked_stage receipt (Stage.Leaving parting) = Stage.Leaving parting
 asked_stage receipt Stage.Gone = Stage.Gone
 
--- the same of its line
-abbrev pub asked_line : Option (List ℕ) → LineView → LineView
-asked_line receipt line = record line { stage = asked_stage receipt line.stage }
+-- the same of its endpoint
+abbrev pub asked_endpoint : Option (List ℕ) → EndpointView → EndpointView
+asked_endpoint receipt endpoint = record endpoint { stage = asked_stage receipt endpoint.stage }
 
 -- the same of what is held
 abbrev pub asked_view : Option (List ℕ) → ℕ → View → View
 asked_view receipt c v =
-    record v { lines = set v.lines c (asked_line receipt (get_or v.lines c no_line)) }
+    record v { endpoints = set v.endpoints c (asked_endpoint receipt (get_or v.endpoints c no_endpoint)) }
 
 -- ---- it is decided
 
@@ -168,30 +168,31 @@ decided_view s v =
 
 -- the receipt that an open connection's transaction asked for
 abbrev pub receipt_in : Stage → Option (List ℕ)
-receipt_in (Stage.Open line) = line.receipt
+receipt_in (Stage.Open endpoint) = endpoint.receipt
 receipt_in (Stage.Leaving parting) = None
 receipt_in Stage.Gone = None
 
 -- the octets out with its RECEIPT
 abbrev pub with_receipt : List ℕ → Option (List ℕ) → List ℕ
 with_receipt output None = output
-with_receipt output (Some id) = output ++ spelled (receipt_frame id)
+with_receipt output (Some id) = output ++ spelling_of (receipt_frame id)
 
--- the line of a connection whose transaction is decided, with that RECEIPT
-abbrev pub confirmed_line : LineView → LineView
-confirmed_line line = record line {
-  stage = asked_stage None line.stage;
-  output = with_receipt line.output (receipt_in line.stage);
+-- the endpoint of a connection whose transaction is decided, with that RECEIPT
+abbrev pub confirmed_endpoint : EndpointView → EndpointView
+confirmed_endpoint endpoint = record endpoint {
+  stage = asked_stage None endpoint.stage;
+  output = with_receipt endpoint.output (receipt_in endpoint.stage);
 }
 
 -- the same where there was no memory for it
-abbrev pub confirmed_line_if : Bool → LineView → LineView
-confirmed_line_if cut line = if cut then leaving_line None line else confirmed_line line
+abbrev pub confirmed_endpoint_if : Bool → EndpointView → EndpointView
+confirmed_endpoint_if cut endpoint =
+    if cut then leaving_endpoint None endpoint else confirmed_endpoint endpoint
 
 -- the same of what is held
 abbrev pub confirmed_view : Bool → ℕ → View → View
 confirmed_view cut c v =
-    record v { lines = set v.lines c (confirmed_line_if cut (get_or v.lines c no_line)) }
+    record v { endpoints = set v.endpoints c (confirmed_endpoint_if cut (get_or v.endpoints c no_endpoint)) }
 
 -- ---- it is proposed
 
@@ -280,15 +281,15 @@ abbrev pub put_sender : Ticket → SenderView → SenderView
 put_sender ticket x = record x { sending = put_sending ticket x.sending }
 
 -- a topic refused the transaction
-abbrev pub marked_sending : ProposeFault → Sending → Sending
-marked_sending fault (Sending.Idle gate) = Sending.Idle gate
-marked_sending fault (Sending.Flying flight row) =
+abbrev pub failed_sending : ProposeFault → Sending → Sending
+failed_sending fault (Sending.Idle gate) = Sending.Idle gate
+failed_sending fault (Sending.Flying flight row) =
     Sending.Marked (gate_after flight flight.floor) (tickets_put (ballot_of flight)) fault
-marked_sending fault (Sending.Marked gate tickets why) = Sending.Marked gate tickets why
+failed_sending fault (Sending.Marked gate tickets why) = Sending.Marked gate tickets why
 
 -- the same of its sender
-abbrev pub marked_sender : ProposeFault → SenderView → SenderView
-marked_sender fault x = record x { sending = marked_sending fault x.sending }
+abbrev pub failed_sender : ProposeFault → SenderView → SenderView
+failed_sender fault x = record x { sending = failed_sending fault x.sending }
 
 -- the part is pending at its topic, and the sender has its ticket
 abbrev pub proposed_view : Topic → ℕ → TopicPart → View → View
@@ -305,7 +306,7 @@ proposed_view t s part v =
 -- the topic refused the part
 abbrev pub failed_view : Topic → ℕ → ProposeFault → View → View
 failed_view t s fault v = record v {
-  senders = set v.senders s (marked_sender fault (taken_sender t (sender_in v s)));
+  senders = set v.senders s (failed_sender fault (taken_sender t (sender_in v s)));
 }
 
 -- what came of a proposal of this part: the number of its ticket, or why there is none
@@ -326,10 +327,10 @@ withdraw_refusal (Sending.Flying flight row) = Some refusal.NotMarked
 withdraw_refusal (Sending.Marked gate tickets fault) = None
 
 -- why a topic refused it
-abbrev pub mark_of : Sending → Option ProposeFault
-mark_of (Sending.Idle gate) = None
-mark_of (Sending.Flying flight row) = None
-mark_of (Sending.Marked gate tickets fault) = Some fault
+abbrev pub failure_of : Sending → Option ProposeFault
+failure_of (Sending.Idle gate) = None
+failure_of (Sending.Flying flight row) = None
+failure_of (Sending.Marked gate tickets fault) = Some fault
 
 -- its tickets are to be cancelled
 abbrev pub withdrawn_sender : SenderView → SenderView
@@ -348,34 +349,36 @@ withdrawn_view s v = record v { senders = set v.senders s (withdrawn_sender (sen
 
 -- the frames of a connection of this stage are read
 abbrev pub reads_frames : Stage → Bool
-reads_frames (Stage.Open line) = true
+reads_frames (Stage.Open endpoint) = true
 reads_frames (Stage.Leaving parting) = false
 reads_frames Stage.Gone = false
 
 -- an open connection is leaving, and nothing is to be written as it is gone
 abbrev pub shut_stage : Stage → Stage
-shut_stage (Stage.Open line) = Stage.Leaving None
+shut_stage (Stage.Open endpoint) = Stage.Leaving None
 shut_stage (Stage.Leaving parting) = Stage.Leaving parting
 shut_stage Stage.Gone = Stage.Gone
 
 -- the octets out with the ERROR of an open connection, which has the receipt that its transaction asked for
 abbrev pub with_error : List ℕ → List ℕ → Stage → List ℕ
-with_error message output (Stage.Open line) =
-    output ++ spelled (error_frame message line.receipt false)
+with_error message output (Stage.Open endpoint) =
+    output ++ spelling_of (error_frame message endpoint.receipt false)
 with_error message output (Stage.Leaving parting) = output
 with_error message output Stage.Gone = output
 
--- the line of a connection whose transaction is withdrawn, with that ERROR, or without memory for it
-abbrev pub refused_line : Bool → List ℕ → LineView → LineView
-refused_line cut message line = record line {
-  stage = shut_stage line.stage;
-  output = if cut then line.output else with_error message line.output line.stage;
+-- the endpoint of a connection whose transaction is withdrawn, with that ERROR, or without memory for it
+abbrev pub refused_endpoint : Bool → List ℕ → EndpointView → EndpointView
+refused_endpoint cut message endpoint = record endpoint {
+  stage = shut_stage endpoint.stage;
+  output = if cut then endpoint.output else with_error message endpoint.output endpoint.stage;
 }
 
 -- the same of what is held
 abbrev pub refused_view : Bool → List ℕ → ℕ → View → View
 refused_view cut message c v =
-    record v { lines = set v.lines c (refused_line cut message (get_or v.lines c no_line)) }
+    record v {
+      endpoints = set v.endpoints c (refused_endpoint cut message (get_or v.endpoints c no_endpoint));
+    }
 
 -- ---- a ticket is cancelled
 

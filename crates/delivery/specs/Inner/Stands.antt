@@ -9,20 +9,20 @@ use Rattle.delivery.specs.Machine.Objections.{Objection, refusal_of}
 use Rattle.delivery.specs.Core.Steps.{CoreStep, Reading}
 use Rattle.delivery.specs.Core.State.{Core, core_of, core_after}
 use Rattle.delivery.specs.Core.Outcomes.{IsCoreRun, MayStep}
-use Rattle.delivery.specs.Inner.View.{View, LineView, view_of}
+use Rattle.delivery.specs.Inner.View.{View, EndpointView, view_of}
 
 -- ---- checks
 
 -- what stands against reading a connection of this stage
 abbrev pub stage_objection : Stage → Option Objection
-stage_objection (Stage.Open line) = None
+stage_objection (Stage.Open endpoint) = None
 stage_objection (Stage.Leaving parting) = Some Objection.Busy
 stage_objection Stage.Gone = Some Objection.Gone
 
--- the same of a line, if there is one
-abbrev pub line_objection : Option LineView → Option Objection
-line_objection None = Some Objection.NoConn
-line_objection (Some line) = stage_objection line.stage
+-- the same of an endpoint, if there is one
+abbrev pub endpoint_objection : Option EndpointView → Option Objection
+endpoint_objection None = Some Objection.NoConn
+endpoint_objection (Some endpoint) = stage_objection endpoint.stage
 
 -- the check passes where nothing stands against it, and otherwise reports what does
 abbrev pub IsChecked : Result Unit Refusal → Option Objection → Type 0

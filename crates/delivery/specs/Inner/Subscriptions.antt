@@ -9,7 +9,7 @@ use Rattle.mcast_txn.specs.Stamp.{zero_stamp}
 use Rattle.sub_queue.specs.Shown.{Room, known_taken}
 use Rattle.mcast_group.specs.Group.{GroupState, room_at, group_after_subscribe, group_after_unsubscribe}
 use Rattle.mcast_group.specs.Machine.{Entry, find_entry, end_of}
-use Rattle.delivery.specs.Inner.View.{View, LineView, SubView, LeftView, left_view, no_line, group_in}
+use Rattle.delivery.specs.Inner.View.{View, EndpointView, SubView, LeftView, left_view, no_endpoint, group_in}
 
 -- what stands for a subscription that there is none of
 abbrev pub no_sub : SubView
@@ -43,15 +43,15 @@ abbrev pub without_number : ℕ → List ℕ → List ℕ
 without_number s [] = []
 without_number s (n ∷ ns) = if n == s then ns else n ∷ without_number s ns
 
--- a line whose subscription s is closed
-abbrev pub shorter_line : ℕ → LineView → LineView
-shorter_line s line = record line { live = without_number s line.live }
+-- an endpoint whose subscription s is closed
+abbrev pub shorter_endpoint : ℕ → EndpointView → EndpointView
+shorter_endpoint s endpoint = record endpoint { live = without_number s endpoint.live }
 
 -- subscription s, which was this, has left this
 abbrev pub closed_with : ℕ → SubView → LeftView → View → View
 closed_with s x left v = record v {
   groups = set v.groups x.topic.0 (group_after_unsubscribe s (group_in v x.topic));
-  lines = set v.lines x.connection (shorter_line s (get_or v.lines x.connection no_line));
+  endpoints = set v.endpoints x.connection (shorter_endpoint s (get_or v.endpoints x.connection no_endpoint));
   subs = set v.subs s (record x { left = Some left });
 }
 
@@ -66,9 +66,9 @@ closed_view s v = closed_if_left s (left_at s v) v
 
 -- ---- a beginning
 
--- a line with one more subscription
-abbrev pub longer_line : ℕ → LineView → LineView
-longer_line s line = record line { live = line.live ++ s ∷ [] }
+-- an endpoint with one more subscription
+abbrev pub longer_endpoint : ℕ → EndpointView → EndpointView
+longer_endpoint s endpoint = record endpoint { live = endpoint.live ++ s ∷ [] }
 
 -- the room of a new queue
 abbrev pub new_room : ℕ → Room
@@ -78,7 +78,7 @@ new_room capacity = record { capacity = capacity; taken = Some 0 }
 abbrev pub subscribed_view : ℕ → List ℕ → Topic → View → View
 subscribed_view c id t v = record v {
   groups = set v.groups t.0 (group_after_subscribe (length v.subs) (new_room v.capacity) (group_in v t));
-  lines = set v.lines c (longer_line (length v.subs) (get_or v.lines c no_line));
+  endpoints = set v.endpoints c (longer_endpoint (length v.subs) (get_or v.endpoints c no_endpoint));
   subs = v.subs
       ++ record {
         connection = c;
@@ -97,4 +97,4 @@ has_sub_id subs id s = option_map_or (λ x. bytes_eq x.id id) (slice_get subs s)
 
 -- the number of the connection's subscription with this id that isn't closed, if there is one
 abbrev pub number_in : View → ℕ → List ℕ → Option ℕ
-number_in v c id = find (has_sub_id v.subs id) (get_or v.lines c no_line).live
+number_in v c id = find (has_sub_id v.subs id) (get_or v.endpoints c no_endpoint).live

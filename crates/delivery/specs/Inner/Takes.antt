@@ -2,10 +2,9 @@
 use Rattle.std.specs.Prelude.{ℕ, Bool, ◌||◌, List, [], ◌∷◌, slice_get, get_or, set, Option, Some, None}
 use Rattle.std.specs.List.{flat_map}
 use Rattle.std.specs.Option.{is_some}
-use Rattle.stomp_frame.specs.Writing.{spelled}
+use Rattle.stomp_frame.specs.Writing.{spelling_of}
 use Rattle.mcast_txn.specs.Checks.{first_refusal}
 use Rattle.mcast_txn.specs.Span.{Item}
-use Rattle.mcast_txn.specs.Stamp.{zero_stamp}
 use Rattle.sub_queue.specs.Shown.{Shown, known_taken}
 use Rattle.mcast_group.specs.Counted.{group_after_take}
 use Rattle.mcast_group.specs.Group.{GroupState, shown_at}
@@ -13,30 +12,21 @@ use Rattle.mcast_group.specs.Machine.{find_entry}
 use Rattle.delivery.specs.Machine.Objections.{Objection}
 use Rattle.delivery.specs.Machine.Observed.{entry_to}
 use Rattle.delivery.specs.Core.Output.{item_messages}
-use Rattle.delivery.specs.Inner.Stands.{line_objection}
-use Rattle.delivery.specs.Inner.View.{View, SubView, LineView, no_group, no_line, written_line}
+use Rattle.delivery.specs.Inner.Stands.{endpoint_objection}
+use Rattle.delivery.specs.Inner.Subscriptions.{no_sub}
+use Rattle.delivery.specs.Inner.View.{View, SubView, EndpointView, no_group, no_endpoint, written_endpoint}
 
 -- what stands against delivering to a subscription, if there is one: it was closed, or its connection isn't
 -- open
-abbrev pub sub_objection : List LineView → Option SubView → Option Objection
-sub_objection lines None = Some Objection.NoSub
-sub_objection lines (Some x) =
+abbrev pub sub_objection : List EndpointView → Option SubView → Option Objection
+sub_objection endpoints None = Some Objection.NoSub
+sub_objection endpoints (Some x) =
     first_refusal
-    ((is_some x.left || is_some (line_objection (slice_get lines x.connection)), Objection.Gone) ∷ [])
+    ((is_some x.left || is_some (endpoint_objection (slice_get endpoints x.connection)), Objection.Gone) ∷ [])
 
 -- the same of the subscription of this number
 abbrev pub take_objection : View → ℕ → Option Objection
-take_objection v s = sub_objection v.lines (slice_get v.subs s)
-
--- what stands for a subscription that there never was
-abbrev pub no_sub : SubView
-no_sub = record {
-  connection = 0;
-  id = [];
-  topic = record { 0 = 0 };
-  from = zero_stamp;
-  left = None;
-}
+take_objection v s = sub_objection v.endpoints (slice_get v.subs s)
 
 -- the subscription of this number
 abbrev pub sub_held : View → ℕ → SubView
@@ -69,8 +59,9 @@ after_item v s item =
     let x = sub_held v s in
     record v {
       groups = set v.groups x.topic.0 (group_after_take s (group_held v s));
-      lines = set v.lines x.connection
-          (written_line (flat_map spelled (item_messages x.id item)) (get_or v.lines x.connection no_line));
+      endpoints = set v.endpoints x.connection
+          (written_endpoint (flat_map spelling_of (item_messages x.id item))
+          (get_or v.endpoints x.connection no_endpoint));
     }
 
 -- the same where there is an item, and otherwise what was held

@@ -1,12 +1,12 @@
 -- Only serves proofs: what the code of the core holds, as a function of a core (its names, its machine and
 -- its steps). It isn't the core itself: rows of the commit list have no SENDs, an undecided transaction
 -- has lost the parts that were taken out, verdicts are found by sender and seq, and each connection has
--- its line.
+-- its endpoint.
 use Rattle.std.specs.Prelude.{ℕ, ◌+◌, Bool, true, false, List, [], ◌∷◌, ◌++◌, map, length, get_or, Option, Some, None, if◌then◌else◌}
 use Rattle.std.specs.List.{find, range_with_len}
 use Rattle.std.specs.Option.{option_map, option_and_then}
 use Rattle.stomp_frame.specs.declared.raw_frame.RawFrame.{RawFrame}
-use Rattle.stomp_frame.specs.Reader.{Unread, unread_of, fed}
+use Rattle.stomp_frame.specs.Reader.{Unread, unread_of, with_piece}
 use Rattle.stomp_frame.specs.Receipts.{receipt_of}
 use Rattle.mcast_txn.specs.declared.id.Topic.{Topic}
 use Rattle.mcast_txn.specs.declared.ballot.ticket.Ticket.{Ticket}
@@ -131,30 +131,30 @@ stage_view names Standing.Open flight accepted unread = Stage.Open (record {
 stage_view names Standing.Leaving flight accepted unread = Stage.Leaving (parting_receipt accepted)
 stage_view names Standing.Gone flight accepted unread = Stage.Gone
 
--- a connection's line: its sender, how far it is, its subscriptions and its octets out
-pub record LineView : Type 0 where
+-- a connection's endpoint: its sender, how far it is, its subscriptions and its octets out
+pub record EndpointView : Type 0 where
   pub sender : ℕ
   pub stage : Stage
   pub live : List ℕ
   pub output : List ℕ
 
--- the line of connection c, which accepted these frames, whose reader stands for this, and whose text out is
+-- the endpoint of connection c, which accepted these frames, whose reader stands for this, and whose text out is
 -- this
-abbrev pub line_view : List (List ℕ) → World → ℕ → List RawFrame → Unread → List ℕ → LineView
-line_view names w c accepted unread text = record {
+abbrev pub endpoint_view : List (List ℕ) → World → ℕ → List RawFrame → Unread → List ℕ → EndpointView
+endpoint_view names w c accepted unread text = record {
   sender = (connection_at w c).sender;
   stage = stage_view names (connection_at w c).standing (speaker w c).flight accepted unread;
   live = live_numbers c 0 w.subscriptions;
   output = text;
 }
 
--- what stands for a line that there never was
-abbrev pub no_line : LineView
-no_line = record { sender = 0; stage = Stage.Gone; live = []; output = [] }
+-- what stands for an endpoint that there never was
+abbrev pub no_endpoint : EndpointView
+no_endpoint = record { sender = 0; stage = Stage.Gone; live = []; output = [] }
 
--- a line that is leaving; with it is the receipt that its DISCONNECT asked for
-abbrev pub leaving_line : Option (List ℕ) → LineView → LineView
-leaving_line parting line = record line { stage = Stage.Leaving parting }
+-- an endpoint that is leaving; with it is the receipt that its DISCONNECT asked for
+abbrev pub leaving_endpoint : Option (List ℕ) → EndpointView → EndpointView
+leaving_endpoint parting endpoint = record endpoint { stage = Stage.Leaving parting }
 
 -- ---- subscriptions
 
@@ -208,7 +208,7 @@ pub record View : Type 0 where
   pub groups : List GroupState
   pub senders : List SenderView
   pub verdicts : List (List (Option Decision))
-  pub lines : List LineView
+  pub endpoints : List EndpointView
   pub subs : List SubView
   pub commits : List LogRow
 
@@ -222,7 +222,7 @@ view_with names w accepted unread text ids = record {
   groups = map (group_view w) w.topics;
   senders = each_number (λ s. sender_view s (sender_at w s)) 0 w.senders;
   verdicts = each_number (λ s. verdict_list w.verdicts s (sender_at w s).seq) 0 w.senders;
-  lines = each_number (λ c. line_view names w c (accepted c) (unread c) (text c)) 0 w.connections;
+  endpoints = each_number (λ c. endpoint_view names w c (accepted c) (unread c) (text c)) 0 w.connections;
   subs = each_number (λ s. sub_view w s (ids s)) 0 w.subscriptions;
   commits = map log_row w.commits;
 }
@@ -239,9 +239,9 @@ view_of k = view_after k.names k.world k.steps
 
 -- ---- a new connection, and octets that one is fed
 
--- the line of a connection that has just been opened, which speaks for this sender
-abbrev pub new_line : List (List ℕ) → ℕ → LineView
-new_line names sender = record {
+-- the endpoint of a connection that has just been opened, which speaks for this sender
+abbrev pub new_endpoint : List (List ℕ) → ℕ → EndpointView
+new_endpoint names sender = record {
   sender = sender;
   stage = Stage.Open (record {
     reader = unread_of reader_limits;
@@ -253,26 +253,27 @@ new_line names sender = record {
 }
 
 -- with one more sender and its connection
-abbrev pub with_new_line : View → View
-with_new_line v = record v {
+abbrev pub with_new_endpoint : View → View
+with_new_endpoint v = record v {
   senders = v.senders ++ sender_view (length v.senders) new_sender ∷ [];
   verdicts = v.verdicts ++ [] ∷ [];
-  lines = v.lines ++ new_line v.names (length v.senders) ∷ [];
+  endpoints = v.endpoints ++ new_endpoint v.names (length v.senders) ∷ [];
 }
 
 -- an open connection is fed these octets
 abbrev pub fed_stage : List ℕ → Stage → Stage
-fed_stage octets (Stage.Open line) = Stage.Open (record line { reader = fed line.reader octets })
+fed_stage octets (Stage.Open endpoint) =
+    Stage.Open (record endpoint { reader = with_piece endpoint.reader octets })
 fed_stage octets (Stage.Leaving parting) = Stage.Leaving parting
 fed_stage octets Stage.Gone = Stage.Gone
 
--- the same of its line
-abbrev pub fed_line : List ℕ → LineView → LineView
-fed_line octets line = record line { stage = fed_stage octets line.stage }
+-- the same of its endpoint
+abbrev pub fed_endpoint : List ℕ → EndpointView → EndpointView
+fed_endpoint octets endpoint = record endpoint { stage = fed_stage octets endpoint.stage }
 
--- this text is written to a line
-abbrev pub written_line : List ℕ → LineView → LineView
-written_line text line = record line { output = line.output ++ text }
+-- this text is written to an endpoint
+abbrev pub written_endpoint : List ℕ → EndpointView → EndpointView
+written_endpoint text endpoint = record endpoint { output = endpoint.output ++ text }
 
 -- ---- reading
 

@@ -72,5 +72,5 @@ report_in v = record {
   commits = v.commits;
   logs = map (λ g. g.topic.held) v.groups;
   subscriptions = map (λ p. sub_report v.groups p.0 p.1) (enumerate_from 0 v.subs);
-  outs = map (λ line. line.output) v.lines;
+  outs = map (λ endpoint. endpoint.output) v.endpoints;
 }

@@ -176,75 +176,6 @@ abbrev pub cancel_objection : World → Topic → Option Leftover → Option Obj
 cancel_objection w t None = Some Objection.NotNamed
 cancel_objection w t (Some k) = option_map cancel_objection_of (cancel_fault k.id (topic_at w t))
 
--- ---- what is refused
-
--- what stands against the event, in this order: where the first holds it is refused
-abbrev pub objections : World → Move → List (Bool × Objection)
-objections w (AddsTopic clock) = []
-objections w Opens = []
-objections w (Commits c sends) =
-    needs_idle w c
-    ++ (not (list_all (λ send. is_topic w send.topic) sends), Objection.NotNamed)
-    ∷ (nat_lt 0 (length sends) && not (nat_lt (speaker w c).seq last_number), Objection.SeqFull) ∷ []
-objections w (Subscribes c t) = needs_idle w c ++ (not (is_topic w t), Objection.NotNamed) ∷ []
-objections w (Unsubscribes c s) =
-    needs_idle w c
-    ++ (not (nat_lt s (length w.subscriptions) && is_live c (subscription_at w s)), Objection.NoSub) ∷ []
-objections w (Disconnects c) = needs_idle w c
-objections w (Errs c) = needs_idle w c
-objections w (Lost c) = needs_open w c
-objections w (Leaves c) =
-    needs_connection w c
-    ++ (is_reading (connection_at w c).standing, Objection.NotLeaving)
-    ∷ (
-      not (is_some (oldest_live c 0 w.subscriptions))
-          && (is_some (speaker w c).flight || nat_lt 0 (length (speaker w c).leftovers)),
-      Objection.Busy,
-    ) ∷ []
-objections w (Proposes c t memory) =
-    needs_connection w c
-    ++ (not (is_some (speaker w c).flight), Objection.NoFlight)
-    ∷ (is_some (undecided_at w c).mark, Objection.Marked)
-    ∷ (not (is_topic w t && names t (topics_of (undecided_at w c).txn.sends)), Objection.NotNamed)
-    ∷ (has_ticket t (undecided_at w c).given, Objection.Twice) ∷ []
-objections w (Decides c) =
-    needs_connection w c
-    ++ (not (is_some (speaker w c).flight), Objection.NoFlight)
-    ∷ (is_some (undecided_at w c).mark, Objection.Marked)
-    ∷ (not (is_complete (undecided_at w c)), Objection.Incomplete) ∷ []
-objections w (Withdraws c) =
-    needs_connection w c
-    ++ (not (is_some (speaker w c).flight), Objection.NoFlight)
-    ∷ (not (is_some (undecided_at w c).mark), Objection.NotMarked) ∷ []
-objections w (Cancels c t) = needs_connection w c ++ (not (is_topic w t), Objection.NotNamed) ∷ []
-objections w (Learns t id) = (not (is_topic w t), Objection.NotNamed) ∷ []
-objections w (Releases t) =
-    (not (is_topic w t), Objection.NotNamed) ∷ (not (is_some (due_part (topic_at w t))), Objection.NothingDue)
-    ∷ []
-objections w (Turns t) = (not (is_topic w t), Objection.NotNamed) ∷ []
-objections w (Takes s) =
-    (not (nat_lt s (length w.subscriptions)), Objection.NoSub)
-    ∷ (
-      is_some (subscription_at w s).closed
-          || not (is_reading (connection_at w (subscription_at w s).connection).standing),
-      Objection.Gone,
-    )
-    ∷ (
-      not (nat_lt (subscription_at w s).taken (length (accepted_at w s)))
-          && not (is_some (end_at w s)),
-      Objection.NothingDue,
-    ) ∷ []
-
--- what the topic refuses of it then
-abbrev pub topic_objection : World → Move → Option Objection
-topic_objection w (Cancels c t) = cancel_objection w t (find_leftover t (speaker w c).leftovers)
-topic_objection w (Learns t id) = learn_objection w t id (find_verdict id w.verdicts)
-topic_objection w e = None
-
--- why the event has no effect
-abbrev pub move_refusal : World → Move → Option Objection
-move_refusal w e = option_or (first_refusal (objections w e)) (topic_objection w e)
-
 -- ---- what is done
 
 -- the transaction that these SENDs make
@@ -376,32 +307,6 @@ take_effect w s None = with_leaving w (subscription_at w s).connection
 take_effect w s (Some item) =
     with_subscription w s (record (subscription_at w s) { taken = (subscription_at w s).taken + 1 })
 
--- what the event does where it isn't refused
-abbrev pub move_effect : World → Move → World
-move_effect w (AddsTopic clock) = record w {
-  topics = w.topics
-      ++ new_topic (record { 0 = length w.topics }) w.log_limit clock ∷ [];
-}
-move_effect w Opens = record w {
-  senders = w.senders ++ new_sender ∷ [];
-  connections = w.connections ++ record { sender = length w.senders; standing = Standing.Open } ∷ [];
-}
-move_effect w (Commits c sends) = commit_effect w c sends
-move_effect w (Subscribes c t) = subscribe_effect w c t
-move_effect w (Unsubscribes c s) = close_effect w s
-move_effect w (Disconnects c) = with_leaving w c
-move_effect w (Errs c) = with_leaving w c
-move_effect w (Lost c) = with_leaving w c
-move_effect w (Leaves c) = leave_effect w c (oldest_live c 0 w.subscriptions)
-move_effect w (Proposes c t memory) = propose_effect w c t (proposal_fault w c t memory)
-move_effect w (Decides c) = decide_effect w c
-move_effect w (Withdraws c) = withdraw_effect w c
-move_effect w (Cancels c t) = cancel_effect w c t (find_leftover t (speaker w c).leftovers)
-move_effect w (Learns t id) = learn_effect w t id (find_verdict id w.verdicts)
-move_effect w (Releases t) = with_topic w t (after_release (queue_has_room w) (topic_at w t))
-move_effect w (Turns t) = with_topic w t (after_turn (queue_has_room w) (verdict_in w) (topic_at w t))
-move_effect w (Takes s) = take_effect w s (slice_get (accepted_at w s) (subscription_at w s).taken)
-
 -- ---- what is answered
 
 -- the transaction that these SENDs make; of none there is none
@@ -441,25 +346,175 @@ abbrev pub take_answer : World → ℕ → Option Item → Answer
 take_answer w s None = Error (subscription_at w s).connection
 take_answer w s (Some item) = Handed s item
 
--- what the event answers where it isn't refused
+-- ---- the moves
+
+-- A move in a world: the tests of it, in their order, each with what stands against the move where it holds;
+-- what its topic refuses of it then; and what it does and answers, where nothing stands against it.
+pub record MoveRow : Type 0 where
+  pub tests : List (Bool × Objection)
+  pub at_topic : Option Objection
+  pub effect : World
+  pub answer : Answer
+
+abbrev pub move_row : World → Move → MoveRow
+move_row w (AddsTopic clock) = record {
+  tests = [];
+  at_topic = None;
+  effect = record w {
+    topics = w.topics
+        ++ new_topic (record { 0 = length w.topics }) w.log_limit clock ∷ [];
+  };
+  answer = Done;
+}
+move_row w Opens = record {
+  tests = [];
+  at_topic = None;
+  effect = record w {
+    senders = w.senders ++ new_sender ∷ [];
+    connections = w.connections ++ record { sender = length w.senders; standing = Standing.Open } ∷ [];
+  };
+  answer = Opened (length w.connections);
+}
+move_row w (Commits c sends) = record {
+  tests = needs_idle w c
+      ++ (not (list_all (λ send. is_topic w send.topic) sends), Objection.NotNamed)
+      ∷ (nat_lt 0 (length sends) && not (nat_lt (speaker w c).seq last_number), Objection.SeqFull) ∷ [];
+  at_topic = None;
+  effect = commit_effect w c sends;
+  answer = commit_answer w c sends;
+}
+move_row w (Subscribes c t) = record {
+  tests = needs_idle w c ++ (not (is_topic w t), Objection.NotNamed) ∷ [];
+  at_topic = None;
+  effect = subscribe_effect w c t;
+  answer = Subscribed (length w.subscriptions) c t (topic_at w t).frontier;
+}
+move_row w (Unsubscribes c s) = record {
+  tests = needs_idle w c
+      ++ (not (nat_lt s (length w.subscriptions) && is_live c (subscription_at w s)), Objection.NoSub) ∷ [];
+  at_topic = None;
+  effect = close_effect w s;
+  answer = Unsubscribed s (end_now w s);
+}
+move_row w (Disconnects c) = record {
+  tests = needs_idle w c;
+  at_topic = None;
+  effect = with_leaving w c;
+  answer = Leaving c;
+}
+move_row w (Errs c) = record {
+  tests = needs_idle w c;
+  at_topic = None;
+  effect = with_leaving w c;
+  answer = Error c;
+}
+move_row w (Lost c) = record {
+  tests = needs_open w c;
+  at_topic = None;
+  effect = with_leaving w c;
+  answer = Leaving c;
+}
+move_row w (Leaves c) = record {
+  tests = needs_connection w c
+      ++ (is_reading (connection_at w c).standing, Objection.NotLeaving)
+      ∷ (
+        not (is_some (oldest_live c 0 w.subscriptions))
+            && (is_some (speaker w c).flight || nat_lt 0 (length (speaker w c).leftovers)),
+        Objection.Busy,
+      ) ∷ [];
+  at_topic = None;
+  effect = leave_effect w c (oldest_live c 0 w.subscriptions);
+  answer = leave_answer w c (oldest_live c 0 w.subscriptions);
+}
+move_row w (Proposes c t memory) = record {
+  tests = needs_connection w c
+      ++ (not (is_some (speaker w c).flight), Objection.NoFlight)
+      ∷ (is_some (undecided_at w c).mark, Objection.Marked)
+      ∷ (not (is_topic w t && names t (topics_of (undecided_at w c).txn.sends)), Objection.NotNamed)
+      ∷ (has_ticket t (undecided_at w c).given, Objection.Twice) ∷ [];
+  at_topic = None;
+  effect = propose_effect w c t (proposal_fault w c t memory);
+  answer = propose_answer w c t (proposal_fault w c t memory);
+}
+move_row w (Decides c) = record {
+  tests = needs_connection w c
+      ++ (not (is_some (speaker w c).flight), Objection.NoFlight)
+      ∷ (is_some (undecided_at w c).mark, Objection.Marked)
+      ∷ (not (is_complete (undecided_at w c)), Objection.Incomplete) ∷ [];
+  at_topic = None;
+  effect = decide_effect w c;
+  answer = Decided (undecided_at w c).txn.id (greatest (undecided_at w c).given);
+}
+move_row w (Withdraws c) = record {
+  tests = needs_connection w c
+      ++ (not (is_some (speaker w c).flight), Objection.NoFlight)
+      ∷ (not (is_some (undecided_at w c).mark), Objection.NotMarked) ∷ [];
+  at_topic = None;
+  effect = withdraw_effect w c;
+  answer = Withdrawn (undecided_at w c).txn.id c;
+}
+move_row w (Cancels c t) = record {
+  tests = needs_connection w c ++ (not (is_topic w t), Objection.NotNamed) ∷ [];
+  at_topic = cancel_objection w t (find_leftover t (speaker w c).leftovers);
+  effect = cancel_effect w c t (find_leftover t (speaker w c).leftovers);
+  answer = cancel_answer t (find_leftover t (speaker w c).leftovers);
+}
+move_row w (Learns t id) = record {
+  tests = (not (is_topic w t), Objection.NotNamed) ∷ [];
+  at_topic = learn_objection w t id (find_verdict id w.verdicts);
+  effect = learn_effect w t id (find_verdict id w.verdicts);
+  answer = Learnt id t;
+}
+move_row w (Releases t) = record {
+  tests = (not (is_topic w t), Objection.NotNamed)
+      ∷ (not (is_some (due_part (topic_at w t))), Objection.NothingDue)
+      ∷ [];
+  at_topic = None;
+  effect = with_topic w t (after_release (queue_has_room w) (topic_at w t));
+  answer = release_answer t (due_part (topic_at w t));
+}
+move_row w (Turns t) = record {
+  tests = (not (is_topic w t), Objection.NotNamed) ∷ [];
+  at_topic = None;
+  effect = with_topic w t (after_turn (queue_has_room w) (verdict_in w) (topic_at w t));
+  answer = Turned t (turn_count (queue_has_room w) (verdict_in w) (topic_at w t));
+}
+move_row w (Takes s) = record {
+  tests = (not (nat_lt s (length w.subscriptions)), Objection.NoSub)
+      ∷ (
+        is_some (subscription_at w s).closed
+            || not (is_reading (connection_at w (subscription_at w s).connection).standing),
+        Objection.Gone,
+      )
+      ∷ (
+        not (nat_lt (subscription_at w s).taken (length (accepted_at w s)))
+            && not (is_some (end_at w s)),
+        Objection.NothingDue,
+      ) ∷ [];
+  at_topic = None;
+  effect = take_effect w s (slice_get (accepted_at w s) (subscription_at w s).taken);
+  answer = take_answer w s (slice_get (accepted_at w s) (subscription_at w s).taken);
+}
+
+-- what stands against the move, in this order: where the first holds it is refused
+abbrev pub objections : World → Move → List (Bool × Objection)
+objections w e = (move_row w e).tests
+
+-- what the topic refuses of it then
+abbrev pub topic_objection : World → Move → Option Objection
+topic_objection w e = (move_row w e).at_topic
+
+-- what the move does where it isn't refused
+abbrev pub move_effect : World → Move → World
+move_effect w e = (move_row w e).effect
+
+-- what the move answers where it isn't refused
 abbrev pub move_answer : World → Move → Answer
-move_answer w (AddsTopic clock) = Done
-move_answer w Opens = Opened (length w.connections)
-move_answer w (Commits c sends) = commit_answer w c sends
-move_answer w (Subscribes c t) = Subscribed (length w.subscriptions) c t (topic_at w t).frontier
-move_answer w (Unsubscribes c s) = Unsubscribed s (end_now w s)
-move_answer w (Disconnects c) = Leaving c
-move_answer w (Errs c) = Error c
-move_answer w (Lost c) = Leaving c
-move_answer w (Leaves c) = leave_answer w c (oldest_live c 0 w.subscriptions)
-move_answer w (Proposes c t memory) = propose_answer w c t (proposal_fault w c t memory)
-move_answer w (Decides c) = Decided (undecided_at w c).txn.id (greatest (undecided_at w c).given)
-move_answer w (Withdraws c) = Withdrawn (undecided_at w c).txn.id c
-move_answer w (Cancels c t) = cancel_answer t (find_leftover t (speaker w c).leftovers)
-move_answer w (Learns t id) = Learnt id t
-move_answer w (Releases t) = release_answer t (due_part (topic_at w t))
-move_answer w (Turns t) = Turned t (turn_count (queue_has_room w) (verdict_in w) (topic_at w t))
-move_answer w (Takes s) = take_answer w s (slice_get (accepted_at w s) (subscription_at w s).taken)
+move_answer w e = (move_row w e).answer
+
+-- why the event has no effect
+abbrev pub move_refusal : World → Move → Option Objection
+move_refusal w e = option_or (first_refusal (objections w e)) (topic_objection w e)
 
 -- ---- a step
 

@@ -3,6 +3,7 @@
 use Rattle.std.specs.Prelude.{◌≡◌, ◌≢◌, ℕ, ◌<◌, ◌+◌, ◌-◌, ◌++◌, nat_lt, max, Bool, true, false, Option, Some, None, ◌⊎◌, List, [], ◌∷◌, map, filter, length}
 use Rattle.std.specs.Prelude.{not, ◌&&◌, take}
 use Rattle.std.specs.List.{list_any}
+use Rattle.mcast_txn.specs.declared.mark.Mark.{Mark}
 use Rattle.mcast_txn.specs.declared.id.Topic.{Topic}
 use Rattle.mcast_txn.specs.declared.id.TxnId.{TxnId}
 use Rattle.mcast_txn.specs.declared.draft.sent_message.SentMessage.{SentMessage}
@@ -16,7 +17,7 @@ use Rattle.mcast_txn.specs.Ids.{same_id}
 use Rattle.mcast_txn.specs.Ballot.{Decision}
 use Rattle.mcast_group.specs.declared.fault.LearnFault.{LearnFault}
 use Rattle.mcast_group.specs.declared.fault.ProposeFault.{ProposeFault}
-use Rattle.mcast_txn.specs.Span.{LogRow, Item}
+use Rattle.mcast_txn.specs.Span.{LogRow, Item, item_mark}
 use Rattle.mcast_group.specs.Sound.{IsSound}
 use Rattle.mcast_group.specs.Machine.{Pending, Entry, learn_fault, item_of, due_part, find_entry, subscribe_fault, unsubscribe_fault}
 use Rattle.delivery.specs.Machine.Objections.{Objection, is_reported}
@@ -71,18 +72,9 @@ AgreedOnce = (r : Run) → EachOnce committed_id stamp_of (agreed (commits_of (a
 abbrev pub AgreedInSenderOrder : Type 0
 AgreedInSenderOrder = (r : Run) → SenderOrder committed_id (agreed (commits_of (answers_of r)))
 
--- an item's transaction and its stamp
-pub record Mark : Type 0 where
-  pub id : TxnId
-  pub stamp : Stamp
-
--- whose item it is, and at which stamp
-abbrev pub mark_of : Item → Mark
-mark_of i = record { id = i.id; stamp = i.stamp }
-
 -- the transactions of one queue that stand in the other too, in the one's order
 abbrev pub shared_marks : List Item → List Item → List Mark
-shared_marks items others = filter (λ p. list_any (λ i. same_id i.id p.id) others) (map mark_of items)
+shared_marks items others = filter (λ p. list_any (λ i. same_id i.id p.id) others) (map item_mark items)
 
 -- two subscriptions have the transactions that they share in one order
 abbrev pub SharedInOneOrder : Type 0

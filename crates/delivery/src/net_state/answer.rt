@@ -16,18 +16,18 @@ impl NetState {
     {
         match event {
             Event::Open => self.open(),
-            Event::Piece(c, octets) => self.piece(*c, octets.as_slice()),
-            Event::Next(c) => self.next(*c),
-            Event::Propose(c, t) => self.propose(*c, *t),
-            Event::Decide(c) => self.decide(*c),
-            Event::Withdraw(c) => self.withdraw(*c),
-            Event::Cancel(c, t) => self.cancel(*c, *t),
-            Event::Learn(t, id) => self.learn(*t, *id),
-            Event::Release(t) => self.release(*t),
-            Event::Turn(t) => self.turn(*t),
-            Event::Take(s) => self.take(*s),
-            Event::Leave(c) => self.leave(*c),
-            Event::Lost(c) => self.lost(*c),
+            Event::Piece(connection, octets) => self.piece(*connection, octets.as_slice()),
+            Event::Next(connection) => self.next(*connection),
+            Event::Propose(connection, topic) => self.propose(*connection, *topic),
+            Event::Decide(connection) => self.decide(*connection),
+            Event::Withdraw(connection) => self.withdraw(*connection),
+            Event::Cancel(connection, topic) => self.cancel(*connection, *topic),
+            Event::Learn(topic, id) => self.learn(*topic, *id),
+            Event::Release(topic) => self.release(*topic),
+            Event::Turn(topic) => self.turn(*topic),
+            Event::Take(sub) => self.take(*sub),
+            Event::Leave(connection) => self.leave(*connection),
+            Event::Lost(connection) => self.lost(*connection),
         }
     }
 }

@@ -4,7 +4,7 @@ ghost use Rattle.std.specs.Prelude.{◌≡◌, ◌<◌, length, get_or, slice_ge
 ghost use Rattle.std.specs.Option.{option_map_or};
 ghost use Rattle.delivery.specs.Core.State.{Core};
 ghost use Rattle.delivery.specs.Inner.Stands.{IsReached, Makes, IsChecked};
-ghost use Rattle.delivery.specs.Inner.View.{view_of, no_line};
+ghost use Rattle.delivery.specs.Inner.View.{view_of, no_endpoint};
 ghost use Rattle.delivery.specs.Inner.Leaving.{is_busy, leave_objection, oldest_end, oldest_closed, has_parting, gone_view};
 ghost use Rattle.delivery.specs.declared.event.Event.{Event as Asked};
 
@@ -26,17 +26,18 @@ impl NetState {
         }
     }
 
-    /// Whether the connection takes the next step of its leaving: 80 where there is none, 87 where it is gone, 79 where it
-    /// is open, 81 where it has no subscription that isn't closed and its sender is busy.
-    fn check_leaving(&self, c: u64) -> Result<(), Refusal>
-        ensures { IsChecked result (leave_objection self.now.senders (slice_get self.now.lines c)) }
+    /// Whether the connection takes the next step of its leaving: 80 where there is none, 87 where it is gone, 79
+    /// where it is open, 81 where it has no subscription that isn't closed and its sender is busy.
+    fn check_leaving(&self, connection: u64) -> Result<(), Refusal>
+        ensures { IsChecked result
+            (leave_objection self.now.senders (slice_get self.now.endpoints connection)) }
     {
-        let Some(line) = self.lines.get(c as usize) else {
+        let Some(endpoint) = self.endpoints.get(connection as usize) else {
             return Err(Refusal::NoConn);
         };
-        match line.stage {
+        match endpoint.stage {
             Stage::Open(_) => Err(Refusal::NotLeaving),
-            Stage::Leaving(_) if line.live.is_empty() && self.is_busy(line.sender) => {
+            Stage::Leaving(_) if endpoint.live.is_empty() && self.is_busy(endpoint.sender) => {
                 Err(Refusal::Busy)
             }
             Stage::Leaving(_) => Ok(()),
@@ -44,41 +45,44 @@ impl NetState {
         }
     }
 
-    /// Ends the connection's oldest subscription that isn't closed, if there is one: its number and where its span ends.
-    fn close_oldest(&mut self, c: u64) -> Option<(u64, Stamp)>
-        requires { c < length self.old.lines }
-        ensures end { result ≡ oldest_end self.old c }
-        ensures closed { self.new ≡ oldest_closed self.old c }
+    /// Ends the connection's oldest subscription that isn't closed, if there is one: its number and where its span
+    /// ends.
+    fn close_oldest(&mut self, connection: u64) -> Option<(u64, Stamp)>
+        requires { connection < length self.old.endpoints }
+        ensures end { result ≡ oldest_end self.old connection }
+        ensures closed { self.new ≡ oldest_closed self.old connection }
     {
-        let s = *self.lines[c as usize].live.first()?;
-        let to = self.close(s)?;
-        Some((s, to))
+        let sub = *self.endpoints[connection as usize].live.first()?;
+        let to = self.close(sub)?;
+        Some((sub, to))
     }
 
-    /// The connection is gone. The RECEIPT of its DISCONNECT is written, if it asked for one; after `NoMemory` it is left
-    /// out.
-    fn depart(&mut self, c: u64) -> Result<(), NoMemory>
-        requires { c < length self.old.lines }
-        ensures gone { self.new ≡ gone_view (is_err result) c self.old }
-        ensures asked { OnErr result (has_parting (get_or self.old.lines c no_line).stage ≡ true) }
+    /// The connection is gone. The RECEIPT of its DISCONNECT is written, if it asked for one; after `NoMemory` it is
+    /// left out.
+    fn depart(&mut self, connection: u64) -> Result<(), NoMemory>
+        requires { connection < length self.old.endpoints }
+        ensures gone { self.new ≡ gone_view (is_err result) connection self.old }
+        ensures asked { OnErr result (has_parting (get_or self.old.endpoints connection no_endpoint).stage
+            ≡ true) }
     {
-        let line = &mut self.lines[c as usize];
-        line.depart()
+        let endpoint = &mut self.endpoints[connection as usize];
+        endpoint.depart()
     }
 
-    /// The next step of a connection's leaving: its oldest subscription is closed, or else it is gone. 80 where there is
-    /// none, 87 where it is gone, 79 where it is open, 81 where all its subscriptions are closed and its sender has an
-    /// undecided transaction or tickets to cancel. It takes no memory but for a RECEIPT.
-    pub(crate) fn leave(&mut self, c: u64) -> Outcome
-        ensures { (k : Core) → IsReached k → self.old ≡ view_of k → Makes k (Asked.Leave c) result self.new }
+    /// The next step of a connection's leaving: its oldest subscription is closed, or else it is gone. 80 where there
+    /// is none, 87 where it is gone, 79 where it is open, 81 where all its subscriptions are closed and its sender
+    /// has an undecided transaction or tickets to cancel. It takes no memory but for a RECEIPT.
+    pub(crate) fn leave(&mut self, connection: u64) -> Outcome
+        ensures { (k : Core) → IsReached k → self.old ≡ view_of k
+            → Makes k (Asked.Leave connection) result self.new }
     {
-        if let Err(refusal) = self.check_leaving(c) {
+        if let Err(refusal) = self.check_leaving(connection) {
             return Outcome::Refused(refusal);
         }
-        if let Some((s, to)) = self.close_oldest(c) {
-            return Outcome::Unsubscribed(s, to);
+        if let Some((sub, to)) = self.close_oldest(connection) {
+            return Outcome::Unsubscribed(sub, to);
         }
-        match self.depart(c) {
+        match self.depart(connection) {
             Ok(()) => Outcome::Gone { cut: false },
             Err(NoMemory) => Outcome::Gone { cut: true },
         }

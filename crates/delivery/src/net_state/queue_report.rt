@@ -8,8 +8,8 @@ use mcast_txn::{Released, Stamp, Topic};
 use std::marker::Model;
 use sub_queue::VecOutlet;
 
-/// A subscription as it is reported: its topic, the span of its rows, why that ended if it did, the items that its queue
-/// accepted, and how many of them were delivered. It borrows the core.
+/// A subscription as it is reported: its topic, the span of its rows, why that ended if it did, the items that its
+/// queue accepted, and how many of them were delivered. It borrows the core.
 #[derive(Drop)]
 pub struct QueueReport<'a> {
     pub(crate) topic: Topic,

@@ -13,8 +13,8 @@ use mcast_txn::{Stamp, Topic};
 use std::marker::Model;
 use sub_queue::VecOutlet;
 
-/// What the core reports: the commits in the order of Decide, each topic's log, the subscriptions, and the octets out of
-/// each connection, each by its number. It borrows the core: nothing is copied, and no call of it takes memory.
+/// What the core reports: the commits in the order of Decide, each topic's log, the subscriptions, and the octets out
+/// of each connection, each by its number. It borrows the core: nothing is copied, and no call of it takes memory.
 #[derive(Drop)]
 pub struct Report<'a> {
     pub(crate) state: &'a NetState,
@@ -38,7 +38,8 @@ impl<'a> Report<'a> {
         state.commits.rows().len()
     }
 
-    /// The commit at index `i`, from 0 in the order of Decide, if there is one: its transaction, its topics and its stamp.
+    /// The commit at index `i`, from 0 in the order of Decide, if there is one: its transaction, its topics and its
+    /// stamp.
     pub fn commit(&self, i: usize) -> Option<&'a Row>
         ensures { option_map (λ row. row.now) result ≡ slice_get self.now.commits i }
     {
@@ -54,23 +55,23 @@ impl<'a> Report<'a> {
         state.groups.len()
     }
 
-    /// How many rows the log of the topic of number `t` has: none where there is no such topic.
-    pub fn log_len(&self, t: usize) -> usize
-        ensures { result ≡ length (get_or self.now.logs t []) }
+    /// How many rows the log of the topic of this number has: none where there is no such topic.
+    pub fn log_len(&self, topic: usize) -> usize
+        ensures { result ≡ length (get_or self.now.logs topic []) }
     {
         let state = self.state;
-        match state.groups.get(t) {
+        match state.groups.get(topic) {
             Some(group) => group.held_len(),
             None => 0,
         }
     }
 
-    /// The row at index `i`, from 0, of the log of the topic of number `t`, if there is one.
-    pub fn log_row(&self, t: usize, i: usize) -> Option<&'a Row>
-        ensures { option_map (λ row. row.now) result ≡ slice_get (get_or self.now.logs t []) i }
+    /// The row at index `i`, from 0, of the log of the topic of this number, if there is one.
+    pub fn log_row(&self, topic: usize, i: usize) -> Option<&'a Row>
+        ensures { option_map (λ row. row.now) result ≡ slice_get (get_or self.now.logs topic []) i }
     {
         let state = self.state;
-        state.groups.get(t)?.held(i)
+        state.groups.get(topic)?.held(i)
     }
 
     /// How many subscriptions there were, closed ones too.
@@ -81,13 +82,13 @@ impl<'a> Report<'a> {
         state.subs.len()
     }
 
-    /// The subscription of number `s`, if there is one.
-    pub fn subscription(&self, s: usize) -> Option<QueueReport<'a>>
-        ensures { result ≡ slice_get self.now.subscriptions s }
+    /// The subscription of this number, if there is one.
+    pub fn subscription(&self, sub: usize) -> Option<QueueReport<'a>>
+        ensures { result ≡ slice_get self.now.subscriptions sub }
     {
         let state = self.state;
-        let sub = state.subs.get(s)?;
-        Some(state.queue_report(s as u64, sub))
+        let subscription = state.subs.get(sub)?;
+        Some(state.queue_report(sub as u64, subscription))
     }
 
     /// How many connections there were, gone ones too.
@@ -95,16 +96,16 @@ impl<'a> Report<'a> {
         ensures { result ≡ length self.now.outs }
     {
         let state = self.state;
-        state.lines.len()
+        state.endpoints.len()
     }
 
-    /// The octets that were written to the connection of number `c`, if there is one.
-    pub fn out(&self, c: usize) -> Option<&'a [u8]>
-        ensures { option_map (λ out. out.now) result ≡ slice_get self.now.outs c }
+    /// The octets that were written to the connection of this number, if there is one.
+    pub fn out(&self, connection: usize) -> Option<&'a [u8]>
+        ensures { option_map (λ out. out.now) result ≡ slice_get self.now.outs connection }
     {
         let state = self.state;
-        let line = state.lines.get(c)?;
-        Some(line.output.as_slice())
+        let endpoint = state.endpoints.get(connection)?;
+        Some(endpoint.output.as_slice())
     }
 }
 
@@ -117,31 +118,31 @@ fn lag_cause(to: Option<Stamp>) -> Option<Cause>
 
 impl NetState {
     /// Where this subscription of the topic, which isn't closed, lagged, if it did.
-    fn lag(&self, topic: Topic, s: u64) -> Option<Stamp>
-        ensures { result ≡ lag_in self.now.groups topic s }
+    fn lag(&self, topic: Topic, sub: u64) -> Option<Stamp>
+        ensures { result ≡ lag_in self.now.groups topic sub }
     {
         let group = self.groups.get(topic.0 as usize)?;
-        match group.state(s)? {
+        match group.state(sub)? {
             SubState::Open => None,
             SubState::Lag(end) => Some(end),
         }
     }
 
     /// The queue of this subscription of the topic, which isn't closed.
-    fn queue(&self, topic: Topic, s: u64) -> Option<&VecOutlet>
-        ensures { option_map (λ queue. shown_of queue.now) result ≡ queue_shown self.now.groups topic s }
+    fn queue(&self, topic: Topic, sub: u64) -> Option<&VecOutlet>
+        ensures { option_map (λ queue. shown_of queue.now) result ≡ queue_shown self.now.groups topic sub }
     {
         let group = self.groups.get(topic.0 as usize)?;
-        group.outlet(s)
+        group.outlet(sub)
     }
 
-    /// This subscription, of number `s`, as it is reported.
-    fn queue_report<'a>(&'a self, s: u64, sub: &'a Sub) -> QueueReport<'a>
-        ensures { result ≡ sub_report self.now.groups s sub.now }
+    /// This subscription, which has this number, as it is reported.
+    fn queue_report<'a>(&'a self, sub: u64, subscription: &'a Sub) -> QueueReport<'a>
+        ensures { result ≡ sub_report self.now.groups sub subscription.now }
     {
-        let topic = sub.topic;
-        let from = sub.from;
-        match &sub.left {
+        let topic = subscription.topic;
+        let from = subscription.from;
+        match &subscription.left {
             Some(left) => QueueReport {
                 topic,
                 from,
@@ -150,13 +151,13 @@ impl NetState {
                 queue: Some(&left.outlet),
             },
             None => {
-                let to = self.lag(topic, s);
+                let to = self.lag(topic, sub);
                 QueueReport {
                     topic,
                     from,
                     to,
                     cause: lag_cause(to),
-                    queue: self.queue(topic, s),
+                    queue: self.queue(topic, sub),
                 }
             }
         }

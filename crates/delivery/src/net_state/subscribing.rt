@@ -8,20 +8,21 @@ ghost use Rattle.delivery.specs.Inner.View.{no_group, group_in};
 ghost use Rattle.delivery.specs.Inner.Subscriptions.{subscribed_view, has_sub_id, number_in};
 
 use crate::net_state::NetState;
+use crate::not_started::NotStarted;
 use crate::sub::Sub;
-use mcast_group::Group;
+use mcast_group::{Group, SubFault};
 use mcast_txn::{Stamp, Topic};
-use stomp_frame::{NoMemory, Octets};
+use stomp_frame::Octets;
 use sub_queue::VecOutlet;
 
-/// Begins a subscription of this number with this outlet at the topic of this index, and returns the stamp after which
+/// Starts a subscription of this number with this outlet at the topic of this index, and returns the stamp after which
 /// its span begins. Where it is refused, also where there is no such topic, all is what it was.
-fn begin_at(
+fn subscribe_at(
     groups: &mut Vec<Group<VecOutlet>>,
     index: usize,
     number: u64,
     outlet: VecOutlet,
-) -> Result<Stamp, NoMemory>
+) -> Result<Stamp, NotStarted>
     requires { (shown_of outlet).accepted ≡ [] }
     ensures there { OnOk result (index < length groups.old.items) }
     ensures from { IfOk result (λ from. from ≡ (get_or groups.old.items index no_group).topic.frontier) }
@@ -30,21 +31,22 @@ fn begin_at(
     ensures err { OnErr result (groups.new.items ≡ groups.old.items) }
 {
     if index >= groups.len() {
-        return Err(NoMemory);
+        return Err(NotStarted::NotThere);
     }
     let group = &mut groups[index];
     match group.subscribe(number, outlet) {
         Ok(from) => Ok(from),
-        Err(_) => Err(NoMemory),
+        Err((SubFault::SubInUse, _)) => Err(NotStarted::InUse),
+        Err((SubFault::NoMemory, _)) => Err(NotStarted::NoMemory),
     }
 }
 
 /// Whether the subscription of this number has this id.
-fn has_sub_id(subs: &[Sub], s: u64, id: &[u8]) -> bool
-    ensures { result ≡ has_sub_id subs.now id.now s }
+fn has_sub_id(subs: &[Sub], sub: u64, id: &[u8]) -> bool
+    ensures { result ≡ has_sub_id subs.now id.now sub }
 {
-    match subs.get(s as usize) {
-        Some(sub) => sub.id.as_slice() == id,
+    match subs.get(sub as usize) {
+        Some(subscription) => subscription.id.as_slice() == id,
         None => false,
     }
 }
@@ -54,7 +56,7 @@ fn index_among(subs: &[Sub], numbers: &[u64], id: &[u8]) -> Option<usize>
     ensures index { result ≡ position (has_sub_id subs.now id.now) numbers.now }
     ensures bound { IfSome result (λ i. i < length numbers.now) }
 {
-    numbers.iter().position(|s| has_sub_id(subs, *s, id))
+    numbers.iter().position(|sub| has_sub_id(subs, *sub, id))
 }
 
 /// The first of these numbers whose subscription has this id, if there is one.
@@ -67,28 +69,29 @@ fn number_among(subs: &[Sub], numbers: &[u64], id: &[u8]) -> Option<u64>
 
 impl NetState {
     /// Begins a subscription of the connection to this topic, with this id, and returns its number and the stamp after
-    /// which its span begins. After `NoMemory`, also where there is no such topic, all is what it was.
+    /// which its span begins. Where it doesn't start all is what it was.
     pub(super) fn subscribe(
         &mut self,
-        c: u64,
+        connection: u64,
         id: Octets,
         topic: Topic,
-    ) -> Result<(u64, Stamp), NoMemory>
-        requires { c < length self.old.lines }
+    ) -> Result<(u64, Stamp), NotStarted>
+        requires { connection < length self.old.endpoints }
         ensures there { OnOk result (topic.0 < length self.old.groups) }
-        ensures begun { IfOk result (λ begun. begun ≡ (length self.old.subs, (group_in self.old topic).topic.frontier)) }
-        ensures ok { OnOk result (self.new ≡ subscribed_view c id topic self.old) }
+        ensures begun { IfOk result (λ begun. begun
+            ≡ (length self.old.subs, (group_in self.old topic).topic.frontier)) }
+        ensures ok { OnOk result (self.new ≡ subscribed_view connection id topic self.old) }
         ensures err { OnErr result (self.new ≡ self.old) }
     {
         let number = self.subs.len() as u64;
         self.subs.reserve(1)?;
-        let line = &mut self.lines[c as usize];
-        line.live.reserve(1)?;
+        let endpoint = &mut self.endpoints[connection as usize];
+        endpoint.live.reserve(1)?;
         let outlet = VecOutlet::new(self.alloc, self.capacity);
-        let from = begin_at(&mut self.groups, topic.0 as usize, number, outlet)?;
-        line.live.push_reserved(number);
+        let from = subscribe_at(&mut self.groups, topic.0 as usize, number, outlet)?;
+        endpoint.live.push_reserved(number);
         self.subs.push_reserved(Sub {
-            connection: c,
+            connection,
             id,
             topic,
             from,
@@ -98,11 +101,11 @@ impl NetState {
     }
 
     /// The number of the connection's subscription with this id that isn't closed, if there is one.
-    pub(super) fn find_sub(&self, c: u64, id: &[u8]) -> Option<u64>
-        requires { c < length self.now.lines }
-        ensures { result ≡ number_in self.now c id.now }
+    pub(super) fn find_sub(&self, connection: u64, id: &[u8]) -> Option<u64>
+        requires { connection < length self.now.endpoints }
+        ensures { result ≡ number_in self.now connection id.now }
     {
-        let line = &self.lines[c as usize];
-        number_among(&self.subs, &line.live, id)
+        let endpoint = &self.endpoints[connection as usize];
+        number_among(&self.subs, &endpoint.live, id)
     }
 }

@@ -18,20 +18,20 @@ use stomp_frame::{NoMemory, ServerFrame};
 use sub_queue::VecOutlet;
 
 /// The next item of the subscription of this number at its topic, if one is left.
-fn next_item(groups: &[Group<VecOutlet>], topic: Topic, s: u64) -> Option<&Released>
-    ensures { option_map (λ item. item.now) result ≡ next_of s (get_or groups.now topic.0 no_group) }
+fn next_item(groups: &[Group<VecOutlet>], topic: Topic, sub: u64) -> Option<&Released>
+    ensures { option_map (λ item. item.now) result ≡ next_of sub (get_or groups.now topic.0 no_group) }
 {
     let group = groups.get(topic.0 as usize)?;
-    let outlet = group.outlet(s)?;
+    let outlet = group.outlet(sub)?;
     outlet.get(outlet.taken())
 }
 
 /// Whether the subscription of this number has lagged at its topic.
-fn has_lagged(groups: &[Group<VecOutlet>], topic: Topic, s: u64) -> bool
-    ensures { result ≡ lagged s (get_or groups.now topic.0 no_group) }
+fn has_lagged(groups: &[Group<VecOutlet>], topic: Topic, sub: u64) -> bool
+    ensures { result ≡ lagged sub (get_or groups.now topic.0 no_group) }
 {
     match groups.get(topic.0 as usize) {
-        Some(group) => matches!(group.state(s), Some(SubState::Lag(_))),
+        Some(group) => matches!(group.state(sub), Some(SubState::Lag(_))),
         None => false,
     }
 }
@@ -39,79 +39,80 @@ fn has_lagged(groups: &[Group<VecOutlet>], topic: Topic, s: u64) -> bool
 impl NetState {
     /// Whether something may be delivered to the subscription: 48 where there is none, 87 where it was closed or its
     /// connection isn't open.
-    fn check_take(&self, s: u64) -> Result<(), Refusal>
-        ensures { IsChecked result (take_objection self.now s) }
+    fn check_take(&self, sub: u64) -> Result<(), Refusal>
+        ensures { IsChecked result (take_objection self.now sub) }
     {
-        let Some(sub) = self.subs.get(s as usize) else {
+        let Some(subscription) = self.subs.get(sub as usize) else {
             return Err(Refusal::NoSub);
         };
-        if sub.left.is_some() {
+        if subscription.left.is_some() {
             return Err(Refusal::Gone);
         }
-        match self.check_open(sub.connection) {
+        match self.check_open(subscription.connection) {
             Ok(()) => Ok(()),
             Err(_) => Err(Refusal::Gone),
         }
     }
 
-    /// Delivers the next item of the subscription, if one is left: its MESSAGEs are written to its connection, and it is
-    /// taken. Returns how many MESSAGEs it has; after `NoMemory` all is what it was.
-    fn deliver(&mut self, s: u64) -> Result<Option<u64>, NoMemory>
-        requires { take_objection self.old s ≡ None }
+    /// Delivers the next item of the subscription, if one is left: its MESSAGEs are written to its connection, and it
+    /// is taken. Returns how many MESSAGEs it has; after `NoMemory` all is what it was.
+    fn deliver(&mut self, sub: u64) -> Result<Option<u64>, NoMemory>
+        requires { take_objection self.old sub ≡ None }
         ensures count { IfOk result
-            (λ count. count ≡ option_map (λ item. length item.sends) (next_held self.old s)) }
-        ensures ok { OnOk result (self.new ≡ after_next_item self.old s (next_held self.old s)) }
-        ensures due { OnErr result (is_some (next_held self.old s) ≡ true) }
+            (λ count. count ≡ option_map (λ item. length item.sends) (next_held self.old sub)) }
+        ensures ok { OnOk result (self.new ≡ after_next_item self.old sub (next_held self.old sub)) }
+        ensures due { OnErr result (is_some (next_held self.old sub) ≡ true) }
         ensures err { OnErr result (self.new ≡ self.old) }
     {
-        let sub = &self.subs[s as usize];
-        let Some(item) = next_item(&self.groups, sub.topic, s) else {
+        let subscription = &self.subs[sub as usize];
+        let Some(item) = next_item(&self.groups, subscription.topic, sub) else {
             return Ok(None);
         };
         let count = item.part.sends.len() as u64;
-        let line = &mut self.lines[sub.connection as usize];
-        line.write_item(sub.id.as_slice(), item)?;
-        let group = &mut self.groups[sub.topic.0 as usize];
-        group.take(s);
+        let endpoint = &mut self.endpoints[subscription.connection as usize];
+        endpoint.write_item(subscription.id.as_slice(), item)?;
+        let group = &mut self.groups[subscription.topic.0 as usize];
+        group.take(sub);
         Ok(Some(count))
     }
 
-    /// The subscription has no item left: if it has lagged, its connection ends by an ERROR, and otherwise 86 is answered.
-    fn end_lagged(&mut self, s: u64) -> Outcome
-        requires open { take_objection self.old s ≡ None }
-        requires none { next_held self.old s ≡ None }
-        ensures { (k : Core) → IsReached k → self.old ≡ view_of k → Makes k (Asked.Take s) result self.new }
+    /// The subscription has no item left: if it has lagged, its connection ends by an ERROR, and otherwise 86 is
+    /// answered.
+    fn end_lagged(&mut self, sub: u64) -> Outcome
+        requires open { take_objection self.old sub ≡ None }
+        requires none { next_held self.old sub ≡ None }
+        ensures { (k : Core) → IsReached k → self.old ≡ view_of k → Makes k (Asked.Take sub) result self.new }
     {
-        let sub = &self.subs[s as usize];
-        if !has_lagged(&self.groups, sub.topic, s) {
+        let subscription = &self.subs[sub as usize];
+        if !has_lagged(&self.groups, subscription.topic, sub) {
             return Outcome::Refused(Refusal::NothingDue);
         }
-        let c = sub.connection;
+        let connection = subscription.connection;
         let fault = ConnectionFault::Lagged;
         let error = ServerFrame::Error {
             message: fault.title(),
             receipt: None,
             version: false,
         };
-        let Ok(()) = self.write(c, &error) else {
+        let Ok(()) = self.write(connection, &error) else {
             return Outcome::NoMemory;
         };
-        self.begin_leaving(c, None);
+        self.begin_leaving(connection, None);
         Outcome::Faulted { fault, cut: false }
     }
 
     /// The subscription's next item is delivered, whole, to its connection: 48 where there is no such subscription, 87
-    /// where it was closed or its connection isn't open, 86 where none is left. Where none is left and it has lagged, its
-    /// connection ends by an ERROR. Out of memory all is what it was.
-    pub(crate) fn take(&mut self, s: u64) -> Outcome
-        ensures { (k : Core) → IsReached k → self.old ≡ view_of k → Makes k (Asked.Take s) result self.new }
+    /// where it was closed or its connection isn't open, 86 where none is left. Where none is left and it has lagged,
+    /// its connection ends by an ERROR. Out of memory all is what it was.
+    pub(crate) fn take(&mut self, sub: u64) -> Outcome
+        ensures { (k : Core) → IsReached k → self.old ≡ view_of k → Makes k (Asked.Take sub) result self.new }
     {
-        if let Err(refusal) = self.check_take(s) {
+        if let Err(refusal) = self.check_take(sub) {
             return Outcome::Refused(refusal);
         }
-        match self.deliver(s) {
+        match self.deliver(sub) {
             Ok(Some(count)) => Outcome::Handed(count),
-            Ok(None) => self.end_lagged(s),
+            Ok(None) => self.end_lagged(sub),
             Err(NoMemory) => Outcome::NoMemory,
         }
     }

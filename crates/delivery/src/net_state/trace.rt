@@ -100,9 +100,9 @@ fn add_subscriptions(trace: &mut Trace, report: &Report<'_>) -> Result<(), NoMem
       queues = trace.old.queues ++ (trace_of report.now).queues;
     }) }
 {
-    for s in 0..report.subscriptions_len() {
-        let queue = report.subscription(s).unwrap();
-        add_subscription(trace, s as u64, &queue)?;
+    for sub in 0..report.subscriptions_len() {
+        let queue = report.subscription(sub).unwrap();
+        add_subscription(trace, sub as u64, &queue)?;
     }
     Ok(())
 }
@@ -117,8 +117,8 @@ impl NetState {
         ensures { OnOk result (trace.new
             ≡ record trace.old { logs = trace.old.logs ++ (trace_of (report_in self.now)).logs }) }
     {
-        for t in 0..self.groups.len() {
-            add_log(self.alloc, trace, Topic(t as u32), &self.groups[t])?;
+        for i in 0..self.groups.len() {
+            add_log(self.alloc, trace, Topic(i as u32), &self.groups[i])?;
         }
         Ok(())
     }

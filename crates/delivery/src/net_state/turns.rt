@@ -15,8 +15,8 @@ use mcast_group::LearnFault;
 use mcast_txn::{Topic, TxnId};
 
 impl NetState {
-    /// What the topic of this index answers to the verdict of this transaction: it learns its stamp, or refuses it. `None`
-    /// where there is no verdict.
+    /// What the topic of this index answers to the verdict of this transaction: it learns its stamp, or refuses it.
+    /// `None` where there is no verdict.
     fn learn_at(&mut self, index: usize, id: TxnId) -> Option<Result<(), LearnFault>>
         requires { index < length self.old.groups }
         ensures answer { (d : GroupState) → result
@@ -29,12 +29,13 @@ impl NetState {
     }
 
     /// The topic learns the stamp of this transaction: 84 where there is no such topic, 85 where the transaction has no
-    /// verdict, 43 where no part of it is pending there. In a run no topic answers 44 or 45, since a verdict that is found
-    /// is the part's own. It takes no memory.
-    pub(crate) fn learn(&mut self, t: Topic, id: TxnId) -> Outcome
-        ensures { (k : Core) → IsReached k → self.old ≡ view_of k → Makes k (Asked.Learn t id) result self.new }
+    /// verdict, 43 where no part of it is pending there. In a run no topic answers 44 or 45, since a verdict that is
+    /// found is the part's own. It takes no memory.
+    pub(crate) fn learn(&mut self, topic: Topic, id: TxnId) -> Outcome
+        ensures { (k : Core) → IsReached k → self.old ≡ view_of k
+            → Makes k (Asked.Learn topic id) result self.new }
     {
-        let index = t.0 as usize;
+        let index = topic.0 as usize;
         if index >= self.groups.len() {
             return Outcome::Refused(Refusal::NotNamed);
         }
@@ -56,12 +57,13 @@ impl NetState {
         group.turn_counted(&self.table)
     }
 
-    /// The topic learns each stamp that is decided, and releases what is due: 84 where there is no such topic. It takes no
-    /// memory.
-    pub(crate) fn turn(&mut self, t: Topic) -> Outcome
-        ensures { (k : Core) → IsReached k → self.old ≡ view_of k → Makes k (Asked.Turn t) result self.new }
+    /// The topic learns each stamp that is decided, and releases what is due: 84 where there is no such topic. It
+    /// takes no memory.
+    pub(crate) fn turn(&mut self, topic: Topic) -> Outcome
+        ensures { (k : Core) → IsReached k → self.old ≡ view_of k
+            → Makes k (Asked.Turn topic) result self.new }
     {
-        let index = t.0 as usize;
+        let index = topic.0 as usize;
         if index >= self.groups.len() {
             return Outcome::Refused(Refusal::NotNamed);
         }

@@ -11,8 +11,8 @@ insert_sub s (z ∷ zs) = if nat_lt s.number z.number then s ∷ z ∷ zs else z
 -- The index at which a subscription of this number comes among others.
 -- within: it is at most their length.
 -- free: none has the number.
--- puts: one that has it, put there, is at its place.
-pub record IsPlaceFor {Q : Type 0} (number : ℕ) (subs : List (Subscription Q)) (i : ℕ) : Type 0 where
+-- puts: to put one that has it there is insert_sub.
+pub record IsIndexFor {Q : Type 0} (number : ℕ) (subs : List (Subscription Q)) (i : ℕ) : Type 0 where
   pub within : i ≤ length subs
   pub free : AllByRecursion (λ z. z.number ≢ number) subs
   pub puts : (s : Subscription Q) → s.number ≡ number → insert subs i s ≡ insert_sub s subs

@@ -31,7 +31,7 @@ impl Model for Verdict {
 }
 
 impl Verdict {
-    // Room for a verdict.
+    /// Room for a verdict.
     pub(crate) fn blank(alloc: Global, id: TxnId) -> Verdict
         ensures { result ≡ record { id = id; rows = [] } }
     {
@@ -42,7 +42,7 @@ impl Verdict {
         }
     }
 
-    // What these rows decide.
+    /// What these rows decide.
     pub(crate) fn of(id: TxnId, rows: Vec<Stamp>) -> Verdict
         requires { RisesBy (λ row. row.topic.0) rows.items }
         ensures { result ≡ record { id = id; rows = rows.items } }
@@ -58,7 +58,8 @@ impl Verdict {
         self.id
     }
 
-    /// Its topics, rising, each with the number that it gave, as the stamp that the transaction would have by that alone.
+    /// Its topics, rising, each with the number that it gave, as the stamp that the transaction would have by that
+    /// alone.
     pub fn rows(&self) -> &[Stamp]
         ensures value { result.now ≡ self.now.rows }
         ensures rising { RisesBy (λ row. row.topic.0) self.now.rows }
@@ -84,7 +85,7 @@ impl Verdict {
     }
 }
 
-// The greatest of some stamps, or zero where there is none.
+/// The greatest of some stamps, or zero where there is none.
 #[tactic(auto, using(crate::proofs::StampLemmas::greatest_push))]
 fn greatest(stamps: &[Stamp]) -> Stamp
     ensures { result ≡ greatest stamps.now }

@@ -8,7 +8,7 @@ ghost use Rattle.mcast_txn.specs.TopicSet.{IsTopicSet};
 ghost use Rattle.mcast_txn.specs.Transaction.{topics_of};
 
 use crate::draft::TopicSet;
-use crate::draft::entry::Entry;
+use crate::draft::draft_send::DraftSend;
 use crate::flight::Flight;
 use crate::id::Topic;
 use crate::parts::Parts;
@@ -20,15 +20,15 @@ use stomp_frame::{Headers, NoMemory, Octets};
 /// A transaction that is committed (STOMP 1.2, "COMMIT"): its SENDs, at least one. In contracts it is their list, in
 /// order.
 pub struct Txn {
-    pub(crate) entries: Vec<Entry>,
+    pub(crate) sends: Vec<DraftSend>,
     pub(crate) topics: Arc<TopicSet>,
 }
 
 impl Drop for Txn {
     /// Written out, so that letting a transaction go is one call for the prover wherever it happens.
     fn drop(self) {
-        let Txn { entries, topics } = self;
-        drop(entries);
+        let Txn { sends, topics } = self;
+        drop(sends);
         drop(topics);
     }
 }
@@ -36,14 +36,14 @@ impl Drop for Txn {
 impl Model for Txn {
     ghost use Rattle.std.specs.Prelude.{List};
     ghost use Rattle.mcast_txn.specs.declared.draft.sent_message.SentMessage.{SentMessage};
-    ghost use Rattle.mcast_txn.specs.Inner.Entries.{messages_of};
+    ghost use Rattle.mcast_txn.specs.Inner.DraftSends.{messages_of};
     ghost use Rattle.mcast_txn.specs.Inner.Sealed.{IsSealed};
 
     ghost Value = { List SentMessage };
 
-    ghost view = { λ t. messages_of t.entries.items };
+    ghost view = { λ t. messages_of t.sends.items };
 
-    ghost invariant = { λ t. IsSealed t.entries.items t.topics.value };
+    ghost invariant = { λ t. IsSealed t.sends.items t.topics.value };
 }
 
 impl Txn {
@@ -59,12 +59,12 @@ impl Txn {
             (λ txn. txn ≡ record { topic = topic; headers = headers; body = body } ∷ []) }
         ensures back { IfErr result (λ refused. (refused.0 ≡ headers) × (refused.1 ≡ body)) }
     {
-        let Ok((mut entries, topics)) = room_for_one(alloc, topic) else {
+        let Ok((mut sends, topics)) = room_for_one(alloc, topic) else {
             return Err((headers, body, NoMemory));
         };
-        let entry = Entry::new(alloc, topic, 0, headers, body)?;
-        entries.push_reserved(entry);
-        Ok(Txn { entries, topics })
+        let send = DraftSend::new(alloc, topic, 0, headers, body)?;
+        sends.push_reserved(send);
+        Ok(Txn { sends, topics })
     }
 
     /// Its topics: the destinations of its SENDs.
@@ -84,11 +84,12 @@ impl Txn {
 
     /// Its parts, each of which has this flight. Out of memory, the transaction is returned.
     pub fn split(self, alloc: Global, flight: &Arc<Flight>) -> Result<Parts, (Txn, NoMemory)>
-        ensures parts { IfOk result (λ parts. parts.slots ≡ parts_of (flight_id (arc_value flight.now)) self) }
+        ensures parts { IfOk result
+            (λ parts. parts.slots ≡ parts_of (flight_id (arc_value flight.now)) self) }
         ensures flight { IfOk result (λ parts. parts.flight ≡ arc_value flight.now) }
         ensures back { IfErr result (λ refused. refused.0 ≡ self) }
     {
-        match Parts::of(alloc, flight, &self.topics, &self.entries) {
+        match Parts::of(alloc, flight, &self.topics, &self.sends) {
             Ok(parts) => Ok(parts),
             Err(refused) => Err((self, refused)),
         }
@@ -99,17 +100,17 @@ impl Txn {
         ensures value { result ≡ length self.now }
         ensures some { 0 < result }
     {
-        self.entries.len()
+        self.sends.len()
     }
 }
 
-// Room for one SEND, and its topic.
-fn room_for_one(alloc: Global, topic: Topic) -> Result<(Vec<Entry>, Arc<TopicSet>), NoMemory>
+/// Room for one SEND, and its topic.
+fn room_for_one(alloc: Global, topic: Topic) -> Result<(Vec<DraftSend>, Arc<TopicSet>), NoMemory>
     ensures empty { IfOk result (λ room. room.0.items ≡ []) }
     ensures room { IfOk result (λ room. 1 ≤ vec_capacity room.0) }
     ensures topic { IfOk result (λ room. room.1.value ≡ topic ∷ []) }
 {
-    let entries = Vec::with_capacity(alloc, 1)?;
+    let sends = Vec::with_capacity(alloc, 1)?;
     let topics = Arc::new(alloc, TopicSet::one(alloc, topic)?)?;
-    Ok((entries, topics))
+    Ok((sends, topics))
 }

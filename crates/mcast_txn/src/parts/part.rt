@@ -28,7 +28,7 @@ pub struct Part {
 impl Part {
     ghost use Rattle.mcast_txn.specs.Part.{data_of, flight_of_part};
 
-    // The flight's part at a topic.
+    /// The flight's part at a topic.
     pub(crate) fn at(
         alloc: Global,
         flight: &Arc<Flight>,
@@ -37,7 +37,12 @@ impl Part {
         sends: PartSends,
     ) -> Result<Arc<Part>, NoMemory>
         ensures data { IfOk result (λ part. data_of (arc_value part)
-            ≡ record { id = flight_id (arc_value flight.now); topic = topic; topics = arc_value topics.now; sends = sends }) }
+            ≡ record {
+              id = flight_id (arc_value flight.now);
+              topic = topic;
+              topics = arc_value topics.now;
+              sends = sends;
+            }) }
         ensures own { IfOk result (λ part. flight_of_part (arc_value part) ≡ arc_value flight.now) }
     {
         let part = Part {

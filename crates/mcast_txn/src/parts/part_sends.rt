@@ -26,7 +26,7 @@ impl Model for PartSends {
 }
 
 impl PartSends {
-    // None.
+    /// None.
     pub(crate) fn new(alloc: Global) -> PartSends
         ensures { result ≡ [] }
     {
@@ -35,7 +35,7 @@ impl PartSends {
         }
     }
 
-    // Puts a SEND at the end.
+    /// Puts a SEND at the end.
     pub(crate) fn push(&mut self, send: &Arc<PartMessage>) -> Result<(), NoMemory>
         ensures { OnOk result (self.new ≡ self.old ++ arc_value send.now ∷ []) }
     {

@@ -16,7 +16,7 @@ pub(crate) struct Slot<T> {
     pub(crate) held: Option<T>,
 }
 
-// A free slot for each topic.
+/// A free slot for each topic.
 pub(crate) fn free_slots<T: Drop>(alloc: Global, topics: &[Topic]) -> Result<Vec<Slot<T>>, NoMemory>
     ensures { IfOk result (λ slots. slots.items ≡ map free_slot topics.now) }
 {
@@ -27,7 +27,7 @@ pub(crate) fn free_slots<T: Drop>(alloc: Global, topics: &[Topic]) -> Result<Vec
     Ok(slots)
 }
 
-// Where a topic's slot is.
+/// Where a topic's slot is.
 pub(crate) fn index_of<T>(slots: &[Slot<T>], topic: Topic) -> Option<usize>
     requires { RisesBy (λ slot. slot.topic.0) slots.now }
     ensures found { IfSome result (IsIndexOf topic slots.now) }

@@ -20,7 +20,7 @@ abbrev pub before : ℕ → Result (List ℕ) EscapeFault → Result (List ℕ) 
 before b (Ok v) = Ok (b ∷ v)
 before b (Err e) = Err e
 
--- the reading of a text that begins at this place
+-- the reading of a text that begins at this index of the whole
 unfoldable pub unescaped_from : ℕ → List ℕ → Result (List ℕ) EscapeFault
 unescaped_from at [] = Ok []
 unescaped_from at (b ∷ []) = if b == 92 then Err Cut else Ok (b ∷ [])
@@ -38,6 +38,6 @@ abbrev pub with_front : List ℕ → Result (List ℕ) EscapeFault → Result (L
 with_front front (Ok v) = Ok (front ++ v)
 with_front front (Err e) = Err e
 
--- the reading of a text whose octets before this place are read as this front
+-- the reading of a text whose octets before this index are read as this front
 abbrev pub unescaped_after : List ℕ → ℕ → List ℕ → Result (List ℕ) EscapeFault
 unescaped_after front at rest = with_front front (unescaped_from at rest)

@@ -5,9 +5,9 @@ use Rattle.stomp_frame.specs.declared.command.Command.{Command}
 use Rattle.stomp_frame.specs.declared.fault.Check.TheVariants.{BadLength, BodyTooLong}
 use Rattle.stomp_frame.specs.declared.limits.Limits.{Limits}
 use Rattle.stomp_frame.specs.declared.raw_frame.RawFrame.{RawFrame}
-use Rattle.stomp_frame.specs.declared.awaited.Awaited.{Awaited}
-use Rattle.stomp_frame.specs.declared.awaited.Awaited.TheVariants.{CommandLine, HeaderLine, Body}
-use Rattle.stomp_frame.specs.declared.partial_frame.PartialFrame.{PartialFrame}
+use Rattle.stomp_frame.specs.declared.reading.awaited.Awaited.{Awaited}
+use Rattle.stomp_frame.specs.declared.reading.awaited.Awaited.TheVariants.{CommandLine, HeaderLine, Body}
+use Rattle.stomp_frame.specs.declared.reading.partial_frame.PartialFrame.{PartialFrame}
 use Rattle.stomp_frame.specs.Headers.{Header}
 use Rattle.stomp_frame.specs.Commands.{has_escapes}
 use Rattle.stomp_frame.specs.ContentLength.{length_of, content_length}
@@ -58,7 +58,7 @@ sought CommandLine = 10
 sought (HeaderLine command) = 10
 sought (Body command length) = 0
 
--- The octet is at none of the first n places.
+-- The octet is none of the first n.
 abbrev pub IsUnfound : ℕ → List ℕ → ℕ → Type 0
 IsUnfound b text n = (i : ℕ) → i < n → slice_index text i ≢ b
 

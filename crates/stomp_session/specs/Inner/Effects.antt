@@ -22,8 +22,8 @@ use Rattle.stomp_session.specs.declared.judged.Judged.TheVariants as judged
 use Rattle.stomp_session.specs.declared.route.Route.{Route}
 use Rattle.stomp_session.specs.Frames.{topic_of, id_of, transaction_of, send_of}
 use Rattle.stomp_session.specs.Open.{Held, after_close}
-use Rattle.stomp_session.specs.FirstRefusal.{first_fault}
-use Rattle.stomp_session.specs.Refusals.{is_closed, open_tests}
+use Rattle.mcast_txn.specs.Checks.{first_refusal}
+use Rattle.stomp_session.specs.Refusals.{is_closed, open_refusals}
 use Rattle.stomp_session.specs.Answers.{action_by, takes_memory}
 
 -- those that are left without the one of this id
@@ -67,7 +67,7 @@ effect _ s f = s
 
 -- why the frame is refused, by its command
 abbrev pub refusal_by : Command → Held → RawFrame → Option SessionFault
-refusal_by command s f = first_fault ((is_closed s.phase, faults.Closed) ∷ open_tests command s f)
+refusal_by command s f = first_refusal ((is_closed s.phase, faults.Closed) ∷ open_refusals command s f)
 
 -- the refusal that a fault reports; none where there was no memory for a frame that takes some
 abbrev pub reported_fault : Command → Held → RawFrame → SessionFault → Option SessionFault
@@ -114,13 +114,13 @@ abbrev pub Handles : Command → Held → RawFrame → Result Judged SessionFaul
 Handles command s f (Ok judged) new = JudgesAs command s f judged new
 Handles command s f (Err fault) new = RefusesAs command s f fault × (new.names ≡ s.names)
 
--- the place of the first of this id; their number where there is none
-abbrev pub place_of_id : {X : Type 0} → List ℕ → List (List ℕ × X) → ℕ
-place_of_id id them = position_or_len (λ o. bytes_eq id o.0) them
+-- the index of the first of this id; their number where there is none
+abbrev pub index_of_id : {X : Type 0} → List ℕ → List (List ℕ × X) → ℕ
+index_of_id id them = position_or_len (λ o. bytes_eq id o.0) them
 
 -- an accepted SEND goes there: to its topic, and into its transaction, which is open
 pub record IsRouteOf (s : Held) (f : RawFrame) (route : Route) : Type 0 where
   pub topic : route.topic ≡ topic_of s.names f
   pub transaction : route.transaction
-      ≡ option_map (λ x. place_of_id x s.transactions) (first_of (codes "transaction") f.headers)
-  pub within : IfSome route.transaction (λ place. place < length s.transactions)
+      ≡ option_map (λ x. index_of_id x s.transactions) (first_of (codes "transaction") f.headers)
+  pub within : IfSome route.transaction (λ index. index < length s.transactions)

@@ -18,9 +18,9 @@ abbrev pub with_knowledge : Knowledge → EndState → EndState
 with_knowledge v e = record e { knows = v }
 
 -- it pushed one more item
-abbrev pub after_push : Item → EndState → EndState
-after_push item e = with_knowledge (after_pushing item e.knows) e
+abbrev pub end_after_push : Item → EndState → EndState
+end_after_push item e = with_knowledge (after_pushing item e.knows) e
 
 -- it took one more item
-abbrev pub after_take : Item → EndState → EndState
-after_take item e = with_knowledge (after_taking item e.knows) e
+abbrev pub end_after_take : Item → EndState → EndState
+end_after_take item e = with_knowledge (after_taking item e.knows) e

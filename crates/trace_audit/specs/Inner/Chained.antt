@@ -6,9 +6,9 @@ use Rattle.mcast_txn.specs.declared.stamp.Stamp.{Stamp}
 use Rattle.mcast_txn.specs.Lists.{In}
 use Rattle.mcast_txn.specs.Span.{up_to}
 use Rattle.mcast_txn.specs.Stamp.{stamp_lt}
-use Rattle.trace_audit.specs.Faults.{some_two, differ, collide}
-use Rattle.trace_audit.specs.Inner.Orders.{shown}
-use Rattle.trace_audit.specs.Line.{LogLine}
+use Rattle.trace_audit.specs.Faults.{some_two, are_different, are_colliding}
+use Rattle.trace_audit.specs.Inner.Orders.{rows_of_refs}
+use Rattle.trace_audit.specs.Logs.{LogLine}
 use Rattle.trace_audit.specs.declared.row.SpanRow.{SpanRow}
 
 -- each item is in the relation to each that follows it
@@ -24,9 +24,9 @@ Above x y =
 
 -- lines by topic and stamp, against which neither verdicts nor stamps speak
 pub record IsIndex (rows : List (Bor LogLine)) : Type 0 where
-  pub rises : Chained Above (shown rows)
-  pub one_verdict : some_two differ (shown rows) ≡ false
-  pub one_stamp : some_two collide (shown rows) ≡ false
+  pub rises : Chained Above (rows_of_refs rows)
+  pub one_verdict : some_two are_different (rows_of_refs rows) ≡ false
+  pub one_stamp : some_two are_colliding (rows_of_refs rows) ≡ false
 
 -- the line comes before this stamp of the topic's log
 abbrev pub comes_before : Topic → Stamp → LogLine → Bool

@@ -2,8 +2,8 @@
 use Rattle.std.specs.Prelude.{[], ◌∷◌, List, Option}
 use Rattle.std.specs.Option.{option_or}
 use Rattle.mcast_txn.specs.Checks.{first_refusal}
-use Rattle.trace_audit.specs.Faults.{some_two, differ, collide, out_of_order, overtake, hole_fault}
-use Rattle.trace_audit.specs.Line.{LogLine}
+use Rattle.trace_audit.specs.Faults.{some_two, are_different, are_colliding, is_out_of_order, are_disordered, hole_fault}
+use Rattle.trace_audit.specs.Logs.{LogLine}
 use Rattle.trace_audit.specs.declared.fault.AuditFault.{AuditFault}
 use Rattle.trace_audit.specs.declared.fault.AuditFault.TheVariants as audit
 
@@ -11,9 +11,9 @@ use Rattle.trace_audit.specs.declared.fault.AuditFault.TheVariants as audit
 abbrev pub log_fault : List LogLine → Option AuditFault
 log_fault logs =
     option_or (first_refusal (
-    (some_two differ logs, audit.TwoVerdicts)
-    ∷ (some_two collide logs, audit.SameStamp)
-    ∷ (out_of_order logs, audit.LogOrder)
-    ∷ (some_two overtake logs, audit.SenderOrder)
+    (some_two are_different logs, audit.TwoVerdicts)
+    ∷ (some_two are_colliding logs, audit.SameStamp)
+    ∷ (is_out_of_order logs, audit.LogOrder)
+    ∷ (some_two are_disordered logs, audit.SenderOrder)
     ∷ []))
     (hole_fault logs)

@@ -7,16 +7,16 @@ use Rattle.mcast_txn.specs.declared.id.Topic.{Topic}
 use Rattle.mcast_txn.specs.Ids.{id_lt}
 use Rattle.mcast_txn.specs.Span.{LogRow}
 use Rattle.mcast_txn.specs.Stamp.{stamp_lt}
-use Rattle.trace_audit.specs.Line.{LogLine}
+use Rattle.trace_audit.specs.Logs.{LogLine}
 use Rattle.trace_audit.specs.declared.row.QueueRow.{QueueRow}
 
--- what references show
-abbrev pub shown : {X : Type 0} → List (Bor X) → List X
-shown rows = map (λ r. r.now) rows
+-- references seen as rows
+abbrev pub rows_of_refs : {X : Type 0} → List (Bor X) → List X
+rows_of_refs rows = map (λ r. r.now) rows
 
--- the rows that references show, without their logs' topics
-abbrev pub told : List (Bor LogLine) → List LogRow
-told rows = map (λ r. r.now.row) rows
+-- references seen as rows, without their logs' topics
+abbrev pub log_rows_of_refs : List (Bor LogLine) → List LogRow
+log_rows_of_refs rows = map (λ r. r.now.row) rows
 
 -- no row's transaction is below the one before it
 abbrev pub IsOrderedById : List (Bor LogLine) → Type 0
@@ -36,15 +36,15 @@ RisesBySub rows = IsSortedBy (λ a b. nat_lt a.now.sub b.now.sub) rows
 
 -- the references show these lines, in another order, in which each topic's log is as it was
 pub record IsGroupingOf (rows : List (Bor LogLine)) (logs : List LogLine) : Type 0 where
-  pub moved : IsPermutation logs (shown rows)
+  pub moved : IsPermutation logs (rows_of_refs rows)
   pub kept : (t : Topic) →
-      filter (λ line. line.topic.0 == t.0) (shown rows) ≡ filter (λ line. line.topic.0 == t.0) logs
+      filter (λ line. line.topic.0 == t.0) (rows_of_refs rows) ≡ filter (λ line. line.topic.0 == t.0) logs
 
 -- the references show these lines in all three orders
 pub record IsOrdersOf (by_id by_stamp by_topic : List (Bor LogLine)) (logs : List LogLine) : Type 0 where
   pub ids_rise : IsOrderedById by_id
-  pub ids_moved : IsPermutation logs (shown by_id)
+  pub ids_moved : IsPermutation logs (rows_of_refs by_id)
   pub stamps_rise : RisesByStamp by_stamp
-  pub stamps_moved : IsPermutation logs (shown by_stamp)
+  pub stamps_moved : IsPermutation logs (rows_of_refs by_stamp)
   pub topics_rise : RisesByTopic by_topic
   pub grouping : IsGroupingOf by_topic logs

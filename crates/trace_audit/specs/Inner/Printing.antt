@@ -1,17 +1,17 @@
 -- Serves proofs only: rows of a trace as they are sorted and written.
 use Rattle.std.specs.Prelude.{◌≡◌, ℕ, Bool, true, false, List, ◌∷◌, ◌++◌, decimal}
 use Rattle.std.specs.List.{flat_map}
-use Rattle.trace_audit.specs.Text.{joined}
+use Rattle.trace_audit.specs.Text.{joined_text}
 use Rattle.trace_audit.specs.declared.row.TraceRow.{TraceRow}
 use Rattle.trace_audit.specs.declared.row.TraceRow.TheVariants as row
-use Rattle.trace_audit.specs.declared.text.entry.Entry.{Entry}
-use Rattle.trace_audit.specs.declared.text.entry.Entry.TheVariants as entry
+use Rattle.trace_audit.specs.declared.text.row_ref.RowRef.{RowRef}
+use Rattle.trace_audit.specs.declared.text.row_ref.RowRef.TheVariants as row_ref
 
--- the row that an entry refers to
-abbrev pub entry_row : Entry → TraceRow
-entry_row (entry.Log line) = row.Log line.now
-entry_row (entry.Span span) = row.Span span.now
-entry_row (entry.Queue line) = row.Queue line.now
+-- the row that a reference is to
+abbrev pub row_of_ref : RowRef → TraceRow
+row_of_ref (row_ref.Log line) = row.Log line.now
+row_of_ref (row_ref.Span span) = row.Span span.now
+row_of_ref (row_ref.Queue line) = row.Queue line.now
 
 -- two numbers with this octet between them
 abbrev pub pair_text : ℕ → ℕ → ℕ → List ℕ
@@ -25,7 +25,7 @@ part_after b false text = b ∷ text
 -- What is left to write of texts with this octet between each two, of which the first is next, or was
 -- written.
 abbrev pub left_after : ℕ → Bool → List (List ℕ) → List ℕ
-left_after b true texts = joined b texts
+left_after b true texts = joined_text b texts
 left_after b false texts = flat_map (λ t. b ∷ t) texts
 
 -- new is old with something after it, or old itself

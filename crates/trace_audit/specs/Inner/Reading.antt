@@ -1,12 +1,12 @@
 -- Serves proofs only: the reading of a trace's text as a function.
 use Rattle.std.specs.Prelude.{ℕ, ◌+◌, ◌-◌, ◌*◌, ◌^◌, Bool, not, ◌&&◌, ◌||◌, ◌==◌, nat_lt, ◌≡◌, List, [], ◌∷◌, length, codes, slice_index, Option, Some, None, Result, Ok, Err, if◌then◌else◌}
 use Rattle.std.specs.Char.{is_ascii_digit}
-use Rattle.std.specs.Option.{option_map, option_map_or}
 use Rattle.std.specs.Str.{bytes_eq}
 use Rattle.mcast_txn.specs.declared.id.Topic.{Topic}
 use Rattle.mcast_txn.specs.declared.id.TxnId.{TxnId}
 use Rattle.mcast_txn.specs.declared.stamp.Stamp.{Stamp}
-use Rattle.trace_audit.specs.Trace.{Lines}
+use Rattle.trace_audit.specs.Trace.{TraceData}
+use Rattle.trace_audit.specs.Inner.InTurn.{added_from}
 use Rattle.trace_audit.specs.Parsing.{cut, onto_first}
 use Rattle.trace_audit.specs.Rows.{is_misfit, with_row}
 use Rattle.trace_audit.specs.declared.text.parse_fault.ParseFault.{ParseFault}
@@ -105,18 +105,16 @@ spelled_row line = cut 32 line >>= λ p. row_named p.0 p.1
 -- ---- texts
 
 -- the trace with the row that a line spells, where it spells one that fits
-unfoldable pub line_added : List ℕ → Lines → Option Lines
-line_added line lines =
-    spelled_row line >>= λ row. if is_misfit row lines then None else Some (with_row row lines)
+unfoldable pub line_added : List ℕ → TraceData → Option TraceData
+line_added line trace =
+    spelled_row line >>= λ row. if is_misfit row trace then None else Some (with_row row trace)
 
 -- the trace with the rows of these lines, or the number of the first that can't be added, counted from n
-abbrev pub read_from : ℕ → List (List ℕ) → Lines → Result Lines ℕ
-read_from n [] lines = Ok lines
-read_from n (line ∷ more) lines =
-    option_map_or (λ new. read_from (n + 1) more new) (line_added line lines) (Err n)
+abbrev pub read_from : ℕ → List (List ℕ) → TraceData → Result TraceData ℕ
+read_from n lines trace = added_from line_added n lines trace
 
 -- what a function returned is what reading gives, unless memory ran out
-abbrev pub ReadsAs : Result Lines ParseFault → Result Lines ℕ → Type 0
+abbrev pub ReadsAs : Result TraceData ParseFault → Result TraceData ℕ → Type 0
 ReadsAs (Ok trace) read = Ok trace ≡ read
 ReadsAs (Err (parse.BadRow n)) read = Err n ≡ read
 ReadsAs (Err parse.NoMemory) read = Unit {0}

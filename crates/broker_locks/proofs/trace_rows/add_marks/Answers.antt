@@ -2,11 +2,10 @@ use Rattle.std.proofs.Common.{◌≡◌, ◌≤◌, List, map, Some, sym, ap, su
 use Rattle.std.specs.Option.{option_map}
 use Rattle.std.specs.Prelude.{slice_get}
 use Rattle.std.proofs.lemmas.Option.{slice_get_within}
-use Rattle.mcast_txn.specs.Span.{LogRow}
+use Rattle.mcast_txn.specs.Span.{LogRow, row_mark}
 use Rattle.trace_audit.specs.declared.fault.AddFault.{AddFault}
-use Rattle.trace_audit.specs.declared.mark.Mark.{Mark}
+use Rattle.mcast_txn.specs.declared.mark.Mark.{Mark}
 use Rattle.trace_audit.specs.Rows.{is_misfit, says_misfit, with_row}
-use Rattle.trace_audit.specs.Trace.{row_mark}
 use Rattle.broker_locks.specs.KeptTrace.{AddsAll, AddsFirst, marks_between}
 use Rattle.broker_locks.specs.TopicTraces.{queue_row}
 use Rattle.broker_locks.proofs.Adding.{adds_no_row, adds_none, adds_one, err_is, lies_in, marks_done, marks_first, marks_more_rows, marks_none_yet}

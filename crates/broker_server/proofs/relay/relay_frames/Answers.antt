@@ -1,7 +1,7 @@
 use Rattle.std.proofs.Common.{◌+◌, [], ◌++◌, subst, ◌∙◌}
 use Rattle.std.specs.Option.{option_map_or}
 use Rattle.stomp_frame.specs.declared.raw_frame.RawFrame.{RawFrame}
-use Rattle.stomp_frame.specs.Writing.{spelled}
+use Rattle.stomp_frame.specs.Writing.{spelling_of}
 use Rattle.broker_server.specs.declared.next.Next.{Next}
 use Rattle.broker_server.specs.Inner.Steps.{Sends, IsNext, last_error}
 use Rattle.broker_server.proofs.SoFarLemmas.{answers, ended, goes_on, so_far_more}
@@ -16,7 +16,7 @@ returns-in-End-clause-answered g c =
     let so_far = c.frames.invariant.so_far in
     let next = subst (λ (t : Next). IsNext name c.frames.frames t c.read.new.frames) c.in-End.is c.in_ok-frame.ensures in
     let end = ended name text c.frames.frames.text (so_far.0 ++ c.frames.waiting) c.frames.n error so_far.1 next in
-    answers (contents c.args.writer.now.inner) (contents c.frames.writer.inner) (contents c.finish.new.writer.inner) name text so_far.0 c.frames.waiting (option_map_or spelled error []) (option_map_or (λ (f : RawFrame). 2) error 0) c.finish.result
+    answers (contents c.args.writer.now.inner) (contents c.frames.writer.inner) (contents c.finish.new.writer.inner) name text so_far.0 c.frames.waiting (option_map_or spelling_of error []) (option_map_or (λ (f : RawFrame). 2) error 0) c.finish.result
     so_far.2 end (rw c.error.ensures at c.finish.ensures.written) (rw c.error.ensures at c.finish.ensures.status)
 
 pub frames-preserved : goal.frames-preserved
@@ -30,7 +30,7 @@ frames-preserved g c =
     let after = contents c.put.new.writer.inner in
     let next = subst (λ (t : Next). IsNext name c.frames.frames t c.read.new.frames) c.in-Message.is c.in_ok-frame.ensures in
     let more = so_far_more name text c.frames.frames.text (so_far.0 ++ c.frames.waiting) c.frames.n c.in-Message.frame others so_far.1 next.0 next.1 in
-    let sends = subst (λ (f : RawFrame). Sends before c.frames.waiting after c.put.new.waiting (spelled f)) c.message.ensures c.in_ok-put-in-Message.ensures.sent in
+    let sends = subst (λ (f : RawFrame). Sends before c.frames.waiting after c.put.new.waiting (spelling_of f)) c.message.ensures c.in_ok-put-in-Message.ensures.sent in
     record {
       unread = next.2;
       so_far = goes_on (contents c.args.writer.now.inner) before after name text others so_far.0 c.frames.waiting c.put.new.waiting _ (c.frames.n + 1) so_far.2 more sends;

@@ -1,4 +1,4 @@
-use Rattle.delivery.proofs.Views.ConnectionsOfRuns.{open_are_live, unsubscribes_find, other_connections_stay}
+use Rattle.delivery.proofs.Views.Endpoints.OwnConnectionAlone.{open_are_live, unsubscribes_find, other_connections_stay}
 use Rattle.delivery.proofs.law.connections.Goals as goal
 
 pub returns : goal.returns

@@ -1,12 +1,12 @@
 use Rattle.std.proofs.Common.{◌≡◌, ◌++◌, ◌<◌, ℕ, List, Some, length, sym, ap, ◌∙◌, arith}
 use Rattle.std.specs.Prelude.{slice_get}
 use Rattle.stomp_frame.specs.ServerFrames.{message_frame, message_id}
-use Rattle.stomp_frame.specs.Writing.{spelled}
+use Rattle.stomp_frame.specs.Writing.{spelling_of}
 use Rattle.mcast_txn.specs.declared.parts.part.Part.{Part}
 use Rattle.mcast_txn.specs.declared.parts.part_message.PartMessage.{PartMessage}
 use Rattle.mcast_txn.specs.declared.stamp.Stamp.{Stamp}
 use Rattle.mcast_txn.specs.Span.{Item}
-use Rattle.delivery.proofs.Views.Messages.{text_put}
+use Rattle.delivery.proofs.Views.Lists.TextOfMessages.{text_put}
 use Rattle.delivery.proofs.messages.put_messages.Goals as goal
 
 pub loop-i-preserved : goal.loop-i-preserved
@@ -20,6 +20,6 @@ loop-i-preserved c =
     let frame = λ (stamp : Stamp) (body : List ℕ). message_frame c.args.id.now (message_id stamp.n stamp.topic.0 p.index) p.headers body in
     let stamp = ap (λ (i : Item). i.stamp) c.item.view_is in
     let whole = put
-    ∙ (ap (λ (st : Stamp). c.loop-i.out ++ spelled (frame st c.as_slice.result.now)) stamp
-    ∙ ap (λ (b : List ℕ). c.loop-i.out ++ spelled (frame item.stamp b)) c.as_slice.ensures) in
+    ∙ (ap (λ (st : Stamp). c.loop-i.out ++ spelling_of (frame st c.as_slice.result.now)) stamp
+    ∙ ap (λ (b : List ℕ). c.loop-i.out ++ spelling_of (frame item.stamp b)) c.as_slice.ensures) in
     record { written = text_put c.args.id.now item.stamp item.sends c.loop-i.i p c.args.out.now c.loop-i.out c.write_server.new.out there is c.loop-i.invariant.written whole }

@@ -1,5 +1,5 @@
 use Rattle.std.proofs.Common.{◌≡◌, ◌++◌, take}
-use Rattle.delivery.proofs.Views.Messages.{text_of}
+use Rattle.delivery.proofs.Views.Lists.TextOfMessages.{text_of}
 use Rattle.delivery.proofs.messages.put_messages.Given as goal
 
 abbrev pub invariant-loop-i : goal.invariant-loop-i

@@ -3,7 +3,7 @@ use Rattle.mcast_group.specs.Group.{GroupState}
 use Rattle.delivery.specs.Machine.World.{new_topics}
 use Rattle.delivery.specs.Core.State.{log_limit}
 use Rattle.delivery.specs.Inner.View.{new_group}
-use Rattle.delivery.proofs.Views.ListLemmas.{new_groups-push}
+use Rattle.delivery.proofs.Views.Lists.ByNumber.{new_groups-push}
 use Rattle.delivery.proofs.net_state.new_groups.Goals as goal
 
 pub loop-i-preserved : goal.loop-i-preserved

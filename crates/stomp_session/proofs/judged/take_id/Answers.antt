@@ -1,6 +1,6 @@
 use Rattle.std.proofs.Common.{codes, refl, ap, ◌∙◌}
 use Rattle.stomp_frame.specs.Headers.{first_of}
-use Rattle.stomp_frame.proofs.Places.{first_apart}
+use Rattle.stomp_frame.proofs.FirstHeaders.{first_apart}
 use Rattle.stomp_session.proofs.judged.take_id.Goals as goal
 
 pub returns-clause-receipt : goal.returns-clause-receipt

@@ -2,8 +2,8 @@ use Rattle.std.proofs.Common.{◌≡◌, true, sym, ◌∙◌, ap, subst, refl, 
 use Rattle.std.specs.List.{list_all}
 use Rattle.trace_audit.specs.Explained.{IsExplainedBy}
 use Rattle.trace_audit.specs.Faults.{is_whole}
-use Rattle.trace_audit.specs.Line.{LogLine}
-use Rattle.trace_audit.specs.Trace.{Lines, fits, rows_of}
+use Rattle.trace_audit.specs.Logs.{LogLine}
+use Rattle.trace_audit.specs.Trace.{TraceData, fits, rows_of}
 use Rattle.trace_audit.specs.Inner.Orders.{IsOrdersOf}
 use Rattle.trace_audit.specs.Inner.Sorting.{IsSortingOf}
 use Rattle.trace_audit.proofs.Explaining.{clean}
@@ -18,7 +18,7 @@ returns-in-Ok-Some-clause-refused c = λ no.
 explained_here : (c : goal.In-Ok-agree) → IsExplainedBy c.in-Ok-agree.agreed.rows c.args.trace.now
 explained_here c =
     let lines = c.args.trace.now in
-    let logs : c.trace.inside.logs.items ≡ lines.logs = ap (λ (z : Lines). z.logs) c.trace.view_is in
+    let logs : c.trace.inside.logs.items ≡ lines.logs = ap (λ (z : TraceData). z.logs) c.trace.view_is in
     explains lines lines.logs c.in-Ok-agree.agreed.rows refl
     (subst (λ (z : List LogLine). list_all (λ (line : LogLine). fits line) z ≡ true) logs c.trace.invariant.0)
     (sym c.in-Ok-None.ensures ∙ c.in-Ok-None.field-0-is)
@@ -26,7 +26,7 @@ explained_here c =
 
 complete_is : (c : goal.In-Ok-agree) → c.in-Ok-agree.agreed.complete ≡ is_whole c.args.trace.now.logs
 complete_is c =
-    let logs : c.trace.inside.logs.items ≡ c.args.trace.now.logs = ap (λ (z : Lines). z.logs) c.trace.view_is in
+    let logs : c.trace.inside.logs.items ≡ c.args.trace.now.logs = ap (λ (z : TraceData). z.logs) c.trace.view_is in
     c.in-Ok-agree.ensures.complete ∙ ap is_whole (c.deref-2.ensures.value ∙ logs)
 
 pub returns-in-Ok-agree-clause-explained : goal.returns-in-Ok-agree-clause-explained
@@ -40,7 +40,7 @@ returns-in-Ok-agree-clause-complete c = (
 
 pub agree-requires-clause-index : goal.agree-requires-clause-index
 agree-requires-clause-index c =
-    let logs : c.trace.inside.logs.items ≡ c.args.trace.now.logs = ap (λ (z : Lines). z.logs) c.trace.view_is in
+    let logs : c.trace.inside.logs.items ≡ c.args.trace.now.logs = ap (λ (z : TraceData). z.logs) c.trace.view_is in
     let clear = clean c.args.trace.now (sym c.in-Ok-None.ensures ∙ c.in-Ok-None.field-0-is) in
     indexed c.args.trace.now.logs c.in-Ok.orders.by_id.items c.in-Ok.orders.by_stamp.items c.in-Ok.orders.by_topic.items
     (subst (IsOrdersOf c.in-Ok.orders.by_id.items c.in-Ok.orders.by_stamp.items c.in-Ok.orders.by_topic.items) (c.deref.ensures.value ∙ logs) c.in-Ok.ensures)

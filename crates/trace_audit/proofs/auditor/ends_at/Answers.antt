@@ -1,7 +1,7 @@
 use Rattle.std.proofs.Common.{sym, ap, ◌∙◌, Bor, Option}
 use Rattle.std.specs.Option.{option_copied}
 use Rattle.mcast_txn.specs.Stamp.{same_stamp}
-use Rattle.trace_audit.specs.Line.{LogLine}
+use Rattle.trace_audit.specs.Logs.{LogLine}
 use Rattle.trace_audit.proofs.Putting.{last_shown}
 use Rattle.trace_audit.proofs.auditor.ends_at.Goals as goal
 

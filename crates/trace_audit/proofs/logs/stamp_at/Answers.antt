@@ -1,5 +1,5 @@
 use Rattle.std.proofs.Common.{◌<◌, length, Bor, sym, ap, ◌∙◌, Some, rules}
-use Rattle.trace_audit.specs.Line.{LogLine}
+use Rattle.trace_audit.specs.Logs.{LogLine}
 use Rattle.trace_audit.proofs.Halving.{found_here, found_beyond, found_none}
 use Rattle.trace_audit.proofs.logs.stamp_at.Goals as goal
 

@@ -1,7 +1,7 @@
 use Rattle.std.proofs.Common.{◌≡◌, ◌+◌, List, length}
 use Rattle.std.specs.List.{AllByRecursion}
 use Rattle.std.specs.Vec.Iter.{into_iter_len}
-use Rattle.trace_audit.specs.Trace.{no_lines}
+use Rattle.trace_audit.specs.Trace.{no_trace_data}
 use Rattle.broker_locks.specs.KeptTrace.{AddsAll}
 use Rattle.broker_locks.specs.Place.{IsBalanced, PlaceState}
 use Rattle.broker_locks.proofs.Gathered.{rows_left}
@@ -13,5 +13,5 @@ invariant-loop-lock g l = record {
   places : List PlaceState;
   many : length places + into_iter_len l.lock-iterator ≡ length l.fn.self.topics.names;
   each : AllByRecursion IsBalanced places;
-  adds : AddsAll (rows_left places) no_lines l.trace;
+  adds : AddsAll (rows_left places) no_trace_data l.trace;
 }

@@ -1,7 +1,7 @@
 use Rattle.std.proofs.Common.{subst}
 use Rattle.delivery.specs.Nets.{KeptRun, IsDelivered}
 use Rattle.delivery.specs.Inner.ViewReports.{report_in}
-use Rattle.delivery.proofs.Views.KeptRuns.{is_delivered}
+use Rattle.delivery.proofs.Views.Runs.KeptRuns.{is_delivered}
 use Rattle.delivery.proofs.net.Net.report.Goals as goal
 
 pub returns : goal.returns

@@ -3,7 +3,7 @@ use Rattle.std.specs.Vec.Iter.{into_iter_items}
 use Rattle.delivery.specs.declared.event.Event.{Event}
 use Rattle.delivery.specs.declared.kept.Kept.{Kept}
 use Rattle.delivery.specs.Nets.{KeptRun, HasTaken}
-use Rattle.delivery.proofs.Views.KeptRuns.{has_report, taken_none, taken_more}
+use Rattle.delivery.proofs.Views.Runs.KeptRuns.{has_report, taken_none, taken_more}
 use Rattle.delivery.proofs.net.Net.run.Goals as goal
 
 nothing_left : {X : Type 0} (l : List X) → length l ≡ 0 → l ≡ []

@@ -1,7 +1,7 @@
 use Rattle.std.proofs.Common.{◌≡◌, ℕ, ◌-◌, List, ◌∷◌, [], ◌++◌, ap, subst, ◌∙◌, arith, vec_len, vec_capacity}
 use Rattle.delivery.specs.Nets.{KeptRun, core_of_net}
 use Rattle.delivery.specs.Core.Stepped.{HasStepped}
-use Rattle.delivery.proofs.Views.KeptRuns.{has_report, has_stepped, step_kept, names_stay, capacity_stays}
+use Rattle.delivery.proofs.Views.Runs.KeptRuns.{has_report, has_stepped, step_kept, names_stay, capacity_stays}
 use Rattle.delivery.proofs.net.Net.step.Goals as goal
 
 pub invariant_of-self : goal.invariant_of-self

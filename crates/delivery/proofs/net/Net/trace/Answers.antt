@@ -1,6 +1,6 @@
 use Rattle.std.proofs.Common.{subst, sym}
 use Rattle.std.proofs.lemmas.Result.{IfOk-weaker}
-use Rattle.trace_audit.specs.Trace.{Lines}
+use Rattle.trace_audit.specs.Trace.{TraceData}
 use Rattle.delivery.specs.Nets.{KeptRun}
 use Rattle.delivery.specs.Inner.ViewReports.{report_in}
 use Rattle.delivery.specs.Traces.{trace_of, IsTraced}
@@ -22,5 +22,5 @@ trace-requires-clause-fit c =
 pub returns : goal.returns
 returns c =
     IfOk-weaker c.trace.result _ _ (λ trace is.
-    subst (λ (z : Lines). IsTraced c.args.self.now z) (sym is)
+    subst (λ (z : TraceData). IsTraced c.args.self.now z) (sym is)
     (subst (λ (net : KeptRun). IsTraced net (trace_of (report_in c.self.inside.state))) c.self.view_is (held_traced _ c.self.inside.state c.self.invariant))) c.trace.ensures

@@ -1,7 +1,7 @@
 use Rattle.std.proofs.Common.{◌≡◌, ◌+◌, ◌<◌, ℕ, true, length, map, get_or, ap, subst, ◌∙◌, arith}
 use Rattle.std.specs.List.{list_all}
 use Rattle.mcast_group.specs.Group.{GroupState}
-use Rattle.trace_audit.specs.Line.{LogLine}
+use Rattle.trace_audit.specs.Logs.{LogLine}
 use Rattle.trace_audit.specs.Trace.{fits}
 use Rattle.delivery.specs.Inner.View.{View}
 use Rattle.delivery.specs.Traces.{traced_log}
@@ -12,19 +12,19 @@ pub add_log-requires : goal.add_log-requires
 add_log-requires c =
     let groups = c.args.self.now.groups in
     let many = ap (λ (v : View). length v.groups) c.self.view_is in
-    let there : c.loop-t.t < length groups = omega (arith, c.loop-t-test.true, c.len-t-end.ensures, c.self.inside.groups.ok.0, many) in
-    let read : c.index.result.now ≡ get_or groups c.loop-t.t c.index.result.now = c.index.ensures ∙ ap (λ (v : View). get_or v.groups c.loop-t.t c.index.result.now) c.self.view_is in
+    let there : c.loop-i.i < length groups = omega (arith, c.loop-i-test.true, c.len-i-end.ensures, c.self.inside.groups.ok.0, many) in
+    let read : c.index.result.now ≡ get_or groups c.loop-i.i c.index.result.now = c.index.ensures ∙ ap (λ (v : View). get_or v.groups c.loop-i.i c.index.result.now) c.self.view_is in
     let log = c.index.result.now.topic.held in
-    let first : 0 + c.loop-t.t ≡ c.loop-t.t = omega arith in
+    let first : 0 + c.loop-i.i ≡ c.loop-i.i = omega arith in
     subst (λ (n : ℕ). list_all (λ (line : LogLine). fits line) (traced_log n log) ≡ true) first
-    (passes_made (λ (line : LogLine). fits line) traced_log 0 (map (λ (g : GroupState). g.topic.held) groups) c.loop-t.t log c.requires.fit
-    (held_at groups c.loop-t.t c.index.result.now there read))
+    (passes_made (λ (line : LogLine). fits line) traced_log 0 (map (λ (g : GroupState). g.topic.held) groups) c.loop-i.i log c.requires.fit
+    (held_at groups c.loop-i.i c.index.result.now there read))
 
-pub loop-t-preserved : goal.loop-t-preserved
-loop-t-preserved c =
+pub loop-i-preserved : goal.loop-i-preserved
+loop-i-preserved c =
     let groups = c.args.self.now.groups in
     let many = ap (λ (v : View). length v.groups) c.self.view_is in
-    let there : c.loop-t.t < length groups = omega (arith, c.loop-t-test.true, c.len-t-end.ensures, c.self.inside.groups.ok.0, many) in
-    let read : c.index.result.now ≡ get_or groups c.loop-t.t c.index.result.now = c.index.ensures ∙ ap (λ (v : View). get_or v.groups c.loop-t.t c.index.result.now) c.self.view_is in
-    logs_grow c.args.trace.now c.loop-t.trace c.add_log.new.trace (map (λ (g : GroupState). g.topic.held) groups) c.loop-t.t c.index.result.now.topic.held
-    (held_at groups c.loop-t.t c.index.result.now there read) c.loop-t.invariant c.in_ok-add_log.ensures
+    let there : c.loop-i.i < length groups = omega (arith, c.loop-i-test.true, c.len-i-end.ensures, c.self.inside.groups.ok.0, many) in
+    let read : c.index.result.now ≡ get_or groups c.loop-i.i c.index.result.now = c.index.ensures ∙ ap (λ (v : View). get_or v.groups c.loop-i.i c.index.result.now) c.self.view_is in
+    logs_grow c.args.trace.now c.loop-i.trace c.add_log.new.trace (map (λ (g : GroupState). g.topic.held) groups) c.loop-i.i c.index.result.now.topic.held
+    (held_at groups c.loop-i.i c.index.result.now there read) c.loop-i.invariant c.in_ok-add_log.ensures

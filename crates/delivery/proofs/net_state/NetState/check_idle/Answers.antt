@@ -1,19 +1,19 @@
 use Rattle.std.proofs.Common.{Bool, List, Some, None, cond, refl, sym, ap, ◌∙◌, get_or}
 use Rattle.delivery.specs.Machine.Objections.{Objection}
 use Rattle.delivery.specs.Inner.Nexts.{sending_objection}
-use Rattle.delivery.specs.Inner.View.{View, LineView}
-use Rattle.delivery.proofs.Views.IdleChecks.{idle_of}
+use Rattle.delivery.specs.Inner.View.{View, EndpointView}
+use Rattle.delivery.proofs.Views.Events.ReadingChecks.{idle_of}
 use Rattle.delivery.proofs.net_state.NetState.check_idle.Goals as goal
 
 pub returns-then-is_sending : goal.returns-then-is_sending
 returns-then-is_sending c =
     let v = c.args.self.now in
-    let line = c.index.result.now in
-    let lines = ap (λ (x : View). x.lines) c.self.view_is in
-    let at = c.index.ensures ∙ ap (λ (ls : List LineView). get_or ls c.args.c line) lines in
-    let sender = ap (λ (l : LineView). l.sender) c.behind-self.view_is in (
+    let endpoint = c.index.result.now in
+    let endpoints = ap (λ (x : View). x.endpoints) c.self.view_is in
+    let at = c.index.ensures ∙ ap (λ (ls : List EndpointView). get_or ls c.args.connection endpoint) endpoints in
+    let sender = ap (λ (l : EndpointView). l.sender) c.behind-self.view_is in (
       Objection.Busy,
-      idle_of v c.args.c line c.in_ok-check_open.ensures at
+      idle_of v c.args.connection endpoint c.in_ok-check_open.ensures at
           ∙ (ap (sending_objection v.senders) (sym sender)
           ∙ ap (λ (b : Bool). cond b (Some Objection.Busy) None) (sym c.is_sending.ensures ∙ c.if-is_sending.true)),
       refl,
@@ -22,10 +22,10 @@ returns-then-is_sending c =
 pub returns : goal.returns
 returns c =
     let v = c.args.self.now in
-    let line = c.index.result.now in
-    let lines = ap (λ (x : View). x.lines) c.self.view_is in
-    let at = c.index.ensures ∙ ap (λ (ls : List LineView). get_or ls c.args.c line) lines in
-    let sender = ap (λ (l : LineView). l.sender) c.behind-self.view_is in
-    idle_of v c.args.c line c.in_ok-check_open.ensures at
+    let endpoint = c.index.result.now in
+    let endpoints = ap (λ (x : View). x.endpoints) c.self.view_is in
+    let at = c.index.ensures ∙ ap (λ (ls : List EndpointView). get_or ls c.args.connection endpoint) endpoints in
+    let sender = ap (λ (l : EndpointView). l.sender) c.behind-self.view_is in
+    idle_of v c.args.connection endpoint c.in_ok-check_open.ensures at
     ∙ (ap (sending_objection v.senders) (sym sender)
     ∙ ap (λ (b : Bool). cond b (Some Objection.Busy) None) (sym c.is_sending.ensures ∙ c.if-is_sending.false))

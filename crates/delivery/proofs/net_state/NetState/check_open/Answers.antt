@@ -1,32 +1,32 @@
 use Rattle.std.proofs.Common.{List, get_or, refl, sym, ap, ◌∙◌}
 use Rattle.delivery.specs.Machine.Objections.{Objection}
 use Rattle.delivery.specs.Inner.Senders.{gone_objection, there_objection}
-use Rattle.delivery.specs.Inner.Stands.{stage_objection, line_objection}
-use Rattle.delivery.specs.Inner.View.{View, LineView}
-use Rattle.delivery.proofs.Views.StepLemmas.{line_read}
-use Rattle.delivery.proofs.Views.ThereLemmas.{line_there, reads_open}
+use Rattle.delivery.specs.Inner.Stands.{stage_objection, endpoint_objection}
+use Rattle.delivery.specs.Inner.View.{View, EndpointView}
+use Rattle.delivery.proofs.Views.Events.OneMove.{endpoint_read}
+use Rattle.delivery.proofs.Views.Events.ConnectionIsThere.{endpoint_there, reads_open}
 use Rattle.delivery.proofs.net_state.NetState.check_open.Goals as goal
 
 pub returns-in-Leaving : goal.returns-in-Leaving
 returns-in-Leaving c =
     let v = c.args.self.now in
-    let line = c.index-line.result.now in
-    let lines = ap (λ (x : View). x.lines) c.self.view_is in
-    let at = c.index-line.ensures ∙ ap (λ (ls : List LineView). get_or ls c.args.c line) lines in
-    let found = line_read v.lines c.args.c line (line_there v.lines c.args.c c.in_ok-check_there.ensures.0) at in (
+    let endpoint = c.index-endpoint.result.now in
+    let endpoints = ap (λ (x : View). x.endpoints) c.self.view_is in
+    let at = c.index-endpoint.ensures ∙ ap (λ (ls : List EndpointView). get_or ls c.args.connection endpoint) endpoints in
+    let found = endpoint_read v.endpoints c.args.connection endpoint (endpoint_there v.endpoints c.args.connection c.in_ok-check_there.ensures.0) at in (
       Objection.Busy,
-      ap line_objection found ∙ (ap (λ (l : LineView). stage_objection l.stage) (sym c.line.view_is) ∙ ap stage_objection c.in-Leaving.is),
+      ap endpoint_objection found ∙ (ap (λ (l : EndpointView). stage_objection l.stage) (sym c.endpoint.view_is) ∙ ap stage_objection c.in-Leaving.is),
       refl,
     )
 
 pub returns-in_default : goal.returns-in_default
 returns-in_default c =
     let v = c.args.self.now in
-    let line = c.index-line.result.now in
-    let lines = ap (λ (x : View). x.lines) c.self.view_is in
-    let at = c.index-line.ensures ∙ ap (λ (ls : List LineView). get_or ls c.args.c line) lines in
+    let endpoint = c.index-endpoint.result.now in
+    let endpoints = ap (λ (x : View). x.endpoints) c.self.view_is in
+    let at = c.index-endpoint.ensures ∙ ap (λ (ls : List EndpointView). get_or ls c.args.connection endpoint) endpoints in
     let free = c.in_ok-check_there.ensures.0 in
-    let found = line_read v.lines c.args.c line (line_there v.lines c.args.c free) at in
-    let stage = ap (λ (l : LineView). l.stage) (sym c.line.view_is) in
+    let found = endpoint_read v.endpoints c.args.connection endpoint (endpoint_there v.endpoints c.args.connection free) at in
+    let stage = ap (λ (l : EndpointView). l.stage) (sym c.endpoint.view_is) in
     let here = ap gone_objection (sym stage) ∙ (sym (ap there_objection found) ∙ free) in
-    ap line_objection found ∙ (ap stage_objection stage ∙ reads_open c.line.inside.stage here c.in_default.not-Leaving)
+    ap endpoint_objection found ∙ (ap stage_objection stage ∙ reads_open c.endpoint.inside.stage here c.in_default.not-Leaving)

@@ -1,7 +1,7 @@
-use Rattle.delivery.specs.Inner.View.{no_line}
-use Rattle.delivery.proofs.Views.NextFrames.{next_disconnects}
+use Rattle.delivery.specs.Inner.View.{no_endpoint}
+use Rattle.delivery.proofs.Views.Events.NextFrames.{next_disconnects}
 use Rattle.delivery.proofs.net_state.NetState.disconnect.Goals as goal
 
 pub returns : goal.returns
 returns c k f left asks =
-    next_disconnects k c.args.c f left c.args.receipt c.args.self.now c.begin_leaving.new.self no_line asks (c.begin_leaving.ensures no_line)
+    next_disconnects k c.args.connection f left c.args.receipt c.args.self.now c.begin_leaving.new.self no_endpoint asks (c.begin_leaving.ensures no_endpoint)

@@ -5,38 +5,38 @@ use Rattle.stomp_session.specs.declared.action.Action.TheVariants as actions
 use Rattle.delivery.specs.Core.Steps.{number_by}
 use Rattle.delivery.specs.Inner.Nexts.{Asks, receipt_text}
 use Rattle.delivery.specs.Inner.Subscriptions.{left_at}
-use Rattle.delivery.specs.Inner.View.{View, LeftView, no_line, written_line}
-use Rattle.delivery.proofs.Views.LineChanges.{changed_length}
-use Rattle.delivery.proofs.Views.NextSubs.{next_finds, next_leaves, next_unsubscribes}
+use Rattle.delivery.specs.Inner.View.{View, LeftView, no_endpoint, written_endpoint}
+use Rattle.delivery.proofs.Views.Endpoints.EndpointChanges.{changed_length}
+use Rattle.delivery.proofs.Views.Events.NextSubs.{next_finds, next_leaves, next_unsubscribes}
 use Rattle.delivery.proofs.net_state.NetState.end_subscription.Goals as goal
 
 pub returns-in_default : goal.returns-in_default
 returns-in_default c k f left asks =
     let action = actions.Unsubscribe c.args.id.now in
-    c.lack.ensures k f left action (subst (λ (v : View). Asks k c.args.c f left action c.args.receipt.now v) (sym c.in_default.ensures.err) asks)
+    c.lack.ensures k f left action (subst (λ (v : View). Asks k c.args.connection f left action c.args.receipt.now v) (sym c.in_default.ensures.err) asks)
 
 pub find_sub-requires : goal.find_sub-requires
 find_sub-requires c =
     let v = c.args.self.now in
-    let n = changed_length v c.write_receipt.new.self c.args.c (written_line (receipt_text c.args.receipt.now) (get_or v.lines c.args.c no_line)) (c.in-Ok.ensures.ok no_line) in
+    let n = changed_length v c.write_receipt.new.self c.args.connection (written_endpoint (receipt_text c.args.receipt.now) (get_or v.endpoints c.args.connection no_endpoint)) (c.in-Ok.ensures.ok no_endpoint) in
     omega (arith, n, c.requires)
 
 pub returns-in_default-find_sub : goal.returns-in_default-find_sub
 returns-in_default-find_sub c k f left asks =
-    let found = next_finds k c.args.c f left c.args.id.now c.args.receipt.now c.args.self.now c.write_receipt.new.self no_line asks (c.in-Ok.ensures.ok no_line) in
+    let found = next_finds k c.args.connection f left c.args.id.now c.args.receipt.now c.args.self.now c.write_receipt.new.self no_endpoint asks (c.in-Ok.ensures.ok no_endpoint) in
     absurd (cc)
 
 pub returns-in-Some-close : goal.returns-in-Some-close
 returns-in-Some-close c k f left asks =
-    next_unsubscribes k c.args.c f left c.args.id.now c.args.receipt.now c.args.self.now c.write_receipt.new.self c.close.new.self c.in-Some.s c.in-Some-close.to no_line asks
-    (c.in-Ok.ensures.ok no_line) (sym c.in-Some.is ∙ c.find_sub.ensures) (sym c.in-Some-close.is ∙ c.close.ensures.end) c.close.ensures.closed
+    next_unsubscribes k c.args.connection f left c.args.id.now c.args.receipt.now c.args.self.now c.write_receipt.new.self c.close.new.self c.in-Some.sub c.in-Some-close.to no_endpoint asks
+    (c.in-Ok.ensures.ok no_endpoint) (sym c.in-Some.is ∙ c.find_sub.ensures) (sym c.in-Some-close.is ∙ c.close.ensures.end) c.close.ensures.closed
 
 pub returns-in-None : goal.returns-in-None
 returns-in-None c k f left asks =
     let v = c.args.self.now in
     let mid = c.write_receipt.new.self in
-    let wrote = c.in-Ok.ensures.ok no_line in
-    let found = next_finds k c.args.c f left c.args.id.now c.args.receipt.now v mid no_line asks wrote in
-    let same : c.in-Some.s ≡ number_by c.args.c c.args.id.now k.steps = some_same _ _ (sym c.in-Some.is ∙ (c.find_sub.ensures ∙ found)) in
-    let end = next_leaves k c.args.c f left c.args.id.now c.args.receipt.now v mid no_line asks wrote in
+    let wrote = c.in-Ok.ensures.ok no_endpoint in
+    let found = next_finds k c.args.connection f left c.args.id.now c.args.receipt.now v mid no_endpoint asks wrote in
+    let same : c.in-Some.sub ≡ number_by c.args.connection c.args.id.now k.steps = some_same _ _ (sym c.in-Some.is ∙ (c.find_sub.ensures ∙ found)) in
+    let end = next_leaves k c.args.connection f left c.args.id.now c.args.receipt.now v mid no_endpoint asks wrote in
     none_some _ (sym c.in-None.is ∙ (c.close.ensures.end ∙ (ap (λ (n : ℕ). option_map (λ (x : LeftView). x.to) (left_at n mid)) same ∙ end)))

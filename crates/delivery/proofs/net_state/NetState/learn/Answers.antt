@@ -6,7 +6,7 @@ use Rattle.delivery.specs.declared.refusal.Refusal.{Refusal}
 use Rattle.delivery.specs.Inner.Stands.{Makes}
 use Rattle.delivery.specs.Inner.TopicSteps.{verdict_held, learn_result, after_learn_at}
 use Rattle.delivery.specs.Inner.View.{View, group_view, no_group}
-use Rattle.delivery.proofs.Views.LearnStep.{learn_unnamed, learn_makes}
+use Rattle.delivery.proofs.Views.Events.LearnStep.{learn_unnamed, learn_makes}
 use Rattle.delivery.proofs.net_state.NetState.learn.Goals as goal
 
 pub returns-then-index-len : goal.returns-then-index-len
@@ -14,41 +14,41 @@ returns-then-index-len c k reached is =
     let many : c.len.result ≡ length c.self.inside.groups.items = omega (arith, c.self.inside.groups.ok.0, c.len.ensures) in
     let topics : c.len.result ≡ length k.world.topics =
     many ∙ (ap (λ (v : View). length v.groups) (c.self.view_is ∙ is) ∙ length-map k.world.topics (group_view k.world)) in
-    let none : length k.world.topics ≤ c.args.t.0 = omega (arith, topics, c.if-index-len.true) in
-    subst (λ (v : View). Makes k (Event.Learn c.args.t c.args.id) (Outcome.Refused Refusal.NotNamed) v) (sym is) (learn_unnamed k c.args.t c.args.id none)
+    let none : length k.world.topics ≤ c.args.topic.0 = omega (arith, topics, c.if-index-len.true) in
+    subst (λ (v : View). Makes k (Event.Learn c.args.topic c.args.id) (Outcome.Refused Refusal.NotNamed) v) (sym is) (learn_unnamed k c.args.topic c.args.id none)
 
 pub returns-in-None : goal.returns-in-None
 returns-in-None c k reached is =
     let many : c.len.result ≡ length c.self.inside.groups.items = omega (arith, c.self.inside.groups.ok.0, c.len.ensures) in
     let topics : c.len.result ≡ length k.world.topics =
     many ∙ (ap (λ (v : View). length v.groups) (c.self.view_is ∙ is) ∙ length-map k.world.topics (group_view k.world)) in
-    let there : c.args.t.0 < length k.world.topics = omega (arith, topics, c.if-index-len.false) in
+    let there : c.args.topic.0 < length k.world.topics = omega (arith, topics, c.if-index-len.false) in
     let h = c.in-None.ensures in
-    let new = h.groups no_group ∙ ap (λ (v : View). after_learn_at v c.args.t.0 c.args.id no_group) is in
-    subst (λ (v : View). Makes k (Event.Learn c.args.t c.args.id) (Outcome.Refused Refusal.NotDecided) v) (sym new)
-    (learn_makes k c.args.t c.args.id (None) reached there
-    (h.answer no_group ∙ ap (λ (v : View). learn_result c.args.id (verdict_held v c.args.id) (get_or v.groups c.args.t.0 no_group)) is))
+    let new = h.groups no_group ∙ ap (λ (v : View). after_learn_at v c.args.topic.0 c.args.id no_group) is in
+    subst (λ (v : View). Makes k (Event.Learn c.args.topic c.args.id) (Outcome.Refused Refusal.NotDecided) v) (sym new)
+    (learn_makes k c.args.topic c.args.id (None) reached there
+    (h.answer no_group ∙ ap (λ (v : View). learn_result c.args.id (verdict_held v c.args.id) (get_or v.groups c.args.topic.0 no_group)) is))
 
 pub returns-in-Some-Ok : goal.returns-in-Some-Ok
 returns-in-Some-Ok c k reached is =
     let many : c.len.result ≡ length c.self.inside.groups.items = omega (arith, c.self.inside.groups.ok.0, c.len.ensures) in
     let topics : c.len.result ≡ length k.world.topics =
     many ∙ (ap (λ (v : View). length v.groups) (c.self.view_is ∙ is) ∙ length-map k.world.topics (group_view k.world)) in
-    let there : c.args.t.0 < length k.world.topics = omega (arith, topics, c.if-index-len.false) in
+    let there : c.args.topic.0 < length k.world.topics = omega (arith, topics, c.if-index-len.false) in
     let h = c.in-Some-Ok.ensures in
-    let new = h.groups no_group ∙ ap (λ (v : View). after_learn_at v c.args.t.0 c.args.id no_group) is in
-    subst (λ (v : View). Makes k (Event.Learn c.args.t c.args.id) (Outcome.Learnt) v) (sym new)
-    (learn_makes k c.args.t c.args.id (Some (Ok c.in-Some-Ok.field-0-0)) reached there
-    (ap Some (sym c.in-Some-Ok.field-0-is) ∙ (h.answer no_group ∙ ap (λ (v : View). learn_result c.args.id (verdict_held v c.args.id) (get_or v.groups c.args.t.0 no_group)) is)))
+    let new = h.groups no_group ∙ ap (λ (v : View). after_learn_at v c.args.topic.0 c.args.id no_group) is in
+    subst (λ (v : View). Makes k (Event.Learn c.args.topic c.args.id) (Outcome.Learnt) v) (sym new)
+    (learn_makes k c.args.topic c.args.id (Some (Ok c.in-Some-Ok.field-0-0)) reached there
+    (ap Some (sym c.in-Some-Ok.field-0-is) ∙ (h.answer no_group ∙ ap (λ (v : View). learn_result c.args.id (verdict_held v c.args.id) (get_or v.groups c.args.topic.0 no_group)) is)))
 
 pub returns-in-Some-Err : goal.returns-in-Some-Err
 returns-in-Some-Err c k reached is =
     let many : c.len.result ≡ length c.self.inside.groups.items = omega (arith, c.self.inside.groups.ok.0, c.len.ensures) in
     let topics : c.len.result ≡ length k.world.topics =
     many ∙ (ap (λ (v : View). length v.groups) (c.self.view_is ∙ is) ∙ length-map k.world.topics (group_view k.world)) in
-    let there : c.args.t.0 < length k.world.topics = omega (arith, topics, c.if-index-len.false) in
+    let there : c.args.topic.0 < length k.world.topics = omega (arith, topics, c.if-index-len.false) in
     let h = c.in-Some-Err.ensures in
-    let new = h.groups no_group ∙ ap (λ (v : View). after_learn_at v c.args.t.0 c.args.id no_group) is in
-    subst (λ (v : View). Makes k (Event.Learn c.args.t c.args.id) (Outcome.Refused Refusal.NotPending) v) (sym new)
-    (learn_makes k c.args.t c.args.id (Some (Err c.in-Some-Err.field-0-0)) reached there
-    (ap Some (sym c.in-Some-Err.field-0-is) ∙ (h.answer no_group ∙ ap (λ (v : View). learn_result c.args.id (verdict_held v c.args.id) (get_or v.groups c.args.t.0 no_group)) is)))
+    let new = h.groups no_group ∙ ap (λ (v : View). after_learn_at v c.args.topic.0 c.args.id no_group) is in
+    subst (λ (v : View). Makes k (Event.Learn c.args.topic c.args.id) (Outcome.Refused Refusal.NotPending) v) (sym new)
+    (learn_makes k c.args.topic c.args.id (Some (Err c.in-Some-Err.field-0-0)) reached there
+    (ap Some (sym c.in-Some-Err.field-0-is) ∙ (h.answer no_group ∙ ap (λ (v : View). learn_result c.args.id (verdict_held v c.args.id) (get_or v.groups c.args.topic.0 no_group)) is)))

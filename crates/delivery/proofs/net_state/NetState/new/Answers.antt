@@ -2,8 +2,8 @@ use Rattle.std.proofs.Common.{refl, ap, ◌∙◌}
 use Rattle.delivery.specs.Core.State.{new_core, log_limit}
 use Rattle.delivery.specs.Inner.Rooms.{PromisedRows}
 use Rattle.delivery.specs.Inner.View.{view_of}
-use Rattle.delivery.proofs.Views.ListLemmas.{new_groups_view}
-use Rattle.delivery.proofs.Views.ViewLemmas.{same_view}
+use Rattle.delivery.proofs.Views.Lists.ByNumber.{new_groups_view}
+use Rattle.delivery.proofs.Views.Runs.SameView.{same_view}
 use Rattle.delivery.proofs.net_state.NetState.new.Goals as goal
 
 pub returns : goal.returns

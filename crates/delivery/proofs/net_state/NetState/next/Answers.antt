@@ -4,20 +4,20 @@ use Rattle.delivery.specs.declared.outcome.Outcome.{Outcome}
 use Rattle.delivery.specs.Inner.Nexts.{idle_objection}
 use Rattle.delivery.specs.Inner.Stands.{Makes}
 use Rattle.delivery.specs.Inner.View.{View}
-use Rattle.delivery.proofs.Views.IdleChecks.{idle_within}
-use Rattle.delivery.proofs.Views.NextFaults.{next_refused}
+use Rattle.delivery.proofs.Views.Events.ReadingChecks.{idle_within}
+use Rattle.delivery.proofs.Views.Events.NextFaults.{next_refused}
 use Rattle.delivery.proofs.net_state.NetState.next.Goals as goal
 
 pub read_frame-requires : goal.read_frame-requires
-read_frame-requires c = idle_within c.args.self.now c.args.c c.in-Ok.ensures
+read_frame-requires c = idle_within c.args.self.now c.args.connection c.in-Ok.ensures
 
 pub returns-in-Ok : goal.returns-in-Ok
 returns-in-Ok c k reached is =
-    c.read_frame.ensures k reached (sym (ap (λ (v : View). idle_objection v c.args.c) is) ∙ c.in-Ok.ensures) is
+    c.read_frame.ensures k reached (sym (ap (λ (v : View). idle_objection v c.args.connection) is) ∙ c.in-Ok.ensures) is
 
 pub returns-in-Err : goal.returns-in-Err
 returns-in-Err c k reached is =
     let h = c.in-Err.ensures in
-    let why = sym (ap (λ (v : View). idle_objection v c.args.c) is) ∙ h.1 in
-    subst (λ (v : View). Makes k (Event.Next c.args.c) (Outcome.Refused c.in-Err.refusal) v) (sym is)
-    (next_refused k c.args.c h.0 c.in-Err.refusal why h.2)
+    let why = sym (ap (λ (v : View). idle_objection v c.args.connection) is) ∙ h.1 in
+    subst (λ (v : View). Makes k (Event.Next c.args.connection) (Outcome.Refused c.in-Err.refusal) v) (sym is)
+    (next_refused k c.args.connection h.0 c.in-Err.refusal why h.2)

@@ -6,7 +6,7 @@ use Rattle.delivery.specs.declared.refusal.Refusal.{Refusal}
 use Rattle.delivery.specs.Inner.Stands.{Makes}
 use Rattle.delivery.specs.Inner.TopicSteps.{verdict_held, group_turn_count, after_turn_at}
 use Rattle.delivery.specs.Inner.View.{View, group_view, no_group}
-use Rattle.delivery.proofs.Views.TurnStep.{turn_unnamed, turn_makes}
+use Rattle.delivery.proofs.Views.Events.TurnStep.{turn_unnamed, turn_makes}
 use Rattle.delivery.proofs.net_state.NetState.turn.Goals as goal
 
 pub returns-then-index-len : goal.returns-then-index-len
@@ -14,17 +14,17 @@ returns-then-index-len c k reached is =
     let many : c.len.result ≡ length c.self.inside.groups.items = omega (arith, c.self.inside.groups.ok.0, c.len.ensures) in
     let topics : c.len.result ≡ length k.world.topics =
     many ∙ (ap (λ (v : View). length v.groups) (c.self.view_is ∙ is) ∙ length-map k.world.topics (group_view k.world)) in
-    let none : length k.world.topics ≤ c.args.t.0 = omega (arith, topics, c.if-index-len.true) in
-    subst (λ (v : View). Makes k (Event.Turn c.args.t) (Outcome.Refused Refusal.NotNamed) v) (sym is) (turn_unnamed k c.args.t none)
+    let none : length k.world.topics ≤ c.args.topic.0 = omega (arith, topics, c.if-index-len.true) in
+    subst (λ (v : View). Makes k (Event.Turn c.args.topic) (Outcome.Refused Refusal.NotNamed) v) (sym is) (turn_unnamed k c.args.topic none)
 
 pub returns : goal.returns
 returns c k reached is =
     let many : c.len.result ≡ length c.self.inside.groups.items = omega (arith, c.self.inside.groups.ok.0, c.len.ensures) in
     let topics : c.len.result ≡ length k.world.topics =
     many ∙ (ap (λ (v : View). length v.groups) (c.self.view_is ∙ is) ∙ length-map k.world.topics (group_view k.world)) in
-    let there : c.args.t.0 < length k.world.topics = omega (arith, topics, c.if-index-len.false) in
+    let there : c.args.topic.0 < length k.world.topics = omega (arith, topics, c.if-index-len.false) in
     let h = c.turn_at.ensures in
-    let new = h.groups no_group ∙ ap (λ (v : View). after_turn_at v c.args.t.0 no_group) is in
-    subst (λ (v : View). Makes k (Event.Turn c.args.t) (Outcome.Turned c.turn_at.result) v) (sym new)
-    (turn_makes k c.args.t c.turn_at.result reached there
-    (h.count no_group ∙ ap (λ (v : View). group_turn_count (verdict_held v) (get_or v.groups c.args.t.0 no_group)) is))
+    let new = h.groups no_group ∙ ap (λ (v : View). after_turn_at v c.args.topic.0 no_group) is in
+    subst (λ (v : View). Makes k (Event.Turn c.args.topic) (Outcome.Turned c.turn_at.result) v) (sym new)
+    (turn_makes k c.args.topic c.turn_at.result reached there
+    (h.count no_group ∙ ap (λ (v : View). group_turn_count (verdict_held v) (get_or v.groups c.args.topic.0 no_group)) is))

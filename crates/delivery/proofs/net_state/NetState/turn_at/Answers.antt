@@ -4,7 +4,7 @@ use Rattle.mcast_group.specs.Group.{GroupState}
 use Rattle.delivery.specs.Inner.TopicSteps.{verdict_held, group_after_turn, group_turn_count, after_turn_at}
 use Rattle.delivery.specs.Inner.Verdicts.{verdict_at}
 use Rattle.delivery.specs.Inner.View.{View}
-use Rattle.delivery.proofs.Views.TurnStep.{turn_found}
+use Rattle.delivery.proofs.Views.Events.TurnStep.{turn_found}
 use Rattle.delivery.proofs.net_state.NetState.turn_at.Goals as goal
 
 pub returns-clause-count : goal.returns-clause-count

@@ -1,7 +1,7 @@
 use Rattle.std.proofs.Common.{◌≡◌, Some, not, ap, sym, ◌∙◌}
 use Rattle.std.specs.Prelude.{slice_get}
 use Rattle.std.specs.Option.{option_map}
-use Rattle.trace_audit.specs.Line.{LogLine}
+use Rattle.trace_audit.specs.Logs.{LogLine}
 use Rattle.trace_audit.specs.Trace.{fits}
 use Rattle.delivery.proofs.Traces.Made.{line_fits, log_grows}
 use Rattle.delivery.proofs.net_state.trace.add_log.Goals as goal

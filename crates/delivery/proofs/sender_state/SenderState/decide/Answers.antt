@@ -6,7 +6,7 @@ use Rattle.sender_gate.specs.Gate.{GateState, gate_after}
 use Rattle.delivery.specs.declared.sending.Sending.{Sending}
 use Rattle.delivery.specs.Inner.Senders.{decision_of, decided_row, decided_sender, decided_sending}
 use Rattle.delivery.specs.Inner.View.{SenderView}
-use Rattle.delivery.proofs.Views.Tickets.{rows_of_slots}
+use Rattle.delivery.proofs.Views.Senders.TicketsOfTopics.{rows_of_slots}
 use Rattle.delivery.proofs.sender_state.SenderState.decide.Goals as goal
 
 pub returns-in-Ok-clause-verdict : goal.returns-in-Ok-clause-verdict

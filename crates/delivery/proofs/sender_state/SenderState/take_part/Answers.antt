@@ -1,7 +1,7 @@
 use Rattle.std.proofs.Common.{subst, vec_len, vec_capacity}
 use Rattle.delivery.specs.declared.sending.Sending.{Sending}
 use Rattle.delivery.specs.Inner.Rooms.{KeepsRoom}
-use Rattle.delivery.proofs.Views.RoomLemmas.{taken_room}
+use Rattle.delivery.proofs.Views.Senders.RoomLasts.{taken_room}
 use Rattle.delivery.proofs.sender_state.SenderState.take_part.Goals as goal
 use Rattle.delivery.proofs.sender_state.SenderState.take_part.Goals.{in-Idle, in-Marked, in-Flying+else-not-has_topic+in-Some, in-Flying+else-not-has_topic+in-None}
 
@@ -10,7 +10,7 @@ invariant_of-self-2 c = elim c.match-self.branch [
   | in-Idle w ↦ rw w.self-inside-is c.self.invariant
   | in-Marked w ↦ rw w.self-inside-is c.self.invariant
   | in-Flying+else-not-has_topic+in-Some w ↦ rw (w.self-inside-is, w.part.ensures.taken)
-      (taken_room c.args.t w.in-Flying.flying w.in-Flying.field-1 _ _ (subst (λ (z : Sending). KeepsRoom z (vec_len c.self.inside.leftovers) (vec_capacity c.self.inside.leftovers)) w.in-Flying.is c.self.invariant))
+      (taken_room c.args.topic w.in-Flying.flying w.in-Flying.field-1 _ _ (subst (λ (z : Sending). KeepsRoom z (vec_len c.self.inside.leftovers) (vec_capacity c.self.inside.leftovers)) w.in-Flying.is c.self.invariant))
   | in-Flying+else-not-has_topic+in-None w ↦ rw (w.self-inside-is, w.part.ensures.taken)
-      (taken_room c.args.t w.in-Flying.flying w.in-Flying.field-1 _ _ (subst (λ (z : Sending). KeepsRoom z (vec_len c.self.inside.leftovers) (vec_capacity c.self.inside.leftovers)) w.in-Flying.is c.self.invariant))
+      (taken_room c.args.topic w.in-Flying.flying w.in-Flying.field-1 _ _ (subst (λ (z : Sending). KeepsRoom z (vec_len c.self.inside.leftovers) (vec_capacity c.self.inside.leftovers)) w.in-Flying.is c.self.invariant))
 ]

@@ -1,6 +1,6 @@
 use Rattle.std.proofs.Common.{◌<◌, ◌-◌, [], length, get_or, set, Some, ap, ◌∙◌, arith}
 use Rattle.mcast_txn.specs.Ballot.{Decision}
-use Rattle.delivery.proofs.Views.TableLemmas.{slot_filled}
+use Rattle.delivery.proofs.Views.Verdicts.VerdictTable.{slot_filled}
 use Rattle.delivery.proofs.table.Table.set.Goals as goal
 
 pub returns-then-sender-len : goal.returns-then-sender-len

@@ -37,22 +37,22 @@ pub invariant_of-self : goal.invariant_of-self
 invariant_of-self c =
     let s = c.self.inside in
     let subs = s.subscriptions in
-    let place = c.in_ok-at.at in
+    let index = c.in_ok-at.at in
     let at = sym c.index_of.ensures ∙ c.in_ok-at.was in
-    let ends = ends_found shown_of c.args.number subs place some_sub at in
-    let old = get_or subs place some_sub in
+    let ends = ends_found shown_of c.args.number subs index some_sub at in
+    let old = get_or subs index some_sub in
     let new : Subscription VecOutlet = record old { outlet = after_take old.outlet } in
     let x = topic_state s.topic s.clock s.log_limit s.pending s.base s.rows.items s.frontier in
     subst (λ (zs : List (Subscription VecOutlet)). IsKept (λ (o : VecOutlet). o.spare) (x (map (entry_of shown_of) zs)) s.rows.capacity s.copies.items zs) (sym (c.take.ensures.taken some_sub))
-    (kept_taken (λ (o : VecOutlet). o.spare) (x (map (entry_of shown_of) subs)) _ s.rows.capacity s.copies.items subs place some_sub new c.self.invariant
-    (ap x (map_set (entry_of shown_of) subs place new some_sub refl ends.0)) ends.0 refl refl)
+    (kept_taken (λ (o : VecOutlet). o.spare) (x (map (entry_of shown_of) subs)) _ s.rows.capacity s.copies.items subs index some_sub new c.self.invariant
+    (ap x (map_set (entry_of shown_of) subs index new some_sub refl ends.0)) ends.0 refl refl)
 
 pub returns-clause-next : goal.returns-clause-next
 returns-clause-next c =
     let subs = c.self.inside.subscriptions in
-    let place = c.in_ok-at.at in
-    let ends = ends_found shown_of c.args.number subs place some_sub (sym c.index_of.ensures ∙ c.in_ok-at.was) in
-    let z = get_or subs place some_sub in
+    let index = c.in_ok-at.at in
+    let ends = ends_found shown_of c.args.number subs index some_sub (sym c.index_of.ensures ∙ c.in_ok-at.was) in
+    let z = get_or subs index some_sub in
     c.take.ensures.next some_sub
     ∙ (sym (ap (λ (o : Option Entry). next_in (shown_with o (room_at c.args.number (map (entry_of shown_of) subs) (map (room_of shown_of) subs)))) ends.1.found
     ∙ ap (λ (r : Option Room). next_in (shown_with (Some (entry_of shown_of z)) r)) ends.1.roomed)
@@ -62,13 +62,13 @@ pub returns-clause-taken : goal.returns-clause-taken
 returns-clause-taken c =
     let s = c.self.inside in
     let subs = s.subscriptions in
-    let place = c.in_ok-at.at in
+    let index = c.in_ok-at.at in
     let at = sym c.index_of.ensures ∙ c.in_ok-at.was in
-    let ends = ends_found shown_of c.args.number subs place some_sub at in
-    let old = get_or subs place some_sub in
+    let ends = ends_found shown_of c.args.number subs index some_sub at in
+    let old = get_or subs index some_sub in
     let new : Subscription VecOutlet = record old { outlet = after_take old.outlet } in
     let x = topic_state s.topic s.clock s.log_limit s.pending s.base s.rows.items s.frontier in
     ap (λ (zs : List (Subscription VecOutlet)). record { topic = x (map (entry_of shown_of) zs); rooms = map (room_of shown_of) zs }) (c.take.ensures.taken some_sub)
-    ∙ (ap (λ (es : List Entry). record { topic = x es; rooms = map (room_of shown_of) (set subs place new) }) (map_set (entry_of shown_of) subs place new some_sub refl ends.0)
-    ∙ (ap (λ (rs : List Room). record { topic = x (map (entry_of shown_of) subs); rooms = rs }) (sym (taken_at shown_of c.args.number subs place some_sub new at refl))
+    ∙ (ap (λ (es : List Entry). record { topic = x es; rooms = map (room_of shown_of) (set subs index new) }) (map_set (entry_of shown_of) subs index new some_sub refl ends.0)
+    ∙ (ap (λ (rs : List Room). record { topic = x (map (entry_of shown_of) subs); rooms = rs }) (sym (taken_at shown_of c.args.number subs index some_sub new at refl))
     ∙ ap (group_after_take c.args.number) c.self.view_is))

@@ -16,7 +16,7 @@ returns-else-has_learnt_other c =
     let stamp : c.stamp-stamp.result ≡ decided_stamp v = c.stamp-stamp.ensures in
     let again : has_learnt_other (decided_stamp v) p.learnt ≡ false = ap (λ (z : Stamp). has_learnt_other z p.learnt) (sym stamp) ∙ (sym c.has_learnt_other.ensures ∙ c.if-has_learnt_other.false) in
     c.has_other_at.ensures
-    ∙ (any_keys c.id.result c.stamp-stamp.result c.self.inside.keys c.self.inside.slots.items c.self.invariant
+    ∙ (any_keys c.id.result c.stamp-stamp.result c.self.inside.keys c.self.inside.parts.items c.self.invariant
     ∙ (ap (λ (zs : List Pending). list_any (part_at_stamp c.id.result c.stamp-stamp.result) zs) c.self.view_is
     ∙ (ap (λ (z : TxnId). list_any (part_at_stamp z c.stamp-stamp.result) c.args.self.now) c.id.ensures
     ∙ (ap (λ (z : Stamp). list_any (part_at_stamp p.part.id z) c.args.self.now) stamp

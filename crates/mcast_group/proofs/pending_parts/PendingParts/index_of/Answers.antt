@@ -5,8 +5,8 @@ use Rattle.std.proofs.lemmas.List.{get_or_default}
 use Rattle.mcast_txn.specs.Ids.{id_lt, same_id}
 use Rattle.mcast_txn.specs.declared.id.TxnId.{TxnId}
 use Rattle.mcast_group.specs.Machine.{Pending}
-use Rattle.mcast_group.specs.Inner.Keys.{IsPlace}
-use Rattle.mcast_group.proofs.ByKey.{found_at_place, none_at_place}
+use Rattle.mcast_group.specs.Inner.Keys.{IsIndexPast}
+use Rattle.mcast_group.proofs.ByKey.{found_at_index, none_at_index}
 use Rattle.mcast_group.proofs.pending_parts.PendingParts.index_of.Goals as goal
 
 is_false : (b : Bool) → not b ≡ true → b ≡ false
@@ -19,33 +19,33 @@ is_true false e = absurd (true≢false e)
 
 pub returns-in_err-get : goal.returns-in_err-get
 returns-in_err-get c =
-    let ps = c.self.inside.slots.items in
-    let i = c.place-index.result in
-    let l : c.self.inside.slots.len ≡ length ps = c.self.inside.slots.ok.0 in
-    let place = subst (λ (zs : List Pending). IsPlace (λ (p : Pending). id_lt p.part.id c.args.id) zs i) (sym c.self.view_is) c.place-index.ensures.place in
+    let ps = c.self.inside.parts.items in
+    let i = c.index_for-index.result in
+    let l : c.self.inside.parts.len ≡ length ps = c.self.inside.parts.ok.0 in
+    let index = subst (λ (zs : List Pending). IsIndexPast (λ (p : Pending). id_lt p.part.id c.args.id) zs i) (sym c.self.view_is) c.index_for-index.ensures.index in
     let past : length ps ≤ i = (let v = c.in_err-get.ensures.variant in grind (arith)) in
-    c.from_residual.ensures ∙ (sym (none_at_place c.args.id ps i c.self.invariant.by_id place (λ d m. absurd (omega arith))) ∙ ap (λ (zs : List Pending). position (λ (p : Pending). same_id p.part.id c.args.id) zs) c.self.view_is)
+    c.from_residual.ensures ∙ (sym (none_at_index c.args.id ps i c.self.invariant.by_id index (λ d m. absurd (omega arith))) ∙ ap (λ (zs : List Pending). position (λ (p : Pending). same_id p.part.id c.args.id) zs) c.self.view_is)
 
 pub returns-then-ne : goal.returns-then-ne
 returns-then-ne c =
-    let ps = c.self.inside.slots.items in
-    let i = c.place-index.result in
+    let ps = c.self.inside.parts.items in
+    let i = c.index_for-index.result in
     let x = c.in_ok-get.field-0.now in
-    let place = subst (λ (zs : List Pending). IsPlace (λ (p : Pending). id_lt p.part.id c.args.id) zs i) (sym c.self.view_is) c.place-index.ensures.place in
+    let index = subst (λ (zs : List Pending). IsIndexPast (λ (p : Pending). id_lt p.part.id c.args.id) zs i) (sym c.self.view_is) c.index_for-index.ensures.index in
     let at : x ≡ get_or ps i x = c.in_ok-get.ensures.lookup in
     let other : same_id c.id.result c.args.id ≡ false = is_false (same_id c.id.result c.args.id) (sym c.ne.ensures ∙ c.if-ne.true) in
     let differs : same_id x.part.id c.args.id ≡ false = subst (λ (z : TxnId). same_id z c.args.id ≡ false) c.id.ensures other in
-    sym (none_at_place c.args.id ps i c.self.invariant.by_id place (λ d m. subst (λ (z : Pending). same_id z.part.id c.args.id ≡ false) (at ∙ get_or_default ps i x d m) differs)) ∙ ap (λ (zs : List Pending). position (λ (p : Pending). same_id p.part.id c.args.id) zs) c.self.view_is
+    sym (none_at_index c.args.id ps i c.self.invariant.by_id index (λ d m. subst (λ (z : Pending). same_id z.part.id c.args.id ≡ false) (at ∙ get_or_default ps i x d m) differs)) ∙ ap (λ (zs : List Pending). position (λ (p : Pending). same_id p.part.id c.args.id) zs) c.self.view_is
 
 pub returns : goal.returns
 returns c =
-    let ps = c.self.inside.slots.items in
-    let i = c.place-index.result in
-    let l : c.self.inside.slots.len ≡ length ps = c.self.inside.slots.ok.0 in
+    let ps = c.self.inside.parts.items in
+    let i = c.index_for-index.result in
+    let l : c.self.inside.parts.len ≡ length ps = c.self.inside.parts.ok.0 in
     let x = c.in_ok-get.field-0.now in
-    let place = subst (λ (zs : List Pending). IsPlace (λ (p : Pending). id_lt p.part.id c.args.id) zs i) (sym c.self.view_is) c.place-index.ensures.place in
+    let index = subst (λ (zs : List Pending). IsIndexPast (λ (p : Pending). id_lt p.part.id c.args.id) zs i) (sym c.self.view_is) c.index_for-index.ensures.index in
     let at : x ≡ get_or ps i x = c.in_ok-get.ensures.lookup in
     let within = c.in_ok-get.ensures.variant.0 refl in
     let own : same_id c.id.result c.args.id ≡ true = is_true (same_id c.id.result c.args.id) (sym c.ne.ensures ∙ c.if-ne.false) in
     let same : same_id (get_or ps i x).part.id c.args.id ≡ true = subst (λ (z : Pending). same_id z.part.id c.args.id ≡ true) at (subst (λ (z : TxnId). same_id z c.args.id ≡ true) c.id.ensures own) in
-    sym (found_at_place c.args.id ps i x place (omega arith) same) ∙ ap (λ (zs : List Pending). position (λ (p : Pending). same_id p.part.id c.args.id) zs) c.self.view_is
+    sym (found_at_index c.args.id ps i x index (omega arith) same) ∙ ap (λ (zs : List Pending). position (λ (p : Pending). same_id p.part.id c.args.id) zs) c.self.view_is

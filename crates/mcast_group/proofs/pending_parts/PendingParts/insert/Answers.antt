@@ -6,8 +6,8 @@ use Rattle.mcast_txn.specs.declared.id.TxnId.{TxnId}
 use Rattle.mcast_txn.specs.declared.stamp.Stamp.{Stamp}
 use Rattle.mcast_group.specs.declared.keys.Keyed.{Keyed}
 use Rattle.mcast_group.specs.Machine.{Pending, insert_pending, key}
-use Rattle.mcast_group.specs.Inner.Keys.{AreKeysOf, IsPlace, keyed_of}
-use Rattle.mcast_group.proofs.ByKey.{keys_put, put_at_place}
+use Rattle.mcast_group.specs.Inner.Keys.{AreKeysOf, IsIndexPast, keyed_of}
+use Rattle.mcast_group.proofs.ByKey.{keys_put, put_at_index}
 use Rattle.mcast_group.proofs.pending_parts.PendingParts.insert.Goals as goal
 
 pub put_greatest-requires : goal.put_greatest-requires
@@ -28,9 +28,9 @@ invariant_of-self-in-Ok c =
     let are : AreKeysOf keys now = subst (AreKeysOf keys) c.self.view_is c.self.invariant in
     let p = c.args.part in
     let keyed : c.keyed-keyed.result ≡ keyed_of p = c.keyed-keyed.ensures in
-    let i = c.place-index.result in
-    let place = subst (λ (z : TxnId). IsPlace (λ (q : Pending). id_lt q.part.id z) now i) c.id.ensures c.place-index.ensures.place in
-    let is : c.insert.new.self.items ≡ insert_pending p now = c.in-Ok.ensures.items ∙ (ap (λ (z : Pending). insert c.self.inside.slots.items i z) c.in_ok-slot.ensures ∙ (ap (λ (zs : List Pending). insert zs i p) c.self.view_is ∙ put_at_place p now i place c.requires.free)) in
+    let i = c.index_for-index.result in
+    let index = subst (λ (z : TxnId). IsIndexPast (λ (q : Pending). id_lt q.part.id z) now i) c.id.ensures c.index_for-index.ensures.index in
+    let is : c.insert.new.self.items ≡ insert_pending p now = c.in-Ok.ensures.items ∙ (ap (λ (z : Pending). insert c.self.inside.parts.items i z) c.in_ok-boxed.ensures ∙ (ap (λ (zs : List Pending). insert zs i p) c.self.view_is ∙ put_at_index p now i index c.requires.free)) in
     subst (λ (zs : List Pending). AreKeysOf c.put_greatest.new.self zs) (sym is)
     (subst (λ (ks : List Keyed). AreKeysOf ks (insert_pending p now)) (sym (c.in_ok-put_greatest.ensures.ok ∙ ap (λ (z : Keyed). z ∷ keys) keyed)) (keys_put p keys now are c.requires.free c.requires.above))
 
@@ -41,7 +41,7 @@ returns-clause-ok c =
     let are : AreKeysOf keys now = subst (AreKeysOf keys) c.self.view_is c.self.invariant in
     let p = c.args.part in
     let keyed : c.keyed-keyed.result ≡ keyed_of p = c.keyed-keyed.ensures in
-    let i = c.place-index.result in
-    let place = subst (λ (z : TxnId). IsPlace (λ (q : Pending). id_lt q.part.id z) now i) c.id.ensures c.place-index.ensures.place in
-    let is : c.insert.new.self.items ≡ insert_pending p now = c.in-Ok.ensures.items ∙ (ap (λ (z : Pending). insert c.self.inside.slots.items i z) c.in_ok-slot.ensures ∙ (ap (λ (zs : List Pending). insert zs i p) c.self.view_is ∙ put_at_place p now i place c.requires.free)) in
+    let i = c.index_for-index.result in
+    let index = subst (λ (z : TxnId). IsIndexPast (λ (q : Pending). id_lt q.part.id z) now i) c.id.ensures c.index_for-index.ensures.index in
+    let is : c.insert.new.self.items ≡ insert_pending p now = c.in-Ok.ensures.items ∙ (ap (λ (z : Pending). insert c.self.inside.parts.items i z) c.in_ok-boxed.ensures ∙ (ap (λ (zs : List Pending). insert zs i p) c.self.view_is ∙ put_at_index p now i index c.requires.free)) in
     is

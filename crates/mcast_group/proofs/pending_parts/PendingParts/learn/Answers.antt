@@ -47,7 +47,7 @@ invariant_of-self c =
     let only = subst (λ (z : Keyed). (k : Keyed) → In k new → (k ≡ record { key = stamp; id = z.id } → Prim.⊥) → In k keys) keyed c.raise.ensures.only in
     let gone = subst (λ (z : Keyed). (k : Keyed) → In k new → (k ≡ record { key = stamp; id = z.id } → Prim.⊥) → k ≡ z → Prim.⊥) keyed c.raise.ensures.gone in
     let done = keys_learnt keys new now i p stamp are c.requires.within (sym at) (λ q s e. c.requires.free p q s e ∙ sym at) kept put only gone in
-    let ps = c.self.inside.slots.items in
+    let ps = c.self.inside.parts.items in
     let within : i < length ps = subst (λ (zs : List Pending). i < length zs) (sym c.self.view_is) c.requires.within in
     let x = c.index_mut.result.now in
     let here : x ≡ p = c.index_mut.ensures.value ∙ (get_or_default ps i x p within ∙ (ap (λ (zs : List Pending). get_or zs i p) c.self.view_is ∙ sym at)) in

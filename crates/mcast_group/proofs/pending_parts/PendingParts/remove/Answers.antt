@@ -35,8 +35,8 @@ invariant_of-self c =
     let kept = subst (λ (z : Keyed). (k : Keyed) → In k keys → (k ≡ z → Prim.⊥) → In k new) keyed c.remove.ensures.kept in
     let gone = subst (λ (z : Keyed). (k : Keyed) → In k new → k ≡ z → Prim.⊥) keyed c.remove.ensures.gone in
     let done = keys_removed keys new now i p are c.requires (sym at) kept c.remove.ensures.only gone in
-    let ps = c.self.inside.slots.items in
-    let l : c.self.inside.slots.len ≡ length ps = c.self.inside.slots.ok.0 in
+    let ps = c.self.inside.parts.items in
+    let l : c.self.inside.parts.len ≡ length ps = c.self.inside.parts.ok.0 in
     let within : i < length ps = subst (λ (zs : List Pending). i < length zs) (sym c.self.view_is) c.requires in
     let left : c.remove-2.new.self.items ≡ remove ps i = gone_at ps i p c.remove-2.result c.remove-2.new.self.items (c.remove-2.ensures.succeeds p (omega arith)) c.remove-2.ensures.items in
     subst (AreKeysOf new) (sym left) (subst (λ (zs : List Pending). AreKeysOf new (remove zs i)) (sym c.self.view_is) done)

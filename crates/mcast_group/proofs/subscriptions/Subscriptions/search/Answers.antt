@@ -16,8 +16,8 @@ returns-clause-absent g c =
     let finds = searched number_of c.self.inside.subs.items c.args.number c.binary_search_by_key.result c.self.invariant (rw (← c.deref.ensures.value) facts.bound) (rw (← c.deref.ensures.value) (facts.position number_of (answers_always _ _ _ (λ f a r g called. search rules)))) in
     rw (← c.self.view_is) (has_searched c.self.inside.subs.items c.args.number c.binary_search_by_key.result c.self.invariant finds).absent
 
-pub returns-clause-place : goal.returns-clause-place
-returns-clause-place g c =
+pub returns-clause-index : goal.returns-clause-index
+returns-clause-index g c =
     let facts = c.binary_search_by_key.ensures in
     let finds = searched number_of c.self.inside.subs.items c.args.number c.binary_search_by_key.result c.self.invariant (rw (← c.deref.ensures.value) facts.bound) (rw (← c.deref.ensures.value) (facts.position number_of (answers_always _ _ _ (λ f a r g called. search rules)))) in
-    rw (← c.self.view_is) (has_searched c.self.inside.subs.items c.args.number c.binary_search_by_key.result c.self.invariant finds).place
+    rw (← c.self.view_is) (has_searched c.self.inside.subs.items c.args.number c.binary_search_by_key.result c.self.invariant finds).index

@@ -9,8 +9,8 @@ pub returns-clause-ok : goal.returns-clause-ok
 returns-clause-ok c =
     let es = c.self.inside.values.entries in
     let d = c.unwrap-draft.result.now in
-    let at : slice_get (values_of es) c.args.place ≡ Some d = sym c.get_index_mut.ensures.value ∙ ap option_copied_mut c.unwrap-draft.ensures in
+    let at : slice_get (values_of es) c.args.index ≡ Some d = sym c.get_index_mut.ensures.value ∙ ap option_copied_mut c.unwrap-draft.ensures in
     elim c.match-add.branch [
-      | in-Ok w ↦ rw (w.result-is, w.in-Ok.ensures.ok, ← c.self.view_is) (λ name place. entries_of-set_value_at name _ es c.args.place d place at)
+      | in-Ok w ↦ rw (w.result-is, w.in-Ok.ensures.ok, ← c.self.view_is) (λ name index. entries_of-set_value_at name _ es c.args.index d index at)
       | in-Err w ↦ rw w.result-is tt
     ]

@@ -1,0 +1,79 @@
+-- What an open endpoint makes of what its reader gives.
+use Rattle.std.proofs.Common.{◌≡◌, ◌≢◌, ◌⊎◌, inl, inr, List, [], ◌∷◌, ◌++◌, Option, Some, None, refl, ap, subst, ◌∙◌}
+use Rattle.std.specs.Prelude.{Result, Ok, Err, MatchOption}
+use Rattle.stomp_frame.specs.declared.fault.Check.{Check}
+use Rattle.stomp_frame.specs.declared.fault.FrameFault.{FrameFault}
+use Rattle.stomp_frame.specs.declared.raw_frame.RawFrame.{RawFrame}
+use Rattle.stomp_frame.specs.Faults.{fault_of}
+use Rattle.stomp_frame.specs.Reader.{Unread, ReadsNext, NextReturns}
+use Rattle.stomp_session.specs.declared.action.Step.{Step}
+use Rattle.stomp_session.specs.Open.{Held, held_after}
+use Rattle.delivery.specs.declared.connection_fault.ConnectionFault.{ConnectionFault}
+use Rattle.delivery.specs.declared.open_endpoint.OpenEndpoint.{OpenEndpoint}
+use Rattle.delivery.specs.Core.Steps.{Reading}
+use Rattle.delivery.specs.Inner.Nexts.{IsAccepted, IsRefusedAs, Judgement, reader_fault}
+
+-- what a reader returns before a fault
+reads : (u v : Unread) (r : Result (Option RawFrame) FrameFault) → u.answered ≡ None → NextReturns u r v → ReadsNext u r v
+reads u v r unanswered h = subst (λ (a : Option Check). MatchOption a (ReadsNext u r v) (λ k. (r ≡ Err (fault_of k)) × (v ≡ u))) unanswered h
+
+found : (u v : Unread) (r : Option RawFrame) → u.answered ≡ None → ((Ok r ≢ Err FrameFault.NoMemory) → NextReturns u (Ok r) v) → ReadsNext u (Ok r) v
+found u v r unanswered h = reads u v (Ok r) unanswered (h (λ e. absurd (cc)))
+
+-- there is no whole frame yet
+pub judged_waits : (accepted : List RawFrame) (old : OpenEndpoint) (left : Unread) (r : Option RawFrame)
+    → ((Ok r ≢ Err FrameFault.NoMemory) → NextReturns old.reader (Ok r) left) → r ≡ None → old.reader.answered ≡ None
+    → Judgement accepted old (Ok None) (record old { reader = left })
+judged_waits accepted old left r h is unanswered = record {
+  reading = Reading.Waits left;
+  read = subst (λ (x : Option RawFrame). ReadsNext old.reader (Ok x) left) is (found old.reader left r unanswered h);
+  judged = refl;
+}
+
+-- the session accepts the frame
+pub judged_takes : (accepted : List RawFrame) (old new : OpenEndpoint) (left : Unread) (r : Option RawFrame) (f : RawFrame) (step : Step)
+    → ((Ok r ≢ Err FrameFault.NoMemory) → NextReturns old.reader (Ok r) left) → r ≡ Some f → old.reader.answered ≡ None
+    → IsAccepted (held_after old.session.names accepted) f step
+    → new.session ≡ held_after old.session.names (accepted ++ f ∷ [])
+    → new ≡ record old { reader = left; session = new.session }
+    → Judgement accepted old (Ok (Some step)) new
+judged_takes accepted old new left r f step h is unanswered taken session others = record {
+  reading = Reading.Finds f left;
+  read = subst (λ (x : Option RawFrame). ReadsNext old.reader (Ok x) left) is (found old.reader left r unanswered h);
+  judged = (taken, others ∙ ap (λ (s : Held). record old { reader = left; session = s }) session);
+}
+
+-- the frame is refused
+pub judged_refuses : (accepted : List RawFrame) (old new : OpenEndpoint) (left : Unread) (r : Option RawFrame) (f g : RawFrame) (fault : ConnectionFault)
+    → ((Ok r ≢ Err FrameFault.NoMemory) → NextReturns old.reader (Ok r) left) → r ≡ Some f → old.reader.answered ≡ None
+    → IsRefusedAs (held_after old.session.names accepted) f fault → g ≡ f
+    → Judgement accepted old (Err (fault, Some g)) new
+judged_refuses accepted old new left r f g fault h is unanswered refused same = record {
+  reading = Reading.Finds f left;
+  read = subst (λ (x : Option RawFrame). ReadsNext old.reader (Ok x) left) is (found old.reader left r unanswered h);
+  judged = (ap (λ (x : RawFrame). Some x) same, refused);
+}
+
+memory_or : (fault : FrameFault) → (fault ≡ FrameFault.NoMemory) ⊎ (fault ≢ FrameFault.NoMemory)
+memory_or FrameFault.NoMemory = inl refl
+memory_or _ = inr (λ e. absurd (cc))
+
+stream : (k : Check) → reader_fault (fault_of k) ≡ ConnectionFault.Stream k
+stream Check.BadCommand = refl
+stream _ = refl
+
+-- the reader returns a fault
+pub judged_fails : (accepted : List RawFrame) (old new : OpenEndpoint) (left : Unread) (fault : FrameFault)
+    → ((◌≢◌ {A = Result (Option RawFrame) FrameFault} (Err fault) (Err FrameFault.NoMemory)) → NextReturns old.reader (Err fault) left) → old.reader.answered ≡ None
+    → (reported : ConnectionFault) → reported ≡ reader_fault fault
+    → Judgement accepted old (Err (reported, None)) new
+judged_fails accepted old new left fault h unanswered reported is = elim (memory_or fault) [
+  | inl e ↦ record { reading = Reading.Nothing; read = tt; judged = (refl, is ∙ ap reader_fault e) }
+  | inr ne ↦ (let other : ◌≢◌ {A = Result (Option RawFrame) FrameFault} (Err fault) (Err FrameFault.NoMemory) = λ e. ne (cc) in
+      let k = reads old.reader left (Err fault) unanswered (h other) in
+      record {
+        reading = Reading.Fails k.1 left;
+        read = (k.0, k.1, k.2, k.3, refl, k.5);
+        judged = (refl, is ∙ (ap reader_fault k.4 ∙ stream k.1));
+      })
+]

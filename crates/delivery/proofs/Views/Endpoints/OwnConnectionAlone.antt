@@ -1,0 +1,242 @@
+-- What every run makes of its connections: a step changes none but its event's own, and an accepted UNSUBSCRIBE names a live
+-- subscription.
+use Rattle.std.proofs.Common.{◌≡◌, ◌≢◌, ℕ, zero, suc, ◌==◌, Bool, true, false, cond, not, ◌&&◌, List, [], ◌∷◌, ◌++◌, length, set, get_or, Option, Some, None, refl, sym, ap, ◌∙◌, append-nil}
+use Rattle.std.specs.Prelude.{slice_get}
+use Rattle.std.specs.List.{flat_map}
+use Rattle.std.specs.Option.{option_map_or, option_to_list}
+use Rattle.std.proofs.lemmas.List.{get_or-set_other}
+use Rattle.stomp_frame.specs.declared.command.Command.TheVariants as commands
+use Rattle.stomp_frame.specs.declared.raw_frame.RawFrame.{RawFrame}
+use Rattle.stomp_frame.specs.Reader.{Unread, with_piece}
+use Rattle.stomp_frame.specs.Writing.{spelling_of}
+use Rattle.mcast_txn.specs.declared.id.Topic.{Topic}
+use Rattle.mcast_txn.specs.declared.id.TxnId.{TxnId}
+use Rattle.mcast_txn.specs.declared.draft.sent_message.SentMessage.{SentMessage}
+use Rattle.mcast_txn.specs.Ballot.{Decision}
+use Rattle.mcast_txn.specs.Span.{Item}
+use Rattle.mcast_group.specs.declared.fault.ProposeFault.{ProposeFault}
+use Rattle.mcast_group.specs.Machine.{Entry}
+use Rattle.stomp_session.specs.declared.action.Action.{Action}
+use Rattle.stomp_session.specs.declared.action.Action.TheVariants as actions
+use Rattle.stomp_session.specs.Answers.{action_by}
+use Rattle.stomp_session.specs.Frames.{id_of}
+use Rattle.delivery.specs.declared.event.Event.{Event}
+use Rattle.delivery.specs.declared.outcome.Outcome.{Outcome}
+use Rattle.delivery.specs.Machine.World.{World, Connection, Leftover, Standing, nobody, connection_at, subscription_at, speaker, entry_at}
+use Rattle.delivery.specs.Machine.Observed.{accepted_at}
+use Rattle.delivery.specs.Machine.Moves.{Move, Answer, world_after, move_effect, find_leftover, find_verdict, oldest_live, commit_effect, proposal_fault, propose_effect, cancel_effect, learn_effect, take_effect, leave_effect, close_effect_of}
+use Rattle.delivery.specs.Machine.Moves.Move.{AddsTopic, Opens, Commits, Subscribes, Unsubscribes, Disconnects, Errs, Lost, Leaves, Proposes, Decides, Withdraws, Cancels, Learns, Releases, Turns, Takes}
+use Rattle.delivery.specs.Machine.Runs.{run}
+use Rattle.delivery.specs.Core.Account.{account_of, beginning_of}
+use Rattle.delivery.specs.Core.Connections.{event_connection, OpenAreLive, UnsubscribesFind, OtherConnectionsStay}
+use Rattle.delivery.specs.Core.Output.{is_cut, next_replies, replies_to, text_out, take_replies}
+use Rattle.delivery.specs.Core.State.{Core, core_of, frame_move, is_faulted, is_no_memory, is_out_of_memory, left_by, moves, next_moves, session_at, unread_at, unread_after}
+use Rattle.delivery.specs.Core.Steps.{CoreStep, Reading, accepted_of, frame_in, has_effect, is_fed, is_next, number_by}
+use Rattle.delivery.specs.Inner.Stands.{IsReached}
+use Rattle.delivery.proofs.Machine.InvariantIsKept.{by_refusal}
+use Rattle.delivery.proofs.Core.AccountOfRun.{core_is}
+use Rattle.delivery.proofs.Views.Events.NextStep.{idle_reads}
+use Rattle.delivery.proofs.Views.Endpoints.EndpointsStay.{if_same}
+use Rattle.delivery.proofs.Views.Subscriptions.OpenIsLive.{session_subs, names_live, unsubscribe_free}
+use Rattle.delivery.proofs.Views.Endpoints.StandingOfConnection.{differ}
+use Rattle.delivery.proofs.Views.Endpoints.NothingBeforeOpen.{owned}
+
+-- ---- the machine's connections
+
+-- a move of another connection than c
+abbrev Apart : World → Move → ℕ → Type 0
+Apart w Opens c = length w.connections ≢ c
+Apart w (Disconnects d) c = d ≢ c
+Apart w (Errs d) c = d ≢ c
+Apart w (Lost d) c = d ≢ c
+Apart w (Leaves d) c = d ≢ c
+Apart w (Withdraws d) c = d ≢ c
+Apart w (Takes s) c = (subscription_at w s).connection ≢ c
+Apart w mv c = Unit {0}
+
+-- this connection is what it was
+abbrev Stays : World → World → ℕ → Type 0
+Stays w v c = connection_at v c ≡ connection_at w c
+
+pushed : (xs : List Connection) (x : Connection) (c : ℕ) → length xs ≢ c → get_or (xs ++ x ∷ []) c nobody ≡ get_or xs c nobody
+pushed [] x zero n = absurd (n refl)
+pushed [] x (suc c) n = refl
+pushed (y ∷ xs) x zero n = refl
+pushed (y ∷ xs) x (suc c) n = pushed xs x c (λ e. n (ap suc e))
+
+shut : (w : World) (c d : ℕ) (x : Connection) → d ≢ c → get_or (set w.connections d x) c nobody ≡ get_or w.connections c nobody
+shut w c d x n = get_or-set_other w.connections d c x nobody (λ e. n (sym e))
+
+committed : (w : World) (d : ℕ) (sends : List SentMessage) (c : ℕ) → Stays w (commit_effect w d sends) c
+committed w d [] c = refl
+committed w d (first ∷ others) c = refl
+
+proposed : (w : World) (d : ℕ) (t : Topic) (o : Option ProposeFault) (c : ℕ) → Stays w (propose_effect w d t o) c
+proposed w d t None c = refl
+proposed w d t (Some fault) c = refl
+
+cancelled : (w : World) (d : ℕ) (t : Topic) (o : Option Leftover) (c : ℕ) → Stays w (cancel_effect w d t o) c
+cancelled w d t None c = refl
+cancelled w d t (Some k) c = refl
+
+learnt : (w : World) (t : Topic) (id : TxnId) (o : Option Decision) (c : ℕ) → Stays w (learn_effect w t id o) c
+learnt w t id None c = refl
+learnt w t id (Some v) c = refl
+
+closed : (w : World) (s : ℕ) (o : Option Entry) (c : ℕ) → Stays w (close_effect_of w s o) c
+closed w s None c = refl
+closed w s (Some e) c = refl
+
+left : (w : World) (d : ℕ) (o : Option ℕ) (c : ℕ) → d ≢ c → Stays w (leave_effect w d o) c
+left w d None c n = shut w c d (record { sender = (connection_at w d).sender; standing = Standing.Gone }) n
+left w d (Some s) c n = closed w s (entry_at w s) c
+
+taken : (w : World) (s : ℕ) (o : Option Item) (c : ℕ) → (subscription_at w s).connection ≢ c → Stays w (take_effect w s o) c
+taken w s None c n =
+    let d = (subscription_at w s).connection in
+    shut w c d (record { sender = (connection_at w d).sender; standing = Standing.Leaving }) n
+taken w s (Some item) c n = refl
+
+leaving : (w : World) (d c : ℕ) → d ≢ c → Stays w (record w { connections = set w.connections d (record { sender = (connection_at w d).sender; standing = Standing.Leaving }) }) c
+leaving w d c n = shut w c d (record { sender = (connection_at w d).sender; standing = Standing.Leaving }) n
+
+effect_stays : (w : World) (mv : Move) (c : ℕ) → Apart w mv c → Stays w (move_effect w mv) c
+effect_stays w Opens c n = pushed w.connections (record { sender = length w.senders; standing = Standing.Open }) c n
+effect_stays w (Commits d sends) c n = committed w d sends c
+effect_stays w (Unsubscribes d s) c n = closed w s (entry_at w s) c
+effect_stays w (Disconnects d) c n = leaving w d c n
+effect_stays w (Errs d) c n = leaving w d c n
+effect_stays w (Lost d) c n = leaving w d c n
+effect_stays w (Leaves d) c n = left w d (oldest_live d 0 w.subscriptions) c n
+effect_stays w (Proposes d t memory) c n = proposed w d t (proposal_fault w d t memory) c
+effect_stays w (Withdraws d) c n = leaving w d c n
+effect_stays w (Cancels d t) c n = cancelled w d t (find_leftover t (speaker w d).leftovers) c
+effect_stays w (Learns t id) c n = learnt w t id (find_verdict id w.verdicts) c
+effect_stays w (Takes s) c n = taken w s (slice_get (accepted_at w s) (subscription_at w s).taken) c n
+effect_stays w _ c n = refl
+
+move_stays : (w : World) (mv : Move) (c : ℕ) → Apart w mv c → Stays w (world_after w mv) c
+move_stays w mv c n = by_refusal (λ v o. Stays w v c) w mv (λ why. refl) (λ k. effect_stays w mv c n)
+
+-- ---- the moves of an event
+
+-- none of a Next, or one move of its connection
+framed : (k : Core) (d : ℕ) (action : Action) (c : ℕ) → d ≢ c → Stays k.world (run (option_to_list (frame_move k d action)) k.world) c
+framed k d actions.Connected c n = refl
+framed k d actions.Nothing c n = refl
+framed k d (actions.Subscribe id t) c n = move_stays k.world (Subscribes d t) c tt
+framed k d (actions.Unsubscribe id) c n = move_stays k.world (Unsubscribes d (number_by d id k.steps)) c tt
+framed k d (actions.Commit sends) c n = move_stays k.world (Commits d sends) c tt
+framed k d actions.Disconnect c n = move_stays k.world (Disconnects d) c n
+
+next_stays : (k : Core) (d : ℕ) (rd : Reading) (o : Outcome) (c : ℕ) → d ≢ c → Stays k.world (run (next_moves k d rd o) k.world) c
+next_stays k d rd o c n = by_outcome (is_faulted o) (has_effect o) (frame_in rd)
+  where
+    by_outcome : (faulted effect : Bool) (f : Option RawFrame)
+        → Stays k.world (run (cond faulted (Errs d ∷ []) (cond effect (option_map_or (λ g. option_to_list (frame_move k d (action_by g.command (session_at k d) g))) f []) [])) k.world) c
+    by_outcome true effect f = move_stays k.world (Errs d) c n
+    by_outcome false false f = refl
+    by_outcome false true None = refl
+    by_outcome false true (Some f) = framed k d (action_by f.command (session_at k d) f) c n
+
+-- a number that is another's isn't this one's
+unlike : (d c : ℕ) → Some d ≢ Some c → d ≢ c
+unlike d c n e = n (ap Some e)
+
+standing_stays : (k : Core) (e : Event) (rd : Reading) (o : Outcome) (c : ℕ) → event_connection k.world e ≢ Some c
+    → Stays k.world (run (moves k e rd o) k.world) c
+standing_stays k Event.Open rd o c n = by_memory (is_no_memory o)
+  where
+    by_memory : (b : Bool) → Stays k.world (run (cond b [] (Opens ∷ [])) k.world) c
+    by_memory true = refl
+    by_memory false = move_stays k.world Opens c (unlike _ c n)
+standing_stays k (Event.Piece d octets) rd o c n = refl
+standing_stays k (Event.Next d) rd o c n = next_stays k d rd o c (unlike d c n)
+standing_stays k (Event.Propose d t) rd o c n = move_stays k.world (Proposes d t (not (is_out_of_memory o))) c tt
+standing_stays k (Event.Decide d) rd o c n = by_cut (is_cut o)
+  where
+    by_cut : (b : Bool) → Stays k.world (run (Decides d ∷ cond b (Lost d ∷ []) []) k.world) c
+    by_cut true = move_stays (world_after k.world (Decides d)) (Lost d) c (unlike d c n) ∙ move_stays k.world (Decides d) c tt
+    by_cut false = move_stays k.world (Decides d) c tt
+standing_stays k (Event.Withdraw d) rd o c n = move_stays k.world (Withdraws d) c (unlike d c n)
+standing_stays k (Event.Cancel d t) rd o c n = move_stays k.world (Cancels d t) c tt
+standing_stays k (Event.Learn t id) rd o c n = move_stays k.world (Learns t id) c tt
+standing_stays k (Event.Release t) rd o c n = move_stays k.world (Releases t) c tt
+standing_stays k (Event.Turn t) rd o c n = move_stays k.world (Turns t) c tt
+standing_stays k (Event.Take s) rd o c n = by_memory (is_no_memory o)
+  where
+    by_memory : (b : Bool) → Stays k.world (run (cond b [] (Takes s ∷ [])) k.world) c
+    by_memory true = refl
+    by_memory false = move_stays k.world (Takes s) c (unlike _ c n)
+standing_stays k (Event.Leave d) rd o c n = move_stays k.world (Leaves d) c (unlike d c n)
+standing_stays k (Event.Lost d) rd o c n = move_stays k.world (Lost d) c (unlike d c n)
+
+-- ---- what is read and written
+
+-- another connection's octets and frames change nothing of this reader
+reader_stays : (w : World) (c : ℕ) (u : Unread) (e : Event) (rd : Reading) (o : Outcome) → event_connection w e ≢ Some c → unread_after c u e rd o ≡ u
+reader_stays w c u (Event.Piece d octets) rd o n = ap (λ (b : Bool). cond (b && is_fed o) (with_piece u octets) u) (differ d c (unlike d c n))
+reader_stays w c u (Event.Next d) rd o n = ap (λ (b : Bool). cond b (left_by u rd) u) (differ d c (unlike d c n))
+reader_stays w c u _ rd o n = refl
+
+-- no frame of it is asked for
+unasked : (w : World) (c : ℕ) (e : Event) → event_connection w e ≢ Some c → is_next c e ≡ false
+unasked w c (Event.Next d) n = differ d c (unlike d c n)
+unasked w c _ n = refl
+
+-- a reply that is only this connection's where its number is
+off : (b q : Bool) (fs : List RawFrame) → b ≡ false → cond (b && q) fs [] ≡ []
+off b q fs e = ap (λ (z : Bool). cond (z && q) fs []) e
+
+alone : (b : Bool) (fs : List RawFrame) → b ≡ false → cond b fs [] ≡ []
+alone b fs e = ap (λ (z : Bool). cond z fs []) e
+
+-- nothing is replied to it
+unreplied : (w : World) (c : ℕ) (older : List CoreStep) (account : List Answer) (e : Event) (rd : Reading) (o : Outcome)
+    → ((s : ℕ) → (beginning_of s account).connection ≡ (subscription_at w s).connection) → event_connection w e ≢ Some c
+    → replies_to c older account e rd o ≡ []
+unreplied w c older account (Event.Next d) rd o own n = alone (d == c) (next_replies (frame_in rd) o) (differ d c (unlike d c n))
+unreplied w c older account (Event.Take s) rd o own n =
+    alone ((beginning_of s account).connection == c) (take_replies s older account o) (differ _ c (λ e. unlike _ c n (sym (own s) ∙ e)))
+unreplied w c older account (Event.Decide d) rd (Outcome.Decided stamp cut) own n = off (d == c) _ _ (differ d c (unlike d c n))
+unreplied w c older account (Event.Decide d) rd o own n = refl
+unreplied w c older account (Event.Withdraw d) rd (Outcome.Withdrawn cut) own n = off (d == c) _ _ (differ d c (unlike d c n))
+unreplied w c older account (Event.Withdraw d) rd o own n = refl
+unreplied w c older account (Event.Leave d) rd (Outcome.Gone cut) own n = alone (d == c) _ (differ d c (unlike d c n))
+unreplied w c older account (Event.Leave d) rd o own n = refl
+unreplied w c older account e rd o own n = refl
+
+-- ---- the laws
+
+-- a step changes no connection but its event's own
+pub other_connections_stay : OtherConnectionsStay
+other_connections_stay topics capacity step older run c n =
+    let k = core_of topics capacity older in
+    let w = k.world in
+    let named : k.names ≡ topics.names = ap (λ (z : Core). z.names) (core_is topics capacity older) in
+    let there : k.steps ≡ older = ap (λ (z : Core). z.steps) (core_is topics capacity older) in
+    let own : (s : ℕ) → (beginning_of s (account_of k.names k.steps)).connection ≡ (subscription_at w s).connection =
+    λ s. ap (λ (z : List Answer). (beginning_of s z).connection) (λ i. account_of (named i) (there i)) ∙ owned topics capacity older run.1 s in record {
+      standing = standing_stays k step.event step.reading step.outcome c n;
+      unread = reader_stays w c (unread_at c k.steps) step.event step.reading step.outcome n;
+      accepted = ap (λ (fs : List RawFrame). accepted_of c k.steps ++ fs)
+          (ap (λ (b : Bool). cond (has_effect step.outcome) (cond b (option_to_list (frame_in step.reading)) []) []) (unasked w c step.event n) ∙ if_same (has_effect step.outcome) [])
+          ∙ append-nil (accepted_of c k.steps);
+      text = ap (λ (fs : List RawFrame). text_out k.names c k.steps ++ cond (is_cut step.outcome) [] (flat_map spelling_of fs))
+          (unreplied w c k.steps (account_of k.names k.steps) step.event step.reading step.outcome own n)
+          ∙ (ap (λ (octets : List ℕ). text_out k.names c k.steps ++ octets) (if_same (is_cut step.outcome) []) ∙ append-nil (text_out k.names c k.steps));
+    }
+
+-- what is open in a session is live
+pub open_are_live : OpenAreLive
+open_are_live topics capacity steps many run c reading =
+    session_subs (core_of topics capacity steps) c
+    (record { topics = topics; capacity = capacity; steps = steps; as_many = many; is = refl; run = run }) reading
+
+-- an accepted UNSUBSCRIBE names one that is live
+pub unsubscribes_find : UnsubscribesFind
+unsubscribes_find topics capacity steps many run c f command idle none =
+    let k = core_of topics capacity steps in
+    let reached : IsReached k = record { topics = topics; capacity = capacity; steps = steps; as_many = many; is = refl; run = run } in
+    let live = names_live k c f reached (idle_reads k.world c idle) command none in
+    unsubscribe_free k.world c (number_by c (id_of f) k.steps) idle live.there live.live

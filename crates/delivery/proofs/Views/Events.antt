@@ -1,0 +1,22 @@
+-- A file for each event, and what several events share.
+pub mod BeginStep
+pub mod CancelStep
+pub mod DecideStep
+pub mod LearnStep
+pub mod LeaveStep
+pub mod LostStep
+pub mod OpenStep
+pub mod PieceStep
+pub mod ProposeStep
+pub mod ReleaseStep
+pub mod TakeStep
+pub mod TurnStep
+pub mod WithdrawStep
+pub mod NextStep
+pub mod NextFaults
+pub mod NextFrames
+pub mod NextSubs
+pub mod NextTxns
+pub mod OneMove
+pub mod ConnectionIsThere
+pub mod ReadingChecks

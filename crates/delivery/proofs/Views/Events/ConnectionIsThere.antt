@@ -1,0 +1,149 @@
+-- Events of a connection that isn't gone: the checks that they begin with, a refused one, and one that replies.
+use Rattle.std.proofs.Common.{◌≡◌, ℕ, ◌<◌, Bool, true, false, cond, not, nat_lt, List, [], ◌∷◌, ◌++◌, length, get_or, Option, Some, None, inl, inr, refl, sym, ap, subst, ◌∙◌}
+use Rattle.std.specs.Prelude.{slice_get}
+use Rattle.std.proofs.lemmas.Bool.{ltb-true, ltb-false}
+use Rattle.std.proofs.lemmas.Option.{slice_get-get_or, slice_get_past}
+use Rattle.std.specs.Option.{option_map, option_and_then, option_to_list}
+use Rattle.mcast_txn.specs.Lists.{In}
+use Rattle.mcast_txn.specs.Checks.{first_refusal}
+use Rattle.stomp_frame.specs.declared.raw_frame.RawFrame.{RawFrame}
+use Rattle.stomp_frame.specs.Reader.{Unread}
+use Rattle.mcast_group.proofs.Parts.{none_some, some_same}
+use Rattle.delivery.specs.declared.event.Event.{Event}
+use Rattle.delivery.specs.declared.outcome.Outcome.{Outcome}
+use Rattle.delivery.specs.declared.refusal.Refusal.{Refusal}
+use Rattle.delivery.specs.Machine.Objections.{Objection, refusal_of}
+use Rattle.delivery.specs.Machine.World.{World, Undecided, Standing, connection_at, speaker, is_gone}
+use Rattle.delivery.specs.Machine.Moves.{Move, Answer, move_refusal, answer_to, needs_connection}
+use Rattle.delivery.specs.Machine.Runs.{run}
+use Rattle.delivery.specs.Core.Account.{account_of}
+use Rattle.delivery.specs.Core.Output.{replies_to}
+use Rattle.delivery.specs.Core.Steps.{Reading, accepted_of}
+use Rattle.delivery.specs.Core.State.{Core, moves, unread_at}
+use Rattle.delivery.specs.Core.Outcomes.{outcomes, outcome_of, move_outcome, reply_outcomes, cut_of, is_any, IsReadAt}
+use Rattle.delivery.specs.Inner.Senders.{gone_objection, there_objection}
+use Rattle.delivery.specs.declared.stage.Stage.{Stage}
+use Rattle.delivery.specs.Inner.Stands.{Makes, step_of, stage_objection}
+use Rattle.delivery.specs.Inner.View.{EndpointView, view_of, view_after, stage_view}
+use Rattle.delivery.proofs.Views.Endpoints.EndpointsStay.{quiet_view, refused_is_quiet}
+use Rattle.delivery.proofs.Views.Events.OneMove.{bool_cases, endpoint_is, endpoint_read, no_endpoint, refused_answer, same_world}
+
+-- ---- the checks
+
+gone_is : (names : List (List ℕ)) (standing : Standing) (flight : Option Undecided) (accepted : List RawFrame) (unread : Unread)
+    → gone_objection (stage_view names standing flight accepted unread) ≡ first_refusal ((is_gone standing, Objection.Gone) ∷ [])
+gone_is names Standing.Open flight accepted unread = refl
+gone_is names Standing.Leaving flight accepted unread = refl
+gone_is names Standing.Gone flight accepted unread = refl
+
+-- what stands against the endpoint stands against its connection
+pub there_checked : (k : Core) (c : ℕ) → there_objection (slice_get (view_of k).endpoints c) ≡ first_refusal (needs_connection k.world c)
+there_checked k c =
+    let x = connection_at k.world c in
+    let checks = λ (b : Bool). first_refusal ((not b, Objection.NoConn) ∷ (is_gone x.standing, Objection.Gone) ∷ []) in
+    elim (bool_cases (nat_lt c (length k.world.connections))) [
+      | inl t ↦
+          ap there_objection (endpoint_is k c (ltb-true c (length k.world.connections) t))
+          ∙ (gone_is k.names x.standing (speaker k.world c).flight (accepted_of c k.steps) (unread_at c k.steps)
+          ∙ ap checks (sym t))
+      | inr f ↦ ap there_objection (no_endpoint k c (ltb-false c (length k.world.connections) f)) ∙ ap checks (sym f)
+    ]
+
+-- where nothing stands against it, it is there
+pub is_there : (k : Core) (c : ℕ) → there_objection (slice_get (view_of k).endpoints c) ≡ None → c < length k.world.connections
+is_there k c free =
+    elim (bool_cases (nat_lt c (length k.world.connections))) [
+      | inl t ↦ ltb-true c (length k.world.connections) t
+      | inr f ↦ none_some Objection.NoConn (sym (sym (ap there_objection (no_endpoint k c (ltb-false c (length k.world.connections) f))) ∙ free))
+    ]
+
+-- nothing stands against reading a connection that is there and isn't leaving
+pub reads_open : (s : Stage) → gone_objection s ≡ None → ((parting : Option (List ℕ)) → s ≡ Stage.Leaving parting → Prim.⊥) → stage_objection s ≡ None
+reads_open (Stage.Open x) free other = refl
+reads_open (Stage.Leaving parting) free other = absurd (other parting refl)
+reads_open Stage.Gone free other = none_some Objection.Gone (sym free)
+
+-- the first of some checks that fails comes before those after them
+pub refusal_first : {F : Type 0} (cs ds : List (Bool × F)) (o : F) → first_refusal cs ≡ Some o → first_refusal (cs ++ ds) ≡ Some o
+refusal_first [] ds o e = none_some o e
+refusal_first {F = F} (c ∷ cs) ds o e = go c.0 (refusal_first cs ds o) e
+  where
+    go : (b : Bool) → (first_refusal cs ≡ Some o → first_refusal (cs ++ ds) ≡ Some o)
+        → cond b (Some c.1) (first_refusal cs) ≡ Some o → cond b (Some c.1) (first_refusal (cs ++ ds)) ≡ Some o
+    go true later e = e
+    go false later e = later e
+
+-- where they pass, those after them stand
+pub refusal_after : {F : Type 0} (cs ds : List (Bool × F)) → first_refusal cs ≡ None → first_refusal (cs ++ ds) ≡ first_refusal ds
+refusal_after [] ds e = refl
+refusal_after {F = F} (c ∷ cs) ds e = go c.0 (refusal_after cs ds) e
+  where
+    go : (b : Bool) → (first_refusal cs ≡ None → first_refusal (cs ++ ds) ≡ first_refusal ds)
+        → cond b (Some c.1) (first_refusal cs) ≡ None → cond b (Some c.1) (first_refusal (cs ++ ds)) ≡ first_refusal ds
+    go true later e = none_some c.1 (sym e)
+    go false later e = later e
+
+-- what is reported stands against it
+pub reported : (o : Option Objection) (why : Refusal) → Some why ≡ option_and_then refusal_of o
+    → (w : Objection) × (o ≡ Some w) × (refusal_of w ≡ Some why)
+reported None why e = none_some why (sym e)
+reported (Some w) why e = (w, refl, sym e)
+
+-- ---- a refused event
+
+-- it changes nothing that is held
+pub refused_step : (k : Core) (e : Event) (why : Refusal) (move : Move) (objection : Objection)
+    → moves k e Reading.Nothing (Outcome.Refused why) ≡ move ∷ [] → move_refusal k.world move ≡ Some objection
+    → In (Outcome.Refused why) (outcomes k e Reading.Nothing) → IsReadAt k e Reading.Nothing
+    → Makes k e (Outcome.Refused why) (view_of k)
+refused_step k e why move objection are refused may read =
+    let step = step_of e Reading.Nothing (Outcome.Refused why) in
+    let world : run (moves k e Reading.Nothing (Outcome.Refused why)) k.world ≡ k.world =
+    ap (λ (ms : List Move). run ms k.world) are ∙ same_world k.world move objection refused in
+    record {
+      reading = Reading.Nothing;
+      may = record { reading = read; outcome = may };
+      view = sym (ap (λ (w : World). view_after k.names w (step ∷ k.steps)) world
+          ∙ quiet_view k.names step k.steps k.world (refused_is_quiet k.names e why k.steps));
+    }
+
+-- the outcome of a refused move is that alone
+pub refused_outcome : (k : Core) (move : Move) (objection : Objection) (why : Refusal)
+    → move_refusal k.world move ≡ Some objection → refusal_of objection ≡ Some why → move_outcome k move ≡ Outcome.Refused why ∷ []
+refused_outcome k move objection why refused is =
+    ap (λ (a : Answer). option_to_list (outcome_of a)) (refused_answer k.world move objection refused)
+    ∙ ap (λ (r : Option Refusal). option_to_list (option_map Outcome.Refused r)) is
+
+-- the outcome of another is that of its answer alone
+pub answered_outcome : (k : Core) (move : Move) (a : Answer) (o : Outcome) → answer_to k.world move ≡ a → outcome_of a ≡ Some o → move_outcome k move ≡ o ∷ []
+answered_outcome k move a o answered is =
+    ap (λ (b : Answer). option_to_list (outcome_of b)) answered ∙ ap (λ (p : Option Outcome). option_to_list p) is
+
+-- ---- one that replies
+
+-- its outcome may come of it
+pub replied_in : (k : Core) (c : ℕ) (e : Event) (move : Move) (o : Outcome) → move_outcome k move ≡ o ∷ []
+    → In o (reply_outcomes k c e (move_outcome k move))
+replied_in k c e move o is = subst (λ (os : List Outcome). In o (reply_outcomes k c e os)) (sym is) (inl refl)
+
+-- so may it with its reply left out, where there is one
+pub cut_in : (k : Core) (c : ℕ) (e : Event) (move : Move) (o : Outcome) → move_outcome k move ≡ o ∷ []
+    → is_any (replies_to c k.steps (account_of k.names k.steps) e Reading.Nothing o) ≡ true
+    → In (cut_of o) (reply_outcomes k c e (move_outcome k move))
+cut_in k c e move o is any =
+    subst (λ (os : List Outcome). In (cut_of o) (reply_outcomes k c e os)) (sym is)
+    (inr (subst (λ (b : Bool). In (cut_of o) (cond b (cut_of o ∷ []) [])) (sym any) (inl refl)))
+
+-- ---- endpoints of a list
+
+-- where nothing stands against an endpoint, it is there
+pub endpoint_there : (endpoints : List EndpointView) (c : ℕ) → there_objection (slice_get endpoints c) ≡ None → c < length endpoints
+endpoint_there endpoints c free =
+    elim (bool_cases (nat_lt c (length endpoints))) [
+      | inl t ↦ ltb-true c (length endpoints) t
+      | inr f ↦ none_some Objection.NoConn (sym (sym (ap there_objection (slice_get_past endpoints c (ltb-false c (length endpoints) f))) ∙ free))
+    ]
+
+-- the endpoint that was read, whatever stands for one that isn't there
+pub endpoint_found : (endpoints : List EndpointView) (c : ℕ) (endpoint d : EndpointView) → c < length endpoints → endpoint ≡ get_or endpoints c endpoint → endpoint ≡ get_or endpoints c d
+endpoint_found endpoints c endpoint d there is = some_same endpoint (get_or endpoints c d) (sym (endpoint_read endpoints c endpoint there is) ∙ slice_get-get_or endpoints c d there)

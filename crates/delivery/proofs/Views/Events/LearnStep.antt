@@ -1,0 +1,145 @@
+-- A topic learns the verdict of a transaction.
+use Rattle.std.proofs.Common.{◌≡◌, ◌<◌, ◌≤◌, ◌⊎◌, inl, inr, Bool, true, false, not, List, [], ◌∷◌, map, length, get_or, set, Option, Some, None, Result, Ok, Err, refl, sym, ap, subst, ◌∙◌}
+use Rattle.std.specs.Option.{option_or}
+use Rattle.std.proofs.lemmas.Bool.{lt-ltb, le-ltb}
+use Rattle.std.proofs.lemmas.List.{map-set, set-get_or}
+use Rattle.mcast_txn.specs.declared.id.Topic.{Topic}
+use Rattle.mcast_txn.specs.declared.id.TxnId.{TxnId}
+use Rattle.mcast_txn.specs.Ballot.{Decision}
+use Rattle.mcast_txn.specs.Checks.{first_refusal}
+use Rattle.mcast_group.specs.declared.fault.LearnFault.{LearnFault}
+use Rattle.mcast_group.specs.Group.{GroupState, result_of}
+use Rattle.mcast_group.specs.Machine.{learn_fault, after_try, after_learn, decided_stamp}
+use Rattle.delivery.specs.declared.event.Event.{Event}
+use Rattle.delivery.specs.declared.outcome.Outcome.{Outcome}
+use Rattle.delivery.specs.declared.refusal.Refusal.{Refusal}
+use Rattle.delivery.specs.Machine.Objections.{Objection}
+use Rattle.delivery.specs.Machine.World.{World, topic_at, with_topic}
+use Rattle.delivery.specs.Machine.Moves.{Move, Answer, is_topic, find_verdict, verdict_in, learn_objection, learn_objection_of, learn_effect, move_refusal}
+use Rattle.delivery.specs.Core.Steps.{Reading}
+use Rattle.delivery.specs.Core.State.{Core}
+use Rattle.delivery.specs.Inner.Stands.{IsReached, Makes, step_of}
+use Rattle.delivery.specs.Inner.TopicSteps.{verdict_held, learn_result, group_after_try, after_learn_at}
+use Rattle.delivery.specs.Inner.View.{view_of, view_after, group_view, no_group}
+use Rattle.delivery.proofs.Theorem.StepLaws.{found_is_learnt}
+use Rattle.delivery.proofs.Views.Runs.ByRunOfCore.{by_world}
+use Rattle.delivery.proofs.Views.Endpoints.EndpointsStay.{quiet_view, learn_is_quiet}
+use Rattle.delivery.proofs.Views.Events.ReleaseStep.{group_at}
+use Rattle.delivery.proofs.Views.Events.OneMove.{made_world, made_answer, in_outcome, refused_makes}
+use Rattle.delivery.proofs.Views.Verdicts.FoundVerdict.{verdict_is}
+
+-- what stands against it, where the topic is there or not and this was found
+learn_refusal : (w : World) (t : Topic) (id : TxnId) (b : Bool) (found : Option Decision) → is_topic w t ≡ b → find_verdict id w.verdicts ≡ found
+    → move_refusal w (Move.Learns t id) ≡ option_or (first_refusal ((not b, Objection.NotNamed) ∷ [])) (learn_objection w t id found)
+learn_refusal w t id b found there is =
+    λ i. option_or (first_refusal ((not (there i), Objection.NotNamed) ∷ [])) (learn_objection w t id (is i))
+
+-- there is no such topic
+pub learn_unnamed : (k : Core) (t : Topic) (id : TxnId) → length k.world.topics ≤ t.0
+    → Makes k (Event.Learn t id) (Outcome.Refused Refusal.NotNamed) (view_of k)
+learn_unnamed k t id none =
+    refused_makes k (Event.Learn t id) Refusal.NotNamed (Move.Learns t id) Objection.NotNamed refl refl
+    (learn_refusal k.world t id false (find_verdict id k.world.verdicts) (le-ltb t.0 (length k.world.topics) none) refl) refl refl
+
+-- what is reported of a group's answer; Foreign and Clash never come
+abbrev pub learn_outcome : Option (Result Unit LearnFault) → Outcome
+learn_outcome None = Outcome.Refused Refusal.NotDecided
+learn_outcome (Some (Ok done)) = Outcome.Learnt
+learn_outcome (Some (Err fault)) = Outcome.Refused Refusal.NotPending
+
+-- where nothing is learnt all stays
+stays : (k : Core) (t : Topic) (id : TxnId) (found : Option Decision) → t.0 < length k.world.topics → verdict_held (view_of k) id ≡ found
+    → after_try id found (topic_at k.world t) ≡ topic_at k.world t → after_learn_at (view_of k) t.0 id no_group ≡ view_of k
+stays k t id found there is same =
+    let gs = (view_of k).groups in
+    let at = group_at k t no_group there in
+    let group : group_after_try id (verdict_held (view_of k) id) (get_or gs t.0 no_group) ≡ get_or gs t.0 no_group =
+    ap (λ (o : Option Decision). group_after_try id o (get_or gs t.0 no_group)) is
+    ∙ (ap (λ (g : GroupState). group_after_try id found g) at
+    ∙ (ap (λ (x : Rattle.mcast_group.specs.Machine.TopicState). record (group_view k.world (topic_at k.world t)) { topic = x }) same
+    ∙ sym at)) in
+    ap (λ (g : GroupState). record (view_of k) { groups = set gs t.0 g }) group
+    ∙ ap (λ (hs : List GroupState). record (view_of k) { groups = hs }) (set-get_or gs t.0 no_group)
+
+undecided : (k : Core) (t : Topic) (id : TxnId) → t.0 < length k.world.topics → find_verdict id k.world.verdicts ≡ None
+    → Makes k (Event.Learn t id) (Outcome.Refused Refusal.NotDecided) (view_of k)
+undecided k t id there none =
+    refused_makes k (Event.Learn t id) Refusal.NotDecided (Move.Learns t id) Objection.NotDecided refl refl
+    (learn_refusal k.world t id true None (lt-ltb t.0 (length k.world.topics) there) none) refl refl
+
+-- what stands against a verdict that was found
+fault_refusal : (w : World) (t : Topic) (id : TxnId) (v : Decision) (o : Option LearnFault) → t.0 < length w.topics
+    → find_verdict id w.verdicts ≡ Some v → learn_fault id v (topic_at w t) ≡ o
+    → move_refusal w (Move.Learns t id) ≡ Rattle.std.specs.Option.option_map learn_objection_of o
+fault_refusal w t id v o there found is =
+    learn_refusal w t id true (Some v) (lt-ltb t.0 (length w.topics) there) found
+    ∙ ap (λ (f : Option LearnFault). Rattle.std.specs.Option.option_map learn_objection_of f) is
+
+not_pending : (k : Core) (t : Topic) (id : TxnId) (v : Decision) → t.0 < length k.world.topics → find_verdict id k.world.verdicts ≡ Some v
+    → learn_fault id v (topic_at k.world t) ≡ Some LearnFault.NotPending
+    → Makes k (Event.Learn t id) (Outcome.Refused Refusal.NotPending) (view_of k)
+not_pending k t id v there found fault =
+    refused_makes k (Event.Learn t id) Refusal.NotPending (Move.Learns t id) Objection.NotPending refl refl
+    (fault_refusal k.world t id v (Some LearnFault.NotPending) there found fault) refl refl
+
+learnt : (k : Core) (t : Topic) (id : TxnId) (v : Decision) → t.0 < length k.world.topics → find_verdict id k.world.verdicts ≡ Some v
+    → verdict_held (view_of k) id ≡ Some v → learn_fault id v (topic_at k.world t) ≡ None
+    → Makes k (Event.Learn t id) Outcome.Learnt (after_learn_at (view_of k) t.0 id no_group)
+learnt k t id v there found held fault =
+    let w = k.world in
+    let x = topic_at w t in
+    let y = after_learn id (decided_stamp v) x in
+    let step = step_of (Event.Learn t id) Reading.Nothing Outcome.Learnt in
+    let free = fault_refusal w t id v None there found fault in
+    let tried : after_try id (Some v) x ≡ y =
+    ap (λ (o : Option LearnFault). elim o [ None ↦ y | Some f ↦ x ]) fault in
+    let groups : set (view_of k).groups t.0 (group_after_try id (verdict_held (view_of k) id) (get_or (view_of k).groups t.0 no_group))
+    ≡ map (group_view w) (set w.topics t.0 y) =
+    ap (λ (o : Option Decision). set (view_of k).groups t.0 (group_after_try id o (get_or (view_of k).groups t.0 no_group))) held
+    ∙ (ap (λ (g : GroupState). set (view_of k).groups t.0 (group_after_try id (Some v) g)) (group_at k t no_group there)
+    ∙ (ap (λ (z : Rattle.mcast_group.specs.Machine.TopicState). set (view_of k).groups t.0 (record (group_view w x) { topic = z })) tried
+    ∙ sym (map-set (group_view w) w.topics t.0 y))) in
+    let effect : learn_effect w t id (find_verdict id w.verdicts) ≡ with_topic w t y = ap (learn_effect w t id) found in
+    record {
+      reading = Reading.Nothing;
+      may = record {
+        reading = refl;
+        outcome = in_outcome k (Move.Learns t id) Outcome.Learnt (Answer.Learnt id t) (made_answer w (Move.Learns t id) free) refl;
+      };
+      view = ap (λ (gs : List GroupState). record (view_of k) { groups = gs }) groups
+          ∙ (sym (quiet_view k.names step k.steps (with_topic w t y) (learn_is_quiet k.names t id k.steps))
+          ∙ ap (λ (v : World). view_after k.names v (step ∷ k.steps)) (sym (made_world w (Move.Learns t id) free ∙ effect)));
+    }
+
+-- this outcome may come of it
+abbrev IsMade : Core → Topic → TxnId → Outcome → Type 0
+IsMade k t id o = Makes k (Event.Learn t id) o (after_learn_at (view_of k) t.0 id no_group)
+
+-- what a group of a topic that is there answers is reported so
+pub learn_makes : (k : Core) (t : Topic) (id : TxnId) (r : Option (Result Unit LearnFault)) → IsReached k → t.0 < length k.world.topics
+    → r ≡ learn_result id (verdict_held (view_of k) id) (get_or (view_of k).groups t.0 no_group)
+    → Makes k (Event.Learn t id) (learn_outcome r) (after_learn_at (view_of k) t.0 id no_group)
+learn_makes k t id r reached there is =
+    subst (λ o. IsMade k t id (learn_outcome o)) (sym (is ∙ (ap (λ (g : GroupState). learn_result id (verdict_held (view_of k) id) g) (group_at k t no_group there) ∙ ap (λ (o : Option Decision). learn_result id o (group_view k.world x)) held)))
+    (by_found (find_verdict id k.world.verdicts) refl)
+  where
+    x : Rattle.mcast_group.specs.Machine.TopicState
+    x = topic_at k.world t
+
+    held : verdict_held (view_of k) id ≡ find_verdict id k.world.verdicts
+    held = verdict_is k id reached
+
+    by_found : (found : Option Decision) → find_verdict id k.world.verdicts ≡ found → IsMade k t id (learn_outcome (learn_result id (find_verdict id k.world.verdicts) (group_view k.world x)))
+    by_found None e =
+        subst (λ o. IsMade k t id (learn_outcome (learn_result id o (group_view k.world x)))) (sym e)
+        (subst (λ v. Makes k (Event.Learn t id) (Outcome.Refused Refusal.NotDecided) v) (sym (stays k t id None there (held ∙ e) refl)) (undecided k t id there e))
+    by_found (Some v) e =
+        subst (λ o. IsMade k t id (learn_outcome (learn_result id o (group_view k.world x)))) (sym e)
+        (elim (by_world (λ w. verdict_in w id ≡ Some v → (learn_fault id v (topic_at w t) ≡ None) ⊎ (learn_fault id v (topic_at w t) ≡ Some LearnFault.NotPending)) k reached (λ r. found_is_learnt r t id v) e) [
+          | inl none ↦ subst (λ (f : Option LearnFault). IsMade k t id (learn_outcome (Some (result_of f)))) (sym none) (learnt k t id v there e (held ∙ e) none)
+          | inr fault ↦
+              subst (λ (f : Option LearnFault). IsMade k t id (learn_outcome (Some (result_of f)))) (sym fault)
+              (subst (λ z. Makes k (Event.Learn t id) (Outcome.Refused Refusal.NotPending) z)
+              (sym (stays k t id (Some v) there (held ∙ e) (ap (λ (o : Option LearnFault). elim o [ None ↦ after_learn id (decided_stamp v) x | Some f ↦ x ]) fault)))
+              (not_pending k t id v there e fault))
+        ])

@@ -1,0 +1,173 @@
+-- A Next whose frame is a SUBSCRIBE or an UNSUBSCRIBE.
+use Rattle.std.proofs.Common.{◌≡◌, ℕ, ◌<◌, true, List, [], ◌∷◌, length, get_or, Option, Some, None, refl, sym, ap, subst, ◌∙◌, arith}
+use Rattle.std.specs.Prelude.{codes}
+use Rattle.std.specs.Option.{option_map, option_map_or}
+use Rattle.std.proofs.lemmas.List.{length-map}
+use Rattle.mcast_txn.specs.declared.draft.sent_message.SentMessage.{SentMessage}
+use Rattle.mcast_txn.specs.declared.id.Topic.{Topic}
+use Rattle.mcast_txn.specs.declared.stamp.Stamp.{Stamp}
+use Rattle.mcast_group.proofs.Parts.{some_same}
+use Rattle.stomp_frame.specs.declared.command.Command.{Command}
+use Rattle.stomp_frame.specs.declared.command.Command.TheVariants as commands
+use Rattle.stomp_frame.specs.declared.raw_frame.RawFrame.{RawFrame}
+use Rattle.stomp_frame.specs.Headers.{first_of}
+use Rattle.stomp_frame.specs.Reader.{Unread}
+use Rattle.stomp_session.specs.declared.action.Action.TheVariants as actions
+use Rattle.stomp_session.specs.Answers.{action_by, commit}
+use Rattle.stomp_session.specs.Frames.{id_of, send_of, transaction_of}
+use Rattle.stomp_session.specs.Open.{Held}
+use Rattle.stomp_session.specs.Refusals.{sends_in}
+use Rattle.delivery.specs.declared.event.Event.{Event}
+use Rattle.delivery.specs.declared.outcome.Outcome.{Outcome}
+use Rattle.delivery.specs.Machine.World.{subscription_at, topic_at}
+use Rattle.delivery.specs.Machine.Moves.{Move, end_now, is_live}
+use Rattle.delivery.specs.Core.Steps.{Reading, accepted_of, number_by}
+use Rattle.delivery.specs.Core.Output.{sub_id_text, text_out}
+use Rattle.delivery.specs.Core.State.{Core, session_at, unread_at}
+use Rattle.delivery.specs.Inner.Nexts.{Asks, receipt_text}
+use Rattle.delivery.specs.Inner.Stands.{Makes}
+use Rattle.delivery.specs.Inner.Subscriptions.{closed_view, left_at, number_in, subscribed_view}
+use Rattle.delivery.specs.Inner.View.{View, EndpointView, LeftView, group_view, written_endpoint, group_in}
+use Rattle.delivery.proofs.Views.Subscriptions.ClosedIsDropped.{closed_is, closed_end}
+use Rattle.delivery.proofs.Views.Endpoints.EndpointChanges.{with_endpoint}
+use Rattle.delivery.proofs.Views.Events.NextFrames.{move_makes, receipt_is, replied_view}
+use Rattle.delivery.proofs.Views.Events.NextStep.{held_still, idle_reads, idle_there, next_of}
+use Rattle.delivery.proofs.Views.Subscriptions.OpenIsLive.{names_live, subscribe_free, unsubscribe_free}
+use Rattle.delivery.proofs.Views.Subscriptions.NewSubscription.{begun_as, new_id, old_ids, subscribed_is}
+
+-- ---- which frames these are
+
+begins_sent : {A : Type 0} (s : Held) (f : RawFrame) (o : Option (List ℕ)) (id : List ℕ) (t : Topic) → option_map_or (λ transaction. actions.Nothing) o (commit (send_of s.names f ∷ [])) ≡ actions.Subscribe id t → A
+begins_sent s f None id t e = absurd (cc)
+begins_sent s f (Some x) id t e = absurd (cc)
+
+begins_committed : {A : Type 0} (sends : List SentMessage) (id : List ℕ) (t : Topic) → commit sends ≡ actions.Subscribe id t → A
+begins_committed [] id t e = absurd (cc)
+begins_committed (send ∷ sends) id t e = absurd (cc)
+
+-- a SUBSCRIBE asks for a subscription of its id
+begins : (command : Command) (s : Held) (f : RawFrame) (id : List ℕ) (t : Topic) → action_by command s f ≡ actions.Subscribe id t → id_of f ≡ id
+begins commands.Subscribe s f id t e = cc
+begins commands.Send s f id t e = begins_sent s f (first_of (codes "transaction") f.headers) id t e
+begins commands.Commit s f id t e = begins_committed (sends_in (transaction_of f) s.transactions) id t e
+begins _ s f id t e = absurd (cc)
+
+ends_sent : {A : Type 0} (s : Held) (f : RawFrame) (o : Option (List ℕ)) (id : List ℕ) → option_map_or (λ transaction. actions.Nothing) o (commit (send_of s.names f ∷ [])) ≡ actions.Unsubscribe id → A
+ends_sent s f None id e = absurd (cc)
+ends_sent s f (Some x) id e = absurd (cc)
+
+ends_committed : {A : Type 0} (sends : List SentMessage) (id : List ℕ) → commit sends ≡ actions.Unsubscribe id → A
+ends_committed [] id e = absurd (cc)
+ends_committed (send ∷ sends) id e = absurd (cc)
+
+-- an UNSUBSCRIBE asks for the end of the subscription of its id
+ends : (command : Command) (s : Held) (f : RawFrame) (id : List ℕ) → action_by command s f ≡ actions.Unsubscribe id → (command ≡ commands.Unsubscribe) × (id_of f ≡ id)
+ends commands.Unsubscribe s f id e = (refl, cc)
+ends commands.Send s f id e = ends_sent s f (first_of (codes "transaction") f.headers) id e
+ends commands.Commit s f id e = ends_committed (sends_in (transaction_of f) s.transactions) id e
+ends _ s f id e = absurd (cc)
+
+-- ---- SUBSCRIBE
+
+-- its RECEIPT is written, and the subscription begins
+pub next_subscribes : (k : Core) (c : ℕ) (f : RawFrame) (left : Unread) (id : List ℕ) (t : Topic) (receipt : Option (List ℕ)) (held mid new : View) (s : ℕ) (from : Stamp) (d : EndpointView)
+    → Asks k c f left (actions.Subscribe id t) receipt held
+    → mid ≡ with_endpoint held c (written_endpoint (receipt_text receipt) (get_or held.endpoints c d))
+    → t.0 < length mid.groups
+    → s ≡ length mid.subs → from ≡ (group_in mid t).topic.frontier
+    → new ≡ subscribed_view c id t mid
+    → Makes k (Event.Next c) (Outcome.Subscribed s from) new
+next_subscribes k c f left id t receipt held mid new s from d asks written topic number begins_at is =
+    let w = k.world in
+    let n = length w.subscriptions in
+    let y = (topic_at w t).frontier in
+    let o = Outcome.Subscribed n y in
+    let reading = Reading.Finds f left in
+    let steps = next_of c reading o ∷ k.steps in
+    let there = idle_there w c asks.idle in
+    let still : mid ≡ held_still k w c reading o =
+    replied_view k c f left (actions.Subscribe id t) receipt held mid o (receipt_text receipt) d asks refl
+    (receipt_is k c f left (actions.Subscribe id t) receipt held asks) written in
+    let groups : length mid.groups ≡ length w.topics = ap (λ (v : View). length v.groups) still ∙ length-map w.topics (group_view w) in
+    let named : t.0 < length w.topics = omega (arith, topic, groups) in
+    let begun = begun_as k.names w t (λ m. accepted_of m steps) (λ m. unread_at m steps) (λ m. text_out k.names m steps) (λ m. sub_id_text m k.steps) named in
+    let same : n ≡ s = sym (number ∙ (ap (λ (v : View). length v.subs) still ∙ begun.0)) in
+    let at : y ≡ from = sym (begins_at ∙ (ap (λ (v : View). (group_in v t).topic.frontier) still ∙ begun.1)) in
+    let own = new_id c f left n y k.steps ∙ begins f.command (session_at k c) f id t asks.does in
+    let view = subscribed_is k.names w c id t (λ m. accepted_of m steps) (λ m. unread_at m steps) (λ m. text_out k.names m steps) (λ m. sub_id_text m k.steps) (λ m. sub_id_text m steps)
+    there named (old_ids c f left n y k.steps) own in
+    subst (λ (p : Outcome). Makes k (Event.Next c) p new) (λ i. Outcome.Subscribed (same i) (at i))
+    (move_makes k c f left (actions.Subscribe id t) receipt held new (Move.Subscribes c t) o asks refl (subscribe_free w c t asks.idle named) refl refl refl
+    (is ∙ (ap (λ (v : View). subscribed_view c id t v) still ∙ view)))
+
+-- ---- UNSUBSCRIBE
+
+-- the subscription that an accepted UNSUBSCRIBE names is found, over an endpoint with its RECEIPT
+pub next_finds : (k : Core) (c : ℕ) (f : RawFrame) (left : Unread) (id : List ℕ) (receipt : Option (List ℕ)) (held mid : View) (d : EndpointView)
+    → Asks k c f left (actions.Unsubscribe id) receipt held
+    → mid ≡ with_endpoint held c (written_endpoint (receipt_text receipt) (get_or held.endpoints c d))
+    → number_in mid c id ≡ Some (number_by c id k.steps)
+next_finds k c f left id receipt held mid d asks written =
+    let w = k.world in
+    let o = Outcome.Unsubscribed 0 (topic_at w (record { 0 = 0 })).frontier in
+    let reading = Reading.Finds f left in
+    let steps = next_of c reading o ∷ k.steps in
+    let still : mid ≡ held_still k w c reading o =
+    replied_view k c f left (actions.Unsubscribe id) receipt held mid o (receipt_text receipt) d asks refl
+    (receipt_is k c f left (actions.Unsubscribe id) receipt held asks) written in
+    let ended = ends f.command (session_at k c) f id asks.does in
+    let live = names_live k c f asks.reached (idle_reads w c asks.idle) ended.0 asks.free in
+    ap (λ (v : View). number_in v c id) still
+    ∙ subst (λ (z : List ℕ). number_in (held_still k w c reading o) c z ≡ Some (number_by c z k.steps)) ended.1
+    (live.found (λ m. accepted_of m steps) (λ m. unread_at m steps) (λ m. text_out k.names m steps))
+
+-- where it ends
+pub next_leaves : (k : Core) (c : ℕ) (f : RawFrame) (left : Unread) (id : List ℕ) (receipt : Option (List ℕ)) (held mid : View) (d : EndpointView)
+    → Asks k c f left (actions.Unsubscribe id) receipt held
+    → mid ≡ with_endpoint held c (written_endpoint (receipt_text receipt) (get_or held.endpoints c d))
+    → option_map (λ (x : LeftView). x.to) (left_at (number_by c id k.steps) mid) ≡ Some (end_now k.world (number_by c id k.steps))
+next_leaves k c f left id receipt held mid d asks written =
+    let w = k.world in
+    let o = Outcome.Unsubscribed 0 (topic_at w (record { 0 = 0 })).frontier in
+    let reading = Reading.Finds f left in
+    let steps = next_of c reading o ∷ k.steps in
+    let still : mid ≡ held_still k w c reading o =
+    replied_view k c f left (actions.Unsubscribe id) receipt held mid o (receipt_text receipt) d asks refl
+    (receipt_is k c f left (actions.Unsubscribe id) receipt held asks) written in
+    let ended = ends f.command (session_at k c) f id asks.does in
+    let live = names_live k c f asks.reached (idle_reads w c asks.idle) ended.0 asks.free in
+    let n = number_by c (id_of f) k.steps in
+    ap (λ (v : View). option_map (λ (x : LeftView). x.to) (left_at (number_by c id k.steps) v)) still
+    ∙ subst (λ (z : List ℕ). option_map (λ (x : LeftView). x.to) (left_at (number_by c z k.steps) (held_still k w c reading o)) ≡ Some (end_now w (number_by c z k.steps))) ended.1
+    (closed_end k c n asks.reached live.there live.live (λ m. accepted_of m steps) (λ m. unread_at m steps) (λ m. text_out k.names m steps) (λ m. sub_id_text m k.steps))
+
+-- its RECEIPT is written, and the subscription ends
+pub next_unsubscribes : (k : Core) (c : ℕ) (f : RawFrame) (left : Unread) (id : List ℕ) (receipt : Option (List ℕ)) (held mid new : View) (s : ℕ) (to : Stamp) (d : EndpointView)
+    → Asks k c f left (actions.Unsubscribe id) receipt held
+    → mid ≡ with_endpoint held c (written_endpoint (receipt_text receipt) (get_or held.endpoints c d))
+    → Some s ≡ number_in mid c id
+    → Some to ≡ option_map (λ (x : LeftView). x.to) (left_at s mid)
+    → new ≡ closed_view s mid
+    → Makes k (Event.Next c) (Outcome.Unsubscribed s to) new
+next_unsubscribes k c f left id receipt held mid new s to d asks written number stamp is =
+    let w = k.world in
+    let n = number_by c id k.steps in
+    let o = Outcome.Unsubscribed n (end_now w n) in
+    let reading = Reading.Finds f left in
+    let steps = next_of c reading o ∷ k.steps in
+    let there = idle_there w c asks.idle in
+    let still : mid ≡ held_still k w c reading o =
+    replied_view k c f left (actions.Unsubscribe id) receipt held mid o (receipt_text receipt) d asks refl
+    (receipt_is k c f left (actions.Unsubscribe id) receipt held asks) written in
+    let ended = ends f.command (session_at k c) f id asks.does in
+    let live = names_live k c f asks.reached (idle_reads w c asks.idle) ended.0 asks.free in
+    let same : n ≡ s = some_same _ _ (sym (number ∙ next_finds k c f left id receipt held mid d asks written)) in
+    let at : end_now w n ≡ to =
+    some_same _ _ (sym (stamp ∙ (ap (λ (m : ℕ). option_map (λ (x : LeftView). x.to) (left_at m mid)) (sym same)
+    ∙ next_leaves k c f left id receipt held mid d asks written))) in
+    let found : n < length w.subscriptions = subst (λ (z : List ℕ). number_by c z k.steps < length w.subscriptions) ended.1 live.there in
+    let alive = subst (λ (z : List ℕ). is_live c (subscription_at w (number_by c z k.steps)) ≡ true) ended.1 live.live in
+    let view = closed_is k c n asks.reached there found alive (λ m. accepted_of m steps) (λ m. unread_at m steps) (λ m. text_out k.names m steps) (λ m. sub_id_text m k.steps) in
+    subst (λ (p : Outcome). Makes k (Event.Next c) p new) (λ i. Outcome.Unsubscribed (same i) (at i))
+    (move_makes k c f left (actions.Unsubscribe id) receipt held new (Move.Unsubscribes c n) o asks refl (unsubscribe_free w c n asks.idle found alive) refl refl refl
+    (is ∙ (ap (λ (m : ℕ). closed_view m mid) (sym same) ∙ (ap (λ (v : View). closed_view n v) still ∙ view))))

@@ -1,0 +1,132 @@
+-- A Next whose frame commits a transaction.
+use Rattle.std.proofs.Common.{◌≡◌, ℕ, ◌≤◌, Bool, true, false, cond, not, nat_lt, ◌&&◌, List, [], ◌∷◌, ◌++◌, length, Option, Some, None, refl, sym, ap, subst, ◌∙◌}
+use Rattle.std.specs.List.{list_all, last_or}
+use Rattle.std.specs.Option.{option_or}
+use Rattle.std.proofs.lemmas.List.{append-nil}
+use Rattle.mcast_txn.specs.Checks.{first_refusal}
+use Rattle.mcast_txn.specs.declared.draft.sent_message.SentMessage.{SentMessage}
+use Rattle.mcast_txn.specs.declared.id.TxnId.{TxnId}
+use Rattle.mcast_group.specs.Machine.{last_number}
+use Rattle.stomp_frame.specs.declared.raw_frame.RawFrame.{RawFrame}
+use Rattle.stomp_frame.specs.Reader.{Unread}
+use Rattle.stomp_session.specs.declared.action.Action.{Action}
+use Rattle.stomp_session.specs.declared.action.Action.TheVariants as actions
+use Rattle.delivery.specs.declared.event.Event.{Event}
+use Rattle.delivery.specs.declared.outcome.Outcome.{Outcome}
+use Rattle.delivery.specs.Machine.Objections.{Objection}
+use Rattle.delivery.specs.Machine.World.{World, connection_at, speaker}
+use Rattle.delivery.specs.Machine.Moves.{Move, is_topic, move_refusal, needs_idle, next_txn}
+use Rattle.delivery.specs.Core.Steps.{Reading, accepted_of}
+use Rattle.delivery.specs.Core.Output.{commit_frame, receipt_asked, sub_id_text, text_out}
+use Rattle.delivery.specs.Core.State.{Core, unread_at}
+use Rattle.delivery.specs.Inner.Nexts.{Asks, accepted_stage, staged_endpoint}
+use Rattle.delivery.specs.Inner.Senders.{asked_view, launched_id, launched_view}
+use Rattle.delivery.specs.Inner.Stands.{Makes}
+use Rattle.delivery.specs.Core.Connections.{live_numbers}
+use Rattle.delivery.specs.Inner.View.{View, EndpointView, view_of, view_with}
+use Rattle.delivery.proofs.Views.Events.BeginStep.{begun_is, begun_id_is, begun_free}
+use Rattle.delivery.proofs.Views.Senders.SendsAreToTopics.{committed_sends}
+use Rattle.delivery.proofs.Views.Endpoints.EndpointChanges.{with_endpoint}
+use Rattle.delivery.proofs.Views.Events.NextFaults.{endpoint_of}
+use Rattle.delivery.proofs.Views.Events.NextFrames.{accepted_view, move_makes}
+use Rattle.delivery.proofs.Views.Events.NextStep.{held_still, idle_flight, idle_reads, idle_stage, idle_there, next_endpoint, next_of, next_still, own_accepted}
+
+-- ---- nothing stands against it
+
+by_first : {F : Type 0} (p : Bool) (x : F) (o q : Option F) → cond p (Some x) o ≡ None → (o ≡ None → q ≡ None) → cond p (Some x) q ≡ None
+by_first true x o q h rest = absurd (cc)
+by_first false x o q h rest = rest h
+
+later_free : {F : Type 0} (cs ds : List (Bool × F)) → first_refusal cs ≡ None → first_refusal ds ≡ None → first_refusal (cs ++ ds) ≡ None
+later_free [] ds none free = free
+later_free (t ∷ ts) ds none free = by_first t.0 t.1 (first_refusal ts) (first_refusal (ts ++ ds)) none (λ h. later_free ts ds h free)
+
+tests_pass : (a b m : Bool) → a ≡ true → b ≡ true
+    → first_refusal ((not a, Objection.NotNamed) ∷ (m && not b, Objection.SeqFull) ∷ []) ≡ None
+tests_pass true true true x y = refl
+tests_pass true true false x y = refl
+tests_pass true false m x y = absurd (cc)
+tests_pass false b m x y = absurd (cc)
+
+commit_free : (w : World) (c : ℕ) (first : SentMessage) (others : List SentMessage) → first_refusal (needs_idle w c) ≡ None
+    → list_all (λ send. is_topic w send.topic) (first ∷ others) ≡ true → nat_lt (speaker w c).seq last_number ≡ true
+    → move_refusal w (Move.Commits c (first ∷ others)) ≡ None
+commit_free w c first others idle named left =
+    ap (λ (o : Option Objection). option_or o None)
+    (later_free (needs_idle w c) ((not (list_all (λ send. is_topic w send.topic) (first ∷ others)), Objection.NotNamed)
+    ∷ (nat_lt 0 (length (first ∷ others)) && not (nat_lt (speaker w c).seq last_number), Objection.SeqFull) ∷ []) idle
+    (tests_pass (list_all (λ send. is_topic w send.topic) (first ∷ others)) (nat_lt (speaker w c).seq last_number) (nat_lt 0 (length (first ∷ others))) named left))
+
+-- ---- its receipt
+
+last_is : (o : Option RawFrame) (xs : List RawFrame) (f : RawFrame) → last_or o (xs ++ f ∷ []) ≡ Some f
+last_is o [] f = refl
+last_is o (x ∷ xs) f = last_is (Some x) xs f
+
+-- ---- COMMIT, and a SEND alone
+
+-- once the frame is accepted, nothing is written yet
+still_view : (k : Core) (c : ℕ) (f : RawFrame) (left : Unread) (action : Action) (receipt : Option (List ℕ)) (held : View) (id : TxnId)
+    → Asks k c f left action receipt held → held ≡ held_still k k.world c (Reading.Finds f left) (Outcome.Flying id)
+still_view k c f left action receipt held id asks =
+    let o = Outcome.Flying id in
+    let reading = Reading.Finds f left in
+    let accepted = accepted_of c k.steps in
+    let endpoint : staged_endpoint (accepted_stage k c f left) (endpoint_of k c) ≡ next_endpoint k k.world c reading o =
+    λ i. record {
+      sender = (connection_at k.world c).sender;
+      stage = sym (idle_stage k c (accepted ++ f ∷ []) left asks.idle) i;
+      live = live_numbers c 0 k.world.subscriptions;
+      output = sym (append-nil (text_out k.names c k.steps)) i;
+    } in
+    accepted_view k c f left action receipt held asks
+    ∙ (ap (λ (l : EndpointView). with_endpoint (view_of k) c l) endpoint
+    ∙ next_still k c reading o (idle_there k.world c asks.idle))
+
+commits_some : (k : Core) (c : ℕ) (f : RawFrame) (left : Unread) (first : SentMessage) (others : List SentMessage) (receipt : Option (List ℕ)) (held mid new : View) (id : TxnId)
+    → Asks k c f left (actions.Commit (first ∷ others)) receipt held
+    → list_all (λ send. is_topic k.world send.topic) (first ∷ others) ≡ true
+    → id ≡ launched_id held c → id.seq ≤ last_number
+    → mid ≡ launched_view (first ∷ others) c held
+    → new ≡ asked_view receipt c mid
+    → Makes k (Event.Next c) (Outcome.Flying id) new
+commits_some k c f left first others receipt held mid new id asks named is within begun asked =
+    let w = k.world in
+    let sends = first ∷ others in
+    let action = actions.Commit sends in
+    let last = (next_txn w c sends).id in
+    let o = Outcome.Flying last in
+    let reading = Reading.Finds f left in
+    let steps = next_of c reading o ∷ k.steps in
+    let there = idle_there w c asks.idle in
+    let flight = idle_flight w c asks.idle in
+    let accepted = λ (n : ℕ). accepted_of n steps in
+    let unread = λ (n : ℕ). unread_at n steps in
+    let text = λ (n : ℕ). text_out k.names n steps in
+    let ids = λ (s : ℕ). sub_id_text s k.steps in
+    let still : held ≡ view_with k.names w accepted unread text ids = still_view k c f left action receipt held last asks in
+    let same : last ≡ id = sym (is ∙ (ap (λ (v : View). launched_id v c) still ∙ begun_id_is k c sends asks.reached there flight accepted unread text ids)) in
+    let free = begun_free k c sends (subst (λ (i : TxnId). i.seq ≤ last_number) (sym same) within) in
+    let wanted : receipt ≡ receipt_asked (commit_frame (accepted c)) =
+    sym (ap (λ (fs : List RawFrame). receipt_asked (last_or None fs)) (own_accepted c reading o k.steps)
+    ∙ (ap receipt_asked (last_is None (accepted_of c k.steps) f) ∙ asks.wants)) in
+    let view = begun_is k c first others asks.reached there (idle_reads w c asks.idle) flight accepted unread text ids in
+    subst (λ (i : TxnId). Makes k (Event.Next c) (Outcome.Flying i) new) same
+    (move_makes k c f left action receipt held new (Move.Commits c sends) o asks refl (commit_free w c first others asks.idle named free) refl refl refl
+    (asked ∙ (ap (λ (r : Option (List ℕ)). asked_view r c mid) wanted
+    ∙ (ap (λ (v : View). asked_view (receipt_asked (commit_frame (accepted c))) c v) (begun ∙ ap (λ (v : View). launched_view sends c v) still)
+    ∙ view))))
+
+-- the transaction begins, and its RECEIPT is due once it is decided
+pub next_commits : (k : Core) (c : ℕ) (f : RawFrame) (left : Unread) (sends : List SentMessage) (receipt : Option (List ℕ)) (held mid new : View) (id : TxnId)
+    → Asks k c f left (actions.Commit sends) receipt held
+    → id ≡ launched_id held c → id.seq ≤ last_number
+    → mid ≡ launched_view sends c held
+    → new ≡ asked_view receipt c mid
+    → Makes k (Event.Next c) (Outcome.Flying id) new
+next_commits k c f left sends receipt held mid new id asks is within begun asked =
+    let made = committed_sends k c f sends asks.reached asks.free asks.does in
+    commits_some k c f left made.first made.others receipt held mid new id
+    (subst (λ (z : List SentMessage). Asks k c f left (actions.Commit z) receipt held) made.is asks)
+    (subst (λ (z : List SentMessage). list_all (λ send. is_topic k.world send.topic) z ≡ true) made.is made.named)
+    is within (begun ∙ ap (λ (z : List SentMessage). launched_view z c held) made.is) asked

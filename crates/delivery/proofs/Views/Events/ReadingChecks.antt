@@ -1,0 +1,126 @@
+-- What stands against reading a frame of a connection.
+use Rattle.std.proofs.Common.{◌≡◌, ℕ, ◌+◌, ◌<◌, ◌≤◌, Bool, true, false, not, nat_lt, cond, ◌||◌, ◌⊎◌, inl, inr, List, [], ◌∷◌, length, get_or, Option, Some, None, refl, sym, ap, ◌∙◌, arith}
+use Rattle.std.specs.Prelude.{slice_get}
+use Rattle.std.specs.Option.{is_some, option_or}
+use Rattle.std.proofs.lemmas.Bool.{ltb-true, ltb-false}
+use Rattle.std.proofs.lemmas.Option.{slice_get-get_or, slice_get_past}
+use Rattle.std.proofs.lemmas.List.{get_or_default}
+use Rattle.std.proofs.Math.ListN.{get_or-eq_default}
+use Rattle.stomp_frame.specs.declared.raw_frame.RawFrame.{RawFrame}
+use Rattle.stomp_frame.specs.Reader.{Unread}
+use Rattle.mcast_txn.specs.Checks.{first_refusal}
+use Rattle.mcast_txn.specs.declared.stamp.Stamp.{Stamp}
+use Rattle.mcast_group.specs.declared.fault.ProposeFault.{ProposeFault}
+use Rattle.delivery.specs.Machine.Objections.{Objection}
+use Rattle.delivery.specs.Machine.World.{Undecided, SenderState, Standing, connection_at, sender_at, speaker, is_reading, is_gone, new_sender}
+use Rattle.delivery.specs.Machine.Moves.{needs_idle}
+use Rattle.delivery.specs.Core.Steps.{accepted_of}
+use Rattle.delivery.specs.Core.Output.{text_out}
+use Rattle.delivery.specs.Core.State.{Core, unread_at}
+use Rattle.delivery.specs.Core.Reports.{each_number}
+use Rattle.delivery.specs.Inner.Nexts.{is_sending, sending_objection, idle_objection}
+use Rattle.delivery.specs.Inner.Stands.{stage_objection, endpoint_objection}
+use Rattle.delivery.specs.Inner.View.{View, EndpointView, SenderView, view_of, stage_view, endpoint_view, sender_view, sending_view, undecided_view, is_undecided}
+use Rattle.delivery.proofs.Views.Lists.ByNumber.{get_or-each_number, length-each_number}
+use Rattle.delivery.proofs.Views.Events.OneMove as steps
+use Rattle.delivery.specs.Inner.View as views
+use Rattle.delivery.proofs.Views.Events.OneMove.{bool_cases, endpoint_at, endpoint_is}
+
+-- ---- a view
+
+-- a number is within a list or beyond it
+within : (n m : ℕ) → (n < m) ⊎ (m ≤ n)
+within n m = elim (bool_cases (nat_lt n m)) [ inl t ↦ inl (ltb-true n m t) | inr f ↦ inr (ltb-false n m f) ]
+
+-- an endpoint that nothing stands against is there
+pub unobjected_there : (endpoints : List EndpointView) (c : ℕ) → endpoint_objection (slice_get endpoints c) ≡ None → c < length endpoints
+unobjected_there endpoints c free = elim (within c (length endpoints)) [
+  | inl l ↦ l
+  | inr l ↦ absurd (some_none (sym (ap endpoint_objection (slice_get_past endpoints c l)) ∙ free))
+]
+  where
+    some_none : Some Objection.NoConn ≡ None → Prim.⊥
+    some_none e = absurd (cc)
+
+-- where nothing stands against its endpoint, its sender decides
+pub idle_of : (v : View) (c : ℕ) (endpoint : EndpointView) → endpoint_objection (slice_get v.endpoints c) ≡ None → endpoint ≡ get_or v.endpoints c endpoint
+    → idle_objection v c ≡ sending_objection v.senders endpoint.sender
+idle_of v c endpoint free is =
+    let none = views.no_endpoint in
+    let same : get_or v.endpoints c none ≡ endpoint = get_or_default v.endpoints c none endpoint (unobjected_there v.endpoints c free) ∙ sym is in
+    ap (λ (o : Option Objection). option_or o (sending_objection v.senders (get_or v.endpoints c none).sender)) free
+    ∙ ap (λ (l : EndpointView). sending_objection v.senders l.sender) same
+
+-- where something stands against its endpoint, that does
+pub idle_refused : (v : View) (c : ℕ) (why : Objection) → endpoint_objection (slice_get v.endpoints c) ≡ Some why → idle_objection v c ≡ Some why
+idle_refused v c why is =
+    ap (λ (o : Option Objection). option_or o (sending_objection v.senders (get_or v.endpoints c views.no_endpoint).sender)) is
+
+or_none : (a b : Option Objection) → option_or a b ≡ None → a ≡ None
+or_none None b e = refl
+or_none (Some o) b e = absurd (cc)
+
+-- where nothing stands against a Next, its endpoint is there
+pub idle_within : (v : View) (c : ℕ) → idle_objection v c ≡ None → c < length v.endpoints
+idle_within v c free =
+    unobjected_there v.endpoints c (or_none (endpoint_objection (slice_get v.endpoints c)) (sending_objection v.senders (get_or v.endpoints c views.no_endpoint).sender) free)
+
+-- ---- a core
+
+marked_is : (floor : Stamp) (f : Undecided) (mark : Option ProposeFault) → is_undecided (undecided_view floor f mark) ≡ true
+marked_is floor f None = refl
+marked_is floor f (Some fault) = refl
+
+flight_is : (s seq : ℕ) (floor : Stamp) (flight : Option Undecided) → is_undecided (sending_view s seq floor flight) ≡ is_some flight
+flight_is s seq floor None = refl
+flight_is s seq floor (Some f) = marked_is floor f f.mark
+
+-- a sender of the view has an undecided transaction where that of the machine has
+pub sending_is : (k : Core) (s : ℕ) → is_sending (slice_get (view_of k).senders s) ≡ is_some (sender_at k.world s).flight
+sending_is k s =
+    let w = k.world in
+    let f = λ (n : ℕ). sender_view n (sender_at w n) in
+    let many = length-each_number f 0 w.senders in
+    elim (within s (length w.senders)) [
+      | inl l ↦
+          (let there : s < length (each_number f 0 w.senders) = omega (arith, l, many) in
+          let e : 0 + s ≡ s = omega arith in
+          ap is_sending (slice_get-get_or (each_number f 0 w.senders) s (f s) there)
+          ∙ (ap (λ (x : SenderView). is_undecided x.sending) (get_or-each_number f 0 w.senders s (f s) l ∙ ap f e)
+          ∙ flight_is s (sender_at w s).seq (sender_at w s).floor (sender_at w s).flight))
+      | inr l ↦
+          (let past : length (each_number f 0 w.senders) ≤ s = omega (arith, l, many) in
+          ap is_sending (slice_get_past (each_number f 0 w.senders) s past)
+          ∙ ap (λ (x : SenderState). is_some x.flight) (sym (get_or-eq_default w.senders new_sender l)))
+    ]
+
+standing_idle : (names : List (List ℕ)) (standing : Standing) (flight : Option Undecided) (accepted : List RawFrame) (unread : Unread) (b : Bool)
+    → option_or (stage_objection (stage_view names standing flight accepted unread)) (cond b (Some Objection.Busy) None)
+    ≡ first_refusal ((is_gone standing, Objection.Gone) ∷ (not (is_reading standing) || b, Objection.Busy) ∷ [])
+standing_idle names Standing.Open flight accepted unread true = refl
+standing_idle names Standing.Open flight accepted unread false = refl
+standing_idle names Standing.Leaving flight accepted unread b = refl
+standing_idle names Standing.Gone flight accepted unread b = refl
+
+-- what stands against a Next of the view stands against it in the machine
+pub idle_checked : (k : Core) (c : ℕ) → idle_objection (view_of k) c ≡ first_refusal (needs_idle k.world c)
+idle_checked k c =
+    let w = k.world in
+    let x = connection_at w c in
+    let none = views.no_endpoint in
+    let f = λ (n : ℕ). endpoint_view k.names w n (accepted_of n k.steps) (unread_at n k.steps) (text_out k.names n k.steps) in
+    let flying = is_some (speaker w c).flight in
+    let checks = λ (b : Bool). first_refusal ((not b, Objection.NoConn) ∷ (is_gone x.standing, Objection.Gone) ∷ (not (is_reading x.standing) || flying, Objection.Busy) ∷ []) in
+    elim (bool_cases (nat_lt c (length w.connections))) [
+      | inl t ↦
+          (let there = ltb-true c (length w.connections) t in
+          ap (λ (o : Option EndpointView). option_or (endpoint_objection o) (sending_objection (view_of k).senders (get_or (view_of k).endpoints c none).sender)) (endpoint_is k c there)
+          ∙ (ap (λ (l : EndpointView). option_or (stage_objection (f c).stage) (sending_objection (view_of k).senders l.sender)) (endpoint_at k c none f there)
+          ∙ (ap (λ (b : Bool). option_or (stage_objection (f c).stage) (cond b (Some Objection.Busy) None)) (sending_is k x.sender)
+          ∙ (standing_idle k.names x.standing (speaker w c).flight (accepted_of c k.steps) (unread_at c k.steps) flying
+          ∙ ap checks (sym t)))))
+      | inr n ↦
+          ap (λ (o : Option EndpointView). option_or (endpoint_objection o) (sending_objection (view_of k).senders (get_or (view_of k).endpoints c none).sender))
+          (steps.no_endpoint k c (ltb-false c (length w.connections) n))
+          ∙ ap checks (sym n)
+    ]

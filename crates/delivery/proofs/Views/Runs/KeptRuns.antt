@@ -1,0 +1,163 @@
+-- What a net keeps: it is delivered, and it grows by a step.
+use Rattle.std.proofs.Common.{◌≡◌, ℕ, ◌-◌, List, [], ◌∷◌, ◌++◌, map, length, reverse, refl, sym, ap, subst, ◌∙◌, append_assoc, append-nil}
+use Rattle.std.proofs.lemmas.List.{map-append, reverse-reverse, reverse-append}
+use Rattle.std.proofs.lemmas.Grind.{reverse_onto}
+use Rattle.delivery.specs.declared.event.Event.{Event}
+use Rattle.delivery.specs.declared.outcome.Outcome.{Outcome}
+use Rattle.delivery.specs.declared.kept.Kept.{Kept}
+use Rattle.delivery.specs.Topics.{TopicList}
+use Rattle.delivery.specs.Nets.{KeptRun, HasTaken, IsDelivered, HasReport, steps_of_net, core_of_net}
+use Rattle.delivery.specs.Machine.World.{World}
+use Rattle.delivery.specs.Core.Steps.{CoreStep, kept_of}
+use Rattle.delivery.specs.Core.Readings.{reading_at, steps_of}
+use Rattle.delivery.specs.Core.Outcomes.{IsCoreRun}
+use Rattle.delivery.specs.Core.Stepped.{HasStepped}
+use Rattle.delivery.specs.Core.State.{Core, core_of}
+use Rattle.delivery.specs.Core.Reports.{Report, report_of}
+use Rattle.delivery.specs.Core.Delivery.{Delivery, kept_run}
+use Rattle.delivery.specs.Inner.NetInvariant.{KeepsRun}
+use Rattle.delivery.specs.Inner.Stands.{IsReached, Makes, step_of}
+use Rattle.delivery.specs.Inner.View.{View, view_of}
+use Rattle.delivery.specs.Inner.ViewReports.{report_in}
+use Rattle.delivery.proofs.Core.AccountOfRun.{run_of, world_is, core_is}
+use Rattle.delivery.proofs.Core.DeliveryOfRun.{delivery}
+use Rattle.delivery.proofs.Core.StepsOfRun.{steps_are}
+use Rattle.delivery.proofs.Core.StepsStepped.{steps_stepped}
+use Rattle.delivery.proofs.Theorem.SpansAsAnswered.{known}
+use Rattle.delivery.proofs.Views.Runs.ReportOfView.{reported}
+
+-- what a net holds has the names and the capacity that it began with
+pub names_kept : (topics : TopicList) (capacity : ℕ) (kept : List Kept) (held : View) → KeepsRun topics capacity kept held → held.names ≡ topics.names
+names_kept topics capacity kept held keeps =
+    ap (λ (v : View). v.names) keeps.view ∙ ap (λ (k : Core). k.names) (core_is topics capacity keeps.steps)
+
+pub capacity_kept : (topics : TopicList) (capacity : ℕ) (kept : List Kept) (held : View) → KeepsRun topics capacity kept held → held.capacity ≡ capacity
+capacity_kept topics capacity kept held keeps =
+    ap (λ (v : View). v.capacity) keeps.view
+    ∙ (ap (λ (w : World). w.capacity) (world_is topics capacity keeps.steps)
+    ∙ (known (run_of topics capacity keeps.steps)).same)
+
+-- ---- its report
+
+-- what a net keeps are its steps
+pub steps_kept : (net : KeptRun) (held : View) (keeps : KeepsRun net.topics net.capacity net.kept held) → keeps.steps ≡ steps_of_net net
+steps_kept net held keeps =
+    let kept : reverse net.kept ≡ map kept_of keeps.steps = ap (λ (run : List Kept). reverse run) keeps.are_kept ∙ reverse-reverse (map kept_of keeps.steps) in
+    steps_are net.topics net.capacity keeps.steps keeps.is_run ∙ ap steps_of (sym kept)
+
+-- the report of what a net holds is delivered
+pub is_delivered : (net : KeptRun) (held : View) → KeepsRun net.topics net.capacity net.kept held → IsDelivered net (report_in held)
+is_delivered net held keeps =
+    let k = core_of net.topics net.capacity keeps.steps in
+    let same : keeps.steps ≡ steps_of_net net = steps_kept net held keeps in
+    let is_report : report_in held ≡ report_of k = ap report_in keeps.view ∙ reported k in
+    let delivered : Delivery net.topics (kept_run keeps.steps) (report_of k) = delivery net.topics net.capacity keeps.steps keeps.as_many keeps.is_run in
+    record {
+      are_kept = keeps.are_kept ∙ ap kept_run same;
+      is_run = subst (λ (steps : List CoreStep). IsCoreRun net.topics net.capacity steps) same keeps.is_run;
+      is_report = is_report ∙ ap (λ (steps : List CoreStep). report_of (core_of net.topics net.capacity steps)) same;
+      delivery = subst (λ (r : Report). Delivery net.topics net.kept r) (sym is_report)
+          (subst (λ (kept : List Kept). Delivery net.topics kept (report_of k)) (sym keeps.are_kept) delivered);
+    }
+
+-- so the report of its core is
+pub has_report : (net : KeptRun) (held : View) → KeepsRun net.topics net.capacity net.kept held → HasReport net
+has_report net held keeps =
+    let is = is_delivered net held keeps in subst (IsDelivered net) is.is_report is
+
+-- the last of what a net keeps was a step of its core
+pub has_stepped : (old new : KeptRun) (held : View) (e : Event) (o : Outcome) → KeepsRun new.topics new.capacity new.kept held → new.topics ≡ old.topics
+    → new.capacity ≡ old.capacity → new.kept ≡ old.kept ++ record { event = e; outcome = o } ∷ [] → HasStepped (core_of_net old) (core_of_net new) e o
+has_stepped old new held e o keeps topics capacity kept =
+    let one : Kept = record { event = e; outcome = o } in
+    let before = steps_of_net old in let step = step_of e (reading_at before e o) o in
+    let turned : reverse new.kept ≡ one ∷ reverse old.kept = ap (λ (run : List Kept). reverse run) kept ∙ reverse-append old.kept (one ∷ []) in
+    let steps : steps_of_net new ≡ step ∷ before = ap steps_of turned in
+    let is = is_delivered new held keeps in
+    let run : IsCoreRun old.topics old.capacity (step ∷ before) =
+    subst (λ (ss : List CoreStep). IsCoreRun old.topics old.capacity ss) steps
+    (subst (λ (n : ℕ). IsCoreRun old.topics n (steps_of_net new)) capacity (subst (λ (t : TopicList). IsCoreRun t new.capacity (steps_of_net new)) topics is.is_run)) in
+    let many : length old.topics.clocks ≡ length old.topics.names = subst (λ (t : TopicList). length t.clocks ≡ length t.names) topics keeps.as_many in
+    let core : core_of_net new ≡ core_of old.topics old.capacity (step ∷ before) =
+    (λ i. core_of (topics i) (capacity i) (steps i)) in
+    subst (λ (k : Core). HasStepped (core_of_net old) k e o) (sym core) (steps_stepped old.topics old.capacity step before many run)
+
+-- ---- a step
+
+-- what an event is answered and what is held then, of whatever core what was held is the view
+abbrev pub Answers : View → Event → Outcome → View → Type 0
+Answers held e o new = (k : Core) → IsReached k → held ≡ view_of k → Makes k e o new
+
+-- the kept run with the event and its outcome at its end is one of a core, and what is held then is its view
+grown : (topics : TopicList) (capacity : ℕ) (kept : List Kept) (held new : View) (e : Event) (o : Outcome)
+    → KeepsRun topics capacity kept held → Answers held e o new
+    → KeepsRun topics capacity (kept ++ record { event = e; outcome = o } ∷ []) new
+grown topics capacity kept held new e o keeps answers =
+    let k = core_of topics capacity keeps.steps in
+    let makes = answers k (record { topics = topics; capacity = capacity; steps = keeps.steps; as_many = keeps.as_many; is = refl; run = keeps.is_run }) keeps.view in
+    let step = step_of e makes.reading o in
+    record {
+      as_many = keeps.as_many;
+      few = keeps.few;
+      steps = step ∷ keeps.steps;
+      are_kept = ap (λ (older : List Kept). older ++ kept_of step ∷ []) keeps.are_kept
+          ∙ sym (reverse_onto (map kept_of keeps.steps) (kept_of step) []);
+      is_run = (makes.may, keeps.is_run);
+      view = makes.view;
+    }
+
+-- the same of the names and the capacity that are held then
+pub step_kept : (clocks : List ℕ) (kept : List Kept) (held new : View) (e : Event) (o : Outcome)
+    → KeepsRun (record { names = held.names; clocks = clocks }) held.capacity kept held → Answers held e o new
+    → KeepsRun (record { names = new.names; clocks = clocks }) new.capacity (kept ++ record { event = e; outcome = o } ∷ []) new
+step_kept clocks kept held new e o keeps answers =
+    let topics : TopicList = record { names = held.names; clocks = clocks } in
+    let later = grown topics held.capacity kept held new e o keeps answers in
+    let run = kept ++ record { event = e; outcome = o } ∷ [] in
+    subst (λ (n : ℕ). KeepsRun (record { names = new.names; clocks = clocks }) n run new)
+    (sym (capacity_kept topics held.capacity run new later))
+    (subst (λ (names : List (List ℕ)). KeepsRun (record { names = names; clocks = clocks }) held.capacity run new)
+    (sym (names_kept topics held.capacity run new later)) later)
+
+-- the names and the capacity stay
+pub names_stay : (clocks : List ℕ) (kept : List Kept) (held new : View) (e : Event) (o : Outcome)
+    → KeepsRun (record { names = held.names; clocks = clocks }) held.capacity kept held → Answers held e o new → new.names ≡ held.names
+names_stay clocks kept held new e o keeps answers =
+    let topics : TopicList = record { names = held.names; clocks = clocks } in
+    names_kept topics held.capacity (kept ++ record { event = e; outcome = o } ∷ []) new (grown topics held.capacity kept held new e o keeps answers)
+
+pub capacity_stays : (clocks : List ℕ) (kept : List Kept) (held new : View) (e : Event) (o : Outcome)
+    → KeepsRun (record { names = held.names; clocks = clocks }) held.capacity kept held → Answers held e o new → new.capacity ≡ held.capacity
+capacity_stays clocks kept held new e o keeps answers =
+    let topics : TopicList = record { names = held.names; clocks = clocks } in
+    capacity_kept topics held.capacity (kept ++ record { event = e; outcome = o } ∷ []) new (grown topics held.capacity kept held new e o keeps answers)
+
+-- ---- events in turn
+
+-- none was taken, and only the spare room has changed
+pub taken_none : (old new : KeptRun) → new ≡ record old { spare = new.spare } → HasTaken [] old new
+taken_none old new same = record {
+  added = [];
+  are_events = refl;
+  is_new = same ∙ ap (λ (kept : List Kept). record old { kept = kept; spare = new.spare }) (sym (append-nil old.kept));
+}
+
+-- one more was taken
+pub taken_more : (events : List Event) (old mid new : KeptRun) (e : Event) (o : Outcome) → HasTaken events old mid
+    → new ≡ record mid { kept = mid.kept ++ record { event = e; outcome = o } ∷ []; spare = mid.spare - 1 }
+    → HasTaken (events ++ e ∷ []) old new
+taken_more events old mid new e o taken is =
+    let one : Kept = record { event = e; outcome = o } in
+    let kept : mid.kept ++ one ∷ [] ≡ old.kept ++ (taken.added ++ one ∷ []) =
+    ap (λ (net : KeptRun). net.kept ++ one ∷ []) taken.is_new ∙ append_assoc old.kept taken.added (one ∷ []) in
+    record {
+      added = taken.added ++ one ∷ [];
+      are_events = map-append (λ (k : Kept). k.event) taken.added (one ∷ []) ∙ ap (λ (es : List Event). es ++ e ∷ []) taken.are_events;
+      is_new = is
+          ∙ (λ i. record {
+            topics = (taken.is_new i).topics;
+            capacity = (taken.is_new i).capacity;
+            kept = kept i;
+            spare = ap (λ (net : KeptRun). net.spare) (sym is) i;
+          });
+    }

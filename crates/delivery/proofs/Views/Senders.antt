@@ -1,0 +1,8 @@
+-- Senders and their undecided transactions.
+pub mod SenderChanges
+pub mod SameSeqAndReceipt
+pub mod LastFailure
+pub mod TicketsOfTopics
+pub mod SlotsOfTopics
+pub mod RoomLasts
+pub mod SendsAreToTopics

@@ -1,0 +1,181 @@
+-- A sender that becomes another: what is held of it, of its endpoint and of its verdicts. No other connection speaks for it.
+use Rattle.std.proofs.Common.{◌≡◌, ◌≢◌, ℕ, ◌+◌, ◌-◌, ◌<◌, Bool, cond, List, length, get_or, set, Option, None, refl, sym, ap, ◌∙◌, arith}
+use Rattle.std.specs.Prelude.{slice_get}
+use Rattle.std.proofs.lemmas.List.{get_or-set_same, get_or-set_other, set-get_or}
+use Rattle.std.specs.Option.{option_and_then}
+use Rattle.stomp_frame.specs.declared.raw_frame.RawFrame.{RawFrame}
+use Rattle.stomp_frame.specs.Reader.{Unread}
+use Rattle.mcast_txn.specs.declared.id.TxnId.{TxnId}
+use Rattle.mcast_txn.specs.Ballot.{Decision}
+use Rattle.delivery.specs.Machine.World.{World, SenderState, Connection, new_sender, nobody, connection_at, sender_at, speaker, with_sender}
+use Rattle.delivery.specs.Machine.Moves.{find_verdict}
+use Rattle.delivery.specs.Core.Output.{text_out, sub_id_text}
+use Rattle.delivery.specs.Core.State.{Core, unread_at}
+use Rattle.delivery.specs.Core.Steps.{accepted_of}
+use Rattle.delivery.specs.Core.Reports.{each_number}
+use Rattle.delivery.specs.Inner.Senders.{speaker_at, sender_in, no_sender}
+use Rattle.delivery.specs.Inner.Stands.{IsReached}
+use Rattle.delivery.specs.Core.Connections.{live_numbers}
+use Rattle.delivery.specs.Inner.View.{EndpointView, SenderView, view_of, view_with, sender_view, endpoint_view, stage_view, no_endpoint, verdict_list}
+use Rattle.delivery.proofs.Views.Endpoints.SpeakerAndEnd.{own_sender, as_many}
+use Rattle.delivery.proofs.Views.Lists.ByNumber.{each_number-set, get_or-each_number}
+use Rattle.delivery.proofs.Views.Endpoints.StandingOfConnection.{differ}
+use Rattle.delivery.proofs.Views.Verdicts.FoundVerdict.{verdict_is, table, list_of, not_in_list}
+
+-- ---- what is looked up
+
+-- the value at a number, where the first is 0
+pub number_at : {X Y : Type 0} (f : ℕ → Y) (xs : List X) (n : ℕ) (d : Y) → n < length xs → get_or (each_number f 0 xs) n d ≡ f n
+number_at f xs n d there = let e : 0 + n ≡ n = omega arith in get_or-each_number f 0 xs n d there ∙ ap f e
+
+-- the endpoint of a connection that is there, whatever it accepted
+pub endpoint_in : (names : List (List ℕ)) (w : World) (accepted : ℕ → List RawFrame) (unread : ℕ → Unread) (text ids : ℕ → List ℕ) (c : ℕ) (d : EndpointView)
+    → c < length w.connections → get_or (view_with names w accepted unread text ids).endpoints c d ≡ endpoint_view names w c (accepted c) (unread c) (text c)
+endpoint_in names w accepted unread text ids c d there =
+    number_at (λ n. endpoint_view names w n (accepted n) (unread n) (text n)) w.connections c d there
+
+-- its sender
+pub speaker_is : (names : List (List ℕ)) (w : World) (accepted : ℕ → List RawFrame) (unread : ℕ → Unread) (text ids : ℕ → List ℕ) (c : ℕ)
+    → c < length w.connections → speaker_at (view_with names w accepted unread text ids) c ≡ (connection_at w c).sender
+speaker_is names w accepted unread text ids c there = ap (λ (l : EndpointView). l.sender) (endpoint_in names w accepted unread text ids c no_endpoint there)
+
+-- a sender that is there
+pub sender_is : (names : List (List ℕ)) (w : World) (accepted : ℕ → List RawFrame) (unread : ℕ → Unread) (text ids : ℕ → List ℕ) (s : ℕ)
+    → s < length w.senders → sender_in (view_with names w accepted unread text ids) s ≡ sender_view s (sender_at w s)
+sender_is names w accepted unread text ids s there = number_at (λ n. sender_view n (sender_at w n)) w.senders s no_sender there
+
+-- the same in the view of a core
+pub speaker_of : (k : Core) (c : ℕ) → c < length k.world.connections → speaker_at (view_of k) c ≡ (connection_at k.world c).sender
+speaker_of k c there =
+    speaker_is k.names k.world (λ n. accepted_of n k.steps) (λ n. unread_at n k.steps) (λ n. text_out k.names n k.steps) (λ n. sub_id_text n k.steps) c there
+
+pub held_of : (k : Core) (s : ℕ) → s < length k.world.senders → sender_in (view_of k) s ≡ sender_view s (sender_at k.world s)
+held_of k s there =
+    sender_is k.names k.world (λ n. accepted_of n k.steps) (λ n. unread_at n k.steps) (λ n. text_out k.names n k.steps) (λ n. sub_id_text n k.steps) s there
+
+pub endpoint_of : (k : Core) (c : ℕ) (d : EndpointView) → c < length k.world.connections
+    → get_or (view_of k).endpoints c d ≡ endpoint_view k.names k.world c (accepted_of c k.steps) (unread_at c k.steps) (text_out k.names c k.steps)
+endpoint_of k c d there =
+    endpoint_in k.names k.world (λ n. accepted_of n k.steps) (λ n. unread_at n k.steps) (λ n. text_out k.names n k.steps) (λ n. sub_id_text n k.steps) c d there
+
+-- the sender of a connection is there
+pub speaker_there : (k : Core) (c : ℕ) → IsReached k → c < length k.world.connections → (connection_at k.world c).sender < length k.world.senders
+speaker_there k c reached there =
+    let own = own_sender k c reached there in let many = as_many k reached in omega (arith, own, many, there)
+
+-- the sender of a connection that is there, by its endpoint
+pub sender_of_endpoint : (k : Core) (c s : ℕ) → IsReached k → c < length k.world.connections → s ≡ speaker_at (view_of k) c
+    → sender_in (view_of k) s ≡ sender_view (connection_at k.world c).sender (speaker k.world c)
+sender_of_endpoint k c s reached there is =
+    ap (λ (n : ℕ). sender_in (view_of k) n) (is ∙ speaker_of k c there) ∙ held_of k (connection_at k.world c).sender (speaker_there k c reached there)
+
+-- ---- what is held
+
+-- one sender is another
+pub senders_with : (w : World) (s : ℕ) (x : SenderState) → s < length w.senders
+    → set (each_number (λ n. sender_view n (sender_at w n)) 0 w.senders) s (sender_view s x)
+    ≡ each_number (λ n. sender_view n (sender_at (with_sender w s x) n)) 0 (set w.senders s x)
+senders_with w s x there =
+    let f = λ (n : ℕ). sender_view n (sender_at w n) in
+    let g = λ (n : ℕ). sender_view n (sender_at (with_sender w s x) n) in
+    let e : s ≡ 0 + s = omega arith in
+    let new : sender_view s x ≡ g s = ap (λ (y : SenderState). sender_view s y) (sym (get_or-set_same w.senders s x new_sender there)) in
+    ap (λ (y : SenderView). set (each_number f 0 w.senders) s y) new
+    ∙ (ap (λ (n : ℕ). set (each_number f 0 w.senders) s (g n)) e
+    ∙ each_number-set f g 0 w.senders s x there
+    (λ n low high other. ap (λ (y : SenderState). sender_view n y) (sym (get_or-set_other w.senders s n x new_sender (λ same. other (same ∙ e))))))
+
+-- its list of verdicts with it
+pub lists_with : (w : World) (s : ℕ) (x : SenderState) (verdicts : List Decision) → s < length w.senders
+    → ((n : ℕ) → n ≢ s → verdict_list w.verdicts n (sender_at w n).seq ≡ verdict_list verdicts n (sender_at w n).seq)
+    → set (each_number (λ n. verdict_list w.verdicts n (sender_at w n).seq) 0 w.senders) s (verdict_list verdicts s x.seq)
+    ≡ each_number (λ n. verdict_list verdicts n (sender_at (with_sender w s x) n).seq) 0 (set w.senders s x)
+lists_with w s x verdicts there same =
+    let f = λ (n : ℕ). verdict_list w.verdicts n (sender_at w n).seq in
+    let g = λ (n : ℕ). verdict_list verdicts n (sender_at (with_sender w s x) n).seq in
+    let e : s ≡ 0 + s = omega arith in
+    let new : verdict_list verdicts s x.seq ≡ g s = ap (λ (y : SenderState). verdict_list verdicts s y.seq) (sym (get_or-set_same w.senders s x new_sender there)) in
+    ap (λ (y : List (Option Decision)). set (each_number f 0 w.senders) s y) new
+    ∙ (ap (λ (n : ℕ). set (each_number f 0 w.senders) s (g n)) e
+    ∙ each_number-set f g 0 w.senders s x there
+    (λ n low high other. same n (λ is. other (is ∙ e))
+    ∙ ap (λ (y : SenderState). verdict_list verdicts n y.seq) (sym (get_or-set_other w.senders s n x new_sender (λ is. other (is ∙ e))))))
+
+-- an endpoint is that of its connection and its sender's transaction
+pub endpoint_of_flight : (names : List (List ℕ)) (w v : World) (c : ℕ) (accepted : List RawFrame) (unread : Unread) (text : List ℕ)
+    → w.connections ≡ v.connections → w.subscriptions ≡ v.subscriptions → (speaker w c).flight ≡ (speaker v c).flight
+    → endpoint_view names w c accepted unread text ≡ endpoint_view names v c accepted unread text
+endpoint_of_flight names w v c accepted unread text connections subscriptions flight =
+    λ i. record {
+      sender = (get_or (connections i) c nobody).sender;
+      stage = stage_view names (get_or (connections i) c nobody).standing (flight i) accepted unread;
+      live = live_numbers c 0 (subscriptions i);
+      output = text;
+    }
+
+-- other connections speak for other senders
+pub others_differ : (k : Core) (c n : ℕ) → IsReached k → c < length k.world.connections → n < length k.world.connections → n ≢ c
+    → (connection_at k.world n).sender ≢ (connection_at k.world c).sender
+others_differ k c n reached there within other same =
+    other (sym (own_sender k n reached within) ∙ (same ∙ own_sender k c reached there))
+
+-- the endpoint of the sender is another with it, and no other endpoint
+pub endpoints_with_sender : (k : Core) (c : ℕ) (x : SenderState) (accepted : ℕ → List RawFrame) (unread : ℕ → Unread) (text : ℕ → List ℕ)
+    → IsReached k → c < length k.world.connections
+    → (let w = k.world in let v = with_sender w (connection_at w c).sender x in
+    set (each_number (λ n. endpoint_view k.names w n (accepted n) (unread n) (text n)) 0 w.connections) c (endpoint_view k.names v c (accepted c) (unread c) (text c))
+    ≡ each_number (λ n. endpoint_view k.names v n (accepted n) (unread n) (text n)) 0 w.connections)
+endpoints_with_sender k c x accepted unread text reached there =
+    let w = k.world in
+    let s = (connection_at w c).sender in
+    let v = with_sender w s x in
+    let f = λ (n : ℕ). endpoint_view k.names w n (accepted n) (unread n) (text n) in
+    let g = λ (n : ℕ). endpoint_view k.names v n (accepted n) (unread n) (text n) in
+    let e : c ≡ 0 + c = omega arith in
+    ap (λ (n : ℕ). set (each_number f 0 w.connections) c (g n)) e
+    ∙ (each_number-set f g 0 w.connections c (connection_at w c) there
+    (λ n low high other. endpoint_of_flight k.names w v n (accepted n) (unread n) (text n) refl refl
+    (ap (λ (y : SenderState). y.flight)
+    (sym (get_or-set_other w.senders s (connection_at w n).sender x new_sender (others_differ k c n reached there (omega (arith, high)) (λ is. other (is ∙ e)))))))
+    ∙ ap (λ (xs : List Connection). each_number g 0 xs) (set-get_or w.connections c nobody))
+
+-- the endpoint itself, where its sender has this transaction
+pub endpoint_with_sender : (k : Core) (c : ℕ) (x : SenderState) (accepted : List RawFrame) (unread : Unread) (text : List ℕ) → IsReached k → c < length k.world.connections
+    → (let w = k.world in
+    endpoint_view k.names (with_sender w (connection_at w c).sender x) c accepted unread text
+    ≡ record (endpoint_view k.names w c accepted unread text) { stage = stage_view k.names (connection_at w c).standing x.flight accepted unread })
+endpoint_with_sender k c x accepted unread text reached there =
+    let w = k.world in
+    ap (λ (y : SenderState). record (endpoint_view k.names w c accepted unread text) { stage = stage_view k.names (connection_at w c).standing y.flight accepted unread })
+    (get_or-set_same w.senders (connection_at w c).sender x new_sender (speaker_there k c reached there))
+
+-- one value is another, where the first has number 0
+pub number_set : {X Y : Type 0} (f g : ℕ → Y) (xs : List X) (c : ℕ) (x : X) → c < length xs → ((n : ℕ) → n < length xs → n ≢ c → f n ≡ g n)
+    → set (each_number f 0 xs) c (g c) ≡ each_number g 0 (set xs c x)
+number_set f g xs c x there same =
+    let e : c ≡ 0 + c = omega arith in
+    ap (λ (n : ℕ). set (each_number f 0 xs) c (g n)) e
+    ∙ each_number-set f g 0 xs c x there (λ n low high other. same n (omega (arith, high)) (λ is. other (is ∙ e)))
+
+-- the transaction of another connection's sender stays
+pub flight_kept : (k : Core) (c n : ℕ) (x : SenderState) → IsReached k → c < length k.world.connections → n < length k.world.connections → n ≢ c
+    → (let w = k.world in (speaker w n).flight ≡ (speaker (with_sender w (connection_at w c).sender x) n).flight)
+flight_kept k c n x reached there within other =
+    let w = k.world in
+    ap (λ (y : SenderState). y.flight)
+    (sym (get_or-set_other w.senders (connection_at w c).sender (connection_at w n).sender x new_sender (others_differ k c n reached there within other)))
+
+-- ---- the next transaction
+
+-- the sender's next transaction has no verdict
+pub next_undecided : (k : Core) (s : ℕ) → IsReached k → s < length k.world.senders
+    → find_verdict (record { sender = record { 0 = s }; seq = (sender_at k.world s).seq + 1 }) k.world.verdicts ≡ None
+next_undecided k s reached there =
+    let w = k.world in
+    let q = (sender_at w s).seq + 1 in
+    let id : TxnId = record { sender = record { 0 = s }; seq = q } in
+    let found = λ (o : Option (List (Option Decision))). option_and_then (λ found. found) (option_and_then (λ verdicts. slice_get verdicts (q - 1)) o) in
+    sym (verdict_is k id reached)
+    ∙ (ap (λ (b : Bool). cond b None (found (slice_get (table w) s))) (differ q 0 (λ z. absurd (omega (arith, z))))
+    ∙ (ap found (list_of w s there)
+    ∙ ap (λ (o : Option (Option Decision)). option_and_then (λ found. found) o) (not_in_list w s q (omega arith))))

@@ -1,0 +1,64 @@
+-- What is found by a subscription's number in its topic's group: its room, and what its queue shows.
+use Rattle.std.proofs.Common.{◌≡◌, ℕ, ◌==◌, Bool, true, false, cond, List, [], ◌∷◌, map, Option, Some, None, inl, inr, refl, sym, ap, ◌∙◌}
+use Rattle.std.proofs.Common.{eq-eqb}
+use Rattle.std.specs.Option.{is_some, option_map}
+use Rattle.std.proofs.lemmas.Bool.{eqb-true, true≢false}
+use Rattle.mcast_txn.specs.Lists.{In}
+use Rattle.sub_queue.specs.Shown.{Room}
+use Rattle.mcast_group.proofs.Parts.{not_true}
+use Rattle.mcast_group.specs.Group.{shows, shown_with, shown_at, room_at}
+use Rattle.mcast_group.specs.Machine.{TopicState, Entry, find_entry}
+use Rattle.delivery.specs.Machine.World.{World}
+use Rattle.delivery.specs.Inner.View.{group_view, queue_room}
+use Rattle.delivery.proofs.Views.Events.OneMove.{bool_cases}
+
+-- the room that is found is that of the entry that is found
+pub room_is : (room : ℕ → Room) (n : ℕ) (es : List Entry)
+    → room_at n es (map (λ e. room e.number) es) ≡ option_map (λ e. room n) (find_entry n es)
+room_is room n [] = refl
+room_is room n (e ∷ es) =
+    let rest = room_at n es (map (λ x. room x.number) es) in
+    elim (bool_cases (n == e.number)) [
+      | inl t ↦
+          let same : n ≡ e.number = eqb-true n e.number t in
+          ap (λ (b : Bool). cond b (Some (room e.number)) rest) t
+          ∙ (ap (λ (m : ℕ). Some (room m)) (sym same)
+          ∙ sym (ap (λ (b : Bool). option_map (λ (x : Entry). room n) (cond b (Some e) (find_entry n es))) (eq-eqb e.number n (sym same))))
+      | inr off ↦
+          let other : (e.number == n) ≡ false =
+          not_true (e.number == n) refl (λ same. true≢false (sym (eq-eqb n e.number (sym (eqb-true e.number n same))) ∙ off)) in
+          ap (λ (b : Bool). cond b (Some (room e.number)) rest) off
+          ∙ (room_is room n es
+          ∙ sym (ap (λ (b : Bool). option_map (λ (x : Entry). room n) (cond b (Some e) (find_entry n es))) other))
+    ]
+
+-- an entry of this number is found where one is among them
+found_there : (n : ℕ) (es : List Entry) (f : Entry) → In f es → n ≡ f.number → is_some (find_entry n es) ≡ true
+found_there n [] f here same = absurd here
+found_there n (e ∷ es) f here same = by_number (e.number == n) refl (λ later. found_there n es f later same) here
+  where
+    by_number : (b : Bool) → (e.number == n) ≡ b → (In f es → is_some (find_entry n es) ≡ true) → In f (e ∷ es)
+        → is_some (cond b (Some e) (find_entry n es)) ≡ true
+    by_number true k found i = refl
+    by_number false k found (inl first) = absurd (true≢false (sym (eq-eqb e.number n (ap (λ (x : Entry). x.number) first ∙ sym same)) ∙ k))
+    by_number false k found (inr later) = found later
+
+-- so its room is that of the number
+pub room_found : (room : ℕ → Room) (es : List Entry) (n : ℕ) (f : Entry) → In f es → n ≡ f.number
+    → room_at n es (map (λ e. room e.number) es) ≡ Some (room n)
+room_found room es n f here same = room_is room n es ∙ of_some (find_entry n es) (found_there n es f here same)
+  where
+    of_some : (o : Option Entry) → is_some o ≡ true → option_map (λ (e : Entry). room n) o ≡ Some (room n)
+    of_some None some = absurd (true≢false (sym some))
+    of_some (Some e) some = refl
+
+-- what a queue shows is what its entry and its number say
+pub shown_is : (w : World) (s : ℕ) (x : TopicState)
+    → shown_at s (group_view w x) ≡ shown_with (find_entry s x.subscriptions) (option_map (λ (e : Entry). queue_room w s) (find_entry s x.subscriptions))
+shown_is w s x = ap (λ (room : Option Room). shown_with (find_entry s x.subscriptions) room) (room_is (queue_room w) s x.subscriptions)
+
+-- so it shows this entry, where it is the one that is found
+pub shown_found : (w : World) (s : ℕ) (x : TopicState) (e : Entry) → find_entry s x.subscriptions ≡ Some e
+    → shown_at s (group_view w x) ≡ Some (shows e (queue_room w s))
+shown_found w s x e is =
+    shown_is w s x ∙ ap (λ (o : Option Entry). shown_with o (option_map (λ (f : Entry). queue_room w s) o)) is

@@ -1,0 +1,30 @@
+use Rattle.std.proofs.Common.{◌≡◌, ◌<◌, ◌+◌, ℕ, length, set, sym, ap, ◌∙◌, arith}
+use Rattle.std.proofs.lemmas.List.{set-get_or}
+use Rattle.delivery.specs.Inner.Rooms.{PromisedRows, is_flying}
+use Rattle.delivery.specs.Inner.View.{View, SenderView}
+use Rattle.delivery.proofs.Views.Senders.RoomLasts.{count_launched}
+use Rattle.delivery.proofs.Views.Verdicts.VerdictTable.{seqs_restored}
+use Rattle.delivery.proofs.Views.Runs.SameView.{same_view}
+use Rattle.delivery.proofs.net_state.NetState.launch.Goals as goal
+
+pub invariant_of-self-in-Ok-launch : goal.invariant_of-self-in-Ok-launch
+invariant_of-self-in-Ok-launch c =
+    let senders = c.self.inside.senders.items in
+    let s = c.behind-self.inside.sender in
+    let there : s < length senders = omega (arith, c.if-index-len.false, c.len.ensures, c.self.inside.senders.ok.0) in
+    let idle = ap (λ (x : SenderView). is_flying x.sending) (sym c.index_mut-state.ensures.value) ∙ c.in-Ok-launch.ensures.idle in
+    let promised = ap (λ (p : PromisedRows). p.promised) c.in_ok-promise.ensures.ok in
+    promised ∙ (ap (λ (n : ℕ). n + 1) c.self.invariant ∙ count_launched senders s c.launch.new.self _ there idle c.in-Ok-launch.ensures.flying)
+
+pub returns-in-Err-clause-err : goal.returns-in-Err-clause-err
+returns-in-Err-clause-err c =
+    let senders = c.self.inside.senders.items in
+    let s = c.behind-self.inside.sender in
+    let same = c.in-Err.ensures.err ∙ c.index_mut-state.ensures.value in
+    let kept : set senders s c.launch.new.self ≡ senders = ap (λ (x : SenderView). set senders s x) same ∙ set-get_or senders s _ in
+    let table = seqs_restored _ s c.add_seq.new.self c.drop_seq.new.self c.in-Ok.ensures.ok c.drop_seq.ensures in
+    let rows : c.forgo-in-Err.new.self.rows ≡ c.self.inside.commits.rows =
+    ap (λ (p : PromisedRows). p.rows) c.forgo-in-Err.ensures ∙ ap (λ (p : PromisedRows). p.rows) c.in_ok-promise.ensures.ok in
+    same_view _ c.args.self.now (ap (λ (v : View). v.names) c.self.view_is) (ap (λ (v : View). v.capacity) c.self.view_is)
+    (ap (λ (v : View). v.groups) c.self.view_is) (kept ∙ ap (λ (v : View). v.senders) c.self.view_is) (table ∙ ap (λ (v : View). v.verdicts) c.self.view_is)
+    (ap (λ (v : View). v.endpoints) c.self.view_is) (ap (λ (v : View). v.subs) c.self.view_is) (rows ∙ ap (λ (v : View). v.commits) c.self.view_is)

@@ -1,0 +1,4 @@
+//! The frames that a server sends, as data. The product writes them by `server_writer`, without making them.
+
+pub(crate) mod server_frame;
+pub(crate) mod server_headers;

@@ -1,0 +1,5 @@
+//! Writing: from frames to octets.
+
+pub(crate) mod line_buffer;
+pub(crate) mod server_writer;
+pub(crate) mod writer;
