@@ -28,7 +28,8 @@ build() {
 # Proves and builds bench/NAME_main.txt into bench/out/NAME, where a source is newer: for NAME, the
 # crates of this repository that it takes, and the kit's. It is no crate of this repository, and
 # `rt ci` takes no other below its top: so it is built in a scratch repository elsewhere, over copies
-# of the crates and of what was proved of them, as the crate `measured`, since `core` is the kit's.
+# of the crates and of what was proved of them, as the crate `measured`, since `core` is the kit's. What is
+# written of the proof of its function `run`, where that is needed, is bench/NAME_invariants.txt.
 prove() {
     local name=$1 crates=$2 others=$3 crate
     local sources=("bench/${name}_main.txt" crates.txt)
@@ -48,6 +49,10 @@ prove() {
     done
     echo "measured: $crates $others" >> "$scratch/crates.txt"
     cp "bench/${name}_main.txt" "$scratch/crates/measured/src/main.rt"
+    if [ -e "bench/${name}_invariants.txt" ]; then
+        mkdir -p "$scratch/crates/measured/proofs/run"
+        cp "bench/${name}_invariants.txt" "$scratch/crates/measured/proofs/run/Invariants.antt"
+    fi
     echo "proving and building the program (see bench/out/$name.log)" >&2
     (cd "$scratch/crates/measured" && rt run < /dev/null) > "bench/out/$name.log" 2>&1 \
         || { tail -n 20 "bench/out/$name.log" >&2; exit 1; }

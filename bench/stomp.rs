@@ -122,6 +122,12 @@ impl<'a> Header<'a> {
         }
     }
 
+    /// Its name and its value, with nothing borrowed.
+    #[allow(dead_code)] // Only a core that is fed in pieces wants it.
+    pub fn into_parts(self) -> (Vec<u8>, Vec<u8>) {
+        (self.name.into_owned(), self.value.into_owned())
+    }
+
     /// The same, with nothing borrowed.
     #[allow(dead_code)] // Only a reader that keeps a state wants it.
     pub fn into_owned(self) -> Header<'static> {

@@ -196,6 +196,7 @@ gathered_empty : IsTraceLeft 2 no_trace_data
 gathered_empty = record {
   places = new_place (at_topic 0) 8 3 true ∷ new_place (at_topic 1) 8 3 true ∷ [];
   many = refl;
+  topics = (refl, (refl, tt));
   each = (balanced_new (at_topic 0) 8 3 true, (balanced_new (at_topic 1) 8 3 true, tt));
   adds = record { fit = tt; is = refl };
 }

@@ -7,7 +7,9 @@ pub mod TraceKept
 pub mod PlaceTraces
 pub mod Balance
 pub mod Spans
+pub mod Limits
 pub mod Adding
 pub mod Gathered
 pub mod TraceRows
+pub mod RunTraces
 mod Examples

@@ -1,7 +1,8 @@
 -- Flights some of whose parts were entered.
-use Rattle.std.proofs.Common.{◌≡◌, ◌<◌, ◌++◌, ℕ, zero, suc, List, [], ◌∷◌, map, length, get_or, append_assoc, if◌then◌else◌, Bool, Result, Ok, Err, Option, Some, None, true, refl, sym, ap, subst, ◌∙◌, arith}
+use Rattle.std.proofs.Common.{◌≡◌, ◌<◌, ◌++◌, ℕ, zero, suc, List, [], ◌∷◌, map, length, get_or, slice_get, append_assoc, if◌then◌else◌, Bool, Result, Ok, Err, Option, Some, None, true, refl, sym, ap, subst, ◌∙◌, arith}
 use Rattle.std.specs.List.{AllByRecursion}
 use Rattle.std.specs.Option.{option_and_then}
+use Rattle.std.proofs.lemmas.Option.{slice_get-get_or}
 use Rattle.std.proofs.lemmas.List.{length-map, get_or-map, map-append, length_push}
 use Rattle.std.proofs.lemmas.Bool.Decides.{nat_tests}
 use Rattle.mcast_txn.specs.declared.fault.BallotFault.{BallotFault}
@@ -100,6 +101,14 @@ module _ (ps : List TopicPart) (first now : FlightState) (ns : List ℕ) (old ro
     next_topic =
         let at : us ≡ map (λ (p : TopicPart). p.topic) ps = named ∙ (ap (λ (s : Slots ℕ). map (λ (slot : Topic × Option ℕ). slot.0) s) so.tickets ∙ topics_after {A = ℕ} (λ p. None) ps (map (λ n. Some n) ns)) in
         ap (λ (l : List Topic). get_or l k (record { 0 = 0 })) at ∙ get_or-map (λ (p : TopicPart). p.topic) ps k no_part (record { 0 = 0 }) here
+
+    -- and that of the flight's topics
+    pub next_told : get_or us k (record { 0 = 0 }) ≡ get_or (map (λ (p : TopicPart). p.topic) ps) k (record { 0 = 0 })
+    next_told = next_topic ∙ sym (get_or-map (λ (p : TopicPart). p.topic) ps k no_part (record { 0 = 0 }) here)
+
+    -- the next part is among the parts
+    pub part_here : slice_get ps k ≡ Some (get_or ps k no_part)
+    part_here = slice_get-get_or ps k no_part here
 
     -- the next part is there
     pub next_part : held_at (get_or us k (record { 0 = 0 })) now.parts ≡ Some (get_or ps k no_part)

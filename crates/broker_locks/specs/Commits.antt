@@ -1,14 +1,20 @@
 -- What a commit does: the rows that it adds, the stamp, and the gate that it leaves.
-use Rattle.std.specs.Prelude.{◌≡◌, ◌++◌, ℕ, true, List, map, length, take}
+use Rattle.std.specs.Prelude.{◌≡◌, ◌++◌, ◌+◌, ◌⊎◌, ℕ, zero, suc, true, List, map, length, get_or, take, slice_get, Some}
 use Rattle.std.specs.List.{flat_map}
 use Rattle.std.specs.Option.{option_to_list}
+use Rattle.mcast_txn.specs.declared.flight.Flight.{Flight}
+use Rattle.mcast_txn.specs.declared.id.Topic.{Topic}
 use Rattle.mcast_txn.specs.declared.stamp.Stamp.{Stamp}
 use Rattle.mcast_txn.specs.declared.draft.sent_message.SentMessage.{SentMessage}
+use Rattle.mcast_txn.specs.Ballot.{Decision}
+use Rattle.mcast_txn.specs.Flight.{Sight, sight_of}
 use Rattle.mcast_txn.specs.Part.{parts_of}
 use Rattle.mcast_txn.specs.Slots.{Slots, free_slots}
 use Rattle.mcast_txn.specs.Stamp.{stamp_lt, greatest}
 use Rattle.mcast_txn.specs.Transaction.{TopicPart, topics_of}
+use Rattle.mcast_group.specs.declared.fault.ProposeFault.{ProposeFault}
 use Rattle.sender_gate.specs.Gate.{FlightState, GateState, gate_after}
+use Rattle.broker_locks.specs.Faults.{commit_fault}
 use Rattle.broker_locks.specs.Rows.{PlaceRow, Entered, Cancelled}
 use Rattle.broker_locks.specs.declared.fault.CommitFault.{CommitFault}
 use Rattle.broker_locks.specs.declared.fault.CommitFault.TheVariants as commit
@@ -76,3 +82,56 @@ pub record IsRefused (flight : FlightState) (old new : List PlaceRow) (gate : Ga
   pub left : gate ≡ gate_after flight (refused_floor fault flight.floor proposals)
   pub decided : fault ≡ commit.AlreadySet →
       (map (λ p. p.part) proposals ≡ parts_in flight.parts) × (stamp_lt flight.floor gate.floor ≡ true)
+
+-- ---- what is told of a commit
+
+-- the topics of a flight, by rising topic
+abbrev pub topics_in : FlightState → List Topic
+topics_in flight = map (λ p. p.topic) (parts_in flight.parts)
+
+-- The point was told the first so many of these topics, in order, each once and with its place: by what it was, what it is
+-- then. So where each telling puts the topic behind a list, it has the first two behind its list after two tellings.
+abbrev pub AreTold : {Q : Type 0} → (Q → Topic → ℕ → Q → Type 0) → List Topic → ℕ → Q → Q → Type 0
+AreTold told topics zero old new = new ≡ old
+AreTold {Q = Q} told topics (suc n) old new =
+    (mid : Q) × AreTold told topics n old mid × told mid (get_or topics n (record { 0 = 0 })) n new
+
+-- a note of this flight's cell, which knows a verdict with this stamp
+pub record KnowsStamp (flight : Flight) (stamp : Stamp) (seen : Sight) : Type 0 where
+  pub verdict : Decision
+  pub is : seen ≡ sight_of flight verdict
+  pub has : stamp ≡ greatest verdict.rows
+
+-- A place refused the last of the first so many parts of a flight.
+-- places: what the places were.
+-- before: how many parts come before it.
+-- part: it.
+-- refusal: the fault by which it was refused, which is the commit's.
+pub record IsPlaceFault {P : Type 0} (may_refuse : P → Stamp → TopicPart → ProposeFault → Type 0)
+    (flight : FlightState) (tried : ℕ) (fault : CommitFault) : Type 0 where
+  pub places : P
+  pub before : ℕ
+  pub last : tried ≡ before + 1
+  pub part : TopicPart
+  pub at : slice_get (parts_in flight.parts) before ≡ Some part
+  pub refusal : ProposeFault
+  pub refused : may_refuse places flight.floor part refusal
+  pub is : fault ≡ commit_fault refusal
+
+-- all parts were tried, and the flight had another verdict
+abbrev pub IsSetBefore : FlightState → ℕ → CommitFault → Type 0
+IsSetBefore flight tried fault = (tried ≡ length (parts_in flight.parts)) × (fault ≡ commit.AlreadySet)
+
+-- there was no memory for the commit, before the first part
+abbrev pub HasNoMemory : ℕ → CommitFault → Type 0
+HasNoMemory tried fault = (tried ≡ 0) × (fault ≡ commit.NoMemory)
+
+-- Where a refused commit stopped, and why.
+-- tried: how many of its topics were tried.
+-- tells: the point was told these, and no other.
+-- why: a place refused the last of them by this fault, or the flight had another verdict, or there was no memory at first.
+pub record StopsAt {P Q : Type 0} (may_refuse : P → Stamp → TopicPart → ProposeFault → Type 0)
+    (told : Q → Topic → ℕ → Q → Type 0) (flight : FlightState) (old new : Q) (fault : CommitFault) : Type 0 where
+  pub tried : ℕ
+  pub tells : AreTold told (topics_in flight) tried old new
+  pub why : IsPlaceFault may_refuse flight tried fault ⊎ (IsSetBefore flight tried fault ⊎ HasNoMemory tried fault)

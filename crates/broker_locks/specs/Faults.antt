@@ -1,9 +1,11 @@
--- The numbers and the titles of a commit's faults (own).
+-- The numbers and the titles of the faults of a commit and of a running broker (own).
 use Rattle.std.specs.Prelude.{ℕ, List, codes}
 use Rattle.mcast_group.specs.declared.fault.ProposeFault.{ProposeFault}
 use Rattle.mcast_group.specs.declared.fault.ProposeFault.TheVariants as propose
 use Rattle.broker_locks.specs.declared.fault.CommitFault.{CommitFault}
 use Rattle.broker_locks.specs.declared.fault.CommitFault.TheVariants as commit
+use Rattle.broker_locks.specs.declared.server_fault.ServerFault.{ServerFault}
+use Rattle.broker_locks.specs.declared.server_fault.ServerFault.TheVariants as server
 
 abbrev pub commit_number : CommitFault → ℕ
 commit_number commit.ClockFull = 40
@@ -26,3 +28,15 @@ commit_fault propose.ClockFull = commit.ClockFull
 commit_fault propose.LogFull = commit.LogFull
 commit_fault propose.NoMemory = commit.NoMemory
 commit_fault propose.Twice = commit.Twice
+
+-- ---- of a running broker (own)
+
+abbrev pub server_number : ServerFault → ℕ
+server_number server.TooManyConns = 100
+server_number server.NoMemory = 101
+server_number server.Io = 102
+
+abbrev pub server_title : ServerFault → List ℕ
+server_title server.TooManyConns = codes "100 TooManyConns"
+server_title server.NoMemory = codes "101 NoMemory"
+server_title server.Io = codes "102 Io"

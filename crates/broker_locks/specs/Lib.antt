@@ -3,6 +3,8 @@ pub mod Faults
 pub mod Gathering
 pub mod Inner
 pub mod KeptTrace
+pub mod Opening
 pub mod Place
 pub mod Rows
+pub mod Tickets
 pub mod TopicTraces

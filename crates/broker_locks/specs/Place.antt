@@ -46,6 +46,10 @@ pub record IsBalanced (place : PlaceState) : Type 0 where
   pub clock : place.tickets ≤ place.group.topic.clock
   pub trace : IfSome place.kept (KeepsTrace place.group.topic)
 
+-- the most parts and undrained rows of a broker's topic, taken together (our choice)
+abbrev pub topic_limit : ℕ
+topic_limit = 65536
+
 -- the place of a topic that nothing was done at
 abbrev pub new_place : Topic → ℕ → ℕ → Bool → PlaceState
 new_place topic log_limit clock keep_trace = record {

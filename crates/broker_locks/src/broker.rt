@@ -1,72 +1,105 @@
 //! A broker's topics, each behind a lock of its own.
 
-ghost use Rattle.std.specs.Prelude.{◌≡◌, ◌≤◌, ◌<◌, ◌+◌, ◌*◌, ℕ, List, [], length, vec_len, None, Ok, Err, IfOk, IfErr, IsErr};
+ghost use Rattle.std.specs.Prelude.{◌≡◌, ◌≤◌, ◌<◌, ◌+◌, ◌*◌, ℕ, List, [], length, map, vec_len, None, Ok, Err, IfOk, IfErr, OnOk, OnErr, IsErr};
+ghost use Rattle.std.specs.Option.{option_map};
+ghost use Rattle.delivery.specs.Topics.{max_topics};
 ghost use Rattle.mcast_group.specs.declared.fault.SubFault.TheVariants.{SubInUse};
-ghost use Rattle.broker_locks.specs.Commits.{IsCommitted, IsRefused, IsUntouched};
+ghost use Rattle.sender_gate.specs.Senders.{MayRefuse, SendersState, claim_refusal, claimed_gate};
+ghost use Rattle.broker_locks.specs.declared.server_fault.ServerFault.TheVariants.{TooManyConns};
+ghost use Rattle.broker_locks.specs.Commits.{AreTold, IsCommitted, IsRefused, IsUntouched, KnowsStamp, topics_in};
 ghost use Rattle.broker_locks.specs.Gathering.{IsTraceLeft, StopsGathering};
+ghost use Rattle.broker_locks.specs.Opening.{opening_clock, opening_places};
 ghost use Rattle.broker_locks.specs.Rows.{PlaceRow};
 
 use crate::commit::commit_on;
 use crate::fault::CommitFault;
 use crate::locked::Locked;
 use crate::locked_topic::LockedTopic;
-use crate::place::Place;
 use crate::point::Point;
+use crate::server_fault::ServerFault;
+use crate::shares::Shares;
+use crate::side::Side;
 use crate::subscribed::Subscribed;
-use delivery::Topics;
+use crate::tally::Tally;
+use crate::total::{Total, opened};
+use crate::worker::Worker;
+use crossbeam_utils::CachePadded;
+use delivery::{MAX_TOPICS, Topics};
 use mcast_group::{Ended, NoSub, SubFault, SubState};
-use mcast_txn::{NoMemory, Stamp, Topic};
-use sender_gate::{Flying, Gate};
+use mcast_txn::{NoMemory, Seen, Stamp, Topic};
+use sender_gate::{ClaimFault, Flying, Gate, Senders};
 use std::alloc::Global;
+use std::mem;
+use std::sync::ledger::{Blank, Share};
 use std::sync::{Mutex, Wait};
 use sub_queue::{Source, ruled};
 use trace_audit::{AddFault, Trace};
 
-/// The most parts and undrained rows of a topic, taken together (our choice).
-pub const LOG_LIMIT: usize = 65_536;
+/// A topic's lock, on cache lines of its own, so that two threads at two topics don't share one.
+pub(crate) type TopicLock<R, T> = CachePadded<Mutex<LockedTopic<R, T>>>;
 
-/// The topics of a broker, each behind a lock of its own. No call holds two locks. Nothing is said of what a call finds
-/// behind a lock but what the place's type keeps; what it does there is said on `Place`.
-pub struct Broker<R: Wait> {
+/// The topics of a broker, each behind a lock of its own, of which there are 1,024 whatever topics it begins with. Beside
+/// them a lock for the total of tickets, and one for the senders. No call holds two locks, but that a proposal takes the
+/// total's within its topic's, for one step. Nothing is said of what a call finds behind a lock but what its type keeps;
+/// what it does there is said on `Place`. `W` is the ledger of the workers' tickets, `T` that of the topics'.
+pub struct Broker<R: Wait, W: Side, T: Side> {
     alloc: Global,
     topics: Topics,
     capacity: usize,
-    locks: Vec<Mutex<LockedTopic<R>>>,
+    senders: Mutex<Senders>,
+    total: Mutex<Total<W, T>>,
+    locks: Vec<TopicLock<R, T>>,
     ghost some: { 0 < capacity },
-    ghost one_each: { vec_len locks ≡ length topics.names },
+    ghost one_each: { vec_len locks ≡ max_topics },
+    ghost shared: { T.all ≡ max_topics },
 }
 
-impl<R: Wait> Drop for Broker<R> {
+impl<R: Wait, W: Side, T: Side> Drop for Broker<R, W, T> {
     /// Written out, as at `Place`.
     fn drop(self) {
         let Broker {
             alloc: _,
             topics,
             capacity: _,
+            senders,
+            total,
             locks,
         } = self;
         drop(topics);
+        drop(senders);
+        drop(total);
         drop(locks);
     }
 }
 
-impl<R: Wait> Broker<R> {
+impl<R: Wait, W: Side, T: Side> Broker<R, W, T> {
     /// A broker of these topics, whose subscriptions have queues of this capacity, 1 to 4,096; whether a trace of its
-    /// run is kept.
+    /// run is kept. It has 1,024 topics: those behind the ones that are given have clock 0. The ledger of its workers has
+    /// 257 parts, that of its topics 1,024.
     pub fn new(
         alloc: Global,
         topics: Topics,
         capacity: usize,
         keep_trace: bool,
-    ) -> Result<Broker<R>, NoMemory>
-        requires { (1 ≤ capacity) × (capacity ≤ 4096) }
+        workers: Blank,
+        tickets: Blank,
+    ) -> Result<Broker<R, W, T>, NoMemory>
+        requires capacity { (1 ≤ capacity) × (capacity ≤ 4096) }
+        requires workers { (workers.name ≡ W.name) × (workers.parts ≡ W.parts) × (W.parts ≡ W.all)
+            × (W.all ≡ 257) }
+        requires tickets { (tickets.name ≡ T.name) × (tickets.parts ≡ T.parts) × (T.parts ≡ T.all)
+            × (T.all ≡ max_topics) }
         ensures { IfOk result (λ broker. (broker.topics ≡ topics) × (broker.capacity ≡ capacity)) }
     {
-        let locks = locks_of(alloc, &topics, keep_trace)?;
+        let (total, share) = opened::<W, T>(workers, tickets);
+        let opening = opening_topics(alloc, &topics, keep_trace, share, MAX_TOPICS)?;
+        let locks = locks_of(alloc, opening)?;
         Ok(Broker {
             alloc,
             topics,
             capacity,
+            senders: Mutex::new(Senders::new(alloc)),
+            total: Mutex::new(total),
             locks,
         })
     }
@@ -78,72 +111,184 @@ impl<R: Wait> Broker<R> {
         &self.topics
     }
 
-    /// Begins a subscription at the topic: its number, the frontier then, and the end that takes. The k-th at topic t
-    /// of m has number `k * m + t`. Refused: 47 where there is no such topic or no number is left, 42 out of memory.
+    /// How many items the queue of each subscription has room for. It takes no lock.
+    pub fn capacity(&self) -> usize
+        ensures { result ≡ self.now.capacity }
+    {
+        self.capacity
+    }
+
+    /// One more worker, which was given no ticket yet. It takes no memory. Refused by 100 alone, where 256 ever joined.
+    pub fn join(&self, rt: &R) -> Result<Worker<W>, ServerFault>
+        ensures worker { IfOk result (λ worker. worker ≡ record { workers = 1; tickets = 0 }) }
+        ensures fault { IfErr result (λ fault. fault ≡ TooManyConns) }
+    {
+        match self.total.lock(rt).join() {
+            Some(worker) => Ok(worker),
+            None => Err(ServerFault::TooManyConns),
+        }
+    }
+
+    /// The share of a worker that commits no more. It takes no lock and no memory.
+    pub fn leave(&self, _rt: &R, worker: Worker<W>) -> Shares<W>
+        ensures { result ≡ worker }
+    {
+        worker.into_shares()
+    }
+
+    /// The counts of all topics added up, given the shares of all workers that ever joined, with no memory. Refused (103)
+    /// where they aren't of as many workers: broker and shares are returned.
+    pub fn tally(self, _rt: &R, shares: Shares<W>) -> Result<Tally, (Broker<R, W, T>, Shares<W>)>
+        requires { (W.parts ≡ W.all) × (T.parts ≡ T.all) }
+        ensures tickets { IfOk result (λ tally. tally.tickets ≡ shares.tickets) }
+        ensures balanced { IfOk result
+            (λ tally. tally.tickets ≡ tally.released + tally.cancelled + tally.pending) }
+        ensures back { IfErr result (λ refused. refused.1 ≡ shares) }
+    {
+        let Broker {
+            alloc,
+            topics,
+            capacity,
+            senders,
+            total,
+            locks,
+        } = self;
+        let total = total.into_inner();
+        if total.joined != shares.workers {
+            let total = Mutex::new(total);
+            let broker = Broker {
+                alloc,
+                topics,
+                capacity,
+                senders,
+                total,
+                locks,
+            };
+            return Err((broker, shares));
+        }
+        drop(topics);
+        drop(senders);
+        Ok(counted(total, shares, locks))
+    }
+
+    /// The gate of the sender of this client-id, as it was given back last, or of a new sender: some state of the senders
+    /// gave it. Refused: 77, 78 or 55, as a state of them refuses it.
+    pub fn claim(&self, rt: &R, client: Option<&[u8]>) -> Result<Gate, ClaimFault>
+        ensures gate { IfOk result (λ gate. (senders : SendersState)
+            × (claim_refusal (option_map (λ id. id.now) client.entry) senders ≡ None)
+            × (gate ≡ claimed_gate (option_map (λ id. id.now) client.entry) senders)) }
+        ensures fault { IfErr result (λ fault. (senders : SendersState)
+            × MayRefuse (option_map (λ id. id.now) client.entry) senders fault) }
+    {
+        self.senders.lock(rt).claim(client)
+    }
+
+    /// Gives a sender's gate back, with no memory: where it has a client-id, the next claim of that gets it.
+    pub fn give_back(&self, rt: &R, gate: Gate) {
+        self.senders.lock(rt).give_back(gate)
+    }
+
+    /// Begins a subscription at the topic: its number, the frontier then, and the end that takes. The k-th at topic t has
+    /// number `k * 1,024 + t`. Refused: 47 where there is no such lock or no number is left, 42 out of memory.
     pub fn subscribe(&self, rt: &R, topic: Topic) -> Result<Subscribed, SubFault>
-        ensures nowhere { length self.now.topics.names ≤ topic.0 → result ≡ Err SubInUse }
-        ensures number { IfOk result
-            (λ begun. (k : ℕ) × (begun.sub ≡ k * length self.now.topics.names + topic.0)) }
+        ensures nowhere { max_topics ≤ topic.0 → result ≡ Err SubInUse }
+        ensures number { IfOk result (λ begun. (k : ℕ) × (begun.sub ≡ k * max_topics + topic.0)) }
         ensures queue { IfOk result
             (λ begun. (begun.taker.items ≡ []) × (begun.taker.capacity ≡ self.now.capacity)) }
     {
-        let Some(lock) = self.locks.get(topic.0 as usize) else {
+        let Some(lock) = self.lock_of(topic) else {
             return Err(SubFault::SubInUse);
         };
         let Ok((source, taker)) = ruled(self.alloc, self.capacity) else {
             return Err(SubFault::NoMemory);
         };
-        let (sub, start) = lock
-            .lock(rt)
-            .subscribe(self.locks.len() as u64, topic, source)?;
+        let (sub, start) = lock.lock(rt).subscribe(topic, source)?;
         Ok(Subscribed { sub, start, taker })
     }
 
     /// Ends the topic's subscription of this number, and returns what it leaves, with no memory. Refused by 48 where
     /// there is none.
     pub fn unsubscribe(&self, rt: &R, topic: Topic, sub: u64) -> Result<Ended<Source<R>>, NoSub>
-        ensures nowhere { length self.now.topics.names ≤ topic.0 → IsErr result }
+        ensures nowhere { max_topics ≤ topic.0 → IsErr result }
     {
-        match self.locks.get(topic.0 as usize) {
-            Some(lock) => lock.lock(rt).place.unsubscribe(sub),
+        match self.lock_of(topic) {
+            Some(lock) => lock.lock(rt).unsubscribe(sub),
             None => Err(NoSub),
         }
     }
 
     /// Whether the topic's subscription of this number is open or has lagged, if there is one.
     pub fn state(&self, rt: &R, topic: Topic, sub: u64) -> Option<SubState>
-        ensures nowhere { length self.now.topics.names ≤ topic.0 → result ≡ None }
+        ensures nowhere { max_topics ≤ topic.0 → result ≡ None }
     {
-        self.locks.get(topic.0 as usize)?.lock(rt).place.state(sub)
+        self.lock_of(topic)?.lock(rt).place.state(sub)
     }
 
-    /// Commits a transaction, as `commit_on` does over these locks: each is held for one proposal, by rising topic, and
-    /// none while the point is told. What it answers is said there; of what was done at the places, which other threads
-    /// may change at any time, it says no more than that there are such rows.
+    /// `commit_seen`, without the note.
     pub fn commit<Q: Point>(
         &self,
         rt: &R,
+        worker: &mut Worker<W>,
         flying: Flying,
         point: &mut Q,
     ) -> Result<(Gate, Stamp), (Gate, CommitFault)>
         requires { IsUntouched flying.state }
         ensures committed { IfOk result
             (λ done. (old new : List PlaceRow) × IsCommitted flying.state old new done.0 done.1) }
+        ensures told { OnOk result
+            (AreTold Q.told (topics_in flying.state) (length (topics_in flying.state)) point.old point.new) }
+        ensures given { OnOk result (worker.new.tickets ≡ worker.old.tickets + length (topics_in flying.state)) }
         ensures refused { IfErr result
             (λ refused. (old new : List PlaceRow) × IsRefused flying.state old new refused.0 refused.1) }
+        ensures no_less { OnErr result (worker.old.tickets ≤ worker.new.tickets) }
+        ensures no_more { OnErr result
+            (worker.new.tickets ≤ worker.old.tickets + length (topics_in flying.state)) }
     {
-        let mut locked = Locked::new(self, rt);
-        commit_on(flying, &mut locked, point)
+        let (gate, stamp, _) = self.commit_seen(rt, worker, flying, point)?;
+        Ok((gate, stamp))
     }
 
-    /// Turns the topic and drains its log. Returns how many rows it released: 0 where there is no such topic. Out of
+    /// Commits a transaction, as `commit_on` does over these locks: each is held for one proposal, by rising topic, and
+    /// none while the point is told. What it answers is said there; of what was done at the places, which other threads
+    /// may change at any time, it says no more than that there are such rows. The worker's tickets rise by one for each
+    /// topic, and where the commit is refused, by one for each that gave a ticket before.
+    pub fn commit_seen<Q: Point>(
+        &self,
+        rt: &R,
+        worker: &mut Worker<W>,
+        flying: Flying,
+        point: &mut Q,
+    ) -> Result<(Gate, Stamp, Seen), (Gate, CommitFault)>
+        requires { IsUntouched flying.state }
+        ensures committed { IfOk result
+            (λ done. (old new : List PlaceRow) × IsCommitted flying.state old new done.0 done.1) }
+        ensures set { IfOk result (λ done. KnowsStamp flying.flight done.1 done.2) }
+        ensures told { OnOk result
+            (AreTold Q.told (topics_in flying.state) (length (topics_in flying.state)) point.old point.new) }
+        ensures given { OnOk result (worker.new.tickets ≡ worker.old.tickets + length (topics_in flying.state)) }
+        ensures refused { IfErr result
+            (λ refused. (old new : List PlaceRow) × IsRefused flying.state old new refused.0 refused.1) }
+        ensures no_less { OnErr result (worker.old.tickets ≤ worker.new.tickets) }
+        ensures no_more { OnErr result
+            (worker.new.tickets ≤ worker.old.tickets + length (topics_in flying.state)) }
+    {
+        let Worker { shares } = worker;
+        let Shares { workers: _, share } = shares;
+        let none = share.empty();
+        let mut locked = Locked::new(self, rt, mem::replace(share, none));
+        let answer = commit_on(flying, &mut locked, point);
+        *share = locked.into_share();
+        answer
+    }
+
+    /// Turns the topic and drains its log. Returns how many rows it released: 0 where there is no such lock. Out of
     /// memory for the drain, the turn stands. The drained rows that no trace keeps are let go after the lock.
     pub fn head_turn(&self, rt: &R, topic: Topic) -> Result<u64, NoMemory>
-        ensures nowhere { length self.now.topics.names ≤ topic.0 → result ≡ Ok 0 }
+        ensures nowhere { max_topics ≤ topic.0 → result ≡ Ok 0 }
     {
-        match self.locks.get(topic.0 as usize) {
+        match self.lock_of(topic) {
             Some(lock) => {
-                let (released, drained) = lock.lock(rt).place.head(rt)?;
+                let (released, drained) = lock.lock(rt).head(rt)?;
                 drop(drained);
                 Ok(released)
             }
@@ -153,27 +298,43 @@ impl<R: Wait> Broker<R> {
 
     /// The trace of the run: what each topic leaves for it, by the topics' numbers; an empty one where no trace is
     /// kept. No lock is taken, since nobody else has the broker. Refused by 91 out of memory; 98, where what two topics
-    /// leave doesn't fit together, never comes, but that is not proved.
+    /// leave doesn't fit together, or a place is of another topic than its lock, never comes, but that is not proved.
     pub fn into_trace(self) -> Result<Trace, AddFault>
-        ensures gathered { IfOk result (IsTraceLeft (length self.topics.names)) }
-        ensures refused { IfErr result (StopsGathering (length self.topics.names)) }
+        ensures gathered { IfOk result (IsTraceLeft max_topics) }
+        ensures refused { IfErr result (StopsGathering max_topics) }
     {
         let Broker {
             alloc,
             topics: _,
             capacity: _,
+            senders: _,
+            total: _,
             locks,
         } = self;
         let mut trace = Trace::new(alloc);
+        let mut number = 0;
         for lock in locks {
-            lock.into_inner().place.rows(&mut trace)?;
+            let topic = topic_behind(lock);
+            let Ok(place) = topic.into_place(number) else {
+                return Err(AddFault::Misfit);
+            };
+            place.rows(&mut trace)?;
+            number += 1;
         }
         Ok(trace)
     }
 
-    /// The lock of a topic, if it is there.
-    pub(crate) fn lock_of(&self, topic: Topic) -> Option<&Mutex<LockedTopic<R>>> {
-        self.locks.get(topic.0 as usize)
+    /// The lock of a topic, if there is one.
+    pub(crate) fn lock_of(&self, topic: Topic) -> Option<&Mutex<LockedTopic<R, T>>>
+        ensures { max_topics ≤ topic.0 → result ≡ None }
+    {
+        let lock = self.locks.get(topic.0 as usize)?;
+        Some(lock)
+    }
+
+    /// The lock of the total of tickets.
+    pub(crate) fn total(&self) -> &Mutex<Total<W, T>> {
+        &self.total
     }
 
     /// Where it allocates.
@@ -182,27 +343,109 @@ impl<R: Wait> Broker<R> {
     }
 }
 
-/// A lock for each topic.
-fn locks_of<R: Wait>(
+/// What is behind the first so many locks at first: of these topics, and behind them of topics with clock 0.
+fn opening_topics<R: Wait, T: Side>(
     alloc: Global,
     topics: &Topics,
     keep_trace: bool,
-) -> Result<Vec<Mutex<LockedTopic<R>>>, NoMemory>
-    ensures { IfOk result (λ locks. vec_len locks ≡ length topics.now.names) }
+    share: Share<T>,
+    count: usize,
+) -> Result<Vec<LockedTopic<R, T>>, NoMemory>
+    requires few { count ≤ max_topics }
+    requires share { (share.parts ≡ count) × (share.amount ≡ 0) }
+    ensures many { IfOk result (λ opening. vec_len opening ≡ count) }
+    ensures each { IfOk result
+        (λ opening. map (λ t. t.place) opening.items ≡ opening_places topics.now keep_trace count) }
 {
-    let count = topics.len();
-    let mut locks = Vec::with_capacity(alloc, count)?;
+    let mut share = share;
+    let mut opening = Vec::with_capacity(alloc, count)?;
     for i in 0..count {
-        locks.push(Mutex::new(LockedTopic {
-            place: Place::new(
-                alloc,
-                Topic(i as u32),
-                topics.clock(i),
-                LOG_LIMIT,
-                keep_trace,
-            ),
-            next: Some(0),
-        }))?;
+        let topic = Topic(i as u32);
+        let clock = clock_of(topics, i);
+        let one = share.split_off(1, 0);
+        opening.push(LockedTopic::new(alloc, topic, clock, keep_trace, one))?;
+    }
+    Ok(opening)
+}
+
+/// The number that the clock of a topic begins at: 0 where it isn't one of these.
+fn clock_of(topics: &Topics, i: usize) -> u64
+    ensures { result ≡ opening_clock topics.now i }
+{
+    if i < topics.len() { topics.clock(i) } else { 0 }
+}
+
+/// A lock for each of these.
+fn locks_of<R: Wait, T: Side>(
+    alloc: Global,
+    opening: Vec<LockedTopic<R, T>>,
+) -> Result<Vec<TopicLock<R, T>>, NoMemory>
+    ensures { IfOk result (λ locks. vec_len locks ≡ vec_len opening) }
+{
+    let mut locks = Vec::with_capacity(alloc, opening.len())?;
+    for topic in opening {
+        locks.push(CachePadded::new(Mutex::new(topic)))?;
     }
     Ok(locks)
+}
+
+/// The counts of all topics, where these shares are of all workers that joined.
+fn counted<R: Wait, W: Side, T: Side>(
+    total: Total<W, T>,
+    shares: Shares<W>,
+    locks: Vec<TopicLock<R, T>>,
+) -> Tally
+    requires parts { (W.parts ≡ W.all) × (T.parts ≡ T.all) }
+    requires locks { (T.all ≡ max_topics) × (vec_len locks ≡ max_topics) }
+    requires all { total.joined ≤ shares.workers }
+    ensures tickets { result.tickets ≡ shares.tickets }
+    ensures balanced { result.tickets ≡ result.released + result.cancelled + result.pending }
+{
+    let Total {
+        tickets: _,
+        joined: _,
+        mut workers,
+        rest,
+        topics,
+        mut end,
+    } = total;
+    let Shares {
+        workers: _,
+        mut share,
+    } = shares;
+    share.merge(rest);
+    workers.audit(&mut share);
+    let tally = add_up(locks, &mut end);
+    topics.close().audit(&mut end);
+    tally
+}
+
+/// What is behind a lock that nobody else has.
+fn topic_behind<R: Wait, T: Side>(lock: TopicLock<R, T>) -> LockedTopic<R, T> {
+    lock.into_inner().into_inner()
+}
+
+/// The counts of these topics added up, and their shares merged into one of none.
+fn add_up<R: Wait, T: Side>(locks: Vec<TopicLock<R, T>>, all: &mut Share<T>) -> Tally
+    requires none { (all.old.parts ≡ 0) × (all.old.amount ≡ 0) }
+    requires few { vec_len locks ≡ max_topics }
+    ensures parts { all.new.parts ≡ vec_len locks }
+    ensures tickets { result.tickets ≡ all.new.amount }
+    ensures balanced { result.tickets ≡ result.released + result.cancelled + result.pending }
+{
+    let mut tally = Tally {
+        tickets: 0,
+        cancelled: 0,
+        released: 0,
+        pending: 0,
+    };
+    for lock in locks {
+        let (counts, share) = topic_behind(lock).into_counts();
+        all.merge(share);
+        tally.tickets += u128::from(counts.tickets);
+        tally.cancelled += u128::from(counts.cancelled);
+        tally.released += u128::from(counts.released);
+        tally.pending += u128::from(counts.pending);
+    }
+    tally
 }

@@ -9,8 +9,8 @@ use thiserror::Error;
 /// Why a transaction isn't committed. The parts that were entered are cancelled.
 #[derive(Clone, Copy, Debug, PartialEq, Eq, Error)]
 pub enum CommitFault {
-    /// 40: a topic has no number left above its clock and the floor.
-    #[error("40 ClockFull: no number is left at a topic; send to other topics or as another sender")]
+    /// 40: a topic has no number left above its clock and the floor, or the broker's topics gave 2^64 - 1 tickets.
+    #[error("40 ClockFull: no number is left; send to other topics or as another sender, or begin a new broker")]
     ClockFull,
     /// 41: a topic's pending parts and undrained rows are at their limit.
     #[error("41 LogFull: turn the topic and drain its log before sending more")]

@@ -1,9 +1,35 @@
-//! Laws: functions that do nothing, whose contracts are theorems about a run's trace.
+//! Laws: functions that do nothing at run time, whose contracts are theorems about a run's trace and about stamps.
 
+ghost use Rattle.std.specs.Prelude.{◌≡◌, Some};
+ghost use Rattle.mcast_txn.specs.declared.flight.Flight.{Flight};
+ghost use Rattle.mcast_txn.specs.declared.stamp.Stamp.{Stamp};
+ghost use Rattle.mcast_txn.specs.Ballot.{Decision};
+ghost use Rattle.mcast_txn.specs.Stamp.{greatest};
+ghost use Rattle.broker_locks.specs.Commits.{KnowsStamp};
+ghost use Rattle.broker_locks.specs.Gathering.{GatheredIsDue};
 ghost use Rattle.broker_locks.specs.TopicTraces.{ExplainedIsDue};
+
+use mcast_txn::Seen;
 
 /// Where the audit says yes to the trace of all topics of a run, so that one list of transactions explains it, what
 /// each subscription's source has pushed is that list restricted to its topic and span, up to its topic's frontier.
 pub fn explained_is_due()
     ensures { ExplainedIsDue }
 {}
+
+/// The same of the trace that `Broker::into_trace` gives: its topics are those of one run, since no topic and no
+/// subscription is there twice.
+pub fn gathered_is_due()
+    ensures { GatheredIsDue }
+{}
+
+/// The stamp that a commit answered is that of the verdict which any note of its flight's cell knows, in whichever thread it
+/// was made: so it is the stamp by which each topic releases that has such a note.
+pub fn answered_stamp(answered: Seen, other: Seen)
+    requires { other.cell ≡ answered.cell }
+    ensures { (flight : Flight) (stamp : Stamp) (verdict : Decision) → KnowsStamp flight stamp answered
+        → other.known ≡ Some verdict → stamp ≡ greatest verdict.rows }
+{
+    let mut answered = answered;
+    answered.agree(other);
+}

@@ -5,36 +5,67 @@ ghost use Rattle.std.specs.Prelude.{◌≡◌, []};
 use crate::broker::Broker;
 use crate::done_rows::DoneRows;
 use crate::places::Places;
+use crate::side::Side;
 use mcast_group::ProposeFault;
 use mcast_txn::{Part, Stamp, Ticket, Topic, TxnId};
+use std::sync::ledger::Share;
 use std::sync::{Arc, Wait};
 
-/// A broker's locks, and what a commit did behind them. Each call takes one lock, and lets go of it.
+/// A broker's locks, the share of the worker that commits, and what its commit did behind them. Each call takes a topic's
+/// lock, within it the total's for one step of a proposal, and lets go of both.
 #[derive(Drop)]
-pub(crate) struct Locked<'a, R: Wait> {
-    broker: &'a Broker<R>,
+pub(crate) struct Locked<'a, R: Wait, W: Side, T: Side> {
+    broker: &'a Broker<R, W, T>,
     rt: &'a R,
+    share: Share<W>,
     done: DoneRows,
+    ghost one: { share.parts ≡ 1 },
 }
 
-impl<'a, R: Wait> Locked<'a, R> {
+impl<'a, R: Wait, W: Side, T: Side> Locked<'a, R, W, T> {
     /// The broker's locks, behind which nothing was done yet.
-    pub(crate) fn new(broker: &'a Broker<R>, rt: &'a R) -> Locked<'a, R>
-        ensures { result.done.rows ≡ [] }
+    pub(crate) fn new(
+        broker: &'a Broker<R, W, T>,
+        rt: &'a R,
+        share: Share<W>,
+    ) -> Locked<'a, R, W, T>
+        requires { share.parts ≡ 1 }
+        ensures rows { result.done.rows ≡ [] }
+        ensures tickets { result.share.amount ≡ share.amount }
     {
         Locked {
             broker,
             rt,
+            share,
             done: DoneRows::new(broker.alloc()),
         }
     }
+
+    /// The worker's share.
+    pub(crate) fn into_share(self) -> Share<W>
+        ensures one { result.parts ≡ 1 }
+        ensures tickets { result.amount ≡ self.entry.share.amount }
+    {
+        let Locked {
+            broker: _,
+            rt: _,
+            share,
+            done,
+        } = self;
+        drop(done);
+        share
+    }
 }
 
-impl<'a, R: Wait> Places for Locked<'a, R> {
+impl<'a, R: Wait, W: Side, T: Side> Places for Locked<'a, R, W, T> {
     ghost rows = { λ l. l.done.rows };
 
-    /// Enters the part behind its topic's lock. Refused as by the place, 49 also where there is no such topic, 42 also
-    /// where there is no memory for what is stored of it.
+    ghost given = { λ l. l.share.amount };
+
+    ghost may_refuse = { λ l floor part fault. Unit {0} };
+
+    /// Enters the part behind its topic's lock. Refused as there, 49 also where there is no such lock, 42 also where there
+    /// is no memory for what is stored of it.
     fn propose(&mut self, floor: Stamp, part: Arc<Part>) -> Result<Ticket, ProposeFault> {
         let Some(lock) = self.broker.lock_of(part.topic) else {
             return Err(ProposeFault::Twice);
@@ -45,7 +76,9 @@ impl<'a, R: Wait> Places for Locked<'a, R> {
         let Ok(copy) = part.clone() else {
             return Err(ProposeFault::NoMemory);
         };
-        let ticket = lock.lock(self.rt).place.propose(floor, part)?;
+        let mut topic = lock.lock(self.rt);
+        let mut total = self.broker.total().lock(self.rt);
+        let ticket = topic.propose(&mut total, &mut self.share, floor, part)?;
         self.done.enter(copy, floor, ticket.n);
         Ok(ticket)
     }
@@ -53,7 +86,7 @@ impl<'a, R: Wait> Places for Locked<'a, R> {
     /// Cancels the part behind its topic's lock. Where the place refuses, as no commit makes it do, that is stored too.
     fn cancel(&mut self, topic: Topic, id: TxnId) {
         if let Some(lock) = self.broker.lock_of(topic) {
-            let _refused = lock.lock(self.rt).place.cancel(id);
+            let _refused = lock.lock(self.rt).cancel(id);
         }
         self.done.cancel(topic, id);
     }

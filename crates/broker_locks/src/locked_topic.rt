@@ -1,41 +1,166 @@
-//! A topic's place, and which of its subscriptions is next.
+//! What one topic's lock guards.
 
-ghost use Rattle.std.specs.Prelude.{◌≡◌, ◌+◌, ◌*◌, ℕ, [], Some, IfOk, IfSome, OnErr};
+ghost use Rattle.std.specs.Prelude.{◌≡◌, ◌≢◌, ◌+◌, ◌*◌, ◌<◌, ℕ, [], None, Some, IfOk, IfErr, IfSome, OnOk, OnErr};
+ghost use Rattle.std.specs.Arc.{arc_value};
+ghost use Rattle.mcast_txn.specs.Part.{data_of};
 ghost use Rattle.sub_queue.specs.Ends.{shown_of_source};
-ghost use Rattle.broker_locks.specs.Place.{place_after_subscribe};
+ghost use Rattle.mcast_group.specs.Group.{or_no_memory};
+ghost use Rattle.mcast_group.specs.declared.fault.ProposeFault.TheVariants.{ClockFull};
+ghost use Rattle.mcast_group.specs.Machine.{next_number};
+ghost use Rattle.delivery.specs.Topics.{max_topics};
+ghost use Rattle.trace_audit.specs.declared.fault.AddFault.TheVariants.{Misfit};
+ghost use Rattle.broker_locks.specs.Place.{HasTurned, new_place, place_after_propose, place_after_subscribe, place_after_unsubscribe, place_fault, topic_limit};
+ghost use Rattle.broker_locks.specs.Tickets.{most_tickets};
 
+use crate::counts::Counts;
 use crate::place::Place;
-use mcast_group::SubFault;
-use mcast_txn::{Stamp, Topic};
-use std::sync::Wait;
+use crate::side::Side;
+use crate::total::Total;
+use delivery::MAX_TOPICS;
+use mcast_group::{CancelFault, Ended, LogRows, NoSub, ProposeFault, SubFault};
+use mcast_txn::{NoMemory, Part, Stamp, Ticket, Topic, TxnId};
+use std::alloc::Global;
+use std::sync::ledger::Share;
+use std::sync::{Arc, Wait};
 use sub_queue::Source;
+use trace_audit::AddFault;
 
-/// A topic's place, and which of its subscriptions is next, from 0, if one is left.
-pub(crate) struct LockedTopic<R: Wait> {
+/// The most parts and undrained rows of a topic, taken together (our choice).
+pub const LOG_LIMIT: usize = 65_536;
+
+/// A topic's place, of at most 65,536 parts and rows, which of its subscriptions is next, from 0, if one is left, and its
+/// share of the tickets, which are those that it gave.
+pub(crate) struct LockedTopic<R: Wait, T: Side> {
     pub(crate) place: Place<R>,
     pub(crate) next: Option<u64>,
+    pub(crate) share: Share<T>,
+    ghost limit: { place.group.topic.log_limit ≡ 65536 },
+    ghost one: { share.parts ≡ 1 },
+    ghost counted: { share.amount ≡ place.tickets },
 }
 
-impl<R: Wait> Drop for LockedTopic<R> {
+impl<R: Wait, T: Side> Drop for LockedTopic<R, T> {
     /// Written out, as at `Place`.
     fn drop(self) {
-        let LockedTopic { place, next: _ } = self;
+        let LockedTopic {
+            place,
+            next: _,
+            share,
+        } = self;
         drop(place);
+        drop(share);
     }
 }
 
-impl<R: Wait> LockedTopic<R> {
-    /// Begins the next subscription, the k-th from 0, at this topic of so many, and returns its number, `k * topics +
-    /// topic`, and the frontier. Refused: 47 where no number is left, and as by the place; nothing has changed then.
+impl<R: Wait, T: Side> LockedTopic<R, T> {
+    /// An empty topic with this clock, and this share; whether it keeps a trace. It takes no memory.
+    pub(crate) fn new(
+        alloc: Global,
+        topic: Topic,
+        clock: u64,
+        keep_trace: bool,
+        share: Share<T>,
+    ) -> LockedTopic<R, T>
+        requires { (share.parts ≡ 1) × (share.amount ≡ 0) }
+        ensures { result.place ≡ new_place topic topic_limit clock keep_trace }
+    {
+        LockedTopic {
+            place: Place::new(alloc, topic, clock, LOG_LIMIT, keep_trace),
+            next: Some(0),
+            share,
+        }
+    }
+
+    /// Its place, if it is that of this topic. Refused by 98 where it isn't.
+    pub(crate) fn into_place(self, number: u32) -> Result<Place<R>, AddFault>
+        ensures number { IfOk result (λ place. place.group.topic.topic.0 ≡ number) }
+        ensures other { OnErr result (self.place.group.topic.topic.0 ≢ number) }
+        ensures fault { IfErr result (λ fault. fault ≡ Misfit) }
+    {
+        let LockedTopic {
+            place,
+            next: _,
+            share: _,
+        } = self;
+        if place.group().topic().0 == number {
+            Ok(place)
+        } else {
+            Err(AddFault::Misfit)
+        }
+    }
+
+    /// Its counts, and its share of the tickets.
+    pub(crate) fn into_counts(self) -> (Counts, Share<T>)
+        ensures one { result.1.parts ≡ 1 }
+        ensures tickets { result.1.amount ≡ result.0.tickets }
+        ensures balanced { result.0.tickets ≡ result.0.released + result.0.cancelled + result.0.pending }
+    {
+        let LockedTopic {
+            place,
+            next: _,
+            share,
+        } = self;
+        (place.counts(), share)
+    }
+
+    /// Enters a part, and counts its ticket as the worker's that has this share. Refused by 40 where the total is full, and
+    /// else as by the place; then nothing has changed, and nothing was counted.
+    pub(crate) fn propose<W: Side>(
+        &mut self,
+        total: &mut Total<W, T>,
+        mine: &mut Share<W>,
+        floor: Stamp,
+        part: Arc<Part>,
+    ) -> Result<Ticket, ProposeFault>
+        requires { 0 < mine.old.parts }
+        ensures parts { mine.new.parts ≡ mine.old.parts }
+        ensures allowed { OnOk result (place_fault floor (data_of (arc_value part)) self.old.place ≡ None) }
+        ensures ticket { IfOk result (λ ticket. ticket ≡ record {
+          id = (arc_value part).id;
+          topic = self.old.place.group.topic.topic;
+          n = next_number floor self.old.place.group.topic;
+        }) }
+        ensures ok { OnOk result (self.new.place ≡ place_after_propose floor (data_of (arc_value part)) self.old.place) }
+        ensures counted { OnOk result (mine.new.amount ≡ mine.old.amount + 1) }
+        ensures full { total.old.tickets ≡ most_tickets → IfErr result (λ fault. fault ≡ ClockFull) }
+        ensures same { OnErr result (self.new.place ≡ self.old.place) }
+        ensures uncounted { OnErr result (mine.new.amount ≡ mine.old.amount) }
+    {
+        if total.is_full() {
+            return Err(ProposeFault::ClockFull);
+        }
+        let LockedTopic {
+            place,
+            next: _,
+            share,
+        } = self;
+        let ticket = place.propose(floor, part)?;
+        total.give(mine, share);
+        Ok(ticket)
+    }
+
+    /// Takes the transaction's part out, as the place does.
+    pub(crate) fn cancel(&mut self, id: TxnId) -> Result<(), CancelFault> {
+        self.place.cancel(id)
+    }
+
+    /// Turns the topic and drains its log, as the place does.
+    pub(crate) fn head(&mut self, rt: &R) -> Result<(u64, LogRows), NoMemory>
+        ensures { HasTurned self.old.place self.new.place result }
+    {
+        self.place.head(rt)
+    }
+
+    /// Begins the next subscription, the k-th from 0, at this topic, and returns its number, `k * 1,024 + topic`, and the
+    /// frontier. Refused: 47 where no number is left, and as by the place; nothing has changed then.
     pub(crate) fn subscribe(
         &mut self,
-        topics: u64,
         topic: Topic,
         source: Source<R>,
     ) -> Result<(u64, Stamp), SubFault>
         requires { source.items ≡ [] }
         ensures number { IfOk result
-            (λ begun. (k : ℕ) × (self.old.next ≡ Some k) × (begun.0 ≡ k * topics + topic.0)) }
+            (λ begun. (k : ℕ) × (self.old.next ≡ Some k) × (begun.0 ≡ k * max_topics + topic.0)) }
         ensures from { IfOk result (λ begun. begun.1 ≡ self.old.place.group.topic.frontier) }
         ensures ok { IfOk result
             (λ begun. self.new.place ≡ place_after_subscribe begun.0 (shown_of_source source).room self.old.place) }
@@ -45,7 +170,7 @@ impl<R: Wait> LockedTopic<R> {
         let Some(k) = self.next else {
             return Err(SubFault::SubInUse);
         };
-        let Some(number) = number_of(k, topics, topic) else {
+        let Some(number) = number_of(k, topic) else {
             return Err(SubFault::SubInUse);
         };
         match self.place.subscribe(number, source) {
@@ -56,11 +181,20 @@ impl<R: Wait> LockedTopic<R> {
             Err((fault, _source)) => Err(fault),
         }
     }
+
+    /// Ends the subscription of this number, as the place does.
+    pub(crate) fn unsubscribe(&mut self, number: u64) -> Result<Ended<Source<R>>, NoSub>
+        ensures ok { OnOk result (self.new.place ≡ place_after_unsubscribe number self.old.place) }
+        ensures err { OnErr result (self.new.place ≡ self.old.place) }
+    {
+        self.place.unsubscribe(number)
+    }
 }
 
-/// The number of the k-th subscription, from 0, at this topic of so many, if it fits.
-fn number_of(k: u64, topics: u64, topic: Topic) -> Option<u64>
-    ensures { IfSome result (λ number. number ≡ k * topics + topic.0) }
+/// The number of the k-th subscription, from 0, at this topic, if it fits.
+fn number_of(k: u64, topic: Topic) -> Option<u64>
+    ensures { IfSome result (λ number. number ≡ k * max_topics + topic.0) }
 {
-    k.checked_mul(topics)?.checked_add(u64::from(topic.0))
+    k.checked_mul(MAX_TOPICS as u64)?
+        .checked_add(u64::from(topic.0))
 }

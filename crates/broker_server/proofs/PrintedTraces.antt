@@ -21,7 +21,7 @@ use Rattle.trace_audit.proofs.Rereading.{printed_is_read}
 use Rattle.delivery.specs.Core.Account.{account_of}
 use Rattle.delivery.specs.Core.Reports.{QueueReport, Report, report_of}
 use Rattle.delivery.specs.Core.State.{core_of}
-use Rattle.delivery.specs.Nets.{KeptRun, steps_of_net, core_of_net}
+use Rattle.delivery.specs.Nets.{KeptRun, core_of_net}
 use Rattle.delivery.specs.Traces.{traced_span, traced_queue, trace_of, IsTraced}
 use Rattle.delivery.proofs.Core.DeliversOfRun.{delivers}
 use Rattle.delivery.proofs.Traces.Lines.{row_in_log}
@@ -147,9 +147,9 @@ report_adds r f =
 net_adds : (net : KeptRun) (trace : TraceData) → IsTraced net trace → AddsRows (rows_in trace) no_trace_data trace
 net_adds net trace traced =
     let r = report_of (core_of_net net) in
-    let d = delivers net.topics net.capacity (steps_of_net net) traced.is_delivered.is_run in
+    let d = delivers net.topics net.capacity net.steps traced.is_delivered.answered.is_run in
     let fit : list_all (λ (l : LogLine). fits l) (trace_of r).logs ≡ true =
-    all_pass (λ (l : LogLine). fits l) (trace_of r).logs (row_fits (account_of net.topics.names (steps_of_net net)) r d) in
+    all_pass (λ (l : LogLine). fits l) (trace_of r).logs (row_fits (account_of net.topics.names net.steps) r d) in
     subst (λ (z : TraceData). AddsRows (rows_in z) no_trace_data z) (sym traced.is_trace) (report_adds r fit)
 
 -- ---- what is alike has the same explanation

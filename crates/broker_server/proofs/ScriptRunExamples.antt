@@ -14,10 +14,14 @@ nothing_is_scripted = inl (
   inl (record {
     script = no_script;
     spelled = refl;
-    net = record { topics = no_topics; capacity = 64; kept = []; spare = 0 };
+    net = record { topics = no_topics; capacity = 64; kept = []; steps = []; spare = 0 };
     run = record { topics = refl; capacity = refl; events = refl };
     report = report_of (core_of no_topics 64 []);
-    delivered = record { are_kept = refl; is_run = tt; is_report = refl; delivery = delivery no_topics 64 [] refl tt };
+    delivered = record {
+      delivered = (delivery no_topics 64 [] refl tt).delivered;
+      written = (delivery no_topics 64 [] refl tt).written;
+      answered = record { as_many = refl; are_kept = refl; is_run = tt; is_report = refl };
+    };
     written = refl;
     status_is = refl;
   }),

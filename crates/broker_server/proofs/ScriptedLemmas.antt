@@ -1,20 +1,13 @@
 -- Each input has an output of the programs `script` and `trace`.
 use Rattle.std.proofs.Common.{◌≡◌, ◌≢◌, ◌⊎◌, ◌<◌, ◌≤◌, ℕ, List, [], ◌∷◌, ◌++◌, inl, inr, refl, sym, ap, subst, ◌∙◌, ◌+◌, map, length, length-append}
 use Rattle.std.proofs.lemmas.Bool.{cases_lt}
-use Rattle.std.proofs.lemmas.List.{reverse-reverse}
-use Rattle.delivery.specs.declared.kept.Kept.{Kept}
 use Rattle.delivery.specs.Core.Account.{account_of}
-use Rattle.delivery.specs.Core.Delivery.{Delivery, kept_run}
-use Rattle.delivery.specs.Core.Outcomes.{IsCoreRun}
-use Rattle.delivery.specs.Core.Readings.{steps_of}
+use Rattle.delivery.specs.Core.Delivery.{kept_run}
 use Rattle.delivery.specs.Core.Reports.{report_of}
-use Rattle.delivery.specs.Core.State.{core_of}
-use Rattle.delivery.specs.Core.Steps.{CoreStep, kept_of}
-use Rattle.delivery.specs.Nets.{KeptRun, HasReport, steps_of_net, core_of_net}
+use Rattle.delivery.specs.Nets.{KeptRun, HasReport, core_of_net}
 use Rattle.delivery.specs.Traces.{trace_of, IsTraced}
 use Rattle.delivery.proofs.Core.DeliversOfRun.{delivers}
 use Rattle.delivery.proofs.Core.DeliveryOfRun.{delivery}
-use Rattle.delivery.proofs.Core.StepsOfRun.{steps_are}
 use Rattle.delivery.proofs.Traces.OfRuns.{traced}
 use Rattle.broker_server.specs.Input.{input_limit, too_long}
 use Rattle.broker_server.specs.ReportText.{report_text}
@@ -59,22 +52,20 @@ some_net text script is =
     let topics = script.topics in
     let capacity = capacity_of script in
     let r = some_run topics capacity script.events in
-    let kept = kept_run r.steps in
-    let net : KeptRun = record { topics = topics; capacity = capacity; kept = kept; spare = 0 } in
-    let same : r.steps ≡ steps_of_net net = steps_are topics capacity r.steps r.is_run ∙ sym (ap (λ (ks : List Kept). steps_of ks) (reverse-reverse (map kept_of r.steps))) in
+    let net : KeptRun = record { topics = topics; capacity = capacity; kept = kept_run r.steps; steps = r.steps; spare = 0 } in
     let many = as_many (lines_of text) no_script script is refl in
+    let d = delivery topics capacity r.steps many r.is_run in
     record {
       net = net;
       run = record { topics = refl; capacity = refl; events = r.are_events };
       as_many = many;
       delivered = record {
-        are_kept = ap (λ (ss : List CoreStep). kept_run ss) same;
-        is_run = subst (λ (ss : List CoreStep). IsCoreRun topics capacity ss) same r.is_run;
-        is_report = refl;
-        delivery = subst (λ (ss : List CoreStep). Delivery topics kept (report_of (core_of topics capacity ss))) same (delivery topics capacity r.steps many r.is_run);
+        delivered = d.delivered;
+        written = d.written;
+        answered = record { as_many = many; are_kept = refl; is_run = r.is_run; is_report = refl };
       };
-      no_commits = subst (λ (ss : List CoreStep). (report_of (core_of topics capacity ss)).commits ≡ []) same r.no_commits;
-      no_subscriptions = subst (λ (ss : List CoreStep). (report_of (core_of topics capacity ss)).subscriptions ≡ []) same r.no_subscriptions;
+      no_commits = r.no_commits;
+      no_subscriptions = r.no_subscriptions;
     }
 
 -- a script has a run, with its report
@@ -100,8 +91,8 @@ some_traced_run : (text : List ℕ) (script : ScriptData) → IsScript text scri
 some_traced_run text script is =
     let r = some_net text script is in
     let k = core_of_net r.net in
-    let d = delivers r.net.topics r.net.capacity (steps_of_net r.net) r.delivered.is_run in
-    let none : trace_of (report_of k) ≡ no_trace_data = no_rows (account_of r.net.topics.names (steps_of_net r.net)) (report_of k) d r.no_commits r.no_subscriptions in (
+    let d = delivers r.net.topics r.net.capacity r.net.steps r.delivered.answered.is_run in
+    let none : trace_of (report_of k) ≡ no_trace_data = no_rows (account_of r.net.topics.names r.net.steps) (report_of k) d r.no_commits r.no_subscriptions in (
       [],
       record {
         script = script;

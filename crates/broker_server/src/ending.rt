@@ -1,6 +1,7 @@
 //! How a program ends.
 
-ghost use Rattle.std.specs.Prelude.{◌≡◌};
+ghost use Rattle.std.specs.Prelude.{◌≡◌, Err};
+ghost use Rattle.broker_server.specs.declared.program_fault.ProgramFault.TheVariants.{NoMemory};
 ghost use Rattle.broker_server.specs.Endings.{usage_ending, ending_of};
 
 use crate::message::Message;
@@ -24,6 +25,13 @@ impl Ending {
             status: 1,
             message: Some(Message::Usage),
         }
+    }
+
+    /// The ending of a program for which there was no memory.
+    pub fn without_memory() -> Ending
+        ensures { result ≡ ending_of (Err NoMemory) }
+    {
+        Ending::by(Err(ProgramFault::NoMemory))
     }
 
     /// The ending of a program whose run returned this.

@@ -4,9 +4,11 @@ pub mod Agreement
 pub mod Rows
 pub mod MoreRows
 pub mod OctetsRow
+pub mod ToldEnds
 pub mod DeliveredRow
 pub mod StepRows
 pub mod GreetedRow
+pub mod WholeRow
 pub mod SteppedRows
 -- The delivery of every run.
 pub mod Said
@@ -15,6 +17,9 @@ pub mod ByRun
 pub mod Tests
 pub mod Started
 pub mod AccountOfRun
+pub mod SaidParts
+pub mod AtNext
+pub mod LagsAsTold
 pub mod DeliversOfRun
 pub mod ReadingsShown
 pub mod Counts
@@ -23,3 +28,4 @@ pub mod StepsOfRun
 pub mod MoveOfStep
 pub mod StepsStepped
 pub mod DeliveryOfRun
+pub mod RunsOfNets

@@ -4,7 +4,6 @@ pub mod Steps
 pub mod Account
 pub mod Output
 pub mod State
-pub mod Readings
 pub mod Outcomes
 pub mod Reports
 pub mod Stepped

@@ -1,6 +1,7 @@
 pub mod Faults
 pub mod Topics
 pub mod Nets
+pub mod NetLaws
 pub mod Traces
 pub mod Machine
 pub mod Theorem

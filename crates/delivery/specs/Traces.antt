@@ -11,7 +11,7 @@ use Rattle.trace_audit.specs.Explained.{IsExplainedBy, IsCompleteBy}
 use Rattle.trace_audit.specs.Logs.{LogLine}
 use Rattle.trace_audit.specs.Trace.{TraceData}
 use Rattle.delivery.specs.Topics.{TopicList}
-use Rattle.delivery.specs.Nets.{KeptRun, steps_of_net, core_of_net, HasReport}
+use Rattle.delivery.specs.Nets.{KeptRun, account_of_net, core_of_net, HasReport}
 use Rattle.delivery.specs.Theorem.Settled.{IsSettled}
 use Rattle.delivery.specs.Machine.Moves.{Answer}
 use Rattle.delivery.specs.Core.Steps.{CoreStep}
@@ -45,10 +45,6 @@ trace_of r = record {
 }
 
 -- ---- what an auditor finds
-
--- the account of a net's steps
-abbrev pub account_of_net : KeptRun → List Answer
-account_of_net net = account_of net.topics.names (steps_of_net net)
 
 -- each of so many topics is settled
 abbrev pub AllSettled : ℕ → List Answer → Type 0

@@ -58,7 +58,7 @@ impl ConnectionFault {
     }
 
     /// Whether its ERROR says which version is supported.
-    pub(crate) fn says_version(self) -> bool
+    pub fn says_version(self) -> bool
         ensures { result ≡ says_version self }
     {
         matches!(self, ConnectionFault::Session(SessionFault::NoVersion))

@@ -21,6 +21,7 @@ ghost use Rattle.delivery.specs.Theorem.Spans.{QueuesGrow, SpansEndAtFrontier};
 ghost use Rattle.delivery.specs.Theorem.Reported.{EndsAreAnswered, EndsStay, BegunIsOwn, QueuesAreBounded};
 ghost use Rattle.delivery.specs.Theorem.Reported.{SenderIsOwn, SpansBeginAsAnswered, SpansBeginAtFrontier};
 ghost use Rattle.delivery.specs.Theorem.Reported.{SpansEndAsAnswered};
+ghost use Rattle.delivery.specs.NetLaws.{NetsAreRuns, NetsAreSound, NetsAreTied, NoneFailsTwice, NothingOddComes};
 ghost use Rattle.delivery.specs.Traces.{RunsAreExplained, TracesAreAccepted, TracesAreComplete};
 
 /// The core's commit list is that of the decisions in the run.
@@ -192,6 +193,18 @@ pub fn examples()
     ensures { WorkedRows }
 {}
 
+/// A net whose report is answered for is a run of the machine: its core is the machine after its moves, its account is
+/// what the machine answered, and its topics open with its clocks. So each law of runs here is one of nets. Drawn out:
+/// each topic is tied to the tickets that it gave; each topic is sound; no verdict is another's and none clashes, no
+/// decided part is cancelled, and no proposal finds its transaction pending.
+pub fn nets()
+    ensures runs { NetsAreRuns }
+    ensures tied { NetsAreTied }
+    ensures sound { NetsAreSound }
+    ensures odd { NothingOddComes }
+    ensures twice { NoneFailsTwice }
+{}
+
 /// Every run of the core is delivered: what was read are the first frames of each connection's octets; the account of
 /// the run is read off its events, these frames and the outcomes alone; and each commit, log, span, queue and octet
 /// out that the core reports is the one that they tell. The steps may be refused, may find no memory, and may cut a
@@ -200,15 +213,15 @@ pub fn delivery()
     ensures { RunsDeliver }
 {}
 
-/// Each step of a run of the core, whatever came before it: its outcome is one that its event may have; what is
-/// refused changes nothing; an event at one topic changes no other; tickets, stamps, items and ends of spans are as
-/// the rules say.
+/// Each step of a run of the core, whatever came before it, and so each step of a net: its outcome is one that its event
+/// may have; what is refused changes nothing; an event at one topic changes no other; tickets, stamps, items and ends of
+/// spans are as the rules say.
 pub fn steps()
     ensures { StepsHaveStepped }
 {}
 
-/// The steps of a run of the core are those of its kept run: what each of its events read is decided by the octets
-/// that were fed and by the outcomes, and by nothing else.
+/// A kept run has one list of steps: what each of its events read is decided by the octets that were fed and by the
+/// outcomes, and by nothing else.
 pub fn readings()
     ensures { StepsAreKept }
 {}

@@ -28,6 +28,7 @@ pub use connection_fault::ConnectionFault;
 pub use event::Event;
 pub use event_list::EventList;
 pub use kept::Kept;
+pub use messages::write_messages;
 pub use net::{MAX_CAPACITY, Net};
 pub use net_state::{QueueReport, Report};
 pub use oracle::agreed::{CommitRow, agreed};

@@ -32,7 +32,7 @@ fn put_messages(id: &[u8], item: &Released, out: &mut Octets) -> Result<(), NoMe
 
 /// Appends the MESSAGE of each SEND of the item's part, for the subscription of this id: each octet is copied once.
 /// After `NoMemory` the octets are what they were.
-pub(crate) fn write_messages(id: &[u8], item: &Released, out: &mut Octets) -> Result<(), NoMemory>
+pub fn write_messages(id: &[u8], item: &Released, out: &mut Octets) -> Result<(), NoMemory>
     ensures ok { OnOk result (out.new ≡ out.old ++ flat_map spelling_of (item_messages id.now item.now)) }
     ensures err { OnErr result (out.new ≡ out.old) }
 {

@@ -2,8 +2,8 @@
 
 ghost use Rattle.std.specs.Prelude.{◌≡◌, ◌≤◌, ◌<◌, ◌+◌, ◌-◌, [], ◌∷◌, ◌++◌, length, slice_get, IfOk, OnOk, OnErr};
 ghost use Rattle.std.specs.Option.{option_map};
-ghost use Rattle.delivery.specs.Nets.{KeptRun, max_capacity, core_of_net, HasTaken, IsDelivered, HasReport};
-ghost use Rattle.delivery.specs.Core.Stepped.{HasStepped};
+ghost use Rattle.delivery.specs.Nets.{KeptRun, max_capacity, account_of_net, HasTaken, HasAnswered, IsRunOfCore, HasReport};
+ghost use Rattle.delivery.specs.Core.Delivery.{Delivers, IsReadAndWritten};
 ghost use Rattle.delivery.specs.Traces.{IsTraced};
 
 use crate::event::Event;
@@ -21,7 +21,8 @@ use trace_audit::Trace;
 pub const MAX_CAPACITY: usize = 4096;
 
 /// The core: topics, connections, senders and subscriptions over events. In contracts it is the topics that it began
-/// with, the capacity of its queues, its kept run, and how many more events it has room to keep.
+/// with, the capacity of its queues, its kept run, its steps (each kept event with what it read), and how many more
+/// events it has room to keep.
 pub struct Net {
     clocks: Vec<u64>,
     state: NetState,
@@ -43,9 +44,10 @@ impl Drop for Net {
 }
 
 impl Model for Net {
-    ghost use Rattle.std.specs.Prelude.{◌-◌, vec_len, vec_capacity};
+    ghost use Rattle.std.specs.Prelude.{◌-◌, reverse, vec_len, vec_capacity};
     ghost use Rattle.delivery.specs.Nets.{KeptRun};
     ghost use Rattle.delivery.specs.Inner.NetInvariant.{KeepsRun};
+    ghost use Rattle.delivery.specs.Inner.Readings.{steps_of};
 
     ghost Value = { KeptRun };
 
@@ -53,6 +55,7 @@ impl Model for Net {
       topics = record { names = n.state.names; clocks = n.clocks.items };
       capacity = n.state.capacity;
       kept = n.kept.items;
+      steps = steps_of (reverse n.kept.items);
       spare = vec_capacity n.kept - vec_len n.kept;
     } };
 
@@ -66,7 +69,7 @@ impl Net {
         requires some { 0 < capacity }
         requires few { capacity ≤ max_capacity }
         ensures { IfOk result
-            (λ net. net ≡ record { topics = topics; capacity = capacity; kept = []; spare = 0 }) }
+            (λ net. net ≡ record { topics = topics; capacity = capacity; kept = []; steps = []; spare = 0 }) }
     {
         let (names, clocks) = topics.into_parts();
         let state = NetState::new(alloc, names, &clocks, capacity)?;
@@ -108,9 +111,13 @@ impl Net {
         self.kept.get(i)
     }
 
-    /// What came of all events so far. It takes no memory, and nothing is copied.
+    /// What came of all events so far: what was delivered, by the account of its steps; what was read and written of
+    /// each connection; and that the steps are a run of the core, whose report this is. A reader may stop after the
+    /// first clause. It takes no memory, and nothing is copied.
     pub fn report(&self) -> Report<'_>
-        ensures { IsDelivered self.now result }
+        ensures delivered { Delivers self.now.capacity (account_of_net self.now) result }
+        ensures written { IsReadAndWritten self.now.topics.names self.now.steps result }
+        ensures answered { IsRunOfCore self.now result }
     {
         Report { state: &self.state }
     }
@@ -123,14 +130,16 @@ impl Net {
         self.state.trace()
     }
 
-    /// Takes an event, and keeps it with its outcome at the end of the kept run.
+    /// Takes an event, and keeps it with its outcome at the end of the kept run. The outcome is one that the event may
+    /// have; what else such a step makes of the core is `law::steps`.
     pub fn step(&mut self, event: Event) -> Outcome
         requires { 0 < self.old.spare }
         ensures kept { self.new ≡ record self.old {
           kept = self.old.kept ++ record { event = event; outcome = result } ∷ [];
+          steps = self.new.steps;
           spare = self.old.spare - 1;
         } }
-        ensures stepped { HasStepped (core_of_net self.old) (core_of_net self.new) event result }
+        ensures answered { HasAnswered event result self.old self.new }
         ensures delivered { HasReport self.new }
     {
         let outcome = self.state.answer(&event);

@@ -61,13 +61,16 @@ impl OpenEndpoint {
     }
 
     /// What its next frame asks for, once its session accepted it; `None` where no whole frame is there yet. A fault
-    /// comes with the frame, if one was read.
+    /// comes with the frame, if one was read. Where all octets are read it takes no memory.
     pub(crate) fn next_step(
         &mut self,
         alloc: Global,
     ) -> Result<Option<Step>, (ConnectionFault, Option<RawFrame>)>
         ensures { Judges self.old result self.new }
     {
+        if self.reader.clean() {
+            return Ok(None);
+        }
         match self.reader.next(alloc) {
             Ok(None) => Ok(None),
             Ok(Some(frame)) => match self.accept(frame) {

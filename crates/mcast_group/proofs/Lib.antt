@@ -21,3 +21,4 @@ pub mod Rows
 pub mod Segments
 pub mod KeyIndices
 pub mod ByKey
+pub mod Waits

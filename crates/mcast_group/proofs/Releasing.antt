@@ -90,8 +90,8 @@ copies_length n [] (c ∷ cs) h = absurd h
 copies_length n (p ∷ ps) [] h = absurd h
 copies_length n (p ∷ ps) (c ∷ cs) h = let ih = copies_length n ps cs h.1 in omega arith
 
--- the list of copies at a part's index has at least n, all of that part
-pub copies_at : (n : ℕ) (ps : List Pending) (cs : List (List TopicPart)) (i : ℕ) (p : Pending) (c : List TopicPart) → HaveCopies n ps cs → i < length ps → p ≡ get_or ps i p → c ≡ get_or cs i c → (n ≤ length c) × AreOf p.part c
+-- the list of copies at a part's index has n, all of that part
+pub copies_at : (n : ℕ) (ps : List Pending) (cs : List (List TopicPart)) (i : ℕ) (p : Pending) (c : List TopicPart) → HaveCopies n ps cs → i < length ps → p ≡ get_or ps i p → c ≡ get_or cs i c → (length c ≡ n) × AreOf p.part c
 copies_at n [] cs i p c h l e k = absurd (omega arith)
 copies_at n (q ∷ ps) [] i p c h l e k = absurd h
 copies_at n (q ∷ ps) (b ∷ cs) zero p c h l e k = rw (e, k) h.0

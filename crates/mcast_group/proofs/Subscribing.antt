@@ -1,10 +1,10 @@
 -- Subscriptions that begin and end.
-use Rattle.std.proofs.Common.{◌≡◌, ◌≢◌, ℕ, zero, suc, ◌+◌, ◌<◌, ◌≤◌, ◌==◌, Bool, true, false, cond, not, ◌||◌, inl, inr, ◌⊎◌, nat_lt, List, [], ◌∷◌, map, length, get_or, Some, None, refl, sym, ap, subst, ◌∙◌, arith}
+use Rattle.std.proofs.Common.{◌≡◌, ◌≢◌, ℕ, zero, suc, ◌+◌, ◌<◌, ◌≤◌, ◌==◌, Bool, true, false, cond, not, ◌||◌, inl, inr, ◌⊎◌, nat_lt, List, [], ◌∷◌, map, take, length, get_or, Some, None, refl, sym, ap, subst, ◌∙◌, arith}
 use Rattle.std.specs.List.{list_any, position, remove, filter}
 use Rattle.std.specs.Option.{is_some}
 use Rattle.std.proofs.lemmas.Bool.Decides.{nat_tests}
 use Rattle.std.proofs.lemmas.List.Edits.{length-remove}
-use Rattle.mcast_group.proofs.Copying.{fewer}
+use Rattle.mcast_group.proofs.Copying.{copies_kept}
 use Rattle.std.proofs.lemmas.List.Quantifiers.{position-Some}
 use Rattle.mcast_txn.specs.declared.stamp.Stamp.{Stamp}
 use Rattle.mcast_txn.specs.Lists.{In}
@@ -175,14 +175,14 @@ In-remove x (y ∷ xs) (suc i) (inl e) = inl e
 In-remove x (y ∷ xs) (suc i) (inr h) = inr (In-remove x xs i h)
 
 -- IsKept holds after a subscription ended
-pub kept_unsubscribed : {Q : Type 0} (shown : Q → Shown) (spare : Q → ℕ) (x y : TopicState) (capacity : ℕ) (copies : List (List TopicPart)) (subs : List (Subscription Q)) (n i : ℕ) → IsKept spare x capacity copies subs → y ≡ after_unsubscribe n x → i < length subs → IsKept spare y capacity copies (remove subs i)
+pub kept_unsubscribed : {Q : Type 0} (shown : Q → Shown) (spare : Q → ℕ) (x y : TopicState) (capacity : ℕ) (copies : List (List TopicPart)) (subs : List (Subscription Q)) (n i : ℕ) → IsKept spare x capacity copies subs → y ≡ after_unsubscribe n x → i < length subs → IsKept spare y capacity (map (take (length (remove subs i))) copies) (remove subs i)
 kept_unsubscribed shown spare x y capacity copies subs n i h e l =
     let m = length-remove subs i l in
-    subst (λ (z : TopicState). IsKept spare z capacity copies (remove subs i)) (sym e) (record {
+    subst (λ (z : TopicState). IsKept spare z capacity (map (take (length (remove subs i))) copies) (remove subs i)) (sym e) (record {
       sound = keeps_sound.unsubscribes n x h.sound;
       room = h.room;
       spares = λ s k o. h.spares s (In-remove s subs i k) o;
-      copied = fewer (length subs) (length (remove subs i)) x.pending copies (omega arith) h.copied;
+      copied = copies_kept (length subs) (length (remove subs i)) x.pending copies (omega arith) h.copied;
     })
 
 -- ending a subscription is refused where no index is found for its number

@@ -4,6 +4,7 @@ pub mod Fitting
 pub mod Group
 pub mod Noted
 pub mod Counted
+pub mod CellGroup
 pub mod Laws
 pub mod Faults
 pub mod Inner

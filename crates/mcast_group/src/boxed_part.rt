@@ -59,6 +59,13 @@ impl BoxedPart {
         &self.part
     }
 
+    /// Its ticket has this number.
+    pub(crate) fn number_as(&mut self, number: u64)
+        ensures { self.new ≡ record self.old { number = number } }
+    {
+        self.part.number_as(number);
+    }
+
     /// The part takes its stamp.
     pub(crate) fn learn(&mut self, stamp: Stamp)
         ensures { self.new ≡ record self.old { learnt = Some stamp } }

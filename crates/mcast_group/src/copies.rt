@@ -1,6 +1,6 @@
 //! Copies of a pending part, one for each subscription.
 
-ghost use Rattle.std.specs.Prelude.{◌≡◌, ℕ, ◌+◌, ◌≤◌, ◌<◌, List, [], ◌∷◌, ◌++◌, length, slice_index_or, IfSome, IfNone, OnOk, OnErr, IfOk};
+ghost use Rattle.std.specs.Prelude.{◌≡◌, ℕ, ◌+◌, ◌≤◌, ◌<◌, List, [], ◌∷◌, ◌++◌, length, map, take, slice_index_or, IfSome, IfNone, OnOk, OnErr, IfOk};
 ghost use Rattle.std.specs.Arc.{arc_value};
 ghost use Rattle.std.specs.List.{remove};
 ghost use Rattle.mcast_txn.specs.Lists.{In};
@@ -46,16 +46,23 @@ impl Copies {
 
     /// `many` copies of a part.
     pub(crate) fn of(alloc: Global, part: &PendingPart, many: usize) -> Result<Copies, NoMemory>
-        ensures many { IfOk result (λ copies. many ≤ length copies) }
+        ensures many { IfOk result (λ copies. length copies ≡ many) }
         ensures of { IfOk result (λ copies. AreOf part.now.part copies) }
     {
         let mut copies = Copies {
-            parts: Vec::new(alloc),
+            parts: Vec::with_capacity(alloc, many)?,
         };
         for _ in 0..many {
             copies.add(part)?;
         }
         Ok(copies)
+    }
+
+    /// Keeps at most `most`.
+    pub(crate) fn keep(&mut self, most: usize)
+        ensures { self.new ≡ take most self.old }
+    {
+        self.parts.truncate(most);
     }
 
     /// One copy more.
@@ -69,7 +76,7 @@ impl Copies {
     }
 }
 
-/// One copy more of each part; where there was no memory, each has as many as it had, or one more.
+/// One copy more of each part; where there was no memory, the first ones have one more, and `keep_in_each` takes it away.
 pub(crate) fn add_to_each(
     copies: &mut VecDeque<Copies>,
     pending: &PendingParts,
@@ -77,13 +84,22 @@ pub(crate) fn add_to_each(
     requires { length copies.old.items ≡ length pending.now }
     ensures ok { OnOk result ((n : ℕ) → HaveCopies n pending.now copies.old.items
         → HaveCopies (n + 1) pending.now copies.new.items) }
-    ensures kept { (n : ℕ) → HaveCopies n pending.now copies.old.items
-        → HaveCopies n pending.now copies.new.items }
+    ensures cut { (n : ℕ) → HaveCopies n pending.now copies.old.items
+        → HaveCopies n pending.now (map (take n) copies.new.items) }
 {
     for i in 0..pending.len() {
         copies[i].add(pending.at(i))?;
     }
     Ok(())
+}
+
+/// Keeps at most `most` copies of each part.
+pub(crate) fn keep_in_each(copies: &mut VecDeque<Copies>, most: usize)
+    ensures { copies.new.items ≡ map (take most) copies.old.items }
+{
+    for i in 0..copies.len() {
+        copies[i].keep(most);
+    }
 }
 
 /// Takes out the copies at an index.

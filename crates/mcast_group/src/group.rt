@@ -1,6 +1,6 @@
 //! A topic of the multicast.
 
-ghost use Rattle.std.specs.Prelude.{◌≡◌, ℕ, ◌+◌, ◌-◌, ◌<◌, ◌≤◌, Bool, true, false, [], List, length, slice_get, slice_index_or, Option, Some, None, OnOk, OnErr, IfOk, IfErr};
+ghost use Rattle.std.specs.Prelude.{◌≡◌, ℕ, ◌+◌, ◌-◌, ◌<◌, ◌≤◌, Bool, true, false, [], List, length, map, take, slice_get, slice_index_or, Option, Some, None, OnOk, OnErr, IfOk, IfErr, IsOk};
 ghost use Rattle.std.specs.Arc.{arc_value};
 ghost use Rattle.std.specs.Option.{option_map};
 ghost use Rattle.mcast_txn.specs.Part.{data_of};
@@ -11,19 +11,24 @@ ghost use Rattle.mcast_txn.specs.Lists.{In};
 ghost use Rattle.mcast_txn.specs.Stamp.{stamp_lt};
 ghost use Rattle.mcast_group.specs.Counted.{group_after_take, queue_item_at, next_at, takes_of};
 ghost use Rattle.mcast_group.specs.Inner.Copies.{AreOf, HaveCopies};
+ghost use Rattle.mcast_group.specs.declared.fault.ProposeFault.{ProposeFault};
+ghost use Rattle.mcast_group.specs.CellGroup.{open_count};
 ghost use Rattle.mcast_group.specs.Fitting.{Fits};
+ghost use Rattle.mcast_group.specs.Sound.{IsSound};
 ghost use Rattle.mcast_group.specs.Inner.GroupInvariant.{entry_of};
 ghost use Rattle.mcast_group.specs.Machine.{Pending, cancel_fault, after_cancel, after_drain, after_turn, decided_stamp, due_part, key, learn_fault, after_learn, new_topic, insert_pending, is_pending, next_number, propose_fault, after_propose, state_of, subscribe_fault, unsubscribe_fault};
 
-use crate::copies::{Copies, add_to_each, take_at};
+use crate::boxed_part::BoxedPart;
+use crate::copies::{Copies, add_to_each, keep_in_each, take_at};
 use crate::departed::Departed;
 use crate::ended::Ended;
 use crate::fault::{CancelFault, LearnFault, NoSub, ProposeFault, SubFault};
 use crate::law::has_one_row_each;
 use crate::log::Log;
 use crate::log_rows::LogRows;
-use crate::pending::PendingPart;
 use crate::pending_parts::PendingParts;
+use crate::prepared::Prepared;
+use crate::proposal::Proposal;
 use crate::row::Row;
 use crate::state::SubState;
 use crate::subscription::Subscription;
@@ -157,9 +162,10 @@ impl<Q: Outlet + Drop> Group<Q> {
     }
 
     /// Drains the log: its rows are moved out, in order. Then it has none, its base is the frontier, and the room that
-    /// is promised to pending parts is there still. Out of memory, nothing has changed.
+    /// is promised to pending parts is there still. Out of memory, nothing has changed; a log without rows wants none.
     pub fn drain_log(&mut self) -> Result<LogRows, NoMemory>
         ensures rows { IfOk result (λ rows. rows ≡ self.old.topic.held) }
+        ensures idle { self.old.topic.held ≡ [] → IsOk result }
         ensures ok { OnOk result (self.new ≡ record self.old { topic = after_drain self.old.topic }) }
         ensures err { OnErr result (self.new ≡ self.old) }
     {
@@ -255,19 +261,90 @@ impl<Q: Outlet + Drop> Group<Q> {
             (λ fault. fault ≡ propose_refusal floor (data_of (arc_value part)) self.old.topic) }
         ensures err { OnErr result (self.new ≡ self.old) }
     {
-        let id = part.id;
-        if self.pending.index_of(id).is_some() {
-            return Err(ProposeFault::Twice);
+        if let Some(fault) = self.refusal(floor, &part) {
+            return Err(fault);
         }
-        let last = self.clock.max(floor.n);
-        if last == u64::MAX {
-            return Err(ProposeFault::ClockFull);
+        let Ok(prepared) = Prepared::new(self.alloc, part) else {
+            return Err(ProposeFault::NoMemory);
+        };
+        self.enter_allowed(floor, prepared)
+    }
+
+    /// Makes the room that `enter` needs for this part, so that it takes no memory where nothing has changed between. It
+    /// gives no number. Refused, in this order: 49 where a part of the transaction is pending, 40 where no number is left,
+    /// 41 where the log is at its limit, 42 out of memory; what shows is as it was, either way.
+    pub fn prepare(&mut self, floor: Stamp, proposal: &mut Proposal) -> Result<(), ProposeFault>
+        ensures allowed { OnOk result (propose_fault floor proposal.old.part self.old.topic ≡ None) }
+        ensures fault { IfErr result (λ fault. fault ≡ propose_refusal floor proposal.old.part self.old.topic) }
+        ensures same { self.new ≡ self.old }
+        ensures kept { proposal.new ≡ proposal.old }
+    {
+        if let Some(fault) = self.refusal(floor, proposal.part()) {
+            return Err(fault);
         }
-        if self.pending.len() + self.rows.len() >= self.log_limit {
-            return Err(ProposeFault::LogFull);
+        let Ok(()) = self.make_room(&mut proposal.prepared) else {
+            return Err(ProposeFault::NoMemory);
+        };
+        Ok(())
+    }
+
+    /// Makes the part's copies, and room for one part more.
+    fn make_room(&mut self, prepared: &mut Prepared) -> Result<(), NoMemory>
+        ensures same { self.new ≡ self.old }
+        ensures kept { prepared.new ≡ prepared.old }
+    {
+        prepared.copy_for(self.alloc, self.subscriptions.len())?;
+        self.pending.reserve()?;
+        self.copies.reserve(1)?;
+        let Some(more) = self.pending.len().checked_add(1) else {
+            return Err(NoMemory);
+        };
+        self.rows.reserve(more)?;
+        self.subscriptions.reserve_each(more)?;
+        Ok(())
+    }
+
+    /// Enters a part of this topic, and gives its ticket, as `propose` does.
+    pub fn enter(&mut self, floor: Stamp, proposal: Proposal) -> Result<Ticket, ProposeFault>
+        requires { proposal.part.topic ≡ self.old.topic.topic }
+        ensures allowed { OnOk result (propose_fault floor proposal.part self.old.topic ≡ None) }
+        ensures ticket { IfOk result (λ ticket. ticket ≡ record {
+          id = proposal.part.id;
+          topic = self.old.topic.topic;
+          n = next_number floor self.old.topic;
+        }) }
+        ensures ok { OnOk result (self.new
+            ≡ record self.old { topic = after_propose floor proposal.part self.old.topic }) }
+        ensures fault { IfErr result (λ fault. fault ≡ propose_refusal floor proposal.part self.old.topic) }
+        ensures err { OnErr result (self.new ≡ self.old) }
+    {
+        if let Some(fault) = self.refusal(floor, proposal.part()) {
+            return Err(fault);
         }
-        let n = last + 1;
-        let Ok(()) = self.enter(part, n) else {
+        self.enter_allowed(floor, proposal.prepared)
+    }
+
+    /// Enters a part that isn't refused.
+    pub(crate) fn enter_allowed(
+        &mut self,
+        floor: Stamp,
+        prepared: Prepared,
+    ) -> Result<Ticket, ProposeFault>
+        requires own { prepared.topic ≡ self.old.topic.topic }
+        requires allowed { propose_fault floor prepared self.old.topic ≡ None }
+        ensures ticket { IfOk result (λ ticket. ticket ≡ record {
+          id = prepared.id;
+          topic = self.old.topic.topic;
+          n = next_number floor self.old.topic;
+        }) }
+        ensures ok { OnOk result (self.new
+            ≡ record self.old { topic = after_propose floor prepared self.old.topic }) }
+        ensures fault { IfErr result (λ fault. fault ≡ ProposeFault.NoMemory) }
+        ensures err { OnErr result (self.new ≡ self.old) }
+    {
+        let id = prepared.part().id;
+        let n = self.clock.max(floor.n) + 1;
+        let Ok(()) = self.put_in(prepared, n) else {
             return Err(ProposeFault::NoMemory);
         };
         Ok(Ticket {
@@ -277,17 +354,48 @@ impl<Q: Outlet + Drop> Group<Q> {
         })
     }
 
+    /// Why the topic would give this part no ticket, memory aside.
+    pub(crate) fn refusal(&self, floor: Stamp, part: &Part) -> Option<ProposeFault>
+        ensures { result ≡ propose_fault floor (data_of part.now) self.now.topic }
+    {
+        let limit = self.log_limit;
+        if self.pending.index_of(part.id).is_some() {
+            return Some(ProposeFault::Twice);
+        }
+        if self.clock.max(floor.n) == u64::MAX {
+            return Some(ProposeFault::ClockFull);
+        }
+        if self.pending.len() + self.rows.len() >= limit {
+            return Some(ProposeFault::LogFull);
+        }
+        None
+    }
+
+    /// How many subscriptions are open.
+    pub(crate) fn open_len(&self) -> usize
+        ensures { result ≡ open_count self.now.topic.subscriptions }
+    {
+        self.subscriptions.open_len()
+    }
+
+    /// The topic is sound, by this type.
+    pub(crate) fn sound(&self)
+        ensures { IsSound self.now.topic }
+    {
+        // For the proof: to read a field shows what the type keeps.
+        let _ = &self.subscriptions;
+    }
+
     /// Puts a part among the pending ones, with all that its release will need.
-    fn enter(&mut self, part: Arc<Part>, n: u64) -> Result<(), NoMemory>
-        requires own { (arc_value part).topic ≡ self.old.topic.topic }
+    fn put_in(&mut self, prepared: Prepared, n: u64) -> Result<(), NoMemory>
+        requires own { prepared.topic ≡ self.old.topic.topic }
         requires may { (floor : Stamp) × (n ≡ next_number floor self.old.topic)
-            × (propose_fault floor (data_of (arc_value part)) self.old.topic ≡ None) }
+            × (propose_fault floor prepared self.old.topic ≡ None) }
         ensures ok { OnOk result (self.new
-            ≡ record self.old { topic = after_enter n (data_of (arc_value part)) self.old.topic }) }
+            ≡ record self.old { topic = after_enter n prepared self.old.topic }) }
         ensures err { OnErr result (self.new ≡ self.old) }
     {
-        let entry = PendingPart::new(part, n)?;
-        let made = Copies::of(self.alloc, &entry, self.subscriptions.len())?;
+        let (entry, made) = prepared.into_entry(self.alloc, n, self.subscriptions.len())?;
         self.rows.reserve(self.pending.len() + 1)?;
         self.subscriptions.reserve_each(self.pending.len() + 1)?;
         put(&mut self.pending, &mut self.copies, entry, made)?;
@@ -335,9 +443,11 @@ impl<Q: Outlet + Drop> Group<Q> {
             outlet,
         };
         let Ok(()) = make_room(&mut sub, &mut self.copies, &self.pending) else {
+            keep_in_each(&mut self.copies, self.subscriptions.len());
             return Err((SubFault::NoMemory, sub.outlet));
         };
         if let Err(sub) = self.subscriptions.insert(index, sub) {
+            keep_in_each(&mut self.copies, self.subscriptions.len());
             return Err((SubFault::NoMemory, sub.outlet));
         }
         Ok(self.frontier)
@@ -356,6 +466,7 @@ impl<Q: Outlet + Drop> Group<Q> {
             return Err(NoSub);
         };
         let sub = self.subscriptions.remove(index);
+        keep_in_each(&mut self.copies, self.subscriptions.len());
         Ok(sub.end(self.frontier))
     }
 
@@ -408,7 +519,7 @@ impl<Q: Outlet + Drop> Group<Q> {
     }
 
     /// Releases until nothing is due.
-    fn release_all(&mut self, needs: &Q::Needs)
+    pub(crate) fn release_all(&mut self, needs: &Q::Needs)
         ensures { ReleasesAll Q.may_accept self.old self.new }
     {
         while self.release(needs).is_some() {}
@@ -470,8 +581,8 @@ fn make_room<Q: Outlet + Drop>(
     ensures spare { OnOk result (sub.new.to ≡ None → length pending.now ≤ Q.spare sub.new.outlet) }
     ensures more { OnOk result ((n : ℕ) → HaveCopies n pending.now copies.old.items
         → HaveCopies (n + 1) pending.now copies.new.items) }
-    ensures kept { (n : ℕ) → HaveCopies n pending.now copies.old.items
-        → HaveCopies n pending.now copies.new.items }
+    ensures cut { (n : ℕ) → HaveCopies n pending.now copies.old.items
+        → HaveCopies n pending.now (map (take n) copies.new.items) }
 {
     sub.outlet.reserve(pending.len())?;
     add_to_each(copies, pending)?;
@@ -482,14 +593,14 @@ fn make_room<Q: Outlet + Drop>(
 fn put(
     pending: &mut PendingParts,
     copies: &mut VecDeque<Copies>,
-    entry: PendingPart,
+    entry: BoxedPart,
     made: Copies,
 ) -> Result<(), NoMemory>
     requires same { length copies.old.items ≡ length pending.old }
     requires free { is_pending entry.part.id pending.old ≡ false }
     requires above { (q : Pending) → In q pending.old → stamp_lt (key q) (key entry) ≡ true }
     ensures ok { OnOk result (pending.new ≡ insert_pending entry pending.old) }
-    ensures copies { OnOk result ((n : ℕ) → HaveCopies n pending.old copies.old.items → n ≤ length made
+    ensures copies { OnOk result ((n : ℕ) → HaveCopies n pending.old copies.old.items → length made ≡ n
         → AreOf entry.part made → HaveCopies n pending.new copies.new.items) }
     ensures err { OnErr result (pending.new ≡ pending.old) }
     ensures kept { OnErr result (copies.new.items ≡ copies.old.items) }

@@ -1,14 +1,16 @@
 //! Laws: functions that do nothing, whose contracts are theorems about one topic.
 
-ghost use Rattle.std.specs.Prelude.{◌≡◌, true};
+ghost use Rattle.std.specs.Prelude.{◌≡◌, true, Some, slice_get};
 ghost use Rattle.std.specs.Option.{is_some};
-ghost use Rattle.mcast_txn.specs.Flight.{cell_of};
+ghost use Rattle.mcast_txn.specs.Flight.{Sight, cell_of};
 ghost use Rattle.mcast_group.specs.Counted.{CountedReleases, CountedTurns};
 ghost use Rattle.mcast_group.specs.Laws.{KeepsSound, TurnLeavesNone, TurnLeavesNothingDue};
 ghost use Rattle.mcast_group.specs.Machine.{HasOneRowEach};
 
+use crate::cell_group::CellGroup;
 use crate::departed::Departed;
 use mcast_txn::Verdict;
+use sub_queue::Outlet;
 
 /// A topic stays sound, whatever is asked of it.
 pub fn stays_sound()
@@ -35,6 +37,27 @@ pub fn counts()
     ensures releases { CountedReleases }
     ensures turns { CountedTurns }
 {}
+
+/// Two notes of one cell by which parts learnt, at whatever two topics and in whatever threads, know one verdict: so the
+/// parts of a transaction leave their topics with one stamp. `CellGroup::turn` keeps such a note of each part that learns
+/// in it, of the cell of the part's own flight, and that part's stamp is the verdict's.
+pub fn one_verdict<Q: Outlet + Drop, P: Outlet + Drop>(
+    one: &mut CellGroup<Q>,
+    index: usize,
+    other: &mut CellGroup<P>,
+    other_index: usize,
+)
+    requires { (a b : Sight) → slice_get one.old.notes index ≡ Some a
+        → slice_get other.old.notes other_index ≡ Some b → b.cell ≡ a.cell }
+    ensures same { (a b : Sight) → slice_get one.old.notes index ≡ Some a
+        → slice_get other.old.notes other_index ≡ Some b → b ≡ a }
+    ensures kept { one.new ≡ one.old }
+    ensures other_kept { other.new ≡ other.old }
+{
+    if let (Some(mut note), Some(other_note)) = (one.note(index), other.note(other_index)) {
+        note.agree(other_note);
+    }
+}
 
 /// Parts whose flights have one cell, and which were kept with a note of it, were released with one stamp, at whatever
 /// topics and in whatever threads. `Group::release_part` gives such parts. A part gets its note as it learns, and `turn`

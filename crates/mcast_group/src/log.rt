@@ -1,6 +1,6 @@
 //! The log of a topic.
 
-ghost use Rattle.std.specs.Prelude.{◌≡◌, ◌+◌, ◌*◌, ◌<◌, ◌≤◌, ◌++◌, ◌∷◌, [], length, slice_get, IfNone, IfOk, IfSome, OnErr, OnOk, OnSome};
+ghost use Rattle.std.specs.Prelude.{◌≡◌, ◌+◌, ◌*◌, ◌<◌, ◌≤◌, ◌++◌, ◌∷◌, [], length, slice_get, IfNone, IfOk, IfSome, IsOk, OnErr, OnOk, OnSome};
 ghost use Rattle.std.specs.Option.{option_map};
 
 use crate::log_rows::LogRows;
@@ -67,6 +67,7 @@ impl Log {
         ensures items { self.new.items ≡ self.old.items }
         ensures capacity { self.old.capacity ≤ self.new.capacity }
         ensures ok { OnOk result (length self.new.items + more ≤ self.new.capacity) }
+        ensures enough { length self.old.items + more ≤ self.old.capacity → IsOk result }
     {
         while self.segments.len() * SEGMENT_ROWS - self.len < more {
             self.add_segment()?;
@@ -106,18 +107,65 @@ impl Log {
         self.len.div_ceil(SEGMENT_ROWS)
     }
 
-    /// Moves all rows out; room for `more` is there then. Segments without rows stay.
+    /// Moves all rows out; room for `more` is there then, and segments that aren't needed for it are given back, but
+    /// one.
     pub(crate) fn drain(&mut self, more: usize) -> Result<LogRows, NoMemory>
         ensures rows { IfOk result (λ rows. rows ≡ self.old.items) }
         ensures none { OnOk result (self.new.items ≡ []) }
         ensures room { OnOk result (more ≤ self.new.capacity) }
+        ensures few { OnOk result (self.new.capacity ≤ more + 512) }
+        ensures idle { self.old.items ≡ [] → more ≤ self.old.capacity → IsOk result }
         ensures err { OnErr result (self.new.items ≡ self.old.items) }
         ensures capacity { OnErr result (self.old.capacity ≤ self.new.capacity) }
     {
-        if self.len > 0 && self.len < SEGMENT_ROWS {
+        let rows = self.drain_rows(more)?;
+        self.give_back(more);
+        Ok(rows)
+    }
+
+    /// Moves all rows out; room for `more` is there then. Segments without rows stay.
+    fn drain_rows(&mut self, more: usize) -> Result<LogRows, NoMemory>
+        ensures rows { IfOk result (λ rows. rows ≡ self.old.items) }
+        ensures none { OnOk result (self.new.items ≡ []) }
+        ensures room { OnOk result (more ≤ self.new.capacity) }
+        ensures idle { self.old.items ≡ [] → more ≤ self.old.capacity → IsOk result }
+        ensures err { OnErr result (self.new.items ≡ self.old.items) }
+        ensures capacity { OnErr result (self.old.capacity ≤ self.new.capacity) }
+    {
+        if self.len == 0 {
+            return self.drain_none(more);
+        }
+        if self.len < SEGMENT_ROWS {
             return self.drain_first(more);
         }
         self.drain_segments(more)
+    }
+
+    /// Gives the segments back that aren't needed for `more` rows, but one, so that a topic whose parts come and go at the
+    /// end of a segment makes no new one each time.
+    fn give_back(&mut self, more: usize)
+        requires none { self.old.items ≡ [] }
+        requires room { more ≤ self.old.capacity }
+        ensures none { self.new.items ≡ [] }
+        ensures room { more ≤ self.new.capacity }
+        ensures few { self.new.capacity ≤ more + 512 }
+    {
+        let needed = more.div_ceil(SEGMENT_ROWS);
+        self.segments.truncate(needed + 1);
+    }
+
+    /// `drain_rows` where there is none: where there is room enough, it takes no memory.
+    fn drain_none(&mut self, more: usize) -> Result<LogRows, NoMemory>
+        requires { self.old.items ≡ [] }
+        ensures rows { IfOk result (λ rows. rows ≡ self.old.items) }
+        ensures none { self.new.items ≡ [] }
+        ensures items { self.new.items ≡ self.old.items }
+        ensures room { OnOk result (more ≤ self.new.capacity) }
+        ensures idle { more ≤ self.old.capacity → IsOk result }
+        ensures capacity { self.old.capacity ≤ self.new.capacity }
+    {
+        self.reserve(more)?;
+        Ok(LogRows::new(VecDeque::new(self.alloc), Log::new(self.alloc)))
     }
 
     /// The same where the first segment alone has rows: they are moved out of it, and it stays with its room.

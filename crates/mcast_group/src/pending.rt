@@ -105,6 +105,13 @@ impl PendingPart {
         self.learnt.stamp().is_some()
     }
 
+    /// Its ticket has this number.
+    pub(crate) fn number_as(&mut self, number: u64)
+        ensures { self.new ≡ record self.old { number = number } }
+    {
+        self.number = number;
+    }
+
     /// Takes its stamp, and keeps a note of its flight's cell where that has the stamp.
     pub(crate) fn learn(&mut self, stamp: Stamp)
         ensures { self.new ≡ record self.old { learnt = Some stamp } }

@@ -21,7 +21,6 @@ use std::marker::Model;
 /// least is at the end. In contracts it is the list by id.
 #[derive(Drop)]
 pub(crate) struct PendingParts {
-    alloc: Global,
     parts: VecDeque<BoxedPart>,
     keys: Keys,
 }
@@ -44,7 +43,6 @@ impl PendingParts {
         ensures { result ≡ [] }
     {
         PendingParts {
-            alloc,
             parts: VecDeque::new(alloc),
             keys: Keys::new(alloc),
         }
@@ -146,8 +144,16 @@ impl PendingParts {
         self.parts.remove(index).unwrap().into_part()
     }
 
+    /// Makes room for one more.
+    pub(crate) fn reserve(&mut self) -> Result<(), NoMemory>
+        ensures { self.new ≡ self.old }
+    {
+        self.parts.reserve(1)?;
+        self.keys.reserve()
+    }
+
     /// Puts a part among the others, whose keys are below its own, and returns its index.
-    pub(crate) fn insert(&mut self, part: PendingPart) -> Result<usize, NoMemory>
+    pub(crate) fn insert(&mut self, part: BoxedPart) -> Result<usize, NoMemory>
         requires free { is_pending part.part.id self.old ≡ false }
         requires above { (q : Pending) → In q self.old → stamp_lt (key q) (key part) ≡ true }
         ensures within { IfOk result (λ index. index ≤ length self.old) }
@@ -155,11 +161,10 @@ impl PendingParts {
         ensures ok { OnOk result (self.new ≡ insert_pending part self.old) }
         ensures err { OnErr result (self.new ≡ self.old) }
     {
-        let keyed = part.keyed();
+        let keyed = part.part().keyed();
         let index = self.index_for(part.id());
-        let boxed = BoxedPart::new(self.alloc, part)?;
         self.keys.put_greatest(keyed)?;
-        let Ok(()) = self.parts.insert(index, boxed) else {
+        let Ok(()) = self.parts.insert(index, part) else {
             self.keys.drop_greatest();
             return Err(NoMemory);
         };

@@ -1,7 +1,8 @@
 //! The subscriptions of a topic.
 
-ghost use Rattle.std.specs.Prelude.{◌≡◌, ℕ, ◌+◌, ◌<◌, ◌≤◌, ◌==◌, [], length, map, slice_index_or, slice_set, Some, None, IfOk, OnOk, OnErr, IfErr};
+ghost use Rattle.std.specs.Prelude.{◌≡◌, ℕ, ◌+◌, ◌<◌, ◌≤◌, ◌==◌, [], filter, length, map, not, slice_index_or, slice_set, Some, None, IfOk, OnOk, OnErr, IfErr};
 ghost use Rattle.std.specs.List.{position, remove};
+ghost use Rattle.std.specs.Option.{is_some};
 ghost use Rattle.mcast_txn.specs.Transaction.{TopicPart};
 ghost use Rattle.sub_queue.specs.Shown.{next_index};
 ghost use Rattle.sub_queue.specs.VecQueue.{after_take, shown_of};
@@ -125,6 +126,13 @@ impl<Q: Outlet + Drop> Subscriptions<Q> {
         for sub in self.subs.iter_mut() {
             sub.give(needs, frontier, part, copies);
         }
+    }
+
+    /// How many are open.
+    pub(crate) fn open_len(&self) -> usize
+        ensures { result ≡ length (filter (λ s. not (is_some s.to)) self.now) }
+    {
+        self.subs.iter().filter(|sub| sub.to.is_none()).count()
     }
 
     /// Makes room for `more` items in the outlet of each open subscription; no spare falls.

@@ -1,6 +1,7 @@
 //! Worked rows of a topic and its subscriptions, each refusal, made schedules, and what is answered out of memory.
 
 mod calls;
+mod cell_group;
 mod cells;
 mod draining;
 mod made;

@@ -1,5 +1,5 @@
 -- What a ballot answers, and what it then stores.
-use Rattle.std.proofs.Common.{◌≡◌, ℕ, Bool, true, false, not, List, [], ◌∷◌, map, length, get_or, set, Option, Some, None, is_some, Ok, Err, if◌then◌else◌, refl, sym, ap, arith}
+use Rattle.std.proofs.Common.{◌≡◌, ◌≤◌, ℕ, Bool, true, false, not, List, [], ◌∷◌, map, length, get_or, set, Option, Some, None, is_some, Ok, Err, if◌then◌else◌, refl, sym, ap, arith}
 use Rattle.std.proofs.lemmas.Bool.{true≢false, false≢true}
 use Rattle.std.proofs.lemmas.List.{length-set, length-map}
 use Rattle.std.specs.List.{list_any}
@@ -82,7 +82,7 @@ tickets_free [] = refl
 tickets_free (t ∷ topics) = ap (λ rest. (t, None) ∷ rest) (tickets_free topics)
 
 -- a new ballot has room for a ticket of each of its topics
-pub room_free : (topics : List Topic) (rows : List Stamp) (capacity : ℕ) → RisesBy (λ t. t.0) topics → rows ≡ [] → capacity ≡ length topics → HasRoom (map free_slot topics) rows capacity
+pub room_free : (topics : List Topic) (rows : List Stamp) (capacity : ℕ) → RisesBy (λ t. t.0) topics → rows ≡ [] → length topics ≤ capacity → HasRoom (map free_slot topics) rows capacity
 room_free topics rows capacity rising empty exact = record {
   rising = rises-map (λ (slot : Slot ℕ). slot.topic.0) free_slot topics rising;
   empty = empty;

@@ -2,6 +2,8 @@
 pub mod Decided
 pub mod DraftSends
 pub mod Sealed
+pub mod SealedSends
+pub mod SendsHeld
 pub mod Shares
 pub mod SlotIndex
 pub mod TicketSlots

@@ -35,6 +35,16 @@ impl Seen {
         Seen { note }
     }
 
+    /// A note that says the same. It takes no memory.
+    pub fn again(&mut self) -> Seen
+        ensures same { result ≡ self.old }
+        ensures kept { self.new ≡ self.old }
+    {
+        Seen {
+            note: self.note.again(),
+        }
+    }
+
     /// Two notes of one cell know the same verdict, in whichever threads they were made.
     pub fn agree(&mut self, other: Seen)
         requires { other.cell ≡ self.old.cell }

@@ -4,15 +4,33 @@
 #[cfg(test)]
 mod tests;
 
-use broker_server::{Counting, run_words};
+use broker_server::{Counting, Ending, LogQueue, Queued, ServeWords, run_server, run_words};
+use log::{LevelFilter, Logged};
 use std::process::ExitCode;
 use std::{env, io};
 
 /// Collects the words, runs what they ask for over the standard streams, and ends as that run says.
 fn main(rt: HostRuntime) -> ExitCode {
+    let words = words(&rt);
+    if let Ok(all) = &words
+        && let Some(asked) = ServeWords::parse(all.as_slice())
+    {
+        let Ok(queue) = LogQueue::start(rt, rt.alloc()) else {
+            return end(&rt, Ending::without_memory());
+        };
+        let logged = Logged::new(rt, LevelFilter::Info, Queued::new(&rt, &queue));
+        let ended = run_server(&logged, rt.alloc(), asked, &mut rt.stdout());
+        queue.close(&rt);
+        return end(&rt, ended);
+    }
     let mut reader = Counting::new(rt.stdin());
     let mut writer = Counting::new(rt.stdout());
-    let ended = run_words(rt.alloc(), words(&rt), &mut reader, &mut writer);
+    let ended = run_words(rt.alloc(), words, &mut reader, &mut writer);
+    end(&rt, ended)
+}
+
+/// Writes the line of this ending, if it has one, and gives its status.
+fn end(rt: &HostRuntime, ended: Ending) -> ExitCode {
     if let Some(message) = ended.message {
         let _ = eprintln!(rt; "{}", message.text());
     }

@@ -8,6 +8,7 @@ use Rattle.mcast_txn.specs.declared.stamp.Stamp.{Stamp}
 use Rattle.mcast_txn.specs.Span.{Item, item_stamp}
 use Rattle.sub_queue.specs.declared.rule.Knowledge.{Knowledge}
 use Rattle.sub_queue.specs.Rule.{knowledge, pusher_knowledge, taker_knowledge, Agrees, IsInOrder, rest_of}
+use Rattle.sub_queue.specs.Ends.{End, QueueId, shown_of_source}
 use Rattle.sub_queue.specs.Shown.{Shown, IsAboveLast, after_push, has_room, next_index, room_after_take, untaken}
 use Rattle.sub_queue.specs.VecQueue.{VecQueue, after_take, shown_of}
 use Rattle.sub_queue.proofs.RisingItems.{rises_after_push}
@@ -56,6 +57,16 @@ one_is_untaken = refl
 all_may_be_untaken : untaken two_unknown ≡ 2
 all_may_be_untaken = refl
 
+-- the end that pushes of a queue of two places, which pushed two items and was told that this many of them were taken
+abbrev two_pushed : QueueId → ℕ → End
+two_pushed queue told = record { queue = queue; capacity = 2; items = item 1 ∷ item 2 ∷ []; told = told }
+
+may_be_full_untold : (queue : QueueId) → has_room (shown_of_source (two_pushed queue 0)) ≡ false
+may_be_full_untold queue = refl
+
+has_room_once_told : (queue : QueueId) → has_room (shown_of_source (two_pushed queue 1)) ≡ true
+has_room_once_told queue = refl
+
 pushed_at_the_end : (after_push (item 3) two_unknown).accepted ≡ item 1 ∷ item 2 ∷ item 3 ∷ []
 pushed_at_the_end = refl
 
@@ -92,7 +103,7 @@ in_order = record {
   where
     agree : (n : ℕ) (v : Knowledge) → get_elem? (pusher_knowledge pushed ∷ taker_knowledge (item 1 ∷ []) ∷ []) n ≡ some v → Agrees 0 1 pushed (item 1 ∷ []) n v
     agree zero v at = subst (Agrees 0 1 pushed (item 1 ∷ []) 0) (some-injective (pusher_knowledge pushed) v at)
-        (record { pushes = λ _. (refl, refl); takes = λ no. absurd (true≢false (sym no)) })
+        (record { pushes = λ _. (refl, refl); takes = λ no. absurd (true≢false (sym no)); known = (item 1 ∷ [], refl) })
     agree (suc zero) v at = subst (Agrees 0 1 pushed (item 1 ∷ []) 1) (some-injective (taker_knowledge (item 1 ∷ [])) v at)
-        (record { pushes = λ no. absurd (true≢false (sym no)); takes = λ _. (refl, refl) })
+        (record { pushes = λ no. absurd (true≢false (sym no)); takes = λ _. (refl, refl); known = ([], refl) })
     agree (suc (suc n)) v at = absurd (some-ne-none v (sym at))

@@ -1,7 +1,8 @@
 -- Each step of a shared queue keeps its rule: the making, the split into two ends, a push that enters or finds it full, a take
 -- that gives or finds it empty, and the joining.
-use Rattle.std.proofs.Common.{◌≡◌, ◌≢◌, ◌⊎◌, ℕ, zero, suc, true, true≢false, List, [], ◌∷◌, ◌++◌, length, drop, set, inl, inr, sym, refl, ap, ◌∙◌, subst, append_assoc}
+use Rattle.std.proofs.Common.{◌≡◌, ◌≢◌, ◌⊎◌, ℕ, zero, suc, true, false, true≢false, List, [], ◌∷◌, ◌++◌, length, drop, set, arith, inl, inr, sym, refl, ap, ◌∙◌, subst, append_assoc, append-nil}
 use Rattle.std.proofs.Math.Seq.{drop-append_seam}
+use Rattle.std.proofs.lemmas.List.{length-append}
 use mathlib.Core.Option.{some, some-injective, some-ne-none}
 use lib.ListN.{get_elem?}
 use Rattle.crossbeam_queue.specs.Fifo.{Pushes, Pops, Forks, Merges, Learns}
@@ -9,7 +10,7 @@ use Rattle.crossbeam_queue.proofs.Lists.{at_set}
 use Rattle.mcast_txn.specs.Lists.{Rises}
 use Rattle.mcast_txn.specs.Span.{Item, item_stamp}
 use Rattle.sub_queue.specs.declared.rule.Knowledge.{Knowledge}
-use Rattle.sub_queue.specs.Rule.{knowledge, pusher_knowledge, taker_knowledge, no_knowledge, after_pushing, after_taking, Agrees, IsInOrder, EndsWith, rest_of, IsFront}
+use Rattle.sub_queue.specs.Rule.{knowledge, pusher_knowledge, taker_knowledge, witness_knowledge, no_knowledge, knowing_taken, after_pushing, after_taking, Agrees, BeginsWith, IsInOrder, EndsUntaken, rest_of, IsFront}
 use Rattle.sub_queue.specs.Shown.{IsAboveLast}
 use Rattle.sub_queue.proofs.RisingItems.{rises_after_push, rises_front}
 
@@ -37,12 +38,23 @@ left_is v items e = ap (drop (length v.taken)) e ∙ drop-append_seam v.taken it
 is_front : (v : Knowledge) (items : List Item) → v.pushed ≡ v.taken ++ items → IsFront v
 is_front v items e = e ∙ ap (λ xs. v.taken ++ xs) (sym (left_is v items e))
 
+-- every list begins with none of its items, and with all of them
+begins_none : (xs : List Item) → BeginsWith [] xs
+begins_none xs = (xs, refl)
+
+begins_same : (xs ys : List Item) → xs ≡ ys → BeginsWith xs ys
+begins_same xs ys e = ([], sym e ∙ sym (append-nil xs))
+
+-- it does so after one more item
+begins_more : (xs ys : List Item) (item : Item) → BeginsWith xs ys → BeginsWith xs (ys ++ item ∷ [])
+begins_more xs ys item b = (b.0 ++ item ∷ [], ap (λ zs. zs ++ item ∷ []) b.1 ∙ append_assoc xs b.0 (item ∷ []))
+
 -- an empty queue, with one end that pushes and takes
 pub begins : IsInOrder [] (knowledge true [] true [] ∷ [])
 begins = record { source = 0; taker = 0; pushed = []; taken = []; order = refl; rises = tt; agree = only }
   where
     only : (n : ℕ) (v : Knowledge) → get_elem? (knowledge true [] true [] ∷ []) n ≡ some v → Agrees 0 0 [] [] n v
-    only zero v at = subst (Agrees 0 0 [] [] 0) (some-injective (knowledge true [] true []) v at) (record { pushes = λ _. (refl, refl); takes = λ _. (refl, refl) })
+    only zero v at = subst (Agrees 0 0 [] [] 0) (some-injective (knowledge true [] true []) v at) (record { pushes = λ _. (refl, refl); takes = λ _. (refl, refl); known = begins_none [] })
     only (suc n) v at = absurd (some-ne-none v (sym at))
 
 -- an end that pushes and takes is split into one that pushes and one that takes
@@ -51,10 +63,10 @@ splits n v pushes takes items ends h at =
     let mine = h.agree n v at in
     let first = set ends n (pusher_knowledge v.pushed) in
     let Agreed : ℕ → Knowledge → Type 0 = Agrees h.source (length first) h.pushed h.taken in
-    let this : Agreed n (pusher_knowledge v.pushed) = record { pushes = λ _. mine.pushes pushes; takes = λ no. absurd (true≢false (sym no)) } in
+    let this : Agreed n (pusher_knowledge v.pushed) = record { pushes = λ _. mine.pushes pushes; takes = λ no. absurd (true≢false (sym no)); known = begins_none h.taken } in
     let others : (m : ℕ) (u : Knowledge) → m ≢ n → get_elem? ends m ≡ some u → Agreed m u =
-    λ m u apart there. record { pushes = (h.agree m u there).pushes; takes = λ yes. absurd (apart (((h.agree m u there).takes yes).0 ∙ sym (mine.takes takes).0)) } in
-    let second : Agreed (length first) (taker_knowledge v.taken) = record { pushes = λ no. absurd (true≢false (sym no)); takes = λ _. (refl, (mine.takes takes).1) } in
+    λ m u apart there. record { pushes = (h.agree m u there).pushes; takes = λ yes. absurd (apart (((h.agree m u there).takes yes).0 ∙ sym (mine.takes takes).0)); known = (h.agree m u there).known } in
+    let second : Agreed (length first) (taker_knowledge v.taken) = record { pushes = λ no. absurd (true≢false (sym no)); takes = λ _. (refl, (mine.takes takes).1); known = mine.known } in
     record {
       source = h.source;
       taker = length first;
@@ -75,9 +87,9 @@ push_enters capacity n v item pushes above items ends _ h at =
     let is = (mine.pushes pushes).1 in
     let more = h.pushed ++ item ∷ [] in
     let Agreed : ℕ → Knowledge → Type 0 = Agrees h.source h.taker more h.taken in
-    let this : Agreed n (after_pushing item v) = record { pushes = λ _. ((mine.pushes pushes).0, ap (λ xs. xs ++ item ∷ []) is); takes = mine.takes } in
+    let this : Agreed n (after_pushing item v) = record { pushes = λ _. ((mine.pushes pushes).0, ap (λ xs. xs ++ item ∷ []) is); takes = mine.takes; known = mine.known } in
     let others : (m : ℕ) (u : Knowledge) → m ≢ n → get_elem? ends m ≡ some u → Agreed m u =
-    λ m u apart there. record { pushes = λ yes. absurd (apart (((h.agree m u there).pushes yes).0 ∙ sym (mine.pushes pushes).0)); takes = (h.agree m u there).takes } in (
+    λ m u apart there. record { pushes = λ yes. absurd (apart (((h.agree m u there).pushes yes).0 ∙ sym (mine.pushes pushes).0)); takes = (h.agree m u there).takes; known = (h.agree m u there).known } in (
       after_pushing item v,
       record {
         source = h.source;
@@ -91,9 +103,54 @@ push_enters capacity n v item pushes above items ends _ h at =
       refl,
     )
 
--- where a push finds the queue full, what was pushed ends with what it holds
-pub push_finds_full : (n : ℕ) (v : Knowledge) → v.pushes ≡ true → Learns IsInOrder n v (λ items. EndsWith items v.pushed)
-push_finds_full n v pushes items ends h at = (h.taken, ((h.agree n v at).pushes pushes).1 ∙ h.order)
+-- where a push finds the queue full, what was pushed ends with what it holds, behind all that is known to be taken
+pub push_finds_full : (n : ℕ) (v : Knowledge) → v.pushes ≡ true → Learns IsInOrder n v (λ items. EndsUntaken items v)
+push_finds_full n v pushes items ends h at =
+    let mine = h.agree n v at in
+    let long = ap length mine.known.1 ∙ length-append v.taken mine.known.0 in
+    (h.taken, (mine.pushes pushes).1 ∙ h.order, omega (arith, long))
+
+-- a witness of what is known to be taken is made beside the end that knows it
+pub witnesses : (n : ℕ) (v : Knowledge) → Forks IsInOrder n v v (witness_knowledge v.taken)
+witnesses n v items ends h at =
+    let mine = h.agree n v at in
+    let first = set ends n v in
+    let Agreed : ℕ → Knowledge → Type 0 = Agrees h.source h.taker h.pushed h.taken in
+    let new : Agreed (length first) (witness_knowledge v.taken) = record { pushes = λ no. absurd (true≢false (sym no)); takes = λ no. absurd (true≢false (sym no)); known = mine.known } in
+    record {
+      source = h.source;
+      taker = h.taker;
+      pushed = h.pushed;
+      taken = h.taken;
+      order = h.order;
+      rises = h.rises;
+      agree = λ m u there. elim (at_push first (witness_knowledge v.taken) u m there) [
+        | inl e ↦ all_after Agreed ends n v mine (λ k w _ other. h.agree k w other) m u e
+        | inr e ↦ subst (λ k. Agreed k u) (sym e.0) (subst (Agreed (length first)) e.1 new)
+      ];
+    }
+
+-- an end that doesn't take hears of what a witness knows
+pub hears : (n : ℕ) (v : Knowledge) (other : ℕ) (u : Knowledge) → v.takes ≡ false → Merges IsInOrder n v other u (knowing_taken u.taken v) no_knowledge
+hears n v other u quiet items ends h at two at' =
+    let new = knowing_taken u.taken v in
+    let mine = h.agree n v at in
+    let known : BeginsWith u.taken h.taken = elim (at_set ends n other new u at') [
+      | inl e ↦ absurd (two e.0)
+      | inr e ↦ (h.agree other u e.1).known
+    ] in
+    let Agreed : ℕ → Knowledge → Type 0 = Agrees h.source h.taker h.pushed h.taken in
+    let spent : Agreed other no_knowledge = record { pushes = λ no. absurd (true≢false (sym no)); takes = λ no. absurd (true≢false (sym no)); known = begins_none h.taken } in
+    let this : Agreed n new = record { pushes = mine.pushes; takes = λ yes. absurd (true≢false (sym yes ∙ quiet)); known = known } in
+    record {
+      source = h.source;
+      taker = h.taker;
+      pushed = h.pushed;
+      taken = h.taken;
+      order = h.order;
+      rises = h.rises;
+      agree = all_after Agreed (set ends n new) other no_knowledge spent (λ m w apart there. all_after Agreed ends n new this (λ k x _ was. h.agree k x was) m w there);
+    }
 
 -- the rule after a take
 rule_after_take : (n : ℕ) (v : Knowledge) → v.takes ≡ true → (item : Item) (items : List Item) (ends : List Knowledge) → IsInOrder (item ∷ items) ends → get_elem? ends n ≡ some v → IsInOrder items (set ends n (after_taking item v))
@@ -101,9 +158,9 @@ rule_after_take n v takes item items ends h at =
     let mine = h.agree n v at in
     let more = h.taken ++ item ∷ [] in
     let Agreed : ℕ → Knowledge → Type 0 = Agrees h.source h.taker h.pushed more in
-    let this : Agreed n (after_taking item v) = record { pushes = mine.pushes; takes = λ _. ((mine.takes takes).0, ap (λ xs. xs ++ item ∷ []) (mine.takes takes).1) } in
+    let this : Agreed n (after_taking item v) = record { pushes = mine.pushes; takes = λ _. ((mine.takes takes).0, ap (λ xs. xs ++ item ∷ []) (mine.takes takes).1); known = begins_same (v.taken ++ item ∷ []) more (ap (λ xs. xs ++ item ∷ []) (mine.takes takes).1) } in
     let others : (m : ℕ) (u : Knowledge) → m ≢ n → get_elem? ends m ≡ some u → Agreed m u =
-    λ m u apart there. record { pushes = (h.agree m u there).pushes; takes = λ yes. absurd (apart (((h.agree m u there).takes yes).0 ∙ sym (mine.takes takes).0)) } in
+    λ m u apart there. record { pushes = (h.agree m u there).pushes; takes = λ yes. absurd (apart (((h.agree m u there).takes yes).0 ∙ sym (mine.takes takes).0)); known = begins_more u.taken h.taken item (h.agree m u there).known } in
     record {
       source = h.source;
       taker = h.taker;
@@ -140,12 +197,12 @@ joins n v other u pushes takes items ends h at two at' =
       | inr e ↦ (h.agree other u e.1).takes takes
     ] in
     let Agreed : ℕ → Knowledge → Type 0 = Agrees h.source n h.pushed h.taken in
-    let spent : Agreed other no_knowledge = record { pushes = λ no. absurd (true≢false (sym no)); takes = λ no. absurd (true≢false (sym no)) } in
-    let this : Agreed n both = record { pushes = λ _. mine; takes = λ _. (refl, theirs.1) } in
+    let spent : Agreed other no_knowledge = record { pushes = λ no. absurd (true≢false (sym no)); takes = λ no. absurd (true≢false (sym no)); known = begins_none h.taken } in
+    let this : Agreed n both = record { pushes = λ _. mine; takes = λ _. (refl, theirs.1); known = begins_same u.taken h.taken theirs.1 } in
     let others : (m : ℕ) (w : Knowledge) → m ≢ other → get_elem? (set ends n both) m ≡ some w → Agreed m w =
     λ m w apart there. elim (at_set ends n m both w there) [
       | inl e ↦ subst (λ k. Agreed k w) (sym e.0) (subst (Agreed n) e.1 this)
-      | inr e ↦ record { pushes = (h.agree m w e.1).pushes; takes = λ yes. absurd (apart (((h.agree m w e.1).takes yes).0 ∙ sym theirs.0)) }
+      | inr e ↦ record { pushes = (h.agree m w e.1).pushes; takes = λ yes. absurd (apart (((h.agree m w e.1).takes yes).0 ∙ sym theirs.0)); known = (h.agree m w e.1).known }
     ] in
     record {
       source = h.source;

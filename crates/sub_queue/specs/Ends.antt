@@ -1,5 +1,5 @@
 -- The ends of a queue that two threads share.
-use Rattle.std.specs.Prelude.{ℕ, List, [], ◌∷◌, ◌++◌, None}
+use Rattle.std.specs.Prelude.{ℕ, List, [], ◌∷◌, ◌++◌, Some}
 use Rattle.crossbeam_queue.specs.Passes.{Pass}
 use Rattle.mcast_txn.specs.Span.{Item}
 use Rattle.sub_queue.specs.Shown.{Shown}
@@ -17,15 +17,24 @@ QueueId = ResultType (λ (pass : Pass Item Knowledge). pass.table_id)
 -- queue: which queue it is.
 -- capacity: the queue holds at most this many items.
 -- items: those that this end pushed, or those that it took, in order.
+-- told: the end that pushes was told that this many of its items were taken; 0 of the end that takes.
 pub record End : Type 0 where
   pub queue : QueueId
   pub capacity : ℕ
   pub items : List Item
+  pub told : ℕ
+
+-- What is known of a queue's taken items.
+-- queue: which queue it is.
+-- count: so many items were taken, at least.
+pub record TakenCount : Type 0 where
+  pub queue : QueueId
+  pub count : ℕ
 
 -- one more item at the end of the list
 abbrev pub with_item : Item → End → End
 with_item item e = record e { items = e.items ++ item ∷ [] }
 
--- what a source shows: nobody tells it how many items were taken
+-- what a source shows: the items that it pushed, and how many it was told to be taken
 abbrev pub shown_of_source : End → Shown
-shown_of_source e = record { accepted = e.items; room = record { capacity = e.capacity; taken = None } }
+shown_of_source e = record { accepted = e.items; room = record { capacity = e.capacity; taken = Some e.told } }

@@ -8,7 +8,7 @@ use Rattle.mcast_txn.specs.Span.{Item}
 
 -- How many items an outlet has room for.
 -- capacity: at most this many are untaken.
--- taken: how many were taken, where that is known.
+-- taken: how many are known to be taken, where the outlet can know that.
 pub record Room : Type 0 where
   pub capacity : ℕ
   pub taken : Option ℕ

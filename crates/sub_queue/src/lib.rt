@@ -7,6 +7,7 @@ mod outlet;
 mod queue_end;
 mod rule;
 mod source;
+mod taken_so_far;
 mod taker;
 mod vec_outlet;
 
@@ -14,6 +15,7 @@ pub use ends::{close, ruled};
 pub use left::Left;
 pub use outlet::Outlet;
 pub use source::Source;
+pub use taken_so_far::TakenSoFar;
 pub use taker::Taker;
 pub use vec_outlet::VecOutlet;
 

@@ -7,7 +7,7 @@ ghost use Rattle.sub_queue.specs.Shown.{Shown, IsAboveLast, IsFull, after_push};
 use mcast_txn::{NoMemory, Released};
 
 /// Where a topic puts a subscription's items. In contracts it is what it shows: the items that it accepted, in order,
-/// its capacity, and how many of them were taken, where that is known.
+/// its capacity, and how many of them are known to be taken.
 pub trait Outlet {
     /// What a push needs of its caller: nothing, or a runtime to wait with.
     type Needs;
@@ -37,6 +37,6 @@ pub trait Outlet {
         ensures returned { IfErr result (λ returned. returned ≡ item) }
         ensures spare { spare self.old ≤ spare self.new + 1 };
 
-    /// A push is refused only where as many items as the capacity are untaken.
+    /// A push is refused only where as many items as the capacity aren't known to be taken.
     ghost refuses_full: { (s : Shown) → may_accept s false → IsFull s };
 }

@@ -1,14 +1,14 @@
 //! A queue under the rule, with what one end knows of it.
 
-ghost use Rattle.std.specs.Prelude.{◌≡◌, ◌<◌, ◌≤◌, true, [], ◌∷◌, length, IfOk, MatchOption, MatchResult};
+ghost use Rattle.std.specs.Prelude.{◌≡◌, ◌<◌, ◌≤◌, ◌+◌, true, false, [], ◌∷◌, length, IfOk, MatchOption, MatchResult};
 ghost use Rattle.crossbeam_queue.specs.Passes.{IsPassOf, ruled_capacity};
 ghost use Rattle.mcast_txn.specs.Lists.{Rises};
 ghost use Rattle.mcast_txn.specs.Span.{item_stamp};
-ghost use Rattle.sub_queue.specs.Rule.{IsFront, knowledge, knowledge_of, pusher_knowledge, rest_of, taker_knowledge};
+ghost use Rattle.sub_queue.specs.Rule.{IsFront, knowledge, knowledge_of, pusher_knowledge, rest_of, taker_knowledge, witness_knowledge};
 ghost use Rattle.sub_queue.specs.Shown.{IsAboveLast};
-ghost use Rattle.sub_queue.specs.Inner.EndState.{EndState, end_after_push, end_after_take, with_knowledge};
+ghost use Rattle.sub_queue.specs.Inner.EndState.{EndState, end_after_push, end_after_take, end_knowing_taken, with_knowledge};
 
-use crate::rule::{EndPass, Pushes, SharedQueue, Takes, TakesLeft, TwoEnds};
+use crate::rule::{EndPass, Pushes, SharedQueue, Takes, TakesLeft, TwoEnds, Witnesses};
 use mcast_txn::{NoMemory, Released};
 use std::alloc::Global;
 use std::marker::Model;
@@ -72,7 +72,8 @@ impl QueueEnd {
         requires right { self.old.knows.pushes ≡ true }
         requires above { IsAboveLast self.old.knows.pushed item.stamp }
         ensures { MatchResult result (λ _. self.new ≡ end_after_push item self.old)
-            (λ back. (back ≡ item) × (self.new ≡ self.old) × (self.old.capacity ≤ length self.old.knows.pushed)) }
+            (λ back. (back ≡ item) × (self.new ≡ self.old)
+            × (length self.old.knows.taken + self.old.capacity ≤ length self.old.knows.pushed)) }
     {
         self.queue.push_as::<Pushes, R>(rt, &mut self.pass, item)
     }
@@ -85,6 +86,26 @@ impl QueueEnd {
         ensures rises { Rises item_stamp self.new.knows.taken }
     {
         self.queue.pop_as::<Takes, R>(rt, &mut self.pass)
+    }
+
+    /// What this end knows to be taken, beside it.
+    pub(crate) fn witness(&mut self) -> EndPass
+        ensures same { self.new ≡ self.old }
+        ensures queue { result.table_id ≡ self.old.queue }
+        ensures whole { result.me.1 ≡ [] }
+        ensures knows { knowledge_of result ≡ witness_knowledge self.old.knows.taken }
+    {
+        self.queue.another::<Witnesses>(&mut self.pass)
+    }
+
+    /// Knows from now on that the items were taken of which the witness knows that.
+    pub(crate) fn hear(&mut self, witness: EndPass)
+        requires queue { witness.table_id ≡ self.old.queue }
+        requires whole { witness.me.1 ≡ [] }
+        requires right { self.old.knows.takes ≡ false }
+        ensures { self.new ≡ end_knowing_taken (knowledge_of witness).taken self.old }
+    {
+        self.queue.absorb::<Witnesses>(&mut self.pass, witness);
     }
 
     /// Takes the first item of those that are left.

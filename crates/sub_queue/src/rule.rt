@@ -10,8 +10,9 @@ use crossbeam_queue::{Pass, RuledArrayQueue};
 use mcast_txn::Released;
 use std::collections::LinkedList;
 
-/// What an end knows: whether it pushes, and then what was pushed; whether it takes, and then what was taken. It is in
-/// contracts alone: no value of it is made.
+/// What an end knows: whether it pushes, and then what was pushed; whether it takes, and then what was taken. An end that
+/// doesn't take may know some of the items that were taken, from the first on. It is in contracts alone: no value of it
+/// is made.
 pub(crate) struct Knowledge {
     pub(crate) pushes: bool,
     pub(crate) pushed: LinkedList<Released>,
@@ -49,8 +50,27 @@ impl Join<Knowledge> for TwoEnds {
     ghost spent = { no_knowledge };
 }
 
+/// What is known to be taken, as something of its own beside the end that knows it.
+pub(crate) struct Witnesses;
+
+impl Split<Knowledge> for Witnesses {
+    ghost use Rattle.sub_queue.specs.Rule.{witness_knowledge};
+
+    ghost left = { λ v. v };
+
+    ghost right = { λ v. witness_knowledge v.taken };
+}
+
+impl Join<Knowledge> for Witnesses {
+    ghost use Rattle.sub_queue.specs.Rule.{knowing_taken, no_knowledge};
+
+    ghost both = { λ v w. knowing_taken w.taken v };
+
+    ghost spent = { no_knowledge };
+}
+
 /// A push: it puts the item at the end of what was pushed. Where the queue is full, what was pushed ends with what the
-/// queue holds.
+/// queue holds, of which nothing is known to be taken.
 pub(crate) struct Pushes;
 
 impl Outcome<Released, Knowledge> for Pushes {
@@ -58,9 +78,9 @@ impl Outcome<Released, Knowledge> for Pushes {
 }
 
 impl Lesson<Released, Knowledge> for Pushes {
-    ghost use Rattle.sub_queue.specs.Rule.{EndsWith};
+    ghost use Rattle.sub_queue.specs.Rule.{EndsUntaken};
 
-    ghost fact = { λ v items. EndsWith items v.pushed };
+    ghost fact = { λ v items. EndsUntaken items v };
 }
 
 /// A take: it puts the item at the end of what was taken, which rises strictly in stamp.

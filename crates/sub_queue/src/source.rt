@@ -1,18 +1,19 @@
 //! The end of a shared queue that pushes.
 
-ghost use Rattle.std.specs.Prelude.{◌≡◌, ◌^◌, ◌≤◌, true, false, None, Ok, MatchResult};
+ghost use Rattle.std.specs.Prelude.{◌≡◌, ◌^◌, ◌≤◌, true, false, length, Ok, MatchResult};
 ghost use Rattle.std.proofs.Common.{refl};
 ghost use Rattle.sub_queue.specs.Ends.{End, shown_of_source, with_item};
 ghost use Rattle.sub_queue.specs.Shown.{IsAboveLast, IsFull};
 
 use crate::outlet::Outlet;
 use crate::queue_end::QueueEnd;
+use crate::taken_so_far::TakenSoFar;
 use mcast_txn::{NoMemory, Released};
 use std::marker::{Model, PhantomData};
 use std::sync::Wait;
 
-/// The end of a shared queue that pushes: an outlet under a runtime. In contracts it is its queue, the capacity, and
-/// the items that were pushed. How many of them were taken it doesn't know.
+/// The end of a shared queue that pushes: an outlet under a runtime. In contracts it is its queue, the capacity,
+/// the items that were pushed, and how many of them it was told to be taken.
 #[derive(Drop)]
 pub struct Source<R> {
     pub(crate) end: QueueEnd,
@@ -22,9 +23,24 @@ pub struct Source<R> {
 impl<R> Model for Source<R> {
     ghost Value = { End };
 
-    ghost view = { λ s. record { queue = s.end.queue; capacity = s.end.capacity; items = s.end.knows.pushed } };
+    ghost view = { λ s. record {
+      queue = s.end.queue;
+      capacity = s.end.capacity;
+      items = s.end.knows.pushed;
+      told = length s.end.knows.taken;
+    } };
 
-    ghost invariant = { λ s. s.end.knows.pushes ≡ true };
+    ghost invariant = { λ s. (s.end.knows.pushes ≡ true) × (s.end.knows.takes ≡ false) };
+}
+
+impl<R> Source<R> {
+    /// Is told how many items were taken: from then on a push is refused only where the queue is full beside these.
+    pub fn know_taken(&mut self, taken: TakenSoFar)
+        requires { taken.queue ≡ self.old.queue }
+        ensures { self.new ≡ record self.old { told = taken.count } }
+    {
+        self.end.hear(taken.witness);
+    }
 }
 
 impl<R: Wait> Outlet for Source<R> {

@@ -1,11 +1,12 @@
 //! The end of a shared queue that takes.
 
-ghost use Rattle.std.specs.Prelude.{◌≡◌, true, MatchOption};
+ghost use Rattle.std.specs.Prelude.{◌≡◌, true, length, MatchOption};
 ghost use Rattle.mcast_txn.specs.Lists.{Rises};
 ghost use Rattle.mcast_txn.specs.Span.{item_stamp};
 ghost use Rattle.sub_queue.specs.Ends.{End, with_item};
 
 use crate::queue_end::QueueEnd;
+use crate::taken_so_far::TakenSoFar;
 use mcast_txn::Released;
 use std::marker::Model;
 use std::sync::Wait;
@@ -19,7 +20,12 @@ pub struct Taker {
 impl Model for Taker {
     ghost Value = { End };
 
-    ghost view = { λ t. record { queue = t.end.queue; capacity = t.end.capacity; items = t.end.knows.taken } };
+    ghost view = { λ t. record {
+      queue = t.end.queue;
+      capacity = t.end.capacity;
+      items = t.end.knows.taken;
+      told = 0;
+    } };
 
     ghost invariant = { λ t. t.end.knows.takes ≡ true };
 }
@@ -33,5 +39,15 @@ impl Taker {
         ensures rises { Rises item_stamp self.new.items }
     {
         self.end.take(rt)
+    }
+
+    /// That so many items were taken, for the end that pushes, with no memory.
+    pub fn taken_so_far(&mut self) -> TakenSoFar
+        ensures taken { result ≡ record { queue = self.old.queue; count = length self.old.items } }
+        ensures same { self.new ≡ self.old }
+    {
+        TakenSoFar {
+            witness: self.end.witness(),
+        }
     }
 }

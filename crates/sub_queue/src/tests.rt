@@ -6,6 +6,7 @@ ghost use Rattle.std.specs.Prelude.{◌≡◌, ◌<◌, true, IfSome};
 ghost use Rattle.sub_queue.specs.Shown.{IsAboveLast};
 
 mod shared;
+mod told;
 
 use crate::{Outlet, VecOutlet};
 use mcast_txn::{Flight, Headers, Octets, Released, Sender, Stamp, Topic, Txn, TxnId};

@@ -1,11 +1,14 @@
 -- A flight some of whose parts were entered.
-use Rattle.std.specs.Prelude.{◌≡◌, ◌≤◌, ◌++◌, ℕ, List, [], ◌∷◌, map, length, Option, Some, None}
+use Rattle.std.specs.Prelude.{◌≡◌, ◌≤◌, ◌++◌, ◌+◌, ℕ, List, [], ◌∷◌, map, length, slice_get, Option, Some, None}
 use Rattle.std.specs.List.{AllByRecursion}
 use Rattle.mcast_txn.specs.Lists.{RisesBy}
 use Rattle.mcast_txn.specs.Slots.{Slots}
 use Rattle.mcast_txn.specs.Transaction.{TopicPart}
+use Rattle.mcast_txn.specs.declared.id.Topic.{Topic}
+use Rattle.mcast_txn.specs.declared.stamp.Stamp.{Stamp}
+use Rattle.mcast_group.specs.declared.fault.ProposeFault.{ProposeFault}
 use Rattle.sender_gate.specs.Gate.{FlightState}
-use Rattle.broker_locks.specs.Commits.{Proposal, entered, parts_in}
+use Rattle.broker_locks.specs.Commits.{AreTold, Proposal, entered, parts_in, topics_in}
 use Rattle.broker_locks.specs.Rows.{PlaceRow}
 
 -- a part's topic as a number
@@ -47,3 +50,13 @@ pub record HasProposed (ps : List TopicPart) (first : FlightState) (ns : List �
   pub floor : now.floor ≡ first.floor
   pub tickets : now.tickets ≡ tickets_after ps ns
   pub rows : new ≡ old ++ map (entered first.floor) (proposals_of ps ns)
+
+-- The first parts of a flight were tried, and a place refused the last of them.
+pub record TriesPart {P Q : Type 0} (may_refuse : P → Stamp → TopicPart → ProposeFault → Type 0)
+    (told : Q → Topic → ℕ → Q → Type 0) (flight : FlightState) (old new : Q) (fault : ProposeFault) : Type 0 where
+  pub before : ℕ
+  pub tells : AreTold told (topics_in flight) (before + 1) old new
+  pub places : P
+  pub part : TopicPart
+  pub at : slice_get (parts_in flight.parts) before ≡ Some part
+  pub refused : may_refuse places flight.floor part fault

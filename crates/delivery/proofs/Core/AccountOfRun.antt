@@ -47,8 +47,8 @@ use Rattle.delivery.specs.Machine.Runs.{run, answers_from, commits_of, delivered
 use Rattle.delivery.specs.Core.Steps.{CoreStep, Reading, frame_in, number_by}
 use Rattle.delivery.specs.Core.Account.{Beginning, no_item, beginning_of, due_to, next_item, last_id, released_frontier, committed_by, account_of, account_of_next, account_of_step}
 use Rattle.delivery.specs.Core.Output.{has_closed, replies_to}
-use Rattle.delivery.specs.Core.State.{Core, core_of, moves, session_at, frame_move, is_out_of_memory}
-use Rattle.delivery.specs.Core.Outcomes.{outcome_of, move_outcome, unless, frame_no_memory, frame_fault, fault_outcomes, frame_outcome, reading_outcomes, cut_of, is_any, reply_outcomes, outcomes, IsCoreRun}
+use Rattle.delivery.specs.Core.State.{Core, core_of, moves, session_at, frame_move, is_out_of_memory, unread_at}
+use Rattle.delivery.specs.Core.Outcomes.{outcome_of, move_outcome, unless, frame_no_memory, frame_fault, fault_outcomes, frame_outcome, reading_outcomes, cut_of, is_any, reply_outcomes, outcomes, IsCoreRun, accepted_outcomes, outcomes_without, wants_memory}
 use Rattle.delivery.proofs.Machine.Invariant.{sender_in}
 use Rattle.delivery.proofs.Machine.SenderSteps.{leftover_found, In-append_cases}
 use Rattle.delivery.proofs.Machine.InvariantIsKept.{NoneHolds, checked, false_not, in_flight}
@@ -606,6 +606,11 @@ refused_account : (names : List (List ℕ)) (older : List CoreStep) (past : List
 refused_account names older past c None why = refl
 refused_account names older past c (Some f) why = refl
 
+-- an outcome for want of memory is its fault's
+pub was_wanted : (wanted : Bool) (fault : ConnectionFault) (o : Outcome) → In o (outcomes_without wanted fault) → In o (fault_outcomes fault)
+was_wanted true fault o i = i
+was_wanted false fault o i = absurd i
+
 faulted_says : (names : List (List ℕ)) (r : Run) (older : List CoreStep) (rd : Reading) (c : ℕ) (fault : ConnectionFault) (o : Outcome)
     → first_refusal (needs_idle (final_world r) c) ≡ None → In o (fault_outcomes fault) → Says names r older (Event.Next c) rd o
 faulted_says names r older rd c fault o n i = elim i [
@@ -623,17 +628,20 @@ faulted_says names r older rd c fault o n i = elim i [
 
 found_says : (names : List (List ℕ)) (r : Run) (older : List CoreStep) (c : ℕ) (f : RawFrame) (left : Unread) (o : Outcome) (why : Option ConnectionFault)
     → first_refusal (needs_idle (final_world r) c) ≡ None
-    → In o (option_map_or fault_outcomes why (frame_outcome (core_at names r older) c f ++ fault_outcomes frame_no_memory))
+    → In o (option_map_or fault_outcomes why (accepted_outcomes (core_at names r older) c f))
     → Says names r older (Event.Next c) (Reading.Finds f left) o
 found_says names r older c f left o (Some fault) n i = faulted_says names r older (Reading.Finds f left) c fault o n i
 found_says names r older c f left o None n i = elim (In-append_cases o (frame_outcome (core_at names r older) c f) _ i) [
   | inl j ↦ accepted_says names r older c f left o (action_by f.command (session_at (core_at names r older) c) f) refl j
-  | inr j ↦ faulted_says names r older (Reading.Finds f left) c frame_no_memory o n j
+  | inr j ↦ faulted_says names r older (Reading.Finds f left) c frame_no_memory o n
+      (was_wanted (wants_memory (core_at names r older) c f) frame_no_memory o j)
 ]
 
 read_says : (names : List (List ℕ)) (r : Run) (older : List CoreStep) (rd : Reading) (c : ℕ) (o : Outcome) → first_refusal (needs_idle (final_world r) c) ≡ None
     → In o (reading_outcomes (core_at names r older) c rd) → Says names r older (Event.Next c) rd o
-read_says names r older Reading.Nothing c o n i = faulted_says names r older Reading.Nothing c ConnectionFault.ReaderNoMemory o n i
+read_says names r older Reading.Nothing c o n i =
+    faulted_says names r older Reading.Nothing c ConnectionFault.ReaderNoMemory o n
+    (was_wanted (is_any (unread_at c older).text) ConnectionFault.ReaderNoMemory o i)
 read_says names r older (Reading.Waits left) c o n (inl e) = subst (Says names r older (Event.Next c) (Reading.Waits left)) e refl
 read_says names r older (Reading.Waits left) c o n (inr i) = absurd i
 read_says names r older (Reading.Finds f left) c o n i = found_says names r older c f left o (frame_fault (core_at names r older) c f) n i

@@ -23,13 +23,13 @@ use Rattle.delivery.specs.Machine.Moves.Move.{AddsTopic, Opens, Commits, Subscri
 use Rattle.delivery.specs.Machine.Runs.{run}
 use Rattle.delivery.specs.Core.Steps.{CoreStep, Reading, frame_in, has_effect}
 use Rattle.delivery.specs.Core.Output.{is_cut}
-use Rattle.delivery.specs.Core.State.{Core, core_of, moves, frame_move, session_at, is_faulted, is_no_memory}
+use Rattle.delivery.specs.Core.State.{Core, core_of, moves, frame_move, session_at, is_faulted, is_no_memory, unread_at}
 use Rattle.delivery.proofs.Machine.SubscriptionSteps.{set_length, push_length}
 use Rattle.delivery.specs.declared.refusal.Refusal.{Refusal}
 use Rattle.delivery.specs.declared.connection_fault.ConnectionFault.{ConnectionFault}
 use Rattle.delivery.specs.Theorem.Answers.{IsAnswer}
 use Rattle.delivery.specs.Core.Steps.{number_by}
-use Rattle.delivery.specs.Core.Outcomes.{outcome_of, move_outcome, unless, frame_no_memory, frame_fault, fault_outcomes, frame_outcome, reading_outcomes, cut_of, reply_outcomes, outcomes, IsCoreRun}
+use Rattle.delivery.specs.Core.Outcomes.{outcome_of, move_outcome, unless, frame_no_memory, frame_fault, fault_outcomes, frame_outcome, reading_outcomes, cut_of, reply_outcomes, outcomes, IsCoreRun, accepted_outcomes, is_any, outcomes_without, wants_memory}
 use Rattle.delivery.specs.Core.Delivery.{opened_by, opened_in}
 use Rattle.mcast_txn.specs.Checks.{first_refusal}
 use Rattle.mcast_txn.specs.Lists.{In}
@@ -201,6 +201,10 @@ fault_none : (fault : ConnectionFault) → Opened-none (fault_outcomes fault)
 fault_none fault =
     one_none (Outcome.Faulted fault false) (Outcome.Faulted fault true ∷ []) refl (one_none (Outcome.Faulted fault true) [] refl no_outcome)
 
+wanted_none : (wanted : Bool) (fault : ConnectionFault) → Opened-none (outcomes_without wanted fault)
+wanted_none true fault = fault_none fault
+wanted_none false fault = no_outcome
+
 frame_none : (k : Core) (c : ℕ) (action : Action) → Opened-none (option_map_or (move_outcome k) (frame_move k c action) (Outcome.Done ∷ []))
 frame_none k c actions.Connected = one_none Outcome.Done [] refl no_outcome
 frame_none k c actions.Nothing = one_none Outcome.Done [] refl no_outcome
@@ -209,13 +213,14 @@ frame_none k c (actions.Unsubscribe id) = move_none k (Unsubscribes c (number_by
 frame_none k c (actions.Commit sends) = move_none k (Commits c sends) refl
 frame_none k c actions.Disconnect = move_none k (Disconnects c) refl
 
-found_none : (k : Core) (c : ℕ) (f : RawFrame) (why : Option ConnectionFault) → Opened-none (option_map_or fault_outcomes why (frame_outcome k c f ++ fault_outcomes frame_no_memory))
+found_none : (k : Core) (c : ℕ) (f : RawFrame) (why : Option ConnectionFault) → Opened-none (option_map_or fault_outcomes why (accepted_outcomes k c f))
 found_none k c f (Some fault) = fault_none fault
 found_none k c f None =
-    append_none (frame_outcome k c f) (fault_outcomes frame_no_memory) (frame_none k c (action_by f.command (session_at k c) f)) (fault_none frame_no_memory)
+    append_none (frame_outcome k c f) (outcomes_without (wants_memory k c f) frame_no_memory) (frame_none k c (action_by f.command (session_at k c) f))
+    (wanted_none (wants_memory k c f) frame_no_memory)
 
 reading_none : (k : Core) (c : ℕ) (rd : Reading) → Opened-none (reading_outcomes k c rd)
-reading_none k c Reading.Nothing = fault_none ConnectionFault.ReaderNoMemory
+reading_none k c Reading.Nothing = wanted_none (is_any (unread_at c k.steps).text) ConnectionFault.ReaderNoMemory
 reading_none k c (Reading.Waits left) = one_none (Outcome.Refused Refusal.NoFrame) [] refl no_outcome
 reading_none k c (Reading.Finds f left) = found_none k c f (frame_fault k c f)
 reading_none k c (Reading.Fails check left) = fault_none (ConnectionFault.Stream check)

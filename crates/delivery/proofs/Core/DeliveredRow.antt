@@ -1,12 +1,16 @@
--- The theorem's record, met by one row: its fields can be had together, and their premises are met.
-use Rattle.std.proofs.Common.{inl, inr, refl, subst, arith}
-use Rattle.std.specs.Prelude.{◌≡◌, ℕ, zero, suc, ◌<◌, ◌++◌, true, List, [], ◌∷◌, codes, Some}
+-- The theorem's record, met by one row: its fields can be had together, and their premises are met. Beside it stand reports
+-- that it refuses: of a closed subscription that stays open, and of lags that are none.
+use Rattle.std.proofs.Common.{inl, inr, refl, sym, ap, subst, ◌∙◌, arith}
+use Rattle.std.specs.Prelude.{◌≡◌, ℕ, zero, suc, ◌+◌, ◌<◌, ◌≤◌, ◌++◌, true, length, List, [], ◌∷◌, codes, Option, Some, None}
 use Rattle.mcast_txn.specs.Agreed.{CommitRow, Transaction}
 use Rattle.mcast_txn.specs.Lists.{In}
 use Rattle.mcast_txn.specs.TopicSet.{names}
 use Rattle.mcast_txn.specs.Transaction.{topics_of}
 use Rattle.delivery.specs.Theorem.Settled.{IsSettled, IsResolved}
-use Rattle.mcast_group.specs.declared.cause.Cause.TheVariants.{Asked}
+use Rattle.mcast_group.specs.declared.cause.Cause.{Cause}
+use Rattle.mcast_group.specs.declared.cause.Cause.TheVariants.{Asked, Lag}
+use Rattle.mcast_group.proofs.Parts.{some_same, none_some}
+use Rattle.mcast_txn.specs.declared.stamp.Stamp.{Stamp}
 use Rattle.mcast_txn.specs.Span.{Item, last_stamp}
 use Rattle.mcast_txn.specs.Stamp.{zero_stamp}
 use Rattle.delivery.specs.Theorem.Due.{log_row, due}
@@ -16,9 +20,10 @@ use Rattle.delivery.specs.Machine.Runs.{commits_of, delivered_items}
 use Rattle.delivery.specs.Core.Reports.{Report}
 use Rattle.delivery.specs.Core.Account.{account_of, released_log}
 use Rattle.delivery.specs.Core.Reports.{report_of, log_in, queue_in, span_of}
-use Rattle.delivery.specs.Core.Delivery.{Delivers, EndsByCause}
+use Rattle.delivery.specs.Core.Delivery.{Delivers, EndsAsTold, EndsAtFrontier}
 use Rattle.delivery.proofs.Core.Acts.{topic, stamp, id, made, part, log_row as row, A}
 use Rattle.delivery.proofs.Core.Rows.{ends}
+use Rattle.delivery.proofs.Core.ToldEnds.{in_ends}
 
 abbrev item : Item
 item = record { id = id 0 1; stamp = stamp 1 0; sends = part 0 ((codes "destination", A) ∷ []) (codes "m") ∷ [] }
@@ -51,9 +56,14 @@ logs : (n : ℕ) → n < 1 → log_in report (topic n) ≡ released_log (topic n
 logs zero lt = refl
 logs (suc n) lt = absurd (omega arith)
 
-asked : (s : ℕ) → s < 1 → EndsByCause s told (queue_in report s).cause (queue_in report s).to
-asked zero lt = (Answer.Gone 0 ∷ [], before_end, refl, refl)
-asked (suc s) lt = absurd (omega arith)
+ends_as_told : (s : ℕ) → s < 1 → EndsAsTold 64 s told (queue_in report s)
+ends_as_told zero lt = record {
+  told = λ to i. elim (in_ends 0 to told i) [ inl e ↦ ap Some e | inr none ↦ absurd none ];
+  unended = λ e. none_some Asked (sym e);
+  asked = λ e. (stamp 1 0, refl, (Answer.Gone 0 ∷ [], before_end, refl, refl));
+  lag = λ e. (let same : Asked ≡ Lag = some_same Asked Lag e in cc);
+}
+ends_as_told (suc s) lt = absurd (omega arith)
 
 is_due : (s : ℕ) → s < 1
     → (queue_in report s).queued ≡ due (commits_of told) (span_of (queue_in report s)) (last_stamp zero_stamp (log_in report (queue_in report s).topic))
@@ -79,6 +89,10 @@ prefix : (s : ℕ) → s < 1 → (rest : List Item) × ((queue_in report s).queu
 prefix zero lt = ((queue_in report 0).queued, refl)
 prefix (suc s) lt = absurd (omega arith)
 
+in_room : (s : ℕ) → s < 1 → length (queue_in report s).queued ≤ length (queue_in report s).handed + 64
+in_room zero lt = omega arith
+in_room (suc s) lt = absurd (omega arith)
+
 -- topic 0 is settled: its one transaction was decided, and a turn came after
 abbrev before_turn : List Answer
 before_turn =
@@ -97,18 +111,77 @@ is_resolved txn (inr (inr (inr (inr (inr none))))) named = absurd none
 settled : IsSettled (topic 0) told
 settled = inl (refl, λ txn i named. is_resolved txn i named)
 
-delivers : Delivers told report
+delivers : Delivers 64 told report
 delivers = record {
   commits = refl;
   each_once = (λ y i. absurd i, tt);
   fifo_order = (λ y i same. absurd i, tt);
   logs = λ t lt. logs t.0 lt;
   begins = refl;
-  ends = asked;
+  ends = ends_as_told;
   exactly_due = is_due;
   total_order = in_one_order;
   validity = λ t row lt settled i named. is_logged t.0 row lt i;
   handed = is_handed;
   handed_prefix = λ s lt. prefix s lt;
+  bounded = in_room;
   silent_after_close = tt;
 }
+
+-- ---- reports that are no delivery
+
+-- what is told of a transaction that is committed at topic 0 and released there
+abbrev committed : List Answer → List Answer
+committed before =
+    Answer.Turned (topic 0) 1 ∷ Answer.Decided (id 0 1) (stamp 1 0) ∷ Answer.Ticket (id 0 1) (stamp 1 0)
+    ∷ Answer.Begun (record { id = id 0 1; sends = made 0 ((codes "destination", A) ∷ []) (codes "m") ∷ [] }) ∷ before
+
+-- a subscription to it is closed before, or stays open
+abbrev subscribed : List Answer
+subscribed = Answer.Subscribed 0 0 (topic 0) (stamp 0 0) ∷ Answer.Opened 0 ∷ []
+
+abbrev after_close : List Answer
+after_close = committed (Answer.Unsubscribed 0 (stamp 0 0) ∷ subscribed)
+
+abbrev while_open : List Answer
+while_open = committed subscribed
+
+-- the item was queued, and the span is reported to end so
+abbrev with_end : Option Stamp → Option Cause → Report
+with_end to cause = record report {
+  subscriptions = record { topic = topic 0; from = stamp 0 0; to = to; cause = cause; queued = item ∷ []; handed = [] } ∷ [];
+}
+
+-- the closed subscription is reported open, with the row that came after
+stays_open : (capacity : ℕ) → Delivers capacity after_close (with_end None None) → Prim.⊥
+stays_open capacity d = none_some (stamp 0 0) ((d.ends 0 (omega arith)).told (stamp 0 0) (inr (inr (inr (inr (inl refl))))))
+
+-- it is reported to have lagged, at a stamp that nothing has
+closed_lags : (capacity : ℕ) → Delivers capacity after_close (with_end (Some (stamp 7 3)) (Some Lag)) → Prim.⊥
+closed_lags capacity d =
+    let e : stamp 7 3 ≡ stamp 0 0 = some_same (stamp 7 3) (stamp 0 0) ((d.ends 0 (omega arith)).told (stamp 0 0) (inr (inr (inr (inr (inl refl)))))) in
+    let n : 7 ≡ 0 = ap (λ (z : Stamp). z.n) e in absurd (omega (arith, n))
+
+-- an open one is
+open_lags : (capacity : ℕ) → Delivers capacity while_open (with_end (Some (stamp 7 3)) (Some Lag)) → Prim.⊥
+open_lags capacity d =
+    let l = (d.ends 0 (omega arith)).lag refl in
+    let n : 7 ≡ 1 = ap (λ (z : Stamp). z.n) (some_same (stamp 7 3) l.0 l.1 ∙ l.2.last) in absurd (omega (arith, n))
+
+-- it is reported to have lagged at its last item, where there is room for one more
+lags_with_room : Delivers 2 while_open (with_end (Some (stamp 1 0)) (Some Lag)) → Prim.⊥
+lags_with_room d =
+    let l = (d.ends 0 (omega arith)).lag refl in
+    let n : 1 ≡ length (delivered_items 0 l.2.before) + 2 = l.2.full in absurd (omega (arith, n))
+
+-- it is reported to have been asked to end, which nobody asked
+unasked : (later before : List Answer) (to : Stamp) → while_open ≡ later ++ Answer.Unsubscribed 0 to ∷ before → In (Answer.Unsubscribed 0 to) while_open
+unasked later before to e = subst (λ z. In (Answer.Unsubscribed 0 to) z) (sym e) (in_it later)
+  where
+    in_it : (xs : List Answer) → In (Answer.Unsubscribed 0 to) (xs ++ Answer.Unsubscribed 0 to ∷ before)
+    in_it [] = inl refl
+    in_it (x ∷ xs) = inr (in_it xs)
+
+asked_unasked : (capacity : ℕ) → Delivers capacity while_open (with_end (Some (stamp 1 0)) (Some Asked)) → Prim.⊥
+asked_unasked capacity d =
+    let a = (d.ends 0 (omega arith)).asked refl in in_ends 0 a.0 while_open (unasked a.2.0 a.2.1 a.0 a.2.2)

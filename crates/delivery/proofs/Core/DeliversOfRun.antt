@@ -26,15 +26,18 @@ use Rattle.delivery.specs.Core.Account.{beginning_of, Beginning, released_fronti
 use Rattle.delivery.specs.Core.State.{core_of}
 use Rattle.delivery.specs.Core.Outcomes.{IsCoreRun}
 use Rattle.delivery.specs.Core.Reports.{QueueReport, Report, report_of, queue_report, each_number, no_queue, queue_in, log_in, span_of}
-use Rattle.delivery.specs.Core.Delivery.{Begun, reported_begun, EndsAtFrontier, EndsByCause, Delivers}
+use Rattle.delivery.specs.Core.Delivery.{Begun, reported_begun, EndsAtFrontier, EndsAsTold, Delivers}
 use Rattle.delivery.proofs.Theorem.AcceptedIsDue.{reached, accepted_is_due, shared_in_one_order, agreed_once, agreed_in_sender_order}
 use Rattle.delivery.proofs.Theorem.LogIsOfAnswers.{log_is_of_outcomes}
 use Rattle.delivery.proofs.Theorem.SettledLeavesNoneOut.{settled_in_log}
 use Rattle.delivery.proofs.Theorem.ClosedIsSilent.{closed_is_silent}
-use Rattle.delivery.proofs.Theorem.SpansAsAnswered.{handing, beyond, within}
-use Rattle.delivery.proofs.Core.Said.{said, commits_said, delivered_said, beginning_said, released_log_said, released_frontier_said, begun_said, settled_said, silent_said}
+use Rattle.delivery.proofs.Theorem.SpansAsAnswered.{handing, beyond, within, spans_end_as_told, queues_are_bounded}
+use Rattle.delivery.proofs.Core.Said.{said, said_from, commits_said, delivered_said, beginning_said, released_log_said, released_frontier_said, begun_said, settled_said, silent_said}
 use Rattle.delivery.proofs.Core.Started.{begin_of, numbered, begun_is, asked_at_frontier}
 use Rattle.delivery.proofs.Core.AccountOfRun.{run_of, core_at, core_is, account_is}
+use Rattle.delivery.proofs.Core.LagsAsTold.{lag_as_told}
+use Rattle.delivery.proofs.Core.SaidParts.{said_append}
+use Rattle.mcast_group.proofs.Parts.{some_same, none_some}
 
 -- ---- numbered lists
 
@@ -79,45 +82,16 @@ log_is r names steps t = held_at (final_world r).topics t.0 t
 
 -- ---- ends
 
-said_split : (later : List Answer) (s : ℕ) (to : Stamp) (before : List Answer) → said (later ++ Answer.Unsubscribed s to ∷ before) ≡ said later ++ Answer.Unsubscribed s to ∷ said before
-said_split [] s to before = refl
-said_split (Answer.Refused why ∷ later) s to before = said_split later s to before
-said_split (Answer.Done ∷ later) s to before = said_split later s to before
-said_split (Answer.Opened c ∷ later) s to before = ap (λ z. Answer.Opened c ∷ z) (said_split later s to before)
-said_split (Answer.Begun txn ∷ later) s to before = ap (λ z. Answer.Begun txn ∷ z) (said_split later s to before)
-said_split (Answer.Subscribed r c u from ∷ later) s to before = ap (λ z. Answer.Subscribed r c u from ∷ z) (said_split later s to before)
-said_split (Answer.Unsubscribed r v ∷ later) s to before = ap (λ z. Answer.Unsubscribed r v ∷ z) (said_split later s to before)
-said_split (Answer.Leaving c ∷ later) s to before = ap (λ z. Answer.Leaving c ∷ z) (said_split later s to before)
-said_split (Answer.Error c ∷ later) s to before = ap (λ z. Answer.Error c ∷ z) (said_split later s to before)
-said_split (Answer.Gone c ∷ later) s to before = ap (λ z. Answer.Gone c ∷ z) (said_split later s to before)
-said_split (Answer.Ticket i ticket ∷ later) s to before = ap (λ z. Answer.Ticket i ticket ∷ z) (said_split later s to before)
-said_split (Answer.Failed i why ∷ later) s to before = ap (λ z. Answer.Failed i why ∷ z) (said_split later s to before)
-said_split (Answer.Decided i stamp ∷ later) s to before = ap (λ z. Answer.Decided i stamp ∷ z) (said_split later s to before)
-said_split (Answer.Withdrawn i c ∷ later) s to before = ap (λ z. Answer.Withdrawn i c ∷ z) (said_split later s to before)
-said_split (Answer.Cancelled i u ∷ later) s to before = ap (λ z. Answer.Cancelled i u ∷ z) (said_split later s to before)
-said_split (Answer.Learnt i u ∷ later) s to before = ap (λ z. Answer.Learnt i u ∷ z) (said_split later s to before)
-said_split (Answer.Released u i ∷ later) s to before = ap (λ z. Answer.Released u i ∷ z) (said_split later s to before)
-said_split (Answer.Turned u n ∷ later) s to before = ap (λ z. Answer.Turned u n ∷ z) (said_split later s to before)
-said_split (Answer.Handed r item ∷ later) s to before = ap (λ z. Answer.Handed r item ∷ z) (said_split later s to before)
-
 end_said : (s : ℕ) (past : List Answer) (to : Stamp) → EndsAtFrontier s past to → EndsAtFrontier s (said past) to
 end_said s past to h =
     let before = h.1 in (
       said h.0,
       said before,
-      ap said h.2 ∙ said_split h.0 s to before,
+      ap said h.2 ∙ said_append h.0 (Answer.Unsubscribed s to ∷ before),
       h.3
           ∙ (sym (released_frontier_said (beginning_of s before).topic before)
           ∙ ap (λ (z : Beginning). released_frontier z.topic (said before)) (sym (beginning_said s before))),
     )
-
-ends_open : (s : ℕ) (account : List Answer) (o : Option Stamp) → EndsByCause s account (option_map (λ end. Lag) o) o
-ends_open s account None = refl
-ends_open s account (Some end) = refl
-
-ends_closed : (s : ℕ) (account : List Answer) (cause : Cause) (to : Stamp) → (cause ≡ Asked → EndsAtFrontier s account to) → EndsByCause s account (Some cause) (Some to)
-ends_closed s account Lag to h = refl
-ends_closed s account Asked to h = h refl
 
 abbrev cause_by : Option EntryEnd → Option Stamp → Option Cause
 cause_by closed lagged = elim closed [ None ↦ option_map (λ end. Lag) lagged | Some end ↦ Some end.cause ]
@@ -125,11 +99,36 @@ cause_by closed lagged = elim closed [ None ↦ option_map (λ end. Lag) lagged 
 abbrev end_by : Option EntryEnd → Option Stamp → Option Stamp
 end_by closed lagged = elim closed [ None ↦ lagged | Some end ↦ Some end.to ]
 
-ends_case : (r : Run) (s : ℕ) (lagged : Option Stamp) (o : Option EntryEnd) → (subscription_at (final_world r) s).closed ≡ o
-    → EndsByCause s (said (answers_of r)) (cause_by o lagged) (end_by o lagged)
-ends_case r s lagged None e = ends_open s (said (answers_of r)) lagged
-ends_case r s lagged (Some end) e =
-    ends_closed s (said (answers_of r)) end.cause end.to (λ c. end_said s (answers_of r) end.to (asked_at_frontier r s end e c))
+-- what has a cause has an end, and what has none has none
+has_end : (closed : Option EntryEnd) (lagged : Option Stamp) (cause : Cause) → cause_by closed lagged ≡ Some cause → (end : Stamp) × (end_by closed lagged ≡ Some end)
+has_end None None cause e = none_some cause e
+has_end None (Some end) cause e = (end, refl)
+has_end (Some left) lagged cause e = (left.to, refl)
+
+no_end : (closed : Option EntryEnd) (lagged : Option Stamp) → cause_by closed lagged ≡ None → end_by closed lagged ≡ None
+no_end None None e = refl
+no_end None (Some end) e = none_some Lag (sym e)
+no_end (Some left) lagged e = none_some left.cause (sym e)
+
+asked_closed : (closed : Option EntryEnd) (lagged : Option Stamp) → cause_by closed lagged ≡ Some Asked → (left : EntryEnd) × (closed ≡ Some left) × (left.cause ≡ Asked)
+asked_closed None None e = none_some Asked e
+asked_closed None (Some end) e = let k : Lag ≡ Asked = some_same Lag Asked e in cc
+asked_closed (Some left) lagged e = (left, refl, some_same left.cause Asked e)
+
+-- each span ends as it was told
+ends_told : (r : Run) (s : ℕ) → EndsAsTold r.capacity s (said (answers_of r)) (queue_report (final_world r) s)
+ends_told r s =
+    let w = final_world r in let past = answers_of r in let lagged = entry_to (entry_at w s) in let closed = (subscription_at w s).closed in
+    record {
+      told = λ to i. spans_end_as_told r s to (said_from (Answer.Unsubscribed s to) past i);
+      unended = λ none. no_end closed lagged none;
+      asked = λ cause. (let left = asked_closed closed lagged cause in (
+        left.0.to,
+        ap (λ z. end_by z lagged) left.1,
+        end_said s past left.0.to (asked_at_frontier r s left.0 left.1 left.2),
+      ));
+      lag = λ cause. (let end = has_end closed lagged Lag cause in (end.0, end.1, lag_as_told r s end.0 cause end.1));
+    }
 
 -- ---- what was handed on
 
@@ -173,15 +172,14 @@ one_order r names steps s q = elim (within s (length (final_world r).subscriptio
 -- ---- all together
 
 -- the report of a run of the machine is what an account says of its answers
-pub delivers_said : (names : List (List ℕ)) (r : Run) (steps : List CoreStep) → Delivers (said (answers_of r)) (report_of (core_at names r steps))
+pub delivers_said : (names : List (List ℕ)) (r : Run) (steps : List CoreStep) → Delivers r.capacity (said (answers_of r)) (report_of (core_at names r steps))
 delivers_said names r steps = record {
   commits = ap (map log_row) (sym (reached r).commits ∙ sym (commits_said past));
   each_once = subst (λ z. EachOnce committed_id stamp_of (agreed z)) (sym (commits_said past)) (agreed_once r);
   fifo_order = subst (λ z. SenderOrder committed_id (agreed z)) (sym (commits_said past)) (agreed_in_sender_order r);
   logs = λ t l. log_is r names steps t ∙ (log_is_of_outcomes r t ∙ sym (released_log_said t past));
   begins = reported_is w 0 w.subscriptions (λ j l. ap (subscription_at w) (omega arith)) ∙ (sym (begun_is r) ∙ sym (begun_said past));
-  ends = λ s l. subst (λ (z : QueueReport). EndsByCause s (said past) z.cause z.to) (sym (queue_at r names steps s (subs_there r names steps s l)))
-      (ends_case r s (entry_to (entry_at w s)) (subscription_at w s).closed refl);
+  ends = λ s l. subst (λ (z : QueueReport). EndsAsTold r.capacity s (said past) z) (sym (queue_at r names steps s (subs_there r names steps s l))) (ends_told r s);
   exactly_due = λ s l. (let m = subs_there r names steps s l in
       subst (λ (z : QueueReport). z.queued ≡ due (commits_of (said past)) (span_of z) (last_stamp zero_stamp (log_in p z.topic))) (sym (queue_at r names steps s m))
       (accepted_is_due r s m
@@ -197,6 +195,9 @@ delivers_said names r steps = record {
   handed_prefix = λ s l. (let m = subs_there r names steps s l in
       subst (λ (z : QueueReport). (rest : List Item) × (z.queued ≡ z.handed ++ rest)) (sym (queue_at r names steps s m))
       (((handing r).held s m).rest, ((handing r).held s m).is ∙ ap (λ z. z ++ ((handing r).held s m).rest) (sym (handed_is r s m))));
+  bounded = λ s l. (let m = subs_there r names steps s l in
+      subst (λ (z : QueueReport). length z.queued ≤ length z.handed + r.capacity) (sym (queue_at r names steps s m))
+      (subst (λ (z : List Item). length (accepted_at w s) ≤ length z + r.capacity) (sym (handed_is r s m)) (queues_are_bounded r s m)));
   silent_after_close = silent_said past (closed_is_silent r);
 }
   where
@@ -211,8 +212,8 @@ delivers_said names r steps = record {
 
 -- every run of the core delivers what its account says
 pub delivers : (topics : TopicList) (capacity : ℕ) (steps : List CoreStep) → IsCoreRun topics capacity steps
-    → Delivers (account_of topics.names steps) (report_of (core_of topics capacity steps))
+    → Delivers capacity (account_of topics.names steps) (report_of (core_of topics capacity steps))
 delivers topics capacity steps run =
     let r = run_of topics capacity steps in
-    subst (λ z. Delivers z (report_of (core_of topics capacity steps))) (sym (account_is topics capacity steps run))
-    (subst (λ k. Delivers (said (answers_of r)) (report_of k)) (sym (core_is topics capacity steps)) (delivers_said topics.names r steps))
+    subst (λ z. Delivers capacity z (report_of (core_of topics capacity steps))) (sym (account_is topics capacity steps run))
+    (subst (λ k. Delivers capacity (said (answers_of r)) (report_of k)) (sym (core_is topics capacity steps)) (delivers_said topics.names r steps))

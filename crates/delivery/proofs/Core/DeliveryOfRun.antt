@@ -26,10 +26,10 @@ written topics capacity steps =
 pub delivery : RunsDeliver
 delivery topics capacity steps same run =
     let k = core_of topics capacity steps in let n = counted topics capacity steps run in record {
-      steps = steps;
-      are_kept = refl;
-      are_read = are_readings topics capacity steps run;
-      delivers = delivers topics capacity steps run;
-      output = written topics capacity steps;
-      counts = (map_length (λ (x : TopicState). x.held) k.world.topics ∙ (n.0 ∙ same), each_length (λ c. text_out k.names c k.steps) 0 k.world.connections ∙ n.1);
+      delivered = delivers topics capacity steps run;
+      written = record {
+        are_read = are_readings topics capacity steps run;
+        output = written topics capacity steps;
+        counts = (map_length (λ (x : TopicState). x.held) k.world.topics ∙ (n.0 ∙ same), each_length (λ c. text_out k.names c k.steps) 0 k.world.connections ∙ n.1);
+      };
     }

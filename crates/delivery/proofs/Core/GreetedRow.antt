@@ -15,7 +15,7 @@ use Rattle.delivery.specs.declared.outcome.Outcome.{Outcome}
 use Rattle.delivery.specs.Topics.{TopicList}
 use Rattle.delivery.specs.Theorem.Due.{log_row}
 use Rattle.delivery.specs.Machine.Moves.{Answer}
-use Rattle.delivery.specs.Core.Steps.{CoreStep, Reading, kept_of, reader_limits, fed_octets, frames_of, BeginsWithFrames}
+use Rattle.delivery.specs.Core.Steps.{CoreStep, Reading, reader_limits, fed_octets, frames_of, BeginsWithFrames}
 use Rattle.delivery.specs.Core.Account.{released_log, account_of}
 use Rattle.delivery.specs.Core.Output.{text_out}
 use Rattle.delivery.specs.Core.State.{core_of}
@@ -83,7 +83,7 @@ outs (suc c) lt = absurd (omega arith)
 none_logged : (n : ℕ) (row : CommitRow) → In row [] → In (log_row row) (log_in report (topic n))
 none_logged n row i = absurd i
 
-delivers : Delivers (Answer.Opened 0 ∷ []) report
+delivers : Delivers 64 (Answer.Opened 0 ∷ []) report
 delivers = record {
   commits = refl;
   each_once = tt;
@@ -96,15 +96,16 @@ delivers = record {
   validity = λ t row lt settled i named. none_logged t.0 row i;
   handed = λ s lt. absurd (omega arith);
   handed_prefix = λ s lt. absurd (omega arith);
+  bounded = λ s lt. absurd (omega arith);
   silent_after_close = tt;
 }
 
-is_delivered : Delivery topics (reverse (map kept_of steps)) report
+is_delivered : Delivery topics 64 steps report
 is_delivered = record {
-  steps = steps;
-  are_kept = refl;
-  are_read = record { shown = refl; first = first };
-  delivers = delivers;
-  output = outs;
-  counts = (refl, refl);
+  delivered = delivers;
+  written = record {
+    are_read = record { shown = refl; first = first };
+    output = outs;
+    counts = (refl, refl);
+  };
 }

@@ -197,11 +197,15 @@ lacking_shown = refl
 lacking_cut : (report_of (played one (lacking 2))).outs ≡ greeting ∷ []
 lacking_cut = refl
 
--- the same where the reader found none: of no frame, so without its receipt
+-- the same where the reader found none for what is unread: of no frame, so without its receipt
 abbrev pub dry : Core
-dry = played one (opens 0 (act (Event.Next 0) ∷ []))
+dry = played one (opens 0 (act (Event.Piece 0 (codes "SEND")) ∷ act (Event.Next 0) ∷ []))
 
-dry_shown : shown dry ≡ (Opened 0 ∷ Done ∷ Faulted ConnectionFault.ReaderNoMemory false ∷ [], (greeting ++ codes "ERROR\nmessage:72 NoMemory\ncontent-length:0\n\n\0") ∷ [])
+-- where all is read, it wants none
+idle_answers : outcomes (played one (opens 0 [])) (Event.Next 0) Reading.Nothing ≡ []
+idle_answers = refl
+
+dry_shown : shown dry ≡ (Opened 0 ∷ Done ∷ Fed ∷ Faulted ConnectionFault.ReaderNoMemory false ∷ [], (greeting ++ codes "ERROR\nmessage:72 NoMemory\ncontent-length:0\n\n\0") ∷ [])
 dry_shown = refl
 
 -- what may be answered, first with memory: to a Leave that has a RECEIPT to write, to one that hasn't, and to a Withdraw of a lost connection

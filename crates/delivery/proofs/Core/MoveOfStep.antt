@@ -25,11 +25,11 @@ use Rattle.delivery.specs.Machine.Runs.{run}
 use Rattle.delivery.specs.Theorem.Laws.{move_topic}
 use Rattle.delivery.specs.Core.Steps.{Reading, number_by, has_effect}
 use Rattle.delivery.specs.Core.Output.{is_cut}
-use Rattle.delivery.specs.Core.State.{Core, session_at, frame_move, is_faulted, is_no_memory, is_out_of_memory, moves}
-use Rattle.delivery.specs.Core.Outcomes.{outcome_of, move_outcome, unless, frame_no_memory, frame_fault, fault_outcomes, frame_outcome, reading_outcomes, cut_of, outcomes}
+use Rattle.delivery.specs.Core.State.{Core, session_at, frame_move, is_faulted, is_no_memory, is_out_of_memory, moves, unread_at}
+use Rattle.delivery.specs.Core.Outcomes.{outcome_of, move_outcome, unless, frame_no_memory, frame_fault, fault_outcomes, frame_outcome, reading_outcomes, cut_of, outcomes, accepted_outcomes, is_any, wants_memory}
 use Rattle.delivery.specs.Core.Stepped.{event_topic}
 use Rattle.delivery.proofs.Machine.SenderSteps.{In-append_cases}
-use Rattle.delivery.proofs.Core.AccountOfRun.{in_option, refusal_some, replied, same_memory}
+use Rattle.delivery.proofs.Core.AccountOfRun.{in_option, refusal_some, replied, same_memory, was_wanted}
 use Rattle.delivery.proofs.Core.ReadingsShown.{unrefused, effect_of}
 
 -- ---- the moves of an event
@@ -182,16 +182,17 @@ accepted_by k c f left o actions.Disconnect by n i =
     accepted k c f left o actions.Disconnect (Disconnects c) by refl refl (ap is_faulted (sym is)) (ap has_effect (sym is)) (in_option o _ i)
 
 found : (k : Core) (c : ℕ) (f : RawFrame) (left : Unread) (o : Outcome) (why : Option ConnectionFault) → frame_fault k c f ≡ why
-    → In o (option_map_or fault_outcomes why (frame_outcome k c f ++ fault_outcomes frame_no_memory)) → Comes k (Event.Next c) (Reading.Finds f left) o
+    → In o (option_map_or fault_outcomes why (accepted_outcomes k c f)) → Comes k (Event.Next c) (Reading.Finds f left) o
 found k c f left o (Some fault) e i = erred k c (Reading.Finds f left) fault o i
 found k c f left o None e i = elim (In-append_cases o (frame_outcome k c f) _ i) [
   | inl j ↦ accepted_by k c f left o (action_by f.command (session_at k c) f) refl
       (unrefused (case_fault f) (session_fault (session_at k c) f) (option_and_then (λ mv. move_refusal k.world mv) (frame_move k c (action_by f.command (session_at k c) f))) e) j
-  | inr j ↦ erred k c (Reading.Finds f left) frame_no_memory o j
+  | inr j ↦ erred k c (Reading.Finds f left) frame_no_memory o (was_wanted (wants_memory k c f) frame_no_memory o j)
 ]
 
 idle_comes : (k : Core) (c : ℕ) (rd : Reading) (o : Outcome) → In o (reading_outcomes k c rd) → Comes k (Event.Next c) rd o
-idle_comes k c Reading.Nothing o i = erred k c Reading.Nothing ConnectionFault.ReaderNoMemory o i
+idle_comes k c Reading.Nothing o i =
+    erred k c Reading.Nothing ConnectionFault.ReaderNoMemory o (was_wanted (is_any (unread_at c k.steps).text) ConnectionFault.ReaderNoMemory o i)
 idle_comes k c (Reading.Waits left) o (inl e) = subst (Comes k (Event.Next c) (Reading.Waits left)) e (inl (refl, refl))
 idle_comes k c (Reading.Waits left) o (inr i) = absurd i
 idle_comes k c (Reading.Finds f left) o i = found k c f left o (frame_fault k c f) refl i

@@ -14,7 +14,7 @@ use Rattle.delivery.specs.declared.event.Event.{Event}
 use Rattle.delivery.specs.declared.outcome.Outcome.TheVariants.{Opened, Fed, Done, Subscribed, Flying, Proposed, Decided, Turned, Handed}
 use Rattle.delivery.specs.Core.Steps.{kept_of, shows_reading, BeginsWithFrames, fed_octets, frames_of, reader_limits}
 use Rattle.delivery.specs.Core.State.{Core, new_core}
-use Rattle.delivery.specs.Core.Readings.{steps_of}
+use Rattle.delivery.specs.Inner.Readings.{steps_of}
 use Rattle.delivery.specs.Core.Reports.{report_of}
 use Rattle.delivery.proofs.Core.Acts.{topic_list, played, act, reads, frame, connect, subscribe, propose, turn, stamp, id, shown_outcomes, A}
 

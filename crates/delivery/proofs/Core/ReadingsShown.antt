@@ -25,9 +25,9 @@ use Rattle.delivery.specs.Machine.Moves.{Move, needs_idle, move_refusal, move_an
 use Rattle.delivery.specs.Machine.Moves.Move.{Commits, Subscribes, Unsubscribes, Disconnects}
 use Rattle.delivery.specs.Core.Steps.{CoreStep, Reading, frame_in, has_frame, says_frame, reads_as_said, shows_reading, number_by}
 use Rattle.delivery.specs.Core.State.{Core, core_of, IsReadBy, unread_at, session_at, frame_move}
-use Rattle.delivery.specs.Core.Outcomes.{outcome_of, move_outcome, unless, frame_no_memory, frame_fault, fault_outcomes, frame_outcome, reading_outcomes, outcomes, IsReadAt, IsCoreRun}
+use Rattle.delivery.specs.Core.Outcomes.{outcome_of, move_outcome, unless, frame_no_memory, frame_fault, fault_outcomes, frame_outcome, reading_outcomes, outcomes, IsReadAt, IsCoreRun, accepted_outcomes, is_any, wants_memory}
 use Rattle.delivery.proofs.Machine.SenderSteps.{In-append_cases}
-use Rattle.delivery.proofs.Core.AccountOfRun.{in_option, refusal_some, answer_is}
+use Rattle.delivery.proofs.Core.AccountOfRun.{in_option, refusal_some, answer_is, was_wanted}
 
 -- a Next that read this shows it
 abbrev Shows : Reading → Outcome → Type 0
@@ -83,19 +83,20 @@ faulted rd fault o h i = elim i [
 ]
 
 found : (k : Core) (c : ℕ) (f : RawFrame) (left : Unread) (o : Outcome) (why : Option ConnectionFault) → frame_fault k c f ≡ why
-    → In o (option_map_or fault_outcomes why (frame_outcome k c f ++ fault_outcomes frame_no_memory)) → Shows (Reading.Finds f left) o
+    → In o (option_map_or fault_outcomes why (accepted_outcomes k c f)) → Shows (Reading.Finds f left) o
 found k c f left o (Some fault) e i =
     faulted (Reading.Finds f left) fault o (framed (case_fault f) (session_fault (session_at k c) f) (option_and_then (λ mv. move_refusal k.world mv) (frame_move k c (action_by f.command (session_at k c) f))) fault e) i
 found k c f left o None e i = elim (In-append_cases o (frame_outcome k c f) _ i) [
   | inl j ↦ read (Reading.Finds f left) o true
       (accepted_said k c (action_by f.command (session_at k c) f) o
       (unrefused (case_fault f) (session_fault (session_at k c) f) (option_and_then (λ mv. move_refusal k.world mv) (frame_move k c (action_by f.command (session_at k c) f))) e) j) refl
-  | inr j ↦ faulted (Reading.Finds f left) frame_no_memory o refl j
+  | inr j ↦ faulted (Reading.Finds f left) frame_no_memory o refl (was_wanted (wants_memory k c f) frame_no_memory o j)
 ]
 
 -- a Next that isn't refused shows what it read
 pub idle : (k : Core) (c : ℕ) (rd : Reading) (o : Outcome) → In o (reading_outcomes k c rd) → Shows rd o
-idle k c Reading.Nothing o i = faulted Reading.Nothing ConnectionFault.ReaderNoMemory o refl i
+idle k c Reading.Nothing o i =
+    faulted Reading.Nothing ConnectionFault.ReaderNoMemory o refl (was_wanted (is_any (unread_at c k.steps).text) ConnectionFault.ReaderNoMemory o i)
 idle k c (Reading.Waits left) o (inl e) = read (Reading.Waits left) o false (ap says_frame (sym e)) refl
 idle k c (Reading.Waits left) o (inr i) = absurd i
 idle k c (Reading.Finds f left) o i = found k c f left o (frame_fault k c f) refl i

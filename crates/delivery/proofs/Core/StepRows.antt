@@ -15,7 +15,6 @@ use Rattle.delivery.specs.declared.refusal.Refusal.{Refusal}
 use Rattle.delivery.specs.declared.connection_fault.ConnectionFault.{ConnectionFault}
 use Rattle.delivery.specs.Core.Steps.{CoreStep, Reading, reader_limits, shows_reading, fed_octets, frames_of}
 use Rattle.delivery.specs.Core.Account.{account_of, released_frontier}
-use Rattle.delivery.specs.Core.Delivery.{EndsByCause}
 use Rattle.delivery.specs.Theorem.Laws.{shared_marks}
 use Rattle.delivery.specs.Machine.Moves.{Answer}
 use Rattle.stomp_frame.specs.Reader.{Unread, unread_of}
@@ -178,9 +177,9 @@ late_outs = refl
 late_agrees : agreements narrow late_acts ≡ all_agree
 late_agrees = refl
 
--- its span ends by lag, and that of the other was asked to end at the frontier then
-late_lags : EndsByCause 1 (account_of late.names late.steps) (queue_in (report_of late) 1).cause (queue_in (report_of late) 1).to
-late_lags = refl
+-- its span ends by lag (`WholeRow` has such an end whole), and that of the other was asked to end at the frontier then
+late_causes : map (λ q. q.cause) (report_of late).subscriptions ≡ Some Asked ∷ Some Lag ∷ []
+late_causes = refl
 
 late_frontier : (stamp 1 0) ≡ released_frontier (topic 0) (account_of (played narrow early_acts).names (played narrow early_acts).steps)
 late_frontier = refl
@@ -293,8 +292,8 @@ spent_outcomes = refl
 
 -- ---- a subscription that isn't closed has no end, or ends by lag
 
-crossing_open : EndsByCause 0 (account_of crossing.names crossing.steps) (queue_in (report_of crossing) 0).cause (queue_in (report_of crossing) 0).to
-crossing_open = refl
+crossing_open : ((queue_in (report_of crossing) 0).cause ≡ None) × ((queue_in (report_of crossing) 0).to ≡ None)
+crossing_open = (refl, refl)
 
 lagging_queues : map seen (report_of (played narrow (opens 0 (reads 0 (subscribe (codes "s") A) ∷ sends_one 0 (codes "1") (sends_one 0 (codes "2") (sends_one 0 (codes "3") [])))))).subscriptions
     ≡ (topic 0, stamp 0 0, Some (stamp 2 0), Some Lag, stamp 1 0 ∷ stamp 2 0 ∷ [], []) ∷ []

@@ -10,17 +10,17 @@ use Rattle.mcast_txn.specs.Span.{LogRow, Item, last_stamp}
 use Rattle.mcast_txn.specs.Stamp.{zero_stamp}
 use Rattle.mcast_group.specs.declared.fault.ProposeFault.TheVariants as proposals
 use Rattle.mcast_group.specs.Machine.{TopicState, Pending}
-use Rattle.mcast_group.proofs.Parts.{some_same}
+use Rattle.mcast_group.proofs.Parts.{some_same, none_some}
 use Rattle.delivery.specs.declared.event.Event.{Event}
 use Rattle.delivery.specs.declared.outcome.Outcome.{Outcome}
 use Rattle.delivery.specs.declared.outcome.Outcome.TheVariants.{Opened, Unsubscribed, Proposed, Failed, Decided, Released, Turned, Handed, Refused, NoMemory}
 use Rattle.delivery.specs.declared.refusal.Refusal.{Refusal}
 use Rattle.delivery.specs.Machine.World.{World, SenderState, Subscription, Standing, topic_at}
 use Rattle.delivery.specs.Machine.Observed.{log_at, accepted_at, end_at}
-use Rattle.delivery.specs.Core.Steps.{Reading}
+use Rattle.delivery.specs.Core.Steps.{CoreStep, Reading}
 use Rattle.delivery.specs.Core.State.{Core, core_after}
 use Rattle.delivery.specs.Core.Outcomes.{outcomes}
-use Rattle.delivery.specs.Core.Stepped.{HasStepped, GivesTicket, GivesStamp, DeliversNext, LagsFull, step_at}
+use Rattle.delivery.specs.Core.Stepped.{HasStepped, GivesTicket, GivesStamp, DeliversNext, LagsFull}
 use Rattle.delivery.proofs.Core.Acts.{topic, stamp, id, log_row, made, part, A, B}
 
 -- ---- what the rows are written with
@@ -68,9 +68,17 @@ core a b senders standing subscriptions = record {
   steps = [];
 }
 
+-- the step of an event that reads nothing
+abbrev pub step_by : Event → Outcome → CoreStep
+step_by e o = record { event = e; reading = Reading.Nothing; outcome = o }
+
+-- the core steps so by an event with this outcome
+abbrev Steps : Core → Core → Event → Outcome → Type 0
+Steps before later e o = HasStepped before later (step_by e o)
+
 -- the core after an event with this outcome
 abbrev pub after : Core → Event → Outcome → Core
-after k e o = core_after k (step_at k e o)
+after k e o = core_after k (step_by e o)
 
 -- ---- the step is added, and its outcome is one that the event may have (`is_after`, `may`)
 
@@ -87,7 +95,7 @@ gone_steps : (after parted (Event.Lost 0) (Refused Refusal.Gone)).steps
 gone_steps = refl
 
 -- the two checks swapped
-swapped_checks : HasStepped parted (after parted (Event.Lost 0) (Refused Refusal.Busy)) (Event.Lost 0) (Refused Refusal.Busy) → Prim.⊥
+swapped_checks : Steps parted (after parted (Event.Lost 0) (Refused Refusal.Busy)) (Event.Lost 0) (Refused Refusal.Busy) → Prim.⊥
 swapped_checks h = not_busy h.may.outcome
   where
     not_busy : (Refused Refusal.Gone ≡ Refused Refusal.Busy) ⊎ Prim.⊥ → Prim.⊥
@@ -95,7 +103,7 @@ swapped_checks h = not_busy h.may.outcome
     not_busy (inr e) = e
 
 -- the step isn't kept
-lost_step : HasStepped parted parted (Event.Lost 0) (Refused Refusal.Gone) → Prim.⊥
+lost_step : Steps parted parted (Event.Lost 0) (Refused Refusal.Gone) → Prim.⊥
 lost_step h = let e : 0 ≡ 1 = ap (λ (k : Core). length k.steps) h.is_after in absurd (omega (arith, e))
 
 -- ---- a refusal and want of memory change nothing (`refused`, `no_memory`)
@@ -111,7 +119,7 @@ nothing_done : (after (sending []) (Event.Release (topic 0)) (Refused Refusal.No
 nothing_done = refl
 
 -- a release that is refused, and raises its topic's clock
-refused_and_done : HasStepped (sending []) (core (bare 0 5) (bare 1 9) (flying (0 ∷ 1 ∷ []) [] ∷ []) Standing.Open []) (Event.Release (topic 0)) (Refused Refusal.NothingDue)
+refused_and_done : Steps (sending []) (core (bare 0 5) (bare 1 9) (flying (0 ∷ 1 ∷ []) [] ∷ []) Standing.Open []) (Event.Release (topic 0)) (Refused Refusal.NothingDue)
     → Prim.⊥
 refused_and_done h =
     let e : 5 ≡ 4 = ap (λ (w : World). (topic_at w (topic 0)).clock) (h.refused Refusal.NothingDue refl) in absurd (omega (arith, e))
@@ -123,7 +131,7 @@ open_without : (after (sending []) Event.Open NoMemory).world ≡ (sending []).w
 open_without = refl
 
 -- an Open without memory that opens
-opens_without : HasStepped (sending []) (after (sending []) Event.Open (Opened 1)) Event.Open NoMemory → Prim.⊥
+opens_without : Steps (sending []) (after (sending []) Event.Open (Opened 1)) Event.Open NoMemory → Prim.⊥
 opens_without h = let e : 2 ≡ 1 = ap (λ (w : World). length w.connections) (h.no_memory refl) in absurd (omega (arith, e))
 
 -- ---- a ticket is by its own topic's clock and the sender's floor (`ticket`, `named`)
@@ -151,17 +159,17 @@ of_proposal before later n (c, t, e, g) =
     subst (λ u. GivesTicket before later 0 u n) other (subst (λ d. GivesTicket before later d t n) one g)
 
 -- one counter for all topics: the number is above B's clock
-one_counter : HasStepped (sending []) (numbered 10 10) at_a (Proposed 10) → Prim.⊥
+one_counter : Steps (sending []) (numbered 10 10) at_a (Proposed 10) → Prim.⊥
 one_counter h =
     let e : 10 ≡ 8 = (of_proposal (sending []).world (numbered 10 10).world 10 (h.ticket 10 refl)).number in absurd (omega (arith, e))
 
 -- the sender's floor is ignored
-no_floor : HasStepped (sending []) (numbered 5 5) at_a (Proposed 5) → Prim.⊥
+no_floor : Steps (sending []) (numbered 5 5) at_a (Proposed 5) → Prim.⊥
 no_floor h =
     let e : 5 ≡ 8 = (of_proposal (sending []).world (numbered 5 5).world 5 (h.ticket 5 refl)).number in absurd (omega (arith, e))
 
 -- the clock stays
-clock_stays : HasStepped (sending []) (numbered 4 8) at_a (Proposed 8) → Prim.⊥
+clock_stays : Steps (sending []) (numbered 4 8) at_a (Proposed 8) → Prim.⊥
 clock_stays h =
     let e : 4 ≡ 8 = (of_proposal (sending []).world (numbered 4 8).world 8 (h.ticket 8 refl)).clock in absurd (omega (arith, e))
 
@@ -173,7 +181,7 @@ unnamed_may : outcomes (at_a_alone []) (Event.Propose 0 (topic 1)) Reading.Nothi
 unnamed_may = refl
 
 -- a proposal at any topic: B gives a ticket too
-any_topic : HasStepped (at_a_alone []) (at_a_alone (stamp 10 1 ∷ [])) (Event.Propose 0 (topic 1)) (Proposed 10) → Prim.⊥
+any_topic : Steps (at_a_alone []) (at_a_alone (stamp 10 1 ∷ [])) (Event.Propose 0 (topic 1)) (Proposed 10) → Prim.⊥
 any_topic h = false≢true (h.named 0 (stamp 10 1) (inl refl))
 
 -- ---- a stamp is the greatest of one ticket for each named topic (`stamp`)
@@ -207,25 +215,25 @@ of_decide before later s (c, e, g) =
     subst (λ d. GivesStamp before later d s) one g
 
 -- the least ticket
-least_ticket : HasStepped (sending (stamp 5 0 ∷ stamp 6 1 ∷ [])) (decided (stamp 5 0) (stamp 5 0)) (Event.Decide 0) (Decided (stamp 5 0) false) → Prim.⊥
+least_ticket : Steps (sending (stamp 5 0 ∷ stamp 6 1 ∷ [])) (decided (stamp 5 0) (stamp 5 0)) (Event.Decide 0) (Decided (stamp 5 0) false) → Prim.⊥
 least_ticket h =
     let g = of_decide (sending (stamp 5 0 ∷ stamp 6 1 ∷ [])).world (decided (stamp 5 0) (stamp 5 0)).world (stamp 5 0) (h.stamp (stamp 5 0) false refl) in
     let e : 5 ≡ 6 = ap (λ (s : Stamp). s.n) g.is_greatest in absurd (omega (arith, e))
 
 -- numbers alone: of two tickets of one number the first
-numbers_alone : HasStepped (sending equal_tickets) (decided (stamp 5 0) (stamp 5 0)) (Event.Decide 0) (Decided (stamp 5 0) false) → Prim.⊥
+numbers_alone : Steps (sending equal_tickets) (decided (stamp 5 0) (stamp 5 0)) (Event.Decide 0) (Decided (stamp 5 0) false) → Prim.⊥
 numbers_alone h =
     let g = of_decide (sending equal_tickets).world (decided (stamp 5 0) (stamp 5 0)).world (stamp 5 0) (h.stamp (stamp 5 0) false refl) in
     let e : 0 ≡ 1 = ap (λ (s : Stamp). s.topic.0) g.is_greatest in absurd (omega (arith, e))
 
 -- a Decide before B gave its ticket
-too_early : HasStepped (sending (stamp 5 0 ∷ [])) (decided (stamp 5 0) (stamp 5 0)) (Event.Decide 0) (Decided (stamp 5 0) false) → Prim.⊥
+too_early : Steps (sending (stamp 5 0 ∷ [])) (decided (stamp 5 0) (stamp 5 0)) (Event.Decide 0) (Decided (stamp 5 0) false) → Prim.⊥
 too_early h =
     let g = of_decide (sending (stamp 5 0 ∷ [])).world (decided (stamp 5 0) (stamp 5 0)).world (stamp 5 0) (h.stamp (stamp 5 0) false refl) in
     let e : 1 ≡ 2 = ap length g.of_each in absurd (omega (arith, e))
 
 -- the floor isn't raised
-floor_stays : HasStepped (sending equal_tickets) (decided (stamp 5 1) (stamp 7 1)) (Event.Decide 0) (Decided (stamp 5 1) false) → Prim.⊥
+floor_stays : Steps (sending equal_tickets) (decided (stamp 5 1) (stamp 7 1)) (Event.Decide 0) (Decided (stamp 5 1) false) → Prim.⊥
 floor_stays h =
     let g = of_decide (sending equal_tickets).world (decided (stamp 5 1) (stamp 7 1)).world (stamp 5 1) (h.stamp (stamp 5 1) false refl) in
     let e : 7 ≡ 5 = ap (λ (s : Stamp). s.n) g.floor in absurd (omega (arith, e))
@@ -284,13 +292,13 @@ of_take before later count (s, e, g) =
     subst (λ r. DeliversNext before later r count) one g
 
 -- the same item twice: the first, of one SEND, once more
-same_item : HasStepped (second_due 1) (second_due 2) (Event.Take 0) (Handed 1) → Prim.⊥
+same_item : Steps (second_due 1) (second_due 2) (Event.Take 0) (Handed 1) → Prim.⊥
 same_item h =
     let g = of_take (second_due 1).world (second_due 2).world 1 (h.delivered 1 refl) in
     let e : 1 ≡ 2 = g.sends ∙ ap (λ (i : Item). length i.sends) (sym (some_same (item 2 2) g.item g.is_next)) in absurd (omega (arith, e))
 
 -- the item isn't taken, so that it comes again
-not_taken : HasStepped (second_due 1) (second_due 1) (Event.Take 0) (Handed 2) → Prim.⊥
+not_taken : Steps (second_due 1) (second_due 1) (Event.Take 0) (Handed 2) → Prim.⊥
 not_taken h =
     let e : 1 ≡ 2 = (of_take (second_due 1).world (second_due 1).world 2 (h.delivered 2 refl)).taken in absurd (omega (arith, e))
 
@@ -318,7 +326,7 @@ other_stays : topic_at (after (third_due (item 2 1 ∷ [])) release_a (Released 
 other_stays = refl
 
 -- a release that releases at two topics
-two_topics : HasStepped (third_due []) (core (queueing [] (row 1 ∷ row 2 ∷ row 3 ∷ []) [] None) (record (bare 1 9) { held = row 3 ∷ [] }) [] Standing.Open []) release_a (Released (id 0 3))
+two_topics : Steps (third_due []) (core (queueing [] (row 1 ∷ row 2 ∷ row 3 ∷ []) [] None) (record (bare 1 9) { held = row 3 ∷ [] }) [] Standing.Open []) release_a (Released (id 0 3))
     → Prim.⊥
 two_topics h =
     let b : (0 ≡ 1 → Prim.⊥) = λ e. omega (arith, e) in
@@ -341,6 +349,10 @@ leave_may = refl
 leave_ends : end_at (after leaving (Event.Leave 0) (Unsubscribed 0 (stamp 1 0))).world 0 ≡ Some (stamp 1 0)
 leave_ends = refl
 
+-- the same answer, and the span stays open (`closes`)
+closes_nothing : Steps leaving (record leaving { steps = step_by (Event.Leave 0) (Unsubscribed 0 (stamp 1 0)) ∷ [] }) (Event.Leave 0) (Unsubscribed 0 (stamp 1 0)) → Prim.⊥
+closes_nothing h = none_some (stamp 1 0) (h.closes 0 (stamp 1 0) refl)
+
 -- the queue is full
 abbrev pub full : Core
 full = third_due (item 1 1 ∷ item 2 1 ∷ [])
@@ -362,14 +374,14 @@ lagged before later e o end unclosed (inl closed) = absurd (unclosed closed)
 lagged before later e o end unclosed (inr lags) = lags
 
 -- a lag where there is room for one item more
-lags_with_room : HasStepped (third_due (item 2 1 ∷ [])) (third_released (item 2 1 ∷ []) (Some (stamp 2 0))) release_a (Released (id 0 3)) → Prim.⊥
+lags_with_room : Steps (third_due (item 2 1 ∷ [])) (third_released (item 2 1 ∷ []) (Some (stamp 2 0))) release_a (Released (id 0 3)) → Prim.⊥
 lags_with_room h =
     let g = lagged (third_due (item 2 1 ∷ [])).world (third_released (item 2 1 ∷ []) (Some (stamp 2 0))).world release_a (Released (id 0 3)) (stamp 2 0) (λ e. cc)
     (h.ends 0 (stamp 2 0) refl refl) in
     let e : 1 ≡ 2 = g.full in absurd (omega (arith, e))
 
 -- a lag at a Turn of another topic
-lags_elsewhere : HasStepped full (third_released (item 1 1 ∷ item 2 1 ∷ []) (Some (stamp 2 0))) (Event.Turn (topic 1)) (Turned 1) → Prim.⊥
+lags_elsewhere : Steps full (third_released (item 1 1 ∷ item 2 1 ∷ []) (Some (stamp 2 0))) (Event.Turn (topic 1)) (Turned 1) → Prim.⊥
 lags_elsewhere h = not_here (lagged full.world (third_released (item 1 1 ∷ item 2 1 ∷ []) (Some (stamp 2 0))).world (Event.Turn (topic 1)) (Turned 1) (stamp 2 0) (λ e. cc)
     (h.ends 0 (stamp 2 0) refl refl)).by
   where
@@ -382,7 +394,7 @@ lags_elsewhere h = not_here (lagged full.world (third_released (item 1 1 ∷ ite
     not_here (inr e) = let n : 1 ≡ 0 = ap topic_of e in absurd (omega (arith, n))
 
 -- a lag of a full queue, with no row for which it has no room
-lags_without_row : HasStepped full (queued (queueing (learnt 3 ∷ []) (row 1 ∷ row 2 ∷ []) (item 1 1 ∷ item 2 1 ∷ []) (Some (stamp 2 0))) 0) release_a (Released (id 0 3)) → Prim.⊥
+lags_without_row : Steps full (queued (queueing (learnt 3 ∷ []) (row 1 ∷ row 2 ∷ []) (item 1 1 ∷ item 2 1 ∷ []) (Some (stamp 2 0))) 0) release_a (Released (id 0 3)) → Prim.⊥
 lags_without_row h =
     let later = queued (queueing (learnt 3 ∷ []) (row 1 ∷ row 2 ∷ []) (item 1 1 ∷ item 2 1 ∷ []) (Some (stamp 2 0))) 0 in
     let g = lagged full.world later.world release_a (Released (id 0 3)) (stamp 2 0) (λ e. cc) (h.ends 0 (stamp 2 0) refl refl) in
@@ -399,13 +411,13 @@ enters_computed : length (accepted_at (after (third_due (item 2 1 ∷ [])) relea
 enters_computed = refl
 
 -- a dropped row
-drops_row : HasStepped (third_due (item 2 1 ∷ [])) (third_released (item 2 1 ∷ []) None) release_a (Released (id 0 3)) → Prim.⊥
+drops_row : Steps (third_due (item 2 1 ∷ [])) (third_released (item 2 1 ∷ []) None) release_a (Released (id 0 3)) → Prim.⊥
 drops_row h = let e : 1 + 2 ≡ 1 + 3 = h.enters 0 (omega arith) refl in absurd (omega (arith, e))
 
 -- an item twice
-enters_twice : HasStepped (third_due []) (third_released (item 3 1 ∷ item 3 1 ∷ []) None) release_a (Released (id 0 3)) → Prim.⊥
+enters_twice : Steps (third_due []) (third_released (item 3 1 ∷ item 3 1 ∷ []) None) release_a (Released (id 0 3)) → Prim.⊥
 enters_twice h = let e : 2 + 2 ≡ 0 + 3 = h.enters 0 (omega arith) refl in absurd (omega (arith, e))
 
 -- a queue past its capacity
-past_capacity : HasStepped full (third_released (item 1 1 ∷ item 2 1 ∷ item 3 1 ∷ []) None) release_a (Released (id 0 3)) → Prim.⊥
+past_capacity : Steps full (third_released (item 1 1 ∷ item 2 1 ∷ item 3 1 ∷ []) None) release_a (Released (id 0 3)) → Prim.⊥
 past_capacity h = let l : 3 ≤ 0 + 2 = h.bounded 0 (omega arith) in absurd (omega (arith, l))

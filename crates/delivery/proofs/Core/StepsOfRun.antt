@@ -1,6 +1,8 @@
 -- The steps of a run are a function of its events and outcomes.
 use Rattle.std.proofs.Common.{◌≡◌, ℕ, Bool, true, false, cond, not, inl, inr, List, [], ◌∷◌, ◌++◌, map, Option, Some, None, Result, Ok, Err, refl, sym, ap, subst, ◌∙◌}
 use Rattle.std.proofs.lemmas.Bool.{true≢false, false≢true}
+use Rattle.std.proofs.lemmas.List.{reverse-reverse}
+use Rattle.std.specs.Prelude.{reverse}
 use Rattle.std.specs.Option.{is_some, option_map}
 use Rattle.stomp_frame.specs.declared.raw_frame.RawFrame.{RawFrame}
 use Rattle.stomp_frame.specs.declared.fault.Check.{Check}
@@ -24,11 +26,14 @@ use Rattle.delivery.specs.Machine.Objections.{Objection, refusal_of}
 use Rattle.delivery.specs.Machine.Moves.{needs_idle}
 use Rattle.delivery.specs.Core.Steps.{CoreStep, Reading, frame_in, says_frame, kept_of, reader_limits}
 use Rattle.delivery.specs.Core.State.{Core, core_of, IsReadBy, unread_at}
-use Rattle.delivery.specs.Core.Readings.{reading_of, reads_nothing, reading_at, steps_of}
+use Rattle.delivery.specs.Inner.Readings.{reading_of, reads_nothing, reading_at, steps_of}
+use Rattle.delivery.specs.Core.Delivery.{kept_run, StepsAreKept}
 use Rattle.delivery.specs.Core.Outcomes.{unless, fault_outcomes, reading_outcomes, outcomes, IsReadAt, IsCoreRun}
 use Rattle.delivery.proofs.Core.AccountOfRun.{in_option, core_is}
 use Rattle.delivery.proofs.Core.FramesRead.{limits_are}
 use Rattle.delivery.proofs.Core.ReadingsShown.{ReadsUnless, idle}
+use Rattle.delivery.specs.Core.Outcomes.{is_any}
+use Rattle.delivery.proofs.Core.AccountOfRun.{was_wanted}
 
 -- a refusal of the machine's isn't that there is no frame
 reported : (why : Objection) (r : Refusal) → refusal_of why ≡ Some r → reads_nothing (Outcome.Refused r) ≡ true
@@ -128,7 +133,8 @@ shown_found f left o false e h = absurd (false≢true h)
 idle_reads : (k : Core) (c : ℕ) (rd : Reading) (o : Outcome) → (unread_at c k.steps).limits ≡ reader_limits → IsReadBy (unread_at c k.steps) rd → In o (reading_outcomes k c rd)
     → rd ≡ Given k.steps c o (reads_nothing o)
 idle_reads k c Reading.Nothing o l h i =
-    sym (ap (Given k.steps c o) (faulted_as ConnectionFault.ReaderNoMemory o true refl refl i))
+    sym (ap (Given k.steps c o)
+    (faulted_as ConnectionFault.ReaderNoMemory o true refl refl (was_wanted (is_any (unread_at c k.steps).text) ConnectionFault.ReaderNoMemory o i)))
 idle_reads k c (Reading.Waits left) o l h (inr i) = absurd i
 idle_reads k c (Reading.Waits left) o l h (inl e) =
     Waits_is (unread_at c k.steps) left (frame_at reader_limits (unread_at c k.steps).text) (ap (λ n. frame_at n (unread_at c k.steps).text) l) h
@@ -172,3 +178,14 @@ steps_are topics capacity (step ∷ older) run =
     λ i. record { event = step.event; reading = rd i; outcome = step.outcome } in
     ap (λ (z : CoreStep). z ∷ older) read
     ∙ ap (λ (z : List CoreStep). record { event = step.event; reading = reading_at z step.event step.outcome; outcome = step.outcome } ∷ z) (steps_are topics capacity older run.1)
+
+-- so they are those of the kept run, turned
+pub steps_turned : (topics : TopicList) (capacity : ℕ) (steps : List CoreStep) → IsCoreRun topics capacity steps → steps ≡ steps_of (reverse (kept_run steps))
+steps_turned topics capacity steps run =
+    steps_are topics capacity steps run ∙ ap (λ (ks : List Kept). steps_of ks) (sym (reverse-reverse (map kept_of steps)))
+
+-- a kept run has one list of steps
+pub one_list_of_steps : StepsAreKept
+one_list_of_steps topics capacity steps others run other same =
+    steps_turned topics capacity steps run
+    ∙ (ap (λ (ks : List Kept). steps_of (reverse ks)) same ∙ sym (steps_turned topics capacity others other))

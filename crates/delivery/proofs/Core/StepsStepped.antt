@@ -35,9 +35,8 @@ use Rattle.delivery.specs.Core.Steps.{Reading}
 use Rattle.delivery.specs.Core.Output.{is_cut}
 use Rattle.delivery.specs.Core.State.{Core, core_of, core_after, is_faulted, is_no_memory}
 use Rattle.delivery.specs.Core.Outcomes.{outcome_of, cut_of, MayStep}
-use Rattle.delivery.specs.Core.Readings.{reading_at}
 use Rattle.delivery.specs.Core.Stepped
-use Rattle.delivery.specs.Core.Stepped.{event_topic, step_at, GivesTicket, GivesStamp, DeliversNext, LagsFull, HasStepped}
+use Rattle.delivery.specs.Core.Stepped.{event_topic, GivesTicket, GivesStamp, DeliversNext, LagsFull, HasStepped}
 use Rattle.delivery.specs.Inner.Stands.{IsReached}
 use Rattle.delivery.proofs.Machine.Invariant.{topic_in}
 use Rattle.delivery.proofs.Machine.InvariantIsKept.{by_refusal, checked, false_not, in_flight, asks_of, Asks}
@@ -46,10 +45,9 @@ use Rattle.delivery.proofs.Theorem.StepLaws.{refusals_change_nothing, others_unt
 use Rattle.delivery.proofs.Theorem.EndsAreAnswered.{ends_are_told}
 use Rattle.delivery.proofs.Theorem.LagsEndBeforeRow.{lags_end_before_row}
 use Rattle.delivery.proofs.Theorem.RowsEnter.{AllEnter, Enters, rows_enter}
-use Rattle.delivery.proofs.Theorem.SpansAsAnswered.{known, handing, within}
+use Rattle.delivery.proofs.Theorem.SpansAsAnswered.{known, handing, within, spans_end_as_told}
 use Rattle.delivery.proofs.Core.AccountOfRun.{refusal_some, core_is}
-use Rattle.delivery.proofs.Core.StepsOfRun.{event_reads}
-use Rattle.delivery.proofs.Core.FramesRead.{limits_are}
+use Rattle.delivery.proofs.Core.AtNext.{at_next}
 use Rattle.delivery.proofs.Core.MoveOfStep.{IsMoveOf, is_of_frame, is_plain, world_then, Moved, DecidedAndLost, Erred, Comes, remembered, comes}
 use Rattle.delivery.proofs.Views.Runs.ByRunOfCore.{machine_run, world_of, by_world}
 use Rattle.delivery.proofs.Views.Senders.TicketsOfTopics.{Given, given, tickets_are}
@@ -433,6 +431,35 @@ ends_come k e rd o s end reached (inr (inr (inl h))) none some =
 ends_come k e rd o s end reached (inr (inr (inr h))) none some =
     none_some end (sym none ∙ (sym (lost_ends k.world h.connection s) ∙ (ap (λ (w : World). end_at w s) (sym h.world) ∙ some)))
 
+-- an end is that of an answer
+outcome_end : (a : Answer) (s : ℕ) (end : Stamp) → outcome_of a ≡ Some (Outcome.Unsubscribed s end) → a ≡ Answer.Unsubscribed s end
+outcome_end (Answer.Unsubscribed q to) s end e = let a : q ≡ s = cc in let b : to ≡ end = cc in λ i. Answer.Unsubscribed (a i) (b i)
+outcome_end (Answer.Refused x) s end e = let r = refusal_some (refusal_of x) (Outcome.Unsubscribed s end) e in let d = r.is in cc
+outcome_end a s end e = cc
+
+uncut_end : (b : Outcome) (s : ℕ) (end : Stamp) → (b ≡ Outcome.Unsubscribed s end) ⊎ (cut_of b ≡ Outcome.Unsubscribed s end) → b ≡ Outcome.Unsubscribed s end
+uncut_end b s end (inl e) = e
+uncut_end (Outcome.Decided stamp cut) s end (inr e) = cc
+uncut_end (Outcome.Withdrawn cut) s end (inr e) = cc
+uncut_end (Outcome.Gone cut) s end (inr e) = cc
+uncut_end b s end (inr e) = e
+
+-- the span of a subscription has the end that is answered
+move_closes : (k : Core) → IsReached k → (mv : Move) (s : ℕ) (end : Stamp) → answer_to k.world mv ≡ Answer.Unsubscribed s end → end_at (world_after k.world mv) s ≡ Some end
+move_closes k reached =
+    by_world (λ w. (mv : Move) (s : ℕ) (end : Stamp) → answer_to w mv ≡ Answer.Unsubscribed s end → end_at (world_after w mv) s ≡ Some end) k reached
+    (λ r mv s end a. at_next (λ past w. In (Answer.Unsubscribed s end) past → end_at w s ≡ Some end) (λ q i. spans_end_as_told q s end i) r mv (inl a))
+
+closed_comes : (k : Core) (e : Event) (rd : Reading) (o : Outcome) (s : ℕ) (end : Stamp) → IsReached k → Comes k e rd o → o ≡ Outcome.Unsubscribed s end
+    → end_at (world_then k e rd o) s ≡ Some end
+closed_comes k e rd o s end reached (inl h) is = absurd (false≢true (sym (ap is_plain is) ∙ h.1))
+closed_comes k e rd o s end reached (inr (inl h)) is = absurd (false≢true (sym (ap is_faulted is) ∙ h.faulted))
+closed_comes k e rd o s end reached (inr (inr (inl h))) is =
+    let base : h.base ≡ Outcome.Unsubscribed s end = uncut_end h.base s end (subst (λ z. (h.base ≡ z) ⊎ (cut_of h.base ≡ z)) is h.cut) in
+    ap (λ (w : World). end_at w s) h.world
+    ∙ move_closes k reached h.move s end (outcome_end (answer_to k.world h.move) s end (h.is ∙ ap (λ (z : Outcome). Some z) base))
+closed_comes k e rd o s end reached (inr (inr (inr h))) is = absurd (false≢true (sym (ap is_cut is) ∙ h.was_cut))
+
 -- ---- rows and items
 
 move_enters : (k : Core) → IsReached k → (mv : Move) → AllEnter k.world (world_after k.world mv)
@@ -479,18 +506,17 @@ steps_stepped topics capacity step older as_many is_run =
     let k = core_of topics capacity older in let e = step.event in let o = step.outcome in let rd = step.reading in
     let reached : IsReached k = record { topics = topics; capacity = capacity; steps = older; as_many = as_many; is = refl; run = is_run.1 } in
     let later : IsReached (core_after k step) = record { topics = topics; capacity = capacity; steps = step ∷ older; as_many = as_many; is = refl; run = is_run } in
-    let read : rd ≡ reading_at k.steps e o = event_reads k e rd o (limits_are topics capacity older is_run.1) is_run.0.reading is_run.0.outcome in
-    let same : step ≡ step_at k e o = λ i. record { event = e; reading = read i; outcome = o } in
     let came = comes k e rd o is_run.0.outcome in record {
-      is_after = ap (core_after k) same;
-      may = subst (MayStep k) same is_run.0;
+      is_after = refl;
+      may = is_run.0;
       refused = λ why is. refused_stays k e rd o why came is;
       no_memory = λ is. unremembered_stays k e rd o came is;
-      others = λ t l ne. others_stay k e rd o t l (λ d. ne (ap (event_topic k e) (sym read) ∙ d)) came;
+      others = λ t l ne. others_stay k e rd o t l ne came;
       ticket = λ n is. ticket_comes k e rd o n came is;
       named = are_named (core_after k step) later;
       stamp = λ stamp cut is. stamp_comes k e rd o stamp cut reached came is;
       delivered = λ count is. item_comes k e rd o count came is;
+      closes = λ s end is. closed_comes k e rd o s end reached came is;
       ends = λ s end none some. ends_come k e rd o s end reached came none some;
       enters = rows_come k e rd o reached came;
       bounded = are_bounded (core_after k step) later;

@@ -1,6 +1,7 @@
 -- The trace of what a net holds: its rows fit, and it is traced.
 use Rattle.std.proofs.Common.{◌≡◌, ◌<◌, ◌≤◌, ◌==◌, nat_lt, Bool, true, inl, inr, List, [], ◌∷◌, length, Some, None, refl, sym, ap, subst, ◌∙◌, arith}
 use Rattle.std.specs.List.{filter, list_all, AllByRecursion}
+use Rattle.std.specs.Prelude.{ℕ, reverse}
 use Rattle.std.proofs.lemmas.Bool.{and_from, eq-eqb, lt-ltb}
 use Rattle.std.proofs.lemmas.List.{length-map}
 use Rattle.mcast_txn.specs.declared.id.Topic.{Topic}
@@ -23,6 +24,7 @@ use Rattle.delivery.specs.Core.State.{core_of}
 use Rattle.delivery.specs.Core.Reports.{Report, report_of}
 use Rattle.delivery.specs.Core.Delivery.{Delivers}
 use Rattle.delivery.specs.Inner.NetInvariant.{KeepsRun}
+use Rattle.delivery.specs.Inner.Readings.{steps_of}
 use Rattle.delivery.specs.Inner.View.{View}
 use Rattle.delivery.specs.Inner.ViewReports.{report_in}
 use Rattle.delivery.specs.Traces.{trace_of, IsTraced}
@@ -48,7 +50,7 @@ pub all_pass : {X : Type 0} (p : X → Bool) (xs : List X) → ((x : X) → In x
 all_pass p [] h = refl
 all_pass p (x ∷ xs) h = and_from (p x) (list_all p xs) (h x (inl refl)) (all_pass p xs (λ y k. h y (inr k)))
 
-pub row_fits : (account : List Answer) (r : Report) → Delivers account r → (line : LogLine) → In line (trace_of r).logs → fits line ≡ true
+pub row_fits : {capacity : ℕ} (account : List Answer) (r : Report) → Delivers capacity account r → (line : LogLine) → In line (trace_of r).logs → fits line ≡ true
 row_fits account r d line k =
     let t = line.topic in
     let f = fronted account r d t in
@@ -82,6 +84,6 @@ held_few net held keeps =
     omega (arith, many, keeps.as_many, keeps.few)
 
 -- the trace of what it reports is its trace
-pub held_traced : (net : KeptRun) (held : View) → KeepsRun net.topics net.capacity net.kept held → IsTraced net (trace_of (report_in held))
-held_traced net held keeps =
-    subst (λ (r : Report). IsTraced net (trace_of r)) (sym (is_delivered net held keeps).is_report) (traced net keeps.as_many (has_report net held keeps))
+pub held_traced : (net : KeptRun) (held : View) → net.steps ≡ steps_of (reverse net.kept) → KeepsRun net.topics net.capacity net.kept held → IsTraced net (trace_of (report_in held))
+held_traced net held are keeps =
+    subst (λ (r : Report). IsTraced net (trace_of r)) (sym (is_delivered net held are keeps).answered.is_report) (traced net keeps.as_many (has_report net held are keeps))

@@ -8,7 +8,7 @@ use Rattle.mcast_txn.specs.Transaction.{topics_of}
 use Rattle.mcast_group.specs.Machine.{TopicState, new_topic}
 use Rattle.mcast_group.proofs.Parts.{map_length}
 use Rattle.delivery.specs.Topics.{TopicList}
-use Rattle.delivery.specs.Nets.{KeptRun, steps_of_net, core_of_net, HasReport}
+use Rattle.delivery.specs.Nets.{KeptRun, core_of_net, HasReport}
 use Rattle.delivery.specs.Theorem.Due.{log_row}
 use Rattle.delivery.specs.Theorem.Laws.{Run, answers_of, final_world}
 use Rattle.delivery.specs.Machine.Runs.{commits_of}
@@ -79,7 +79,7 @@ pub traced : (net : KeptRun) → length net.topics.clocks ≡ length net.topics.
 traced net same delivered = record {
   is_trace = refl;
   is_delivered = delivered;
-  is_explained = runs_are_explained net.topics net.capacity (steps_of_net net) same delivered.is_run;
+  is_explained = runs_are_explained net.topics net.capacity net.steps same delivered.answered.is_run;
 }
 
 -- no fault is the refusal of a net's trace

@@ -17,6 +17,7 @@ pub mod NextFaults
 pub mod NextFrames
 pub mod NextSubs
 pub mod NextTxns
+pub mod WantsMemory
 pub mod OneMove
 pub mod ConnectionIsThere
 pub mod ReadingChecks

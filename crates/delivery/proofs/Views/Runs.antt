@@ -4,3 +4,4 @@ pub mod AccountOfTransactions
 pub mod KeptRuns
 pub mod ReportOfView
 pub mod SameView
+pub mod HeldByNet

@@ -1,16 +1,14 @@
--- What the core is to deliver: the statement over the kept run and the report alone, and that each run of the
--- core's definitions meets it. It mentions no clock, no floor and no pending part.
-use Rattle.std.specs.Prelude.{◌≡◌, ℕ, ◌+◌, ◌<◌, true, List, [], ◌∷◌, ◌++◌, map, length, reverse, Option, Some, None}
-use Rattle.std.specs.Option.{is_some}
+-- What the core is to deliver: the statement over the steps of a run and its report alone, and that each run
+-- of the core's definitions meets it. It mentions no clock, no floor and no pending part.
+use Rattle.std.specs.Prelude.{◌≡◌, ℕ, ◌+◌, ◌<◌, ◌≤◌, true, false, List, [], ◌∷◌, ◌++◌, map, length, reverse, Some, None}
 use Rattle.mcast_txn.specs.declared.id.Topic.{Topic}
 use Rattle.mcast_txn.specs.declared.stamp.Stamp.{Stamp}
-use Rattle.mcast_txn.specs.Stamp.{zero_stamp}
+use Rattle.mcast_txn.specs.Stamp.{zero_stamp, stamp_lt}
 use Rattle.mcast_txn.specs.Transaction.{topics_of}
 use Rattle.mcast_txn.specs.TopicSet.{names}
 use Rattle.mcast_txn.specs.Lists.{In}
 use Rattle.mcast_txn.specs.Agreed.{CommitRow, committed_id, stamp_of, agreed, EachOnce, SenderOrder}
 use Rattle.mcast_txn.specs.Span.{Item, last_stamp}
-use Rattle.mcast_group.specs.declared.cause.Cause.{Cause}
 use Rattle.mcast_group.specs.declared.cause.Cause.TheVariants.{Asked, Lag}
 use Rattle.delivery.specs.declared.outcome.Outcome.{Outcome}
 use Rattle.delivery.specs.declared.kept.Kept.{Kept}
@@ -25,7 +23,6 @@ use Rattle.delivery.specs.Core.Account.{released_log, released_frontier, beginni
 use Rattle.delivery.specs.Core.Output.{text_out}
 use Rattle.delivery.specs.Core.State.{core_of}
 use Rattle.delivery.specs.Core.Outcomes.{IsCoreRun}
-use Rattle.delivery.specs.Core.Readings.{steps_of}
 use Rattle.delivery.specs.Core.Reports.{QueueReport, Report, report_of, queue_in, log_in, out_in, span_of}
 
 -- ---- where spans begin and end
@@ -51,27 +48,52 @@ EndsAtFrontier s account to =
     (later before : List Answer) × (account ≡ later ++ Answer.Unsubscribed s to ∷ before)
     × (to ≡ released_frontier (beginning_of s before).topic before)
 
--- a span has no end, or one by lag, or one that was asked for
-abbrev pub EndsByCause : ℕ → List Answer → Option Cause → Option Stamp → Type 0
-EndsByCause s account None to = to ≡ None
-EndsByCause s account (Some Lag) to = is_some to ≡ true
-EndsByCause s account (Some Asked) None = Prim.⊥
-EndsByCause s account (Some Asked) (Some to) = EndsAtFrontier s account to
+-- the stamp of the last of these items, or else this one
+abbrev pub last_queued : Stamp → List Item → Stamp
+last_queued from [] = from
+last_queued from (item ∷ items) = last_queued item.stamp items
+
+-- The span of subscription s ended by lag: a row came to its topic's log for which its queue had no room. So
+-- where the queue holds 2 and rows 1, 2 and 3 come before a Take, it ends at row 2's stamp.
+-- before, by, later: the account before the answer by which that row came, this answer, and the account since.
+-- last: the end is the stamp of the last item that was queued, or the span's beginning where none was.
+-- reached, passed: the topic's frontier was at most the end before that answer, and is above it then.
+-- full: as many items as the capacity weren't delivered then.
+pub record EndsByLag (capacity s : ℕ) (account : List Answer) (q : QueueReport) (end : Stamp) : Type 0 where
+  pub later : List Answer
+  pub by : Answer
+  pub before : List Answer
+  pub account_is : account ≡ later ++ by ∷ before
+  pub last : end ≡ last_queued q.from q.queued
+  pub reached : stamp_lt end (released_frontier q.topic before) ≡ false
+  pub passed : stamp_lt end (released_frontier q.topic (by ∷ before)) ≡ true
+  pub full : length q.queued ≡ length (delivered_items s before) + capacity
+
+-- How the span of subscription s ends, by the account.
+-- told: an end that an UNSUBSCRIBE or a Leave was answered is the end.
+-- unended: without a cause there is no end.
+-- asked: an end that was asked for was answered, and is the topic's frontier then.
+-- lag: an end by lag is that of a full queue.
+pub record EndsAsTold (capacity s : ℕ) (account : List Answer) (q : QueueReport) : Type 0 where
+  pub told : (to : Stamp) → In (Answer.Unsubscribed s to) account → q.to ≡ Some to
+  pub unended : q.cause ≡ None → q.to ≡ None
+  pub asked : q.cause ≡ Some Asked → (to : Stamp) × (q.to ≡ Some to) × EndsAtFrontier s account to
+  pub lag : q.cause ≡ Some Lag → (end : Stamp) × (q.to ≡ Some end) × EndsByLag capacity s account q end
 
 -- ---- what is delivered
 
--- What is delivered, by the account of the run. `proofs/Core/DeliveredRow` has a run that meets it.
-pub record Delivers (account : List Answer) (r : Report) : Type 0 where
+-- What is delivered, by the account of the run and the capacity of its queues. `proofs/Core/DeliveredRow` has
+-- a run that meets it, and reports that don't.
+pub record Delivers (capacity : ℕ) (account : List Answer) (r : Report) : Type 0 where
   -- the commits in the order of Decide; no id and no stamp is there twice; each sender's are in its order
   pub commits : r.commits ≡ map log_row (commits_of account)
   pub each_once : EachOnce committed_id stamp_of (agreed (commits_of account))
   pub fifo_order : SenderOrder committed_id (agreed (commits_of account))
   -- each log is as many rows of the agreed sequence as were released
   pub logs : (t : Topic) → t.0 < length r.logs → log_in r t ≡ released_log t account
-  -- each subscription begins where its topic's log ended then, and ends as its cause says
+  -- each subscription begins where its topic's log ended then, and ends where it was closed, or by lag
   pub begins : reported_begun 0 r.subscriptions ≡ begun_in account
-  pub ends : (s : ℕ) → s < length r.subscriptions
-      → EndsByCause s account (queue_in r s).cause (queue_in r s).to
+  pub ends : (s : ℕ) → s < length r.subscriptions → EndsAsTold capacity s account (queue_in r s)
   -- what its queue accepted is what is due to it
   pub exactly_due : (s : ℕ) → s < length r.subscriptions
       → (queue_in r s).queued
@@ -88,6 +110,9 @@ pub record Delivers (account : List Answer) (r : Report) : Type 0 where
   pub handed : (s : ℕ) → s < length r.subscriptions → (queue_in r s).handed ≡ delivered_items s account
   pub handed_prefix : (s : ℕ) → s < length r.subscriptions
       → (rest : List Item) × ((queue_in r s).queued ≡ (queue_in r s).handed ++ rest)
+  -- no queue has more than its capacity that wasn't delivered
+  pub bounded : (s : ℕ) → s < length r.subscriptions
+      → length (queue_in r s).queued ≤ length (queue_in r s).handed + capacity
   -- nothing is delivered to a closed subscription, nor to one of a closed connection
   pub silent_after_close : SilentAfterClose account
 
@@ -101,34 +126,38 @@ abbrev pub opened_in : List CoreStep → ℕ
 opened_in [] = 0
 opened_in (step ∷ older) = opened_in older + opened_by step.outcome
 
--- The delivery of a kept run, the oldest event first, over these topics, and its report: there are steps,
--- each a kept event with what it read, such that what was read are the first frames of each connection's
--- octets, what they say is delivered, and each connection's octets out are what they say.
-pub record Delivery (topics : TopicList) (kept : List Kept) (r : Report) : Type 0 where
-  pub steps : List CoreStep
-  pub are_kept : kept ≡ reverse (map kept_of steps)
+-- What was read and written, by the steps.
+-- are_read: what was read of each connection are the first frames of the octets that it was fed.
+-- output: each connection's octets out are those that the steps say.
+-- counts: there is a log of each topic, and there are octets out of each connection that was opened.
+pub record IsReadAndWritten (names : List (List ℕ)) (steps : List CoreStep) (r : Report) : Type 0 where
   pub are_read : AreReadings steps
-  pub delivers : Delivers (account_of topics.names steps) r
-  pub output : (c : ℕ) → c < length r.outs → out_in r c ≡ text_out topics.names c steps
-  pub counts : (length r.logs ≡ length topics.names) × (length r.outs ≡ opened_in steps)
+  pub output : (c : ℕ) → c < length r.outs → out_in r c ≡ text_out names c steps
+  pub counts : (length r.logs ≡ length names) × (length r.outs ≡ opened_in steps)
+
+-- The delivery of a run over these topics whose queues have this capacity, and its report: what its account
+-- says is delivered, what was read are the first frames of each connection's octets, and each connection's
+-- octets out are what the steps say. `proofs/Core/WholeRow` has one.
+pub record Delivery (topics : TopicList) (capacity : ℕ) (steps : List CoreStep) (r : Report) : Type 0 where
+  pub delivered : Delivers capacity (account_of topics.names steps) r
+  pub written : IsReadAndWritten topics.names steps r
 
 -- ---- of every run
-
--- A kept run has one list of steps: what each Next read is decided by the octets and the outcomes.
-abbrev pub StepsAreKept : Type 0
-StepsAreKept =
-    (topics : TopicList) (capacity : ℕ) (steps : List CoreStep) → IsCoreRun topics capacity steps
-    → steps ≡ steps_of (map kept_of steps)
 
 -- the kept run of these steps, the oldest event first
 abbrev pub kept_run : List CoreStep → List Kept
 kept_run steps = reverse (map kept_of steps)
 
--- What each run of the core reports is the delivery of its kept run, over all topics with their opening
--- clocks, all capacities and all lists of steps that the core may make, refused ones and those without memory
--- among them.
+-- A kept run has one list of steps: what each Next read is decided by the octets and the outcomes.
+abbrev pub StepsAreKept : Type 0
+StepsAreKept =
+    (topics : TopicList) (capacity : ℕ) (steps others : List CoreStep) → IsCoreRun topics capacity steps
+    → IsCoreRun topics capacity others → kept_run steps ≡ kept_run others → steps ≡ others
+
+-- What each run of the core reports is its delivery, over all topics with their opening clocks, all
+-- capacities and all lists of steps that the core may make, refused ones and those without memory among them.
 abbrev pub RunsDeliver : Type 0
 RunsDeliver =
     (topics : TopicList) (capacity : ℕ) (steps : List CoreStep) → length topics.clocks ≡ length topics.names
     → IsCoreRun topics capacity steps
-    → Delivery topics (kept_run steps) (report_of (core_of topics capacity steps))
+    → Delivery topics capacity steps (report_of (core_of topics capacity steps))

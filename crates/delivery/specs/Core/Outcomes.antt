@@ -1,6 +1,7 @@
 -- What may come of an event: the outcome of its table, with the checks in their order, or one for want of
 -- memory.
-use Rattle.std.specs.Prelude.{◌≡◌, ℕ, Bool, true, false, List, [], ◌∷◌, ◌++◌, length, Option, Some, None, if◌then◌else◌}
+use Rattle.std.specs.Prelude.{◌≡◌, ℕ, Bool, true, false, ◌||◌, List, [], ◌∷◌, ◌++◌, length, Option, Some, None, if◌then◌else◌}
+use Rattle.std.specs.List.{list_any}
 use Rattle.std.specs.Option.{option_map, option_or, option_map_or, option_and_then, option_to_list}
 use Rattle.stomp_frame.specs.declared.raw_frame.RawFrame.{RawFrame}
 use Rattle.stomp_frame.specs.Cases.{case_fault}
@@ -8,7 +9,7 @@ use Rattle.mcast_txn.specs.Lists.{In}
 use Rattle.mcast_txn.specs.Checks.{first_refusal}
 use Rattle.stomp_session.specs.declared.fault.SessionFault.{SessionFault}
 use Rattle.stomp_session.specs.Refusals.{session_fault}
-use Rattle.stomp_session.specs.Answers.{action_by}
+use Rattle.stomp_session.specs.Answers.{action_by, takes_memory}
 use Rattle.delivery.specs.declared.event.Event.{Event}
 use Rattle.delivery.specs.declared.outcome.Outcome.{Outcome}
 use Rattle.delivery.specs.declared.refusal.Refusal.{Refusal}
@@ -18,7 +19,7 @@ use Rattle.delivery.specs.Machine.Objections.{Objection, refusal_of}
 use Rattle.delivery.specs.Machine.Moves.{Move, Answer, needs_open, needs_idle, move_refusal, answer_to}
 use Rattle.delivery.specs.Core.Steps.{CoreStep, Reading}
 use Rattle.delivery.specs.Core.Account.{account_of}
-use Rattle.delivery.specs.Core.Output.{replies_to}
+use Rattle.delivery.specs.Core.Output.{next_replies, replies_to}
 use Rattle.delivery.specs.Core.State.{Core, IsReadBy, unread_at, session_at, frame_move, core_of}
 
 -- ---- the machine's answers, as the core reports them
@@ -54,6 +55,11 @@ abbrev pub unless : Option Objection → List Outcome → List Outcome
 unless why outcomes =
     option_map_or (λ w. option_to_list (option_map Outcome.Refused (refusal_of w))) why outcomes
 
+-- there are some
+abbrev pub is_any : {X : Type 0} → List X → Bool
+is_any [] = false
+is_any (x ∷ xs) = true
+
 -- ---- Next
 
 -- want of memory, as a fault of a frame that was read
@@ -74,19 +80,36 @@ frame_fault k c f =
 abbrev pub fault_outcomes : ConnectionFault → List Outcome
 fault_outcomes fault = Outcome.Faulted fault false ∷ Outcome.Faulted fault true ∷ []
 
--- what comes of a frame that is accepted
+-- what comes of a frame that is accepted, with memory
 abbrev pub frame_outcome : Core → ℕ → RawFrame → List Outcome
 frame_outcome k c f =
     option_map_or (move_outcome k) (frame_move k c (action_by f.command (session_at k c) f))
     (Outcome.Done ∷ [])
 
--- what may come of what was read: of a frame that isn't refused also that there was no memory for it
+-- An accepted frame wants memory: its session takes some for it, as for each frame that makes a subscription
+-- or a transaction; or it is answered at once. So a DISCONNECT never does, an UNSUBSCRIBE or an ABORT only
+-- with a receipt, and a CONNECT always.
+abbrev pub wants_memory : Core → ℕ → RawFrame → Bool
+wants_memory k c f =
+    takes_memory f.command (session_at k c) f
+    || list_any (λ o. is_any (next_replies (Some f) o)) (frame_outcome k c f)
+
+-- where memory is wanted: that there was none
+abbrev pub outcomes_without : Bool → ConnectionFault → List Outcome
+outcomes_without wanted fault = if wanted then fault_outcomes fault else []
+
+-- what may come of a frame that is accepted: its outcome; and where it wants memory, that there was none
+abbrev pub accepted_outcomes : Core → ℕ → RawFrame → List Outcome
+accepted_outcomes k c f = frame_outcome k c f ++ outcomes_without (wants_memory k c f) frame_no_memory
+
+-- What may come of what was read. Where nothing was, there was no memory to read what is unread; so a Next
+-- finds memory wherever all that was fed is read.
 abbrev pub reading_outcomes : Core → ℕ → Reading → List Outcome
-reading_outcomes k c Reading.Nothing = fault_outcomes ConnectionFault.ReaderNoMemory
+reading_outcomes k c Reading.Nothing =
+    outcomes_without (is_any (unread_at c k.steps).text) ConnectionFault.ReaderNoMemory
 reading_outcomes k c (Reading.Waits left) = Outcome.Refused Refusal.NoFrame ∷ []
 reading_outcomes k c (Reading.Finds f left) =
-    option_map_or fault_outcomes (frame_fault k c f)
-    (frame_outcome k c f ++ fault_outcomes frame_no_memory)
+    option_map_or fault_outcomes (frame_fault k c f) (accepted_outcomes k c f)
 reading_outcomes k c (Reading.Fails check left) = fault_outcomes (ConnectionFault.Stream check)
 
 -- ---- all events
@@ -97,11 +120,6 @@ cut_of (Outcome.Decided stamp cut) = Outcome.Decided stamp true
 cut_of (Outcome.Withdrawn cut) = Outcome.Withdrawn true
 cut_of (Outcome.Gone cut) = Outcome.Gone true
 cut_of o = o
-
--- there are some
-abbrev pub is_any : {X : Type 0} → List X → Bool
-is_any [] = false
-is_any (x ∷ xs) = true
 
 -- the outcome, and where a reply is due the same with the reply left out
 abbrev pub with_cut : Core → ℕ → Event → Outcome → List Outcome

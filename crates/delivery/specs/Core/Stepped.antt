@@ -1,4 +1,4 @@
--- What one event makes of a core: the core after it beside the core before it.
+-- What one step makes of a core: the core after it beside the core before it.
 use Rattle.std.specs.Prelude.{◌≡◌, ◌≢◌, ℕ, ◌<◌, ◌≤◌, ◌+◌, max, true, ◌⊎◌, [], ◌∷◌, ◌++◌, map}
 use Rattle.std.specs.Prelude.{length, slice_get, Bool, List, Option, Some, None}
 use Rattle.std.specs.Option.{option_and_then}
@@ -22,13 +22,8 @@ use Rattle.delivery.specs.Theorem.Spans.{EndsBeforeRow}
 use Rattle.delivery.specs.Core.Steps.{CoreStep, Reading, frame_in}
 use Rattle.delivery.specs.Core.State.{Core, core_of, core_after, session_at, frame_move}
 use Rattle.delivery.specs.Core.Outcomes.{MayStep, IsCoreRun}
-use Rattle.delivery.specs.Core.Readings.{reading_at}
 
 -- ---- what an event is about
-
--- the event as a step after this core: what it read, and its outcome
-abbrev pub step_at : Core → Event → Outcome → CoreStep
-step_at k e o = record { event = e; reading = reading_at k.steps e o; outcome = o }
 
 -- the topic of what was read, if it has one: that of a SUBSCRIBE, or of the subscription that an UNSUBSCRIBE
 -- names
@@ -99,33 +94,37 @@ pub record LagsFull (before after : World) (e : Event) (s : ℕ) (end : Stamp) :
 
 -- ---- a step
 
--- What an event makes of a core.
-pub record HasStepped (before after : Core) (e : Event) (o : Outcome) : Type 0 where
-  -- the steps so far stay, and one is added: the event, what it read and its outcome
-  pub is_after : after ≡ core_after before (step_at before e o)
-  -- the outcome is one that the event may have: by its checks in their order, or for want of memory
-  pub may : MayStep before (step_at before e o)
+-- What a step makes of a core.
+pub record HasStepped (before after : Core) (step : CoreStep) : Type 0 where
+  -- the steps so far stay, and this one is added
+  pub is_after : after ≡ core_after before step
+  -- it reads what its reader gives, and the outcome is one that the event may have: by its checks in their
+  -- order, or for want of memory
+  pub may : MayStep before step
   -- what is refused changes nothing else, nor does what is answered that there was no memory
-  pub refused : (why : Refusal) → o ≡ Outcome.Refused why → after.world ≡ before.world
-  pub no_memory : o ≡ Outcome.NoMemory → after.world ≡ before.world
+  pub refused : (why : Refusal) → step.outcome ≡ Outcome.Refused why → after.world ≡ before.world
+  pub no_memory : step.outcome ≡ Outcome.NoMemory → after.world ≡ before.world
   -- an event at one topic changes no other
   pub others : (t : Topic) → t.0 < length before.world.topics
-      → event_topic before e (reading_at before.steps e o) ≢ Some t
+      → event_topic before step.event step.reading ≢ Some t
       → topic_at after.world t ≡ topic_at before.world t
   -- a ticket is by its topic's own clock and the sender's floor; only topics that are named give one
-  pub ticket : (n : ℕ) → o ≡ Outcome.Proposed n
-      → (c : ℕ) × (t : Topic) × (e ≡ Event.Propose c t) × GivesTicket before.world after.world c t n
+  pub ticket : (n : ℕ) → step.outcome ≡ Outcome.Proposed n
+      → (c : ℕ) × (t : Topic) × (step.event ≡ Event.Propose c t) × GivesTicket before.world after.world c t n
   pub named : (c : ℕ) (ticket : Stamp) → In ticket (undecided_at after.world c).given
       → names ticket.topic (topics_of (undecided_at after.world c).txn.sends) ≡ true
   -- a stamp is the greatest of the transaction's tickets, one of each topic that it names
-  pub stamp : (stamp : Stamp) (cut : Bool) → o ≡ Outcome.Decided stamp cut
-      → (c : ℕ) × (e ≡ Event.Decide c) × GivesStamp before.world after.world c stamp
+  pub stamp : (stamp : Stamp) (cut : Bool) → step.outcome ≡ Outcome.Decided stamp cut
+      → (c : ℕ) × (step.event ≡ Event.Decide c) × GivesStamp before.world after.world c stamp
   -- a Take delivers the next item
-  pub delivered : (count : ℕ) → o ≡ Outcome.Handed count
-      → (s : ℕ) × (e ≡ Event.Take s) × DeliversNext before.world after.world s count
-  -- a span that had no end has one where it is closed, or lags where its queue is full
+  pub delivered : (count : ℕ) → step.outcome ≡ Outcome.Handed count
+      → (s : ℕ) × (step.event ≡ Event.Take s) × DeliversNext before.world after.world s count
+  -- an outcome that ends a subscription gives its span that end
+  pub closes : (s : ℕ) (end : Stamp) → step.outcome ≡ Outcome.Unsubscribed s end
+      → end_at after.world s ≡ Some end
+  -- a span that had no end has one only where it is closed, or lags where its queue is full
   pub ends : (s : ℕ) (end : Stamp) → end_at before.world s ≡ None → end_at after.world s ≡ Some end
-      → (o ≡ Outcome.Unsubscribed s end) ⊎ LagsFull before.world after.world e s end
+      → (step.outcome ≡ Outcome.Unsubscribed s end) ⊎ LagsFull before.world after.world step.event s end
   -- while a span has no end, its queue gets an item for each row that its topic's log gets: so it ends where
   -- there is no room for one
   pub enters : (s : ℕ) → s < length before.world.subscriptions → end_at after.world s ≡ None
@@ -140,5 +139,4 @@ abbrev pub StepsHaveStepped : Type 0
 StepsHaveStepped =
     (topics : TopicList) (capacity : ℕ) (step : CoreStep) (older : List CoreStep)
     → length topics.clocks ≡ length topics.names → IsCoreRun topics capacity (step ∷ older)
-    → HasStepped (core_of topics capacity older) (core_of topics capacity (step ∷ older))
-    step.event step.outcome
+    → HasStepped (core_of topics capacity older) (core_of topics capacity (step ∷ older)) step

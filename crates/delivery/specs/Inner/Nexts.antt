@@ -1,5 +1,5 @@
 -- Only serves proofs: what the private calls of the event Next make of a view.
-use Rattle.std.specs.Prelude.{◌≡◌, ◌++◌, ℕ, Bool, false, List, [], ◌∷◌, get_or, set, slice_get, take, Option, Some, None, Result, Ok, Err, if◌then◌else◌}
+use Rattle.std.specs.Prelude.{◌≡◌, ◌++◌, ℕ, Bool, true, false, List, [], ◌∷◌, get_or, set, slice_get, take, Option, Some, None, Result, Ok, Err, if◌then◌else◌}
 use Rattle.std.specs.Option.{option_map_or, option_or}
 use Rattle.mcast_txn.specs.Checks.{first_refusal}
 use Rattle.mcast_txn.specs.Lists.{In}
@@ -26,7 +26,7 @@ use Rattle.delivery.specs.Machine.Moves.{needs_idle}
 use Rattle.delivery.specs.Core.Steps.{Reading, accepted_of, frame_in}
 use Rattle.delivery.specs.Core.Output.{receipt_asked, says_version}
 use Rattle.delivery.specs.Core.State.{Core, IsReadBy, session_at, unread_at}
-use Rattle.delivery.specs.Core.Outcomes.{reading_outcomes}
+use Rattle.delivery.specs.Core.Outcomes.{frame_fault, is_any, reading_outcomes, wants_memory}
 use Rattle.delivery.specs.Inner.Stands.{IsReached, endpoint_objection}
 use Rattle.delivery.specs.Inner.View.{View, EndpointView, SenderView, view_of, no_endpoint, is_undecided}
 
@@ -100,7 +100,8 @@ JudgesReading accepted old (Reading.Finds f left) (Ok (Some step)) new =
     ≡ record old { reader = left; session = held_after old.session.names (accepted ++ f ∷ []) })
 JudgesReading accepted old (Reading.Finds f left) (Err e) new =
     (e.1 ≡ Some f) × IsRefusedAs (held_after old.session.names accepted) f e.0
-JudgesReading accepted old Reading.Nothing (Err e) new = (e.1 ≡ None) × (e.0 ≡ ConnectionFault.ReaderNoMemory)
+JudgesReading accepted old Reading.Nothing (Err e) new =
+    (e.1 ≡ None) × (e.0 ≡ ConnectionFault.ReaderNoMemory) × (is_any old.reader.text ≡ true)
 JudgesReading accepted old (Reading.Fails check left) (Err e) new =
     (e.1 ≡ None) × (e.0 ≡ ConnectionFault.Stream check)
 JudgesReading accepted old reading result new = ⊥
@@ -170,6 +171,10 @@ pub record HasFault
   pub view : held ≡ changed_endpoint (staged_endpoint stage) c (view_of k)
 
 -- ---- an accepted frame
+
+-- the frame of connection c, where nothing is at fault with it, wants memory
+abbrev pub MayLack : Core → ℕ → RawFrame → Type 0
+MayLack k c f = frame_fault k c f ≡ None → wants_memory k c f ≡ true
 
 -- the stage of connection c once it accepted this frame too, and its reader stands for this
 abbrev pub accepted_stage : Core → ℕ → RawFrame → Unread → Stage

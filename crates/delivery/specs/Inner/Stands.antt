@@ -40,6 +40,10 @@ pub record IsReached (k : Core) : Type 0 where
   pub is : k ≡ core_of topics capacity steps
   pub run : IsCoreRun topics capacity steps
 
+-- this is held of a core that a run leads to
+abbrev pub IsHeld : View → Type 0
+IsHeld held = (k : Core) × IsReached k × (held ≡ view_of k)
+
 -- this event, what it read and its outcome, as a step
 abbrev pub step_of : Event → Reading → Outcome → CoreStep
 step_of e reading o = record { event = e; reading = reading; outcome = o }

@@ -2,7 +2,7 @@
 
 ghost use Rattle.std.specs.Prelude.{◌≡◌};
 ghost use Rattle.delivery.specs.Core.State.{Core};
-ghost use Rattle.delivery.specs.Inner.Stands.{IsReached, Makes};
+ghost use Rattle.delivery.specs.Inner.Stands.{IsHeld, IsReached, Makes};
 ghost use Rattle.delivery.specs.Inner.View.{view_of};
 
 use crate::event::Event;
@@ -12,6 +12,7 @@ use crate::outcome::Outcome;
 impl NetState {
     /// What comes of an event.
     pub(crate) fn answer(&mut self, event: &Event) -> Outcome
+        requires { IsHeld self.old }
         ensures { (k : Core) → IsReached k → self.old ≡ view_of k → Makes k event.now result self.new }
     {
         match event {

@@ -1,7 +1,7 @@
 //! The event Next: the next frame of a connection.
 
-ghost use Rattle.std.specs.Prelude.{◌≡◌, ◌<◌, length, get_or, set, slice_get, None, OnOk, OnErr};
-ghost use Rattle.std.specs.Option.{option_map};
+ghost use Rattle.std.specs.Prelude.{◌≡◌, ◌<◌, length, get_or, set, slice_get, true, None, OnOk, OnErr};
+ghost use Rattle.std.specs.Option.{is_some, option_map};
 ghost use Rattle.stomp_frame.specs.declared.raw_frame.RawFrame.{RawFrame as Frame};
 ghost use Rattle.stomp_frame.specs.Reader.{Unread};
 ghost use Rattle.stomp_session.specs.declared.action.Action.{Action};
@@ -10,9 +10,9 @@ ghost use Rattle.delivery.specs.Core.Output.{is_cut};
 ghost use Rattle.delivery.specs.Core.State.{Core};
 ghost use Rattle.delivery.specs.declared.event.Event.{Event as Asked};
 ghost use Rattle.delivery.specs.declared.outcome.Outcome.TheVariants as outcomes;
-ghost use Rattle.delivery.specs.Inner.Nexts.{Asks, JudgesAt, idle_objection, is_sending, staged_endpoint, failed_endpoint, shortened_endpoint, error_text, receipt_text, HasFault};
+ghost use Rattle.delivery.specs.Inner.Nexts.{Asks, JudgesAt, MayLack, idle_objection, is_sending, staged_endpoint, failed_endpoint, shortened_endpoint, error_text, receipt_text, HasFault};
 ghost use Rattle.delivery.specs.Inner.Senders.{asked_view};
-ghost use Rattle.delivery.specs.Inner.Stands.{IsReached, IsChecked, Makes};
+ghost use Rattle.delivery.specs.Inner.Stands.{IsReached, IsChecked, IsHeld, Makes};
 ghost use Rattle.delivery.specs.Inner.View.{EndpointView, view_of, written_endpoint, is_undecided};
 
 use super::NetState;
@@ -102,6 +102,7 @@ impl NetState {
           endpoints = set self.old.endpoints connection
               (written_endpoint (receipt_text receipt.now) (get_or self.old.endpoints connection d));
         }) }
+        ensures asked { OnErr result (is_some receipt.now ≡ true) }
         ensures err { OnErr result (self.new ≡ self.old) }
     {
         match receipt {
@@ -110,11 +111,12 @@ impl NetState {
         }
     }
 
-    /// The accepted frame finds no memory: the connection ends by the ERROR of that, with the frame's receipt.
+    /// The accepted frame, which wants memory, finds none: the connection ends by the ERROR of that, with the frame's
+    /// receipt.
     fn lack(&mut self, connection: u64, receipt: &Option<Octets>) -> Outcome
         requires { connection < length self.old.endpoints }
         ensures { (k : Core) (f : Frame) (left : Unread) (action : Action)
-            → Asks k connection f left action receipt.now self.old
+            → Asks k connection f left action receipt.now self.old → MayLack k connection f
             → Makes k (Asked.Next connection) result self.new }
     {
         match receipt {
@@ -210,7 +212,9 @@ impl NetState {
     /// Takes an UNSUBSCRIBE: its RECEIPT is written first, and the subscription's end takes no memory. The session has
     /// accepted it, so the subscription is there.
     fn end_subscription(&mut self, connection: u64, id: &[u8], receipt: &Option<Octets>) -> Outcome
-        requires { connection < length self.old.endpoints }
+        requires there { connection < length self.old.endpoints }
+        requires asks { (k : Core) × (f : Frame) × (left : Unread)
+            × Asks k connection f left (actions.Unsubscribe id.now) receipt.now self.old }
         ensures { (k : Core) (f : Frame) (left : Unread)
             → Asks k connection f left (actions.Unsubscribe id.now) receipt.now self.old
             → Makes k (Asked.Next connection) result self.new }
@@ -219,11 +223,11 @@ impl NetState {
             return self.lack(connection, receipt);
         };
         let Some(sub) = self.find_sub(connection, id) else {
-            return Outcome::Refused(Refusal::NoSub);
+            unreachable!();
         };
         match self.close(sub) {
             Some(to) => Outcome::Unsubscribed(sub, to),
-            None => Outcome::Refused(Refusal::NoSub),
+            None => unreachable!(),
         }
     }
 
@@ -255,7 +259,9 @@ impl NetState {
     /// Does what an accepted frame asks for. Out of memory the frame has no effect, and the connection ends by an
     /// ERROR.
     fn act(&mut self, connection: u64, step: Step) -> Outcome
-        requires { connection < length self.old.endpoints }
+        requires there { connection < length self.old.endpoints }
+        requires asks { (k : Core) × (f : Frame) × (left : Unread)
+            × Asks k connection f left step.action step.receipt self.old }
         ensures { (k : Core) (f : Frame) (left : Unread)
             → Asks k connection f left step.action step.receipt self.old
             → Makes k (Asked.Next connection) result self.new }
@@ -292,7 +298,9 @@ impl NetState {
 
     /// Reads the next frame of a connection that is idle.
     fn read_frame(&mut self, connection: u64) -> Outcome
-        requires { connection < length self.old.endpoints }
+        requires there { connection < length self.old.endpoints }
+        requires idle { (k : Core) × IsReached k × (idle_objection (view_of k) connection ≡ None)
+            × (self.old ≡ view_of k) }
         ensures { (k : Core) → IsReached k → idle_objection (view_of k) connection ≡ None → self.old
             ≡ view_of k
             → Makes k (Asked.Next connection) result self.new }
@@ -308,6 +316,7 @@ impl NetState {
     /// connection, 87 where it is gone, 81 where it is leaving or has an undecided transaction, 82 where no whole
     /// frame is there yet.
     pub(crate) fn next(&mut self, connection: u64) -> Outcome
+        requires { IsHeld self.old }
         ensures { (k : Core) → IsReached k → self.old ≡ view_of k
             → Makes k (Asked.Next connection) result self.new }
     {

@@ -3,7 +3,7 @@
 ghost use Rattle.std.specs.Prelude.{◌≡◌, ◌<◌, length, get_or};
 ghost use Rattle.mcast_group.specs.Group.{GroupState};
 ghost use Rattle.delivery.specs.Core.State.{Core};
-ghost use Rattle.delivery.specs.Inner.Stands.{IsReached, Makes};
+ghost use Rattle.delivery.specs.Inner.Stands.{IsHeld, IsReached, Makes};
 ghost use Rattle.delivery.specs.Inner.TopicSteps.{verdict_held, learn_result, group_turn_count, after_learn_at, after_turn_at};
 ghost use Rattle.delivery.specs.Inner.View.{view_of};
 ghost use Rattle.delivery.specs.declared.event.Event.{Event as Asked};
@@ -32,6 +32,7 @@ impl NetState {
     /// verdict, 43 where no part of it is pending there. In a run no topic answers 44 or 45, since a verdict that is
     /// found is the part's own. It takes no memory.
     pub(crate) fn learn(&mut self, topic: Topic, id: TxnId) -> Outcome
+        requires { IsHeld self.old }
         ensures { (k : Core) → IsReached k → self.old ≡ view_of k
             → Makes k (Asked.Learn topic id) result self.new }
     {
@@ -42,7 +43,9 @@ impl NetState {
         match self.learn_at(index, id) {
             None => Outcome::Refused(Refusal::NotDecided),
             Some(Ok(())) => Outcome::Learnt,
-            Some(Err(_)) => Outcome::Refused(Refusal::NotPending),
+            Some(Err(LearnFault::NotPending)) => Outcome::Refused(Refusal::NotPending),
+            Some(Err(LearnFault::Foreign)) => unreachable!(),
+            Some(Err(LearnFault::Clash)) => unreachable!(),
         }
     }
 

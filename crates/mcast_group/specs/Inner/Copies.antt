@@ -1,5 +1,5 @@
 -- Copies of parts that are pending. It only serves proofs.
-use Rattle.std.specs.Prelude.{◌≡◌, ℕ, ◌≤◌, List, [], ◌∷◌, length}
+use Rattle.std.specs.Prelude.{◌≡◌, ℕ, ◌≤◌, List, [], ◌∷◌, length, None}
 use Rattle.mcast_txn.specs.Lists.{In}
 use Rattle.mcast_txn.specs.Transaction.{TopicPart}
 use Rattle.mcast_group.specs.Machine.{Pending}
@@ -8,9 +8,17 @@ use Rattle.mcast_group.specs.Machine.{Pending}
 abbrev pub AreOf : TopicPart → List TopicPart → Type 0
 AreOf part copies = (c : TopicPart) → In c copies → c ≡ part
 
--- the copies are of each part in turn, and at least n
+-- the copies are of each part in turn, n of each
 abbrev pub HaveCopies : ℕ → List Pending → List (List TopicPart) → Type 0
 HaveCopies n [] [] = Unit {0}
 HaveCopies n [] (c ∷ cs) = Prim.⊥
 HaveCopies n (p ∷ ps) [] = Prim.⊥
-HaveCopies n (p ∷ ps) (c ∷ cs) = ((n ≤ length c) × AreOf p.part c) × HaveCopies n ps cs
+HaveCopies n (p ∷ ps) (c ∷ cs) = ((length c ≡ n) × AreOf p.part c) × HaveCopies n ps cs
+
+-- A part that is prepared.
+-- waits: it hasn't learnt its stamp.
+-- copied: the copies are of it, and at least so many.
+pub record IsPrepared (entry : Pending) (copies : List TopicPart) (many : ℕ) : Type 0 where
+  pub waits : entry.learnt ≡ None
+  pub copied : AreOf entry.part copies
+  pub enough : many ≤ length copies

@@ -24,7 +24,7 @@ room_of shown s = (shown s.outlet).room
 -- sound: the topic is sound; so its subscriptions' numbers differ.
 -- room: its log has room for a row of each pending part.
 -- spares: the outlet of each open subscription has spare for each pending part.
--- copied: each pending part has a copy for each subscription.
+-- copied: each pending part has as many copies as there are subscriptions.
 pub record IsKept {Q : Type 0} (spare : Q → ℕ) (x : TopicState) (capacity : ℕ)
     (copies : List (List TopicPart)) (subs : List (Subscription Q)) : Type 0 where
   pub sound : IsSound x

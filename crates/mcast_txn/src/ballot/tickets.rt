@@ -5,13 +5,14 @@ ghost use Rattle.std.specs.Prelude.{◌≡◌, ◌<◌, ◌↔◌, [], IsTrue, l
 use crate::ballot::Ticket;
 use crate::id::TxnId;
 use crate::stamp::Stamp;
+use smallvec::SmallVec;
 use std::marker::Model;
 
 /// Tickets of one transaction. In contracts it is their list.
 #[derive(Drop)]
 pub struct Tickets {
     pub(crate) id: TxnId,
-    pub(crate) rows: Vec<Stamp>,
+    pub(crate) rows: SmallVec<Stamp, 1>,
 }
 
 impl Model for Tickets {

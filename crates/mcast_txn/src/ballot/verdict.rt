@@ -7,6 +7,7 @@ ghost use Rattle.mcast_txn.specs.Lists.{RisesBy};
 
 use crate::id::{Topic, TxnId};
 use crate::stamp::Stamp;
+use smallvec::SmallVec;
 use std::alloc::Global;
 use std::marker::Model;
 
@@ -15,7 +16,7 @@ use std::marker::Model;
 #[derive(Drop)]
 pub struct Verdict {
     id: TxnId,
-    rows: Vec<Stamp>,
+    rows: SmallVec<Stamp, 1>,
     stamp: Stamp,
 }
 
@@ -37,13 +38,13 @@ impl Verdict {
     {
         Verdict {
             id,
-            rows: Vec::new(alloc),
+            rows: SmallVec::new(alloc),
             stamp: Stamp::ZERO,
         }
     }
 
     /// What these rows decide.
-    pub(crate) fn of(id: TxnId, rows: Vec<Stamp>) -> Verdict
+    pub(crate) fn of(id: TxnId, rows: SmallVec<Stamp, 1>) -> Verdict
         requires { RisesBy (λ row. row.topic.0) rows.items }
         ensures { result ≡ record { id = id; rows = rows.items } }
     {

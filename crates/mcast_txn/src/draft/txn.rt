@@ -9,6 +9,7 @@ ghost use Rattle.mcast_txn.specs.Transaction.{topics_of};
 
 use crate::draft::TopicSet;
 use crate::draft::draft_send::DraftSend;
+use crate::draft::sealed_sends::SealedSends;
 use crate::flight::Flight;
 use crate::id::Topic;
 use crate::parts::Parts;
@@ -20,7 +21,7 @@ use stomp_frame::{Headers, NoMemory, Octets};
 /// A transaction that is committed (STOMP 1.2, "COMMIT"): its SENDs, at least one. In contracts it is their list, in
 /// order.
 pub struct Txn {
-    pub(crate) sends: Vec<DraftSend>,
+    pub(crate) sends: SealedSends,
     pub(crate) topics: Arc<TopicSet>,
 }
 
@@ -38,12 +39,13 @@ impl Model for Txn {
     ghost use Rattle.mcast_txn.specs.declared.draft.sent_message.SentMessage.{SentMessage};
     ghost use Rattle.mcast_txn.specs.Inner.DraftSends.{messages_of};
     ghost use Rattle.mcast_txn.specs.Inner.Sealed.{IsSealed};
+    ghost use Rattle.mcast_txn.specs.Inner.SealedSends.{all_sends};
 
     ghost Value = { List SentMessage };
 
-    ghost view = { λ t. messages_of t.sends.items };
+    ghost view = { λ t. messages_of (all_sends t.sends) };
 
-    ghost invariant = { λ t. IsSealed t.sends.items t.topics.value };
+    ghost invariant = { λ t. IsSealed (all_sends t.sends) t.topics.value };
 }
 
 impl Txn {
@@ -59,12 +61,14 @@ impl Txn {
             (λ txn. txn ≡ record { topic = topic; headers = headers; body = body } ∷ []) }
         ensures back { IfErr result (λ refused. (refused.0 ≡ headers) × (refused.1 ≡ body)) }
     {
-        let Ok((mut sends, topics)) = room_for_one(alloc, topic) else {
+        let Ok(topics) = one_topic(alloc, topic) else {
             return Err((headers, body, NoMemory));
         };
         let send = DraftSend::new(alloc, topic, 0, headers, body)?;
-        sends.push_reserved(send);
-        Ok(Txn { sends, topics })
+        Ok(Txn {
+            sends: SealedSends::One(send),
+            topics,
+        })
     }
 
     /// Its topics: the destinations of its SENDs.
@@ -89,7 +93,7 @@ impl Txn {
         ensures flight { IfOk result (λ parts. parts.flight ≡ arc_value flight.now) }
         ensures back { IfErr result (λ refused. refused.0 ≡ self) }
     {
-        match Parts::of(alloc, flight, &self.topics, &self.sends) {
+        match Parts::of(alloc, flight, &self.topics, self.sends.as_slice()) {
             Ok(parts) => Ok(parts),
             Err(refused) => Err((self, refused)),
         }
@@ -100,17 +104,13 @@ impl Txn {
         ensures value { result ≡ length self.now }
         ensures some { 0 < result }
     {
-        self.sends.len()
+        self.sends.as_slice().len()
     }
 }
 
-/// Room for one SEND, and its topic.
-fn room_for_one(alloc: Global, topic: Topic) -> Result<(Vec<DraftSend>, Arc<TopicSet>), NoMemory>
-    ensures empty { IfOk result (λ room. room.0.items ≡ []) }
-    ensures room { IfOk result (λ room. 1 ≤ vec_capacity room.0) }
-    ensures topic { IfOk result (λ room. room.1.value ≡ topic ∷ []) }
+/// One topic, shared.
+fn one_topic(alloc: Global, topic: Topic) -> Result<Arc<TopicSet>, NoMemory>
+    ensures { IfOk result (λ topics. topics.value ≡ topic ∷ []) }
 {
-    let sends = Vec::with_capacity(alloc, 1)?;
-    let topics = Arc::new(alloc, TopicSet::one(alloc, topic)?)?;
-    Ok((sends, topics))
+    Ok(Arc::new(alloc, TopicSet::one(alloc, topic)?)?)
 }

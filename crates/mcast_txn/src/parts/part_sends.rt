@@ -5,6 +5,7 @@ ghost use Rattle.std.specs.Arc.{arc_value};
 
 use crate::parts::PartMessage;
 use std::alloc::Global;
+use std::default::MadeWith;
 use std::marker::Model;
 use std::sync::Arc;
 use stomp_frame::NoMemory;
@@ -12,17 +13,30 @@ use stomp_frame::NoMemory;
 /// The SENDs of a transaction to one topic. In contracts it is their list, in order.
 #[derive(Drop)]
 pub struct PartSends {
-    sends: Vec<Arc<PartMessage>>,
+    /// The first, in place: a part of one SEND has no list.
+    first: Option<Arc<PartMessage>>,
+    /// Those that follow it.
+    later: Vec<Arc<PartMessage>>,
 }
 
 impl Model for PartSends {
-    ghost use Rattle.std.specs.Prelude.{List, map};
+    ghost use Rattle.std.specs.Prelude.{List};
     ghost use Rattle.std.specs.Arc.{arc_value};
+    ghost use Rattle.mcast_txn.specs.Inner.SendsHeld.{sends_held, BeginsAtFirst};
     ghost use Rattle.mcast_txn.specs.declared.parts.part_message.PartMessage.{PartMessage};
 
     ghost Value = { List PartMessage };
 
-    ghost view = { λ p. map (λ send. arc_value send) p.sends.items };
+    ghost view = { λ p. sends_held (λ send. arc_value send) p.first p.later.items };
+
+    ghost invariant = { λ p. BeginsAtFirst p.first p.later.items };
+}
+
+impl MadeWith<Global> for PartSends {
+    /// What lies in a place of a list that isn't used.
+    fn made_with(alloc: Global) -> Self {
+        PartSends::new(alloc)
+    }
 }
 
 impl PartSends {
@@ -31,7 +45,8 @@ impl PartSends {
         ensures { result ≡ [] }
     {
         PartSends {
-            sends: Vec::new(alloc),
+            first: None,
+            later: Vec::new(alloc),
         }
     }
 
@@ -39,7 +54,12 @@ impl PartSends {
     pub(crate) fn push(&mut self, send: &Arc<PartMessage>) -> Result<(), NoMemory>
         ensures { OnOk result (self.new ≡ self.old ++ arc_value send.now ∷ []) }
     {
-        self.sends.push(send.clone()?)?;
+        let send = send.clone()?;
+        if self.first.is_none() {
+            self.first = Some(send);
+            return Ok(());
+        }
+        self.later.push(send)?;
         Ok(())
     }
 
@@ -47,14 +67,17 @@ impl PartSends {
     pub fn len(&self) -> usize
         ensures { result ≡ length self.now }
     {
-        self.sends.len()
+        match &self.first {
+            Some(_) => 1 + self.later.len(),
+            None => 0,
+        }
     }
 
     /// Whether there is none.
     pub fn is_empty(&self) -> bool
         ensures { IsTrue result ↔ (self.now ≡ []) }
     {
-        self.sends.is_empty()
+        self.first.is_none()
     }
 
     /// The SEND at index `i` of the part, from 0.
@@ -62,6 +85,9 @@ impl PartSends {
         requires { i < length self.now }
         ensures { slice_get self.now i ≡ Some result.now }
     {
-        &self.sends[i]
+        match &self.first {
+            Some(first) if i == 0 => first,
+            _ => &self.later[i - 1],
+        }
     }
 }

@@ -6,7 +6,9 @@ ghost use Rattle.mcast_txn.specs.Inner.SlotIndex.{IsIndexOf, HasNone, free_slot}
 ghost use Rattle.mcast_txn.specs.Lists.{RisesBy};
 
 use crate::id::Topic;
+use smallvec::SmallVec;
 use std::alloc::Global;
+use std::default::MadeWith;
 use stomp_frame::NoMemory;
 
 /// A topic, and the value stored for it, if any.
@@ -16,11 +18,24 @@ pub(crate) struct Slot<T> {
     pub(crate) held: Option<T>,
 }
 
+impl<T> MadeWith<Global> for Slot<T> {
+    /// What lies in a place of a list that isn't used.
+    fn made_with(_alloc: Global) -> Self {
+        Slot {
+            topic: Topic(0),
+            held: None,
+        }
+    }
+}
+
 /// A free slot for each topic.
-pub(crate) fn free_slots<T: Drop>(alloc: Global, topics: &[Topic]) -> Result<Vec<Slot<T>>, NoMemory>
+pub(crate) fn free_slots<T: Drop>(
+    alloc: Global,
+    topics: &[Topic],
+) -> Result<SmallVec<Slot<T>, 1>, NoMemory>
     ensures { IfOk result (λ slots. slots.items ≡ map free_slot topics.now) }
 {
-    let mut slots = Vec::with_capacity(alloc, topics.len())?;
+    let mut slots = SmallVec::with_capacity(alloc, topics.len())?;
     for &topic in topics {
         slots.push(Slot { topic, held: None })?;
     }

@@ -1,9 +1,9 @@
 -- An end of a queue with all that it knows.
-use Rattle.std.specs.Prelude.{ℕ}
+use Rattle.std.specs.Prelude.{ℕ, List}
 use Rattle.mcast_txn.specs.Span.{Item}
 use Rattle.sub_queue.specs.declared.rule.Knowledge.{Knowledge}
 use Rattle.sub_queue.specs.Ends.{QueueId}
-use Rattle.sub_queue.specs.Rule.{after_pushing, after_taking}
+use Rattle.sub_queue.specs.Rule.{after_pushing, after_taking, knowing_taken}
 
 -- queue: which queue it is.
 -- capacity: the queue holds at most this many items.
@@ -24,3 +24,7 @@ end_after_push item e = with_knowledge (after_pushing item e.knows) e
 -- it took one more item
 abbrev pub end_after_take : Item → EndState → EndState
 end_after_take item e = with_knowledge (after_taking item e.knows) e
+
+-- it knows now that these items were taken
+abbrev pub end_knowing_taken : List Item → EndState → EndState
+end_knowing_taken taken e = with_knowledge (knowing_taken taken e.knows) e

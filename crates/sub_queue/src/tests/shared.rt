@@ -22,16 +22,16 @@ const LOOKS: u64 = 10_000;
 
 /// A source, and the number of its next item, which is above those that it pushed.
 #[derive(Drop)]
-struct Pusher<R> {
-    source: Source<R>,
-    next: u64,
-    ghost below: { IfSome (last_or None source.items) (λ item. item.stamp.n < next) } by { Prim.hlevel props },
+pub(super) struct Pusher<R> {
+    pub(super) source: Source<R>,
+    pub(super) next: u64,
+    pub(super) ghost below: { IfSome (last_or None source.items) (λ item. item.stamp.n < next) } by { Prim.hlevel props },
 }
 
 impl<R: Wait> Pusher<R> {
     /// What the queue answers to a push of the item of the next number, if there is memory for that.
     #[tactic(auto, using(crate::proofs::RisingItems::above_by_number, crate::proofs::RisingItems::last_after_push))]
-    fn push(&mut self, rt: &R, alloc: Global) -> Option<Answer>
+    pub(super) fn push(&mut self, rt: &R, alloc: Global) -> Option<Answer>
         ensures { self.new.source.queue ≡ self.old.source.queue }
     {
         let number = self.next;
@@ -107,7 +107,7 @@ fn see_rest<R: Wait>(rt: &R, left: &mut Left, seen: Seen) -> Seen {
 }
 
 /// A queue of this capacity, the first or the second time.
-fn ends<R>(alloc: Global, capacity: usize) -> Result<(Source<R>, Taker), NoMemory>
+pub(super) fn ends<R>(alloc: Global, capacity: usize) -> Result<(Source<R>, Taker), NoMemory>
     requires { 0 < capacity }
     ensures one { IfOk result (λ ends. ends.1.queue ≡ ends.0.queue) }
     ensures empty { IfOk result (λ ends. ends.0.items ≡ []) }

@@ -1,5 +1,5 @@
-use Rattle.std.proofs.Common.{◌≡◌, ◌++◌, [], ◌∷◌, ℕ, ◌+◌, Some, None, get_or, map, refl, sym, ap, subst, ◌∙◌, append-nil, arith}
-use Rattle.std.proofs.lemmas.List.{length_push}
+use Rattle.std.proofs.Common.{◌≡◌, ◌++◌, [], ◌∷◌, ℕ, suc, ◌+◌, Some, None, get_or, length, map, refl, sym, ap, subst, ◌∙◌, append-nil, arith}
+use Rattle.std.proofs.lemmas.List.{length-map, length_push}
 use Rattle.mcast_txn.specs.declared.id.Topic.{Topic}
 use Rattle.mcast_txn.specs.declared.stamp.Stamp.{Stamp}
 use Rattle.mcast_txn.specs.Slots.{held_at, with_slot}
@@ -7,9 +7,12 @@ use Rattle.mcast_txn.specs.Transaction.{TopicPart}
 use Rattle.mcast_txn.specs.Part.{data_of}
 use Rattle.std.specs.Arc.{arc_value}
 use Rattle.sender_gate.specs.Gate.{FlyingState}
-use Rattle.broker_locks.specs.Commits.{parts_in, entered}
+use Rattle.broker_locks.specs.Commits.{AreTold, parts_in, entered, topics_in}
 use Rattle.broker_locks.specs.Rows.{Entered, IsTicketFor}
-use Rattle.broker_locks.proofs.Proposals.{no_part, proposals_none, as_many, whole_topics, next_part, next_ticket, next_so, next_parts}
+use Rattle.broker_locks.proofs.Proposals.{no_part, proposals_none, as_many, whole_topics, next_part, next_ticket, next_so, next_parts, next_told, part_here}
+use Rattle.mcast_group.specs.declared.fault.ProposeFault.{ProposeFault}
+use Rattle.broker_locks.specs.Inner.Proposing.{TriesPart}
+use Rattle.broker_locks.proofs.Adding.{err_is}
 use Rattle.broker_locks.proofs.commit.propose_all.Goals as goal
 
 pub loop-k-init : goal.loop-k-init
@@ -21,6 +24,9 @@ loop-k-init g c =
       many = refl;
       so_far = record { few = omega arith; id = refl; floor = refl; tickets = c.requires.tickets; rows = sym (ap (λ l. old ++ map (entered c.args.flying.now.state.floor) l) (proposals_none ps) ∙ append-nil old) };
       parts = c.requires.parts;
+      given = omega arith;
+      own = refl;
+      told = refl;
     }
 
 pub unreachable-requires : goal.unreachable-requires
@@ -83,6 +89,7 @@ loop-k-preserved g c =
     c.in_ok-ticket.ensures.entered
     ∙ (ap (λ (f : Stamp). old ++ Entered (data_of (arc_value c.in-Some-part.part)) f n ∷ []) floor
     ∙ ap (λ (p : TopicPart). old ++ Entered p c.loop-k.flying.state.floor n ∷ []) part) in
+    let more : suc c.loop-k.k ≡ c.loop-k.k + 1 = omega arith in
     record {
       numbers = inv.numbers ++ n ∷ [];
       many = length_push inv.numbers n ∙ ap (λ (k : ℕ). k + 1) inv.many;
@@ -95,14 +102,63 @@ loop-k-preserved g c =
       parts = next_parts ps c.args.flying.now.state c.loop-k.flying.state inv.numbers _ _ inv.so_far c.requires.rises inv.parts c.loop-k.k inv.many c.as_slice.result.now named found.3.0
           n c.put.new.self.state.parts
           (ap (λ (f : FlyingState). f.state.parts) put ∙ (ap (λ (f : FlyingState). f.state.parts) taken ∙ ap (λ (t : Topic). with_slot t None c.loop-k.flying.state.parts) at));
+      given = omega (arith, inv.given, c.in_ok-ticket.ensures.one);
+      own = ap (λ (f : FlyingState). f.flight) put ∙ (ap (λ (f : FlyingState). f.flight) taken ∙ inv.own);
+      told = subst (λ (m : ℕ). AreTold g.Q.Point.told (topics_in c.args.flying.now.state) m c.args.point.now c.before-in-loop-k.new.self) more (
+        c.loop-k.point,
+        inv.told,
+        subst (λ (t : Topic). g.Q.Point.told c.loop-k.point t c.loop-k.k c.before-in-loop-k.new.self)
+            (at ∙ next_told ps c.args.flying.now.state c.loop-k.flying.state inv.numbers _ _ inv.so_far c.requires.rises inv.parts c.loop-k.k inv.many c.as_slice.result.now named found.3.0)
+            c.before-in-loop-k.ensures,
+      );
     }
 
-pub returns : goal.returns
-returns g c =
+pub returns-clause-proposed : goal.returns-clause-proposed
+returns-clause-proposed g c =
     let inv = c.loop-k.invariant in
     let some = whole_topics c.args.flying.now.state c.topics.result.now c.requires c.topics.ensures in
     let n = c.len-k-end.ensures.value in
     let few = inv.so_far.few in
     let many = inv.many in
     let past = c.loop-k-test.false in
-    (inv.numbers, inv.so_far, omega arith)
+    (inv.numbers, inv.so_far, omega (arith, inv.given), omega arith)
+
+pub returns-clause-told : goal.returns-clause-told
+returns-clause-told g c =
+    let inv = c.loop-k.invariant in
+    let some = whole_topics c.args.flying.now.state c.topics.result.now c.requires c.topics.ensures in
+    let n = c.len-k-end.ensures.value in
+    let few = inv.so_far.few in
+    let past = c.loop-k-test.false in
+    let all : c.loop-k.k ≡ length (topics_in c.args.flying.now.state) = omega (arith, inv.many, few, length-map (parts_in c.args.flying.now.state.parts) (λ (p : TopicPart). p.topic)) in
+    subst (λ (k : ℕ). AreTold g.Q.Point.told (topics_in c.args.flying.now.state) k c.args.point.now c.loop-k.point) all inv.told
+
+pub returns-in_err-ticket-clause-stops : goal.returns-in_err-ticket-clause-stops
+returns-in_err-ticket-clause-stops g c =
+    let inv = c.loop-k.invariant in
+    let found = c.in-Some.ensures.lookup in
+    let ps = parts_in c.args.flying.now.state.parts in
+    let named = c.as_slice.ensures.value ∙ c.topics-in-loop-k.ensures in
+    let at = found.3.1 (record { 0 = 0 }) in
+    let h = next_part ps c.args.flying.now.state c.loop-k.flying.state inv.numbers _ _ inv.so_far c.requires.rises inv.parts c.loop-k.k inv.many c.as_slice.result.now named found.3.0 in
+    let some : Some (data_of (arc_value c.in-Some-part.part)) ≡ held_at (get_or c.as_slice.result.now c.loop-k.k (record { 0 = 0 })) c.loop-k.flying.state.parts = c.in-Some-part.ensures.part ∙ ap (λ (t : Topic). held_at t c.loop-k.flying.state.parts) at in
+    let part : data_of (arc_value c.in-Some-part.part) ≡ get_or ps c.loop-k.k no_part = cc in
+    let floor : c.floor.result ≡ c.loop-k.flying.state.floor = c.floor.ensures ∙ ap (λ (f : FlyingState). f.state.floor) c.in-Some-part.ensures.taken in
+    let fault = c.in_err-ticket.field-0.0 in
+    let point = c.before-in-loop-k.new.self in
+    let more : suc c.loop-k.k ≡ c.loop-k.k + 1 = omega arith in
+    err_is c.from_residual.result fault (λ (f : ProposeFault). TriesPart g.P.Places.may_refuse g.Q.Point.told c.args.flying.now.state c.args.point.now point f) c.from_residual.ensures.1 (record {
+      before = c.loop-k.k;
+      tells = subst (λ (m : ℕ). AreTold g.Q.Point.told (topics_in c.args.flying.now.state) m c.args.point.now point) more (
+        c.loop-k.point,
+        inv.told,
+        subst (λ (t : Topic). g.Q.Point.told c.loop-k.point t c.loop-k.k point)
+            (at ∙ next_told ps c.args.flying.now.state c.loop-k.flying.state inv.numbers _ _ inv.so_far c.requires.rises inv.parts c.loop-k.k inv.many c.as_slice.result.now named found.3.0)
+            c.before-in-loop-k.ensures,
+      );
+      places = c.loop-k.places;
+      part = get_or ps c.loop-k.k no_part;
+      at = part_here ps c.args.flying.now.state c.loop-k.flying.state inv.numbers _ _ inv.so_far c.requires.rises inv.parts c.loop-k.k inv.many c.as_slice.result.now named found.3.0;
+      refused = subst (λ (f : Stamp). g.P.Places.may_refuse c.loop-k.places f (get_or ps c.loop-k.k no_part) fault) (floor ∙ inv.so_far.floor)
+          (subst (λ (p : TopicPart). g.P.Places.may_refuse c.loop-k.places c.floor.result p fault) part c.in_err-ticket.ensures.fault);
+    })

@@ -22,8 +22,8 @@ cancel_decided-requires g c =
     subst (λ (i : TxnId). AreUncancelled (map (λ (row : Stamp). row.topic) c.rows.result.now) i (g.P.Places.rows c.args.places.now)) (sym c.id-id.ensures)
     (subst (λ (r : List Stamp). AreUncancelled (map (λ (row : Stamp). row.topic) r) c.args.flying.state.id (g.P.Places.rows c.args.places.now)) (sym e) c.requires.entered)
 
-pub returns-clause-refused : goal.returns-clause-refused
-returns-clause-refused g c =
+pub returns-in-Err-clause-refused : goal.returns-in-Err-clause-refused
+returns-in-Err-clause-refused g c =
     let d = decided_gate c.args.flying.state c.in-Ok.gate c.in-Ok.verdict.value.rows c.in-Ok.ensures.rows c.in-Ok.ensures.gate c.in-Ok.ensures.above in
     let rows = ticket_rows c.args.flying.state.tickets in
     let back : c.in-Err.verdict.value ≡ c.in-Ok.verdict.value = c.in-Err.ensures.back in
@@ -32,7 +32,7 @@ returns-clause-refused g c =
     let old = g.P.Places.rows c.args.places.now in (
       d,
       refl,
-      c.cancel_decided.ensures
+      c.cancel_decided.ensures.rows
           ∙ (ap (λ (i : TxnId). old ++ map (cancelled_at i) (map (λ (row : Stamp). row.topic) c.rows.result.now)) c.id-id.ensures
           ∙ ap (λ (r : List Stamp). old ++ map (cancelled_at c.args.flying.state.id) (map (λ (row : Stamp). row.topic) r)) e),
     )

@@ -1,15 +1,21 @@
 -- What an open endpoint makes of what its reader gives.
-use Rattle.std.proofs.Common.{◌≡◌, ◌≢◌, ◌⊎◌, inl, inr, List, [], ◌∷◌, ◌++◌, Option, Some, None, refl, ap, subst, ◌∙◌}
+use Rattle.std.proofs.Common.{◌≡◌, ◌≢◌, ℕ, ◌+◌, ◌⊎◌, Bool, true, false, cond, inl, inr, List, [], ◌∷◌, ◌++◌, Option, Some, None, refl, sym, ap, subst, ◌∙◌, arith}
+use Rattle.std.proofs.lemmas.Bool.{lt-leb}
 use Rattle.std.specs.Prelude.{Result, Ok, Err, MatchOption}
 use Rattle.stomp_frame.specs.declared.fault.Check.{Check}
 use Rattle.stomp_frame.specs.declared.fault.FrameFault.{FrameFault}
 use Rattle.stomp_frame.specs.declared.raw_frame.RawFrame.{RawFrame}
 use Rattle.stomp_frame.specs.Faults.{fault_of}
+use Rattle.stomp_frame.specs.declared.limits.Limits.{Limits}
+use Rattle.stomp_frame.specs.Inner.Parser.{Halt, ◌>>=◌, after_eols, body_at, command_of, frame_at, headers_at, line_at}
+use Rattle.stomp_frame.specs.Commands.{has_escapes}
 use Rattle.stomp_frame.specs.Reader.{Unread, ReadsNext, NextReturns}
+use Rattle.stomp_frame.proofs.Whole.{answers_none}
 use Rattle.stomp_session.specs.declared.action.Step.{Step}
 use Rattle.stomp_session.specs.Open.{Held, held_after}
 use Rattle.delivery.specs.declared.connection_fault.ConnectionFault.{ConnectionFault}
 use Rattle.delivery.specs.declared.open_endpoint.OpenEndpoint.{OpenEndpoint}
+use Rattle.delivery.specs.Core.Outcomes.{is_any}
 use Rattle.delivery.specs.Core.Steps.{Reading}
 use Rattle.delivery.specs.Inner.Nexts.{IsAccepted, IsRefusedAs, Judgement, reader_fault}
 
@@ -29,6 +35,30 @@ judged_waits accepted old left r h is unanswered = record {
   read = subst (λ (x : Option RawFrame). ReadsNext old.reader (Ok x) left) is (found old.reader left r unanswered h);
   judged = refl;
 }
+
+-- a text of no octets has no line, and so no frame and no fault
+no_line : (limits : Limits) → line_at limits [] ≡ Err Halt.Open
+unfolding line_at
+no_line limits = ap (λ (b : Bool). cond b (Err (Halt.Fault Check.LineTooLong)) (Err Halt.Open)) (lt-leb (limits.line + 2) 0 (omega arith))
+
+no_text : (limits : Limits) → frame_at limits [] ≡ Err Halt.Open
+unfolding frame_at after_eols
+no_text limits =
+    ap (λ (r : Result (List ℕ × List ℕ) Halt). r >>= λ line.
+    command_of line.0 >>= λ command.
+    headers_at limits (has_escapes command) limits.headers line.1 >>= λ headers.
+    body_at limits headers.0 headers.1 >>= λ body.
+    Ok (record { command = command; headers = headers.0; body = body.0 }, body.1)) (no_line limits)
+
+no_text_reads : (u : Unread) → u.text ≡ [] → ReadsNext u (Ok None) u
+unfolding after_eols
+no_text_reads u none =
+    let at = ap (λ (t : List ℕ). frame_at u.limits t) none ∙ no_text u.limits in
+    subst (λ (t : List ℕ). ReadsNext u (Ok None) (record u { text = t })) (ap after_eols none ∙ sym none) (answers_none u at)
+
+-- nothing is unread
+pub judged_idle : (accepted : List RawFrame) (old : OpenEndpoint) → old.reader.text ≡ [] → Judgement accepted old (Ok None) old
+judged_idle accepted old none = record { reading = Reading.Waits old.reader; read = no_text_reads old.reader none; judged = refl }
 
 -- the session accepts the frame
 pub judged_takes : (accepted : List RawFrame) (old new : OpenEndpoint) (left : Unread) (r : Option RawFrame) (f : RawFrame) (step : Step)
@@ -54,6 +84,11 @@ judged_refuses accepted old new left r f g fault h is unanswered refused same = 
   judged = (ap (λ (x : RawFrame). Some x) same, refused);
 }
 
+-- where not all is read, some octets are unread
+pub some_unread : (text : List ℕ) → (text ≡ [] → false ≡ true) → is_any text ≡ true
+some_unread [] other = absurd (let h = other refl in cc)
+some_unread (b ∷ text) other = refl
+
 memory_or : (fault : FrameFault) → (fault ≡ FrameFault.NoMemory) ⊎ (fault ≢ FrameFault.NoMemory)
 memory_or FrameFault.NoMemory = inl refl
 memory_or _ = inr (λ e. absurd (cc))
@@ -65,10 +100,10 @@ stream _ = refl
 -- the reader returns a fault
 pub judged_fails : (accepted : List RawFrame) (old new : OpenEndpoint) (left : Unread) (fault : FrameFault)
     → ((◌≢◌ {A = Result (Option RawFrame) FrameFault} (Err fault) (Err FrameFault.NoMemory)) → NextReturns old.reader (Err fault) left) → old.reader.answered ≡ None
-    → (reported : ConnectionFault) → reported ≡ reader_fault fault
+    → is_any old.reader.text ≡ true → (reported : ConnectionFault) → reported ≡ reader_fault fault
     → Judgement accepted old (Err (reported, None)) new
-judged_fails accepted old new left fault h unanswered reported is = elim (memory_or fault) [
-  | inl e ↦ record { reading = Reading.Nothing; read = tt; judged = (refl, is ∙ ap reader_fault e) }
+judged_fails accepted old new left fault h unanswered some reported is = elim (memory_or fault) [
+  | inl e ↦ record { reading = Reading.Nothing; read = tt; judged = (refl, is ∙ ap reader_fault e, some) }
   | inr ne ↦ (let other : ◌≢◌ {A = Result (Option RawFrame) FrameFault} (Err fault) (Err FrameFault.NoMemory) = λ e. ne (cc) in
       let k = reads old.reader left (Err fault) unanswered (h other) in
       record {

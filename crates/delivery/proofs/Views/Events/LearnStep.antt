@@ -143,3 +143,29 @@ learn_makes k t id r reached there is =
               (sym (stays k t id (Some v) there (held ∙ e) (ap (λ (o : Option LearnFault). elim o [ None ↦ after_learn id (decided_stamp v) x | Some f ↦ x ]) fault)))
               (not_pending k t id v there e fault))
         ])
+
+-- a topic that refuses a verdict has no such part pending: it is never another's, nor another one
+pub never_odd : (k : Core) (t : Topic) (id : TxnId) (f : LearnFault) → IsReached k → t.0 < length k.world.topics
+    → Some (Err f) ≡ learn_result id (verdict_held (view_of k) id) (get_or (view_of k).groups t.0 no_group)
+    → f ≡ LearnFault.NotPending
+never_odd k t id f reached there is =
+    by_found (find_verdict id k.world.verdicts) refl
+    (is
+    ∙ (ap (λ (g : GroupState). learn_result id (verdict_held (view_of k) id) g) (group_at k t no_group there)
+    ∙ ap (λ (o : Option Decision). learn_result id o (group_view k.world x)) (verdict_is k id reached)))
+  where
+    x : Rattle.mcast_group.specs.Machine.TopicState
+    x = topic_at k.world t
+
+    pending : (o : Option LearnFault) → (o ≡ None) ⊎ (o ≡ Some LearnFault.NotPending) → ◌≡◌ {A = Option (Result Unit LearnFault)} (Some (Err f)) (Some (result_of o))
+        → f ≡ LearnFault.NotPending
+    pending o (inl none) e = absurd (let h = e ∙ ap (λ (p : Option LearnFault). Some (result_of p)) none in cc)
+    pending o (inr fault) e = let h = e ∙ ap (λ (p : Option LearnFault). Some (result_of p)) fault in cc
+
+    by_found : (found : Option Decision) → find_verdict id k.world.verdicts ≡ found
+        → Some (Err f) ≡ learn_result id (find_verdict id k.world.verdicts) (group_view k.world x) → f ≡ LearnFault.NotPending
+    by_found None e h = absurd (let z = h ∙ ap (λ (o : Option Decision). learn_result id o (group_view k.world x)) e in cc)
+    by_found (Some v) e h =
+        pending (learn_fault id v x)
+        (by_world (λ w. verdict_in w id ≡ Some v → (learn_fault id v (topic_at w t) ≡ None) ⊎ (learn_fault id v (topic_at w t) ≡ Some LearnFault.NotPending)) k reached (λ r. found_is_learnt r t id v) e)
+        (h ∙ ap (λ (o : Option Decision). learn_result id o (group_view k.world x)) e)

@@ -1,7 +1,7 @@
 -- A Next that reads no whole frame, and one that ends its connection by an ERROR.
-use Rattle.std.proofs.Common.{◌≡◌, ℕ, ◌<◌, Bool, true, false, cond, inl, inr, List, [], ◌∷◌, ◌++◌, length, get_or, Option, Some, None, refl, sym, ap, subst, ◌∙◌, arith}
+use Rattle.std.proofs.Common.{◌≡◌, ℕ, ◌<◌, Bool, true, false, cond, inl, inr, List, [], ◌∷◌, ◌++◌, length, get_or, Option, Some, None, refl, sym, ap, subst, ◌∙◌, arith, ◌||◌}
 use Rattle.std.specs.Prelude.{Result, Ok, Err}
-use Rattle.std.specs.List.{flat_map}
+use Rattle.std.specs.List.{flat_map, list_any}
 use Rattle.std.specs.Option.{option_map, option_map_or, option_or, option_and_then, option_to_list}
 use Rattle.std.proofs.lemmas.List.{append-nil, get_or-set_same}
 use Rattle.mcast_txn.specs.Checks.{first_refusal}
@@ -29,8 +29,8 @@ use Rattle.delivery.specs.Machine.Moves.{Move, needs_idle, move_refusal, with_le
 use Rattle.delivery.specs.Core.Steps.{Reading, frame_in, accepted_of}
 use Rattle.delivery.specs.Core.Output.{is_cut, receipt_asked, next_replies, text_out}
 use Rattle.delivery.specs.Core.State.{Core, IsReadBy, frame_move, left_by, session_at, unread_at}
-use Rattle.delivery.specs.Core.Outcomes.{fault_outcomes, frame_fault, frame_no_memory, frame_outcome, reading_outcomes, unless}
-use Rattle.delivery.specs.Inner.Nexts.{Asks, Ends, HasFault, IsRefusedAs, JudgesReading, Judgement, JudgesAt, EndpointFault, error_text, failed_endpoint, idle_objection, staged_endpoint, accepted_stage}
+use Rattle.delivery.specs.Core.Outcomes.{fault_outcomes, frame_fault, frame_no_memory, frame_outcome, reading_outcomes, unless, accepted_outcomes, is_any, outcomes_without, wants_memory}
+use Rattle.delivery.specs.Inner.Nexts.{Asks, Ends, HasFault, IsRefusedAs, JudgesReading, Judgement, JudgesAt, EndpointFault, error_text, failed_endpoint, idle_objection, staged_endpoint, accepted_stage, MayLack}
 use Rattle.delivery.specs.Inner.Stands.{IsReached, Makes, step_of}
 use Rattle.delivery.specs.Core.Connections.{live_numbers}
 use Rattle.delivery.specs.Inner.View.{View, EndpointView, view_of, view_after, stage_view, endpoint_view, no_endpoint, parting_receipt}
@@ -225,9 +225,9 @@ in_later o [] ys h = h
 in_later o (x ∷ xs) ys h = inr (in_later o xs ys h)
 
 by_fault : (k : Core) (c : ℕ) (f : RawFrame) (fault : ConnectionFault) (cut : Bool) → frame_fault k c f ≡ Some fault
-    → In (Outcome.Faulted fault cut) (option_map_or fault_outcomes (frame_fault k c f) (frame_outcome k c f ++ fault_outcomes frame_no_memory))
+    → In (Outcome.Faulted fault cut) (option_map_or fault_outcomes (frame_fault k c f) (accepted_outcomes k c f))
 by_fault k c f fault cut e =
-    subst (λ (x : Option ConnectionFault). In (Outcome.Faulted fault cut) (option_map_or fault_outcomes x (frame_outcome k c f ++ fault_outcomes frame_no_memory))) (sym e)
+    subst (λ (x : Option ConnectionFault). In (Outcome.Faulted fault cut) (option_map_or fault_outcomes x (accepted_outcomes k c f))) (sym e)
     (in_faults fault cut)
 
 -- what the machine has against an accepted frame
@@ -243,16 +243,17 @@ fault_is k c f cased free =
     ap (λ (x : Option CaseFault). option_or (option_map ConnectionFault.Frame x) (option_or (option_map ConnectionFault.Session (session_fault (session_at k c) f)) rest)) cased
     ∙ ap (λ (x : Option SessionFault). option_or (option_map ConnectionFault.Session x) rest) free
 
--- an accepted frame may find no memory
-pub may_lack : (k : Core) (c : ℕ) (f : RawFrame) (left : Unread) → case_fault f ≡ None → session_fault (session_at k c) f ≡ None → (cut : Bool)
+-- an accepted frame that wants memory may find none
+pub may_lack : (k : Core) (c : ℕ) (f : RawFrame) (left : Unread) → case_fault f ≡ None → session_fault (session_at k c) f ≡ None → MayLack k c f → (cut : Bool)
     → In (Outcome.Faulted frame_no_memory cut) (reading_outcomes k c (Reading.Finds f left))
-may_lack k c f left cased free cut = go (asked_objection k c f) (fault_is k c f cased free)
+may_lack k c f left cased free wants cut = go (asked_objection k c f) (fault_is k c f cased free)
   where
     go : (why : Option Objection) → frame_fault k c f ≡ option_map (λ (w : Objection). frame_no_memory) why
-        → In (Outcome.Faulted frame_no_memory cut) (option_map_or fault_outcomes (frame_fault k c f) (frame_outcome k c f ++ fault_outcomes frame_no_memory))
+        → In (Outcome.Faulted frame_no_memory cut) (option_map_or fault_outcomes (frame_fault k c f) (accepted_outcomes k c f))
     go None e =
-        subst (λ (x : Option ConnectionFault). In (Outcome.Faulted frame_no_memory cut) (option_map_or fault_outcomes x (frame_outcome k c f ++ fault_outcomes frame_no_memory))) (sym e)
-        (in_later (Outcome.Faulted frame_no_memory cut) (frame_outcome k c f) (fault_outcomes frame_no_memory) (in_faults frame_no_memory cut))
+        subst (λ (x : Option ConnectionFault). In (Outcome.Faulted frame_no_memory cut) (option_map_or fault_outcomes x (accepted_outcomes k c f))) (sym e)
+        (in_later (Outcome.Faulted frame_no_memory cut) (frame_outcome k c f) (outcomes_without (wants_memory k c f) frame_no_memory)
+        (subst (λ (b : Bool). In (Outcome.Faulted frame_no_memory cut) (outcomes_without b frame_no_memory)) (sym (wants e)) (in_faults frame_no_memory cut)))
     go (Some w) e = by_fault k c f frame_no_memory cut e
 
 session_may : (k : Core) (c : ℕ) (f : RawFrame) (left : Unread) (fault : SessionFault) → case_fault f ≡ None → Refuses (session_at k c) f fault → (cut : Bool)
@@ -264,7 +265,7 @@ session_may k c f left fault cased h cut = elim h [
       (ap (λ (x : Option CaseFault). option_or (option_map ConnectionFault.Frame x) (option_or (option_map ConnectionFault.Session (session_fault (session_at k c) f)) rest)) cased
       ∙ ap (λ (x : Option SessionFault). option_or (option_map ConnectionFault.Session x) rest) is))
   | inr e ↦ subst (λ (x : SessionFault). In (Outcome.Faulted (ConnectionFault.Session x) cut) (reading_outcomes k c (Reading.Finds f left))) (sym e.1)
-      (may_lack k c f left cased e.0 cut)
+      (may_lack k c f left cased e.0 (λ none. ap (λ (b : Bool). b || list_any (λ o. is_any (next_replies (Some f) o)) (frame_outcome k c f)) e.2) cut)
 ]
 
 refused_may : (k : Core) (c : ℕ) (f : RawFrame) (left : Unread) (fault : ConnectionFault) → IsRefusedAs (session_at k c) f fault → (cut : Bool)
@@ -286,7 +287,8 @@ faulted_by k c after fault frame Reading.Nothing reached idle read is = record {
   reached = reached;
   idle = idle;
   read = read;
-  may = λ cut. subst (λ (x : ConnectionFault). In (Outcome.Faulted x cut) (fault_outcomes ConnectionFault.ReaderNoMemory)) (sym is.1) (in_faults ConnectionFault.ReaderNoMemory cut);
+  may = λ cut. subst (λ (b : Bool). In (Outcome.Faulted fault cut) (outcomes_without b ConnectionFault.ReaderNoMemory)) (sym is.2)
+      (subst (λ (x : ConnectionFault). In (Outcome.Faulted x cut) (fault_outcomes ConnectionFault.ReaderNoMemory)) (sym is.1) (in_faults ConnectionFault.ReaderNoMemory cut));
   asked = ap receipt_asked is.0;
 }
 faulted_by k c after fault frame (Reading.Waits left) reached idle read is = absurd is

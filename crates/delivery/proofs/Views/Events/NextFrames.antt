@@ -33,8 +33,8 @@ use Rattle.delivery.specs.Machine.Runs.{run}
 use Rattle.delivery.specs.Core.Steps.{Reading, has_effect, accepted_of}
 use Rattle.delivery.specs.Core.Output.{is_cut, receipts_of, text_out}
 use Rattle.delivery.specs.Core.State.{Core, frame_move, is_faulted, next_moves, session_at}
-use Rattle.delivery.specs.Core.Outcomes.{fault_outcomes, frame_fault, frame_no_memory, frame_outcome, move_outcome, outcome_of, reading_outcomes}
-use Rattle.delivery.specs.Inner.Nexts.{Asks, accepted_stage, error_text, failed_endpoint, receipt_text, staged_endpoint}
+use Rattle.delivery.specs.Core.Outcomes.{fault_outcomes, frame_fault, frame_no_memory, frame_outcome, move_outcome, outcome_of, reading_outcomes, accepted_outcomes, outcomes_without, wants_memory}
+use Rattle.delivery.specs.Inner.Nexts.{Asks, accepted_stage, error_text, failed_endpoint, receipt_text, staged_endpoint, MayLack}
 use Rattle.delivery.specs.Inner.Stands.{Makes}
 use Rattle.delivery.specs.Core.Connections.{live_numbers}
 use Rattle.delivery.specs.Inner.View.{View, EndpointView, view_of, view_after, stage_view, leaving_endpoint, no_endpoint, parting_receipt, written_endpoint}
@@ -86,17 +86,17 @@ replied_view k c f left action receipt held new o text d asks effect text_is is 
 
 -- the frame has no effect, and the connection ends by an ERROR
 pub next_lacks : (k : Core) (c : ℕ) (f : RawFrame) (left : Unread) (action : Action) (receipt said : Option (List ℕ)) (held new : View) (o : Outcome) (d : EndpointView)
-    → Asks k c f left action receipt held → said ≡ receipt → o ≡ Outcome.Faulted frame_no_memory (is_cut o)
+    → Asks k c f left action receipt held → MayLack k c f → said ≡ receipt → o ≡ Outcome.Faulted frame_no_memory (is_cut o)
     → new ≡ with_endpoint held c (failed_endpoint (is_cut o) (error_text frame_no_memory said) (get_or held.endpoints c d))
     → Makes k (Event.Next c) o new
-next_lacks k c f left action receipt said held new o d asks same is view =
+next_lacks k c f left action receipt said held new o d asks wants same is view =
     subst (λ (p : Outcome). Makes k (Event.Next c) p new) (sym is)
     (next_ends k c (Reading.Finds f left) frame_no_memory receipt (is_cut o) (accepted_stage k c f left) held new d
     (record {
       reached = asks.reached;
       idle = asks.idle;
       read = asks.read;
-      may = may_lack k c f left asks.cased asks.free;
+      may = may_lack k c f left asks.cased asks.free wants;
       asked = sym asks.wants;
     }) (accepted_view k c f left action receipt held asks)
     (view ∙ ap (λ (r : Option (List ℕ)). with_endpoint held c (failed_endpoint (is_cut o) (error_text frame_no_memory r) (get_or held.endpoints c d))) same))
@@ -110,8 +110,8 @@ unfaulted : (k : Core) (c : ℕ) (f : RawFrame) (left : Unread) (action : Action
 unfaulted k c f left action receipt held asks none o may =
     let e : frame_fault k c f ≡ None =
     fault_is k c f asks.cased asks.free ∙ ap (λ (why : Option Objection). option_map (λ (w : Objection). frame_no_memory) why) none in
-    subst (λ (x : Option ConnectionFault). In o (option_map_or fault_outcomes x (frame_outcome k c f ++ fault_outcomes frame_no_memory))) (sym e)
-    (In-append_left o (frame_outcome k c f) (fault_outcomes frame_no_memory) may)
+    subst (λ (x : Option ConnectionFault). In o (option_map_or fault_outcomes x (accepted_outcomes k c f))) (sym e)
+    (In-append_left o (frame_outcome k c f) (outcomes_without (wants_memory k c f) frame_no_memory) may)
 
 -- a frame that asks for no move is done
 pub done_makes : (k : Core) (c : ℕ) (f : RawFrame) (left : Unread) (action : Action) (receipt : Option (List ℕ)) (held new : View) (text : List ℕ) (d : EndpointView)
@@ -159,7 +159,7 @@ connects_committed : (f : RawFrame) (sends : List SentMessage) → commit sends 
 connects_committed f [] e = absurd (cc)
 connects_committed f (send ∷ sends) e = absurd (cc)
 
-connects : (command : Command) (s : Held) (f : RawFrame) → f.command ≡ command → action_by command s f ≡ actions.Connected → is_connect f.command ≡ true
+pub connects : (command : Command) (s : Held) (f : RawFrame) → f.command ≡ command → action_by command s f ≡ actions.Connected → is_connect f.command ≡ true
 connects commands.Connect s f is e = ap is_connect is
 connects commands.Stomp s f is e = ap is_connect is
 connects commands.Send s f is e = connects_sent s f (first_of (codes "transaction") f.headers) e

@@ -6,12 +6,11 @@ use Rattle.delivery.specs.declared.event.Event.{Event}
 use Rattle.delivery.specs.declared.outcome.Outcome.{Outcome}
 use Rattle.delivery.specs.declared.kept.Kept.{Kept}
 use Rattle.delivery.specs.Topics.{TopicList}
-use Rattle.delivery.specs.Nets.{KeptRun, HasTaken, IsDelivered, HasReport, steps_of_net, core_of_net}
+use Rattle.delivery.specs.Nets.{KeptRun, HasTaken, HasAnswered, IsDelivered, HasReport}
 use Rattle.delivery.specs.Machine.World.{World}
 use Rattle.delivery.specs.Core.Steps.{CoreStep, kept_of}
-use Rattle.delivery.specs.Core.Readings.{reading_at, steps_of}
+use Rattle.delivery.specs.Inner.Readings.{reading_at, steps_of}
 use Rattle.delivery.specs.Core.Outcomes.{IsCoreRun}
-use Rattle.delivery.specs.Core.Stepped.{HasStepped}
 use Rattle.delivery.specs.Core.State.{Core, core_of}
 use Rattle.delivery.specs.Core.Reports.{Report, report_of}
 use Rattle.delivery.specs.Core.Delivery.{Delivery, kept_run}
@@ -21,8 +20,7 @@ use Rattle.delivery.specs.Inner.View.{View, view_of}
 use Rattle.delivery.specs.Inner.ViewReports.{report_in}
 use Rattle.delivery.proofs.Core.AccountOfRun.{run_of, world_is, core_is}
 use Rattle.delivery.proofs.Core.DeliveryOfRun.{delivery}
-use Rattle.delivery.proofs.Core.StepsOfRun.{steps_are}
-use Rattle.delivery.proofs.Core.StepsStepped.{steps_stepped}
+use Rattle.delivery.proofs.Core.StepsOfRun.{steps_turned}
 use Rattle.delivery.proofs.Theorem.SpansAsAnswered.{known}
 use Rattle.delivery.proofs.Views.Runs.ReportOfView.{reported}
 
@@ -39,48 +37,54 @@ capacity_kept topics capacity kept held keeps =
 
 -- ---- its report
 
+-- the steps of a net are those of its kept run
+abbrev pub AreSteps : KeptRun → Type 0
+AreSteps net = net.steps ≡ steps_of (reverse net.kept)
+
 -- what a net keeps are its steps
-pub steps_kept : (net : KeptRun) (held : View) (keeps : KeepsRun net.topics net.capacity net.kept held) → keeps.steps ≡ steps_of_net net
-steps_kept net held keeps =
-    let kept : reverse net.kept ≡ map kept_of keeps.steps = ap (λ (run : List Kept). reverse run) keeps.are_kept ∙ reverse-reverse (map kept_of keeps.steps) in
-    steps_are net.topics net.capacity keeps.steps keeps.is_run ∙ ap steps_of (sym kept)
+pub steps_kept : (net : KeptRun) (held : View) → AreSteps net → (keeps : KeepsRun net.topics net.capacity net.kept held) → keeps.steps ≡ net.steps
+steps_kept net held are keeps =
+    steps_turned net.topics net.capacity keeps.steps keeps.is_run ∙ (ap (λ (run : List Kept). steps_of (reverse run)) (sym keeps.are_kept) ∙ sym are)
 
 -- the report of what a net holds is delivered
-pub is_delivered : (net : KeptRun) (held : View) → KeepsRun net.topics net.capacity net.kept held → IsDelivered net (report_in held)
-is_delivered net held keeps =
+pub is_delivered : (net : KeptRun) (held : View) → AreSteps net → KeepsRun net.topics net.capacity net.kept held → IsDelivered net (report_in held)
+is_delivered net held are keeps =
     let k = core_of net.topics net.capacity keeps.steps in
-    let same : keeps.steps ≡ steps_of_net net = steps_kept net held keeps in
+    let same : keeps.steps ≡ net.steps = steps_kept net held are keeps in
     let is_report : report_in held ≡ report_of k = ap report_in keeps.view ∙ reported k in
-    let delivered : Delivery net.topics (kept_run keeps.steps) (report_of k) = delivery net.topics net.capacity keeps.steps keeps.as_many keeps.is_run in
+    let run : Delivery net.topics net.capacity net.steps (report_in held) =
+    subst (λ (r : Report). Delivery net.topics net.capacity net.steps r) (sym is_report)
+    (subst (λ (steps : List CoreStep). Delivery net.topics net.capacity steps (report_of k)) same (delivery net.topics net.capacity keeps.steps keeps.as_many keeps.is_run)) in
     record {
-      are_kept = keeps.are_kept ∙ ap kept_run same;
-      is_run = subst (λ (steps : List CoreStep). IsCoreRun net.topics net.capacity steps) same keeps.is_run;
-      is_report = is_report ∙ ap (λ (steps : List CoreStep). report_of (core_of net.topics net.capacity steps)) same;
-      delivery = subst (λ (r : Report). Delivery net.topics net.kept r) (sym is_report)
-          (subst (λ (kept : List Kept). Delivery net.topics kept (report_of k)) (sym keeps.are_kept) delivered);
+      delivered = run.delivered;
+      written = run.written;
+      answered = record {
+        as_many = keeps.as_many;
+        are_kept = keeps.are_kept ∙ ap kept_run same;
+        is_run = subst (λ (steps : List CoreStep). IsCoreRun net.topics net.capacity steps) same keeps.is_run;
+        is_report = is_report ∙ ap (λ (steps : List CoreStep). report_of (core_of net.topics net.capacity steps)) same;
+      };
     }
 
 -- so the report of its core is
-pub has_report : (net : KeptRun) (held : View) → KeepsRun net.topics net.capacity net.kept held → HasReport net
-has_report net held keeps =
-    let is = is_delivered net held keeps in subst (IsDelivered net) is.is_report is
+pub has_report : (net : KeptRun) (held : View) → AreSteps net → KeepsRun net.topics net.capacity net.kept held → HasReport net
+has_report net held are keeps =
+    let is = is_delivered net held are keeps in subst (IsDelivered net) is.answered.is_report is
 
 -- the last of what a net keeps was a step of its core
-pub has_stepped : (old new : KeptRun) (held : View) (e : Event) (o : Outcome) → KeepsRun new.topics new.capacity new.kept held → new.topics ≡ old.topics
-    → new.capacity ≡ old.capacity → new.kept ≡ old.kept ++ record { event = e; outcome = o } ∷ [] → HasStepped (core_of_net old) (core_of_net new) e o
-has_stepped old new held e o keeps topics capacity kept =
+pub has_answered : (old new : KeptRun) (held : View) (e : Event) (o : Outcome) → AreSteps old → AreSteps new → KeepsRun new.topics new.capacity new.kept held
+    → new.topics ≡ old.topics → new.capacity ≡ old.capacity → new.kept ≡ old.kept ++ record { event = e; outcome = o } ∷ [] → HasAnswered e o old new
+has_answered old new held e o were are keeps topics capacity kept =
     let one : Kept = record { event = e; outcome = o } in
-    let before = steps_of_net old in let step = step_of e (reading_at before e o) o in
+    let step = step_of e (reading_at old.steps e o) o in
     let turned : reverse new.kept ≡ one ∷ reverse old.kept = ap (λ (run : List Kept). reverse run) kept ∙ reverse-append old.kept (one ∷ []) in
-    let steps : steps_of_net new ≡ step ∷ before = ap steps_of turned in
-    let is = is_delivered new held keeps in
-    let run : IsCoreRun old.topics old.capacity (step ∷ before) =
+    let steps : new.steps ≡ step ∷ old.steps =
+    are ∙ (ap steps_of turned ∙ ap (λ (ss : List CoreStep). step_of e (reading_at ss e o) o ∷ ss) (sym were)) in
+    let is = is_delivered new held are keeps in
+    let run : IsCoreRun old.topics old.capacity (step ∷ old.steps) =
     subst (λ (ss : List CoreStep). IsCoreRun old.topics old.capacity ss) steps
-    (subst (λ (n : ℕ). IsCoreRun old.topics n (steps_of_net new)) capacity (subst (λ (t : TopicList). IsCoreRun t new.capacity (steps_of_net new)) topics is.is_run)) in
-    let many : length old.topics.clocks ≡ length old.topics.names = subst (λ (t : TopicList). length t.clocks ≡ length t.names) topics keeps.as_many in
-    let core : core_of_net new ≡ core_of old.topics old.capacity (step ∷ before) =
-    (λ i. core_of (topics i) (capacity i) (steps i)) in
-    subst (λ (k : Core). HasStepped (core_of_net old) k e o) (sym core) (steps_stepped old.topics old.capacity step before many run)
+    (subst (λ (n : ℕ). IsCoreRun old.topics n new.steps) capacity (subst (λ (t : TopicList). IsCoreRun t new.capacity new.steps) topics is.answered.is_run)) in
+    record { step = step; is_kept = refl; is_new = steps; may = run.0 }
 
 -- ---- a step
 
@@ -139,12 +143,17 @@ pub taken_none : (old new : KeptRun) → new ≡ record old { spare = new.spare 
 taken_none old new same = record {
   added = [];
   are_events = refl;
-  is_new = same ∙ ap (λ (kept : List Kept). record old { kept = kept; spare = new.spare }) (sym (append-nil old.kept));
+  is_new = same
+      ∙ (λ i. record old {
+        kept = sym (append-nil old.kept) i;
+        steps = ap (λ (net : KeptRun). net.steps) (sym same) i;
+        spare = new.spare;
+      });
 }
 
 -- one more was taken
 pub taken_more : (events : List Event) (old mid new : KeptRun) (e : Event) (o : Outcome) → HasTaken events old mid
-    → new ≡ record mid { kept = mid.kept ++ record { event = e; outcome = o } ∷ []; spare = mid.spare - 1 }
+    → new ≡ record mid { kept = mid.kept ++ record { event = e; outcome = o } ∷ []; steps = new.steps; spare = mid.spare - 1 }
     → HasTaken (events ++ e ∷ []) old new
 taken_more events old mid new e o taken is =
     let one : Kept = record { event = e; outcome = o } in
@@ -158,6 +167,7 @@ taken_more events old mid new e o taken is =
             topics = (taken.is_new i).topics;
             capacity = (taken.is_new i).capacity;
             kept = kept i;
+            steps = new.steps;
             spare = ap (λ (net : KeptRun). net.spare) (sym is) i;
           });
     }

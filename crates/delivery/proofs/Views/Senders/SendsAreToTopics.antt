@@ -37,7 +37,7 @@ use Rattle.delivery.specs.Machine.World.{World}
 use Rattle.delivery.specs.Machine.Moves.{is_topic, needs_idle}
 use Rattle.delivery.specs.Core.Steps.{CoreStep, Reading, frame_in, has_effect, accepted_of}
 use Rattle.delivery.specs.Core.State.{Core, core_of, session_at}
-use Rattle.delivery.specs.Core.Outcomes.{IsCoreRun, fault_outcomes, frame_fault, frame_no_memory, frame_outcome, outcomes, reading_outcomes, unless}
+use Rattle.delivery.specs.Core.Outcomes.{IsCoreRun, fault_outcomes, frame_fault, frame_no_memory, outcomes, reading_outcomes, unless, accepted_outcomes}
 use Rattle.delivery.specs.Inner.Stands.{IsReached}
 use Rattle.delivery.proofs.Core.AccountOfRun.{core_is, in_option, refusal_some}
 use Rattle.delivery.proofs.Core.Counts.{counted}
@@ -64,7 +64,7 @@ none_of None (Some b) x e = absurd (cc)
 none_of (Some a) b x e = absurd (cc)
 
 effect_free : (k : Core) (c : ℕ) (f : RawFrame) (o : Outcome) (x : Option ConnectionFault) → frame_fault k c f ≡ x
-    → In o (option_map_or fault_outcomes x (frame_outcome k c f ++ fault_outcomes frame_no_memory)) → has_effect o ≡ true
+    → In o (option_map_or fault_outcomes x (accepted_outcomes k c f)) → has_effect o ≡ true
     → session_fault (session_at k c) f ≡ None
 effect_free k c f o None e i h =
     none_of (case_fault f) (session_fault (session_at k c) f) (option_map (λ (why : Objection). frame_no_memory) (asked_objection k c f)) e

@@ -39,14 +39,14 @@ use Rattle.delivery.specs.Machine.Moves.{Move, move_refusal, move_answer, needs_
 use Rattle.delivery.specs.Machine.Runs.{run}
 use Rattle.delivery.specs.Core.Steps.{CoreStep, Reading, frame_in, has_effect, frame_from, accepted_of, has_id, begun_by, number_by}
 use Rattle.delivery.specs.Core.Output.{sub_id_text, is_cut}
-use Rattle.delivery.specs.Core.State.{Core, core_after, moves, frame_move, session_at, is_faulted, is_no_memory}
-use Rattle.delivery.specs.Core.Outcomes.{outcome_of, move_outcome, unless, frame_no_memory, frame_fault, fault_outcomes, frame_outcome, reading_outcomes, outcomes}
+use Rattle.delivery.specs.Core.State.{Core, core_after, moves, frame_move, session_at, is_faulted, is_no_memory, unread_at}
+use Rattle.delivery.specs.Core.Outcomes.{outcome_of, move_outcome, unless, frame_no_memory, frame_fault, fault_outcomes, frame_outcome, reading_outcomes, outcomes, accepted_outcomes, is_any, wants_memory}
 use Rattle.delivery.specs.Inner.Stands.{step_of}
 use Rattle.delivery.specs.Core.Connections.{live_numbers}
 use Rattle.delivery.proofs.Machine.InvariantIsKept.{checked, false_not}
 use Rattle.delivery.proofs.Machine.SenderSteps.{In-append_cases}
 use Rattle.delivery.proofs.Core.Speaking.{open_in}
-use Rattle.delivery.proofs.Core.AccountOfRun.{in_option, refusal_some, by_answer}
+use Rattle.delivery.proofs.Core.AccountOfRun.{in_option, refusal_some, by_answer, was_wanted}
 use Rattle.delivery.proofs.Views.Endpoints.EndpointsStay.{if_same}
 use Rattle.delivery.proofs.Views.Events.OneMove.{made_world, made_answer}
 use Rattle.delivery.proofs.Views.Subscriptions.ClosedIsDropped.{live_of_others, live_owned}
@@ -359,15 +359,16 @@ accepted_kind k d f left o free i (inr (inr e)) =
     }))
 
 found_kind : (k : Core) (d : ℕ) (f : RawFrame) (left : Unread) (o : Outcome) (why : Option ConnectionFault) → frame_fault k d f ≡ why
-    → In o (option_map_or fault_outcomes why (frame_outcome k d f ++ fault_outcomes frame_no_memory)) → NextKind k d (Reading.Finds f left) o
+    → In o (option_map_or fault_outcomes why (accepted_outcomes k d f)) → NextKind k d (Reading.Finds f left) o
 found_kind k d f left o (Some fault) e i = faulted_kind k d (Reading.Finds f left) fault o i
 found_kind k d f left o None e i = elim (In-append_cases o (frame_outcome k d f) _ i) [
   | inl j ↦ accepted_kind k d f left o (no_fault k d f e) j (kind f.command)
-  | inr j ↦ faulted_kind k d (Reading.Finds f left) frame_no_memory o j
+  | inr j ↦ faulted_kind k d (Reading.Finds f left) frame_no_memory o (was_wanted (wants_memory k d f) frame_no_memory o j)
 ]
 
 read_kind : (k : Core) (d : ℕ) (rd : Reading) (o : Outcome) → In o (reading_outcomes k d rd) → NextKind k d rd o
-read_kind k d Reading.Nothing o i = faulted_kind k d Reading.Nothing ConnectionFault.ReaderNoMemory o i
+read_kind k d Reading.Nothing o i =
+    faulted_kind k d Reading.Nothing ConnectionFault.ReaderNoMemory o (was_wanted (is_any (unread_at d k.steps).text) ConnectionFault.ReaderNoMemory o i)
 read_kind k d (Reading.Waits left) o (inl e) = subst (NextKind k d (Reading.Waits left)) e (refused_kind k d (Reading.Waits left) Refusal.NoFrame)
 read_kind k d (Reading.Waits left) o (inr i) = absurd i
 read_kind k d (Reading.Finds f left) o i = found_kind k d f left o (frame_fault k d f) refl i

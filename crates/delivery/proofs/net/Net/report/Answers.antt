@@ -1,4 +1,4 @@
-use Rattle.std.proofs.Common.{subst}
+use Rattle.std.proofs.Common.{refl, subst}
 use Rattle.delivery.specs.Nets.{KeptRun, IsDelivered}
 use Rattle.delivery.specs.Inner.ViewReports.{report_in}
 use Rattle.delivery.proofs.Views.Runs.KeptRuns.{is_delivered}
@@ -6,5 +6,7 @@ use Rattle.delivery.proofs.net.Net.report.Goals as goal
 
 pub returns : goal.returns
 returns c =
+    let is : IsDelivered c.args.self.now (report_in c.self.inside.state) =
     subst (λ (net : KeptRun). IsDelivered net (report_in c.self.inside.state)) c.self.view_is
-    (is_delivered _ c.self.inside.state c.self.invariant)
+    (is_delivered _ c.self.inside.state refl c.self.invariant) in
+    record { delivered = is.delivered; written = is.written; answered = is.answered }

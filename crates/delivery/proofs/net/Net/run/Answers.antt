@@ -3,6 +3,8 @@ use Rattle.std.specs.Vec.Iter.{into_iter_items}
 use Rattle.delivery.specs.declared.event.Event.{Event}
 use Rattle.delivery.specs.declared.kept.Kept.{Kept}
 use Rattle.delivery.specs.Nets.{KeptRun, HasTaken}
+use Rattle.delivery.specs.Inner.Readings.{steps_of}
+use Rattle.std.specs.Prelude.{reverse}
 use Rattle.delivery.proofs.Views.Runs.KeptRuns.{has_report, taken_none, taken_more}
 use Rattle.delivery.proofs.net.Net.run.Goals as goal
 
@@ -12,7 +14,7 @@ nothing_left (x ∷ xs) h = absurd (omega arith)
 
 pub returns-in_err-reserve-clause-delivered : goal.returns-in_err-reserve-clause-delivered
 returns-in_err-reserve-clause-delivered c =
-    has_report _ c.self.inside.state (rw c.in_err-reserve.ensures.items c.self.invariant)
+    has_report _ c.self.inside.state refl (rw c.in_err-reserve.ensures.items c.self.invariant)
 
 pub loop-event-init : goal.loop-event-init
 loop-event-init c =
@@ -27,11 +29,12 @@ loop-event-init c =
       topics = record { names = held.names; clocks = c.self.inside.clocks.items };
       capacity = held.capacity;
       kept = kept;
+      steps = steps_of (reverse kept);
       spare = spare;
     } in (
       items,
       taken_none c.args.self.now _ (ap new c.in_ok-reserve.ensures.items ∙ ap (λ (net : KeptRun). record net { spare = spare }) c.self.view_is),
-      has_report _ held (rw c.in_ok-reserve.ensures.items c.self.invariant),
+      has_report _ held refl (rw c.in_ok-reserve.ensures.items c.self.invariant),
       omega (arith, many, c.len.ensures, c.in_ok-reserve.ensures.ok, c.in_ok-reserve.ensures.len),
       omega (arith, was, c.in_ok-reserve.ensures.capacity, c.in_ok-reserve.ensures.len),
       c.into_iter-event-iterator.ensures.into_iter_gives.1 ∙ omega (arith, read, events.ok.0),

@@ -1,8 +1,10 @@
-use Rattle.std.proofs.Common.{◌≡◌, ℕ, ◌-◌, List, ◌∷◌, [], ◌++◌, ap, subst, ◌∙◌, arith, vec_len, vec_capacity}
-use Rattle.delivery.specs.Nets.{KeptRun, core_of_net}
-use Rattle.delivery.specs.Core.Stepped.{HasStepped}
-use Rattle.delivery.proofs.Views.Runs.KeptRuns.{has_report, has_stepped, step_kept, names_stay, capacity_stays}
+use Rattle.std.proofs.Common.{◌≡◌, refl, ℕ, ◌-◌, List, ◌∷◌, [], ◌++◌, ap, subst, ◌∙◌, arith, vec_len, vec_capacity}
+use Rattle.delivery.specs.Nets.{KeptRun, HasAnswered}
+use Rattle.delivery.specs.Inner.Readings.{steps_of}
+use Rattle.std.specs.Prelude.{reverse}
+use Rattle.delivery.proofs.Views.Runs.KeptRuns.{has_report, has_answered, step_kept, names_stay, capacity_stays}
 use Rattle.delivery.proofs.net.Net.step.Goals as goal
+use Rattle.delivery.proofs.Views.Runs.HeldByNet.{is_held}
 
 pub invariant_of-self : goal.invariant_of-self
 invariant_of-self c =
@@ -23,15 +25,17 @@ returns-clause-kept c =
       topics = record { names = names i; clocks = clocks };
       capacity = capacity i;
       kept = c.push_reserved.ensures.items i;
+      steps = steps_of (reverse c.push_reserved.new.self.items);
       spare = spare i;
     })
     ∙ ap (λ (net : KeptRun). record net {
       kept = net.kept ++ record { event = c.args.event; outcome = c.answer-outcome.result } ∷ [];
+      steps = steps_of (reverse c.push_reserved.new.self.items);
       spare = net.spare - 1;
     }) c.self.view_is
 
-pub returns-clause-stepped : goal.returns-clause-stepped
-returns-clause-stepped c =
+pub returns-clause-answered : goal.returns-clause-answered
+returns-clause-answered c =
     let clocks = c.self.inside.clocks.items in
     let held = c.self.inside.state in
     let new = c.answer-outcome.new.self in
@@ -42,16 +46,18 @@ returns-clause-stepped c =
       topics = record { names = held.names; clocks = clocks };
       capacity = held.capacity;
       kept = kept;
+      steps = steps_of (reverse kept);
       spare = vec_capacity c.self.inside.kept - vec_len c.self.inside.kept;
     } in
     let later : KeptRun = record {
       topics = record { names = new.names; clocks = clocks };
       capacity = new.capacity;
       kept = c.push_reserved.new.self.items;
+      steps = steps_of (reverse c.push_reserved.new.self.items);
       spare = vec_capacity c.push_reserved.new.self - vec_len c.push_reserved.new.self;
     } in
-    subst (λ (net : KeptRun). HasStepped (core_of_net net) (core_of_net later) c.args.event c.answer-outcome.result) c.self.view_is
-    (has_stepped old later new c.args.event c.answer-outcome.result
+    subst (λ (net : KeptRun). HasAnswered c.args.event c.answer-outcome.result net later) c.self.view_is
+    (has_answered old later new c.args.event c.answer-outcome.result refl refl
     (rw c.push_reserved.ensures.items
     (step_kept clocks kept held new c.args.event c.answer-outcome.result c.self.invariant c.answer-outcome.ensures))
     (ap (λ (n : List (List ℕ)). record { names = n; clocks = clocks }) names) capacity c.push_reserved.ensures.items)
@@ -59,6 +65,10 @@ returns-clause-stepped c =
 pub returns-clause-delivered : goal.returns-clause-delivered
 returns-clause-delivered c =
     let new = c.answer-outcome.new.self in
-    has_report _ new (rw c.push_reserved.ensures.items
+    has_report _ new refl (rw c.push_reserved.ensures.items
     (step_kept c.self.inside.clocks.items c.self.inside.kept.items c.self.inside.state new
     c.args.event c.answer-outcome.result c.self.invariant c.answer-outcome.ensures))
+
+pub answer-outcome-requires : goal.answer-outcome-requires
+answer-outcome-requires c = is_held (record { names = c.self.inside.state.names; clocks = c.self.inside.clocks.items }) c.self.inside.state.capacity
+    c.self.inside.kept.items c.self.inside.state c.self.invariant

@@ -1,4 +1,4 @@
-use Rattle.std.proofs.Common.{subst, sym}
+use Rattle.std.proofs.Common.{[], refl, subst, sym}
 use Rattle.std.proofs.lemmas.Result.{IfOk-weaker}
 use Rattle.trace_audit.specs.Trace.{TraceData}
 use Rattle.delivery.specs.Nets.{KeptRun}
@@ -10,17 +10,17 @@ use Rattle.delivery.proofs.net.Net.trace.Goals as goal
 pub trace-requires-clause-few : goal.trace-requires-clause-few
 trace-requires-clause-few c =
     let held = c.self.inside.state in
-    let net : KeptRun = record { topics = record { names = held.names; clocks = c.self.inside.clocks.items }; capacity = held.capacity; kept = c.self.inside.kept.items; spare = 0 } in
+    let net : KeptRun = record { topics = record { names = held.names; clocks = c.self.inside.clocks.items }; capacity = held.capacity; kept = c.self.inside.kept.items; steps = []; spare = 0 } in
     held_few net held c.self.invariant
 
 pub trace-requires-clause-fit : goal.trace-requires-clause-fit
 trace-requires-clause-fit c =
     let held = c.self.inside.state in
-    let net : KeptRun = record { topics = record { names = held.names; clocks = c.self.inside.clocks.items }; capacity = held.capacity; kept = c.self.inside.kept.items; spare = 0 } in
+    let net : KeptRun = record { topics = record { names = held.names; clocks = c.self.inside.clocks.items }; capacity = held.capacity; kept = c.self.inside.kept.items; steps = []; spare = 0 } in
     held_fits net held c.self.invariant
 
 pub returns : goal.returns
 returns c =
     IfOk-weaker c.trace.result _ _ (λ trace is.
     subst (λ (z : TraceData). IsTraced c.args.self.now z) (sym is)
-    (subst (λ (net : KeptRun). IsTraced net (trace_of (report_in c.self.inside.state))) c.self.view_is (held_traced _ c.self.inside.state c.self.invariant))) c.trace.ensures
+    (subst (λ (net : KeptRun). IsTraced net (trace_of (report_in c.self.inside.state))) c.self.view_is (held_traced _ c.self.inside.state refl c.self.invariant))) c.trace.ensures

@@ -7,12 +7,14 @@ use Rattle.delivery.specs.Inner.Nexts.{Asks, receipt_text, shortened_endpoint}
 use Rattle.delivery.specs.Inner.View.{View, no_endpoint, written_endpoint}
 use Rattle.delivery.proofs.Views.Endpoints.EndpointChanges.{changed_length, taken_back}
 use Rattle.delivery.proofs.Views.Events.NextSubs.{next_subscribes}
+use Rattle.delivery.proofs.Views.Events.WantsMemory.{subscribe_wants}
 use Rattle.delivery.proofs.net_state.NetState.start_subscription.Goals as goal
 
 pub returns-in_default : goal.returns-in_default
 returns-in_default c k f left asks =
     let action = actions.Subscribe c.args.id c.args.topic in
     c.lack.ensures k f left action (subst (λ (v : View). Asks k c.args.connection f left action c.args.receipt.now v) (sym c.in_default.ensures.err) asks)
+    (subscribe_wants k c.args.connection f left c.args.id c.args.topic c.args.receipt.now c.args.self.now asks)
 
 pub subscribe-requires : goal.subscribe-requires
 subscribe-requires c =
@@ -50,3 +52,4 @@ returns-in-Err c k f left asks =
     let back = taken_back c.args.self.now c.write_receipt.new.self c.subscribe.new.self c.take_back.new.self c.args.connection c.written-len.result (receipt_text c.args.receipt.now) wrote no_endpoint
     c.requires (c.written-len.ensures no_endpoint) refl (c.in-Ok.ensures.ok, tt) c.in-Err.ensures.err (c.take_back.ensures no_endpoint) in
     c.lack-in-Err.ensures k f left action (subst (λ (v : View). Asks k c.args.connection f left action c.args.receipt.now v) (sym back) asks)
+    (subscribe_wants k c.args.connection f left c.args.id c.args.topic c.args.receipt.now c.args.self.now asks)

@@ -3,6 +3,7 @@ use Rattle.stomp_session.specs.declared.action.Action.TheVariants as actions
 use Rattle.delivery.specs.Inner.Nexts.{Asks}
 use Rattle.delivery.specs.Inner.View.{View}
 use Rattle.delivery.proofs.Views.Events.NextTxns.{next_commits}
+use Rattle.delivery.proofs.Views.Events.WantsMemory.{commit_wants}
 use Rattle.delivery.proofs.net_state.NetState.start_txn.Goals as goal
 
 pub returns-in-Ok : goal.returns-in-Ok
@@ -14,3 +15,4 @@ pub returns-in-Err : goal.returns-in-Err
 returns-in-Err c k f left asks =
     let action = actions.Commit c.args.txn in
     c.lack.ensures k f left action (subst (λ (v : View). Asks k c.args.connection f left action c.args.receipt v) (sym c.in-Err.ensures.err) asks)
+    (commit_wants k c.args.connection f left c.args.txn c.args.receipt c.args.self.now asks)

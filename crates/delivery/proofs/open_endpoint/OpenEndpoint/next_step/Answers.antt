@@ -1,5 +1,9 @@
-use Rattle.delivery.proofs.Views.Endpoints.OutcomeOfReading.{judged_waits, judged_takes, judged_refuses, judged_fails}
+use Rattle.std.proofs.Common.{refl}
+use Rattle.delivery.proofs.Views.Endpoints.OutcomeOfReading.{judged_idle, judged_waits, judged_takes, judged_refuses, judged_fails, some_unread}
 use Rattle.delivery.proofs.open_endpoint.OpenEndpoint.next_step.Goals as goal
+
+pub returns-then-clean : goal.returns-then-clean
+returns-then-clean c accepted stands unanswered = judged_idle accepted c.args.self.now (c.if-clean.ensures.0 refl)
 
 pub returns-in-Ok-None : goal.returns-in-Ok-None
 returns-in-Ok-None c accepted stands unanswered =
@@ -21,4 +25,5 @@ returns-in-Err-accept c accepted stands unanswered =
 pub returns-in-Err : goal.returns-in-Err
 returns-in-Err c accepted stands unanswered =
     judged_fails accepted c.args.self.now (record c.args.self.now { reader = c.next.new.self }) c.next.new.self c.in-Err.fault c.in-Err.ensures.answer unanswered
+    (some_unread c.args.self.now.reader.text c.if-clean.ensures.1)
     c.reader_fault.result c.reader_fault.ensures

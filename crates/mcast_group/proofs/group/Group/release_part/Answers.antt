@@ -55,7 +55,8 @@ pub give_all-requires-clause-many : goal.give_all-requires-clause-many
 give_all-requires-clause-many g c =
     let s = c.self.inside in
     let within : c.in_ok-index.index < length s.pending = c.in_ok-index.ensures.0 in
-    (copies_at (length s.subscriptions) s.pending s.copies.items c.in_ok-index.index c.remove-part.result c.take_at-copies.result c.self.invariant.copied within c.remove-part.ensures.value c.take_at-copies.ensures.value).0
+    let copies = (copies_at (length s.subscriptions) s.pending s.copies.items c.in_ok-index.index c.remove-part.result c.take_at-copies.result c.self.invariant.copied within c.remove-part.ensures.value c.take_at-copies.ensures.value).0 in
+    omega arith
 
 -- the part that was taken out was due
 due : (g : given.Over) (c : goal.After-drop-copies-inside g) → due_part (topic_state c.self.inside.topic c.self.inside.clock c.self.inside.log_limit c.self.inside.pending c.self.inside.base c.self.inside.rows.items c.self.inside.frontier (map (entry_of g.Q.Outlet.shown) c.self.inside.subscriptions)) ≡ Some c.remove-part.result

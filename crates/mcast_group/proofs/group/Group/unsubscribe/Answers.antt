@@ -1,5 +1,6 @@
-use Rattle.std.proofs.Common.{◌≡◌, ◌==◌, not, get_or, List, map, Some, refl, sym, ap, subst, ◌∙◌}
-use Rattle.std.specs.List.{filter}
+use Rattle.std.proofs.Common.{◌≡◌, ◌==◌, not, get_or, List, map, take, length, Some, refl, sym, ap, subst, ◌∙◌}
+use Rattle.std.specs.List.{filter, remove}
+use Rattle.mcast_txn.specs.Transaction.{TopicPart}
 use Rattle.sub_queue.specs.Shown.{Room}
 use Rattle.mcast_group.specs.declared.subscription.Subscription.{Subscription}
 use Rattle.mcast_group.specs.Group.{GroupState, HasLeft, topic_state, group_after_unsubscribe}
@@ -28,7 +29,12 @@ invariant_of-self g c =
     let ends = ends_found shown c.args.number subs c.in-Some.index c.remove-sub.result (sym at ∙ c.in-Some.is) in
     let es : map (entry_of shown) c.remove-sub.new.self ≡ filter (λ (e : Entry). not (e.number == c.args.number)) (map (entry_of shown) subs) = ap (map (entry_of shown)) c.remove-sub.ensures.items ∙ sym (ends.1.left (numbers_differ _ c.self.invariant.sound.numbers)) in
     let kept = kept_unsubscribed shown g.Q.Outlet.spare x _ s.rows.capacity s.copies.items subs c.args.number c.in-Some.index c.self.invariant (ap (λ (zs : List Entry). topic_state s.topic s.clock s.log_limit s.pending s.base s.rows.items s.frontier zs) es) ends.0 in
-    subst (λ (zs : List (Subscription g.row.Q.Denot)). IsKept g.Q.Outlet.spare (topic_state s.topic s.clock s.log_limit s.pending s.base s.rows.items s.frontier (map (entry_of shown) c.remove-sub.new.self)) s.rows.capacity s.copies.items zs) (sym c.remove-sub.ensures.items) kept
+    let left = remove subs c.in-Some.index in
+    let many : c.len.result ≡ length left = c.len.ensures ∙ ap (λ (zs : List (Subscription g.row.Q.Denot)). length zs) c.remove-sub.ensures.items in
+    let cut : c.keep_in_each.new.copies.items ≡ map (take (length left)) s.copies.items = c.keep_in_each.ensures ∙ ap (λ k. map (take k) s.copies.items) many in
+    let y = topic_state s.topic s.clock s.log_limit s.pending s.base s.rows.items s.frontier (map (entry_of shown) c.remove-sub.new.self) in
+    subst (λ (zs : List (Subscription g.row.Q.Denot)). IsKept g.Q.Outlet.spare y s.rows.capacity c.keep_in_each.new.copies.items zs) (sym c.remove-sub.ensures.items)
+    (subst (λ (cs : List (List TopicPart)). IsKept g.Q.Outlet.spare y s.rows.capacity cs left) (sym cut) kept)
 
 pub returns-clause-left : goal.returns-clause-left
 returns-clause-left g c =

@@ -38,3 +38,15 @@ returns-clause-ok c =
     let room : c.loop-self.self.capacity ≡ 256 * length s.segments.items = ap (λ (z : LogState). z.capacity) (sym c.self.view_is) in
     let enough : c.args.more ≤ c.len.result * 256 - s.len = c.loop-self-test.false in
     omega arith
+
+pub returns-in_err-add_segment-clause-enough : goal.returns-in_err-add_segment-clause-enough
+returns-in_err-add_segment-clause-enough c = λ room.
+    let s = c.self.inside in
+    let l : s.segments.len ≡ length s.segments.items = s.segments.ok.0 in
+    let is : c.len.result ≡ s.segments.len = c.len.ensures in
+    let many : length c.loop-self.self.items ≡ s.len = ap (λ (z : LogState). length z.items) (sym c.self.view_is) ∙ rows_many 256 s.len s.segments.items c.self.invariant.0 in
+    let has : c.loop-self.self.capacity ≡ 256 * length s.segments.items = ap (λ (z : LogState). z.capacity) (sym c.self.view_is) in
+    let lacks : c.len.result * 256 - s.len < c.args.more = c.loop-self-test.true in
+    let same = ap (λ (z : List LogRow). length z) c.loop-self.invariant.0 in
+    let grown = c.loop-self.invariant.1 in
+    absurd (omega arith)

@@ -16,7 +16,7 @@ put_greatest-requires c = λ k stands.
     let keys = c.self.inside.keys in
     let are : AreKeysOf keys now = subst (AreKeysOf keys) c.self.view_is c.self.invariant in
     let p = c.args.part in
-    let keyed : c.keyed-keyed.result ≡ keyed_of p = c.keyed-keyed.ensures in
+    let keyed : c.keyed-keyed.result ≡ keyed_of p = c.keyed-keyed.ensures ∙ ap keyed_of c.part-2.ensures in
     let h = are.only k stands in
     let above : stamp_lt (key h.part) (key p) ≡ true = c.requires.above h.part h.stands in
     subst (λ (z : Stamp). stamp_lt z c.keyed-keyed.result.key ≡ true) (ap (λ (z : Keyed). z.key) h.is) (subst (λ (z : Keyed). stamp_lt (key h.part) z.key ≡ true) (sym keyed) above)
@@ -27,10 +27,10 @@ invariant_of-self-in-Ok c =
     let keys = c.self.inside.keys in
     let are : AreKeysOf keys now = subst (AreKeysOf keys) c.self.view_is c.self.invariant in
     let p = c.args.part in
-    let keyed : c.keyed-keyed.result ≡ keyed_of p = c.keyed-keyed.ensures in
+    let keyed : c.keyed-keyed.result ≡ keyed_of p = c.keyed-keyed.ensures ∙ ap keyed_of c.part-2.ensures in
     let i = c.index_for-index.result in
     let index = subst (λ (z : TxnId). IsIndexPast (λ (q : Pending). id_lt q.part.id z) now i) c.id.ensures c.index_for-index.ensures.index in
-    let is : c.insert.new.self.items ≡ insert_pending p now = c.in-Ok.ensures.items ∙ (ap (λ (z : Pending). insert c.self.inside.parts.items i z) c.in_ok-boxed.ensures ∙ (ap (λ (zs : List Pending). insert zs i p) c.self.view_is ∙ put_at_index p now i index c.requires.free)) in
+    let is : c.insert.new.self.items ≡ insert_pending p now = c.in-Ok.ensures.items ∙ (ap (λ (zs : List Pending). insert zs i p) c.self.view_is ∙ put_at_index p now i index c.requires.free) in
     subst (λ (zs : List Pending). AreKeysOf c.put_greatest.new.self zs) (sym is)
     (subst (λ (ks : List Keyed). AreKeysOf ks (insert_pending p now)) (sym (c.in_ok-put_greatest.ensures.ok ∙ ap (λ (z : Keyed). z ∷ keys) keyed)) (keys_put p keys now are c.requires.free c.requires.above))
 
@@ -40,8 +40,8 @@ returns-clause-ok c =
     let keys = c.self.inside.keys in
     let are : AreKeysOf keys now = subst (AreKeysOf keys) c.self.view_is c.self.invariant in
     let p = c.args.part in
-    let keyed : c.keyed-keyed.result ≡ keyed_of p = c.keyed-keyed.ensures in
+    let keyed : c.keyed-keyed.result ≡ keyed_of p = c.keyed-keyed.ensures ∙ ap keyed_of c.part-2.ensures in
     let i = c.index_for-index.result in
     let index = subst (λ (z : TxnId). IsIndexPast (λ (q : Pending). id_lt q.part.id z) now i) c.id.ensures c.index_for-index.ensures.index in
-    let is : c.insert.new.self.items ≡ insert_pending p now = c.in-Ok.ensures.items ∙ (ap (λ (z : Pending). insert c.self.inside.parts.items i z) c.in_ok-boxed.ensures ∙ (ap (λ (zs : List Pending). insert zs i p) c.self.view_is ∙ put_at_index p now i index c.requires.free)) in
+    let is : c.insert.new.self.items ≡ insert_pending p now = c.in-Ok.ensures.items ∙ (ap (λ (zs : List Pending). insert zs i p) c.self.view_is ∙ put_at_index p now i index c.requires.free) in
     is

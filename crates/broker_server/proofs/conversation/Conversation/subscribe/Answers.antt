@@ -1,0 +1,49 @@
+use Rattle.std.proofs.Common.{List, [], ◌∷◌, ◌++◌, false, Ok, Err, refl, ap, ◌∙◌, inl, inr}
+use Rattle.broker_server.specs.BrokerRows.{Subscribes}
+use Rattle.broker_server.specs.Conversations.{ConversationState, OpenSubState}
+use Rattle.broker_server.proofs.ConversationLemmas.{asks_one}
+use Rattle.broker_server.proofs.conversation.Conversation.subscribe.Goals as goal
+
+pub returns-in-Ok : goal.returns-in-Ok
+returns-in-Ok g c =
+    let called = g.C.BrokerCalls.called in
+    let name = g.C.BrokerCalls.name c.in-Ok.sub in
+    let row = Subscribes c.args.topic (Ok name) in
+    let sub : OpenSubState = record { id = c.args.id; sub = name; lagged = false } in
+    let held = c.self.inside in
+    let with : List OpenSubState → ConversationState = λ subs. record {
+      reader = held.reader;
+      session = held.session;
+      gate = held.gate;
+      subs = subs;
+      wire = held.wire;
+      exit = held.exit;
+    } in (
+      row ∷ [],
+      asks_one called c.args.calls.now c.subscribe.new.self row c.in-Ok.ensures.begun,
+      inl (
+        name,
+        refl,
+        refl,
+        ap with (c.push_reserved.ensures.items ∙ ap (λ (subs : List OpenSubState). subs ++ sub ∷ []) c.reserve.ensures.items)
+            ∙ ap (λ (s : ConversationState). record s { subs = s.subs ++ sub ∷ [] }) c.self.view_is,
+      ),
+    )
+
+pub returns-in-Err : goal.returns-in-Err
+returns-in-Err g c =
+    let called = g.C.BrokerCalls.called in
+    let row = Subscribes c.args.topic (Err c.in-Err.fault) in
+    let held = c.self.inside in
+    let with : List OpenSubState → ConversationState = λ subs. record {
+      reader = held.reader;
+      session = held.session;
+      gate = held.gate;
+      subs = subs;
+      wire = held.wire;
+      exit = held.exit;
+    } in (
+      row ∷ [],
+      asks_one called c.args.calls.now c.subscribe.new.self row c.in-Err.ensures.refused,
+      inr (inl (c.in-Err.fault, refl, refl, ap with c.reserve.ensures.items ∙ c.self.view_is)),
+    )

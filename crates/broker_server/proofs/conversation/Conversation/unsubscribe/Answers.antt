@@ -1,0 +1,49 @@
+use Rattle.std.proofs.Common.{ℕ, suc, ◌+◌, ◌<◌, ◌≡◌, rules, List, [], ◌∷◌, ◌++◌, length, take, drop, refl, sym, ap, subst, ◌∙◌, arith, inl, inr}
+use Rattle.std.specs.Prelude.{get_or}
+use Rattle.std.proofs.Math.Seq.{split_at}
+use Rattle.broker_server.specs.BrokerRows.{SubName, Unsubscribes}
+use Rattle.broker_server.specs.Conversations.{ConversationState, OpenSubState}
+use Rattle.broker_server.proofs.ConversationLemmas.{asks_one}
+use Rattle.broker_server.proofs.conversation.Conversation.unsubscribe.Goals as goal
+
+pub returns-in_default : goal.returns-in_default
+returns-in_default g c = ([], refl, (refl, inr (refl, refl)))
+
+pub returns : goal.returns
+returns g c =
+    let called = g.C.BrokerCalls.called in
+    let held = c.self.inside in
+    let subs = held.subs.items in
+    let i = c.in-Some.place in
+    let it = c.remove-open.result in
+    let front = take i subs in
+    let back = drop (i + 1) subs in
+    let name = ap (λ (o : OpenSubState). o.sub) c.open.view_is in
+    let one = subst (λ (n : SubName). called c.args.calls.now (Unsubscribes n) c.unsubscribe.new.self) name c.unsubscribe.ensures in
+    let there : i < length subs = search rules in
+    let next : suc i ≡ i + 1 = omega arith in
+    let cut : subs ≡ front ++ it ∷ back = split_at subs i it there
+    ∙ ap (λ (n : ℕ). front ++ get_or subs i it ∷ drop n subs) next
+    ∙ ap (λ (o : OpenSubState). front ++ o ∷ back) (sym c.remove-open.ensures.value) in
+    let with : List OpenSubState → ConversationState = λ xs. record {
+      reader = held.reader;
+      session = held.session;
+      gate = held.gate;
+      subs = xs;
+      wire = held.wire;
+      exit = held.exit;
+    } in (
+      Unsubscribes it.sub ∷ [],
+      asks_one called c.args.calls.now c.unsubscribe.new.self (Unsubscribes it.sub) one,
+      (
+        refl,
+        inl (
+          front,
+          back,
+          it,
+          sym (ap (λ (s : ConversationState). s.subs) c.self.view_is) ∙ cut,
+          refl,
+          ap with c.remove-open.ensures.by_index.2 ∙ ap (λ (s : ConversationState). record s { subs = front ++ back }) c.self.view_is,
+        ),
+      ),
+    )

@@ -1,0 +1,37 @@
+-- What a connection asks of the broker, as a list of rows: each call with its answer.
+use Rattle.std.specs.Prelude.{◌≡◌, ℕ, Bool, List, [], ◌∷◌, Option, Result}
+use Rattle.mcast_group.specs.declared.fault.SubFault.{SubFault}
+use Rattle.mcast_txn.specs.declared.id.Topic.{Topic}
+use Rattle.mcast_txn.specs.Span.{Item}
+use Rattle.sender_gate.specs.declared.fault.ClaimFault.{ClaimFault}
+use Rattle.sender_gate.specs.Gate.{FlightState, GateState}
+use Rattle.broker_locks.specs.declared.fault.CommitFault.{CommitFault}
+
+-- which subscription of the broker: its topic, and its number there
+pub record SubName : Type 0 where
+  pub topic : Topic
+  pub number : ℕ
+
+-- A call of the broker, with what it answered. So `Claims None (Ok gate)` is a CONNECT without client-id that got
+-- the gate of a new sender.
+pub data BrokerRow : Type 0 where
+  -- the sender of this client-id, or a new one where there is none, was claimed
+  Claims : Option (List ℕ) → Result GateState ClaimFault → BrokerRow
+  -- the gate was given back
+  GivesBack : GateState → BrokerRow
+  -- a subscription was to begin at the topic
+  Subscribes : Topic → Result SubName SubFault → BrokerRow
+  -- the subscription was ended
+  Unsubscribes : SubName → BrokerRow
+  -- whether the subscription has lagged was asked
+  AsksLag : SubName → Bool → BrokerRow
+  -- the next item of the subscription's queue was asked for
+  Takes : SubName → Option Item → BrokerRow
+  -- the flight was to be committed; the gate comes back, also where it was refused
+  Commits : FlightState → Result GateState (GateState × CommitFault) → BrokerRow
+
+-- These calls, in order, made the new broker of the old one; `called` is what one call makes of it. So by no call
+-- it stays as it is.
+abbrev pub Asks : {B : Type 0} → (B → BrokerRow → B → Type 0) → B → List BrokerRow → B → Type 0
+Asks called old [] new = new ≡ old
+Asks {B} called old (row ∷ rows) new = (between : B) × called old row between × Asks called between rows new

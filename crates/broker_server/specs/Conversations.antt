@@ -1,0 +1,187 @@
+-- What one connection of the server does.
+use Rattle.std.specs.Prelude.{◌≡◌, ◌⊎◌, ℕ, Bool, true, false, List, [], ◌∷◌, ◌++◌, map, codes, Option, Some, None, IsSome, Result, Ok, Err, if◌then◌else◌}
+use Rattle.std.specs.List.{flat_map}
+use Rattle.std.specs.Option.{option_map_or}
+use Rattle.mcast_group.specs.declared.fault.SubFault.{SubFault}
+use Rattle.mcast_txn.specs.declared.id.Topic.{Topic}
+use Rattle.mcast_txn.specs.declared.draft.sent_message.SentMessage.{SentMessage}
+use Rattle.sender_gate.specs.declared.fault.ClaimFault.{ClaimFault}
+use Rattle.sender_gate.specs.Gate.{GateState, begin_fault, flight_of}
+use Rattle.broker_locks.specs.declared.fault.CommitFault.{CommitFault}
+use Rattle.stomp_frame.specs.declared.raw_frame.RawFrame.{RawFrame}
+use Rattle.stomp_frame.specs.Cases.{is_connect}
+use Rattle.stomp_frame.specs.Headers.{first_of}
+use Rattle.stomp_frame.specs.Reader.{Unread}
+use Rattle.stomp_frame.specs.ServerFrames.{connected_frame, receipt_frame}
+use Rattle.stomp_frame.specs.Writing.{spelling_of}
+use Rattle.stomp_session.specs.declared.action.Action.{Action}
+use Rattle.stomp_session.specs.declared.action.Action.TheVariants as actions
+use Rattle.stomp_session.specs.declared.action.Step.{Step}
+use Rattle.stomp_session.specs.Open.{Held, after_close}
+use Rattle.broker_server.specs.declared.conversation.conversation_fault.ConversationFault.{ConversationFault}
+use Rattle.broker_server.specs.declared.conversation.conversation_fault.ConversationFault.TheVariants as fault
+use Rattle.broker_server.specs.declared.conversation.exit.Exit.{Exit}
+use Rattle.broker_server.specs.declared.conversation.exit.Exit.TheVariants as exit
+use Rattle.broker_server.specs.BrokerRows.{BrokerRow, SubName, Claims, GivesBack, Subscribes, Unsubscribes, Commits}
+use Rattle.broker_server.specs.ConversationFaults.{told_error}
+
+-- an open subscription of a connection: the id that its SUBSCRIBE gave it, which one of the broker it is, and
+-- whether the broker said that it has lagged
+pub record OpenSubState : Type 0 where
+  pub id : List ℕ
+  pub sub : SubName
+  pub lagged : Bool
+
+-- a connection: what came and isn't read yet, its session, its sender's gate, its open subscriptions, the octets
+-- that wait to be written to it, and why it leaves, once it does
+pub record ConversationState : Type 0 where
+  pub reader : Unread
+  pub session : Held
+  pub gate : Option GateState
+  pub subs : List OpenSubState
+  pub wire : List ℕ
+  pub exit : Option Exit
+
+-- ---- what is written
+
+-- the frames are written behind what waits, and nothing else changes
+abbrev pub Writes : List RawFrame → ConversationState → ConversationState → Type 0
+Writes frames old new = new ≡ record old { wire = old.wire ++ flat_map spelling_of frames }
+
+-- The answer to a frame that was accepted: CONNECTED to a CONNECT, and to others the RECEIPT that they ask for.
+abbrev pub replies : Bool → Option (List ℕ) → List RawFrame
+replies true receipt = connected_frame ∷ []
+replies false receipt = option_map_or (λ id. receipt_frame id ∷ []) receipt []
+
+-- ---- leaving
+
+-- its gate is given back, if it has one
+abbrev pub gate_rows : Option GateState → List BrokerRow
+gate_rows None = []
+gate_rows (Some gate) = GivesBack gate ∷ []
+
+-- what it asks of the broker as it leaves: each subscription is ended, and then its gate is given back
+abbrev pub closing_rows : ConversationState → List BrokerRow
+closing_rows c = map (λ o. Unsubscribes o.sub) c.subs ++ gate_rows c.gate
+
+-- as it is then: it holds nothing of the broker, and its session is closed
+abbrev pub closed : Exit → ConversationState → ConversationState
+closed why c = record c { session = after_close c.session; gate = None; subs = []; exit = Some why }
+
+-- It leaves by this fault: the ERROR is the last that is written, or is left out for want of memory.
+abbrev pub Fails : ConversationFault → Option (List ℕ) → ConversationState → ConversationState → Type 0
+Fails why receipt old new =
+    Writes (told_error why receipt ∷ []) (closed (exit.Error why) old) new ⊎ (new ≡ closed (exit.Error why) old)
+
+-- ---- what a frame asks for
+
+-- how an action went
+abbrev pub Done : Type 0
+Done = Result (Unit {0}) ConversationFault
+
+-- nothing was asked of the broker, and nothing changed, since there was no memory
+abbrev pub LacksMemory : ConversationState → List BrokerRow → Done → ConversationState → Type 0
+LacksMemory old asked result new = (asked ≡ []) × (result ≡ Err fault.NoMemory) × (new ≡ old)
+
+-- A CONNECT claims the sender of its client-id, or a new one. Without memory for the client-id it is refused.
+abbrev pub Connects
+    : Result (Option (List ℕ)) ConversationFault → ConversationState → List BrokerRow → Done → ConversationState → Type 0
+Connects (Err why) old asked result new = (asked ≡ []) × (result ≡ Err why) × (new ≡ old)
+Connects (Ok client) old asked result new =
+    ((gate : GateState) × (asked ≡ Claims client (Ok gate) ∷ []) × (result ≡ Ok tt)
+    × (new ≡ record old { gate = Some gate }))
+    ⊎ ((why : ClaimFault) × (asked ≡ Claims client (Err why) ∷ []) × (result ≡ Err (fault.Claim why)) × (new ≡ old))
+
+-- A SUBSCRIBE begins a subscription, which is then the last that is open.
+abbrev pub Begins
+    : List ℕ → Topic → ConversationState → List BrokerRow → Done → ConversationState → Type 0
+Begins id topic old asked result new =
+    ((sub : SubName) × (asked ≡ Subscribes topic (Ok sub) ∷ []) × (result ≡ Ok tt)
+    × (new ≡ record old { subs = old.subs ++ (record { id = id; sub = sub; lagged = false }) ∷ [] }))
+    ⊎ ((why : SubFault) × (asked ≡ Subscribes topic (Err why) ∷ []) × (result ≡ Err (fault.Subscribe why))
+    × (new ≡ old))
+    ⊎ LacksMemory old asked result new
+
+-- An UNSUBSCRIBE ends one subscription that is open, or asks nothing where none has its id. That the one it ends has its
+-- id, and that the other case never comes, since the session refuses such a frame, isn't said here.
+abbrev pub Ends : ConversationState → List BrokerRow → Done → ConversationState → Type 0
+Ends old asked result new =
+    (result ≡ Ok tt)
+    × (((front : List OpenSubState) × (back : List OpenSubState) × (o : OpenSubState)
+    × (old.subs ≡ front ++ o ∷ back) × (asked ≡ Unsubscribes o.sub ∷ [])
+    × (new ≡ record old { subs = front ++ back }))
+    ⊎ ((asked ≡ []) × (new ≡ old)))
+
+-- A transaction is begun by the connection's gate, and committed; the gate comes back in each case.
+abbrev pub CommitsBy
+    : GateState → List SentMessage → List BrokerRow → Done → GateState → Type 0
+CommitsBy gate sends asked result left =
+    ((asked ≡ []) × (result ≡ Err (fault.Begin (begin_fault gate))) × (left ≡ gate))
+    ⊎ ((asked ≡ Commits (flight_of gate sends) (Ok left) ∷ []) × (result ≡ Ok tt))
+    ⊎ ((why : CommitFault) × (asked ≡ Commits (flight_of gate sends) (Err (left, why)) ∷ [])
+    × (result ≡ Err (fault.Commit why)))
+
+-- So of a connection that has a gate. That one without never comes so far, since its session takes no frame before
+-- its CONNECT, isn't said here.
+abbrev pub Sends
+    : List SentMessage → ConversationState → List BrokerRow → Done → ConversationState → Type 0
+Sends sends old asked result new =
+    ((gate left : GateState) × (old.gate ≡ Some gate) × CommitsBy gate sends asked result left
+    × (new ≡ record old { gate = Some left }))
+    ⊎ ((old.gate ≡ None) × LacksMemory old asked result new)
+
+-- What an accepted frame's action does. A DISCONNECT ends what is open at once.
+abbrev pub Performs
+    : Action → Result (Option (List ℕ)) ConversationFault → ConversationState → List BrokerRow → Done → ConversationState
+    → Type 0
+Performs actions.Connected client old asked result new = Connects client old asked result new
+Performs actions.Nothing client old asked result new = (asked ≡ []) × (result ≡ Ok tt) × (new ≡ old)
+Performs (actions.Subscribe id topic) client old asked result new = Begins id topic old asked result new
+Performs (actions.Unsubscribe id) client old asked result new = Ends old asked result new
+Performs (actions.Commit sends) client old asked result new = Sends sends old asked result new
+Performs actions.Disconnect client old asked result new =
+    (asked ≡ closing_rows old) × (result ≡ Ok tt) × (new ≡ closed exit.Disconnect old)
+
+-- ---- frames
+
+-- whether it is the action of a CONNECT
+abbrev pub is_connected : Action → Bool
+is_connected actions.Connected = true
+is_connected _ = false
+
+-- What follows an action that went well: the frames that answer it are written. Where there is no memory for them,
+-- a connection that is open yet leaves by that; of one that has left already they are left out.
+abbrev pub Answers : List RawFrame → ConversationState → List BrokerRow → ConversationState → Type 0
+Answers frames old asked new =
+    ((asked ≡ []) × Writes frames old new)
+    ⊎ ((asked ≡ closing_rows old) × (old.exit ≡ None) × Fails fault.NoReply None old new)
+    ⊎ ((asked ≡ []) × IsSome old.exit × (new ≡ old))
+
+-- What follows an action: its answer, or the connection leaves by its fault, with the receipt that was asked for.
+abbrev pub Concludes
+    : Done → List RawFrame → Option (List ℕ) → ConversationState → List BrokerRow → ConversationState → Type 0
+Concludes (Ok u) frames receipt old asked new = Answers frames old asked new
+Concludes (Err why) frames receipt old asked new = (asked ≡ closing_rows old) × Fails why receipt old new
+
+-- An accepted frame's action is performed, and then answered.
+pub record Acts
+    (step : Step) (client : Result (Option (List ℕ)) ConversationFault) (old : ConversationState) (asked : List BrokerRow)
+    (new : ConversationState)
+    : Type 0 where
+  pub first : List BrokerRow
+  pub rest : List BrokerRow
+  pub between : ConversationState
+  pub result : Done
+  pub performs : Performs step.action client old first result between
+  pub concludes : Concludes result (replies (is_connected step.action) step.receipt) step.receipt between rest new
+  pub all : asked ≡ first ++ rest
+
+-- the client-id of a CONNECT or a STOMP: its first header of that name, if it has one
+abbrev pub client_id : RawFrame → Option (List ℕ)
+client_id f = if is_connect f.command then first_of (codes "client-id") f.headers else None
+
+-- The connection is lost: what is open is ended, and nothing is written. One that leaves already does nothing.
+abbrev pub IsLost : ConversationState → List BrokerRow → ConversationState → Type 0
+IsLost old asked new =
+    (IsSome old.exit × (asked ≡ []) × (new ≡ old))
+    ⊎ ((old.exit ≡ None) × (asked ≡ closing_rows old) × (new ≡ closed exit.Lost old))

@@ -1,0 +1,66 @@
+//! What a connection asks of the broker.
+
+use broker_locks::CommitFault;
+use mcast_group::SubFault;
+use mcast_txn::{Released, Topic};
+use sender_gate::{ClaimFault, Flying, Gate};
+use std::sync::Arc;
+use stomp_frame::NoMemory;
+use stomp_session::Names;
+
+/// What a connection asks of the broker: the running one, or one of a test. Each call may wait for other threads. What a
+/// call makes of it is the implementation's to say: where nothing need be said, `ghost called = { λ old row new. Unit
+/// {0} };`, and where the calls are kept, that the list of them has grown by this one.
+pub trait BrokerCalls {
+    ghost use Rattle.std.specs.Prelude.{◌≡◌, Ok, Err, IfOk, IfErr};
+    ghost use Rattle.std.specs.Option.{option_map};
+    ghost use Rattle.broker_locks.specs.Commits.{IsUntouched};
+    ghost use Rattle.broker_server.specs.BrokerRows.{BrokerRow, SubName, Claims, GivesBack, Subscribes, Unsubscribes, AsksLag, Takes, Commits};
+
+    /// An open subscription: its topic, its number, and the end of its queue that takes.
+    type Sub: Drop;
+
+    /// What a call makes of it: of the old one, the call with its answer, and the new one.
+    ghost called: { Self → BrokerRow → Self → Type 0 };
+
+    /// Which subscription it is.
+    ghost name: { Self.Sub → SubName };
+
+    /// The names of the topics.
+    fn names(&mut self) -> Result<Arc<Names>, NoMemory>;
+
+    /// Claims the sender of this client-id, or a new one, and gives its gate.
+    fn claim(&mut self, client: Option<&[u8]>) -> Result<Gate, ClaimFault>
+        ensures claimed { IfOk result
+            (λ gate. called self.old (Claims (option_map (λ id. id.now) client.entry) (Ok gate)) self.new) }
+        ensures refused { IfErr result
+            (λ why. called self.old (Claims (option_map (λ id. id.now) client.entry) (Err why)) self.new) };
+
+    /// Gives the gate of a sender back.
+    fn give_back(&mut self, gate: Gate)
+        ensures { called self.old (GivesBack gate) self.new };
+
+    /// Begins a subscription at the topic.
+    fn subscribe(&mut self, topic: Topic) -> Result<Self::Sub, SubFault>
+        ensures begun { IfOk result (λ sub. called self.old (Subscribes topic (Ok (name sub))) self.new) }
+        ensures refused { IfErr result (λ why. called self.old (Subscribes topic (Err why)) self.new) };
+
+    /// Ends a subscription.
+    fn unsubscribe(&mut self, sub: Self::Sub)
+        ensures { called self.old (Unsubscribes (name sub)) self.new };
+
+    /// Whether a subscription has lagged.
+    fn has_lagged(&mut self, sub: &Self::Sub) -> bool
+        ensures { called self.old (AsksLag (name sub.now) result) self.new };
+
+    /// Takes the next item of a subscription's queue, or `None` where it was empty at one moment of the call.
+    fn take(&mut self, sub: &mut Self::Sub) -> Option<Released>
+        ensures taken { called self.old (Takes (name sub.old) result) self.new }
+        ensures same { name sub.new ≡ name sub.old };
+
+    /// Commits a transaction, and gives the gate of its sender again. The flight is as its gate began it.
+    fn commit(&mut self, flying: Flying) -> Result<Gate, (Gate, CommitFault)>
+        requires { IsUntouched flying.state }
+        ensures committed { IfOk result (λ gate. called self.old (Commits flying.state (Ok gate)) self.new) }
+        ensures refused { IfErr result (λ e. called self.old (Commits flying.state (Err e)) self.new) };
+}

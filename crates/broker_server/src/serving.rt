@@ -1,0 +1,155 @@
+//! The broker on TCP.
+
+ghost use denote.Param.Send.{IsSend, IsSync};
+
+mod accepting;
+mod bell;
+mod connection;
+mod door;
+mod head;
+mod held;
+mod hub;
+mod left;
+mod line;
+mod listening;
+mod marks;
+mod peer;
+mod running;
+mod seldom;
+mod socket;
+mod spelled;
+mod topic_bells;
+mod trouble;
+
+use crate::serving::accepting::accept_all;
+use crate::serving::door::Door;
+use crate::serving::head::Head;
+use crate::serving::hub::{Hub, MAX_CONNECTIONS};
+use crate::serving::running::Running;
+use broker_locks::{Broker, ServerFault, Side};
+pub use listening::run_server;
+use log::{Log, info};
+use mio::net::TcpListener;
+use std::alloc::Global;
+use std::net::Net;
+use std::sync::Wait;
+use std::thread;
+use std::thread::Threads;
+use std::time::Clock;
+use trace_audit::Trace;
+
+/// Serves this broker to those who connect to this listener: each connection by a thread of its own, at most 256 at
+/// once, while two more threads turn the topics. With a limit it ends once so many connections came, those closed at
+/// once because 256 were there among them, and ended; without one, only by a fault. Each thread has then ended. Returns
+/// the trace of the run, which is empty where the broker keeps none.
+///
+/// Refused: 101 where there is no memory for what it needs before it accepts, or for the trace; 102 where the listener or
+/// a poll failed: then the connections that are there are closed. What is wanting for one connection ends that
+/// connection alone. What it does goes to the log, a line for each thing.
+pub fn serve<R, W, T>(
+    rt: &R,
+    alloc: Global,
+    broker: Broker<R, W, T>,
+    listener: TcpListener,
+    limit: Option<u64>,
+) -> Result<Trace, ServerFault>
+where
+    R: Threads + Wait + Net + Clock + Log + Send + Sync,
+    W: Side + Send + Sync + 'static,
+    T: Side + Send + Sync + 'static,
+{
+    let (mut door, bell) = Door::new(rt, alloc, listener)?;
+    let Ok(running) = Running::new(alloc, broker) else {
+        return Err(ServerFault::NoMemory);
+    };
+    let Ok(hub) = Hub::new(alloc, running, bell) else {
+        return Err(ServerFault::NoMemory);
+    };
+    info!(rt; target: "serve",
+        "serving {} topics to at most {MAX_CONNECTIONS} connections", hub.running.topics());
+    run(rt, alloc, &hub, &mut door, limit)?;
+    match hub.into_running().into_trace() {
+        Some(trace) => Ok(trace),
+        None => Err(ServerFault::NoMemory),
+    }
+}
+
+/// Runs the heads, and the connections while these are there.
+fn run<R, W, T>(
+    rt: &R,
+    alloc: Global,
+    hub: &Hub<R, W, T>,
+    door: &mut Door,
+    limit: Option<u64>,
+) -> Result<(), ServerFault>
+where
+    R: Threads + Wait + Net + Clock + Log + Send + Sync,
+    W: Side + Send + Sync + 'static,
+    T: Side + Send + Sync + 'static,
+{
+    thread::scope(
+        thread::scope_env(),
+        rt,
+        |scope| -> Result<(), ServerFault>
+            requires { IsSend R.row × IsSync R.row × IsSend W.row × IsSync W.row × IsSend T.row × IsSync T.row }
+        {
+            let mut done = Ok(());
+            for head in hub.heads() {
+                if scope.spawn(move || turn_all(rt, hub, head)).is_err() {
+                    done = Err(ServerFault::NoMemory);
+                }
+            }
+            if done.is_ok() {
+                done = run_connections(rt, alloc, hub, door, limit);
+            }
+            for head in hub.heads() {
+                head.close();
+            }
+            done
+        },
+    )
+}
+
+/// Accepts connections, and ends once all of them ended.
+fn run_connections<R, W, T>(
+    rt: &R,
+    alloc: Global,
+    hub: &Hub<R, W, T>,
+    door: &mut Door,
+    limit: Option<u64>,
+) -> Result<(), ServerFault>
+where
+    R: Threads + Wait + Net + Clock + Log + Send + Sync,
+    W: Side + Send + Sync + 'static,
+    T: Side + Send + Sync + 'static,
+{
+    let done = thread::scope(
+        thread::scope_env(),
+        rt,
+        |scope| -> Result<(), ServerFault>
+            requires { IsSend R.row × IsSync R.row × IsSend W.row × IsSync W.row × IsSend T.row × IsSync T.row }
+        {
+            let done = accept_all(rt, alloc, scope, hub, door, limit);
+            if done.is_err() {
+                hub.close(rt);
+            }
+            done
+        },
+    );
+    done?;
+    if hub.has_failed() {
+        return Err(ServerFault::Io);
+    }
+    Ok(())
+}
+
+/// A head's thread: turns what is due, until it is closed.
+fn turn_all<R: Wait, W: Side, T: Side>(rt: &R, hub: &Hub<R, W, T>, head: &Head) {
+    for _ in rt.forever() {
+        match head.next(rt) {
+            Some(at) => hub.turn(rt, at),
+            None => return,
+        }
+    }
+    unreachable!()
+}

@@ -1,0 +1,199 @@
+//! The thread that accepts connections.
+
+use crate::serving::connection::attend;
+use crate::serving::door::Door;
+use crate::serving::hub::{Hub, MAX_CONNECTIONS};
+use crate::serving::line::Line;
+use crate::serving::peer::Peer;
+use crate::serving::seldom::Seldom;
+use crate::serving::socket::Socket;
+use crate::serving::trouble::Trouble;
+use broker_locks::{ServerFault, Side};
+use log::{Log, error, warn};
+use mio::net::TcpStream;
+use std::alloc::Global;
+use std::io;
+use std::io::ErrorKind;
+use std::net::{Net, SocketAddr};
+use std::sync::Wait;
+use std::thread::{Scope, Threads};
+use std::time::{Clock, Duration};
+
+/// What the accepting thread counts.
+#[derive(Drop)]
+pub(crate) struct Counter {
+    /// How many connections came.
+    came: u64,
+    /// Those that were refused, since 256 were there.
+    refused: Seldom,
+    /// Those for which memory or descriptors were wanting.
+    wanting: Seldom,
+}
+
+impl Counter {
+    /// Nothing came.
+    pub(crate) fn new() -> Counter {
+        Counter {
+            came: 0,
+            refused: Seldom::new(),
+            wanting: Seldom::new(),
+        }
+    }
+
+    /// Whether as many connections came as are to come.
+    fn is_full(&self, limit: Option<u64>) -> bool {
+        match limit {
+            Some(limit) => self.came >= limit,
+            None => false,
+        }
+    }
+
+    /// Says how many connections were refused, if there is something to say, at most once a second.
+    fn say<R: Clock + Log>(&mut self, rt: &R) {
+        if let Some(count) = self.refused.due(rt) {
+            warn!(rt; target: "serve", "refused {count} connections: {MAX_CONNECTIONS} are there");
+        }
+    }
+
+    /// How long the accepting thread waits: for ever, unless something is to be said.
+    fn time(&self) -> Option<Duration> {
+        if self.refused.waits() {
+            Some(Duration::from_secs(1))
+        } else {
+            None
+        }
+    }
+
+    /// Says what was wanting, at most once a second.
+    fn say_wanting<R: Clock + Log>(&mut self, rt: &R, error: &io::Error) {
+        self.wanting.add();
+        if let Some(count) = self.wanting.due(rt) {
+            warn!(rt; target: "serve", "the listener: {error} ({count} times since this was said): waiting");
+        }
+    }
+}
+
+/// Starts a connection's thread. What is wanting for it, memory or a descriptor, ends it alone.
+fn start<'a, 's, E, R, W, T>(
+    rt: &'a R,
+    alloc: Global,
+    scope: &Scope<'s, E>,
+    hub: &'a Hub<R, W, T>,
+    peer: Peer,
+    stream: TcpStream,
+)
+where
+    R: Threads + Wait + Net + Log + Send + Sync,
+    W: Side + Send + Sync + 'static,
+    T: Side + Send + Sync + 'static,
+    'a: 's,
+{
+    let line = match Line::new(rt, alloc, peer, Socket::new(stream)) {
+        Ok(line) => line,
+        Err((mut socket, error)) => {
+            if error.kind() == ErrorKind::OutOfMemory {
+                socket.say_no_memory();
+            }
+            warn!(rt; target: "serve", "{peer} is closed: {error}");
+            hub.free_place();
+            return;
+        }
+    };
+    if hub.enter(rt, peer.number, &line.bell).is_err()
+        || scope.spawn(move || attend(rt, alloc, hub, line)).is_err()
+    {
+        warn!(rt; target: "serve", "{peer} is closed: no memory for its thread");
+        hub.leave(rt, peer.number);
+        hub.free_place();
+    }
+}
+
+/// A connection came: it is started, or closed at once where 256 are there.
+fn welcome<'a, 's, E, R, W, T>(
+    rt: &'a R,
+    alloc: Global,
+    scope: &Scope<'s, E>,
+    hub: &'a Hub<R, W, T>,
+    counter: &mut Counter,
+    stream: TcpStream,
+    addr: SocketAddr,
+)
+where
+    R: Threads + Wait + Net + Clock + Log + Send + Sync,
+    W: Side + Send + Sync + 'static,
+    T: Side + Send + Sync + 'static,
+    'a: 's,
+{
+    let peer = Peer {
+        number: counter.came,
+        addr,
+    };
+    counter.came = counter.came.saturating_add(1);
+    if hub.take_place() {
+        start(rt, alloc, scope, hub, peer, stream);
+    } else {
+        drop(stream);
+        counter.refused.add();
+        counter.say(rt);
+    }
+}
+
+/// Takes the connections that come, until so many came, or a fault.
+pub(crate) fn accept_all<'a, 's, E, R, W, T>(
+    rt: &'a R,
+    alloc: Global,
+    scope: &Scope<'s, E>,
+    hub: &'a Hub<R, W, T>,
+    door: &mut Door,
+    limit: Option<u64>,
+) -> Result<(), ServerFault>
+where
+    R: Threads + Wait + Net + Clock + Log + Send + Sync,
+    W: Side + Send + Sync + 'static,
+    T: Side + Send + Sync + 'static,
+    'a: 's,
+{
+    let mut counter = Counter::new();
+    for _ in rt.forever() {
+        if hub.has_failed() {
+            error!(rt; target: "serve", "a connection's poll failed");
+            return Err(ServerFault::Io);
+        }
+        if counter.is_full(limit) {
+            return Ok(());
+        }
+        match door.listener.accept() {
+            Ok((stream, addr)) => welcome(rt, alloc, scope, hub, &mut counter, stream, addr),
+            Err(error) => wait_after(rt, hub, door, &mut counter, &error)?,
+        }
+    }
+    unreachable!()
+}
+
+/// Waits as this error of an `accept` asks for.
+fn wait_after<R: Wait + Clock + Log, W: Side, T: Side>(
+    rt: &R,
+    hub: &Hub<R, W, T>,
+    door: &mut Door,
+    counter: &mut Counter,
+    error: &io::Error,
+) -> Result<(), ServerFault> {
+    match Trouble::of(error) {
+        Trouble::NoneWaits => {
+            counter.say(rt);
+            if hub.door().hears() || !hub.door().sleeps() {
+                return Ok(());
+            }
+            door.wait(counter.time())
+        }
+        Trouble::Passing => Ok(()),
+        Trouble::Wanting => {
+            counter.say_wanting(rt, error);
+            door.wait(Some(Duration::from_millis(100)))
+        }
+        Trouble::Broken => {
+            error!(rt; target: "serve", "the listener: {error}");
+            Err(ServerFault::Io)
+        }
+    }
+}

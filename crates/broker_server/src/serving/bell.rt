@@ -1,0 +1,50 @@
+//! How a connection's thread is told that something may be there for it.
+
+use mio::Waker;
+use std::sync::atomic::{AtomicU8, Ordering};
+
+/// The thread is at work, and wasn't told anything since it looked last.
+const AWAKE: u8 = 0;
+/// It was told, and hasn't looked since.
+const TOLD: u8 = 1;
+/// It waits, or is about to.
+const ASLEEP: u8 = 2;
+
+/// What a connection's thread is told by. No telling is lost: who tells has done first what it tells of, and the thread
+/// looks for that only after it heard. So either the thread looks behind that deed, or it finds at `sleeps` that it
+/// was told, and doesn't wait, or it waits already, and is woken.
+#[derive(Drop)]
+pub(crate) struct Bell {
+    state: AtomicU8,
+    waker: Waker,
+}
+
+impl Bell {
+    /// A bell of a thread that is at work, which this wakes from its poll.
+    pub(crate) fn new(waker: Waker) -> Bell {
+        Bell {
+            state: AtomicU8::new(AWAKE),
+            waker,
+        }
+    }
+
+    /// Tells the thread. The system is called only where it waits. (A wake that fails is one whose poll is gone.)
+    pub(crate) fn ring(&self) {
+        if self.state.swap(TOLD, Ordering::SeqCst) == ASLEEP {
+            let _ = self.waker.wake();
+        }
+    }
+
+    /// Whether the thread was told, or has waited. It looks for what there is after this.
+    pub(crate) fn hears(&self) -> bool {
+        self.state.load(Ordering::SeqCst) != AWAKE
+            && self.state.swap(AWAKE, Ordering::SeqCst) == TOLD
+    }
+
+    /// The thread is about to wait. Whether it may: it wasn't told anything since it looked.
+    pub(crate) fn sleeps(&self) -> bool {
+        self.state
+            .compare_exchange(AWAKE, ASLEEP, Ordering::SeqCst, Ordering::SeqCst)
+            .is_ok()
+    }
+}

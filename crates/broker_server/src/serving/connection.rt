@@ -1,0 +1,272 @@
+//! A connection's thread.
+
+use crate::conversation::{Conversation, ConversationFault, Exit};
+use crate::serving::held::Held;
+use crate::serving::hub::Hub;
+use crate::serving::left::{Left, Told};
+use crate::serving::line::Line;
+use crate::serving::socket::Came;
+use crate::serving::spelled::Spelled;
+use broker_locks::Side;
+use log::{Log, info, warn};
+use std::alloc::Global;
+use std::sync::Wait;
+use std::time::Duration;
+use stomp_frame::NoMemory;
+
+/// A connection that leaves is closed after so many polls that brought nothing out (our choice).
+const MAX_POLLS: u32 = 100;
+
+/// So many polls a peer that was told all has for closing its side (our choice).
+const LAST_POLLS: u32 = 10;
+
+/// So many reads are dropped of a peer that was told all, at most (our choice).
+const LAST_READS: u32 = 4_096;
+
+/// How long a poll of a connection that leaves waits.
+fn poll_time() -> Option<Duration> {
+    Some(Duration::from_millis(100))
+}
+
+/// What one turn of a connection's thread came to.
+#[derive(Clone, Copy)]
+enum Round {
+    /// There may be more to do.
+    Busy,
+    /// There is nothing to do.
+    Idle,
+    /// The connection leaves.
+    Leaving,
+    /// It ends at once, and is told nothing more.
+    Ended(Left),
+}
+
+/// A connection that is there.
+#[derive(Drop)]
+struct Connection<'a, R: Wait, W: Side, T: Side> {
+    line: Line,
+    hub: &'a Hub<R, W, T>,
+    held: Held<'a, R, W, T>,
+    talk: Conversation<Held<'a, R, W, T>>,
+}
+
+impl<'a, R: Wait, W: Side, T: Side> Connection<'a, R, W, T> {
+    /// One turn: takes what is there for it, writes, reads, and does what that asks for.
+    fn round(&mut self) -> Round {
+        if self.hub.is_closing() {
+            return Round::Ended(Left::Closing);
+        }
+        let mut busy = false;
+        if self.line.bell.hears() || self.talk.has_more() {
+            busy = self.talk.deliver(&mut self.held);
+        }
+        match self.line.socket.write(&mut self.talk) {
+            Ok(sent) => busy = busy || sent > 0,
+            Err(_) => return Round::Ended(Left::WriteFailed),
+        }
+        if self.talk.is_leaving() {
+            return Round::Leaving;
+        }
+        match self.hear() {
+            Round::Idle if busy => Round::Busy,
+            round => round,
+        }
+    }
+
+    /// Reads once, if not too much waits, and does what that asks for. The heads are told of what was committed before
+    /// anything else is done.
+    fn hear(&mut self) -> Round {
+        if !self.talk.may_read() {
+            return Round::Idle;
+        }
+        match self.line.socket.read(self.line.room.as_mut_slice()) {
+            Came::Octets(n) => {
+                if let Some(piece) = self.line.room.as_slice().get(..n) {
+                    self.talk.hear(&mut self.held, piece);
+                }
+                self.held.tell_heads();
+                Round::Busy
+            }
+            Came::Again => Round::Busy,
+            Came::Nothing => Round::Idle,
+            Came::End => {
+                self.talk.lose(&mut self.held);
+                Round::Leaving
+            }
+        }
+    }
+
+    /// Waits for the socket or the bell, so long at most. Refused where the poll failed, which ends the server.
+    fn wait(&mut self, time: Option<Duration>) -> Result<(), Left> {
+        if self.line.poll.poll(&mut self.line.events, time).is_err() {
+            self.hub.fail();
+            return Err(Left::PollFailed);
+        }
+        self.line.socket.note(&self.line.events);
+        Ok(())
+    }
+
+    /// Talks with the peer until the connection leaves; refused where it ends at once.
+    fn converse<S: Wait>(&mut self, rt: &S) -> Result<(), Left> {
+        for _ in rt.forever() {
+            match self.round() {
+                Round::Busy => {}
+                Round::Leaving => return Ok(()),
+                Round::Ended(left) => return Err(left),
+                Round::Idle => {
+                    if self.line.bell.sleeps() {
+                        self.wait(None)?;
+                    }
+                }
+            }
+        }
+        unreachable!()
+    }
+
+    /// Writes what waits for a connection that leaves, until all is out, a write failed, or 100 polls brought nothing
+    /// out.
+    fn tell_last<S: Wait>(&mut self, rt: &S) -> Told {
+        if self.line.socket.register_writes(&self.line.poll).is_err() {
+            return Told::WriteFailed;
+        }
+        let mut polls = 0u32;
+        for _ in rt.forever() {
+            match self.line.socket.write(&mut self.talk) {
+                Ok(0) => {}
+                Ok(_) => polls = 0,
+                Err(_) => return Told::WriteFailed,
+            }
+            if self.talk.wire().is_empty() {
+                return Told::All;
+            }
+            if polls >= MAX_POLLS {
+                return Told::Stuck;
+            }
+            if self.hub.is_closing() || self.wait(poll_time()).is_err() {
+                return Told::Closing;
+            }
+            polls = polls.saturating_add(1);
+        }
+        unreachable!()
+    }
+
+    /// Says that nothing more is written, and drops what the peer still sends, until it closes its side or some polls
+    /// have passed: closing at once would reset the connection, and the peer could lose what it was told.
+    fn hear_out(&mut self) {
+        self.line.socket.shut();
+        if self.line.socket.register_reads(&self.line.poll).is_err() {
+            return;
+        }
+        let mut polls = 0u32;
+        for _ in 0..LAST_READS {
+            match self.line.socket.read(self.line.room.as_mut_slice()) {
+                Came::End => return,
+                Came::Octets(_) | Came::Again => {}
+                Came::Nothing => {
+                    if polls >= LAST_POLLS
+                        || self.hub.is_closing()
+                        || self.wait(poll_time()).is_err()
+                    {
+                        return;
+                    }
+                    polls = polls.saturating_add(1);
+                }
+            }
+        }
+    }
+
+    /// From its first octet to its last; why it left.
+    fn run<S: Wait>(&mut self, rt: &S) -> Left {
+        let ended = self.converse(rt);
+        self.talk.lose(&mut self.held);
+        self.held.tell_heads();
+        match (ended, self.talk.exit()) {
+            (Ok(()), Some(exit)) => {
+                let told = self.tell_last(rt);
+                if let Told::All = told {
+                    self.hear_out();
+                }
+                Left::By(exit, told)
+            }
+            (Ok(()), None) => Left::Closing,
+            (Err(left), _) => left,
+        }
+    }
+}
+
+/// A connection's thread, from its beginning to its end; its place is then free.
+pub(crate) fn attend<'a, R: Wait + Log, W: Side, T: Side>(
+    rt: &'a R,
+    alloc: Global,
+    hub: &'a Hub<R, W, T>,
+    line: Line,
+) {
+    let peer = line.peer;
+    info!(rt; target: "serve", "{peer} came");
+    let left = talk_over(rt, alloc, hub, line);
+    if let Left::By(Exit::Error(ConversationFault::Lagged { topic, items }), _) = left {
+        let name = hub.running.name(topic);
+        warn!(rt; target: "serve", "{peer} lagged at the topic {}: {items} items behind", Spelled(name));
+    }
+    info!(rt; target: "serve", "{peer} left: {left}");
+    hub.free_place();
+}
+
+/// Talks over this line; why the connection left.
+fn talk_over<'a, R: Wait, W: Side, T: Side>(
+    rt: &'a R,
+    alloc: Global,
+    hub: &'a Hub<R, W, T>,
+    line: Line,
+) -> Left {
+    let number = line.peer.number;
+    let mut line = line;
+    let left = match connection_of(rt, alloc, hub, &mut line) {
+        Ok((held, talk)) => {
+            let mut connection = Connection {
+                line,
+                hub,
+                held,
+                talk,
+            };
+            let left = connection.run(rt);
+            let Connection {
+                line,
+                hub: _,
+                held,
+                talk,
+            } = connection;
+            drop(line);
+            drop(talk);
+            hub.running.put_worker(rt, held.into_worker());
+            left
+        }
+        Err(NoMemory) => {
+            line.socket.say_no_memory();
+            Left::NoMemory
+        }
+    };
+    hub.leave(rt, number);
+    left
+}
+
+/// What one connection asks the broker by, and what it does with what comes.
+fn connection_of<'a, R: Wait, W: Side, T: Side>(
+    rt: &'a R,
+    alloc: Global,
+    hub: &'a Hub<R, W, T>,
+    line: &mut Line,
+) -> Result<(Held<'a, R, W, T>, Conversation<Held<'a, R, W, T>>), NoMemory> {
+    let bell = line.bell.clone()?;
+    let Ok(worker) = hub.running.take_worker(rt) else {
+        return Err(NoMemory);
+    };
+    let mut held = Held::new(rt, alloc, hub, line.peer.number, bell, worker);
+    match Conversation::new(alloc, &mut held, hub.running.capacity()) {
+        Ok(talk) => Ok((held, talk)),
+        Err(NoMemory) => {
+            hub.running.put_worker(rt, held.into_worker());
+            Err(NoMemory)
+        }
+    }
+}

@@ -1,0 +1,148 @@
+//! What one connection asks of the broker.
+
+use crate::conversation::BrokerCalls;
+use crate::serving::bell::Bell;
+use crate::serving::hub::Hub;
+use crate::serving::marks::Marks;
+use broker_locks::{CommitFault, Side, Subscribed, Worker};
+use mcast_group::{SubFault, SubState};
+use mcast_txn::{Released, Topic};
+use sender_gate::{ClaimFault, Flying, Gate};
+use std::alloc::Global;
+use std::sync::{Arc, Wait};
+use stomp_frame::NoMemory;
+use stomp_session::Names;
+
+/// An open subscription of a connection.
+#[derive(Drop)]
+pub(crate) struct HeldSub {
+    topic: Topic,
+    begun: Subscribed,
+}
+
+/// What one connection asks of the broker, and what it still has to tell the heads.
+#[derive(Drop)]
+pub(crate) struct Held<'a, R: Wait, W: Side, T: Side> {
+    rt: &'a R,
+    hub: &'a Hub<R, W, T>,
+    connection: u64,
+    bell: Arc<Bell>,
+    marks: Marks,
+    worker: Worker<W>,
+}
+
+impl<'a, R: Wait, W: Side, T: Side> Held<'a, R, W, T> {
+    /// The connection of this number has asked nothing yet.
+    pub(crate) fn new(
+        rt: &'a R,
+        alloc: Global,
+        hub: &'a Hub<R, W, T>,
+        connection: u64,
+        bell: Arc<Bell>,
+        worker: Worker<W>,
+    ) -> Held<'a, R, W, T> {
+        Held {
+            rt,
+            hub,
+            connection,
+            bell,
+            marks: Marks::new(alloc),
+            worker,
+        }
+    }
+
+    /// Its worker, when it asks no more.
+    pub(crate) fn into_worker(self) -> Worker<W> {
+        let Held {
+            rt: _,
+            hub: _,
+            connection: _,
+            bell: _,
+            marks: _,
+            worker,
+        } = self;
+        worker
+    }
+
+    /// Tells the heads of what was committed, or refused, since they were told.
+    pub(crate) fn tell_heads(&mut self) {
+        self.hub.tell_heads(self.rt, &mut self.marks);
+    }
+}
+
+impl<'a, R: Wait, W: Side, T: Side> BrokerCalls for Held<'a, R, W, T> {
+    ghost use Rattle.broker_server.specs.BrokerRows.{SubName};
+
+    type Sub = HeldSub;
+
+    // Nothing is said of what other threads find.
+    ghost called = { λ old row new. Unit {0} };
+
+    ghost name = { λ sub. record { topic = sub.topic; number = sub.begun.sub } };
+
+    fn names(&mut self) -> Result<Arc<Names>, NoMemory> {
+        Ok(self.hub.running.names.clone()?)
+    }
+
+    fn claim(&mut self, client: Option<&[u8]>) -> Result<Gate, ClaimFault> {
+        self.hub.running.broker.claim(self.rt, client)
+    }
+
+    fn give_back(&mut self, gate: Gate) {
+        self.hub.running.broker.give_back(self.rt, gate);
+    }
+
+    /// Its bell stands at the topic before the subscription begins: the other order would lose what is released between.
+    fn subscribe(&mut self, topic: Topic) -> Result<HeldSub, SubFault> {
+        if self
+            .hub
+            .listen(self.rt, topic, self.connection, &self.bell)
+            .is_err()
+        {
+            return Err(SubFault::NoMemory);
+        }
+        match self.hub.running.broker.subscribe(self.rt, topic) {
+            Ok(begun) => Ok(HeldSub { topic, begun }),
+            Err(fault) => {
+                self.hub.unlisten(self.rt, topic, self.connection);
+                Err(fault)
+            }
+        }
+    }
+
+    fn unsubscribe(&mut self, sub: HeldSub) {
+        let HeldSub { topic, begun } = sub;
+        self.hub.unlisten(self.rt, topic, self.connection);
+        let _ = self
+            .hub
+            .running
+            .broker
+            .unsubscribe(self.rt, topic, begun.sub);
+        drop(begun);
+    }
+
+    fn has_lagged(&mut self, sub: &HeldSub) -> bool {
+        let state = self
+            .hub
+            .running
+            .broker
+            .state(self.rt, sub.topic, sub.begun.sub);
+        matches!(state, Some(SubState::Lag(_)))
+    }
+
+    fn take(&mut self, sub: &mut HeldSub) -> Option<Released> {
+        sub.begun.taker.take(self.rt)
+    }
+
+    fn commit(&mut self, flying: Flying) -> Result<Gate, (Gate, CommitFault)> {
+        match self
+            .hub
+            .running
+            .broker
+            .commit(self.rt, &mut self.worker, flying, &mut self.marks)
+        {
+            Ok((gate, _stamp)) => Ok(gate),
+            Err(refused) => Err(refused),
+        }
+    }
+}

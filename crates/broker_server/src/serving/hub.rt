@@ -1,0 +1,228 @@
+//! What the server's threads share.
+
+use crate::serving::bell::Bell;
+use crate::serving::head::Head;
+use crate::serving::marks::Marks;
+use crate::serving::running::Running;
+use crate::serving::topic_bells::TopicBells;
+use broker_locks::Side;
+use mcast_txn::{NoMemory, Topic};
+use std::alloc::{AllocError, Global};
+use std::sync::atomic::{AtomicBool, AtomicU64, Ordering};
+use std::sync::{Arc, Mutex, Wait};
+
+/// How many threads turn topics: topic t is turned by the head t mod 2.
+const HEADS: usize = 2;
+
+/// The most connections that are there at once (our choice).
+pub(crate) const MAX_CONNECTIONS: u64 = 256;
+
+/// What the server's threads share: the broker, who is told of which topic, the heads, and the connections.
+#[derive(Drop)]
+pub(crate) struct Hub<R: Wait, W: Side, T: Side> {
+    pub(crate) running: Running<R, W, T>,
+    topics: Vec<TopicBells>,
+    heads: Vec<Head>,
+    /// How many connections are there.
+    places: AtomicU64,
+    /// The bell of each connection that is there.
+    connections: Mutex<Vec<(u64, Arc<Bell>)>>,
+    /// The bell of the thread that accepts.
+    door: Bell,
+    /// Whether the server ends: connections go on no longer.
+    closing: AtomicBool,
+    /// Whether a poll failed.
+    failed: AtomicBool,
+}
+
+impl<R: Wait, W: Side, T: Side> Hub<R, W, T> {
+    /// A hub of this broker, with no connections, whose accepting thread has this bell.
+    pub(crate) fn new(
+        alloc: Global,
+        running: Running<R, W, T>,
+        door: Bell,
+    ) -> Result<Hub<R, W, T>, NoMemory> {
+        let count = running.topics();
+        let mut heads = Vec::new(alloc);
+        for _ in 0..HEADS {
+            heads.push(Head::new(alloc, count)?)?;
+        }
+        Ok(Hub {
+            running,
+            topics: bells_of(alloc, count)?,
+            heads,
+            places: AtomicU64::new(0),
+            connections: Mutex::new(Vec::with_capacity(alloc, MAX_CONNECTIONS as usize)?),
+            door,
+            closing: AtomicBool::new(false),
+            failed: AtomicBool::new(false),
+        })
+    }
+
+    /// The heads.
+    pub(crate) fn heads(&self) -> &[Head] {
+        self.heads.as_slice()
+    }
+
+    /// Tells the heads of the topics that were marked, and clears the marks. What they are marked for was done before.
+    pub(crate) fn tell_heads(&self, rt: &R, marks: &mut Marks) {
+        if marks.is_empty() {
+            return;
+        }
+        for topic in marks.topics() {
+            self.set_due(rt, topic.0 as usize);
+        }
+        if marks.may_be_any() {
+            self.set_all_due(rt);
+        }
+        marks.clear();
+    }
+
+    /// Tells the heads of all topics.
+    fn set_all_due(&self, rt: &R) {
+        for at in 0..self.topics.len() {
+            self.set_due(rt, at);
+        }
+    }
+
+    /// The topic of this index is due: its head is told, unless it was told and hasn't turned the topic since.
+    fn set_due(&self, rt: &R, at: usize) {
+        let Some(topic) = self.topics.get(at) else {
+            return;
+        };
+        if topic.set_due() {
+            return;
+        }
+        let told = match self.heads.get(at % HEADS) {
+            Some(head) => head.tell(rt, at).is_ok(),
+            None => false,
+        };
+        if !told {
+            self.turn(rt, at);
+        }
+    }
+
+    /// Turns the topic of this index, and tells the connections that have a subscription there, if there may be
+    /// something for them. What is committed from here on makes it due again.
+    pub(crate) fn turn(&self, rt: &R, at: usize) {
+        let (Some(topic), Ok(number)) = (self.topics.get(at), u32::try_from(at)) else {
+            return;
+        };
+        topic.clear_due();
+        if self.running.turn(rt, Topic(number)) {
+            topic.ring(rt);
+        }
+    }
+
+    /// The connection is told of what the topic releases from now on, once more.
+    pub(crate) fn listen(
+        &self,
+        rt: &R,
+        topic: Topic,
+        connection: u64,
+        bell: &Arc<Bell>,
+    ) -> Result<(), AllocError> {
+        match self.topics.get(topic.0 as usize) {
+            Some(topic) => topic.add(rt, connection, bell),
+            None => Ok(()),
+        }
+    }
+
+    /// The connection is told once less of what the topic releases.
+    pub(crate) fn unlisten(&self, rt: &R, topic: Topic, connection: u64) {
+        if let Some(topic) = self.topics.get(topic.0 as usize) {
+            topic.remove(rt, connection);
+        }
+    }
+
+    /// Takes a place for a connection, if one is free. Only the accepting thread does.
+    pub(crate) fn take_place(&self) -> bool {
+        if self.places.load(Ordering::SeqCst) >= MAX_CONNECTIONS {
+            return false;
+        }
+        self.places.fetch_add(1, Ordering::SeqCst);
+        true
+    }
+
+    /// Frees a place.
+    pub(crate) fn free_place(&self) {
+        self.places.fetch_sub(1, Ordering::SeqCst);
+    }
+
+    /// Adds a connection's bell, which rings when the server ends.
+    pub(crate) fn enter(
+        &self,
+        rt: &R,
+        connection: u64,
+        bell: &Arc<Bell>,
+    ) -> Result<(), AllocError> {
+        let bell = bell.clone()?;
+        self.connections.lock(rt).push((connection, bell))?;
+        Ok(())
+    }
+
+    /// Takes a connection's bell out.
+    pub(crate) fn leave(&self, rt: &R, connection: u64) {
+        let mut connections = self.connections.lock(rt);
+        let connections = &mut *connections;
+        let found = connections.iter().position(|entry| entry.0 == connection);
+        if let Some(at) = found
+            && at < connections.len()
+        {
+            connections.swap_remove(at);
+        }
+    }
+
+    /// Ends all connections.
+    pub(crate) fn close(&self, rt: &R) {
+        self.closing.store(true, Ordering::SeqCst);
+        for (_, bell) in self.connections.lock(rt).iter() {
+            bell.ring();
+        }
+    }
+
+    /// Whether the server ends.
+    pub(crate) fn is_closing(&self) -> bool {
+        self.closing.load(Ordering::SeqCst)
+    }
+
+    /// A poll failed: the accepting thread is told, and ends the server.
+    pub(crate) fn fail(&self) {
+        self.failed.store(true, Ordering::SeqCst);
+        self.door.ring();
+    }
+
+    /// Whether a poll failed.
+    pub(crate) fn has_failed(&self) -> bool {
+        self.failed.load(Ordering::SeqCst)
+    }
+
+    /// The bell of the accepting thread.
+    pub(crate) fn door(&self) -> &Bell {
+        &self.door
+    }
+
+    /// The broker, once nobody else uses it.
+    pub(crate) fn into_running(self) -> Running<R, W, T> {
+        let Hub {
+            running,
+            topics: _,
+            heads: _,
+            places: _,
+            connections: _,
+            door: _,
+            closing: _,
+            failed: _,
+        } = self;
+        running
+    }
+}
+
+/// The bells of so many topics.
+fn bells_of(alloc: Global, count: usize) -> Result<Vec<TopicBells>, NoMemory> {
+    let mut topics = Vec::with_capacity(alloc, count)?;
+    for _ in 0..count {
+        topics.push(TopicBells::new(alloc))?;
+    }
+    Ok(topics)
+}

@@ -1,0 +1,61 @@
+//! Why a connection left.
+
+use crate::conversation::Exit;
+use crate::serving::spelled::Spelled;
+use std::fmt;
+use std::fmt::{Display, Formatter};
+
+/// What a connection that leaves was told of its last words.
+#[derive(Clone, Copy)]
+pub(crate) enum Told {
+    /// All of them.
+    All,
+    /// Not all: a write failed.
+    WriteFailed,
+    /// Not all: 100 polls brought nothing out.
+    Stuck,
+    /// Not all: the server ends.
+    Closing,
+}
+
+/// Why a connection left.
+#[derive(Clone, Copy)]
+pub(crate) enum Left {
+    /// By its DISCONNECT, by an ERROR, or lost; and what it was told of its last words.
+    By(Exit, Told),
+    /// A write failed.
+    WriteFailed,
+    /// There was no memory for the connection.
+    NoMemory,
+    /// Its poll failed.
+    PollFailed,
+    /// The server ends.
+    Closing,
+}
+
+impl Display for Told {
+    fn fmt<W: fmt::Write>(&self, f: &mut Formatter<W>) -> fmt::Result {
+        match self {
+            Told::All => Ok(()),
+            Told::WriteFailed => f.write_str(", and a write failed before all was told"),
+            Told::Stuck => f.write_str(", closed after 100 polls that brought nothing out"),
+            Told::Closing => f.write_str(", and the server ended before all was told"),
+        }
+    }
+}
+
+impl Display for Left {
+    fn fmt<W: fmt::Write>(&self, f: &mut Formatter<W>) -> fmt::Result {
+        match self {
+            Left::By(Exit::Disconnect, told) => write!(f, "DISCONNECT{told}"),
+            Left::By(Exit::Error(fault), told) => {
+                write!(f, "ERROR {}{told}", Spelled(fault.title()))
+            }
+            Left::By(Exit::Lost, _) => f.write_str("its peer closed it"),
+            Left::WriteFailed => f.write_str("a write failed"),
+            Left::NoMemory => f.write_str("ERROR 72 NoMemory, no memory for the connection"),
+            Left::PollFailed => f.write_str("its poll failed"),
+            Left::Closing => f.write_str("the server ends"),
+        }
+    }
+}

@@ -1,0 +1,139 @@
+//! A connection's socket.
+
+use crate::conversation::{BrokerCalls, Conversation};
+use mio::net::TcpStream;
+use mio::{Events, Interest, Poll, Token};
+use std::io;
+use std::io::{ErrorKind, Read, Write};
+use std::net::Shutdown;
+
+/// The token of a socket's events.
+const SOCKET: Token = Token(0);
+
+/// The ERROR of a connection for which there was no memory.
+const NO_MEMORY: &[u8] = b"ERROR\nmessage:72 NoMemory\ncontent-length:0\n\n\0";
+
+/// What a read gave.
+#[derive(Clone, Copy)]
+pub(crate) enum Came {
+    /// So many octets, one or more.
+    Octets(usize),
+    /// Nothing is there now.
+    Nothing,
+    /// It was interrupted, and is to be tried again.
+    Again,
+    /// The peer has said its last, or is gone.
+    End,
+}
+
+/// A connection's socket, and what is known of it. Its events come at changes: a read may give something until one gave
+/// less than there was room for, and a write may take something until one took less than there was.
+#[derive(Drop)]
+pub(crate) struct Socket {
+    stream: TcpStream,
+    readable: bool,
+    /// The peer has said its last, which a read will show.
+    hung_up: bool,
+    blocked: bool,
+}
+
+impl Socket {
+    /// Nothing is known of it.
+    pub(crate) fn new(stream: TcpStream) -> Socket {
+        Socket {
+            stream,
+            readable: true,
+            hung_up: false,
+            blocked: false,
+        }
+    }
+
+    /// The poll tells of its reads and its writes.
+    pub(crate) fn register(&mut self, poll: &Poll) -> io::Result<()> {
+        self.stream.set_nodelay(true)?;
+        let both = Interest::READABLE | Interest::WRITABLE;
+        poll.registry().register(&mut self.stream, SOCKET, both)
+    }
+
+    /// The poll tells of its writes alone.
+    pub(crate) fn register_writes(&mut self, poll: &Poll) -> io::Result<()> {
+        poll.registry()
+            .reregister(&mut self.stream, SOCKET, Interest::WRITABLE)
+    }
+
+    /// The poll tells of its reads alone.
+    pub(crate) fn register_reads(&mut self, poll: &Poll) -> io::Result<()> {
+        poll.registry()
+            .reregister(&mut self.stream, SOCKET, Interest::READABLE)
+    }
+
+    /// Notes what the poll told.
+    pub(crate) fn note(&mut self, events: &Events) {
+        for event in events.iter() {
+            if event.token() != SOCKET {
+                continue;
+            }
+            if event.is_read_closed() || event.is_error() {
+                self.hung_up = true;
+            }
+            if event.is_readable() || event.is_read_closed() || event.is_error() {
+                self.readable = true;
+            }
+            if event.is_writable() || event.is_write_closed() {
+                self.blocked = false;
+            }
+        }
+    }
+
+    /// Reads once, into this room, unless nothing can be there. A failed read is the peer's end.
+    pub(crate) fn read(&mut self, room: &mut [u8]) -> Came {
+        if !self.readable {
+            return Came::Nothing;
+        }
+        match self.stream.read(room) {
+            Ok(0) => Came::End,
+            Ok(n) => {
+                if n < room.len() && !self.hung_up {
+                    self.readable = false;
+                }
+                Came::Octets(n)
+            }
+            Err(e) if e.kind() == ErrorKind::WouldBlock => {
+                self.readable = false;
+                Came::Nothing
+            }
+            Err(e) if e.kind() == ErrorKind::Interrupted => Came::Again,
+            Err(_) => Came::End,
+        }
+    }
+
+    /// Writes what waits for the connection, as far as the system takes it; how many octets went out. Refused where a
+    /// write failed.
+    pub(crate) fn write<C: BrokerCalls>(
+        &mut self,
+        talk: &mut Conversation<C>,
+    ) -> Result<usize, WriteFailed> {
+        if self.blocked || talk.wire().is_empty() {
+            return Ok(0);
+        }
+        let Ok(sent) = talk.drain(&mut self.stream) else {
+            return Err(WriteFailed);
+        };
+        self.blocked = !talk.wire().is_empty();
+        Ok(sent)
+    }
+
+    /// Says once that there is no memory, if the system takes that.
+    pub(crate) fn say_no_memory(&mut self) {
+        let _ = self.stream.write(NO_MEMORY);
+    }
+
+    /// Nothing more will be written.
+    pub(crate) fn shut(&mut self) {
+        let _ = self.stream.shutdown(Shutdown::Write);
+    }
+}
+
+/// A write failed: the peer is gone.
+#[derive(Clone, Copy)]
+pub(crate) struct WriteFailed;

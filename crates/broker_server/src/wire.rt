@@ -1,0 +1,149 @@
+//! What a connection has to write.
+
+ghost use Rattle.std.specs.Prelude.{◌≡◌, ◌++◌, ◌≤◌, ◌<◌, ◌↔◌, [], IsTrue, length, drop, OnOk, OnErr};
+ghost use Rattle.std.specs.List.{flat_map};
+ghost use Rattle.stomp_frame.specs.Writing.{spelling_of};
+ghost use Rattle.stomp_frame.specs.ServerFrames.{raw_of_server};
+ghost use Rattle.delivery.specs.Core.Output.{item_messages};
+
+use delivery::write_messages;
+use mcast_txn::Released;
+use std::alloc::Global;
+use std::marker::Model;
+use stomp_frame::{NoMemory, Octets, ServerFrame, write_server};
+
+/// As many octets as may wait before no further item is taken. As many that were written may lie before those that
+/// wait, and as many may have been in the room that an empty wire keeps (our choice).
+const FULL: usize = 65_536;
+
+/// The octets that wait to be written to a connection. In contracts it is the list of them.
+pub struct Wire {
+    alloc: Global,
+    octets: Octets,
+    /// How many of them were written.
+    written: usize,
+}
+
+impl Drop for Wire {
+    /// Written out, so that letting a wire go is one call for the prover wherever it happens.
+    fn drop(self) {
+        let Wire {
+            alloc: _,
+            octets,
+            written: _,
+        } = self;
+        drop(octets);
+    }
+}
+
+impl Model for Wire {
+    ghost use Rattle.std.specs.Prelude.{List, ℕ, ◌≤◌, length, drop};
+
+    ghost Value = { List ℕ };
+
+    ghost view = { λ w. drop w.written w.octets };
+
+    ghost invariant = { λ w. w.written ≤ length w.octets };
+}
+
+impl Wire {
+    /// Nothing to write. It takes no memory yet.
+    pub fn new(alloc: Global) -> Wire
+        ensures { result ≡ [] }
+    {
+        Wire {
+            alloc,
+            octets: Octets::new(alloc),
+            written: 0,
+        }
+    }
+
+    /// Puts octets behind those that wait. After `NoMemory` nothing has changed.
+    pub fn put(&mut self, piece: &[u8]) -> Result<(), NoMemory>
+        ensures ok { OnOk result (self.new ≡ self.old ++ piece.now) }
+        ensures err { OnErr result (self.new ≡ self.old) }
+    {
+        self.tidy();
+        self.octets.extend(piece)
+    }
+
+    /// Puts a frame behind the octets that wait. After `NoMemory` nothing has changed.
+    pub fn put_frame(&mut self, frame: &ServerFrame) -> Result<(), NoMemory>
+        ensures ok { OnOk result (self.new ≡ self.old ++ spelling_of (raw_of_server frame.now)) }
+        ensures err { OnErr result (self.new ≡ self.old) }
+    {
+        self.tidy();
+        write_server(frame, &mut self.octets)
+    }
+
+    /// Puts the MESSAGEs of an item, for the subscription of this id, behind the octets that wait. After `NoMemory`
+    /// nothing has changed.
+    pub fn put_item(&mut self, id: &[u8], item: &Released) -> Result<(), NoMemory>
+        ensures ok { OnOk result (self.new ≡ self.old ++ flat_map spelling_of (item_messages id.now item.now)) }
+        ensures err { OnErr result (self.new ≡ self.old) }
+    {
+        self.tidy();
+        write_messages(id, item, &mut self.octets)
+    }
+
+    /// The octets that wait.
+    pub fn pending(&self) -> &[u8]
+        ensures { result.now ≡ self.now }
+    {
+        &self.octets.as_slice()[self.written..]
+    }
+
+    /// How many octets wait.
+    pub fn len(&self) -> usize
+        ensures { result ≡ length self.now }
+    {
+        self.octets.len() - self.written
+    }
+
+    /// Whether none waits.
+    pub fn is_empty(&self) -> bool
+        ensures { IsTrue result ↔ (self.now ≡ []) }
+    {
+        self.len() == 0
+    }
+
+    /// The first `n` of those that wait were written: as many as wait, at most. It moves none of the others. Where none
+    /// is left, room that held more than 65,536 octets is given back.
+    pub fn wrote(&mut self, n: usize)
+        requires { n ≤ length self.old }
+        ensures { self.new ≡ drop n self.old }
+    {
+        let left = self.len() - n;
+        if left > 0 {
+            self.written = self.octets.len() - left;
+            return;
+        }
+        if self.octets.len() > FULL {
+            self.octets = Octets::new(self.alloc);
+        } else {
+            self.octets.truncate(0);
+        }
+        self.written = 0;
+    }
+
+    /// Whether a further item may be taken: fewer than 65,536 octets wait.
+    pub fn may_take(&self) -> bool
+        ensures { IsTrue result ↔ (length self.now < 65536) }
+    {
+        self.len() < FULL
+    }
+
+    /// Lets go of what was written, where that is 65,536 octets or more, and as many as wait: so each octet is moved at
+    /// most once for one that was written. Out of memory it stays.
+    fn tidy(&mut self)
+        ensures { self.new ≡ self.old }
+    {
+        if self.written < FULL || self.written < self.len() {
+            return;
+        }
+        if let Ok(octets) = Octets::from_slice(self.alloc, self.pending()) {
+            self.octets = octets;
+            self.written = 0;
+        }
+    }
+}

@@ -1,0 +1,118 @@
+-- A net is a run of the machine, so that the laws of the machine's runs are laws of nets.
+use Rattle.std.proofs.Common.{◌≡◌, ℕ, Bool, true, false, List, [], ◌∷◌, ◌++◌, Option, Some, None, refl, sym, ap, subst, ◌∙◌, append-nil, inl, inr}
+use Rattle.std.specs.List.{filter}
+use Rattle.std.specs.Prelude.{get_or, if◌then◌else◌}
+use Rattle.std.specs.Option.{option_to_list, option_map_or}
+use Rattle.stomp_frame.specs.declared.raw_frame.RawFrame.{RawFrame}
+use Rattle.mcast_txn.specs.declared.id.Topic.{Topic}
+use Rattle.mcast_txn.specs.Lists.{In}
+use Rattle.mcast_group.specs.declared.fault.ProposeFault.{ProposeFault}
+use Rattle.mcast_group.specs.Sound.{IsSound}
+use Rattle.stomp_session.specs.declared.action.Action.{Action}
+use Rattle.stomp_session.specs.declared.action.Action.TheVariants as actions
+use Rattle.stomp_session.specs.Answers.{action_by}
+use Rattle.delivery.specs.declared.event.Event.{Event}
+use Rattle.delivery.specs.declared.outcome.Outcome.{Outcome}
+use Rattle.delivery.specs.Topics.{TopicList}
+use Rattle.delivery.specs.Machine.World.{World, topic_at}
+use Rattle.delivery.specs.Machine.Moves.{Move, Answer}
+use Rattle.delivery.specs.Machine.Moves.Move.{Errs, Lost}
+use Rattle.delivery.specs.Theorem.Laws.{answers_of, final_world}
+use Rattle.delivery.specs.Core.Account.{account_of}
+use Rattle.delivery.specs.Theorem.Tied.{added_clocks}
+use Rattle.delivery.specs.Core.Steps.{CoreStep, Reading, frame_in, has_effect}
+use Rattle.delivery.specs.Core.State.{Core, core_of, moves, session_at, frame_move, is_faulted, is_no_memory, is_out_of_memory}
+use Rattle.delivery.specs.Core.Output.{is_cut}
+use Rattle.delivery.specs.Nets.{KeptRun, IsRunOfCore}
+use Rattle.delivery.specs.NetLaws.{moves_of, run_of_net, is_told, NetsAreRuns, NetsAreTied, NetsAreSound, NothingOddComes, NoneFailsTwice}
+use Rattle.delivery.proofs.Theorem.NeverRefused.{none_is_pending_twice}
+use Rattle.delivery.proofs.Theorem.StepLaws.{odd_never_comes}
+use Rattle.delivery.proofs.Theorem.TopicsAreSound.{topics_are_sound}
+use Rattle.delivery.proofs.Theorem.TopicsAreTied.{topics_are_tied}
+use Rattle.delivery.proofs.Core.Said.{said, said_from}
+use Rattle.delivery.proofs.Core.AccountOfRun.{all_moves, run_of, world_is, account_is}
+
+-- the moves are those of the machine's run
+moves_are : (topics : TopicList) (capacity : ℕ) (steps : List CoreStep) → all_moves topics capacity steps ≡ moves_of topics capacity steps
+moves_are topics capacity [] = refl
+moves_are topics capacity (step ∷ older) =
+    ap (λ (ms : List Move). ms ++ moves (core_of topics capacity older) step.event step.reading step.outcome) (moves_are topics capacity older)
+
+run_is : (net : KeptRun) → run_of net.topics net.capacity net.steps ≡ run_of_net net
+run_is net =
+    ap (λ (ms : List Move). record { capacity = net.capacity; log_limit = 65536; clocks = net.topics.clocks; events = ms }) (moves_are net.topics net.capacity net.steps)
+
+-- what an account says of the machine's answers
+said_is : (past : List Answer) → said past ≡ filter is_told past
+said_is [] = refl
+said_is (Answer.Refused why ∷ past) = said_is past
+said_is (Answer.Done ∷ past) = said_is past
+said_is (o ∷ past) = ap (λ z. o ∷ z) (said_is past)
+
+-- ---- no move adds a topic
+
+added_append : (es fs : List Move) → added_clocks (es ++ fs) ≡ added_clocks es ++ added_clocks fs
+added_append [] fs = refl
+added_append (Move.AddsTopic clock ∷ es) fs = ap (λ (z : List ℕ). clock ∷ z) (added_append es fs)
+added_append (e ∷ es) fs = added_append es fs
+
+none_by_action : (k : Core) (c : ℕ) (action : Action) → added_clocks (option_to_list (frame_move k c action)) ≡ []
+none_by_action k c actions.Connected = refl
+none_by_action k c actions.Nothing = refl
+none_by_action k c (actions.Subscribe id t) = refl
+none_by_action k c (actions.Unsubscribe id) = refl
+none_by_action k c (actions.Commit sends) = refl
+none_by_action k c actions.Disconnect = refl
+
+none_by_frame : (k : Core) (c : ℕ) (read : Option RawFrame)
+    → added_clocks (option_map_or (λ (f : RawFrame). option_to_list (frame_move k c (action_by f.command (session_at k c) f))) read []) ≡ []
+none_by_frame k c None = refl
+none_by_frame k c (Some f) = none_by_action k c (action_by f.command (session_at k c) f)
+
+none_if : (b : Bool) (es fs : List Move) → added_clocks es ≡ [] → added_clocks fs ≡ [] → added_clocks (if b then es else fs) ≡ []
+none_if true es fs h g = h
+none_if false es fs h g = g
+
+none_added : (k : Core) (e : Event) (rd : Reading) (o : Outcome) → added_clocks (moves k e rd o) ≡ []
+none_added k Event.Open rd o = none_if (is_no_memory o) [] (Move.Opens ∷ []) refl refl
+none_added k (Event.Next c) rd o =
+    none_if (is_faulted o) (Errs c ∷ []) _ refl (none_if (has_effect o) _ [] (none_by_frame k c (frame_in rd)) refl)
+none_added k (Event.Decide c) rd o = none_if (is_cut o) (Lost c ∷ []) [] refl refl
+none_added k (Event.Take s) rd o = none_if (is_no_memory o) [] (Move.Takes s ∷ []) refl refl
+none_added k e rd o = refl
+
+no_topics_added : (topics : TopicList) (capacity : ℕ) (steps : List CoreStep) → added_clocks (moves_of topics capacity steps) ≡ []
+no_topics_added topics capacity [] = refl
+no_topics_added topics capacity (step ∷ older) =
+    let k = core_of topics capacity older in
+    added_append (moves_of topics capacity older) (moves k step.event step.reading step.outcome)
+    ∙ (ap (λ (z : List ℕ). z ++ added_clocks (moves k step.event step.reading step.outcome)) (no_topics_added topics capacity older)
+    ∙ none_added k step.event step.reading step.outcome)
+
+-- ---- nets
+
+-- each net is a run of the machine
+pub nets_are_runs : NetsAreRuns
+nets_are_runs net r is = record {
+  core = world_is net.topics net.capacity net.steps ∙ ap (λ q. final_world q) (run_is net);
+  account = account_is net.topics net.capacity net.steps is.is_run
+      ∙ (ap (λ q. said (answers_of q)) (run_is net) ∙ said_is (answers_of (run_of_net net)));
+  opening = λ t. ap (λ (z : List ℕ). get_or (net.topics.clocks ++ z) t.0 0) (no_topics_added net.topics net.capacity net.steps)
+      ∙ ap (λ (z : List ℕ). get_or z t.0 0) (append-nil net.topics.clocks);
+}
+
+pub nets_are_tied : NetsAreTied
+nets_are_tied net r is t = topics_are_tied (run_of_net net) t
+
+pub nets_are_sound : NetsAreSound
+nets_are_sound net r is t =
+    subst (λ (w : World). IsSound (topic_at w t)) (sym (nets_are_runs net r is).core) (topics_are_sound (run_of_net net) t).0
+
+pub nothing_odd_comes : NothingOddComes
+nothing_odd_comes net r is why i = odd_never_comes (run_of_net net) why i
+
+pub none_fails_twice : NoneFailsTwice
+none_fails_twice net r is id i =
+    let told : account_of net.topics.names net.steps ≡ said (answers_of (run_of_net net)) = account_is net.topics net.capacity net.steps is.is_run ∙ ap (λ q. said (answers_of q)) (run_is net) in
+    none_is_pending_twice (run_of_net net) id
+    (said_from (Answer.Failed id ProposeFault.Twice) (answers_of (run_of_net net)) (subst (λ z. In (Answer.Failed id ProposeFault.Twice) z) told i))

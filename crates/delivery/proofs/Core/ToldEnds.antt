@@ -1,0 +1,36 @@
+-- The ends of spans that an account tells, listed: so that a row's account has no other.
+use Rattle.std.proofs.Common.{◌≡◌, ℕ, ◌==◌, Bool, true, false, cond, inl, inr, List, [], ◌∷◌, sym, subst, ◌∙◌}
+use Rattle.std.proofs.lemmas.Bool.{eq-eqb, true≢false}
+use Rattle.std.specs.Prelude.{if◌then◌else◌}
+use Rattle.mcast_txn.specs.declared.stamp.Stamp.{Stamp}
+use Rattle.mcast_txn.specs.Lists.{In}
+use Rattle.mcast_txn.proofs.Members.{any_from}
+use Rattle.delivery.specs.Machine.Moves.{Answer}
+use Rattle.delivery.specs.Theorem.Settled.{IsSilent, closes}
+use Rattle.delivery.specs.Core.Output.{has_closed}
+
+-- the ends of subscription s
+abbrev pub ends_of : ℕ → List Answer → List Stamp
+ends_of s [] = []
+ends_of s (Answer.Unsubscribed r to ∷ before) = if r == s then to ∷ ends_of s before else ends_of s before
+ends_of s (o ∷ before) = ends_of s before
+
+either : (b : Bool) (to first : Stamp) (others : List Stamp) → In to others → In to (cond b (first ∷ others) others)
+either true to first others k = inr k
+either false to first others k = k
+
+-- an end that is told is among them
+pub in_ends : (s : ℕ) (to : Stamp) (account : List Answer) → In (Answer.Unsubscribed s to) account → In to (ends_of s account)
+in_ends s to [] k = k
+in_ends s to (Answer.Unsubscribed r v ∷ before) (inl e) =
+    let a : r ≡ s = cc in let b : v ≡ to = cc in
+    subst (λ z. In to (cond z (v ∷ ends_of s before) (ends_of s before))) (sym (eq-eqb r s a)) (inl b)
+in_ends s to (Answer.Unsubscribed r v ∷ before) (inr k) = either (r == s) to v (ends_of s before) (in_ends s to before k)
+in_ends s to (o ∷ before) (inl e) = cc
+in_ends s to (o ∷ before) (inr k) = in_ends s to before k
+
+-- a subscription is silent only where it was closed, or a connection was
+pub not_silent : (s : ℕ) (account : List Answer) → ends_of s account ≡ [] → ((c : ℕ) → has_closed c account ≡ false) → IsSilent s account → Prim.⊥
+not_silent s account none unclosed (inl h) = subst (λ z. In h.0 z) none (in_ends s h.0 account h.1)
+not_silent s account none unclosed (inr h) =
+    true≢false (sym (any_from (closes h.0) h.3 account h.5 h.6) ∙ unclosed h.0)

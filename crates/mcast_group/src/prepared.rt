@@ -1,0 +1,110 @@
+//! Parts with all that their entering needs.
+
+ghost use Rattle.std.specs.Prelude.{◌≡◌, ◌≤◌, length, None, IfOk};
+ghost use Rattle.std.specs.Arc.{arc_value};
+ghost use Rattle.mcast_txn.specs.Part.{data_of};
+ghost use Rattle.mcast_group.specs.Inner.Copies.{AreOf};
+
+use crate::boxed_part::BoxedPart;
+use crate::copies::Copies;
+use crate::pending::PendingPart;
+use mcast_txn::{NoMemory, Part};
+use std::alloc::Global;
+use std::marker::Model;
+use std::sync::Arc;
+
+/// A part on the heap, as it will be among those that are pending, and a copy for each of so many subscriptions. In
+/// contracts it is what the part says.
+#[derive(Drop)]
+pub(crate) struct Prepared {
+    entry: BoxedPart,
+    copies: Copies,
+    many: usize,
+}
+
+impl Model for Prepared {
+    ghost use Rattle.mcast_txn.specs.Transaction.{TopicPart};
+    ghost use Rattle.mcast_group.specs.Inner.Copies.{IsPrepared};
+
+    ghost Value = { TopicPart };
+
+    ghost view = { λ p. p.entry.part };
+
+    ghost invariant = { λ p. IsPrepared p.entry p.copies p.many };
+}
+
+impl Prepared {
+    /// A part without copies.
+    pub(crate) fn new(alloc: Global, part: Arc<Part>) -> Result<Prepared, NoMemory>
+        ensures { IfOk result (λ prepared. prepared ≡ data_of (arc_value part)) }
+    {
+        let entry = BoxedPart::new(alloc, PendingPart::new(part, 0)?)?;
+        let copies = Copies::of(alloc, entry.part(), 0)?;
+        Ok(Prepared {
+            entry,
+            copies,
+            many: 0,
+        })
+    }
+
+    /// The part.
+    pub(crate) fn part(&self) -> &Part
+        ensures { data_of result.now ≡ self.now }
+    {
+        self.entry.part().part()
+    }
+
+    /// Makes a copy for each of so many subscriptions, where it has fewer.
+    pub(crate) fn copy_for(&mut self, alloc: Global, many: usize) -> Result<(), NoMemory>
+        ensures { self.new ≡ self.old }
+    {
+        if self.many < many {
+            self.copies = Copies::of(alloc, self.entry.part(), many)?;
+            self.many = many;
+        }
+        Ok(())
+    }
+
+    /// The part with the number of its ticket, and a copy for each of so many subscriptions: with no memory where it had
+    /// them.
+    pub(crate) fn into_entry(
+        self,
+        alloc: Global,
+        number: u64,
+        many: usize,
+    ) -> Result<(BoxedPart, Copies), NoMemory>
+        ensures entry { IfOk result (λ made. made.0 ≡ record { part = self; number = number; learnt = None }) }
+        ensures many { IfOk result (λ made. length made.1 ≡ many) }
+        ensures copies { IfOk result (λ made. AreOf self made.1) }
+    {
+        let Prepared {
+            mut entry,
+            copies,
+            many: had,
+        } = self;
+        let copies = enough(alloc, entry.part(), copies, had, many)?;
+        entry.number_as(number);
+        Ok((entry, copies))
+    }
+}
+
+/// A copy for each of so many subscriptions: of these ones, where there are so many of them.
+fn enough(
+    alloc: Global,
+    part: &PendingPart,
+    copies: Copies,
+    had: usize,
+    many: usize,
+) -> Result<Copies, NoMemory>
+    requires of { AreOf part.now.part copies }
+    requires had { had ≤ length copies }
+    ensures many { IfOk result (λ made. length made ≡ many) }
+    ensures copies { IfOk result (λ made. AreOf part.now.part made) }
+{
+    if had < many {
+        return Copies::of(alloc, part, many);
+    }
+    let mut copies = copies;
+    copies.keep(many);
+    Ok(copies)
+}

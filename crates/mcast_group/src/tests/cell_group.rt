@@ -1,0 +1,185 @@
+//! Topics whose parts learn from the cells of their own flights, and from nothing else.
+
+use super::calls::{id, part_of, stamp, txn_to, verdict_of};
+use crate::{CellGroup, Proposal, ProposeFault, SubState, Turned};
+use mcast_txn::{Flight, Part, Stamp, Topic};
+use std::alloc::Global;
+use std::sync::Arc;
+use sub_queue::VecOutlet;
+
+/// Enters a part at topic 0, whose flight is returned.
+fn entered(
+    alloc: Global,
+    group: &mut CellGroup<VecOutlet>,
+    seq: u64,
+    topics: &[u32],
+) -> Option<Arc<Flight>> {
+    let part = part_of(alloc, id(seq), topics, group.group().topic())?;
+    let flight = part.flight.clone().ok()?;
+    group.propose(alloc, stamp(0, 0), part).ok()?;
+    Some(flight)
+}
+
+/// Sets a flight's cell.
+fn decide(alloc: Global, flight: &Flight, rows: &[(u32, u64)]) -> Option<()> {
+    let mut note = flight.note();
+    let verdict = verdict_of(alloc, flight.id(), rows)?;
+    flight.decide(&mut note, verdict).ok()
+}
+
+/// What a turn releases, how many parts wait after it, and whether a note of this index is kept.
+fn turn(group: &mut CellGroup<VecOutlet>, index: usize) -> (Turned, usize, bool) {
+    let turned = group.turn(&());
+    let waiting = group.waiting_len();
+    (turned, waiting, group.note(index).is_some())
+}
+
+/// A turn that released so many and saw no lag.
+fn quiet(released: u64) -> Turned {
+    Turned {
+        released,
+        lagged: false,
+    }
+}
+
+/// Three turns of a topic with two parts: before a verdict, with that of the second, and with that of the first too.
+fn held_back(alloc: Global) -> Option<[(Turned, usize, bool); 3]> {
+    let mut group = CellGroup::new(alloc, Topic(0), 0, 8);
+    let first = entered(alloc, &mut group, 1, &[0])?;
+    let second = entered(alloc, &mut group, 2, &[0])?;
+    let none = turn(&mut group, 0);
+    decide(alloc, &second, &[(0, 2)])?;
+    let one = turn(&mut group, 0);
+    decide(alloc, &first, &[(0, 1)])?;
+    let both = turn(&mut group, 1);
+    Some([none, one, both])
+}
+
+#[test]
+fn a_part_learns_from_its_own_cell(rt: HostRuntime) {
+    let none = (quiet(0), 2, false);
+    let one = (quiet(0), 1, true);
+    let both = (quiet(2), 0, true);
+    assert!(rt; held_back(rt.alloc()) == Some([none, one, both]));
+}
+
+/// A topic that has turned once, after its part's cell got a verdict of these rows: the stamp of the row that it
+/// released, if one, and how many parts wait.
+fn turned_with(alloc: Global, rows: &[(u32, u64)]) -> Option<(Option<Stamp>, usize)> {
+    let mut group = CellGroup::new(alloc, Topic(0), 0, 8);
+    let flight = entered(alloc, &mut group, 1, &[0, 1])?;
+    decide(alloc, &flight, rows)?;
+    let _ = group.turn(&());
+    let stamp = group.group().held(0).map(|row| row.stamp);
+    Some((stamp, group.waiting_len()))
+}
+
+#[test]
+fn a_part_waits_on_where_its_verdict_is_refused(rt: HostRuntime) {
+    let alloc = rt.alloc();
+    assert_eq!(rt;
+        turned_with(alloc, &[(0, 1), (1, 9)]),
+        Some((Some(stamp(9, 1)), 0))
+    );
+    assert_eq!(rt; turned_with(alloc, &[(0, 2), (1, 9)]), Some((None, 1)));
+}
+
+/// What two turns tell of a subscription whose queue has room for one item: the first releases two parts, the second
+/// none.
+fn lagged(alloc: Global) -> Option<(Turned, Turned, Option<SubState>)> {
+    let mut group = CellGroup::new(alloc, Topic(0), 0, 8);
+    let from = group.subscribe(7, VecOutlet::new(alloc, 1));
+    if from.is_err() {
+        return None;
+    }
+    for seq in 1..3u64 {
+        let flight = entered(alloc, &mut group, seq, &[0])?;
+        decide(alloc, &flight, &[(0, seq)])?;
+    }
+    let first = group.turn(&());
+    let second = group.turn(&());
+    Some((first, second, group.group().state(7)))
+}
+
+#[test]
+fn a_turn_tells_that_a_subscription_lagged(rt: HostRuntime) {
+    let first = Turned {
+        released: 2,
+        lagged: true,
+    };
+    let state = Some(SubState::Lag(stamp(1, 0)));
+    assert!(rt; lagged(rt.alloc()) == Some((first, quiet(0), state)));
+}
+
+/// How many parts wait after a cancelling, and what a turn then releases of the other part.
+fn cancelled(alloc: Global) -> Option<(usize, Turned)> {
+    let mut group = CellGroup::new(alloc, Topic(0), 0, 8);
+    let _ = entered(alloc, &mut group, 1, &[0])?;
+    let second = entered(alloc, &mut group, 2, &[0])?;
+    decide(alloc, &second, &[(0, 2)])?;
+    group.cancel(id(1)).ok()?;
+    let waiting = group.waiting_len();
+    Some((waiting, group.turn(&())))
+}
+
+#[test]
+fn a_cancelled_part_waits_no_longer(rt: HostRuntime) {
+    assert!(rt; cancelled(rt.alloc()) == Some((1, quiet(1))));
+}
+
+/// The topics at which two parts of one transaction are pending, once it is decided and both have turned; their notes
+/// agree, since they are of one cell.
+fn two_topics(alloc: Global) -> Option<[Stamp; 2]> {
+    let flight = Flight::new(alloc, id(1)).ok()?;
+    let mut parts = txn_to(alloc, &[0, 1])?.split(alloc, &flight).ok()?;
+    let mut stamps = [stamp(0, 0), stamp(0, 0)];
+    let part = parts.part(Topic(0))?;
+    stamps[0] = released_of(alloc, Topic(0), part, &flight)?;
+    let part = parts.part(Topic(1))?;
+    stamps[1] = released_of(alloc, Topic(1), part, &flight)?;
+    Some(stamps)
+}
+
+/// The stamp with which a topic releases this part, once its flight is decided.
+fn released_of(alloc: Global, topic: Topic, part: Arc<Part>, flight: &Flight) -> Option<Stamp> {
+    let mut group = CellGroup::<VecOutlet>::new(alloc, topic, 0, 8);
+    if part.topic.0 != topic.0 {
+        return None;
+    }
+    group.propose(alloc, stamp(0, 0), part).ok()?;
+    let _ = decide(alloc, flight, &[(0, 1), (1, 1)]);
+    let _ = group.turn(&());
+    Some(group.group().held(0)?.stamp)
+}
+
+#[test]
+fn two_topics_learn_one_stamp(rt: HostRuntime) {
+    assert_eq!(rt; two_topics(rt.alloc()), Some([stamp(1, 1), stamp(1, 1)]));
+}
+
+/// With one allocation refused (`rt try --test --fail-alloc N`) it is `prepare` that is refused by 42, and never the
+/// `enter` after it: all that entering needs is there by then.
+#[test]
+fn what_was_prepared_enters(rt: HostRuntime) {
+    let alloc = rt.alloc();
+    for _ in 0..4u8 {
+        let mut group = CellGroup::<VecOutlet>::new(alloc, Topic(0), 4, 1);
+        let Some(part) = part_of(alloc, id(1), &[0, 1], Topic(0)) else {
+            continue;
+        };
+        let Ok(mut proposal) = Proposal::new(alloc, part) else {
+            continue;
+        };
+        if let Err(fault) = group.prepare(stamp(0, 0), &mut proposal) {
+            assert_eq!(rt; fault, ProposeFault::NoMemory);
+            continue;
+        }
+        if proposal.topic().0 != group.group().topic().0 {
+            continue;
+        }
+        match group.enter(stamp(0, 0), proposal) {
+            Ok(ticket) => assert_eq!(rt; ticket.n, 5),
+            Err(fault) => assert_eq!(rt; fault.number(), 0),
+        }
+    }
+}
