@@ -30,6 +30,7 @@ struct Counts {
 /// A pusher of a new source, whose first item has number 0.
 fn first_pusher<R>(source: Source<R>) -> Pusher<R>
     requires { source.items ≡ [] }
+    ensures { result.source.queue ≡ source.queue }
 {
     Pusher { source, next: 0 }
 }
