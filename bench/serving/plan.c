@@ -74,7 +74,7 @@ struct plan plan_read(char **words)
 {
     struct plan plan = {
         .publishers = 1, .readers = 1, .each = 1, .topics = 1, .size = 16, .window = 32, .sends = 1,
-        .warm = 100, .measured = 500, .patience = 5000, .most = 1 << 24, .prefix = "T",
+        .warm = 100, .measured = 500, .patience = 20000, .most = 1 << 24, .prefix = "T",
     };
     for (; *words != NULL; words++)
         keep(&plan, *words);

@@ -45,7 +45,12 @@ def ratio(cells, over, under, name):
     each = [a[name] / b[name] for a, b in zip(one.rounds, other.rounds) if b[name] > 0]
     if not each:
         return NONE
-    return f"{statistics.median(each):.2f} ({min(each):.2f} to {max(each):.2f})"
+    return f"{short(statistics.median(each))} ({short(min(each))} to {short(max(each))})"
+
+
+def short(value):
+    """Two digits behind the point, or two that count."""
+    return f"{value:.2f}" if value >= 0.1 else f"{value:.2g}"
 
 
 def figure(cells, server, name, form):
