@@ -10,8 +10,7 @@ from servers import OUT, Server
 SHORT = ["warm=0", "measured=400", "patience=15000", "most=20000", "whole"]
 IDLE_SECONDS = 0.1
 
-# What a wrong server does, the row that shows it, and what has to be told of it. Where nothing else may be told, the messages came
-# in order, and only what is looked for across them was wrong.
+# What a wrong server does, the row that shows it, what has to be told of it, and whether nothing else may be.
 ONE_TOPIC = rows.Row("one topic", "size=64 publishers=4 readers=4")
 TRANSACTIONS = rows.Row("transactions", "size=64 publishers=4 readers=4 topics=2 each=2 sends=4", 2)
 WRONG = {

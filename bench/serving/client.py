@@ -63,11 +63,11 @@ class Client:
         self.wait_for(b"\0")
         return self
 
-    def ask(self, frames, receipt=b"ask"):
+    def ask(self, frames, receipt=b"ask", seconds=10.0):
         """Sends frames, and one more that asks for a receipt, and waits for it: the server has then done what they ask for."""
         self.send(frames + b"BEGIN\ntransaction:" + receipt + b"\nreceipt:" + receipt + b"\n\n\0")
         self.send(b"ABORT\ntransaction:" + receipt + b"\n\n\0")
-        self.wait_for(b"receipt-id:" + receipt + b"\n\n\0")
+        self.wait_for(b"receipt-id:" + receipt + b"\n\n\0", seconds)
 
     def close(self):
         self.socket.close()

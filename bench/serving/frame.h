@@ -43,7 +43,9 @@ static inline bool text_same(struct text one, struct text other)
     return one.size == other.size && memcmp(one.at, other.at, one.size) == 0;
 }
 
-/* Whether this header line, of so many octets, has this name; and the place of its value. */
-#define LINE_IS(line, size, name) ((size) >= sizeof name && (line)[sizeof name - 1] == ':' && memcmp(line, name, sizeof name - 1) == 0)
+/* Whether this header line, of so many octets, has this name. */
+#define LINE_IS(line, size, name)                                  \
+    ((size) >= sizeof name && (line)[sizeof name - 1] == ':'       \
+     && memcmp(line, name, sizeof name - 1) == 0)
 
 #endif

@@ -26,10 +26,14 @@ NAMES = [it.decode() for it in (*TOPICS, MINE)]
 
 
 class Trial:
-    """One row's server, and what wasn't as it has to be."""
+    """One row's server, what part of each count is done, how many milliseconds are at once, and what wasn't as it has to be."""
 
-    def __init__(self, server):
-        self.server, self.address, self.faults = server, server.address, []
+    def __init__(self, server, parts, at_once):
+        self.server, self.address, self.parts, self.at_once, self.faults = server, server.address, parts, at_once, []
+
+    def part(self, count):
+        """A count, or of a slow build a part of it."""
+        return max(1, count // self.parts)
 
     def expect(self, is_so, what):
         if not is_so:
@@ -52,7 +56,7 @@ def close_all(clients):
 
 def plain_use(trial):
     """255 connections that subscribe, send, and leave. What memory it leaves is what the other rows have to come back to."""
-    clients = trial.open(MOST_CONNECTIONS - 1, subscribe(TOPICS[0]))
+    clients = trial.open(trial.part(MOST_CONNECTIONS - 1), subscribe(TOPICS[0]))
     for it in clients:
         it.ask(b"")
     clients[0].send(send_frame(TOPICS[0], b"to all"))
@@ -68,7 +72,7 @@ def plain_use(trial):
 def one_octet_a_second(trial, seconds=20):
     """255 connections that send one octet a second."""
     text = b"CONNECT\naccept-version:1.2\nhost:" + b"h" * seconds
-    slow = [Client(trial.address) for _ in range(MOST_CONNECTIONS - 1)]
+    slow = [Client(trial.address) for _ in range(trial.part(MOST_CONNECTIONS - 1))]
     taken, longest = trial.server.time(), 0.0
     for second in range(seconds):
         begun = time.monotonic()
@@ -78,7 +82,7 @@ def one_octet_a_second(trial, seconds=20):
         time.sleep(max(0.0, 1.0 - (time.monotonic() - begun)))
     taken = (trial.server.time() - taken) / seconds
     close_all(slow)
-    trial.expect(longest < 1000, f"another client waited {longest:.0f} ms")
+    trial.expect(longest < trial.at_once, f"another client waited {longest:.0f} ms")
     return f"another client was served within {longest:.0f} ms; {1e3 * taken:.1f} ms of processor time a second"
 
 
@@ -95,8 +99,9 @@ def rate_of_another(trial, milliseconds=1500):
 def never_read(trial, seconds=20):
     """254 connections that subscribe to 64 topics each and never read, while others send to these topics."""
     before = rate_of_another(trial)
-    wanted = b"".join(subscribe(topic, at) for at, topic in enumerate(TOPICS[:-1])) + subscribe(TOPICS[-1], 63, b"receipt:s\n")
-    stuck = trial.open(MOST_CONNECTIONS - 2, wanted, receive_room=4096)
+    wanted = b"".join(subscribe(topic, at) for at, topic in enumerate(TOPICS[:-1]))
+    wanted += subscribe(TOPICS[-1], MOST_OPEN - 1, b"receipt:s\n")
+    stuck = trial.open(trial.part(MOST_CONNECTIONS - 2), wanted, receive_room=4096)
     for it in stuck:
         it.wait_for(b"receipt-id:s\n\n\0", 30)
     sent, during = flood(trial, seconds)
@@ -122,14 +127,15 @@ def flood(trial, seconds):
         for _ in range(3 * MOST_OPEN):
             if time.monotonic() > until:
                 break
-            sender.ask(b"".join(send_frame(topic, body) for topic in TOPICS))
+            sender.ask(b"".join(send_frame(topic, body) for topic in TOPICS), b"ask", 60)
             sent += len(TOPICS)
     other.join()
     return sent, rates[0] if rates else 0.0
 
 
-def opened_and_reset(trial, count=10000, seconds=120):
+def opened_and_reset(trial, seconds=120):
     """10,000 connections that are opened and reset: at once, within a CONNECT, or once they have subscribed."""
+    count = trial.part(10000)
     fronts = [b"", b"CONNECT\naccept-ver", b"CONNECT\naccept-version:1.2\nhost:h\n\n\0" + subscribe(TOPICS[0])]
     begun, done, refused = time.monotonic(), 0, 0
     while done < count and time.monotonic() - begun < seconds:
@@ -145,8 +151,9 @@ def opened_and_reset(trial, count=10000, seconds=120):
     return f"{done:,} in {took:.1f} s; {refused:,} of them couldn't be opened or were reset by the server"
 
 
-def begins(trial, count=10000):
+def begins(trial):
     """10,000 BEGINs that are never committed: of one connection, and of as many as it takes, each with a SEND."""
+    count = trial.part(10000)
     names = [b"BEGIN\ntransaction:%d\n\n\0" % at for at in range(count)]
     with Client(trial.address) as one:
         one.connect()
@@ -155,7 +162,7 @@ def begins(trial, count=10000):
         except OSError:
             pass
         number = error_of(one.read_to_end())
-    trial.expect(number == 70, f"10,000 BEGINs of one connection were answered by {number} and not 70")
+    trial.expect(number == 70, f"{count:,} BEGINs of one connection were answered by {number} and not 70")
     names = [it + send_frame(TOPICS[0], b"x" * 64, b"transaction:%d\n" % at) for at, it in enumerate(names)]
     before, clients, each = trial.server.memory(), [], MOST_OPEN - 1
     for at in range(0, count, each):
@@ -163,7 +170,10 @@ def begins(trial, count=10000):
         clients[-1].ask(b"".join(names[at : at + each]))
     memory = trial.server.memory() - before
     close_all(clients)
-    return f"one connection: {number} at its 65th; {len(clients)} connections with {count:,} open, each with a SEND: {memory / count:.1f} KiB each"
+    return (
+        f"one connection: {number} at its 65th; {len(clients)} connections with {count:,} open, each with a SEND: "
+        f"{memory / count:.1f} KiB each"
+    )
 
 
 def longest_send(body, headers=0, line=0):
@@ -174,9 +184,9 @@ def longest_send(body, headers=0, line=0):
     return send_frame(TOPICS[0], body, b"\n".join(lines) + b"\n")
 
 
-def every_limit(trial, rounds=20):
+def every_limit(trial):
     """Frames at every limit at once, and then one beyond each."""
-    body, frames = bytes(MOST_BODY), 0
+    body, frames, rounds = bytes(MOST_BODY), 0, trial.part(20)
     with Client(trial.address) as it:
         it.connect(subscribe(TOPICS[0]))
         for _ in range(rounds):
@@ -195,7 +205,8 @@ def every_limit(trial, rounds=20):
     for what, (text, number) in beyond.items():
         found = answer_to(trial, text)
         trial.expect(found == number, f"{what} too many was answered by {found} and not {number}")
-    return f"{frames} MESSAGEs of {len(longest_send(body)):,} octets came whole; one too many of each: {', '.join(str(it[1]) for it in beyond.values())}"
+    size, numbers = len(longest_send(body)), ", ".join(str(it[1]) for it in beyond.values())
+    return f"{frames} MESSAGEs of SENDs of {size:,} octets came whole; one too many of each was answered by {numbers}"
 
 
 def answer_to(trial, text):
@@ -209,8 +220,9 @@ def answer_to(trial, text):
         return error_of(it.read_to_end())
 
 
-def half_closed(trial, count=100):
+def half_closed(trial):
     """Connections that shut their side once they have sent, and then read."""
+    count = trial.part(100)
     text = subscribe(TOPICS[0]) + b"".join(send_frame(TOPICS[0], b"x", b"receipt:%d\n" % at) for at in range(5))
     clients = trial.open(count)
     longest = 0.0
@@ -252,14 +264,15 @@ def few_descriptors(trial, count=100):
 def claimed_ids(trial, seconds=150):
     """65,536 client-ids are claimed, one connection after another. They are kept as long as the server runs."""
     before, begun, count = trial.server.memory(), time.monotonic(), 0
-    while count < MOST_IDS and time.monotonic() - begun < seconds:
+    most = trial.part(MOST_IDS)
+    while count < most and time.monotonic() - begun < seconds:
         number = claim(trial, b"id%d" % count)
         trial.expect(number is None, f"the {count + 1}th id was answered by {number}")
         count += 1
     memory = trial.server.memory() - before
-    if count < MOST_IDS:
+    if count < most:
         trial.expect(False, f"only {count:,} ids in {seconds} s")
-    else:
+    elif most == MOST_IDS:
         trial.expect(claim(trial, b"one more") == 78, "one more id wasn't answered by 78")
         trial.expect(claim(trial, b"id0") is None, "an id that is kept wasn't served")
     return f"{count:,} in {time.monotonic() - begun:.0f} s; {1024 * memory / max(count, 1):.0f} octets of memory each, which stay"

@@ -3,50 +3,41 @@
  * streams in one order. It writes one line, of JSON. Plans are in plan.h.
  *     load port=N process=N [NAME=VALUE..] */
 #define _GNU_SOURCE
-#include "agree.h"
 #include "client.h"
 #include "clock.h"
+#include "measured.h"
 #include "plan.h"
 #include "publishers.h"
 #include "room.h"
 #include "streams.h"
 
-#include <inttypes.h>
-#include <stdio.h>
-#include <stdlib.h>
 #include <sys/epoll.h>
 #include <sys/timerfd.h>
 #include <unistd.h>
 
-enum { EVENTS = 256, MOST_TIMES = 1 << 20 };
+/* Events taken at once, and the longest wait, in milliseconds. */
+enum { EVENTS = 256, WAIT = 50 };
 
 static struct plan plan;
 static struct client *clients;
-static int count_of_clients, poller, timer = -1;
+static int count_of_clients, poller, timer;
+static int64_t begun;
 
-/* What was measured: from when, to when, how many came, the server's processor time and this program's. */
-static struct {
-    int64_t from, to, first_came, came, server, own;
-} measured;
-static int64_t came, begun, last_came;
-static int64_t *times;
-static size_t count_of_times;
-
-/* The connection of a publisher, and of a reader. */
-static struct client *publisher_client(int number)
-{
-    return &clients[number];
-}
-
-static struct client *reader_client(int reader)
+/* The client that is this reader. The publishers' come first; with `own` they are the same. */
+static struct client *client_of(int reader)
 {
     return &clients[plan.own ? reader : plan.publishers + reader];
 }
 
-static void watch(int descriptor, void *it)
+static bool subscribe_all(void)
 {
-    struct epoll_event event = {.events = EPOLLIN | EPOLLOUT | EPOLLRDHUP | EPOLLET, .data.ptr = it};
-    epoll_ctl(poller, EPOLL_CTL_ADD, descriptor, &event);
+    for (int at = 0; at < count_of_streams; at++) {
+        struct client *client = client_of(at / plan.each);
+        client->first_stream = at - at % plan.each;
+        if (!client_subscribe(client, &plan, at % plan.each, streams[at].topic))
+            return false;
+    }
+    return true;
 }
 
 /* Connects all clients and subscribes; whether the server took all of that. */
@@ -57,61 +48,56 @@ static bool connect_all(void)
     while (count_of_clients < count)
         if (!client_connect(&clients[count_of_clients++], plan.port))
             return false;
-    for (int at = 0; at < plan.readers * plan.each; at++) {
-        struct client *client = reader_client(at / plan.each);
-        client->first_stream = at - at % plan.each;
-        if (!client_subscribe(client, &plan, at % plan.each, streams[at].topic))
-            return false;
-    }
     for (int at = 0; at < plan.publishers; at++) {
-        publisher_client(at)->publisher = at;
-        publishers[at].client = publisher_client(at);
+        clients[at].publisher = at;
+        publishers[at].client = &clients[at];
     }
-    return true;
+    return subscribe_all();
 }
 
-static void start_timer(void)
+static void watch(int descriptor, struct client *it)
 {
-    struct itimerspec every = {.it_interval.tv_nsec = MILLISECOND, .it_value.tv_nsec = MILLISECOND};
-    timer = timerfd_create(CLOCK_MONOTONIC, TFD_NONBLOCK | TFD_CLOEXEC);
-    timerfd_settime(timer, 0, &every, NULL);
-    watch(timer, NULL);
+    struct epoll_event event = {.events = EPOLLIN | EPOLLOUT | EPOLLRDHUP | EPOLLET, .data.ptr = it};
+    epoll_ctl(poller, EPOLL_CTL_ADD, descriptor, &event);
 }
 
 static void start(void)
 {
+    struct itimerspec every = {.it_interval.tv_nsec = MILLISECOND, .it_value.tv_nsec = MILLISECOND};
     poller = epoll_create1(EPOLL_CLOEXEC);
     for (int at = 0; at < count_of_clients; at++) {
         client_free_run(&clients[at]);
         watch(clients[at].socket, &clients[at]);
     }
-    begun = last_came = clock_now();
-    measured.from = begun + (int64_t)plan.warm * MILLISECOND;
-    measured.to = measured.from + (int64_t)plan.measured * MILLISECOND;
     if (plan.rate > 0) {
-        times = room_of(MOST_TIMES, sizeof *times);
-        start_timer();
+        timer = timerfd_create(CLOCK_MONOTONIC, TFD_NONBLOCK | TFD_CLOEXEC);
+        timerfd_settime(timer, 0, &every, NULL);
+        watch(timer, NULL);
     }
+    begun = clock_now();
+    measured_begin(&plan, begun);
+}
+
+/* The index of a MESSAGE's subscription at its client; -1 where that is none. */
+static int index_of(struct text id)
+{
+    int index = 0;
+    if (id.size == 0 || id.size > 3)
+        return -1;
+    for (size_t at = 0; at < id.size; at++)
+        index = 10 * index + (id.at[at] - '0');
+    return index >= 0 && index < plan.each ? index : -1;
 }
 
 /* A MESSAGE came at a client. */
 static void hear_message(struct client *client, const struct frame *frame, int64_t now)
 {
-    int index = 0, publisher;
+    int index = index_of(frame->subscription), publisher;
     int64_t k;
-    for (size_t at = 0; at < frame->subscription.size; at++)
-        index = 10 * index + (frame->subscription.at[at] - '0');
-    if (index < 0 || index >= plan.each || !publishers_read(&plan, frame->body, &publisher, &k)) {
+    if (index < 0 || !publishers_read(&plan, frame->body, &publisher, &k))
         faults.changed++;
-        return;
-    }
-    if (!streams_hear(&plan, client->first_stream + index, publisher, k))
-        return;
-    int64_t sent = publishers_hear(&plan, publisher, k);
-    came++;
-    last_came = now;
-    if (times != NULL && now >= measured.from && count_of_times < MOST_TIMES)
-        times[count_of_times++] = now - sent;
+    else if (streams_hear(&plan, client->first_stream + index, publisher, k))
+        measured_hear(publishers_hear(&plan, publisher, k), now);
 }
 
 static void hear_frames(struct client *client, int64_t now)
@@ -135,28 +121,32 @@ static void hear_frames(struct client *client, int64_t now)
 static void tick(int64_t now)
 {
     uint64_t count;
-    if (read(timer, &count, sizeof count) < 0)
-        return;
-    publishers_tick(&plan, (now - begun) * plan.rate / SECOND);
+    if (read(timer, &count, sizeof count) > 0)
+        publishers_tick(&plan, (now - begun) * plan.rate / SECOND);
 }
 
-static void wait(void)
+static void attend(struct client *client, uint32_t events)
+{
+    if (client == NULL) {
+        tick(clock_now());
+        return;
+    }
+    if (events & EPOLLOUT) {
+        client->may_write = true;
+        client_write(client);
+    }
+    while (events & ~(uint32_t)EPOLLOUT && client_read(client))
+        hear_frames(client, clock_now());
+}
+
+/* Waits for what comes; the time then. */
+static int64_t wait(void)
 {
     struct epoll_event events[EVENTS];
-    int count = epoll_wait(poller, events, EVENTS, 50);
-    for (int at = 0; at < count; at++) {
-        struct client *client = events[at].data.ptr;
-        if (client == NULL) {
-            tick(clock_now());
-            continue;
-        }
-        if (events[at].events & EPOLLOUT) {
-            client->may_write = true;
-            client_write(client);
-        }
-        while (events[at].events & ~(uint32_t)EPOLLOUT && client_read(client))
-            hear_frames(client, clock_now());
-    }
+    int count = epoll_wait(poller, events, EVENTS, WAIT);
+    for (int at = 0; at < count; at++)
+        attend(events[at].data.ptr, events[at].events);
+    return clock_now();
 }
 
 static void send_all(int64_t now)
@@ -166,93 +156,23 @@ static void send_all(int64_t now)
             client_write(publishers[at].client);
 }
 
-static void note_first(int64_t now)
-{
-    if (measured.first_came != 0 || now < measured.from)
-        return;
-    measured.from = now;
-    measured.to = now + (int64_t)plan.measured * MILLISECOND;
-    measured.first_came = came + 1;
-    measured.server = clock_of(plan.process);
-    measured.own = clock_of(getpid());
-}
-
-static void note_last(int64_t now)
-{
-    note_first(measured.from);
-    measured.to = now;
-    measured.came = came + 1 - measured.first_came;
-    measured.server = clock_of(plan.process) - measured.server;
-    measured.own = clock_of(getpid()) - measured.own;
-}
-
 /* Whether something is so wrong, or nothing has come for so long, that the run is given up. */
-static bool is_over(int64_t now)
+static bool is_given_up(int64_t now)
 {
-    return client_trouble[0] != 0 || streams_are_lost() || now - last_came > (int64_t)plan.patience * MILLISECOND;
-}
-
-static bool is_all_sent(void)
-{
-    for (int at = 0; at < plan.publishers; at++)
-        if (publishers[at].sent + plan.sends <= plan.most)
-            return false;
-    return publishers_are_done(&plan);
+    return client_trouble[0] != 0 || streams_are_lost() || now - measured_last() > (int64_t)plan.patience * MILLISECOND;
 }
 
 static void run(void)
 {
     int64_t now = begun;
-    while (now < measured.to && !is_over(now) && !is_all_sent()) {
+    while (!measured_is_over(now) && !is_given_up(now) && !publishers_sent_all(&plan)) {
         send_all(now);
-        wait();
-        now = clock_now();
-        note_first(now);
+        now = wait();
+        measured_tick(&plan, now);
     }
-    note_last(now);
-    while (!publishers_are_done(&plan) && !is_over(now)) {
-        wait();
-        now = clock_now();
-    }
-}
-
-static int by_size(const void *one, const void *other)
-{
-    int64_t a = *(const int64_t *)one, b = *(const int64_t *)other;
-    return (a > b) - (a < b);
-}
-
-static int64_t part_of_times(int of_hundred)
-{
-    if (count_of_times == 0)
-        return 0;
-    return times[(count_of_times - 1) * (size_t)of_hundred / 100];
-}
-
-static int64_t sum_held(void)
-{
-    int64_t sum = 0;
-    for (int at = 0; at < plan.publishers; at++)
-        sum += publishers[at].held;
-    return sum;
-}
-
-static void report(void)
-{
-    int64_t *sent = room_of((size_t)plan.publishers, sizeof *sent);
-    for (int at = 0; at < plan.publishers; at++)
-        sent[at] = publishers[at].sent;
-    streams_end(&plan, sent);
-    int disagreeing = agree_count(&plan, sent);
-    if (times != NULL)
-        qsort(times, count_of_times, sizeof *times, by_size);
-    printf("{\"trouble\": \"%s\", \"streams\": %d, \"all_came\": %" PRId64 ", ", client_trouble, count_of_streams, came);
-    printf("\"lost\": %" PRId64 ", \"doubled\": %" PRId64 ", \"changed\": %" PRId64 ", \"reordered\": %" PRId64 ", ", faults.lost,
-           faults.doubled, faults.changed, faults.reordered);
-    printf("\"split\": %" PRId64 ", \"disagreeing\": %d, ", faults.split, disagreeing);
-    printf("\"came\": %" PRId64 ", \"time\": %" PRId64 ", \"server\": %" PRId64 ", \"own\": %" PRId64 ", ", measured.came,
-           measured.to - measured.from, measured.server, measured.own);
-    printf("\"held\": %" PRId64 ", \"p50\": %" PRId64 ", \"p99\": %" PRId64 "}\n", sum_held(), part_of_times(50), part_of_times(99));
+    measured_end(&plan, now);
+    while (!publishers_are_done(&plan) && !is_given_up(now))
+        now = wait();
 }
 
 int main(int count, char **words)
@@ -265,7 +185,7 @@ int main(int count, char **words)
         start();
         run();
     }
-    report();
+    measured_report(&plan, client_trouble);
     for (int at = 0; at < count_of_clients; at++)
         client_leave(&clients[at]);
     return 0;

@@ -170,3 +170,11 @@ bool publishers_are_done(const struct plan *plan)
             return false;
     return true;
 }
+
+bool publishers_sent_all(const struct plan *plan)
+{
+    for (int number = 0; number < plan->publishers; number++)
+        if (publishers[number].sent + plan->sends <= plan->most)
+            return false;
+    return publishers_are_done(plan);
+}

@@ -37,7 +37,8 @@ bool publishers_read(const struct plan *plan, struct text body, int *number, int
 /* A message came at one of those who are to get it; when it was sent. */
 int64_t publishers_hear(const struct plan *plan, int number, int64_t k);
 
-/* Whether all that were sent came. */
+/* Whether all that were sent came; and whether no more may be sent besides. */
 bool publishers_are_done(const struct plan *plan);
+bool publishers_sent_all(const struct plan *plan);
 
 #endif

@@ -20,7 +20,7 @@ PROGRAMS = {
     "floor": ["floor.c", "floor_topics.c", "plain.c", *COMMON],
     "wrong": ["floor.c", "floor_topics.c", "wrong.c", *COMMON],
     "shape": ["shape.c", "shape_topics.c", "shape_connection.c", "bell.c", *COMMON],
-    "load": ["load.c", "agree.c", "streams.c", "publishers.c", "client.c", "plan.c", "clock.c", "frame.c", "octets.c", "room.c"],
+    "load": [*"load.c measured.c agree.c streams.c publishers.c client.c plan.c clock.c frame.c octets.c room.c".split()],
 }
 FLAGS = "-std=gnu11 -O2 -Wall -Wextra -Werror -Wshadow -Wconversion -pthread".split()
 

@@ -8,6 +8,12 @@ import subprocess
 # A cell without a figure.
 NONE = "-"
 
+# What is measured of idle connections.
+IDLE = [
+    ("memory", "memory a connection", "{:.1f} KiB"),
+    ("idle", "processor time of all together", "{:,.0f} us/s"),
+]
+
 
 class Cell:
     """What the rounds of one row with one server gave: figures of each, or why one of them is no result."""
@@ -128,8 +134,8 @@ def idle(results, servers):
     yield line(["---"] * (2 + len(servers)))
     for row, cells in results.items():
         if row.kind == "idle":
-            yield line([row.name, "memory a connection", *(figure(cells, it, "memory", "{:.1f} KiB".format) for it in servers)])
-            yield line([row.name, "processor time, all together", *(figure(cells, it, "idle", "{:,.0f} us/s".format) for it in servers)])
+            for name, words, form in IDLE:
+                yield line([row.name, words, *(figure(cells, it, name, form.format) for it in servers)])
 
 
 def remarks(results):
