@@ -1,0 +1,292 @@
+"""What bench/hostile does to a server. Each row is a function of a Trial; it returns what it measured, in words, and says by
+`trial.expect` what has to be so."""
+
+import json
+import os
+import socket
+import subprocess
+import threading
+import time
+
+from client import Client, Ended, error_of, exchange, send_frame, subscribe
+from measuring import order_fault
+from servers import OUT
+
+# The limits of docs/PROTOCOL.md and docs/PROGRAMS.md.
+MOST_CONNECTIONS = 256
+MOST_OPEN = 64
+MOST_LINE = 4096
+MOST_HEADERS = 64
+MOST_BODY = 1 << 20
+MOST_IDS = 65536
+
+TOPICS = [b"/topic/T%d" % at for at in range(64)]
+MINE = b"/topic/own0"
+NAMES = [it.decode() for it in (*TOPICS, MINE)]
+
+
+class Trial:
+    """One row's server, what part of each count is done, how many milliseconds are at once, and what wasn't as it has to be."""
+
+    def __init__(self, server, parts, at_once):
+        self.server, self.address, self.parts, self.at_once, self.faults = server, server.address, parts, at_once, []
+
+    def part(self, count):
+        """A count, or of a slow build a part of it."""
+        return max(1, count // self.parts)
+
+    def expect(self, is_so, what):
+        if not is_so:
+            self.faults.append(what)
+
+    def open(self, count, more=b"", **words):
+        """So many connections that are connected, with these frames behind their CONNECTs."""
+        found = []
+        for _ in range(count):
+            it = Client(self.address, **words)
+            found.append(it)
+            it.connect(more)
+        return found
+
+
+def close_all(clients):
+    for it in clients:
+        it.close()
+
+
+def plain_use(trial):
+    """255 connections that subscribe, send, and leave. What memory it leaves is what the other rows have to come back to."""
+    clients = trial.open(trial.part(MOST_CONNECTIONS - 1), subscribe(TOPICS[0]))
+    for it in clients:
+        it.ask(b"")
+    clients[0].send(send_frame(TOPICS[0], b"to all"))
+    for it in clients:
+        it.wait_for(b"to all\0", 30)
+        it.send(b"DISCONNECT\nreceipt:bye\n\n\0")
+    for it in clients:
+        it.wait_for(b"receipt-id:bye\n\n\0", 30)
+    close_all(clients)
+    return f"{len(clients)} came, were served and left"
+
+
+def one_octet_a_second(trial, seconds=20):
+    """255 connections that send one octet a second."""
+    text = b"CONNECT\naccept-version:1.2\nhost:" + b"h" * seconds
+    slow = [Client(trial.address) for _ in range(trial.part(MOST_CONNECTIONS - 1))]
+    taken, longest = trial.server.time(), 0.0
+    for second in range(seconds):
+        begun = time.monotonic()
+        for it in slow:
+            it.send(text[second : second + 1])
+        longest = max(longest, exchange(trial.address, MINE))
+        time.sleep(max(0.0, 1.0 - (time.monotonic() - begun)))
+    taken = (trial.server.time() - taken) / seconds
+    close_all(slow)
+    trial.expect(longest < trial.at_once, f"another client waited {longest:.0f} ms")
+    return f"another client was served within {longest:.0f} ms; {1e3 * taken:.1f} ms of processor time a second"
+
+
+def rate_of_another(trial, milliseconds=1500):
+    """What one connection that sends to itself gets, a second."""
+    words = [f"port={trial.address[1]}", f"process={trial.server.number}", "own", "prefix=own", f"measured={milliseconds}"]
+    done = subprocess.run([os.path.join(OUT, "load"), *words], stdout=subprocess.PIPE, timeout=120, check=True)
+    report = json.loads(done.stdout)
+    fault = order_fault(report, True)
+    trial.expect(fault is None, f"another connection: {fault}")
+    return report["came"] / report["time"] * 1e9 if report["time"] else 0.0
+
+
+def never_read(trial, seconds=20):
+    """254 connections that subscribe to 64 topics each and never read, while others send to these topics."""
+    before = rate_of_another(trial)
+    wanted = b"".join(subscribe(topic, at) for at, topic in enumerate(TOPICS[:-1]))
+    wanted += subscribe(TOPICS[-1], MOST_OPEN - 1, b"receipt:s\n")
+    stuck = trial.open(trial.part(MOST_CONNECTIONS - 2), wanted, receive_room=4096)
+    for it in stuck:
+        it.wait_for(b"receipt-id:s\n\n\0", 30)
+    sent, during = flood(trial, seconds)
+    with_them = rate_of_another(trial)
+    memory = trial.server.memory()
+    close_all(stuck)
+    loss = 1 - with_them / before if before > 0 else 1
+    trial.expect(loss <= 0.2, f"another connection lost {loss:.0%} of its rate")
+    return (
+        f"{sent:,} SENDs of 1 KiB; another connection's rate {before:,.0f}/s before, {during:,.0f}/s while they were sent, "
+        f"{with_them:,.0f}/s behind ({loss:.0%} lost); {memory:,} KiB then"
+    )
+
+
+def flood(trial, seconds):
+    """Sends to all topics, as often as a subscription lags by, or for so long; how many SENDs that were, and another's rate then."""
+    body, rates = b"x" * 1024, []
+    other = threading.Thread(target=lambda: rates.append(rate_of_another(trial)))
+    other.start()
+    sent, until = 0, time.monotonic() + seconds
+    with Client(trial.address) as sender:
+        sender.connect()
+        for _ in range(3 * MOST_OPEN):
+            if time.monotonic() > until:
+                break
+            sender.ask(b"".join(send_frame(topic, body) for topic in TOPICS), b"ask", 60)
+            sent += len(TOPICS)
+    other.join()
+    return sent, rates[0] if rates else 0.0
+
+
+def opened_and_reset(trial, seconds=120):
+    """10,000 connections that are opened and reset: at once, within a CONNECT, or once they have subscribed."""
+    count = trial.part(10000)
+    fronts = [b"", b"CONNECT\naccept-ver", b"CONNECT\naccept-version:1.2\nhost:h\n\n\0" + subscribe(TOPICS[0])]
+    begun, done, refused = time.monotonic(), 0, 0
+    while done < count and time.monotonic() - begun < seconds:
+        try:
+            it = Client(trial.address)
+            it.send(fronts[done % len(fronts)])
+            it.reset()
+        except OSError:
+            refused += 1
+        done += 1
+    took = time.monotonic() - begun
+    trial.expect(done == count, f"only {done:,} in {seconds} s")
+    return f"{done:,} in {took:.1f} s; {refused:,} of them couldn't be opened or were reset by the server"
+
+
+def begins(trial):
+    """10,000 BEGINs that are never committed: of one connection, and of as many as it takes, each with a SEND."""
+    count = trial.part(10000)
+    names = [b"BEGIN\ntransaction:%d\n\n\0" % at for at in range(count)]
+    with Client(trial.address) as one:
+        one.connect()
+        try:
+            one.send(b"".join(names))
+        except OSError:
+            pass
+        number = error_of(one.read_to_end())
+    trial.expect(number == 70, f"{count:,} BEGINs of one connection were answered by {number} and not 70")
+    names = [it + send_frame(TOPICS[0], b"x" * 64, b"transaction:%d\n" % at) for at, it in enumerate(names)]
+    before, clients, each = trial.server.memory(), [], MOST_OPEN - 1
+    for at in range(0, count, each):
+        clients += trial.open(1)
+        clients[-1].ask(b"".join(names[at : at + each]))
+    memory = trial.server.memory() - before
+    close_all(clients)
+    return (
+        f"one connection: {number} at its 65th; {len(clients)} connections with {count:,} open, each with a SEND: "
+        f"{memory / count:.1f} KiB each"
+    )
+
+
+def longest_send(body, headers=0, line=0):
+    """A SEND with as many headers as may be, all but two of them of the greatest length, and so many more headers and octets."""
+    names = [b"h%03d:" % at for at in range(MOST_HEADERS - 2 + headers)]
+    lines = [it + b"v" * (MOST_LINE - len(it)) for it in names]
+    lines[-1] += b"v" * line
+    return send_frame(TOPICS[0], body, b"\n".join(lines) + b"\n")
+
+
+def every_limit(trial):
+    """Frames at every limit at once, and then one beyond each."""
+    body, frames, rounds = bytes(MOST_BODY), 0, trial.part(20)
+    with Client(trial.address) as it:
+        it.connect(subscribe(TOPICS[0]))
+        for _ in range(rounds):
+            it.send(longest_send(body))
+            came = it.wait_for(b"content-length:%d\n" % MOST_BODY, 30) + it.wait_for(body + b"\0", 30)
+            frames += came.count(b"MESSAGE\n")
+            trial.expect(came.count(b"v" * (MOST_LINE - 5)) == MOST_HEADERS - 2, "a header didn't come as it was sent")
+    beyond = {
+        "a line": (longest_send(body, line=1), 8),
+        "a header": (longest_send(body, headers=1), 9),
+        "a body": (longest_send(body + b"x"), 10),
+        "a subscription": (b"".join(subscribe(TOPICS[0], at) for at in range(MOST_OPEN + 1)), 69),
+        "a transaction": (b"".join(b"BEGIN\ntransaction:%d\n\n\0" % at for at in range(MOST_OPEN + 1)), 70),
+        "a SEND": (b"BEGIN\ntransaction:t\n\n\0" + (MOST_OPEN + 1) * send_frame(TOPICS[0], b"", b"transaction:t\n"), 71),
+    }
+    for what, (text, number) in beyond.items():
+        found = answer_to(trial, text)
+        trial.expect(found == number, f"{what} too many was answered by {found} and not {number}")
+    size, numbers = len(longest_send(body)), ", ".join(str(it[1]) for it in beyond.values())
+    return f"{frames} MESSAGEs of SENDs of {size:,} octets came whole; one too many of each was answered by {numbers}"
+
+
+def answer_to(trial, text):
+    """The number of the ERROR by which a connection that sends this ends."""
+    with Client(trial.address) as it:
+        it.connect()
+        try:
+            it.send(text)
+        except OSError:
+            pass
+        return error_of(it.read_to_end())
+
+
+def half_closed(trial):
+    """Connections that shut their side once they have sent, and then read."""
+    count = trial.part(100)
+    text = subscribe(TOPICS[0]) + b"".join(send_frame(TOPICS[0], b"x", b"receipt:%d\n" % at) for at in range(5))
+    clients = trial.open(count)
+    longest = 0.0
+    for it in clients:
+        begun = time.monotonic()
+        it.send(text)
+        it.socket.shutdown(socket.SHUT_WR)
+        came = it.read_to_end()
+        longest = max(longest, time.monotonic() - begun)
+        trial.expect(came.count(b"RECEIPT\n") == 5, f"{came.count(b'RECEIPT')} of 5 receipts came")
+    close_all(clients)
+    trial.expect(longest < 5, "a connection wasn't ended")
+    return f"{count} got their receipts and then the end, within {1000 * longest:.0f} ms"
+
+
+def few_descriptors(trial, count=100):
+    """100 connections to a server that may have 64 descriptors."""
+    served, refused, clients = 0, 0, []
+    for _ in range(count):
+        try:
+            it = Client(trial.address, 5)
+            clients.append(it)
+            it.send(b"CONNECT\naccept-version:1.2\nhost:h\n\n\0")
+        except OSError:
+            refused += 1
+    for it in clients:
+        try:
+            it.wait_for(b"CONNECTED\n", 0.5)
+            served += 1
+        except Ended:
+            refused += 1
+    descriptors = trial.server.descriptors()
+    close_all(clients)
+    trial.expect(served > 0, "nobody was served")
+    trial.expect(trial.server.is_running(), "the server has ended")
+    return f"{served} were served, {refused} weren't; {descriptors} descriptors then"
+
+
+def claimed_ids(trial, seconds=150):
+    """65,536 client-ids are claimed, one connection after another. They are kept as long as the server runs."""
+    before, begun, count = trial.server.memory(), time.monotonic(), 0
+    most = trial.part(MOST_IDS)
+    while count < most and time.monotonic() - begun < seconds:
+        number = claim(trial, b"id%d" % count)
+        trial.expect(number is None, f"the {count + 1}th id was answered by {number}")
+        count += 1
+    memory = trial.server.memory() - before
+    if count < most:
+        trial.expect(False, f"only {count:,} ids in {seconds} s")
+    elif most == MOST_IDS:
+        trial.expect(claim(trial, b"one more") == 78, "one more id wasn't answered by 78")
+        trial.expect(claim(trial, b"id0") is None, "an id that is kept wasn't served")
+    return f"{count:,} in {time.monotonic() - begun:.0f} s; {1024 * memory / max(count, 1):.0f} octets of memory each, which stay"
+
+
+def claim(trial, name):
+    """A connection of this id comes and goes; the number of the ERROR that answers it, None where it is served."""
+    with Client(trial.address) as it:
+        it.send(b"CONNECT\naccept-version:1.2\nhost:h\nclient-id:" + name + b"\n\n\0DISCONNECT\nreceipt:bye\n\n\0")
+        came = it.read_to_end()
+        return None if b"receipt-id:bye" in came else error_of(came)
+
+
+# The rows that one server has, one after another; and those that have one of their own: how many descriptors it may have, and
+# whether what they leave stays.
+ROWS = [plain_use, one_octet_a_second, never_read, opened_and_reset, begins, every_limit, half_closed]
+OF_THEIR_OWN = [(few_descriptors, 64, False), (claimed_ids, None, True)]

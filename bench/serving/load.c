@@ -1,0 +1,192 @@
+/* The load generator and checker of bench/serve: sends by windows or by the clock, on one thread over epoll, and sees that each
+ * message comes at each who is to get it, once and in its publisher's order; and whether transactions are whole and all
+ * streams in one order. It writes one line, of JSON. Plans are in plan.h.
+ *     load port=N process=N [NAME=VALUE..] */
+#define _GNU_SOURCE
+#include "client.h"
+#include "clock.h"
+#include "measured.h"
+#include "plan.h"
+#include "publishers.h"
+#include "room.h"
+#include "streams.h"
+
+#include <sys/epoll.h>
+#include <sys/timerfd.h>
+#include <unistd.h>
+
+/* Events taken at once, and the longest wait, in milliseconds. */
+enum { EVENTS = 256, WAIT = 50 };
+
+static struct plan plan;
+static struct client *clients;
+static int count_of_clients, poller, timer;
+static int64_t begun;
+
+/* The client that is this reader. The publishers' come first; with `own` they are the same. */
+static struct client *client_of(int reader)
+{
+    return &clients[plan.own ? reader : plan.publishers + reader];
+}
+
+static bool subscribe_all(void)
+{
+    for (int at = 0; at < count_of_streams; at++) {
+        struct client *client = client_of(at / plan.each);
+        client->first_stream = at - at % plan.each;
+        if (!client_subscribe(client, &plan, at % plan.each, streams[at].topic))
+            return false;
+    }
+    return true;
+}
+
+/* Connects all clients and subscribes; whether the server took all of that. */
+static bool connect_all(void)
+{
+    int count = plan.own ? plan.publishers : plan.publishers + plan.readers;
+    clients = room_of((size_t)count, sizeof *clients);
+    while (count_of_clients < count)
+        if (!client_connect(&clients[count_of_clients++], plan.port))
+            return false;
+    for (int at = 0; at < plan.publishers; at++) {
+        clients[at].publisher = at;
+        publishers[at].client = &clients[at];
+    }
+    return subscribe_all();
+}
+
+static void watch(int descriptor, struct client *it)
+{
+    struct epoll_event event = {.events = EPOLLIN | EPOLLOUT | EPOLLRDHUP | EPOLLET, .data.ptr = it};
+    epoll_ctl(poller, EPOLL_CTL_ADD, descriptor, &event);
+}
+
+static void start(void)
+{
+    struct itimerspec every = {.it_interval.tv_nsec = MILLISECOND, .it_value.tv_nsec = MILLISECOND};
+    poller = epoll_create1(EPOLL_CLOEXEC);
+    for (int at = 0; at < count_of_clients; at++) {
+        client_free_run(&clients[at]);
+        watch(clients[at].socket, &clients[at]);
+    }
+    if (plan.rate > 0) {
+        timer = timerfd_create(CLOCK_MONOTONIC, TFD_NONBLOCK | TFD_CLOEXEC);
+        timerfd_settime(timer, 0, &every, NULL);
+        watch(timer, NULL);
+    }
+    begun = clock_now();
+    measured_begin(&plan, begun);
+}
+
+/* The index of a MESSAGE's subscription at its client; -1 where that is none. */
+static int index_of(struct text id)
+{
+    int index = 0;
+    if (id.size == 0 || id.size > 3)
+        return -1;
+    for (size_t at = 0; at < id.size; at++)
+        index = 10 * index + (id.at[at] - '0');
+    return index >= 0 && index < plan.each ? index : -1;
+}
+
+/* A MESSAGE came at a client. */
+static void hear_message(struct client *client, const struct frame *frame, int64_t now)
+{
+    int index = index_of(frame->subscription), publisher;
+    int64_t k;
+    if (index < 0 || !publishers_read(&plan, frame->body, &publisher, &k))
+        faults.changed++;
+    else if (streams_hear(&plan, client->first_stream + index, publisher, k))
+        measured_hear(publishers_hear(&plan, publisher, k), now);
+}
+
+static void hear_frames(struct client *client, int64_t now)
+{
+    struct octets *in = &client->in;
+    struct frame frame;
+    for (;;) {
+        in->from += frame_gap(in->start + in->from, octets_size(in));
+        size_t size = octets_size(in) > 0 ? frame_read(in->start + in->from, octets_size(in), &frame) : 0;
+        if (size == 0)
+            return;
+        if (TEXT_IS(frame.command, "MESSAGE"))
+            hear_message(client, &frame, now);
+        else
+            client_fail("it answered ", TEXT_IS(frame.command, "ERROR") ? frame.message : frame.command);
+        in->from += size;
+    }
+}
+
+/* By the clock some messages are due. */
+static void tick(int64_t now)
+{
+    uint64_t count;
+    if (read(timer, &count, sizeof count) > 0)
+        publishers_tick(&plan, (now - begun) * plan.rate / SECOND);
+}
+
+static void attend(struct client *client, uint32_t events)
+{
+    if (client == NULL) {
+        tick(clock_now());
+        return;
+    }
+    if (events & EPOLLOUT) {
+        client->may_write = true;
+        client_write(client);
+    }
+    while (events & ~(uint32_t)EPOLLOUT && client_read(client))
+        hear_frames(client, clock_now());
+}
+
+/* Waits for what comes; the time then. */
+static int64_t wait(void)
+{
+    struct epoll_event events[EVENTS];
+    int count = epoll_wait(poller, events, EVENTS, WAIT);
+    for (int at = 0; at < count; at++)
+        attend(events[at].data.ptr, events[at].events);
+    return clock_now();
+}
+
+static void send_all(int64_t now)
+{
+    for (int at = 0; at < plan.publishers; at++)
+        if (publishers_fill(&plan, at, now))
+            client_write(publishers[at].client);
+}
+
+/* Whether something is so wrong, or nothing has come for so long, that the run is given up. */
+static bool is_given_up(int64_t now)
+{
+    return client_trouble[0] != 0 || streams_are_lost() || now - measured_last() > (int64_t)plan.patience * MILLISECOND;
+}
+
+static void run(void)
+{
+    int64_t now = begun;
+    while (!measured_is_over(now) && !is_given_up(now) && !publishers_sent_all(&plan)) {
+        send_all(now);
+        now = wait();
+        measured_tick(&plan, now);
+    }
+    measured_end(&plan, now);
+    while (!publishers_are_done(&plan) && !is_given_up(now))
+        now = wait();
+}
+
+int main(int count, char **words)
+{
+    (void)count;
+    plan = plan_read(words + 1);
+    streams_make(&plan);
+    publishers_make(&plan);
+    if (connect_all()) {
+        start();
+        run();
+    }
+    measured_report(&plan, client_trouble);
+    for (int at = 0; at < count_of_clients; at++)
+        client_leave(&clients[at]);
+    return 0;
+}

@@ -1,0 +1,96 @@
+"""One run of the load generator against a server, and what it is worth."""
+
+import json
+import os
+import socket
+import subprocess
+import time
+
+from servers import OUT, Stop
+
+# What ends a row: each message has to come, once, as it was sent, in its publisher's order.
+FAULTS = ("lost", "doubled", "changed", "reordered")
+
+# A run by the clock is no result where it was slower than this part of its rate, or more than this part of it had to wait.
+LEAST_OF_RATE, MOST_HELD = 0.95, 0.01
+
+
+def load(server, row, prefix, words):
+    """The load generator's report of one run; one with a trouble where it gave none."""
+    plan = [f"port={server.address[1]}", f"process={server.number}", f"prefix={prefix}", *row.words.split(), *words]
+    try:
+        done = subprocess.run([os.path.join(OUT, "load"), *plan], stdout=subprocess.PIPE, timeout=180, check=False)
+    except subprocess.TimeoutExpired:
+        return {"trouble": "the load generator didn't end"}
+    if done.returncode != 0:
+        raise Stop(f"bench/serve: the load generator ended with {done.returncode}: {' '.join(plan)}")
+    return json.loads(done.stdout)
+
+
+def order_fault(report, is_strict):
+    """What is wrong with what came; None where nothing is. Of a strict server, which promises one order, transactions have to be
+    whole and all streams in one order."""
+    if report["trouble"]:
+        return report["trouble"]
+    wrong = [f"{report[it]} {it}" for it in FAULTS if report[it]]
+    if is_strict and report["split"]:
+        wrong.append(f"{report['split']} transactions split")
+    if is_strict and report["disagreeing"]:
+        wrong.append(f"{report['disagreeing']} of {report['streams']} streams in another order")
+    return ", ".join(wrong) or None
+
+
+def fault_of(report, row, is_strict):
+    """Why a run is no result; None where it is one."""
+    wrong = order_fault(report, is_strict)
+    if wrong is None and not report["came"]:
+        return "nothing came in the time"
+    if wrong is None and row.kind == "latency" and is_late(report, row):
+        return "the rate wasn't held"
+    return wrong
+
+
+def is_late(report, row):
+    """Of a run by the clock: whether the rate wasn't held."""
+    rate = next(int(it[5:]) for it in row.words.split() if it.startswith("rate="))
+    due = rate * report["time"] / 1e9
+    return report["came"] < LEAST_OF_RATE * due or report["held"] > MOST_HELD * due
+
+
+def figures(report, row):
+    """The figures of a run that is a result: a rate or times, and the processor time of a delivery in microseconds."""
+    found = {"cost": report["server"] / report["came"] / 1e3, "busy": report["own"] / report["time"]}
+    if row.kind == "latency":
+        return {"p50": report["p50"] / 1e3, "p99": report["p99"] / 1e3, **found}
+    return {"rate": report["came"] / report["time"] * 1e9, **found}
+
+
+def connect(server, prefix):
+    """A connection that has subscribed, once the server says so."""
+    it = socket.create_connection(server.address, 10)
+    it.sendall(
+        b"CONNECT\naccept-version:1.2\nhost:/\nlogin:guest\npasscode:guest\n\n\0"
+        b"SUBSCRIBE\nid:0\ndestination:/topic/" + prefix.encode() + b"0\nreceipt:r\n\n\0"
+    )
+    came = b""
+    while b"RECEIPT" not in came:
+        piece = it.recv(4096)
+        if not piece:
+            raise Stop(f"bench/serve: an idle connection was closed: {came!r}")
+        came += piece
+    return it
+
+
+def idle_figures(server, prefix, count, seconds):
+    """Memory of an idle connection in KiB, and processor time of all of them together, in microseconds a second."""
+    before, connections = server.memory(), []
+    try:
+        connections += (connect(server, prefix) for _ in range(count))
+        time.sleep(min(1.0, seconds))
+        begun, taken = time.monotonic(), server.time()
+        time.sleep(seconds)
+        taken = (server.time() - taken) / (time.monotonic() - begun)
+        return {"memory": (server.memory() - before) / count, "idle": taken * 1e6}
+    finally:
+        for it in connections:
+            it.close()

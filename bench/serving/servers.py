@@ -1,0 +1,140 @@
+"""Servers that bench/serve and bench/hostile start, on 127.0.0.1 alone, and what they take."""
+
+import os
+import resource
+import select
+import subprocess
+import time
+
+HERE = os.path.dirname(os.path.abspath(__file__))
+ROOT = os.path.dirname(os.path.dirname(HERE))
+OUT = os.path.join(ROOT, "bench", "out")
+STOMPD = os.path.join(ROOT, "crates", "stompd", "out", "stompd")
+
+# How long a server may take until it listens, and until it has ended, in seconds.
+START_SECONDS = 30
+STOP_SECONDS = 10
+
+COMMON = ["talk.c", "transactions.c", "frame.c", "message.c", "names.c", "octets.c", "listening.c", "room.c"]
+PROGRAMS = {
+    "floor": ["floor.c", "floor_topics.c", "plain.c", *COMMON],
+    "wrong": ["floor.c", "floor_topics.c", "wrong.c", *COMMON],
+    "shape": ["shape.c", "shape_topics.c", "shape_connection.c", "bell.c", *COMMON],
+    "load": [*"load.c measured.c agree.c streams.c publishers.c client.c plan.c clock.c frame.c octets.c room.c".split()],
+}
+FLAGS = "-std=gnu11 -O2 -Wall -Wextra -Werror -Wshadow -Wconversion -pthread".split()
+
+
+class Stop(Exception):
+    """What ends a command, as it is told."""
+
+
+def build():
+    """Compiles the C programs into bench/out."""
+    os.makedirs(OUT, exist_ok=True)
+    for name, sources in PROGRAMS.items():
+        words = ["cc", *FLAGS, "-o", os.path.join(OUT, name), *sources]
+        if subprocess.run(words, cwd=HERE, check=False).returncode != 0:
+            raise Stop(f"bench/serving: {name} can't be compiled")
+
+
+def find_stompd(path):
+    """The program, if it is there."""
+    if not os.access(path, os.X_OK):
+        raise Stop(
+            f"There is no program {path}: build it by\n    (cd crates/stompd && rt run -- relay A < /dev/null)\n"
+            "or name another by --stompd."
+        )
+    return os.path.abspath(path)
+
+
+class Process:
+    """What a process takes, by its number."""
+
+    def __init__(self, number):
+        self.number = number
+
+    def time(self):
+        """Processor time of all its threads so far, in seconds."""
+        return time.clock_gettime((~self.number << 3) | 2)
+
+    def memory(self):
+        """What of its memory is in use, in KiB."""
+        with open(f"/proc/{self.number}/smaps_rollup", encoding="ascii") as lines:
+            return next(int(it.split()[1]) for it in lines if it.startswith("Rss:"))
+
+    def threads(self):
+        return len(os.listdir(f"/proc/{self.number}/task"))
+
+    def descriptors(self):
+        return len(os.listdir(f"/proc/{self.number}/fd"))
+
+    def port(self):
+        """The port of 127.0.0.1 at which it listens; None where there is none."""
+        links = (os.path.join(f"/proc/{self.number}/fd", it) for it in os.listdir(f"/proc/{self.number}/fd"))
+        sockets = {it[8:-1] for it in map(link_of, links) if it.startswith("socket:[")}
+        with open(f"/proc/{self.number}/net/tcp", encoding="ascii") as lines:
+            for row in (it.split() for it in lines):
+                if row[3] == "0A" and row[9] in sockets and row[1].startswith("0100007F:"):
+                    return int(row[1][9:], 16)
+        return None
+
+
+def link_of(path):
+    try:
+        return os.readlink(path)
+    except FileNotFoundError:
+        return ""
+
+
+class Server(Process):
+    """A server that is running: these words, and the topics' names behind them."""
+
+    def __init__(self, words, topics, most_descriptors=None):
+        self.log = open(os.path.join(OUT, "server.log"), "ab")
+        self.child = subprocess.Popen(
+            [*words, *topics],
+            stdin=subprocess.DEVNULL,
+            stdout=subprocess.PIPE,
+            stderr=self.log,
+            preexec_fn=lambda: limit_descriptors(most_descriptors),
+        )
+        super().__init__(self.child.pid)
+        try:
+            self.address = ("127.0.0.1", self.wait_for_port(words[0]))
+        except BaseException:
+            self.stop()
+            raise
+
+    def wait_for_port(self, name):
+        """Waits for the line `listening ..`, and finds out where."""
+        ready, _, _ = select.select([self.child.stdout], [], [], START_SECONDS)
+        line = self.child.stdout.readline() if ready else b""
+        port = self.port() if line.startswith(b"listening") else None
+        if port is None:
+            raise Stop(f"{name} doesn't listen: {line!r}; see bench/out/server.log")
+        return port
+
+    def is_running(self):
+        return self.child.poll() is None
+
+    def stop(self):
+        self.child.terminate()
+        try:
+            self.child.wait(STOP_SECONDS)
+        except subprocess.TimeoutExpired:
+            self.child.kill()
+            self.child.wait()
+        self.child.stdout.close()
+        self.log.close()
+
+    def __enter__(self):
+        return self
+
+    def __exit__(self, *_):
+        self.stop()
+
+
+def limit_descriptors(most):
+    if most is not None:
+        resource.setrlimit(resource.RLIMIT_NOFILE, (most, most))
