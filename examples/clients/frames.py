@@ -17,16 +17,17 @@ def unescaped(text):
 
 
 class Connection:
-    """A connection to the server at ADDR:PORT, after its CONNECTED."""
+    """A connection to the server at ADDR:PORT, after its CONNECTED; `room` is what the system may hold of it, `head` further
+    header lines of its CONNECT."""
 
-    def __init__(self, address, room=None):
+    def __init__(self, address, room=None, head=''):
         host, _, port = address.rpartition(':')
         self.socket = socket.socket(socket.AF_INET6 if ':' in host else socket.AF_INET)
         if room is not None:
             self.socket.setsockopt(socket.SOL_SOCKET, socket.SO_RCVBUF, room)
         self.socket.connect((host.strip('[]'), int(port)))
         self.file = self.socket.makefile('rb')
-        self.socket.sendall(b'CONNECT\naccept-version:1.2\nhost:h\n\n\0')
+        self.socket.sendall(('CONNECT\naccept-version:1.2\nhost:h\n%s\n\0' % head).encode())
         self.receive()
 
     def send(self, command, body=b'', **headers):
