@@ -6,18 +6,22 @@
  * The environment's REFUSE is the number of a descriptor, which whoever starts the program shares with it: a file of one
  * page, in which struct tally stands. It can be read however the program ends. Without it nothing is refused.
  *
- * Not seen: what a program maps by itself (mmap, brk, a call of the system), and what another allocator, linked into it,
- * gives. `bench/refuse` reads the names that the program asks of the C library, and fails where one of these is among
- * them. The C library's own calls of malloc come here, but for the first few of the loader, before this is loaded. */
+ * Not seen: what a program maps by itself (mmap, brk), and what another allocator, linked into it, gives. `bench/refuse`
+ * reads the names that the program asks of the C library, and fails where one of these is among them. `syscall` is how
+ * threads wait for each other (futex): a program that calls the system by it for anything else is ended here, with a line.
+ * The C library's own calls of malloc come here, but for the first few of the loader, before this is loaded. */
 #define _GNU_SOURCE
 #include <dlfcn.h>
 #include <errno.h>
 #include <link.h>
 #include <pthread.h>
+#include <stdarg.h>
 #include <stdatomic.h>
 #include <stdint.h>
 #include <stdlib.h>
 #include <sys/mman.h>
+#include <sys/syscall.h>
+#include <unistd.h>
 
 enum { PAGE = 4096, PLACES = 400, CALLS_OFF = 64 * 1024 };
 
@@ -143,4 +147,24 @@ int pthread_create(pthread_t *thread, const pthread_attr_t *how, void *(*run)(vo
     if (!real)
         *(void **)&real = dlsym(RTLD_NEXT, "pthread_create");
     return is_refused() ? EAGAIN : real(thread, how, run, with);
+}
+
+/* Waits for another thread, or wakes it, as the program asks; ends the program where it asks for anything else. */
+long syscall(long number, ...)
+{
+    static long (*real)(long, ...);
+    static const char other[] = "bench/refuse: a call of the system that isn't futex\n";
+    va_list given;
+    long words[6];
+    if (number != SYS_futex) {
+        (void)!write(STDERR_FILENO, other, sizeof other - 1);
+        abort();
+    }
+    va_start(given, number);
+    for (int i = 0; i < 6; i++)
+        words[i] = va_arg(given, long);
+    va_end(given);
+    if (!real)
+        *(void **)&real = dlsym(RTLD_NEXT, "syscall");
+    return real(number, words[0], words[1], words[2], words[3], words[4], words[5]);
 }
