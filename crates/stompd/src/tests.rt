@@ -2,4 +2,5 @@
 
 mod broker_core;
 mod draws;
+mod locks;
 mod programs;

@@ -1,0 +1,18 @@
+//! Topics behind locks: commits over places that are made up, places by themselves, and brokers.
+
+mod audited;
+mod broker;
+mod commits;
+mod fake;
+mod faults;
+mod flights;
+mod full_topic;
+mod held;
+mod jobs;
+mod memory;
+mod places;
+mod senders;
+mod spans;
+mod topics;
+mod tracing;
+mod workers;

@@ -1,0 +1,221 @@
+//! Two workers commit to three topics at once: each topic's rows and items, the trace and its audit, and the tally.
+
+ghost use Rattle.std.specs.Prelude.{◌≡◌};
+
+mod commits;
+mod logs;
+mod queues;
+
+use super::jobs::Opening;
+use broker_locks::{Broker, Side, Tally};
+use commits::{Answers, Committed, commit_all};
+use logs::are_logs;
+use mcast_txn::{NoMemory, Topic};
+use queues::items_sent;
+use std::alloc::Global;
+use std::marker::Brand;
+use std::sync::Wait;
+use std::sync::ledger::Blank;
+use std::test::Fail;
+use std::thread;
+use std::thread::Threads;
+
+/// How many places each queue has.
+const CAPACITY: usize = 512;
+
+/// Topics 0 to 2, whose clocks are 0.
+fn three_topics(alloc: Global) -> Result<Opening, NoMemory> {
+    Opening::new(alloc, &[0, 0, 0], CAPACITY, true)
+}
+
+/// What both workers' commits answered, and the numbers of the senders that they claimed.
+#[derive(Drop)]
+struct Ran<W: Side> {
+    senders: [u64; 2],
+    first: Committed<W>,
+    second: Committed<W>,
+}
+
+/// Two workers commit at once, each by a gate that it claims without a client-id.
+fn run_both<R, W, T>(rt: &R, alloc: Global, broker: &Broker<R, W, T>) -> Option<Ran<W>>
+where
+    R: Threads + Wait + Send + Sync,
+    W: Side + Send + Sync + 'static,
+    T: Side + Send + Sync + 'static,
+{
+    let (one, two) = (broker.join(rt).ok()?, broker.join(rt).ok()?);
+    let (left, right) = (broker.claim(rt, None).ok()?, broker.claim(rt, None).ok()?);
+    let senders = [left.sender().0, right.sender().0];
+    let (first, second) = thread::join(
+        rt,
+        move || commit_all(rt, alloc, broker, one, left),
+        move || commit_all(rt, alloc, broker, two, right),
+    );
+    Some(Ran {
+        senders,
+        first: first?,
+        second: second?,
+    })
+}
+
+/// What the heads of the three topics answer.
+fn three_heads<R: Wait, W: Side, T: Side>(rt: &R, broker: &Broker<R, W, T>) -> [Option<u64>; 3] {
+    [
+        broker.head_turn(rt, Topic(0)).ok(),
+        broker.head_turn(rt, Topic(1)).ok(),
+        broker.head_turn(rt, Topic(2)).ok(),
+    ]
+}
+
+/// The senders, what the heads answer, how many items each subscription takes, all of them as they were sent, and what the
+/// commits answered.
+#[derive(Drop)]
+struct Ended {
+    senders: [u64; 2],
+    released: [Option<u64>; 3],
+    items: [Option<u64>; 3],
+    answers: Answers,
+}
+
+/// A run with a subscription at each of the three topics.
+fn run_subscribed<R, W, T>(rt: &R, alloc: Global, broker: &Broker<R, W, T>) -> Option<Ended>
+where
+    R: Threads + Wait + Send + Sync,
+    W: Side + Send + Sync + 'static,
+    T: Side + Send + Sync + 'static,
+{
+    let mut at_a = broker.subscribe(rt, Topic(0)).ok()?;
+    let mut at_b = broker.subscribe(rt, Topic(1)).ok()?;
+    let mut at_c = broker.subscribe(rt, Topic(2)).ok()?;
+    let Ran {
+        senders,
+        first,
+        second,
+    } = run_both(rt, alloc, broker)?;
+    let released = three_heads(rt, broker);
+    let answers = Answers::new(first.stamps, second.stamps);
+    let items = [
+        items_sent(rt, &mut at_a, Topic(0), &answers),
+        items_sent(rt, &mut at_b, Topic(1), &answers),
+        items_sent(rt, &mut at_c, Topic(2), &answers),
+    ];
+    Some(Ended {
+        senders,
+        released,
+        items,
+        answers,
+    })
+}
+
+/// The senders, what the heads answer, how many items each subscription takes, all of them as they were sent, and whether
+/// the trace has just the commits that were made.
+#[derive(Clone, Copy, Debug, PartialEq, Eq)]
+struct Found {
+    senders: [u64; 2],
+    released: [Option<u64>; 3],
+    items: [Option<u64>; 3],
+    are_logs: bool,
+}
+
+/// A run whose trace is audited, with these ledgers.
+fn audited_by<R, W, T>(
+    rt: &R,
+    alloc: Global,
+    opening: Opening,
+    workers: Blank,
+    tickets: Blank,
+) -> Option<Found>
+where
+    R: Threads + Wait + Send + Sync,
+    W: Side + Send + Sync + 'static,
+    T: Side + Send + Sync + 'static,
+    requires workers { (workers.name ≡ W.name) × (workers.parts ≡ W.parts) × (W.parts ≡ W.all) × (W.all ≡ 257) }
+    requires tickets { (tickets.name ≡ T.name) × (tickets.parts ≡ T.parts) × (T.parts ≡ T.all) × (T.all ≡ 1024) }
+{
+    let broker = opening.begin::<R, W, T>(alloc, workers, tickets).ok()?;
+    let Ended {
+        senders,
+        released,
+        items,
+        answers,
+    } = run_subscribed(rt, alloc, &broker)?;
+    let trace = broker.into_trace().ok()?;
+    Some(Found {
+        senders,
+        released,
+        items,
+        are_logs: are_logs(alloc, &trace, &answers),
+    })
+}
+
+/// The same, with ledgers of its own.
+fn audited<R>(rt: &R, alloc: Global, opening: Opening) -> Option<Found>
+where
+    R: Threads + Wait + Send + Sync,
+{
+    audited_by::<R, Brand, Brand>(rt, alloc, opening, Blank::new(257), Blank::new(1_024))
+}
+
+/// Of each seven transactions of a worker four name a topic.
+#[test]
+fn two_workers_are_audited(rt: HostRuntime) -> Result<(), Fail> {
+    let opening = three_topics(rt.alloc())?;
+    let wanted = Found {
+        senders: [0, 1],
+        released: [Some(240); 3],
+        items: [Some(240); 3],
+        are_logs: true,
+    };
+    assert_eq!(rt; audited(&rt, rt.alloc(), opening), Some(wanted));
+    Ok(())
+}
+
+/// The tally after such a run, with these ledgers.
+fn tallied_by<R, W, T>(
+    rt: &R,
+    alloc: Global,
+    opening: Opening,
+    workers: Blank,
+    tickets: Blank,
+) -> Option<Tally>
+where
+    R: Threads + Wait + Send + Sync,
+    W: Side + Send + Sync + 'static,
+    T: Side + Send + Sync + 'static,
+    requires workers { (workers.name ≡ W.name) × (workers.parts ≡ W.parts) × (W.parts ≡ W.all) × (W.all ≡ 257) }
+    requires tickets { (tickets.name ≡ T.name) × (tickets.parts ≡ T.parts) × (T.parts ≡ T.all) × (T.all ≡ 1024) }
+{
+    let broker = opening.begin::<R, W, T>(alloc, workers, tickets).ok()?;
+    let Ran {
+        senders: _,
+        first,
+        second,
+    } = run_both(rt, alloc, &broker)?;
+    if three_heads(rt, &broker) != [Some(240); 3] {
+        return None;
+    }
+    let first = broker.leave(rt, first.worker);
+    let second = broker.leave(rt, second.worker);
+    broker.tally(rt, first.add(second)).ok()
+}
+
+/// The same, with ledgers of its own.
+fn tallied<R>(rt: &R, alloc: Global, opening: Opening) -> Option<Tally>
+where
+    R: Threads + Wait + Send + Sync,
+{
+    tallied_by::<R, Brand, Brand>(rt, alloc, opening, Blank::new(257), Blank::new(1_024))
+}
+
+#[test]
+fn two_workers_are_tallied(rt: HostRuntime) -> Result<(), Fail> {
+    let opening = three_topics(rt.alloc())?;
+    let wanted = Tally {
+        tickets: 720,
+        cancelled: 0,
+        released: 720,
+        pending: 0,
+    };
+    assert_eq!(rt; tallied(&rt, rt.alloc(), opening), Some(wanted));
+    Ok(())
+}

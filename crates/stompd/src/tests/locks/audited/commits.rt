@@ -1,0 +1,110 @@
+//! What each of two workers commits, and what its commits answer.
+
+use crate::tests::locks::flights::{Quiet, begun_with};
+use broker_locks::{Broker, Side, Worker};
+use mcast_txn::{Draft, Headers, Octets, Stamp, Topic, Txn, TxnId};
+use sender_gate::Gate;
+use std::alloc::Global;
+use std::sync::Wait;
+
+/// How many transactions each worker commits.
+const COMMITS: u64 = 210;
+
+/// The topics of a transaction by the remainder of its number by 7: each list but the empty one.
+const NAMED: &[&[Topic]] = &[
+    &[Topic(0)],
+    &[Topic(1)],
+    &[Topic(0), Topic(1)],
+    &[Topic(2)],
+    &[Topic(0), Topic(2)],
+    &[Topic(1), Topic(2)],
+    &[Topic(0), Topic(1), Topic(2)],
+];
+
+/// The topics of a worker's k-th transaction, from 1.
+pub(super) fn topics_of(k: u64) -> &'static [Topic] {
+    match NAMED.get((k % 7) as usize) {
+        Some(topics) => topics,
+        None => &[],
+    }
+}
+
+/// An octet of a small number.
+fn octet_of(n: u64) -> u8 {
+    (n % 256) as u8
+}
+
+/// The body of the SEND of a sender's k-th transaction to a topic.
+pub(super) fn body_of(id: TxnId, topic: Topic) -> [u8; 3] {
+    [
+        octet_of(id.sender.0),
+        octet_of(id.seq),
+        octet_of(u64::from(topic.0)),
+    ]
+}
+
+/// A sender's k-th transaction.
+fn txn_of(alloc: Global, id: TxnId) -> Option<Txn> {
+    let mut draft = Draft::new(alloc);
+    for &topic in topics_of(id.seq) {
+        let body = Octets::from_slice(alloc, &body_of(id, topic)).ok()?;
+        draft.add(topic, Headers::new(alloc), body).ok()?;
+    }
+    draft.seal().ok()?
+}
+
+/// A worker that has made its commits, and the stamps that they answered, in their order.
+#[derive(Drop)]
+pub(super) struct Committed<W: Side> {
+    pub(super) worker: Worker<W>,
+    pub(super) stamps: Vec<Stamp>,
+}
+
+/// Makes all commits of a worker by this gate.
+pub(super) fn commit_all<R: Wait, W: Side, T: Side>(
+    rt: &R,
+    alloc: Global,
+    broker: &Broker<R, W, T>,
+    worker: Worker<W>,
+    gate: Gate,
+) -> Option<Committed<W>> {
+    let (mut worker, mut gate) = (worker, gate);
+    let sender = gate.sender();
+    let mut stamps = Vec::new(alloc);
+    for seq in 1..=COMMITS {
+        let flying = begun_with(alloc, gate, txn_of(alloc, TxnId { sender, seq })?)?;
+        let (next, stamp) = broker.commit(rt, &mut worker, flying, &mut Quiet).ok()?;
+        gate = next;
+        stamps.push(stamp).ok()?;
+    }
+    Some(Committed { worker, stamps })
+}
+
+/// The stamps that the commits of senders 0 and 1 answered, in their order.
+#[derive(Drop)]
+pub(super) struct Answers {
+    first: Vec<Stamp>,
+    second: Vec<Stamp>,
+}
+
+impl Answers {
+    pub(super) fn new(first: Vec<Stamp>, second: Vec<Stamp>) -> Answers {
+        Answers { first, second }
+    }
+
+    /// How many there are.
+    pub(super) fn len(&self) -> usize {
+        self.first.len().saturating_add(self.second.len())
+    }
+
+    /// The stamp that the commit of this transaction answered, if there is one.
+    pub(super) fn stamp_of(&self, id: TxnId) -> Option<Stamp> {
+        let index = id.seq.checked_sub(1)? as usize;
+        let stamps = match id.sender.0 {
+            0 => &self.first,
+            1 => &self.second,
+            _ => return None,
+        };
+        stamps.get(index).copied()
+    }
+}

@@ -1,0 +1,111 @@
+//! Senders of a running broker that outlive a connection, by their client-id.
+
+ghost use Rattle.std.specs.Prelude.{◌≡◌};
+
+use super::flights::{Quiet, begun, stamp};
+use super::jobs::{Job, Opening, with_broker};
+use broker_locks::{Broker, Side, Subscribed};
+use mcast_txn::{NoMemory, Stamp, Topic};
+use sender_gate::Gate;
+use std::alloc::Global;
+use std::sync::Wait;
+use std::sync::ledger::Blank;
+use std::test::Fail;
+
+/// Two connections claim one client-id. The first commits to topics 0 and 1 and gives the gate back. Then the second gets
+/// it, and commits to topic 0.
+#[derive(Drop)]
+struct TwoConnections;
+
+/// By which number the second claim is refused while the first connection has the gate; the gate's sender, number and floor
+/// when it is claimed again; both commits' stamps; and what topic 0 gives.
+#[derive(Clone, Copy, Debug, PartialEq, Eq)]
+struct Found {
+    refused: Option<u32>,
+    gate: (u64, u64, Stamp),
+    stamps: [Stamp; 2],
+    items: [Option<(u64, u64, Stamp)>; 3],
+}
+
+/// The sender, the number and the stamp of the next item, if there is one.
+fn taken<R: Wait>(rt: &R, begun: &mut Subscribed) -> Option<(u64, u64, Stamp)> {
+    let item = begun.taker.take(rt)?;
+    Some((item.part.id.sender.0, item.part.id.seq, item.stamp))
+}
+
+/// The next three items.
+fn three_taken<R: Wait>(rt: &R, begun: &mut Subscribed) -> [Option<(u64, u64, Stamp)>; 3] {
+    [taken(rt, begun), taken(rt, begun), taken(rt, begun)]
+}
+
+/// The stamp of the gate's commit to these topics, by a worker that joins for it, and the gate.
+fn committed<R: Wait, W: Side, T: Side>(
+    rt: &R,
+    alloc: Global,
+    broker: &Broker<R, W, T>,
+    gate: Gate,
+    topics: &[u32],
+) -> Option<(Gate, Stamp)> {
+    let mut worker = broker.join(rt).ok()?;
+    let flying = begun(alloc, gate, topics)?;
+    broker.commit(rt, &mut worker, flying, &mut Quiet).ok()
+}
+
+/// What this broker answers.
+fn two_connections<R: Wait, W: Side, T: Side>(
+    rt: &R,
+    alloc: Global,
+    broker: &Broker<R, W, T>,
+) -> Option<Found> {
+    let mut begun = broker.subscribe(rt, Topic(0)).ok()?;
+    let _other = broker.claim(rt, None).ok()?;
+    let gate = broker.claim(rt, Some(b"c")).ok()?;
+    let refused = broker.claim(rt, Some(b"c")).err();
+    let (gate, first) = committed(rt, alloc, broker, gate, &[0, 1])?;
+    broker.give_back(rt, gate);
+    let gate = broker.claim(rt, Some(b"c")).ok()?;
+    let claimed = (gate.sender().0, gate.seq(), gate.floor());
+    let (_gate, second) = committed(rt, alloc, broker, gate, &[0])?;
+    broker.head_turn(rt, Topic(0)).ok()?;
+    Some(Found {
+        refused: refused.map(|fault| fault.number()),
+        gate: claimed,
+        stamps: [first, second],
+        items: three_taken(rt, &mut begun),
+    })
+}
+
+impl<R: Wait> Job<R> for TwoConnections {
+    type Answer = Option<Found>;
+
+    fn run<W: Side, T: Side>(
+        self,
+        rt: &R,
+        alloc: Global,
+        opening: Opening,
+        workers: Blank,
+        tickets: Blank,
+    ) -> Result<Option<Found>, NoMemory>
+        requires workers { (workers.name ≡ W.name) × (workers.parts ≡ W.parts) × (W.parts ≡ W.all) × (W.all ≡ 257) }
+        requires tickets { (tickets.name ≡ T.name) × (tickets.parts ≡ T.parts) × (T.parts ≡ T.all) × (T.all ≡ 1024) }
+    {
+        let broker = opening.begin::<R, W, T>(alloc, workers, tickets)?;
+        Ok(two_connections(rt, alloc, &broker))
+    }
+}
+
+/// Sender 0 is that of the claim without a client-id. Topic 1's clock begins at 9, so the first stamp is (10, 1). It is the
+/// second commit's floor, so topic 0 gives 11 then.
+#[test]
+fn a_client_id_is_claimed_by_two_connections(rt: HostRuntime) -> Result<(), Fail> {
+    let opening = Opening::new(rt.alloc(), &[0, 9], 4, false)?;
+    let found = with_broker(&rt, rt.alloc(), opening, TwoConnections)?;
+    let wanted = Found {
+        refused: Some(77),
+        gate: (1, 1, stamp(10, 1)),
+        stamps: [stamp(10, 1), stamp(11, 0)],
+        items: [Some((1, 1, stamp(10, 1))), Some((1, 2, stamp(11, 0))), None],
+    };
+    assert!(rt; found == Some(wanted));
+    Ok(())
+}

@@ -1,0 +1,182 @@
+//! Where a broker's subscriptions begin and end, at topics whose clocks don't begin at 0.
+
+ghost use Rattle.std.specs.Prelude.{◌≡◌};
+
+use super::flights::{Quiet, begun, stamp};
+use super::jobs::{Job, Opening, with_broker};
+use super::topics::{Left, left};
+use super::tracing::has_text;
+use broker_locks::{Broker, Side, Subscribed, Worker};
+use mcast_group::{Cause, SubState};
+use mcast_txn::{NoMemory, Sender, Stamp, Topic};
+use sender_gate::Gate;
+use std::alloc::Global;
+use std::sync::Wait;
+use std::sync::ledger::Blank;
+use std::test::Fail;
+use trace_audit::Trace;
+
+/// The gate's next commit: the gate, and the stamp.
+fn committed<R: Wait, W: Side, T: Side>(
+    rt: &R,
+    alloc: Global,
+    broker: &Broker<R, W, T>,
+    worker: &mut Worker<W>,
+    gate: Gate,
+    topics: &[u32],
+) -> Option<(Gate, Stamp)> {
+    let flying = begun(alloc, gate, topics)?;
+    broker.commit(rt, worker, flying, &mut Quiet).ok()
+}
+
+/// The number and the stamp of the next item, if there is one.
+fn taken<R: Wait>(rt: &R, begun: &mut Subscribed) -> Option<(u64, Stamp)> {
+    let item = begun.taker.take(rt)?;
+    Some((item.part.id.seq, item.stamp))
+}
+
+/// The next three items.
+fn three_taken<R: Wait>(rt: &R, begun: &mut Subscribed) -> [Option<(u64, Stamp)>; 3] {
+    [taken(rt, begun), taken(rt, begun), taken(rt, begun)]
+}
+
+/// Of one sender: a transaction to topics 0 and 1, one to 1 and 2, a turn of 1, then another to 1, and a turn of each. One
+/// subscription at topic 1 is there from the beginning, and ends after the first turn; another begins then.
+#[derive(Drop)]
+struct TwoSpans;
+
+/// A subscription: its number and its beginning, what it takes, and how it ends.
+#[derive(Clone, Copy, Debug, PartialEq, Eq)]
+struct Span {
+    sub: u64,
+    start: Stamp,
+    items: [Option<(u64, Stamp)>; 3],
+    end: Left,
+}
+
+/// The stamps of the three commits; what the heads answer, of topic 1, and then of topics 0, 1 and 2; both subscriptions, and
+/// the second one's state after the first one's end.
+#[derive(Clone, Copy, Debug, PartialEq, Eq)]
+struct Found {
+    stamps: [Stamp; 3],
+    released: [Option<u64>; 4],
+    first: Span,
+    second: Span,
+    state: Option<SubState>,
+}
+
+/// What the subscription takes, how it ends, and what it was.
+fn span_of<R: Wait>(rt: &R, begun: Subscribed, end: Left) -> Span {
+    let (sub, start) = (begun.sub, begun.start);
+    let mut begun = begun;
+    Span {
+        sub,
+        start,
+        items: three_taken(rt, &mut begun),
+        end,
+    }
+}
+
+/// What they leave at this broker.
+fn two_spans<R: Wait, W: Side, T: Side>(
+    rt: &R,
+    alloc: Global,
+    broker: &Broker<R, W, T>,
+) -> Option<Found> {
+    let mut worker = broker.join(rt).ok()?;
+    let first = broker.subscribe(rt, Topic(1)).ok()?;
+    let (gate, one) = committed(
+        rt,
+        alloc,
+        broker,
+        &mut worker,
+        Gate::new(Sender(0)),
+        &[0, 1],
+    )?;
+    let (gate, two) = committed(rt, alloc, broker, &mut worker, gate, &[1, 2])?;
+    let early = broker.head_turn(rt, Topic(1)).ok();
+    let second = broker.subscribe(rt, Topic(1)).ok()?;
+    let first_end = left(rt, broker, 1, first.sub);
+    let state = broker.state(rt, Topic(1), second.sub);
+    let (_gate, three) = committed(rt, alloc, broker, &mut worker, gate, &[1])?;
+    let released = [
+        early,
+        broker.head_turn(rt, Topic(0)).ok(),
+        broker.head_turn(rt, Topic(1)).ok(),
+        broker.head_turn(rt, Topic(2)).ok(),
+    ];
+    let second_end = left(rt, broker, 1, second.sub);
+    Some(Found {
+        stamps: [one, two, three],
+        released,
+        first: span_of(rt, first, first_end),
+        second: span_of(rt, second, second_end),
+        state,
+    })
+}
+
+/// The same, with the broker's trace.
+fn two_spans_traced<R: Wait, W: Side, T: Side>(
+    rt: &R,
+    alloc: Global,
+    broker: Broker<R, W, T>,
+) -> Option<(Found, Trace)> {
+    let found = two_spans(rt, alloc, &broker)?;
+    Some((found, broker.into_trace().ok()?))
+}
+
+impl<R: Wait> Job<R> for TwoSpans {
+    type Answer = Option<(Found, Trace)>;
+
+    fn run<W: Side, T: Side>(
+        self,
+        rt: &R,
+        alloc: Global,
+        opening: Opening,
+        workers: Blank,
+        tickets: Blank,
+    ) -> Result<Option<(Found, Trace)>, NoMemory>
+        requires workers { (workers.name ≡ W.name) × (workers.parts ≡ W.parts) × (W.parts ≡ W.all) × (W.all ≡ 257) }
+        requires tickets { (tickets.name ≡ T.name) × (tickets.parts ≡ T.parts) × (T.parts ≡ T.all) × (T.all ≡ 1024) }
+    {
+        let broker = opening.begin::<R, W, T>(alloc, workers, tickets)?;
+        Ok(two_spans_traced(rt, alloc, broker))
+    }
+}
+
+/// Topic 0's clock begins at 9, so the first transaction has tickets (10, 0) and (1, 1), the second (11, 1) and (11, 2), the
+/// third (12, 1).
+const TRACE: &[u8] =
+    b"log 0 0 1 10.0 0,1\nlog 1 0 1 10.0 0,1\nlog 1 0 2 11.2 1,2\nlog 1 0 3 12.1 1\nlog 2 0 2 11.2 1,2\nspan 1 1 0.0 11.2\nqueue 1 0 1 10.0\nqueue 1 0 2 11.2\nspan 1025 1 11.2 12.1\nqueue 1025 0 3 12.1\n";
+
+/// What is wanted: the first subscription takes the first two, and ends at the frontier, where the second begins.
+fn wanted() -> Found {
+    let (one, two, three) = (stamp(10, 0), stamp(11, 2), stamp(12, 1));
+    Found {
+        stamps: [one, two, three],
+        released: [Some(2), Some(1), Some(1), Some(1)],
+        first: Span {
+            sub: 1,
+            start: Stamp::ZERO,
+            items: [Some((1, one)), Some((2, two)), None],
+            end: Ok((two, Cause::Asked)),
+        },
+        second: Span {
+            sub: 1_025,
+            start: two,
+            items: [Some((3, three)), None, None],
+            end: Ok((three, Cause::Asked)),
+        },
+        state: Some(SubState::Open),
+    }
+}
+
+#[test]
+fn subscriptions_begin_and_end(rt: HostRuntime) -> Result<(), Fail> {
+    let opening = Opening::new(rt.alloc(), &[9, 0, 0], 4, true)?;
+    let left = with_broker(&rt, rt.alloc(), opening, TwoSpans)?;
+    let (found, trace) = left.expect(&rt, "memory");
+    assert!(rt; found == wanted());
+    assert!(rt; has_text(rt.alloc(), &trace, TRACE) == Some(true));
+    Ok(())
+}

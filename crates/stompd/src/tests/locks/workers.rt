@@ -1,0 +1,196 @@
+//! Workers of a broker: how many may join, and what a tally says of the tickets that their commits were given.
+
+ghost use Rattle.std.specs.Prelude.{◌≡◌};
+
+use super::flights::{Quiet, begun};
+use super::jobs::{Job, Opening, with_broker};
+use broker_locks::{Broker, CommitFault, Shares, Side, Tally, Worker};
+use mcast_txn::{NoMemory, Sender, Topic};
+use sender_gate::Gate;
+use std::alloc::Global;
+use std::sync::Wait;
+use std::sync::ledger::Blank;
+use std::test::Fail;
+
+/// What the commit of this sender's first transaction answers, by this worker, with SENDs to these topics.
+fn commit_by<R: Wait, W: Side, T: Side>(
+    rt: &R,
+    alloc: Global,
+    broker: &Broker<R, W, T>,
+    worker: &mut Worker<W>,
+    sender: u64,
+    topics: &[u32],
+) -> Option<Result<(), CommitFault>> {
+    let flying = begun(alloc, Gate::new(Sender(sender)), topics)?;
+    match broker.commit(rt, worker, flying, &mut Quiet) {
+        Ok(_) => Some(Ok(())),
+        Err((_gate, fault)) => Some(Err(fault)),
+    }
+}
+
+/// The first worker commits to topics 0 and 1, the second to topic 0, and the head of that turns. Whether they answer so.
+fn are_committed<R: Wait, W: Side, T: Side>(
+    rt: &R,
+    alloc: Global,
+    broker: &Broker<R, W, T>,
+    first: &mut Worker<W>,
+    second: &mut Worker<W>,
+) -> bool {
+    let both = commit_by(rt, alloc, broker, first, 0, &[0, 1]);
+    let one = commit_by(rt, alloc, broker, second, 1, &[0]);
+    both == Some(Ok(())) && one == Some(Ok(())) && broker.head_turn(rt, Topic(0)).ok() == Some(2)
+}
+
+/// Whether a commit of the worker to topic 0 and to one that isn't there is refused.
+fn is_refused<R: Wait, W: Side, T: Side>(
+    rt: &R,
+    alloc: Global,
+    broker: &Broker<R, W, T>,
+    worker: &mut Worker<W>,
+) -> bool {
+    commit_by(rt, alloc, broker, worker, 2, &[0, 1_024]) == Some(Err(CommitFault::Twice))
+}
+
+/// Broker and shares, where the tally refuses these.
+fn refused<R: Wait, W: Side, T: Side>(
+    rt: &R,
+    broker: Broker<R, W, T>,
+    shares: Shares<W>,
+) -> Option<(Broker<R, W, T>, Shares<W>)>
+    requires { (W.parts ≡ W.all) × (T.parts ≡ T.all) }
+{
+    broker.tally(rt, shares).err()
+}
+
+/// Two workers' commits. The second may make one more, which is refused.
+#[derive(Drop)]
+struct TwoWorkers {
+    more: bool,
+}
+
+/// Their tally, where the shares of either one are refused.
+fn tally_of<R: Wait, W: Side, T: Side>(
+    rt: &R,
+    alloc: Global,
+    broker: Broker<R, W, T>,
+    more: bool,
+) -> Option<Tally>
+    requires { (W.parts ≡ W.all) × (T.parts ≡ T.all) }
+{
+    let mut first = broker.join(rt).ok()?;
+    let mut second = broker.join(rt).ok()?;
+    if !are_committed(rt, alloc, &broker, &mut first, &mut second) {
+        return None;
+    }
+    if more && !is_refused(rt, alloc, &broker, &mut second) {
+        return None;
+    }
+    let first = broker.leave(rt, first);
+    let second = broker.leave(rt, second);
+    let (broker, first) = refused(rt, broker, first)?;
+    let (broker, second) = refused(rt, broker, second)?;
+    broker.tally(rt, first.add(second)).ok()
+}
+
+impl<R: Wait> Job<R> for TwoWorkers {
+    type Answer = Option<Tally>;
+
+    fn run<W: Side, T: Side>(
+        self,
+        rt: &R,
+        alloc: Global,
+        opening: Opening,
+        workers: Blank,
+        tickets: Blank,
+    ) -> Result<Option<Tally>, NoMemory>
+        requires workers { (workers.name ≡ W.name) × (workers.parts ≡ W.parts) × (W.parts ≡ W.all) × (W.all ≡ 257) }
+        requires tickets { (tickets.name ≡ T.name) × (tickets.parts ≡ T.parts) × (T.parts ≡ T.all) × (T.all ≡ 1024) }
+    {
+        let broker = opening.begin::<R, W, T>(alloc, workers, tickets)?;
+        Ok(tally_of(rt, alloc, broker, self.more))
+    }
+}
+
+/// Three tickets are of commits that succeed. A fourth is of the one that is refused, and its part is cancelled. Topic 1
+/// isn't turned.
+const TALLIES: &[(bool, Tally)] = &[
+    (
+        false,
+        Tally {
+            tickets: 3,
+            cancelled: 0,
+            released: 2,
+            pending: 1,
+        },
+    ),
+    (
+        true,
+        Tally {
+            tickets: 4,
+            cancelled: 1,
+            released: 2,
+            pending: 1,
+        },
+    ),
+];
+
+#[test]
+fn a_tally_takes_all_workers_shares(rt: HostRuntime) -> Result<(), Fail> {
+    for &(more, wanted) in TALLIES {
+        let opening = Opening::new(rt.alloc(), &[0, 0], 4, false)?;
+        let tally = with_broker(&rt, rt.alloc(), opening, TwoWorkers { more })?;
+        assert_eq!(rt; tally, Some(wanted));
+    }
+    Ok(())
+}
+
+/// How many workers join before one is refused, and by which number that one is and the next.
+#[derive(Drop)]
+struct AllJoin;
+
+impl AllJoin {
+    /// More than may join.
+    const MANY: u64 = 300;
+}
+
+/// What this broker answers.
+fn all_join<R: Wait, W: Side, T: Side>(
+    rt: &R,
+    broker: &Broker<R, W, T>,
+) -> Option<(u64, u32, u32)> {
+    for n in 0..AllJoin::MANY {
+        match broker.join(rt) {
+            Ok(worker) => drop(broker.leave(rt, worker)),
+            Err(fault) => return Some((n, fault.number(), broker.join(rt).err()?.number())),
+        }
+    }
+    None
+}
+
+impl<R: Wait> Job<R> for AllJoin {
+    type Answer = Option<(u64, u32, u32)>;
+
+    fn run<W: Side, T: Side>(
+        self,
+        rt: &R,
+        alloc: Global,
+        opening: Opening,
+        workers: Blank,
+        tickets: Blank,
+    ) -> Result<Option<(u64, u32, u32)>, NoMemory>
+        requires workers { (workers.name ≡ W.name) × (workers.parts ≡ W.parts) × (W.parts ≡ W.all) × (W.all ≡ 257) }
+        requires tickets { (tickets.name ≡ T.name) × (tickets.parts ≡ T.parts) × (T.parts ≡ T.all) × (T.all ≡ 1024) }
+    {
+        let broker = opening.begin::<R, W, T>(alloc, workers, tickets)?;
+        Ok(all_join(rt, &broker))
+    }
+}
+
+/// A worker that left makes no room for another.
+#[test]
+fn no_more_than_256_workers_join(rt: HostRuntime) -> Result<(), Fail> {
+    let opening = Opening::new(rt.alloc(), &[0], 4, false)?;
+    let joined = with_broker(&rt, rt.alloc(), opening, AllJoin)?;
+    assert_eq!(rt; joined, Some((256, 100, 100)));
+    Ok(())
+}
