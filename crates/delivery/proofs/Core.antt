@@ -12,6 +12,7 @@ pub mod WholeRow
 pub mod SteppedRows
 -- The delivery of every run.
 pub mod Said
+pub mod Claimed
 pub mod Speaking
 pub mod ByRun
 pub mod Tests

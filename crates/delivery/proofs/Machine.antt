@@ -7,6 +7,7 @@ pub mod MadeOnce
 pub mod ProposeStep
 pub mod QueueSteps
 pub mod SenderSteps
+pub mod Speakers
 pub mod SpanSteps
 pub mod SubscriptionSteps
 pub mod TopicSteps

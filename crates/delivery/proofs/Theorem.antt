@@ -17,6 +17,7 @@ pub mod PlainDue
 pub mod QueuesGrow
 pub mod RowsEnter
 pub mod Rows
+pub mod SendersAreOwn
 pub mod SeqsCount
 pub mod SettledLeavesNoneOut
 pub mod SettledSteps

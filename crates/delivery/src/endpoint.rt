@@ -31,11 +31,11 @@ const READER_LIMITS: Limits = Limits {
     body: 1_048_576,
 };
 
-/// A connection's endpoint: its sender, how far it is, the numbers of its subscriptions that aren't closed, in order,
+/// A connection's endpoint: its sender, once it has one, how far it is, the numbers of its subscriptions that aren't closed, in order,
 /// and its octets out.
 #[derive(Drop)]
 pub(crate) struct Endpoint {
-    pub(crate) sender: u64,
+    pub(crate) sender: Option<u64>,
     pub(crate) stage: Stage,
     pub(crate) live: Vec<u64>,
     pub(crate) output: Octets,
@@ -55,7 +55,7 @@ impl Endpoint {
         ensures { result ≡ new_endpoint names.value sender }
     {
         Endpoint {
-            sender,
+            sender: Some(sender),
             stage: Stage::Open(OpenEndpoint {
                 reader: FrameReader::new(alloc, READER_LIMITS),
                 session: Session::new(alloc, names),

@@ -19,7 +19,8 @@ ghost use Rattle.delivery.specs.Theorem.Laws.{LogCountsReleases, LogIsAgreed, Lo
 ghost use Rattle.delivery.specs.Theorem.Spans.{ClosedAsAnswered, ClosedStays, ClosesAreAnswered, LagsEndBeforeRow};
 ghost use Rattle.delivery.specs.Theorem.Spans.{QueuesGrow, SpansEndAtFrontier};
 ghost use Rattle.delivery.specs.Theorem.Reported.{EndsAreAnswered, EndsStay, BegunIsOwn, QueuesAreBounded};
-ghost use Rattle.delivery.specs.Theorem.Reported.{SenderIsOwn, SpansBeginAsAnswered, SpansBeginAtFrontier};
+ghost use Rattle.delivery.specs.Theorem.Reported.{ClaimsGoOn, RestingAreIdle, SendersAreOwn, SendersStay};
+ghost use Rattle.delivery.specs.Theorem.Reported.{SpansBeginAsAnswered, SpansBeginAtFrontier};
 ghost use Rattle.delivery.specs.Theorem.Reported.{SpansEndAsAnswered};
 ghost use Rattle.delivery.specs.NetLaws.{NetsAreRuns, NetsAreSound, NetsAreTied, NoneFailsTwice, NothingOddComes};
 ghost use Rattle.delivery.specs.Traces.{RunsAreExplained, TracesAreAccepted, TracesAreComplete};
@@ -79,8 +80,8 @@ pub fn genuine()
 {}
 
 /// No verdict is refused as another's or as a clash, no decided part is cancelled, each other refusal of a move is
-/// one that the core reports, but for a commit of a sender without sequence numbers; a ticket that is
-/// to be cancelled has its part pending, no topic refuses a part because its transaction is pending
+/// one that the core reports, but for a commit of a sender without sequence numbers or of a connection without a
+/// sender, and for what stands against speaking for a sender; a ticket that is to be cancelled has its part pending, no topic refuses a part because its transaction is pending
 /// there, and no transaction is both withdrawn and decided.
 pub fn never()
     ensures refused { OddNeverComes }
@@ -133,10 +134,16 @@ pub fn numbers()
     ensures { SeqsCount }
 {}
 
-/// A transaction that is made has all SENDs of its frame, in their order, and its sender is its connection's own.
+/// A transaction that is made has all SENDs of its frame, in their order, and its sender is the one that its connection
+/// speaks for. No two connections that aren't gone speak for one sender. One that isn't in use has no undecided
+/// transaction and nothing to cancel; who goes on as it has its seq and its floor, and all else of it, as they were,
+/// and speaks for it until the end.
 pub fn flights()
     ensures own { BegunIsOwn }
-    ensures sender { SenderIsOwn }
+    ensures sender { SendersAreOwn }
+    ensures resting { RestingAreIdle }
+    ensures goes_on { ClaimsGoOn }
+    ensures stays { SendersStay }
 {}
 
 /// A subscription's span has the topic and the beginning that SUBSCRIBE was answered, which is its topic's frontier
@@ -187,8 +194,8 @@ pub fn tied()
     ensures senders { SendersAreFloored }
 {}
 
-/// Five worked examples: transactions that cross, a withdrawal, a loss, a DISCONNECT before an item is delivered,
-/// and a lag. What comes of each event, what logs and queues hold, and how each span ends, is computed.
+/// Six worked examples: transactions that cross, a withdrawal, a loss, a DISCONNECT before an item is delivered, a lag,
+/// and a sender that outlives its connection. What comes of each event, what logs and queues hold, and how each span ends, is computed.
 pub fn examples()
     ensures { WorkedRows }
 {}

@@ -12,7 +12,7 @@ ghost use Rattle.delivery.specs.Machine.World.{new_topics};
 ghost use Rattle.delivery.specs.Core.State.{Core, log_limit, new_core};
 ghost use Rattle.delivery.specs.Inner.Senders.{IsSpeaker};
 ghost use Rattle.delivery.specs.Inner.Stands.{IsReached, Makes, IsChecked, endpoint_objection};
-ghost use Rattle.delivery.specs.Inner.View.{EndpointView, view_of, new_group, leaving_endpoint, fed_endpoint, written_endpoint, with_new_endpoint};
+ghost use Rattle.delivery.specs.Inner.View.{EndpointView, view_of, new_group, leaving_endpoint, fed_endpoint, written_endpoint, with_new_endpoint, number_among};
 ghost use Rattle.delivery.specs.declared.event.Event.{Event as Asked};
 
 mod answer;
@@ -126,6 +126,16 @@ impl NetState {
         })
     }
 
+    /// The number of the endpoint's sender; while it has none, that of the next one.
+    fn number_of(&self, endpoint: &Endpoint) -> u64
+        ensures { result ≡ number_among self.now.senders endpoint.now }
+    {
+        match endpoint.sender {
+            Some(sender) => sender,
+            None => self.senders.len() as u64,
+        }
+    }
+
     /// The sender of a connection that is there and isn't gone: 80 where there is none, 87 where it is gone.
     fn check_there(&self, connection: u64) -> Result<u64, Refusal>
         ensures { IsSpeaker result self.now connection }
@@ -134,8 +144,8 @@ impl NetState {
             return Err(Refusal::NoConn);
         };
         match endpoint.stage {
-            Stage::Open(_) => Ok(endpoint.sender),
-            Stage::Leaving(_) => Ok(endpoint.sender),
+            Stage::Open(_) => Ok(self.number_of(endpoint)),
+            Stage::Leaving(_) => Ok(self.number_of(endpoint)),
             Stage::Gone => Err(Refusal::Gone),
         }
     }

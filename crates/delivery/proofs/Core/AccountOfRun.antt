@@ -40,9 +40,9 @@ use Rattle.delivery.specs.Theorem.Due.{due, is_due, item_at}
 use Rattle.delivery.specs.Theorem.Laws.{Run, answers_of, final_world}
 use Rattle.delivery.specs.Machine.Objections.{Objection, refusal_of}
 use Rattle.delivery.specs.Machine.Observed.{accepted_at, end_at, frontier_at}
-use Rattle.delivery.specs.Machine.World.{World, Leftover, topic_at, connection_at, subscription_at, speaker, start}
+use Rattle.delivery.specs.Machine.World.{World, Leftover, topic_at, subscription_at, speaker, start, speaker_number}
 use Rattle.delivery.specs.Machine.Moves.{Move, Answer, world_after, answer_to, move_refusal, move_effect, move_answer, needs_open, needs_idle, undecided_at, find_leftover, oldest_live, or_out_of_memory, commit_answer, proposal_fault, propose_answer, cancel_answer, release_answer, take_answer, leave_answer, next_ticket, end_now}
-use Rattle.delivery.specs.Machine.Moves.Move.{Commits, Subscribes, Unsubscribes, Disconnects, Errs, Lost, Leaves, Proposes, Decides, Withdraws, Cancels, Learns, Releases, Turns, Takes}
+use Rattle.delivery.specs.Machine.Moves.Move.{Commits, Subscribes, Unsubscribes, Disconnects, Errs, Lost, Leaves, Proposes, Decides, Withdraws, Cancels, Learns, Releases, Turns, Takes, Opens, Connects}
 use Rattle.delivery.specs.Machine.Runs.{run, answers_from, commits_of, delivered_items}
 use Rattle.delivery.specs.Core.Steps.{CoreStep, Reading, frame_in, number_by}
 use Rattle.delivery.specs.Core.Account.{Beginning, no_item, beginning_of, due_to, next_item, last_id, released_frontier, committed_by, account_of, account_of_next, account_of_step}
@@ -55,6 +55,7 @@ use Rattle.delivery.proofs.Machine.InvariantIsKept.{NoneHolds, checked, false_no
 use Rattle.delivery.proofs.Theorem.AcceptedIsDue.{reached, accepted_is_due}
 use Rattle.delivery.proofs.Theorem.LogIsOfAnswers.{front}
 use Rattle.delivery.proofs.Theorem.SpansAsAnswered.{handing}
+use Rattle.delivery.proofs.Core.Claimed.{Claimed, own_number, claimed, fresh_free}
 use Rattle.delivery.proofs.Core.ByRun.{run_append, answers_append}
 use Rattle.delivery.proofs.Core.Said.{said, commits_said, txn_count_said, delivered_said, beginning_said, has_closed_said, released_frontier_said}
 use Rattle.delivery.proofs.Core.Speaking.{Spoken, id_at, open_in, run_spoken, start_spoken}
@@ -192,20 +193,24 @@ released_says names r older rd t o i =
 
 -- ---- transactions
 
+-- each connection speaks for the sender of its number
+abbrev pub Own : Run → Type 0
+Own r = (c : ℕ) → c < length (final_world r).connections → speaker_number (final_world r) c ≡ c
+
 -- the id of the last transaction of a connection's sender, as the account counts it
-last_is : (r : Run) (c : ℕ) → c < length (final_world r).connections
-    → id_at (connection_at (final_world r) c).sender (speaker (final_world r) c).seq ≡ last_id c (said (answers_of r))
-last_is r c l =
-    let w = final_world r in let h = spoken r in let own : (connection_at w c).sender ≡ c = h.speaks.own c l in
+last_is : (r : Run) (c : ℕ) → Own r → c < length (final_world r).connections
+    → id_at (speaker_number (final_world r) c) (speaker (final_world r) c).seq ≡ last_id c (said (answers_of r))
+last_is r c whose l =
+    let w = final_world r in let h = spoken r in let own : speaker_number w c ≡ c = whose c l in
     ap (λ n. id_at n (sender_in w.senders n).seq) own
     ∙ ap (λ n. id_at c n) (h.speaking.seqs c ∙ sym (txn_count_said c (answers_of r)))
 
 -- so is that of its undecided one
-pub undecided_is : (r : Run) (c : ℕ) → c < length (final_world r).connections → not (is_some (speaker (final_world r) c).flight) ≡ false
+pub undecided_is : (r : Run) (c : ℕ) → Own r → c < length (final_world r).connections → not (is_some (speaker (final_world r) c).flight) ≡ false
     → (undecided_at (final_world r) c).txn.id ≡ last_id c (said (answers_of r))
-undecided_is r c l f =
+undecided_is r c whose l f =
     let w = final_world r in let fl = in_flight w c f in
-    (spoken r).speaking.flying (connection_at w c).sender (undecided_at w c) (fl.is ∙ ap Some (sym fl.at)) ∙ last_is r c l
+    (spoken r).speaking.flying (speaker_number w c) (undecided_at w c) (fl.is ∙ ap Some (sym fl.at)) ∙ last_is r c whose l
 
 proposed_case : (names : List (List ℕ)) (r : Run) (older : List CoreStep) (rd : Reading) (c : ℕ) (t : Topic) (m : Bool) (f : Option ProposeFault) (z : Outcome)
     → (undecided_at (final_world r) c).txn.id ≡ last_id c (said (answers_of r))
@@ -233,10 +238,10 @@ same_memory w c t false o None None d =
     subst (λ z. outcome_of (propose_answer w c t (or_out_of_memory (not (is_out_of_memory z)) None)) ≡ Some z) (some_same _ o d) refl
 same_memory w c t m o None (Some fault) d = d
 
-proposed_says : (names : List (List ℕ)) (r : Run) (older : List CoreStep) (rd : Reading) (c : ℕ) (t : Topic) (o : Outcome)
+proposed_says : (names : List (List ℕ)) (r : Run) (older : List CoreStep) (whose : Own r) (rd : Reading) (c : ℕ) (t : Topic) (o : Outcome)
     → In o (move_outcome (core_at names r older) (Proposes c t true) ++ move_outcome (core_at names r older) (Proposes c t false))
     → Says names r older (Event.Propose c t) rd o
-proposed_says names r older rd c t o i = elim (In-append_cases o _ _ i) [
+proposed_says names r older whose rd c t o i = elim (In-append_cases o _ _ i) [
   | inl k ↦ by_memory true (in_option o _ k)
   | inr k ↦ by_memory false (in_option o _ k)
 ]
@@ -249,28 +254,28 @@ proposed_says names r older rd c t o i = elim (In-append_cases o _ _ i) [
         (λ why x a e. unsaid _ past why (ap (λ y. answer_to w (Proposes c t (not (is_out_of_memory y)))) e ∙ a))
         (λ n a z d e.
         (let k = checked w (Proposes c t q) n in
-        proposed_case names r older rd c t q fault z (undecided_is r c (connection_there w c k.0) k.1.1.0) (ap (λ y. not (is_out_of_memory y)) (sym e)) a d))
+        proposed_case names r older rd c t q fault z (undecided_is r c whose (connection_there w c k.0) k.1.1.0) (ap (λ y. not (is_out_of_memory y)) (sym e)) a d))
         (same_memory w c t m o (move_refusal w (Proposes c t m)) _ d) refl
 
-cancelled_case : (names : List (List ℕ)) (r : Run) (older : List CoreStep) (rd : Reading) (c : ℕ) (t : Topic) (o : Option Leftover) (z : Outcome)
+cancelled_case : (names : List (List ℕ)) (r : Run) (older : List CoreStep) (whose : Own r) (rd : Reading) (c : ℕ) (t : Topic) (o : Option Leftover) (z : Outcome)
     → c < length (final_world r).connections → find_leftover t (speaker (final_world r) c).leftovers ≡ o
     → answer_to (final_world r) (Cancels c t) ≡ cancel_answer t o → outcome_of (cancel_answer t o) ≡ Some z → Says names r older (Event.Cancel c t) rd z
-cancelled_case names r older rd c t None z l e a d =
+cancelled_case names r older whose rd c t None z l e a d =
     subst (Says names r older (Event.Cancel c t) rd) (some_same _ z d) (ap (λ b. said (b ∷ answers_of r)) (sym a))
-cancelled_case names r older rd c t (Some k) z l e a d =
-    let w = final_world r in let past = answers_of r in let s = (connection_at w c).sender in
+cancelled_case names r older whose rd c t (Some k) z l e a d =
+    let w = final_world r in let past = answers_of r in let s = speaker_number w c in
     let id : k.id ≡ last_id c (said past) =
-    ((spoken r).speaking.left s k (leftover_found t (sender_in w.senders s).leftovers k e).stands).0 ∙ last_is r c l in
+    ((spoken r).speaking.left s k (leftover_found t (sender_in w.senders s).leftovers k e).stands).0 ∙ last_is r c whose l in
     subst (Says names r older (Event.Cancel c t) rd) (some_same _ z d)
     (ap (λ q. Answer.Cancelled q t ∷ said past) (sym id) ∙ ap (λ b. said (b ∷ past)) (sym a))
 
-cancelled_says : (names : List (List ℕ)) (r : Run) (older : List CoreStep) (rd : Reading) (c : ℕ) (t : Topic) (o : Outcome)
+cancelled_says : (names : List (List ℕ)) (r : Run) (older : List CoreStep) (whose : Own r) (rd : Reading) (c : ℕ) (t : Topic) (o : Outcome)
     → In o (move_outcome (core_at names r older) (Cancels c t)) → Says names r older (Event.Cancel c t) rd o
-cancelled_says names r older rd c t o i =
+cancelled_says names r older whose rd c t o i =
     let w = final_world r in
     by_answer (Says names r older (Event.Cancel c t) rd) w (Cancels c t) o
     (λ why x a. unsaid _ (answers_of r) why a)
-    (λ n a z d. cancelled_case names r older rd c t (find_leftover t (speaker w c).leftovers) z (connection_there w c (checked w (Cancels c t) n).0) refl a d)
+    (λ n a z d. cancelled_case names r older whose rd c t (find_leftover t (speaker w c).leftovers) z (connection_there w c (checked w (Cancels c t) n).0) refl a d)
     (in_option o _ i)
 
 -- ---- replies that may be left out
@@ -317,9 +322,9 @@ left_says names r older rd c o i =
     (λ why x a. (unsaid _ (answers_of r) why a, unsaid _ (answers_of r) why a))
     (λ n a z d. left_case names r older rd c (oldest_live c 0 w.subscriptions) z a d) h.is) h.cut
 
-withdrawn_says : (names : List (List ℕ)) (r : Run) (older : List CoreStep) (rd : Reading) (c : ℕ) (o : Outcome)
+withdrawn_says : (names : List (List ℕ)) (r : Run) (older : List CoreStep) (whose : Own r) (rd : Reading) (c : ℕ) (o : Outcome)
     → In o (reply_outcomes (core_at names r older) c (Event.Withdraw c) (move_outcome (core_at names r older) (Withdraws c))) → Says names r older (Event.Withdraw c) rd o
-withdrawn_says names r older rd c o i =
+withdrawn_says names r older whose rd c o i =
     let w = final_world r in let past = answers_of r in let P = Says names r older (Event.Withdraw c) rd in
     let h = replied (core_at names r older) c (Event.Withdraw c) _ o i in
     either_cut P h.base o
@@ -327,7 +332,7 @@ withdrawn_says names r older rd c o i =
     (λ why x a. (unsaid _ past why a, unsaid _ past why a))
     (λ n a z d.
     (let k = checked w (Withdraws c) n in
-    let e = ap (λ q. Answer.Withdrawn q c ∷ said past) (sym (undecided_is r c (connection_there w c k.0) k.1.1.0)) ∙ ap (λ b. said (b ∷ past)) (sym a) in
+    let e = ap (λ q. Answer.Withdrawn q c ∷ said past) (sym (undecided_is r c whose (connection_there w c k.0) k.1.1.0)) ∙ ap (λ b. said (b ∷ past)) (sym a) in
     subst (λ q. P q × P (cut_of q)) (some_same _ z d) (e, e))) h.is) h.cut
 
 -- ---- a decision
@@ -365,9 +370,9 @@ lost_after r c n h =
     ∙ answer_is v (Lost c)
     (ap (λ (z : Option Objection). option_or z None) (unpassed (needs_open v c) (k.0, (k.1.0, (ap not o, tt)))))
 
-decided_says : (names : List (List ℕ)) (r : Run) (older : List CoreStep) (rd : Reading) (c : ℕ) (o : Outcome) → account_of names older ≡ said (answers_of r)
+decided_says : (names : List (List ℕ)) (r : Run) (older : List CoreStep) (whose : Own r) (rd : Reading) (c : ℕ) (o : Outcome) → account_of names older ≡ said (answers_of r)
     → In o (reply_outcomes (core_at names r older) c (Event.Decide c) (move_outcome (core_at names r older) (Decides c))) → Says names r older (Event.Decide c) rd o
-decided_says names r older rd c o acc i =
+decided_says names r older whose rd c o acc i =
     let h = replied (core_at names r older) c (Event.Decide c) _ o i in by_cut h.base h.is h.cut
   where
     w : World
@@ -380,7 +385,7 @@ decided_says names r older rd c o acc i =
     Due z = is_any (replies_to c older (account_of names older) (Event.Decide c) Reading.Nothing z) ≡ true
 
     id_is : move_refusal w (Decides c) ≡ None → (undecided_at w c).txn.id ≡ last_id c (said (answers_of r))
-    id_is n = let k = checked w (Decides c) n in undecided_is r c (connection_there w c k.0) k.1.1.0
+    id_is n = let k = checked w (Decides c) n in undecided_is r c whose (connection_there w c k.0) k.1.1.0
 
     uncut : move_refusal w (Decides c) ≡ None → answer_to w (Decides c) ≡ move_answer w (Decides c) → P (Outcome.Decided (greatest (undecided_at w c).given) false)
     uncut n a =
@@ -534,35 +539,35 @@ unsubscribed_id commands.Send s f id e = absurd (no_unsubscribe_sent s f (first_
 unsubscribed_id commands.Commit s f id e = absurd (no_unsubscribe_committed (sends_in (transaction_of f) s.transactions) id e)
 unsubscribed_id _ s f id e = cc
 
-flown_case : (names : List (List ℕ)) (r : Run) (older : List CoreStep) (c : ℕ) (f : RawFrame) (left : Unread) (sends : List SentMessage) (z : Outcome)
+flown_case : (names : List (List ℕ)) (r : Run) (older : List CoreStep) (whose : Own r) (c : ℕ) (f : RawFrame) (left : Unread) (sends : List SentMessage) (z : Outcome)
     → c < length (final_world r).connections → action_by f.command (session_at (core_at names r older) c) f ≡ actions.Commit sends
     → answer_to (final_world r) (Commits c sends) ≡ commit_answer (final_world r) c sends → outcome_of (commit_answer (final_world r) c sends) ≡ Some z
     → Says names r older (Event.Next c) (Reading.Finds f left) z
-flown_case names r older c f left [] z l e a d =
+flown_case names r older whose c f left [] z l e a d =
     subst (Says names r older (Event.Next c) (Reading.Finds f left)) (some_same _ z d)
     (ap (λ b. said (b ∷ answers_of r)) (sym a)
     ∙ ap (λ b. said (answers_from (option_to_list (frame_move (core_at names r older) c b)) (final_world r) (answers_of r))) (sym e))
-flown_case names r older c f left (first ∷ others) z l e a d =
+flown_case names r older whose c f left (first ∷ others) z l e a d =
     let past = answers_of r in let last = last_id c (said past) in
     subst (Says names r older (Event.Next c) (Reading.Finds f left)) (some_same _ z d)
     (ap (λ b. Answer.Begun (record { id = record last { seq = last.seq + 1 }; sends = committed_by b }) ∷ said past) e
-    ∙ (ap (λ (b : TxnId). Answer.Begun (record { id = record b { seq = b.seq + 1 }; sends = first ∷ others }) ∷ said past) (sym (last_is r c l))
+    ∙ (ap (λ (b : TxnId). Answer.Begun (record { id = record b { seq = b.seq + 1 }; sends = first ∷ others }) ∷ said past) (sym (last_is r c whose l))
     ∙ (ap (λ b. said (b ∷ past)) (sym a)
     ∙ ap (λ b. said (answers_from (option_to_list (frame_move (core_at names r older) c b)) (final_world r) past)) (sym e))))
 
-accepted_says : (names : List (List ℕ)) (r : Run) (older : List CoreStep) (c : ℕ) (f : RawFrame) (left : Unread) (o : Outcome) (action : Action)
+accepted_says : (names : List (List ℕ)) (r : Run) (older : List CoreStep) (whose : Own r) (c : ℕ) (f : RawFrame) (left : Unread) (o : Outcome) (action : Action)
     → action_by f.command (session_at (core_at names r older) c) f ≡ action
     → In o (option_map_or (move_outcome (core_at names r older)) (frame_move (core_at names r older) c action) (Outcome.Done ∷ []))
     → Says names r older (Event.Next c) (Reading.Finds f left) o
-accepted_says names r older c f left o actions.Connected e (inl d) =
+accepted_says names r older whose c f left o actions.Connected e (inl d) =
     subst (Says names r older (Event.Next c) (Reading.Finds f left)) d
     (ap (λ b. said (answers_from (option_to_list (frame_move (core_at names r older) c b)) (final_world r) (answers_of r))) (sym e))
-accepted_says names r older c f left o actions.Connected e (inr i) = absurd i
-accepted_says names r older c f left o actions.Nothing e (inl d) =
+accepted_says names r older whose c f left o actions.Connected e (inr i) = absurd i
+accepted_says names r older whose c f left o actions.Nothing e (inl d) =
     subst (Says names r older (Event.Next c) (Reading.Finds f left)) d
     (ap (λ b. said (answers_from (option_to_list (frame_move (core_at names r older) c b)) (final_world r) (answers_of r))) (sym e))
-accepted_says names r older c f left o actions.Nothing e (inr i) = absurd i
-accepted_says names r older c f left o (actions.Subscribe id t) e i =
+accepted_says names r older whose c f left o actions.Nothing e (inr i) = absurd i
+accepted_says names r older whose c f left o (actions.Subscribe id t) e i =
     let w = final_world r in let past = answers_of r in let P = Says names r older (Event.Next c) (Reading.Finds f left) in
     by_answer P w (Subscribes c t) o (λ why x a. refl)
     (λ n a z d. subst P (some_same _ z d)
@@ -571,7 +576,7 @@ accepted_says names r older c f left o (actions.Subscribe id t) e i =
     ∙ (ap (λ b. said (b ∷ past)) (sym a)
     ∙ ap (λ b. said (answers_from (option_to_list (frame_move (core_at names r older) c b)) w past)) (sym e))))
     (in_option o _ i)
-accepted_says names r older c f left o (actions.Unsubscribe id) e i =
+accepted_says names r older whose c f left o (actions.Unsubscribe id) e i =
     let w = final_world r in let past = answers_of r in let P = Says names r older (Event.Next c) (Reading.Finds f left) in
     let s = number_by c id older in
     by_answer P w (Unsubscribes c s) o (λ why x a. refl)
@@ -580,12 +585,12 @@ accepted_says names r older c f left o (actions.Unsubscribe id) e i =
     ∙ (ap (λ b. said (b ∷ past)) (sym a)
     ∙ ap (λ b. said (answers_from (option_to_list (frame_move (core_at names r older) c b)) w past)) (sym e))))
     (in_option o _ i)
-accepted_says names r older c f left o (actions.Commit sends) e i =
+accepted_says names r older whose c f left o (actions.Commit sends) e i =
     let w = final_world r in let P = Says names r older (Event.Next c) (Reading.Finds f left) in
     by_answer P w (Commits c sends) o (λ why x a. refl)
-    (λ n a z d. flown_case names r older c f left sends z (connection_there w c (checked w (Commits c sends) n).0) e a d)
+    (λ n a z d. flown_case names r older whose c f left sends z (connection_there w c (checked w (Commits c sends) n).0) e a d)
     (in_option o _ i)
-accepted_says names r older c f left o actions.Disconnect e i =
+accepted_says names r older whose c f left o actions.Disconnect e i =
     let w = final_world r in let past = answers_of r in let P = Says names r older (Event.Next c) (Reading.Finds f left) in
     by_answer P w (Disconnects c) o (λ why x a. refl)
     (λ n a z d. subst P (some_same _ z d)
@@ -626,31 +631,31 @@ faulted_says names r older rd c fault o n i = elim i [
         ap (λ z. z ++ said (answers_of r)) (fault_account names older (said (answers_of r)) c (frame_in rd) fault cut)
         ∙ ap (λ b. said (b ∷ answers_of r)) (sym (answer_is (final_world r) (Errs c) (ap (λ (z : Option Objection). option_or z None) n)))
 
-found_says : (names : List (List ℕ)) (r : Run) (older : List CoreStep) (c : ℕ) (f : RawFrame) (left : Unread) (o : Outcome) (why : Option ConnectionFault)
+found_says : (names : List (List ℕ)) (r : Run) (older : List CoreStep) (whose : Own r) (c : ℕ) (f : RawFrame) (left : Unread) (o : Outcome) (why : Option ConnectionFault)
     → first_refusal (needs_idle (final_world r) c) ≡ None
     → In o (option_map_or fault_outcomes why (accepted_outcomes (core_at names r older) c f))
     → Says names r older (Event.Next c) (Reading.Finds f left) o
-found_says names r older c f left o (Some fault) n i = faulted_says names r older (Reading.Finds f left) c fault o n i
-found_says names r older c f left o None n i = elim (In-append_cases o (frame_outcome (core_at names r older) c f) _ i) [
-  | inl j ↦ accepted_says names r older c f left o (action_by f.command (session_at (core_at names r older) c) f) refl j
+found_says names r older whose c f left o (Some fault) n i = faulted_says names r older (Reading.Finds f left) c fault o n i
+found_says names r older whose c f left o None n i = elim (In-append_cases o (frame_outcome (core_at names r older) c f) _ i) [
+  | inl j ↦ accepted_says names r older whose c f left o (action_by f.command (session_at (core_at names r older) c) f) refl j
   | inr j ↦ faulted_says names r older (Reading.Finds f left) c frame_no_memory o n
       (was_wanted (wants_memory (core_at names r older) c f) frame_no_memory o j)
 ]
 
-read_says : (names : List (List ℕ)) (r : Run) (older : List CoreStep) (rd : Reading) (c : ℕ) (o : Outcome) → first_refusal (needs_idle (final_world r) c) ≡ None
+read_says : (names : List (List ℕ)) (r : Run) (older : List CoreStep) (whose : Own r) (rd : Reading) (c : ℕ) (o : Outcome) → first_refusal (needs_idle (final_world r) c) ≡ None
     → In o (reading_outcomes (core_at names r older) c rd) → Says names r older (Event.Next c) rd o
-read_says names r older Reading.Nothing c o n i =
+read_says names r older whose Reading.Nothing c o n i =
     faulted_says names r older Reading.Nothing c ConnectionFault.ReaderNoMemory o n
     (was_wanted (is_any (unread_at c older).text) ConnectionFault.ReaderNoMemory o i)
-read_says names r older (Reading.Waits left) c o n (inl e) = subst (Says names r older (Event.Next c) (Reading.Waits left)) e refl
-read_says names r older (Reading.Waits left) c o n (inr i) = absurd i
-read_says names r older (Reading.Finds f left) c o n i = found_says names r older c f left o (frame_fault (core_at names r older) c f) n i
-read_says names r older (Reading.Fails check left) c o n i = faulted_says names r older (Reading.Fails check left) c (ConnectionFault.Stream check) o n i
+read_says names r older whose (Reading.Waits left) c o n (inl e) = subst (Says names r older (Event.Next c) (Reading.Waits left)) e refl
+read_says names r older whose (Reading.Waits left) c o n (inr i) = absurd i
+read_says names r older whose (Reading.Finds f left) c o n i = found_says names r older whose c f left o (frame_fault (core_at names r older) c f) n i
+read_says names r older whose (Reading.Fails check left) c o n i = faulted_says names r older (Reading.Fails check left) c (ConnectionFault.Stream check) o n i
 
-next_says : (names : List (List ℕ)) (r : Run) (older : List CoreStep) (rd : Reading) (c : ℕ) (o : Outcome) (why : Option Objection)
+next_says : (names : List (List ℕ)) (r : Run) (older : List CoreStep) (whose : Own r) (rd : Reading) (c : ℕ) (o : Outcome) (why : Option Objection)
     → first_refusal (needs_idle (final_world r) c) ≡ why → In o (unless why (reading_outcomes (core_at names r older) c rd)) → Says names r older (Event.Next c) rd o
-next_says names r older rd c o None n i = read_says names r older rd c o n i
-next_says names r older rd c o (Some why) n i =
+next_says names r older whose rd c o None n i = read_says names r older whose rd c o n i
+next_says names r older whose rd c o (Some why) n i =
     let k = refusal_some (refusal_of why) o (in_option o _ i) in
     subst (Says names r older (Event.Next c) rd) k.is (ap (λ z. z ++ said (answers_of r)) (refused_account names older (said (answers_of r)) c (frame_in rd) k.why))
 
@@ -659,25 +664,28 @@ next_says names r older rd c o (Some why) n i =
 opened_says : (names : List (List ℕ)) (r : Run) (older : List CoreStep) (rd : Reading) (o : Outcome)
     → In o (outcomes (core_at names r older) Event.Open rd) → Says names r older Event.Open rd o
 opened_says names r older rd o i = elim i [
-  | inl e ↦ subst (Says names r older Event.Open rd) e refl
+  | inl e ↦
+      let w = final_world r in
+      subst (Says names r older Event.Open rd) e
+      (ap (λ b. said (b ∷ Answer.Opened (length w.connections) ∷ answers_of r)) (sym (answer_is (move_effect w Opens) (Connects (length w.connections) None) (fresh_free w))))
   | inr j ↦ elim j [ inl e ↦ subst (Says names r older Event.Open rd) e refl | inr k ↦ absurd k ]
 ]
 
-event_says : (names : List (List ℕ)) (r : Run) (older : List CoreStep) (e : Event) (rd : Reading) (o : Outcome) → account_of names older ≡ said (answers_of r)
+event_says : (names : List (List ℕ)) (r : Run) (older : List CoreStep) (whose : Own r) (e : Event) (rd : Reading) (o : Outcome) → account_of names older ≡ said (answers_of r)
     → In o (outcomes (core_at names r older) e rd) → Says names r older e rd o
-event_says names r older Event.Open rd o acc i = opened_says names r older rd o i
-event_says names r older (Event.Piece c octets) rd o acc i = refl
-event_says names r older (Event.Next c) rd o acc i = next_says names r older rd c o (first_refusal (needs_idle (final_world r) c)) refl i
-event_says names r older (Event.Propose c t) rd o acc i = proposed_says names r older rd c t o i
-event_says names r older (Event.Decide c) rd o acc i = decided_says names r older rd c o acc i
-event_says names r older (Event.Withdraw c) rd o acc i = withdrawn_says names r older rd c o i
-event_says names r older (Event.Cancel c t) rd o acc i = cancelled_says names r older rd c t o i
-event_says names r older (Event.Learn t id) rd o acc i = learnt_says names r older rd t id o i
-event_says names r older (Event.Release t) rd o acc i = released_says names r older rd t o i
-event_says names r older (Event.Turn t) rd o acc i = turned_says names r older rd t o i
-event_says names r older (Event.Take s) rd o acc i = taken_says names r older rd s o i
-event_says names r older (Event.Leave c) rd o acc i = left_says names r older rd c o i
-event_says names r older (Event.Lost c) rd o acc i = lost_says names r older rd c o i
+event_says names r older whose Event.Open rd o acc i = opened_says names r older rd o i
+event_says names r older whose (Event.Piece c octets) rd o acc i = refl
+event_says names r older whose (Event.Next c) rd o acc i = next_says names r older whose rd c o (first_refusal (needs_idle (final_world r) c)) refl i
+event_says names r older whose (Event.Propose c t) rd o acc i = proposed_says names r older whose rd c t o i
+event_says names r older whose (Event.Decide c) rd o acc i = decided_says names r older whose rd c o acc i
+event_says names r older whose (Event.Withdraw c) rd o acc i = withdrawn_says names r older whose rd c o i
+event_says names r older whose (Event.Cancel c t) rd o acc i = cancelled_says names r older whose rd c t o i
+event_says names r older whose (Event.Learn t id) rd o acc i = learnt_says names r older rd t id o i
+event_says names r older whose (Event.Release t) rd o acc i = released_says names r older rd t o i
+event_says names r older whose (Event.Turn t) rd o acc i = turned_says names r older rd t o i
+event_says names r older whose (Event.Take s) rd o acc i = taken_says names r older rd s o i
+event_says names r older whose (Event.Leave c) rd o acc i = left_says names r older rd c o i
+event_says names r older whose (Event.Lost c) rd o acc i = lost_says names r older rd c o i
 
 -- a run of the core is one of the machine
 pub core_is : (topics : TopicList) (capacity : ℕ) (steps : List CoreStep) → core_of topics capacity steps ≡ core_at topics.names (run_of topics capacity steps) steps
@@ -695,11 +703,12 @@ pub account_is : (topics : TopicList) (capacity : ℕ) (steps : List CoreStep) �
 account_is topics capacity [] run = refl
 account_is topics capacity (step ∷ older) run =
     let r = run_of topics capacity older in let k = core_of topics capacity older in
+    let whose : Own r = λ c. own_number (final_world r) c (subst (λ w. Claimed w) (world_is topics capacity older) (claimed topics capacity older)) in
     let acc = account_is topics capacity older run.1 in let c = core_is topics capacity older in
     let i : In step.outcome (outcomes (core_at topics.names r older) step.event step.reading) =
     subst (λ z. In step.outcome (outcomes z step.event step.reading)) c run.0.outcome in
     let ms = moves k step.event step.reading step.outcome in
     ap (λ z. account_of_step topics.names older z step.event step.reading step.outcome ++ z) acc
-    ∙ (event_says topics.names r older step.event step.reading step.outcome acc i
+    ∙ (event_says topics.names r older whose step.event step.reading step.outcome acc i
     ∙ (ap (λ z. said (answers_from (moves z step.event step.reading step.outcome) (final_world r) (answers_of r))) (sym c)
     ∙ ap said (sym (answers_append (all_moves topics capacity older) ms (start capacity 65536 topics.clocks) []))))

@@ -19,7 +19,7 @@ use Rattle.delivery.specs.declared.outcome.Outcome.{Outcome}
 use Rattle.delivery.specs.Topics.{TopicList}
 use Rattle.delivery.specs.Machine.World.{World, Leftover, new_topics, speaker, subscription_at, entry_at}
 use Rattle.delivery.specs.Machine.Moves.{Move, Answer, world_after, answer_to, move_refusal, move_effect, needs_open, needs_idle, find_leftover, find_verdict, oldest_live, commit_effect, proposal_fault, propose_effect, cancel_effect, learn_effect, take_effect, leave_effect, close_effect_of}
-use Rattle.delivery.specs.Machine.Moves.Move.{AddsTopic, Opens, Commits, Subscribes, Unsubscribes, Disconnects, Errs, Lost, Leaves, Proposes, Decides, Withdraws, Cancels, Learns, Releases, Turns, Takes}
+use Rattle.delivery.specs.Machine.Moves.Move.{AddsTopic, Opens, Connects, Commits, Subscribes, Unsubscribes, Disconnects, Errs, Lost, Leaves, Proposes, Decides, Withdraws, Cancels, Learns, Releases, Turns, Takes}
 use Rattle.delivery.specs.Machine.Runs.{run}
 use Rattle.delivery.specs.Core.Steps.{CoreStep, Reading, frame_in, has_effect}
 use Rattle.delivery.specs.Core.Output.{is_cut}
@@ -91,6 +91,7 @@ taken w s (Some item) = same w _ refl refl
 effect_grows : (w : World) (e : Move) → adds_none e ≡ true → Grown w (move_effect w e) (opened_by_move e)
 effect_grows w (AddsTopic clock) n = absurd (false≢true n)
 effect_grows w Opens n = record { topics = refl; connections = push_length w.connections _ ∙ omega arith }
+effect_grows w (Connects c claimed) n = same w _ refl (set_length w.connections c _)
 effect_grows w (Commits c sends) n = flown w c sends
 effect_grows w (Subscribes c t) n = same w _ (set_length w.topics t.0 _) refl
 effect_grows w (Unsubscribes c s) n = closed w s (entry_at w s)
@@ -125,6 +126,9 @@ step_plain w e p =
 
 then : (w v u : World) (n : ℕ) → Grown w v 0 → Grown v u n → Grown w u n
 then w v u n a b = record { topics = b.topics ∙ a.topics; connections = (let i = a.connections in let j = b.connections in omega arith) }
+
+before : (w v u : World) (n : ℕ) → Grown w v n → Grown v u 0 → Grown w u n
+before w v u n a b = record { topics = b.topics ∙ a.topics; connections = (let i = a.connections in let j = b.connections in omega arith) }
 
 run_plain : (ms : List Move) (w : World) → list_all is_plain ms ≡ true → Grown w (run ms w) 0
 run_plain [] w p = same w w refl refl
@@ -246,7 +250,9 @@ event_none k (Event.Lost c) rd p = move_none k (Lost c) refl
 
 opens : (k : Core) (o : Outcome) (rd : Reading) → In o (outcomes k Event.Open rd) → Grown k.world (run (moves k Event.Open rd o) k.world) (opened_by o)
 opens k o rd i = elim i [
-  | inl e ↦ subst (λ z. Grown k.world (run (moves k Event.Open rd z) k.world) (opened_by z)) e (effect_grows k.world Opens refl)
+  | inl e ↦
+      let w = k.world in let v = move_effect w Opens in let mv = Connects (length w.connections) None in
+      subst (λ z. Grown w (run (moves k Event.Open rd z) w) (opened_by z)) e (before w v (world_after v mv) 1 (effect_grows w Opens refl) (step_plain v mv refl))
   | inr j ↦ elim j [
     | inl e ↦ subst (λ z. Grown k.world (run (moves k Event.Open rd z) k.world) (opened_by z)) e (same k.world k.world refl refl)
     | inr n ↦ absurd n

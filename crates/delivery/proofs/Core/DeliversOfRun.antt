@@ -31,13 +31,14 @@ use Rattle.delivery.proofs.Theorem.AcceptedIsDue.{reached, accepted_is_due, shar
 use Rattle.delivery.proofs.Theorem.LogIsOfAnswers.{log_is_of_outcomes}
 use Rattle.delivery.proofs.Theorem.SettledLeavesNoneOut.{settled_in_log}
 use Rattle.delivery.proofs.Theorem.ClosedIsSilent.{closed_is_silent}
-use Rattle.delivery.proofs.Theorem.SpansAsAnswered.{handing, beyond, within, spans_end_as_told, queues_are_bounded}
+use Rattle.delivery.proofs.Theorem.SpansAsAnswered.{handing, within, spans_end_as_told, queues_are_bounded}
 use Rattle.delivery.proofs.Core.Said.{said, said_from, commits_said, delivered_said, beginning_said, released_log_said, released_frontier_said, begun_said, settled_said, silent_said}
 use Rattle.delivery.proofs.Core.Started.{begin_of, numbered, begun_is, asked_at_frontier}
 use Rattle.delivery.proofs.Core.AccountOfRun.{run_of, core_at, core_is, account_is}
 use Rattle.delivery.proofs.Core.LagsAsTold.{lag_as_told}
 use Rattle.delivery.proofs.Core.SaidParts.{said_append}
 use Rattle.mcast_group.proofs.Parts.{some_same, none_some}
+use Rattle.delivery.proofs.Machine.SubscriptionSteps.{beyond}
 
 -- ---- numbered lists
 

@@ -1,5 +1,5 @@
 -- The delivery of every run of the core.
-use Rattle.std.proofs.Common.{◌≡◌, ℕ, ◌<◌, List, [], length, refl, sym, ap, subst, ◌∙◌, arith}
+use Rattle.std.proofs.Common.{◌≡◌, ℕ, ◌<◌, List, [], length, sym, ap, subst, ◌∙◌, arith}
 use Rattle.mcast_group.proofs.Parts.{map_length}
 use Rattle.mcast_group.specs.Machine.{TopicState}
 use Rattle.delivery.specs.Topics.{TopicList}

@@ -1,7 +1,6 @@
 -- Which move of the machine a step of the core is.
 use Rattle.std.proofs.Common.{◌≡◌, ℕ, Bool, true, false, cond, not, ◌⊎◌, inl, inr, List, [], ◌∷◌, ◌++◌, length, Option, Some, None, refl, sym, ap, subst, ◌∙◌}
-use Rattle.std.proofs.lemmas.Bool.{true≢false, false≢true}
-use Rattle.std.specs.Option.{is_some, option_map, option_map_or, option_and_then, option_to_list}
+use Rattle.std.specs.Option.{option_map_or, option_and_then, option_to_list}
 use Rattle.stomp_frame.specs.declared.raw_frame.RawFrame.{RawFrame}
 use Rattle.stomp_frame.specs.Cases.{case_fault}
 use Rattle.stomp_frame.specs.Reader.{Unread}
@@ -9,7 +8,7 @@ use Rattle.mcast_txn.specs.declared.id.Topic.{Topic}
 use Rattle.mcast_txn.specs.declared.draft.sent_message.SentMessage.{SentMessage}
 use Rattle.mcast_txn.specs.Checks.{first_refusal}
 use Rattle.mcast_txn.specs.Lists.{In}
-use Rattle.mcast_group.proofs.Parts.{some_same, none_some}
+use Rattle.mcast_group.proofs.Parts.{some_same}
 use Rattle.stomp_session.specs.declared.action.Action.{Action}
 use Rattle.stomp_session.specs.declared.action.Action.TheVariants as actions
 use Rattle.stomp_session.specs.Answers.{action_by}
@@ -18,8 +17,8 @@ use Rattle.delivery.specs.declared.event.Event.{Event}
 use Rattle.delivery.specs.declared.outcome.Outcome.{Outcome}
 use Rattle.delivery.specs.declared.connection_fault.ConnectionFault.{ConnectionFault}
 use Rattle.delivery.specs.Machine.Objections.{Objection, refusal_of}
-use Rattle.delivery.specs.Machine.World.{World, topic_at}
-use Rattle.delivery.specs.Machine.Moves.{Move, Answer, needs_open, needs_idle, move_refusal, move_effect, move_answer, answer_to, world_after, commit_answer, end_now}
+use Rattle.delivery.specs.Machine.World.{World, SenderState, Connection, topic_at}
+use Rattle.delivery.specs.Machine.Moves.{Move, Answer, needs_open, needs_idle, move_refusal, move_effect, answer_to, world_after, commit_answer, end_now}
 use Rattle.delivery.specs.Machine.Moves.Move.{Opens, Commits, Subscribes, Unsubscribes, Disconnects, Errs, Lost, Leaves, Proposes, Decides, Withdraws, Cancels, Learns, Releases, Turns, Takes}
 use Rattle.delivery.specs.Machine.Runs.{run}
 use Rattle.delivery.specs.Theorem.Laws.{move_topic}
@@ -29,6 +28,7 @@ use Rattle.delivery.specs.Core.State.{Core, session_at, frame_move, is_faulted, 
 use Rattle.delivery.specs.Core.Outcomes.{outcome_of, move_outcome, unless, frame_no_memory, frame_fault, fault_outcomes, frame_outcome, reading_outcomes, cut_of, outcomes, accepted_outcomes, is_any, wants_memory}
 use Rattle.delivery.specs.Core.Stepped.{event_topic}
 use Rattle.delivery.proofs.Machine.SenderSteps.{In-append_cases}
+use Rattle.delivery.proofs.Core.Claimed.{opened_world}
 use Rattle.delivery.proofs.Core.AccountOfRun.{in_option, refusal_some, replied, same_memory, was_wanted}
 use Rattle.delivery.proofs.Core.ReadingsShown.{unrefused, effect_of}
 
@@ -44,7 +44,7 @@ is_of_frame mv = false
 
 -- the move is one of this event
 abbrev pub IsMoveOf : Event → Move → Type 0
-IsMoveOf Event.Open mv = mv ≡ Opens
+IsMoveOf Event.Open mv = Prim.⊥
 IsMoveOf (Event.Piece c octets) mv = Prim.⊥
 IsMoveOf (Event.Next c) mv = is_of_frame mv ≡ true
 IsMoveOf (Event.Propose c t) mv = (memory : Bool) × (mv ≡ Proposes c t memory)
@@ -65,6 +65,11 @@ is_plain Outcome.Fed = true
 is_plain Outcome.NoMemory = true
 is_plain Outcome.Done = true
 is_plain o = false
+
+-- the outcome is that a connection was opened
+abbrev pub is_opened : Outcome → Bool
+is_opened (Outcome.Opened c) = true
+is_opened o = false
 
 -- the world after these moves
 abbrev pub world_then : Core → Event → Reading → Outcome → World
@@ -96,11 +101,18 @@ pub record Erred (k : Core) (e : Event) (rd : Reading) (o : Outcome) : Type 0 wh
   pub world : world_then k e rd o ≡ world_after k.world (Errs connection)
   pub faulted : is_faulted o ≡ true
 
--- what a step is of the machine: nothing, an ERROR, a move, or a decision with a loss
+-- the step opens a connection, which begins a sender
+pub record Began (k : Core) (e : Event) (rd : Reading) (o : Outcome) : Type 0 where
+  pub senders : List SenderState
+  pub connections : List Connection
+  pub world : world_then k e rd o ≡ record k.world { senders = senders; connections = connections }
+  pub opened : is_opened o ≡ true
+
+-- what a step is of the machine: nothing, an ERROR, a move, a decision with a loss, or a connection's opening
 abbrev pub Comes : Core → Event → Reading → Outcome → Type 0
 Comes k e rd o =
     ((world_then k e rd o ≡ k.world) × (is_plain o ≡ true))
-    ⊎ (Erred k e rd o ⊎ (Moved k e rd o ⊎ DecidedAndLost k e rd o))
+    ⊎ (Erred k e rd o ⊎ (Moved k e rd o ⊎ (DecidedAndLost k e rd o ⊎ Began k e rd o)))
 
 -- ---- outcomes
 
@@ -208,8 +220,10 @@ next_comes k c rd o (Some why) i =
 
 opened_comes : (k : Core) (rd : Reading) (o : Outcome) → In o (move_outcome k Opens ++ Outcome.NoMemory ∷ []) → Comes k Event.Open rd o
 opened_comes k rd o i = elim (In-append_cases o (move_outcome k Opens) (Outcome.NoMemory ∷ []) i) [
-  | inl j ↦ (let d = in_option o _ j in
-      alone k Event.Open rd o Opens refl refl (ap (λ b. run (cond b [] (Opens ∷ [])) k.world) (remembered (answer_to k.world Opens) o d)) d)
+  | inl j ↦ elim j [
+    | inl e ↦ subst (Comes k Event.Open rd) e (inr (inr (inr (inr (record { senders = _; connections = _; world = opened_world k.world; opened = refl })))))
+    | inr n ↦ absurd n
+  ]
   | inr j ↦ elim j [ inl e ↦ subst (Comes k Event.Open rd) e (inl (refl, refl)) | inr n ↦ absurd n ]
 ]
 
@@ -266,7 +280,7 @@ decided_comes k c rd o i false e =
     })))
 decided_comes k c rd o i true e =
     let h = replied k c (Event.Decide c) _ o i in
-    inr (inr (inr (record {
+    inr (inr (inr (inl (record {
       connection = c;
       event = refl;
       world = ap (λ b. run (Decides c ∷ cond b (Lost c ∷ []) []) k.world) e;
@@ -274,7 +288,7 @@ decided_comes k c rd o i true e =
       is = h.is;
       cut = either h.base o h.cut;
       was_cut = e;
-    })))
+    }))))
 
 -- each step of the core is one of these
 pub comes : (k : Core) (e : Event) (rd : Reading) (o : Outcome) → In o (outcomes k e rd) → Comes k e rd o

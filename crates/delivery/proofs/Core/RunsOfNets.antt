@@ -1,10 +1,9 @@
 -- A net is a run of the machine, so that the laws of the machine's runs are laws of nets.
-use Rattle.std.proofs.Common.{◌≡◌, ℕ, Bool, true, false, List, [], ◌∷◌, ◌++◌, Option, Some, None, refl, sym, ap, subst, ◌∙◌, append-nil, inl, inr}
+use Rattle.std.proofs.Common.{◌≡◌, ℕ, Bool, true, false, List, [], ◌∷◌, ◌++◌, Option, Some, None, refl, sym, ap, subst, ◌∙◌, append-nil, length}
 use Rattle.std.specs.List.{filter}
 use Rattle.std.specs.Prelude.{get_or, if◌then◌else◌}
 use Rattle.std.specs.Option.{option_to_list, option_map_or}
 use Rattle.stomp_frame.specs.declared.raw_frame.RawFrame.{RawFrame}
-use Rattle.mcast_txn.specs.declared.id.Topic.{Topic}
 use Rattle.mcast_txn.specs.Lists.{In}
 use Rattle.mcast_group.specs.declared.fault.ProposeFault.{ProposeFault}
 use Rattle.mcast_group.specs.Sound.{IsSound}
@@ -21,9 +20,9 @@ use Rattle.delivery.specs.Theorem.Laws.{answers_of, final_world}
 use Rattle.delivery.specs.Core.Account.{account_of}
 use Rattle.delivery.specs.Theorem.Tied.{added_clocks}
 use Rattle.delivery.specs.Core.Steps.{CoreStep, Reading, frame_in, has_effect}
-use Rattle.delivery.specs.Core.State.{Core, core_of, moves, session_at, frame_move, is_faulted, is_no_memory, is_out_of_memory}
+use Rattle.delivery.specs.Core.State.{Core, core_of, moves, session_at, frame_move, is_faulted, is_no_memory}
 use Rattle.delivery.specs.Core.Output.{is_cut}
-use Rattle.delivery.specs.Nets.{KeptRun, IsRunOfCore}
+use Rattle.delivery.specs.Nets.{KeptRun}
 use Rattle.delivery.specs.NetLaws.{moves_of, run_of_net, is_told, NetsAreRuns, NetsAreTied, NetsAreSound, NothingOddComes, NoneFailsTwice}
 use Rattle.delivery.proofs.Theorem.NeverRefused.{none_is_pending_twice}
 use Rattle.delivery.proofs.Theorem.StepLaws.{odd_never_comes}
@@ -74,7 +73,7 @@ none_if true es fs h g = h
 none_if false es fs h g = g
 
 none_added : (k : Core) (e : Event) (rd : Reading) (o : Outcome) → added_clocks (moves k e rd o) ≡ []
-none_added k Event.Open rd o = none_if (is_no_memory o) [] (Move.Opens ∷ []) refl refl
+none_added k Event.Open rd o = none_if (is_no_memory o) [] (Move.Opens ∷ Move.Connects (length k.world.connections) None ∷ []) refl refl
 none_added k (Event.Next c) rd o =
     none_if (is_faulted o) (Errs c ∷ []) _ refl (none_if (has_effect o) _ [] (none_by_frame k c (frame_in rd)) refl)
 none_added k (Event.Decide c) rd o = none_if (is_cut o) (Lost c ∷ []) [] refl refl

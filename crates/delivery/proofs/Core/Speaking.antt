@@ -13,19 +13,19 @@ use Rattle.mcast_txn.proofs.Members.{at_set, at_set_within, In-map_cases}
 use Rattle.mcast_group.specs.declared.fault.ProposeFault.{ProposeFault}
 use Rattle.mcast_group.specs.Machine.{Pending, Entry, due_part}
 use Rattle.mcast_group.proofs.Parts.{some_same, none_some, not_true}
-use Rattle.delivery.specs.Machine.World.{World, Connection, Undecided, Leftover, SenderState, Standing, is_reading, nobody, new_sender, topic_at, connection_at, subscription_at, speaker, entry_at, start}
-use Rattle.delivery.specs.Machine.Moves.{Move, Answer, world_after, answer_to, move_refusal, move_effect, move_answer, undecided_at, find_leftover, leftover, find_verdict, oldest_live, next_txn, commit_effect, commit_answer, proposal_fault, propose_effect, propose_answer, cancel_effect, cancel_answer, learn_effect, release_answer, take_effect, take_answer, leave_effect, leave_answer, close_effect_of}
-use Rattle.delivery.specs.Machine.Moves.Move.{AddsTopic, Opens, Commits, Subscribes, Unsubscribes, Disconnects, Errs, Lost, Leaves, Proposes, Decides, Withdraws, Cancels, Learns, Releases, Turns, Takes}
+use Rattle.delivery.specs.Machine.World.{World, Connection, Undecided, Leftover, SenderState, Standing, is_reading, nobody, new_sender, topic_at, connection_at, subscription_at, speaker, entry_at, start, speaker_number, speaks_for, is_in_use}
+use Rattle.delivery.specs.Machine.Moves.{Move, Answer, world_after, answer_to, move_refusal, move_effect, move_answer, undecided_at, find_leftover, leftover, find_verdict, oldest_live, next_txn, connect_effect, commit_effect, commit_answer, proposal_fault, propose_effect, propose_answer, cancel_effect, cancel_answer, learn_effect, release_answer, take_effect, take_answer, leave_effect, leave_answer, close_effect_of}
+use Rattle.delivery.specs.Machine.Moves.Move.{AddsTopic, Opens, Connects, Commits, Subscribes, Unsubscribes, Disconnects, Errs, Lost, Leaves, Proposes, Decides, Withdraws, Cancels, Learns, Releases, Turns, Takes}
 use Rattle.delivery.specs.Machine.Moves.Answer.{Refused, Done, Opened}
 use Rattle.delivery.specs.Machine.Runs.{run, answers_from, txn_count}
 use Rattle.delivery.specs.Theorem.Settled.{closes}
 use Rattle.delivery.specs.Core.Output.{has_closed}
 use Rattle.delivery.proofs.Machine.Invariant.{sender_in}
 use Rattle.delivery.proofs.Machine.SenderSteps.{In-append_cases, In-drop}
-use Rattle.delivery.proofs.Machine.SubscriptionSteps.{at_push_two, at_old, push_length, set_length}
+use Rattle.delivery.proofs.Machine.SubscriptionSteps.{at_push, at_end, at_push_two, push_length, set_length}
 use Rattle.delivery.proofs.Machine.InvariantIsKept.{by_refusal, checked, false_not, in_flight}
-use Rattle.delivery.proofs.Theorem.BegunIsOwn.{Speaks, effect_speaks}
-use Rattle.delivery.proofs.Theorem.SpansAsAnswered.{beyond, within}
+use Rattle.delivery.proofs.Theorem.SendersAreOwn.{Speaks, effect_speaks, start_speaks, flying_speaks, speaks, reading_there}
+use Rattle.delivery.proofs.Machine.Speakers.{has_speaker, claim_free}
 use Rattle.delivery.proofs.Core.Tests.{connection_there}
 
 -- the id of the transaction of this sender and this number
@@ -36,12 +36,16 @@ id_at s n = record { sender = record { 0 = s }; seq = n }
 abbrev pub open_in : List Connection → ℕ → Bool
 open_in connections c = is_reading (get_or connections c nobody).standing
 
+-- none of these connections that speaks for s is open
+abbrev pub NoneOpen : List Connection → ℕ → Type 0
+NoneOpen connections s = (c : ℕ) → (get_or connections c nobody).sender ≡ Some s → open_in connections c ≡ false
+
 -- A sender has made as many transactions as were answered, its undecided one is the last of them, and so is that
--- of its leftover tickets, whose connection isn't open; a connection that isn't open was closed.
+-- of its leftover tickets, and no connection that speaks for it is open then; a connection that isn't open was closed.
 pub record Speaking (past : List Answer) (senders : List SenderState) (connections : List Connection) : Type 0 where
   pub seqs : (s : ℕ) → (sender_in senders s).seq ≡ txn_count s past
   pub flying : (s : ℕ) (f : Undecided) → (sender_in senders s).flight ≡ Some f → f.txn.id ≡ id_at s (sender_in senders s).seq
-  pub left : (s : ℕ) (k : Leftover) → In k (sender_in senders s).leftovers → (k.id ≡ id_at s (sender_in senders s).seq) × (open_in connections s ≡ false)
+  pub left : (s : ℕ) (k : Leftover) → In k (sender_in senders s).leftovers → (k.id ≡ id_at s (sender_in senders s).seq) × NoneOpen connections s
   pub shut : (c : ℕ) → c < length connections → open_in connections c ≡ false → has_closed c past ≡ true
 
 -- ---- writing
@@ -49,16 +53,16 @@ pub record Speaking (past : List Answer) (senders : List SenderState) (connectio
 -- a sender is written with its number as it was
 written : (past : List Answer) (senders : List SenderState) (connections : List Connection) (s : ℕ) (x : SenderState) → x.seq ≡ (sender_in senders s).seq
     → ((f : Undecided) → x.flight ≡ Some f → f.txn.id ≡ id_at s (sender_in senders s).seq)
-    → ((k : Leftover) → In k x.leftovers → (k.id ≡ id_at s (sender_in senders s).seq) × (open_in connections s ≡ false))
+    → ((k : Leftover) → In k x.leftovers → (k.id ≡ id_at s (sender_in senders s).seq) × NoneOpen connections s)
     → Speaking past senders connections → Speaking past (set senders s x) connections
 written past senders connections s x e g l h = record {
   seqs = λ r. at_set (λ (z : SenderState). z.seq ≡ txn_count r past) senders s r x new_sender
       (λ k. e ∙ (h.seqs s ∙ ap (λ n. txn_count n past) (sym k))) (h.seqs r);
   flying = λ r f. at_set (λ (z : SenderState). z.flight ≡ Some f → f.txn.id ≡ id_at r z.seq) senders s r x new_sender
       (λ k d. g f d ∙ (ap (λ n. id_at s n) (sym e) ∙ ap (λ m. id_at m x.seq) (sym k))) (h.flying r f);
-  left = λ r k. at_set (λ (z : SenderState). In k z.leftovers → (k.id ≡ id_at r z.seq) × (open_in connections r ≡ false)) senders s r x new_sender
+  left = λ r k. at_set (λ (z : SenderState). In k z.leftovers → (k.id ≡ id_at r z.seq) × NoneOpen connections r) senders s r x new_sender
       (λ j i. (let a = l k i in
-      (a.0 ∙ (ap (λ n. id_at s n) (sym e) ∙ ap (λ m. id_at m x.seq) (sym j)), subst (λ m. open_in connections m ≡ false) (sym j) a.1)))
+      (a.0 ∙ (ap (λ n. id_at s n) (sym e) ∙ ap (λ m. id_at m x.seq) (sym j)), subst (λ m. NoneOpen connections m) (sym j) a.1)))
       (h.left r k);
   shut = h.shut;
 }
@@ -77,7 +81,7 @@ stood past senders connections c x n t h = record {
   seqs = h.seqs;
   flying = h.flying;
   left = λ s k i. (let a = h.left s k i in
-      (a.0, at_set (λ (z : Connection). is_reading z.standing ≡ false) connections c s x nobody (λ j. n) a.1));
+      (a.0, λ d. at_set (λ (z : Connection). z.sender ≡ Some s → is_reading z.standing ≡ false) connections c d x nobody (λ j m. n) (a.1 d)));
   shut = λ d l. at_set (λ (z : Connection). is_reading z.standing ≡ false → has_closed d past ≡ true) connections c d x nobody
       (λ j e. subst (λ m. has_closed m past ≡ true) (sym j) t)
       (h.shut d (let m : length (set connections c x) ≡ length connections = set_length connections c x in omega arith));
@@ -107,21 +111,21 @@ leaving past w c o a t h = stood (o ∷ past) w.senders w.connections c _ refl t
 
 -- ---- each move
 
-flown : (past : List Answer) (w : World) (c : ℕ) (sends : List SentMessage) → c < length w.senders → (connection_at w c).sender ≡ c → open_in w.connections c ≡ true
+flown : (past : List Answer) (w : World) (c : ℕ) (sends : List SentMessage) → speaker_number w c < length w.senders → (connection_at w c).sender ≡ Some (speaker_number w c)
+    → open_in w.connections c ≡ true
     → Speaking past w.senders w.connections → Speaking (commit_answer w c sends ∷ past) (commit_effect w c sends).senders (commit_effect w c sends).connections
 flown past w c [] l own o h = noted past w.senders w.connections Done (λ s. refl) h
 flown past w c (first ∷ others) l own o h =
-    let t = (connection_at w c).sender in let x = sender_in w.senders t in
+    let t = speaker_number w c in let x = sender_in w.senders t in
     let y : SenderState = record x { seq = x.seq + 1; flight = Some (record { txn = next_txn w c (first ∷ others); given = []; mark = None }) } in
     record {
-      seqs = λ s. at_set_within (λ (z : SenderState). z.seq ≡ cond (t == s) (txn_count s past + 1) (txn_count s past)) w.senders t s y new_sender
-          (subst (λ n. n < length w.senders) (sym own) l)
+      seqs = λ s. at_set_within (λ (z : SenderState). z.seq ≡ cond (t == s) (txn_count s past + 1) (txn_count s past)) w.senders t s y new_sender l
           (λ e. ap (λ (n : ℕ). n + 1) (h.seqs t ∙ ap (λ n. txn_count n past) (sym e)) ∙ ap (λ (b : Bool). cond b (txn_count s past + 1) (txn_count s past)) (sym (eq-eqb t s (sym e))))
           (λ ne. h.seqs s ∙ ap (λ (b : Bool). cond b (txn_count s past + 1) (txn_count s past)) (sym (not_true (t == s) refl (λ e. ne (sym (eqb-true t s e))))));
       flying = λ s f. at_set (λ (z : SenderState). z.flight ≡ Some f → f.txn.id ≡ id_at s z.seq) w.senders t s y new_sender
           (λ k d. ap (λ (z : Undecided). z.txn.id) (sym (some_same _ f d)) ∙ ap (λ m. id_at m (x.seq + 1)) (sym k)) (h.flying s f);
-      left = λ s k. at_set (λ (z : SenderState). In k z.leftovers → (k.id ≡ id_at s z.seq) × (open_in w.connections s ≡ false)) w.senders t s y new_sender
-          (λ j i. absurd (true≢false (sym o ∙ subst (λ m. open_in w.connections m ≡ false) own (h.left t k i).1))) (h.left s k);
+      left = λ s k. at_set (λ (z : SenderState). In k z.leftovers → (k.id ≡ id_at s z.seq) × NoneOpen w.connections s) w.senders t s y new_sender
+          (λ j i. absurd (true≢false (sym o ∙ (h.left t k i).1 c own))) (h.left s k);
       shut = h.shut;
     }
 
@@ -129,16 +133,16 @@ proposed : (past : List Answer) (w : World) (c : ℕ) (t : Topic) (o : Option Pr
     → Speaking past w.senders w.connections → Speaking (propose_answer w c t o ∷ past) (propose_effect w c t o).senders (propose_effect w c t o).connections
 proposed past w c t None e h =
     noted past _ w.connections (propose_answer w c t None) (λ s. refl)
-    (same_id_flies past w.senders w.connections (connection_at w c).sender (undecided_at w c) _ e refl h)
+    (same_id_flies past w.senders w.connections (speaker_number w c) (undecided_at w c) _ e refl h)
 proposed past w c t (Some fault) e h =
     noted past _ w.connections (propose_answer w c t (Some fault)) (λ s. refl)
-    (same_id_flies past w.senders w.connections (connection_at w c).sender (undecided_at w c) _ e refl h)
+    (same_id_flies past w.senders w.connections (speaker_number w c) (undecided_at w c) _ e refl h)
 
 cancelled : (past : List Answer) (w : World) (c : ℕ) (t : Topic) (o : Option Leftover) → Speaking past w.senders w.connections
     → Speaking (cancel_answer t o ∷ past) (cancel_effect w c t o).senders (cancel_effect w c t o).connections
 cancelled past w c t None h = noted past w.senders w.connections Done (λ s. refl) h
 cancelled past w c t (Some k) h =
-    let s = (connection_at w c).sender in
+    let s = speaker_number w c in
     noted past _ w.connections (cancel_answer t (Some k)) (λ s. refl)
     (written past w.senders w.connections s _ refl (h.flying s) (λ l i. h.left s l (In-drop t l (sender_in w.senders s).leftovers i)) h)
 
@@ -168,36 +172,62 @@ taken past w s None h =
     leaving past w (subscription_at w s).connection (take_answer w s None) (λ s. refl) (closed_now (subscription_at w s).connection past) h
 taken past w s (Some item) h = noted past w.senders w.connections (take_answer w s (Some item)) (λ s. refl) h
 
-opened : (past : List Answer) (w : World) → length w.senders ≡ length w.connections → Speaking past w.senders w.connections
-    → Speaking (move_answer w Opens ∷ past) (move_effect w Opens).senders (move_effect w Opens).connections
-opened past w same h =
-    let new : Connection = record { sender = length w.senders; standing = Standing.Open } in
+opened : (past : List Answer) (w : World) → Speaking past w.senders w.connections → Speaking (move_answer w Opens ∷ past) w.senders (move_effect w Opens).connections
+opened past w h =
+    let new : Connection = record { sender = None; standing = Standing.Open } in
     let n = push_length w.connections new in
-    noted past (move_effect w Opens).senders (move_effect w Opens).connections (Opened (length w.connections)) (λ s. refl) (record {
-      seqs = λ s. subst (λ (z : SenderState). z.seq ≡ txn_count s past) (sym (same_sender s)) (h.seqs s);
-      flying = λ s f. subst (λ (z : SenderState). z.flight ≡ Some f → f.txn.id ≡ id_at s z.seq) (sym (same_sender s)) (h.flying s f);
-      left = λ s k. subst (λ (z : SenderState). In k z.leftovers → (k.id ≡ id_at s z.seq) × (open_in (move_effect w Opens).connections s ≡ false)) (sym (same_sender s))
-          (λ i. (let a = h.left s k i in (a.0, still_shut s k i a.1)));
+    noted past w.senders (move_effect w Opens).connections (Opened (length w.connections)) (λ s. refl) (record {
+      seqs = h.seqs;
+      flying = h.flying;
+      left = λ s k i. (let a = h.left s k i in
+          (a.0, λ c. at_push_two (λ (z : Connection). z.sender ≡ Some s → is_reading z.standing ≡ false) w.connections c new nobody (λ e m. none_some s m) (λ ne. a.1 c)));
       shut = λ c l. at_push_two (λ (z : Connection). is_reading z.standing ≡ false → has_closed c past ≡ true) w.connections c new nobody
           (λ e d. absurd (true≢false d)) (λ ne. h.shut c (omega arith));
     })
+
+-- a sender begins
+begun : (past : List Answer) (senders : List SenderState) (connections : List Connection) → Speaking past senders connections → Speaking past (senders ++ new_sender ∷ []) connections
+begun past senders connections h = record {
+  seqs = λ s. subst (λ (z : SenderState). z.seq ≡ txn_count s past) (sym (same s)) (h.seqs s);
+  flying = λ s f. subst (λ (z : SenderState). z.flight ≡ Some f → f.txn.id ≡ id_at s z.seq) (sym (same s)) (h.flying s f);
+  left = λ s k. subst (λ (z : SenderState). In k z.leftovers → (k.id ≡ id_at s z.seq) × NoneOpen connections s) (sym (same s)) (h.left s k);
+  shut = h.shut;
+}
   where
-    same_sender : (s : ℕ) → sender_in (w.senders ++ new_sender ∷ []) s ≡ sender_in w.senders s
-    same_sender s = elim (within s (length w.senders)) [
-      | inl l ↦ at_old (λ (z : SenderState). z ≡ sender_in w.senders s) w.senders s new_sender new_sender l refl
-      | inr l ↦ at_push_two (λ (z : SenderState). z ≡ sender_in w.senders s) w.senders s new_sender new_sender (λ e. sym (beyond w.senders s new_sender l)) (λ ne. refl)
-    ]
+    same : (s : ℕ) → sender_in (senders ++ new_sender ∷ []) s ≡ sender_in senders s
+    same s = at_push (λ (z : SenderState). z ≡ sender_in senders s) senders s new_sender new_sender (λ e x. x) refl
 
-    still_shut : (s : ℕ) (k : Leftover) → In k (sender_in w.senders s).leftovers → open_in w.connections s ≡ false → open_in (move_effect w Opens).connections s ≡ false
-    still_shut s k i e = elim (within s (length w.senders)) [
-      | inl l ↦ at_old (λ (z : Connection). is_reading z.standing ≡ false) w.connections s _ nobody (omega arith) e
-      | inr l ↦ absurd (subst (λ (z : SenderState). In k z.leftovers) (beyond w.senders s new_sender l) i)
-    ]
+-- a connection speaks for a sender that has nothing to cancel
+joined : (past : List Answer) (senders : List SenderState) (connections : List Connection) (c s : ℕ) → (sender_in senders s).leftovers ≡ [] → Speaking past senders connections
+    → Speaking past senders (set connections c (record { sender = Some s; standing = (get_or connections c nobody).standing }))
+joined past senders connections c s idle h =
+    let new : Connection = record { sender = Some s; standing = (get_or connections c nobody).standing } in record {
+      seqs = h.seqs;
+      flying = h.flying;
+      left = λ r k i. (let a = h.left r k i in (
+        a.0,
+        λ d. at_set (λ (z : Connection). z.sender ≡ Some r → is_reading z.standing ≡ false) connections c d new nobody
+            (λ e m. absurd (subst (λ ks. In k ks) (ap (λ n. (sender_in senders n).leftovers) (sym (some_same s r m)) ∙ idle) i)) (a.1 d),
+      ));
+      shut = λ d l. at_set (λ (z : Connection). is_reading z.standing ≡ false → has_closed d past ≡ true) connections c d new nobody
+          (λ e m. subst (λ n. has_closed n past ≡ true) (sym e) (h.shut c (subst (λ n. n < length connections) e (there d l)) m))
+          (h.shut d (there d l));
+    }
+  where
+    there : (d : ℕ) → d < length (set connections c (record { sender = Some s; standing = (get_or connections c nobody).standing })) → d < length connections
+    there d l = let m : length (set connections c (record { sender = Some s; standing = (get_or connections c nobody).standing })) ≡ length connections = set_length connections c _ in omega arith
 
-withdrawn : (past : List Answer) (w : World) (c : ℕ) → c < length w.connections → (connection_at w c).sender ≡ c → (speaker w c).flight ≡ Some (undecided_at w c)
+connected : (past : List Answer) (w : World) (c : ℕ) (claimed : Option ℕ) → ((s : ℕ) → claimed ≡ Some s → is_in_use w s ≡ false) → Speaks w → Speaking past w.senders w.connections
+    → Speaking past (connect_effect w c claimed).senders (connect_effect w c claimed).connections
+connected past w c None free p h =
+    joined past (w.senders ++ new_sender ∷ []) w.connections c (length w.senders)
+    (at_end (λ (z : SenderState). z.leftovers ≡ []) w.senders new_sender new_sender refl) (begun past w.senders w.connections h)
+connected past w c (Some s) free p h = joined past w.senders w.connections c s (p.resting s (Rattle.delivery.proofs.Theorem.SendersAreOwn.unspoken w s (free s refl))).1 h
+
+withdrawn : (past : List Answer) (w : World) (c : ℕ) → c < length w.connections → Speaks w → speaks_for (speaker_number w c) (connection_at w c) ≡ true → (speaker w c).flight ≡ Some (undecided_at w c)
     → Speaking past w.senders w.connections → Speaking (move_answer w (Withdraws c) ∷ past) (move_effect w (Withdraws c)).senders (move_effect w (Withdraws c)).connections
-withdrawn past w c l own e h =
-    let f = undecided_at w c in let o = move_answer w (Withdraws c) in let s = (connection_at w c).sender in
+withdrawn past w c l p own e h =
+    let f = undecided_at w c in let o = move_answer w (Withdraws c) in let s = speaker_number w c in
     let g = leaving past w c o (λ s. refl) (closed_now c past) h in
     written (o ∷ past) w.senders (move_effect w (Withdraws c)).connections s _ refl (λ y d. none_some y d)
     (λ k i. elim (In-append_cases k (sender_in w.senders s).leftovers (map (leftover f.txn.id) f.given) i) [
@@ -206,17 +236,23 @@ withdrawn past w c l own e h =
           (ap (λ (z : Leftover). z.id) (sym m.is) ∙ g.flying s f e, shut_there))
     ]) g
   where
-    shut_there : open_in (move_effect w (Withdraws c)).connections (connection_at w c).sender ≡ false
-    shut_there =
-        at_set_within (λ (z : Connection). is_reading z.standing ≡ false) w.connections c (connection_at w c).sender _ nobody l (λ k. refl) (λ ne. absurd (ne own))
+    -- no other connection that is open speaks for the sender
+    others : (d : ℕ) → (d ≡ c → Prim.⊥) → (connection_at w d).sender ≡ Some (speaker_number w c) → open_in w.connections d ≡ false
+    others d ne is =
+        not_true (open_in w.connections d) refl
+        (λ o. ne (p.own d c (speaker_number w c) (speaks (speaker_number w c) (connection_at w d) (reading_there (connection_at w d).standing o) is) own))
+
+    shut_there : NoneOpen (move_effect w (Withdraws c)).connections (speaker_number w c)
+    shut_there d = at_set_within (λ (z : Connection). z.sender ≡ Some (speaker_number w c) → is_reading z.standing ≡ false) w.connections c d _ nobody l (λ k m. refl) (λ ne m. others d ne m)
 
 happens : (past : List Answer) (w : World) (e : Move) → Speaks w → Speaking past w.senders w.connections → move_refusal w e ≡ None
     → Speaking (move_answer w e ∷ past) (move_effect w e).senders (move_effect w e).connections
 happens past w (AddsTopic clock) p h e = noted past w.senders w.connections Done (λ s. refl) h
-happens past w Opens p h e = opened past w p.same h
+happens past w Opens p h e = opened past w h
+happens past w (Connects c claimed) p h e = noted past _ _ Done (λ s. refl) (connected past w c claimed (claim_free w c claimed e) p h)
 happens past w (Commits c sends) p h e =
-    let k = checked w (Commits c sends) e in let l = connection_there w c k.0 in
-    flown past w c sends (let m = p.same in omega arith) (p.own c l) (false_not _ (or_parts _ _ k.1.1.0).0) h
+    let k = checked w (Commits c sends) e in let own = has_speaker w c (false_not _ k.1.1.1.0) in
+    flown past w c sends (p.there c (speaker_number w c) own) own (false_not _ (or_parts _ _ k.1.1.0).0) h
 happens past w (Subscribes c t) p h e = noted past w.senders w.connections _ (λ s. refl) h
 happens past w (Unsubscribes c s) p h e = noted past _ _ (move_answer w (Unsubscribes c s)) (λ s. refl) (closed past w s (entry_at w s) h)
 happens past w (Disconnects c) p h e = leaving past w c _ (λ s. refl) (closed_now c past) h
@@ -229,11 +265,11 @@ happens past w (Proposes c t memory) p h e =
     let k = checked w (Proposes c t memory) e in let fl = in_flight w c k.1.1.0 in
     proposed past w c t (proposal_fault w c t memory) (fl.is ∙ ap Some (sym fl.at)) h
 happens past w (Decides c) p h e =
-    let s = (connection_at w c).sender in
+    let s = speaker_number w c in
     noted past _ w.connections (move_answer w (Decides c)) (λ s. refl) (written past w.senders w.connections s _ refl (λ f d. none_some f d) (h.left s) h)
 happens past w (Withdraws c) p h e =
-    let k = checked w (Withdraws c) e in let fl = in_flight w c k.1.1.0 in let l = connection_there w c k.0 in
-    withdrawn past w c l (p.own c l) (fl.is ∙ ap Some (sym fl.at)) h
+    let k = checked w (Withdraws c) e in let fl = in_flight w c k.1.1.0 in
+    withdrawn past w c (connection_there w c k.0) p (flying_speaks w c k.1.0 k.1.1.0) (fl.is ∙ ap Some (sym fl.at)) h
 happens past w (Cancels c t) p h e = cancelled past w c t (find_leftover t (speaker w c).leftovers) h
 happens past w (Learns t id) p h e = noted past _ _ (move_answer w (Learns t id)) (λ s. refl) (learned past w t id (find_verdict id w.verdicts) h)
 happens past w (Releases t) p h e = released past w t (due_part (topic_at w t)) h
@@ -250,7 +286,7 @@ pub step_spoken : (past : List Answer) (w : World) (e : Move) → Spoken past w 
 step_spoken past w e h =
     by_refusal (λ v o. Spoken (o ∷ past) v) w e
     (λ why. record { speaks = h.speaks; speaking = noted past w.senders w.connections (Refused why) (λ s. refl) h.speaking })
-    (λ n. record { speaks = effect_speaks w e h.speaks; speaking = happens past w e h.speaks h.speaking n })
+    (λ n. record { speaks = effect_speaks w e n h.speaks; speaking = happens past w e h.speaks h.speaking n })
 
 -- each run does
 pub run_spoken : (es : List Move) (past : List Answer) (w : World) → Spoken past w → Spoken (answers_from es w past) (run es w)
@@ -260,6 +296,6 @@ run_spoken (e ∷ es) past w h = run_spoken es (answer_to w e ∷ past) (world_a
 -- it holds at the start
 pub start_spoken : (capacity log_limit : ℕ) (clocks : List ℕ) → Spoken [] (start capacity log_limit clocks)
 start_spoken capacity log_limit clocks = record {
-  speaks = record { same = refl; own = λ c l. absurd (omega arith) };
+  speaks = start_speaks capacity log_limit clocks;
   speaking = record { seqs = λ s. refl; flying = λ s f e. none_some f e; left = λ s k i. absurd i; shut = λ c l. absurd (omega arith) };
 }

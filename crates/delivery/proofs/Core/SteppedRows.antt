@@ -60,7 +60,7 @@ core a b senders standing subscriptions = record {
     log_limit = 65536;
     topics = a ∷ b ∷ [];
     senders = senders;
-    connections = record { sender = 0; standing = standing } ∷ [];
+    connections = record { sender = Some 0; standing = standing } ∷ [];
     subscriptions = subscriptions;
     commits = [];
     verdicts = [];

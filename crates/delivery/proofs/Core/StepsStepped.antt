@@ -1,8 +1,8 @@
 -- What each step of the core makes of it: a refusal nothing, a ticket, a stamp, an item, the end of a span.
-use Rattle.std.proofs.Common.{◌≡◌, ◌≢◌, ℕ, zero, suc, ◌+◌, ◌<◌, ◌≤◌, ◌==◌, ◌||◌, max, Bool, true, false, cond, not, ◌⊎◌, inl, inr, List, [], ◌∷◌, ◌++◌, map, length, get_or, set, Option, Some, None, refl, sym, ap, subst, ◌∙◌, arith}
+use Rattle.std.proofs.Common.{◌≡◌, ◌≢◌, ℕ, zero, suc, ◌+◌, ◌<◌, ◌≤◌, ◌==◌, ◌||◌, Bool, true, false, cond, ◌⊎◌, inl, inr, List, [], ◌∷◌, ◌++◌, map, length, get_or, set, Option, Some, None, refl, sym, ap, subst, ◌∙◌, arith}
 use Rattle.std.specs.Prelude.{slice_get}
 use Rattle.std.specs.List.{list_all, find}
-use Rattle.std.specs.Option.{is_some, option_map, option_to_list}
+use Rattle.std.specs.Option.{option_map, option_to_list, unwrap_or}
 use Rattle.std.proofs.lemmas.Bool.{true≢false, false≢true, and_parts, ltb-true}
 use Rattle.std.proofs.lemmas.List.{get_or_past}
 use Rattle.mcast_txn.specs.declared.id.Topic.{Topic}
@@ -23,18 +23,18 @@ use Rattle.delivery.specs.declared.event.Event.{Event}
 use Rattle.delivery.specs.declared.outcome.Outcome.{Outcome}
 use Rattle.delivery.specs.declared.refusal.Refusal.{Refusal}
 use Rattle.delivery.specs.Machine.Objections.{Objection, refusal_of}
-use Rattle.delivery.specs.Machine.World.{World, Undecided, SenderState, Connection, Subscription, nobody, no_subscription, new_sender, topic_at, sender_at, connection_at, speaker, subscription_at}
+use Rattle.delivery.specs.Machine.World.{World, Undecided, SenderState, Connection, Subscription, nobody, no_subscription, new_sender, topic_at, sender_at, connection_at, speaker, subscription_at, speaker_number}
 use Rattle.delivery.specs.Machine.Observed.{accepted_at, end_at, log_at}
-use Rattle.delivery.specs.Machine.Moves.{Move, Answer, world_after, answer_to, move_refusal, move_effect, move_answer, undecided_or_none, undecided_at, has_ticket, insert_ticket, is_complete, next_ticket, proposal_fault, propose_effect, propose_answer, decide_effect, take_effect, take_answer}
-use Rattle.delivery.specs.Machine.Moves.Move.{Opens, Commits, Subscribes, Unsubscribes, Disconnects, Errs, Lost, Leaves, Proposes, Decides, Withdraws, Cancels, Learns, Releases, Turns, Takes}
+use Rattle.delivery.specs.Machine.Moves.{Move, Answer, world_after, answer_to, move_refusal, undecided_or_none, undecided_at, has_ticket, insert_ticket, is_complete, next_ticket, proposal_fault, propose_effect, propose_answer, decide_effect, take_effect}
+use Rattle.delivery.specs.Machine.Moves.Move.{Errs, Lost, Proposes, Decides, Releases, Turns, Takes}
 use Rattle.delivery.specs.Theorem.Answers.{IsAnswer}
-use Rattle.delivery.specs.Theorem.Laws.{Run, final_world, answers_of, move_topic}
+use Rattle.delivery.specs.Theorem.Laws.{Run, final_world, answers_of}
 use Rattle.delivery.specs.Theorem.Spans.{EndsBeforeRow}
 use Rattle.delivery.specs.Machine.Runs.{delivered_items}
 use Rattle.delivery.specs.Core.Steps.{Reading}
 use Rattle.delivery.specs.Core.Output.{is_cut}
 use Rattle.delivery.specs.Core.State.{Core, core_of, core_after, is_faulted, is_no_memory}
-use Rattle.delivery.specs.Core.Outcomes.{outcome_of, cut_of, MayStep}
+use Rattle.delivery.specs.Core.Outcomes.{outcome_of, cut_of}
 use Rattle.delivery.specs.Core.Stepped
 use Rattle.delivery.specs.Core.Stepped.{event_topic, GivesTicket, GivesStamp, DeliversNext, LagsFull, HasStepped}
 use Rattle.delivery.specs.Inner.Stands.{IsReached}
@@ -46,11 +46,12 @@ use Rattle.delivery.proofs.Theorem.EndsAreAnswered.{ends_are_told}
 use Rattle.delivery.proofs.Theorem.LagsEndBeforeRow.{lags_end_before_row}
 use Rattle.delivery.proofs.Theorem.RowsEnter.{AllEnter, Enters, rows_enter}
 use Rattle.delivery.proofs.Theorem.SpansAsAnswered.{known, handing, within, spans_end_as_told}
-use Rattle.delivery.proofs.Core.AccountOfRun.{refusal_some, core_is}
+use Rattle.delivery.proofs.Core.AccountOfRun.{refusal_some}
 use Rattle.delivery.proofs.Core.AtNext.{at_next}
-use Rattle.delivery.proofs.Core.MoveOfStep.{IsMoveOf, is_of_frame, is_plain, world_then, Moved, DecidedAndLost, Erred, Comes, remembered, comes}
-use Rattle.delivery.proofs.Views.Runs.ByRunOfCore.{machine_run, world_of, by_world}
-use Rattle.delivery.proofs.Views.Senders.TicketsOfTopics.{Given, given, tickets_are}
+use Rattle.delivery.proofs.Machine.Speakers.{kept_number}
+use Rattle.delivery.proofs.Core.MoveOfStep.{IsMoveOf, is_of_frame, is_plain, world_then, is_opened, Comes, remembered, comes}
+use Rattle.delivery.proofs.Views.Runs.ByRunOfCore.{by_world}
+use Rattle.delivery.proofs.Views.Senders.TicketsOfTopics.{given, tickets_are}
 
 -- ---- outcomes and answers
 
@@ -125,12 +126,14 @@ proposal_event : (e : Event) (mv : Move) (c : ℕ) (t : Topic) (m : Bool) → Is
 proposal_event (Event.Propose d u) mv c t m (memory, own) is = let one : d ≡ c = cc in let other : u ≡ t = cc in λ i. Event.Propose (one i) (other i)
 proposal_event (Event.Next d) mv c t m own is = absurd (false≢true (sym (ap is_of_frame is) ∙ own))
 proposal_event (Event.Piece d octets) mv c t m own is = absurd own
+proposal_event Event.Open mv c t m own is = absurd own
 proposal_event e mv c t m own is = cc
 
 decision_event : (e : Event) (mv : Move) (c : ℕ) → IsMoveOf e mv → mv ≡ Decides c → e ≡ Event.Decide c
 decision_event (Event.Decide d) mv c own is = let one : d ≡ c = cc in ap Event.Decide one
 decision_event (Event.Next d) mv c own is = absurd (false≢true (sym (ap is_of_frame is) ∙ own))
 decision_event (Event.Piece d octets) mv c own is = absurd own
+decision_event Event.Open mv c own is = absurd own
 decision_event (Event.Propose d u) mv c (memory, own) is = cc
 decision_event e mv c own is = cc
 
@@ -138,6 +141,7 @@ take_event : (e : Event) (mv : Move) (s : ℕ) → IsMoveOf e mv → mv ≡ Take
 take_event (Event.Take q) mv s own is = let one : q ≡ s = cc in ap Event.Take one
 take_event (Event.Next d) mv s own is = absurd (false≢true (sym (ap is_of_frame is) ∙ own))
 take_event (Event.Piece d octets) mv s own is = absurd own
+take_event Event.Open mv s own is = absurd own
 take_event (Event.Propose d u) mv s (memory, own) is = cc
 take_event e mv s own is = cc
 
@@ -145,6 +149,7 @@ release_event : (e : Event) (mv : Move) (t : Topic) → IsMoveOf e mv → mv ≡
 release_event (Event.Release u) mv t own is = let one : u ≡ t = cc in ap Event.Release one
 release_event (Event.Next d) mv t own is = absurd (false≢true (sym (ap is_of_frame is) ∙ own))
 release_event (Event.Piece d octets) mv t own is = absurd own
+release_event Event.Open mv t own is = absurd own
 release_event (Event.Propose d u) mv t (memory, own) is = cc
 release_event e mv t own is = cc
 
@@ -152,6 +157,7 @@ turn_event : (e : Event) (mv : Move) (t : Topic) → IsMoveOf e mv → mv ≡ Tu
 turn_event (Event.Turn u) mv t own is = let one : u ≡ t = cc in ap Event.Turn one
 turn_event (Event.Next d) mv t own is = absurd (false≢true (sym (ap is_of_frame is) ∙ own))
 turn_event (Event.Piece d octets) mv t own is = absurd own
+turn_event Event.Open mv t own is = absurd own
 turn_event (Event.Propose d u) mv t (memory, own) is = cc
 turn_event e mv t own is = cc
 
@@ -166,7 +172,8 @@ refused_stays k e rd o why (inr (inl h)) is = absurd (false≢true (sym (ap is_f
 refused_stays k e rd o why (inr (inr (inl h))) is =
     let base : h.base ≡ Outcome.Refused why = uncut_refusal h.base why (subst (λ z. (h.base ≡ z) ⊎ (cut_of h.base ≡ z)) is h.cut) in
     h.world ∙ still k.world h.move why (h.is ∙ ap (λ (z : Outcome). Some z) base)
-refused_stays k e rd o why (inr (inr (inr h))) is = absurd (false≢true (sym (ap is_cut is) ∙ h.was_cut))
+refused_stays k e rd o why (inr (inr (inr (inl h)))) is = absurd (false≢true (sym (ap is_cut is) ∙ h.was_cut))
+refused_stays k e rd o why (inr (inr (inr (inr h)))) is = absurd (false≢true (sym (ap is_opened is) ∙ h.opened))
 
 unremembered_stays : (k : Core) (e : Event) (rd : Reading) (o : Outcome) → Comes k e rd o → o ≡ Outcome.NoMemory → world_then k e rd o ≡ k.world
 unremembered_stays k e rd o (inl h) is = h.0
@@ -174,7 +181,8 @@ unremembered_stays k e rd o (inr (inl h)) is = absurd (false≢true (sym (ap is_
 unremembered_stays k e rd o (inr (inr (inl h))) is =
     let base : h.base ≡ Outcome.NoMemory = uncut_memory h.base (subst (λ z. (h.base ≡ z) ⊎ (cut_of h.base ≡ z)) is h.cut) in
     absurd (true≢false (sym (ap is_no_memory base) ∙ remembered (answer_to k.world h.move) h.base h.is))
-unremembered_stays k e rd o (inr (inr (inr h))) is = absurd (false≢true (sym (ap is_cut is) ∙ h.was_cut))
+unremembered_stays k e rd o (inr (inr (inr (inl h)))) is = absurd (false≢true (sym (ap is_cut is) ∙ h.was_cut))
+unremembered_stays k e rd o (inr (inr (inr (inr h)))) is = absurd (false≢true (sym (ap is_opened is) ∙ h.opened))
 
 -- ---- other topics
 
@@ -186,12 +194,13 @@ others_stay k e rd o t l ne (inr (inl h)) =
     ap (λ (w : World). topic_at w t) h.world ∙ others_untouched k.world (Errs h.connection) t l (λ d. none_some t d)
 others_stay k e rd o t l ne (inr (inr (inl h))) =
     ap (λ (w : World). topic_at w t) h.world ∙ others_untouched k.world h.move t l (λ d. ne (sym h.topic ∙ d))
-others_stay k e rd o t l ne (inr (inr (inr h))) =
+others_stay k e rd o t l ne (inr (inr (inr (inl h)))) =
     let w = k.world in let c = h.connection in
     let first : (world_after w (Decides c)).topics ≡ w.topics = by_refusal (λ v a. v.topics ≡ w.topics) w (Decides c) (λ why. refl) (λ n. refl) in
     let second : (world_after (world_after w (Decides c)) (Lost c)).topics ≡ (world_after w (Decides c)).topics =
     by_refusal (λ v a. v.topics ≡ (world_after w (Decides c)).topics) (world_after w (Decides c)) (Lost c) (λ why. refl) (λ n. refl) in
     ap (λ (z : World). topic_at z t) h.world ∙ ap (λ z. topic_in z t) (second ∙ first)
+others_stay k e rd o t l ne (inr (inr (inr (inr h)))) = ap (λ (w : World). topic_at w t) h.world
 
 -- ---- tickets
 
@@ -204,7 +213,7 @@ ticket_given : (w : World) (c : ℕ) (t : Topic) (m : Bool) (id : TxnId) (ticket
     → propose_answer w c t fault ≡ Answer.Ticket id ticket → GivesTicket w (propose_effect w c t fault) c t n
 ticket_given w c t m id ticket n (Some fault) asks number a = cc
 ticket_given w c t m id ticket n None asks number a =
-    let f = undecided_at w c in let s = (connection_at w c).sender in
+    let f = undecided_at w c in let s = speaker_number w c in
     let same : next_ticket w c t ≡ ticket = cc in
     let is : (next_ticket w c t).n ≡ n = ap (λ (z : Stamp). z.n) same ∙ number in
     let x = after_propose (speaker w c).floor (part_at f.txn.id f.txn.sends t) (topic_at w t) in
@@ -213,8 +222,9 @@ ticket_given w c t m id ticket n None asks number a =
       named = asks.named;
       number = sym is;
       clock = at_set_within (λ (z : TopicState). z.clock ≡ n) w.topics t.0 t.0 x (new_topic t 0 0) asks.room (λ k. is) (λ ne. absurd (ne refl));
-      given = at_set_within (λ (z : SenderState). (undecided_or_none z.flight).given ≡ insert_ticket (record { n = n; topic = t }) f.given) w.senders s s y new_sender room
-          (λ k. ap (λ (q : ℕ). insert_ticket (record { n = q; topic = t }) f.given) is) (λ ne. absurd (ne refl));
+      given = subst (λ q. (undecided_or_none (get_or (set w.senders s y) q new_sender).flight).given ≡ insert_ticket (record { n = n; topic = t }) f.given) (sym (kept_number w c s y))
+          (at_set_within (λ (z : SenderState). (undecided_or_none z.flight).given ≡ insert_ticket (record { n = n; topic = t }) f.given) w.senders s s y new_sender room
+          (λ k. ap (λ (q : ℕ). insert_ticket (record { n = q; topic = t }) f.given) is) (λ ne. absurd (ne refl)));
     }
 
 ticket_after : (w : World) (c : ℕ) (t : Topic) (m : Bool) (id : TxnId) (ticket : Stamp) (n : ℕ) → ticket.n ≡ n → answer_to w (Proposes c t m) ≡ Answer.Ticket id ticket
@@ -229,7 +239,7 @@ Ticketed k e v n = (c : ℕ) × (t : Topic) × (e ≡ Event.Propose c t) × Give
 ticket_comes : (k : Core) (e : Event) (rd : Reading) (o : Outcome) (n : ℕ) → Comes k e rd o → o ≡ Outcome.Proposed n → Ticketed k e (world_then k e rd o) n
 ticket_comes k e rd o n (inl h) is = absurd (false≢true (sym (ap is_plain is) ∙ h.1))
 ticket_comes k e rd o n (inr (inl h)) is = absurd (false≢true (sym (ap is_faulted is) ∙ h.faulted))
-ticket_comes k e rd o n (inr (inr (inr h))) is = absurd (false≢true (sym (ap is_cut is) ∙ h.was_cut))
+ticket_comes k e rd o n (inr (inr (inr (inl h)))) is = absurd (false≢true (sym (ap is_cut is) ∙ h.was_cut))
 ticket_comes k e rd o n (inr (inr (inl h))) is =
     let w = k.world in
     let base : h.base ≡ Outcome.Proposed n = uncut_ticket h.base n (subst (λ z. (h.base ≡ z) ⊎ (cut_of h.base ≡ z)) is h.cut) in
@@ -242,6 +252,7 @@ ticket_comes k e rd o n (inr (inr (inl h))) is =
       subst (λ v. GivesTicket w v c t n) (sym (h.world ∙ ap (world_after w) own.3))
           (ticket_after w c t m a.0 a.1 n a.3 (ap (answer_to w) (sym own.3) ∙ a.2)),
     )
+ticket_comes k e rd o n (inr (inr (inr (inr h)))) is = absurd (false≢true (sym (ap is_opened is) ∙ h.opened))
 
 -- ---- a stamp
 
@@ -271,7 +282,7 @@ topics_given (t ∷ ts) rows e =
 stamp_given : (k : Core) (c : ℕ) (stamp : Stamp) → IsReached k → move_refusal k.world (Decides c) ≡ None → stamp ≡ greatest (undecided_at k.world c).given
     → GivesStamp k.world (decide_effect k.world c) c stamp
 stamp_given k c stamp reached n is =
-    let w = k.world in let s = (connection_at w c).sender in let f = undecided_at w c in
+    let w = k.world in let s = speaker_number w c in let f = undecided_at w c in
     let tests = checked w (Decides c) n in
     let flying = in_flight w c tests.1.1.0 in
     let flight : (sender_at w s).flight ≡ Some f = flying.is ∙ ap (λ (z : Undecided). Some z) (sym flying.at) in
@@ -279,7 +290,8 @@ stamp_given k c stamp reached n is =
     let y : SenderState = record (speaker w c) { floor = greatest f.given; flight = None } in record {
       of_each = ap (map (λ (a : Stamp). a.topic)) (sym (tickets_are k s f reached flight)) ∙ topics_given (topics_of f.txn.sends) f.given complete;
       is_greatest = is;
-      floor = at_set_within (λ (z : SenderState). z.floor ≡ stamp) w.senders s s y new_sender (flight_there w.senders s f flight) (λ e. sym is) (λ ne. absurd (ne refl));
+      floor = subst (λ q. (get_or (set w.senders s y) q new_sender).floor ≡ stamp) (sym (kept_number w c s y))
+          (at_set_within (λ (z : SenderState). z.floor ≡ stamp) w.senders s s y new_sender (flight_there w.senders s f flight) (λ e. sym is) (λ ne. absurd (ne refl)));
       row = ap (λ (z : Stamp). w.commits ++ record { txn = f.txn; stamp = z } ∷ []) (sym is);
     }
 
@@ -295,7 +307,7 @@ stamp_lost w v c stamp h =
     (λ n. record {
       of_each = h.of_each;
       is_greatest = h.is_greatest;
-      floor = at_set (λ (z : Connection). (get_or v.senders z.sender new_sender).floor ≡ stamp) v.connections c c
+      floor = at_set (λ (z : Connection). (get_or v.senders (unwrap_or z.sender (length v.senders)) new_sender).floor ≡ stamp) v.connections c c
           (record { sender = (connection_at v c).sender; standing = Rattle.delivery.specs.Machine.World.Standing.Leaving }) nobody (λ e. h.floor) h.floor;
       row = h.row;
     })
@@ -317,7 +329,7 @@ stamp_comes k e rd o stamp cut reached (inr (inr (inl h))) is =
       subst (λ v. GivesStamp w v own.0 stamp) (sym (h.world ∙ ap (world_after w) own.1))
           (stamp_after k own.0 a.0 stamp reached (ap (answer_to w) (sym own.1) ∙ a.1) own.3),
     )
-stamp_comes k e rd o stamp cut reached (inr (inr (inr h))) is =
+stamp_comes k e rd o stamp cut reached (inr (inr (inr (inl h)))) is =
     let w = k.world in let c = h.connection in
     let base = uncut_stamp h.base stamp cut (subst (λ z. (h.base ≡ z) ⊎ (cut_of h.base ≡ z)) is h.cut) in
     let a = outcome_stamp (answer_to w (Decides c)) stamp base.0 (h.is ∙ ap (λ (z : Outcome). Some z) base.1) in
@@ -325,6 +337,7 @@ stamp_comes k e rd o stamp cut reached (inr (inr (inr h))) is =
     let same : c ≡ own.0 = (let d = own.1 in cc) in
     let greatest_is : stamp ≡ greatest (undecided_at w c).given = own.3 ∙ ap (λ d. greatest (undecided_at w d).given) (sym same) in
     (c, h.event, subst (λ v. GivesStamp w v c stamp) (sym h.world) (stamp_lost w (world_after w (Decides c)) c stamp (stamp_after k c a.0 stamp reached a.1 greatest_is)))
+stamp_comes k e rd o stamp cut reached (inr (inr (inr (inr h)))) is = absurd (false≢true (sym (ap is_opened is) ∙ h.opened))
 
 -- ---- an item
 
@@ -351,7 +364,8 @@ Delivered k e v count = (s : ℕ) × (e ≡ Event.Take s) × DeliversNext k.worl
 item_comes : (k : Core) (e : Event) (rd : Reading) (o : Outcome) (count : ℕ) → Comes k e rd o → o ≡ Outcome.Handed count → Delivered k e (world_then k e rd o) count
 item_comes k e rd o count (inl h) is = absurd (false≢true (sym (ap is_plain is) ∙ h.1))
 item_comes k e rd o count (inr (inl h)) is = absurd (false≢true (sym (ap is_faulted is) ∙ h.faulted))
-item_comes k e rd o count (inr (inr (inr h))) is = absurd (false≢true (sym (ap is_cut is) ∙ h.was_cut))
+item_comes k e rd o count (inr (inr (inr (inl h)))) is = absurd (false≢true (sym (ap is_cut is) ∙ h.was_cut))
+item_comes k e rd o count (inr (inr (inr (inr h)))) is = absurd (false≢true (sym (ap is_opened is) ∙ h.opened))
 item_comes k e rd o count (inr (inr (inl h))) is =
     let w = k.world in
     let base : h.base ≡ Outcome.Handed count = uncut_item h.base count (subst (λ z. (h.base ≡ z) ⊎ (cut_of h.base ≡ z)) is h.cut) in
@@ -428,8 +442,10 @@ ends_come k e rd o s end reached (inr (inr (inl h))) none some =
       | inl a ↦ inl (end_cut o h.base s end (some_same h.base (Outcome.Unsubscribed s end) (sym h.is ∙ ap outcome_of a)) h.cut)
       | inr (by, full, row) ↦ inr (subst (λ v. LagsFull k.world v e s end) (sym h.world) (record { by = lag_event k e h.move s h.own by; full = full; row = row }))
     ]
-ends_come k e rd o s end reached (inr (inr (inr h))) none some =
+ends_come k e rd o s end reached (inr (inr (inr (inl h)))) none some =
     none_some end (sym none ∙ (sym (lost_ends k.world h.connection s) ∙ (ap (λ (w : World). end_at w s) (sym h.world) ∙ some)))
+ends_come k e rd o s end reached (inr (inr (inr (inr h)))) none some =
+    none_some end (sym none ∙ (ap (λ (w : World). end_at w s) (sym h.world) ∙ some))
 
 -- an end is that of an answer
 outcome_end : (a : Answer) (s : ℕ) (end : Stamp) → outcome_of a ≡ Some (Outcome.Unsubscribed s end) → a ≡ Answer.Unsubscribed s end
@@ -458,7 +474,8 @@ closed_comes k e rd o s end reached (inr (inr (inl h))) is =
     let base : h.base ≡ Outcome.Unsubscribed s end = uncut_end h.base s end (subst (λ z. (h.base ≡ z) ⊎ (cut_of h.base ≡ z)) is h.cut) in
     ap (λ (w : World). end_at w s) h.world
     ∙ move_closes k reached h.move s end (outcome_end (answer_to k.world h.move) s end (h.is ∙ ap (λ (z : Outcome). Some z) base))
-closed_comes k e rd o s end reached (inr (inr (inr h))) is = absurd (false≢true (sym (ap is_cut is) ∙ h.was_cut))
+closed_comes k e rd o s end reached (inr (inr (inr (inl h)))) is = absurd (false≢true (sym (ap is_cut is) ∙ h.was_cut))
+closed_comes k e rd o s end reached (inr (inr (inr (inr h)))) is = absurd (false≢true (sym (ap is_opened is) ∙ h.opened))
 
 -- ---- rows and items
 
@@ -477,7 +494,8 @@ rows_come : (k : Core) (e : Event) (rd : Reading) (o : Outcome) → IsReached k 
 rows_come k e rd o reached (inl h) = subst (AllEnter k.world) (sym h.0) (λ s l n. refl)
 rows_come k e rd o reached (inr (inl h)) = subst (AllEnter k.world) (sym h.world) (move_enters k reached (Errs h.connection))
 rows_come k e rd o reached (inr (inr (inl h))) = subst (AllEnter k.world) (sym h.world) (move_enters k reached h.move)
-rows_come k e rd o reached (inr (inr (inr h))) = subst (AllEnter k.world) (sym h.world) (lost_enters k.world h.connection)
+rows_come k e rd o reached (inr (inr (inr (inl h)))) = subst (AllEnter k.world) (sym h.world) (lost_enters k.world h.connection)
+rows_come k e rd o reached (inr (inr (inr (inr h)))) = subst (AllEnter k.world) (sym h.world) (λ s l n. refl)
 
 -- ---- what holds of each core
 
@@ -487,7 +505,7 @@ AreNamed w = (c : ℕ) (a : Stamp) → In a (undecided_at w c).given → names a
 flight_named : (r : Run) (c : ℕ) (a : Stamp) (o : Option Undecided) → (speaker (final_world r) c).flight ≡ o → In a (undecided_or_none o).given
     → names a.topic (topics_of (undecided_or_none o).txn.sends) ≡ true
 flight_named r c a None e i = absurd i
-flight_named r c a (Some f) e i = (given r (connection_at (final_world r) c).sender f e).named a i
+flight_named r c a (Some f) e i = (given r (speaker_number (final_world r) c) f e).named a i
 
 are_named : (k : Core) → IsReached k → AreNamed k.world
 are_named k reached = by_world AreNamed k reached (λ r c a i. flight_named r c a (speaker (final_world r) c).flight refl i)

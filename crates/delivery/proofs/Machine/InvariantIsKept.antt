@@ -24,10 +24,10 @@ use Rattle.mcast_txn.specs.Span.{Item}
 use Rattle.mcast_group.specs.Machine.{Pending, Entry, propose_refusals, propose_fault, is_pending, after_learn, due_part, after_release, after_turn, decided_stamp}
 use Rattle.mcast_group.proofs.Parts.{some_same, none_some, not_true}
 use Rattle.delivery.specs.Machine.Objections.{Objection}
-use Rattle.delivery.specs.Machine.World.{World, Undecided, Leftover, SenderState, topic_at, new_sender, connection_at, speaker, entry_at}
-use Rattle.delivery.specs.Machine.Moves.{Move, Answer, world_after, answer_to, move_refusal, move_effect, move_answer, undecided_at, undecided_or_none, find_leftover, find_verdict, verdict_in, oldest_live, has_ticket, next_txn, next_ticket, commit_effect, commit_answer, proposal_fault, propose_effect, propose_answer, decide_effect, withdraw_effect, cancel_effect, cancel_answer, learn_effect, learn_objection, release_answer, queue_has_room, take_effect, take_answer, leave_effect, leave_answer, close_effect, close_effect_of, or_out_of_memory, learn_objection_of, is_topic, objections, topic_objection}
-use Rattle.delivery.specs.Machine.Moves.Move.{AddsTopic, Opens, Commits, Subscribes, Unsubscribes, Disconnects, Errs, Lost, Leaves, Proposes, Decides, Withdraws, Cancels, Learns, Releases, Turns, Takes}
-use Rattle.delivery.specs.Machine.Moves.Answer.{Refused, Begun, Ticket}
+use Rattle.delivery.specs.Machine.World.{World, Undecided, Leftover, SenderState, topic_at, new_sender, speaker, entry_at, speaker_number}
+use Rattle.delivery.specs.Machine.Moves.{Move, Answer, world_after, answer_to, move_refusal, move_effect, move_answer, undecided_at, undecided_or_none, find_leftover, find_verdict, verdict_in, oldest_live, has_ticket, next_txn, next_ticket, connect_effect, commit_effect, commit_answer, proposal_fault, propose_effect, propose_answer, decide_effect, withdraw_effect, cancel_effect, cancel_answer, learn_effect, learn_objection, release_answer, queue_has_room, take_effect, take_answer, leave_effect, leave_answer, close_effect, close_effect_of, or_out_of_memory, learn_objection_of, is_topic, objections, topic_objection}
+use Rattle.delivery.specs.Machine.Moves.Move.{AddsTopic, Opens, Connects, Commits, Subscribes, Unsubscribes, Disconnects, Errs, Lost, Leaves, Proposes, Decides, Withdraws, Cancels, Learns, Releases, Turns, Takes}
+use Rattle.delivery.specs.Machine.Moves.Answer.{Refused, Done, Begun, Ticket}
 use Rattle.delivery.specs.Machine.Runs.{txn_of_id, commits_of}
 use Rattle.delivery.proofs.Machine.Invariant.{row, sender_in, Inv, Holds}
 use Rattle.delivery.proofs.Machine.TopicSteps.{topic_step, Keeps-learned, Keeps-release, Keeps-turned, Finds}
@@ -169,7 +169,7 @@ made_other past txn id e = rw e refl
 flown_reached : (past : List Answer) (w : World) (c : ℕ) (sends : List SentMessage) → Reached past w → Reached (commit_answer w c sends ∷ past) (commit_effect w c sends)
 flown_reached past w c [] h = record { inv = h.inv; flights = h.flights; commits = h.commits }
 flown_reached past w c (first ∷ others) h =
-    let s = (connection_at w c).sender in let txn = next_txn w c (first ∷ others) in record {
+    let s = speaker_number w c in let txn = next_txn w c (first ∷ others) in record {
       inv = flown_step (tickets past) w s first others h.inv;
       flights = λ d f. at_set (λ (z : SenderState). z.flight ≡ Some f → txn_of_id f.txn.id (Begun txn ∷ past) ≡ f.txn) w.senders s d _ new_sender
           (λ n k. made_txn txn f (ap (λ (z : Undecided). z.txn) (some_same _ f k)))
@@ -184,9 +184,9 @@ flown_reached past w c (first ∷ others) h =
     newer d f e k =
         let g = (h.inv.serves d).flying f e in
         let l : f.txn.id.seq ≤ (sender_in w.senders d).seq = g.seq_le in
-        let m : (sender_in w.senders (connection_at w c).sender).seq + 1 ≡ f.txn.id.seq = ap (λ (z : TxnId). z.seq) k in
-        let n : (connection_at w c).sender ≡ d = ap (λ (z : TxnId). z.sender.0) k ∙ g.sender in
-        let o : f.txn.id.seq ≤ (sender_in w.senders (connection_at w c).sender).seq = subst (λ v. f.txn.id.seq ≤ (sender_in w.senders v).seq) (sym n) l in
+        let m : (sender_in w.senders (speaker_number w c)).seq + 1 ≡ f.txn.id.seq = ap (λ (z : TxnId). z.seq) k in
+        let n : speaker_number w c ≡ d = ap (λ (z : TxnId). z.sender.0) k ∙ g.sender in
+        let o : f.txn.id.seq ≤ (sender_in w.senders (speaker_number w c)).seq = subst (λ v. f.txn.id.seq ≤ (sender_in w.senders v).seq) (sym n) l in
         omega arith
 
     old : (d : ℕ) (f : Undecided) → (sender_in w.senders d).flight ≡ Some f → txn_of_id f.txn.id (Begun (next_txn w c (first ∷ others)) ∷ past) ≡ f.txn
@@ -235,7 +235,7 @@ asks_of w c t memory e =
     record { flying = in_flight w c p.1.1.0; room = ltb-true t.0 (length w.topics) n.0; named = n.1; unheard = p.1.1.1.1.1.0 }
 
 -- so a proposal without a fault gets a new ticket
-pub new_ticket : (w : World) (c : ℕ) (t : Topic) (a : Asks w c t) → Room w c t → New w (connection_at w c).sender t (undecided_at w c)
+pub new_ticket : (w : World) (c : ℕ) (t : Topic) (a : Asks w c t) → Room w c t → New w (speaker_number w c) t (undecided_at w c)
 new_ticket w c t a r = record {
   flight = a.flying.is ∙ ap Some (sym a.flying.at);
   room = a.room;
@@ -247,14 +247,14 @@ new_ticket w c t a r = record {
 
 proposed_case : (past : List Answer) (w : World) (c : ℕ) (t : Topic) (memory : Bool) → Reached past w → Asks w c t → (o : Option ProposeFault) → proposal_fault w c t memory ≡ o → Reached (propose_answer w c t o ∷ past) (propose_effect w c t o)
 proposed_case past w c t memory h a None e =
-    let s = (connection_at w c).sender in let f = undecided_at w c in
+    let s = speaker_number w c in let f = undecided_at w c in
     let new = new_ticket w c t a (no_fault w c t memory (propose_fault (speaker w c).floor (part_at f.txn.id f.txn.sends t) (topic_at w t)) refl e) in record {
       inv = subst (λ (z : Transaction). Holds (row z (next_ticket w c t) ∷ tickets past) (propose_effect w c t None)) (sym (h.flights s f new.flight)) (enter_step (tickets past) w s t f h.inv new);
       flights = flights_fewer past w.senders _ (one_same w.senders s _ f _ new.flight refl refl) h.flights;
       commits = h.commits;
     }
 proposed_case past w c t memory h a (Some fault) e =
-    let s = (connection_at w c).sender in let f = undecided_at w c in let k = a.flying.is ∙ ap Some (sym a.flying.at) in record {
+    let s = speaker_number w c in let f = undecided_at w c in let k = a.flying.is ∙ ap Some (sym a.flying.at) in record {
       inv = marked_step (tickets past) w s f (record f { mark = Some fault }) h.inv k refl refl;
       flights = flights_fewer past w.senders _ (one_same w.senders s _ f _ k refl refl) h.flights;
       commits = h.commits;
@@ -265,7 +265,7 @@ proposed_case past w c t memory h a (Some fault) e =
 decided_reached : (past : List Answer) (w : World) (c : ℕ) → Reached past w → move_refusal w (Decides c) ≡ None → Reached (move_answer w (Decides c) ∷ past) (decide_effect w c)
 decided_reached past w c h e =
     let p = checked w (Decides c) e in let fl = in_flight w c p.1.1.0 in
-    let s = (connection_at w c).sender in let f = undecided_at w c in let k = fl.is ∙ ap Some (sym fl.at) in record {
+    let s = speaker_number w c in let f = undecided_at w c in let k = fl.is ∙ ap Some (sym fl.at) in record {
       inv = decide_step (tickets past) w s f h.inv (record { flight = k; complete = false_not _ p.1.1.1.1.0 });
       flights = flights_fewer past w.senders _ (one_fewer w.senders s _ refl) h.flights;
       commits = ap (λ (z : List CommitRow). z ++ row (txn_of_id f.txn.id past) (greatest f.given) ∷ []) h.commits
@@ -277,7 +277,7 @@ decided_reached past w c h e =
 withdrawn_reached : (past : List Answer) (w : World) (c : ℕ) → Reached past w → move_refusal w (Withdraws c) ≡ None → Reached (move_answer w (Withdraws c) ∷ past) (withdraw_effect w c)
 withdrawn_reached past w c h e =
     let p = checked w (Withdraws c) e in let fl = in_flight w c p.1.1.0 in
-    let s = (connection_at w c).sender in let f = undecided_at w c in let k = fl.is ∙ ap Some (sym fl.at) in record {
+    let s = speaker_number w c in let f = undecided_at w c in let k = fl.is ∙ ap Some (sym fl.at) in record {
       inv = withdrawn_step (tickets past) w s f h.inv k;
       flights = flights_fewer past w.senders _ (one_fewer w.senders s _ refl) h.flights;
       commits = h.commits;
@@ -286,7 +286,7 @@ withdrawn_reached past w c h e =
 cancelled_case : (past : List Answer) (w : World) (c : ℕ) (t : Topic) → Reached past w → (o : Option Leftover) → find_leftover t (speaker w c).leftovers ≡ o → Reached (cancel_answer t o ∷ past) (cancel_effect w c t o)
 cancelled_case past w c t h None e = record { inv = h.inv; flights = h.flights; commits = h.commits }
 cancelled_case past w c t h (Some k) e =
-    let s = (connection_at w c).sender in record {
+    let s = speaker_number w c in record {
       inv = cancel_step (tickets past) w s t k h.inv e;
       flights = flights_fewer past w.senders _ (one_kept w.senders s _ refl) h.flights;
       commits = h.commits;
@@ -341,14 +341,19 @@ handed_reached : (past : List Answer) (w : World) (s : ℕ) (o : Option Item) �
 handed_reached past w s None h = record { inv = h.inv; flights = h.flights; commits = h.commits }
 handed_reached past w s (Some item) h = record { inv = take_step (tickets past) w s h.inv; flights = h.flights; commits = h.commits }
 
--- an event that isn't refused keeps Reached
-pub happens_reached : (past : List Answer) (w : World) (e : Move) → Reached past w → move_refusal w e ≡ None → Reached (move_answer w e ∷ past) (move_effect w e)
-happens_reached past w (AddsTopic clock) h e = record { inv = added_step (tickets past) w clock h.inv; flights = h.flights; commits = h.commits }
-happens_reached past w Opens h e = record {
+connected_reached : (past : List Answer) (w : World) (c : ℕ) (claimed : Option ℕ) → Reached past w → Reached (Done ∷ past) (connect_effect w c claimed)
+connected_reached past w c None h = record {
   inv = opened_step (tickets past) w h.inv;
   flights = λ s f. at_push (λ (z : SenderState). z.flight ≡ Some f → txn_of_id f.txn.id past ≡ f.txn) w.senders s new_sender new_sender (λ d o. o) (h.flights s f);
   commits = h.commits;
 }
+connected_reached past w c (Some s) h = record { inv = h.inv; flights = h.flights; commits = h.commits }
+
+-- an event that isn't refused keeps Reached
+pub happens_reached : (past : List Answer) (w : World) (e : Move) → Reached past w → move_refusal w e ≡ None → Reached (move_answer w e ∷ past) (move_effect w e)
+happens_reached past w (AddsTopic clock) h e = record { inv = added_step (tickets past) w clock h.inv; flights = h.flights; commits = h.commits }
+happens_reached past w Opens h e = record { inv = h.inv; flights = h.flights; commits = h.commits }
+happens_reached past w (Connects c claimed) h e = connected_reached past w c claimed h
 happens_reached past w (Commits c sends) h e = flown_reached past w c sends h
 happens_reached past w (Subscribes c t) h e =
     let p = checked w (Subscribes c t) e in

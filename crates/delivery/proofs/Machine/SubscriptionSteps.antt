@@ -44,6 +44,12 @@ pub at_end : {X : Type 0} (P : X → Type 0) (xs : List X) (v d : X) → P v →
 at_end P [] v d h = h
 at_end P (x ∷ xs) v d h = at_end P xs v d h
 
+-- beyond a list's end there is what stands for nothing
+pub beyond : {X : Type 0} (xs : List X) (j : ℕ) (d : X) → length xs ≤ j → get_or xs j d ≡ d
+beyond [] j d l = refl
+beyond (x ∷ xs) zero d l = absurd (omega arith)
+beyond (x ∷ xs) (suc j) d l = beyond xs j d (omega arith)
+
 -- a push adds one to the length
 pub push_length : {X : Type 0} (xs : List X) (x : X) → length (xs ++ x ∷ []) ≡ suc (length xs)
 push_length [] x = refl

@@ -14,8 +14,8 @@ use Rattle.mcast_txn.specs.Span.{Item}
 use Rattle.mcast_group.specs.Machine.{Pending, Entry, EntryEnd, due_part}
 use Rattle.mcast_group.proofs.Parts.{some_same, none_some}
 use Rattle.delivery.specs.Machine.World.{World, Leftover, Connection, Subscription, Standing, is_reading, nobody, no_subscription, topic_at, connection_at, speaker, subscription_at, entry_at, with_standing, start}
-use Rattle.delivery.specs.Machine.Moves.{Move, Answer, world_after, answer_to, move_refusal, move_effect, move_answer, is_live, find_leftover, find_verdict, oldest_live, commit_effect, commit_answer, proposal_fault, propose_effect, propose_answer, cancel_effect, cancel_answer, learn_effect, with_leaving, release_answer, take_effect, take_answer, leave_effect, leave_answer, close_effect, close_effect_of}
-use Rattle.delivery.specs.Machine.Moves.Move.{AddsTopic, Opens, Commits, Subscribes, Unsubscribes, Disconnects, Errs, Lost, Leaves, Proposes, Decides, Withdraws, Cancels, Learns, Releases, Turns, Takes}
+use Rattle.delivery.specs.Machine.Moves.{Move, Answer, world_after, answer_to, move_refusal, move_effect, move_answer, is_live, find_leftover, find_verdict, oldest_live, commit_effect, commit_answer, proposal_fault, propose_effect, propose_answer, cancel_effect, cancel_answer, learn_effect, with_leaving, release_answer, take_effect, take_answer, leave_effect, leave_answer, close_effect, close_effect_of, connect_effect}
+use Rattle.delivery.specs.Machine.Moves.Move.{AddsTopic, Opens, Connects, Commits, Subscribes, Unsubscribes, Disconnects, Errs, Lost, Leaves, Proposes, Decides, Withdraws, Cancels, Learns, Releases, Turns, Takes}
 use Rattle.delivery.specs.Machine.Moves.Answer.{Refused, Done, Opened, Subscribed, Unsubscribed, Leaving, Error, Gone, Learnt, Handed}
 use Rattle.delivery.specs.Machine.Runs.{run, answers_from}
 use Rattle.delivery.specs.Theorem.Settled.{closes, IsSilent, SilentAfterClose}
@@ -268,7 +268,7 @@ open_there (x ∷ xs) (suc c) e = let l = open_there xs c e in omega arith
 happens_shut : (past : List Answer) (w : World) (e : Move) → Reached past w → Shutting past w.connections w.subscriptions → move_refusal w e ≡ None → Shutting (move_answer w e ∷ past) (move_effect w e).connections (move_effect w e).subscriptions
 happens_shut past w (AddsTopic clock) r h e = note past w.connections w.subscriptions Done closeless_done h
 happens_shut past w Opens r h e =
-    let v = move_effect w Opens in let m = conn_length w.connections (record { sender = length w.senders; standing = Standing.Open }) in
+    let v = move_effect w Opens in let m = conn_length w.connections (record { sender = None; standing = Standing.Open }) in
     note past v.connections w.subscriptions (Opened (length w.connections)) (closeless_opened (length w.connections))
     (Shutting-on past w.connections v.connections w.subscriptions w.subscriptions (record {
       count = omega arith;
@@ -280,6 +280,16 @@ happens_shut past w Opens r h e =
   where
     conn_length : (xs : List Connection) (x : Connection) → length (xs ++ x ∷ []) ≡ suc (length xs)
     conn_length xs x = push_length xs x
+happens_shut past w (Connects c claimed) r h e =
+    let v = connect_effect w c claimed in
+    note past v.connections w.subscriptions Done closeless_done
+    (Shutting-on past w.connections v.connections w.subscriptions w.subscriptions (record {
+      count = let m : length v.connections ≡ length w.connections = set_length w.connections c _ in omega arith;
+      stay = λ d l k. at_set (λ (z : Connection). is_reading z.standing ≡ false) w.connections c d _ nobody (λ n. subst (λ a. is_reading (connection_at w a).standing ≡ false) n k) k;
+      closed = λ s k. k;
+      grow = omega arith;
+      owner = λ s l. refl;
+    }) h)
 happens_shut past w (Commits c sends) r h e = flown_shut past w c sends h
 happens_shut past w (Subscribes c t) r h e = begun_shut past w c t h
 happens_shut past w (Unsubscribes c s) r h e =

@@ -13,9 +13,9 @@ use Rattle.mcast_group.specs.declared.fault.ProposeFault.{ProposeFault}
 use Rattle.mcast_txn.specs.Span.{Item}
 use Rattle.mcast_group.specs.Machine.{Entry}
 use Rattle.mcast_group.proofs.Parts.{not_true}
-use Rattle.delivery.specs.Machine.World.{World, Leftover, SenderState, new_sender, connection_at, speaker, entry_at, start}
-use Rattle.delivery.specs.Machine.Moves.{Move, Answer, world_after, answer_to, move_refusal, move_effect, undecided_at, find_leftover, find_verdict, oldest_live, commit_effect, proposal_fault, propose_effect, decide_effect, cancel_effect, learn_effect, take_effect, leave_effect, close_effect_of}
-use Rattle.delivery.specs.Machine.Moves.Move.{AddsTopic, Opens, Commits, Subscribes, Unsubscribes, Disconnects, Errs, Lost, Leaves, Proposes, Decides, Withdraws, Cancels, Learns, Releases, Turns, Takes}
+use Rattle.delivery.specs.Machine.World.{World, Leftover, SenderState, new_sender, speaker, entry_at, start, speaker_number}
+use Rattle.delivery.specs.Machine.Moves.{Move, Answer, world_after, answer_to, move_refusal, move_effect, undecided_at, find_leftover, find_verdict, oldest_live, commit_effect, proposal_fault, propose_effect, decide_effect, cancel_effect, learn_effect, take_effect, leave_effect, close_effect_of, connect_effect}
+use Rattle.delivery.specs.Machine.Moves.Move.{Connects, Commits, Unsubscribes, Leaves, Proposes, Decides, Withdraws, Cancels, Learns, Takes}
 use Rattle.delivery.specs.Machine.Runs.{run}
 use Rattle.delivery.specs.Theorem.Laws.{Run, final_world}
 use Rattle.delivery.specs.Theorem.Tied.{floor_after}
@@ -51,15 +51,15 @@ floor_kept senders commits s x e h d =
 
 flown_floors : (w : World) (c : ℕ) (sends : List SentMessage) → Floors w.senders w.commits → Floors (commit_effect w c sends).senders (commit_effect w c sends).commits
 flown_floors w c [] h = h
-flown_floors w c (first ∷ others) h = floor_kept w.senders w.commits (connection_at w c).sender _ refl h
+flown_floors w c (first ∷ others) h = floor_kept w.senders w.commits (speaker_number w c) _ refl h
 
 proposed_floors : (w : World) (c : ℕ) (t : Topic) (o : Option ProposeFault) → Floors w.senders w.commits → Floors (propose_effect w c t o).senders (propose_effect w c t o).commits
-proposed_floors w c t None h = floor_kept w.senders w.commits (connection_at w c).sender _ refl h
-proposed_floors w c t (Some fault) h = floor_kept w.senders w.commits (connection_at w c).sender _ refl h
+proposed_floors w c t None h = floor_kept w.senders w.commits (speaker_number w c) _ refl h
+proposed_floors w c t (Some fault) h = floor_kept w.senders w.commits (speaker_number w c) _ refl h
 
 cancelled_floors : (w : World) (c : ℕ) (t : Topic) (o : Option Leftover) → Floors w.senders w.commits → Floors (cancel_effect w c t o).senders (cancel_effect w c t o).commits
 cancelled_floors w c t None h = h
-cancelled_floors w c t (Some k) h = floor_kept w.senders w.commits (connection_at w c).sender _ refl h
+cancelled_floors w c t (Some k) h = floor_kept w.senders w.commits (speaker_number w c) _ refl h
 
 learned_floors : (w : World) (t : Topic) (id : TxnId) (o : Option Decision) → Floors w.senders w.commits → Floors (learn_effect w t id o).senders (learn_effect w t id o).commits
 learned_floors w t id None h = h
@@ -80,7 +80,7 @@ handed_floors w s (Some item) h = h
 decided_floors : (past : List Answer) (w : World) (c : ℕ) → Reached past w → move_refusal w (Decides c) ≡ None → Floors w.senders w.commits → Floors (decide_effect w c).senders (decide_effect w c).commits
 decided_floors past w c r n h d =
     let fl = in_flight w c (checked w (Decides c) n).1.1.0 in
-    let s = (connection_at w c).sender in let f = undecided_at w c in
+    let s = speaker_number w c in let f = undecided_at w c in
     let is : (speaker w c).flight ≡ Some f = fl.is ∙ ap Some (sym fl.at) in
     let own = ((r.inv.serves s).flying f is).sender in let new : CommitRow = row f.txn (greatest f.given) in
     let y : SenderState = record (speaker w c) { floor = greatest f.given; flight = None } in
@@ -88,14 +88,18 @@ decided_floors past w c r n h d =
     (λ e. sym (own_row d w.commits new (own ∙ sym e)))
     (λ ne. h d ∙ sym (other_row d w.commits new (λ e. ne (sym e ∙ own))))
 
+connected_floors : (w : World) (c : ℕ) (claimed : Option ℕ) → Floors w.senders w.commits → Floors (connect_effect w c claimed).senders w.commits
+connected_floors w c None h = λ d. at_push (λ (z : SenderState). z.floor ≡ floor_after d zero_stamp w.commits) w.senders d new_sender new_sender (λ e k. k) (h d)
+connected_floors w c (Some s) h = h
+
 happens_floors : (past : List Answer) (w : World) (e : Move) → Reached past w → move_refusal w e ≡ None → Floors w.senders w.commits → Floors (move_effect w e).senders (move_effect w e).commits
-happens_floors past w Opens r n h = λ d. at_push (λ (z : SenderState). z.floor ≡ floor_after d zero_stamp w.commits) w.senders d new_sender new_sender (λ e k. k) (h d)
+happens_floors past w (Connects c claimed) r n h = connected_floors w c claimed h
 happens_floors past w (Commits c sends) r n h = flown_floors w c sends h
 happens_floors past w (Unsubscribes c s) r n h = closed_floors w s (entry_at w s) h
 happens_floors past w (Leaves c) r n h = left_floors w c (oldest_live c 0 w.subscriptions) h
 happens_floors past w (Proposes c t memory) r n h = proposed_floors w c t (proposal_fault w c t memory) h
 happens_floors past w (Decides c) r n h = decided_floors past w c r n h
-happens_floors past w (Withdraws c) r n h = floor_kept w.senders w.commits (connection_at w c).sender _ refl h
+happens_floors past w (Withdraws c) r n h = floor_kept w.senders w.commits (speaker_number w c) _ refl h
 happens_floors past w (Cancels c t) r n h = cancelled_floors w c t (find_leftover t (speaker w c).leftovers) h
 happens_floors past w (Learns t id) r n h = learned_floors w t id (find_verdict id w.verdicts) h
 happens_floors past w (Takes s) r n h = handed_floors w s _ h

@@ -13,7 +13,7 @@ use Rattle.delivery.specs.Machine.Objections.{Objection}
 use Rattle.delivery.specs.Machine.World.{World, topic_at, connection_at, subscription_at}
 use Rattle.delivery.specs.Machine.Observed.{log_at, accepted_at, end_at, span_at, frontier_at}
 use Rattle.delivery.specs.Machine.Moves.{Move, world_after, answer_to}
-use Rattle.delivery.specs.Machine.Moves.Move.{AddsTopic, Opens, Commits, Subscribes, Disconnects, Errs, Lost, Leaves, Proposes, Decides, Learns, Releases, Turns, Takes}
+use Rattle.delivery.specs.Machine.Moves.Move.{AddsTopic, Opens, Connects, Commits, Subscribes, Disconnects, Errs, Lost, Leaves, Proposes, Decides, Learns, Releases, Turns, Takes}
 use Rattle.delivery.specs.Machine.Moves.Answer.{Refused, Done, Opened, Begun, Handed, Subscribed, Unsubscribed, Leaving, Error, Gone, Ticket, Decided, Withdrawn, Learnt, Released, Turned}
 use Rattle.delivery.specs.Machine.Runs.{run, answers_from, commits_of, delivered_items}
 use Rattle.delivery.specs.Theorem.Settled.{IsSettled, IsSilent, AllResolved}
@@ -24,10 +24,10 @@ use Rattle.delivery.proofs.Theorem.Rows.{ends, four_tickets}
 -- a connection that leaves closes its subscriptions by age
 abbrev leaves_two : Run
 leaves_two = run_of (0 ∷ 0 ∷ []) (
-    Opens ∷ Subscribes 0 (topic 1) ∷ Subscribes 0 (topic 0) ∷ Disconnects 0 ∷ Leaves 0 ∷ Leaves 0 ∷ Leaves 0 ∷ [])
+    Opens ∷ Connects 0 None ∷ Subscribes 0 (topic 1) ∷ Subscribes 0 (topic 0) ∷ Disconnects 0 ∷ Leaves 0 ∷ Leaves 0 ∷ Leaves 0 ∷ [])
 
 leaves_two_answers : answers_in_order leaves_two
-    ≡ Opened 0 ∷ Subscribed 0 0 (topic 1) (stamp 0 0) ∷ Subscribed 1 0 (topic 0) (stamp 0 0)
+    ≡ Opened 0 ∷ Done ∷ Subscribed 0 0 (topic 1) (stamp 0 0) ∷ Subscribed 1 0 (topic 0) (stamp 0 0)
     ∷ Leaving 0 ∷ Unsubscribed 0 (stamp 0 0) ∷ Unsubscribed 1 (stamp 0 0) ∷ Gone 0 ∷ []
 leaves_two_answers = refl
 
@@ -36,7 +36,7 @@ abbrev then_decided : Run
 then_decided = four_tickets (Decides 1 ∷ Turns (topic 0) ∷ Decides 0 ∷ Turns (topic 0) ∷ [])
 
 then_answers : answers_in_order then_decided
-    ≡ Opened 0 ∷ Opened 1 ∷ Begun (transaction (id 0 1) to_a_and_b) ∷ Begun (transaction (id 1 1) to_a_and_b)
+    ≡ Opened 0 ∷ Done ∷ Opened 1 ∷ Done ∷ Begun (transaction (id 0 1) to_a_and_b) ∷ Begun (transaction (id 1 1) to_a_and_b)
     ∷ Ticket (id 0 1) (stamp 1 0) ∷ Ticket (id 1 1) (stamp 1 1) ∷ Ticket (id 1 1) (stamp 2 0) ∷ Ticket (id 0 1) (stamp 2 1)
     ∷ Decided (id 1 1) (stamp 2 0) ∷ Turned (topic 0) 0 ∷ Decided (id 0 1) (stamp 2 1) ∷ Turned (topic 0) 2 ∷ []
 then_answers = refl
@@ -47,7 +47,7 @@ then_logs = refl
 -- two queues that share two transactions
 abbrev both_queues : Run
 both_queues = run_of (0 ∷ 0 ∷ []) (
-    Opens ∷ Opens ∷ Subscribes 0 (topic 0) ∷ Subscribes 1 (topic 1) ∷ Commits 0 to_a_and_b ∷ Commits 1 to_a_and_b
+    Opens ∷ Connects 0 None ∷ Opens ∷ Connects 1 None ∷ Subscribes 0 (topic 0) ∷ Subscribes 1 (topic 1) ∷ Commits 0 to_a_and_b ∷ Commits 1 to_a_and_b
     ∷ Proposes 0 (topic 0) true ∷ Proposes 1 (topic 1) true ∷ Proposes 1 (topic 0) true ∷ Proposes 0 (topic 1) true
     ∷ Decides 0 ∷ Decides 1 ∷ Turns (topic 0) ∷ Turns (topic 1) ∷ [])
 
@@ -56,14 +56,15 @@ both_shared = refl
 
 -- a settled topic: its one transaction was decided, and a turn came after
 abbrev settles : Run
-settles = run_of (0 ∷ []) (Opens ∷ one_send 1 [])
+settles = run_of (0 ∷ []) (Opens ∷ Connects 0 None ∷ one_send 1 [])
 
-settles_all : AllResolved (topic 0) (Decided (id 0 1) (stamp 1 0) ∷ Ticket (id 0 1) (stamp 1 0) ∷ Begun (transaction (id 0 1) (send 0 1 ∷ [])) ∷ Opened 0 ∷ [])
+settles_all : AllResolved (topic 0) (Decided (id 0 1) (stamp 1 0) ∷ Ticket (id 0 1) (stamp 1 0) ∷ Begun (transaction (id 0 1) (send 0 1 ∷ [])) ∷ Done ∷ Opened 0 ∷ [])
 settles_all txn (inl e) n = cc
 settles_all txn (inr (inl e)) n = cc
 settles_all txn (inr (inr (inl e))) n = inl (stamp 1 0, inl cc)
 settles_all txn (inr (inr (inr (inl e)))) n = cc
-settles_all txn (inr (inr (inr (inr x5)))) n = elim x5 [ ]
+settles_all txn (inr (inr (inr (inr (inl e))))) n = cc
+settles_all txn (inr (inr (inr (inr (inr x6))))) n = elim x6 [ ]
 
 settles_settled : IsSettled (topic 0) (answers_of settles)
 settles_settled = inl (refl, settles_all)
@@ -71,12 +72,12 @@ settles_settled = inl (refl, settles_all)
 -- ---- a topic is added in the midst of a run, and a transaction names it: before that it is refused, and nothing stays of it
 abbrev added : Run
 added = run_of (0 ∷ []) (
-    Opens ∷ Commits 0 (send 0 1 ∷ send 1 2 ∷ []) ∷ Subscribes 0 (topic 1) ∷ AddsTopic 4 ∷ Subscribes 0 (topic 1)
+    Opens ∷ Connects 0 None ∷ Commits 0 (send 0 1 ∷ send 1 2 ∷ []) ∷ Subscribes 0 (topic 1) ∷ AddsTopic 4 ∷ Subscribes 0 (topic 1)
     ∷ Commits 0 (send 0 1 ∷ send 1 2 ∷ []) ∷ Proposes 0 (topic 0) true ∷ Proposes 0 (topic 1) true ∷ Decides 0
     ∷ Turns (topic 1) ∷ Takes 0 ∷ Turns (topic 0) ∷ [])
 
 added_answers : answers_in_order added
-    ≡ Opened 0 ∷ Refused Objection.NotNamed ∷ Refused Objection.NotNamed ∷ Done ∷ Subscribed 0 0 (topic 1) (stamp 0 0)
+    ≡ Opened 0 ∷ Done ∷ Refused Objection.NotNamed ∷ Refused Objection.NotNamed ∷ Done ∷ Subscribed 0 0 (topic 1) (stamp 0 0)
     ∷ Begun (transaction (id 0 1) (send 0 1 ∷ send 1 2 ∷ [])) ∷ Ticket (id 0 1) (stamp 1 0) ∷ Ticket (id 0 1) (stamp 5 1) ∷ Decided (id 0 1) (stamp 5 1)
     ∷ Turned (topic 1) 1 ∷ Handed 0 (item (id 0 1) (stamp 5 1) (part 1 2 ∷ [])) ∷ Turned (topic 0) 1 ∷ []
 added_answers = refl
@@ -88,7 +89,7 @@ added_logs = refl
 
 -- a connection whose sender has made so many transactions, and one topic
 abbrev pub has_made : ℕ → World
-has_made seq = record (final_world (run_of (0 ∷ []) (Opens ∷ []))) {
+has_made seq = record (final_world (run_of (0 ∷ []) (Opens ∷ Connects 0 None ∷ []))) {
   senders = record { seq = seq; floor = stamp 0 0; flight = None; leftovers = [] } ∷ [];
 }
 
@@ -107,10 +108,10 @@ nothing_is_made = refl
 -- ---- an ERROR answers a frame with a fault: the item that wasn't taken isn't handed on, and no frame is read
 abbrev errs : Run
 errs = run_of (0 ∷ []) (
-    Opens ∷ Subscribes 0 (topic 0) ∷ one_send 1 (Errs 0 ∷ Takes 0 ∷ Commits 0 (send 0 2 ∷ []) ∷ Errs 0 ∷ Lost 0 ∷ Leaves 0 ∷ Takes 0 ∷ []))
+    Opens ∷ Connects 0 None ∷ Subscribes 0 (topic 0) ∷ one_send 1 (Errs 0 ∷ Takes 0 ∷ Commits 0 (send 0 2 ∷ []) ∷ Errs 0 ∷ Lost 0 ∷ Leaves 0 ∷ Takes 0 ∷ []))
 
 errs_answers : answers_in_order errs
-    ≡ Opened 0 ∷ Subscribed 0 0 (topic 0) (stamp 0 0)
+    ≡ Opened 0 ∷ Done ∷ Subscribed 0 0 (topic 0) (stamp 0 0)
     ∷ Begun (transaction (id 0 1) (send 0 1 ∷ [])) ∷ Ticket (id 0 1) (stamp 1 0) ∷ Decided (id 0 1) (stamp 1 0) ∷ Turned (topic 0) 1
     ∷ Error 0 ∷ Refused Objection.Gone ∷ Refused Objection.Busy ∷ Refused Objection.Busy ∷ Refused Objection.Busy
     ∷ Unsubscribed 0 (stamp 1 0) ∷ Refused Objection.Gone ∷ []
@@ -125,11 +126,11 @@ errs_silent = inr (0, topic 0, stamp 0 0, Error 0, inr (inr (inr (inr (inr (inr 
 -- ---- one release by itself: nothing is due before the stamp is learnt, nor after it
 abbrev releases : Run
 releases = run_of (0 ∷ []) (
-    Opens ∷ Subscribes 0 (topic 0) ∷ Commits 0 (send 0 1 ∷ []) ∷ Proposes 0 (topic 0) true ∷ Decides 0
+    Opens ∷ Connects 0 None ∷ Subscribes 0 (topic 0) ∷ Commits 0 (send 0 1 ∷ []) ∷ Proposes 0 (topic 0) true ∷ Decides 0
     ∷ Releases (topic 0) ∷ Learns (topic 0) (id 0 1) ∷ Releases (topic 0) ∷ Releases (topic 0) ∷ Learns (topic 0) (id 0 1) ∷ [])
 
 releases_answers : answers_in_order releases
-    ≡ Opened 0 ∷ Subscribed 0 0 (topic 0) (stamp 0 0)
+    ≡ Opened 0 ∷ Done ∷ Subscribed 0 0 (topic 0) (stamp 0 0)
     ∷ Begun (transaction (id 0 1) (send 0 1 ∷ [])) ∷ Ticket (id 0 1) (stamp 1 0) ∷ Decided (id 0 1) (stamp 1 0)
     ∷ Refused Objection.NothingDue ∷ Learnt (id 0 1) (topic 0) ∷ Released (topic 0) (id 0 1) ∷ Refused Objection.NothingDue ∷ Refused Objection.NotPending ∷ []
 releases_answers = refl
@@ -144,13 +145,13 @@ releases_queue = refl
 
 -- a flight: the second of two connections commits
 abbrev two_open : Run
-two_open = run_of (0 ∷ 0 ∷ []) (Opens ∷ Opens ∷ [])
+two_open = run_of (0 ∷ 0 ∷ []) (Opens ∷ Connects 0 None ∷ Opens ∷ Connects 1 None ∷ [])
 
 flight_made : answer_to (final_world two_open) (Commits 1 to_a_and_b) ≡ Begun (transaction (id 1 1) to_a_and_b)
 flight_made = refl
 
 flight_own : (c : ℕ) × (sends : List SentMessage) × (Commits 1 to_a_and_b ≡ Commits c sends) × (to_a_and_b ≡ sends)
-    × ((id 1 1).sender.0 ≡ (connection_at (final_world two_open) c).sender)
+    × ((connection_at (final_world two_open) c).sender ≡ Some (id 1 1).sender.0)
 flight_own = (1, to_a_and_b, refl, refl, refl)
 
 -- a span: its beginning and its end as they were answered
@@ -182,7 +183,7 @@ full_queue then = record {
   capacity = 2;
   log_limit = 65536;
   clocks = 0 ∷ [];
-  events = Opens ∷ Opens ∷ Subscribes 1 (topic 0)
+  events = Opens ∷ Connects 0 None ∷ Opens ∷ Connects 1 None ∷ Subscribes 1 (topic 0)
       ∷ one_send 1 (one_send 2 (Commits 0 (send 0 3 ∷ []) ∷ Proposes 0 (topic 0) true ∷ Decides 0 ∷ then));
 }
 

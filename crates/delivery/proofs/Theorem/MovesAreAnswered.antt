@@ -14,13 +14,14 @@ use Rattle.mcast_txn.specs.Checks.{first_refusal}
 use Rattle.mcast_txn.specs.Span.{Item}
 use Rattle.mcast_group.specs.Machine.{Pending, due_part, propose_fault}
 use Rattle.mcast_group.proofs.Parts.{none_some, some_same, not_true}
-use Rattle.delivery.specs.Machine.World.{World, Leftover, Subscription, subscription_at, speaker, topic_at}
+use Rattle.delivery.specs.Machine.World.{World, Leftover, Subscription, subscription_at, speaker, topic_at, connection_at, speaker_number}
 use Rattle.delivery.specs.Machine.Observed.{accepted_at, end_at}
 use Rattle.delivery.specs.Machine.Moves.{Move, move_answer, move_refusal, objections, cancel_objection, learn_objection, commit_answer, leave_answer, propose_answer, proposal_fault, or_out_of_memory, cancel_answer, release_answer, take_answer, find_leftover, find_verdict, oldest_live, is_live, undecided_at}
-use Rattle.delivery.specs.Machine.Moves.Move.{AddsTopic, Opens, Commits, Subscribes, Unsubscribes, Disconnects, Errs, Lost, Leaves, Proposes, Decides, Withdraws, Cancels, Learns, Releases, Turns, Takes}
+use Rattle.delivery.specs.Machine.Moves.Move.{AddsTopic, Opens, Connects, Commits, Subscribes, Unsubscribes, Disconnects, Errs, Lost, Leaves, Proposes, Decides, Withdraws, Cancels, Learns, Releases, Turns, Takes}
 use Rattle.delivery.specs.Theorem.Answers.{IsAnswer, IsOldest, MovesAreAnswered}
 use Rattle.delivery.proofs.Machine.Invariant.{sub_in}
 use Rattle.delivery.proofs.Machine.SenderSteps.{leftover_found}
+use Rattle.delivery.proofs.Machine.Speakers.{has_speaker}
 use Rattle.delivery.proofs.Machine.InvariantIsKept.{by_refusal, checked, false_not, or_else_after, verdict_found}
 
 -- ---- the oldest subscription
@@ -67,9 +68,9 @@ is_oldest w c s e =
 
 -- ---- each answer
 
-commit_is : (w : World) (c : ℕ) (sends : List SentMessage) → IsAnswer w (Commits c sends) (commit_answer w c sends)
-commit_is w c [] = inr (c, refl)
-commit_is w c (first ∷ others) = (c, refl, refl, refl)
+commit_is : (w : World) (c : ℕ) (sends : List SentMessage) → (connection_at w c).sender ≡ Some (speaker_number w c) → IsAnswer w (Commits c sends) (commit_answer w c sends)
+commit_is w c [] own = inr (inr (c, refl))
+commit_is w c (first ∷ others) own = (c, refl, own, refl)
 
 leave_is : (w : World) (c : ℕ) (o : Option ℕ) → oldest_live c 0 w.subscriptions ≡ o → IsAnswer w (Leaves c) (leave_answer w c o)
 leave_is w c None e = (refl, all_closed c 0 w.subscriptions e)
@@ -127,7 +128,8 @@ take_is w s (Some item) e n = (refl, e)
 answer_is : (w : World) (e : Move) → move_refusal w e ≡ None → IsAnswer w e (move_answer w e)
 answer_is w (AddsTopic clock) n = inl (clock, refl)
 answer_is w Opens n = (refl, refl)
-answer_is w (Commits c sends) n = commit_is w c sends
+answer_is w (Connects c claimed) n = inr (inl (c, claimed, refl))
+answer_is w (Commits c sends) n = commit_is w c sends (has_speaker w c (false_not _ (checked w (Commits c sends) n).1.1.1.0))
 answer_is w (Subscribes c t) n = (refl, refl, refl)
 answer_is w (Unsubscribes c s) n =
     let k = and_parts (ltb s (length w.subscriptions)) (is_live c (subscription_at w s)) (false_not _ (checked w (Unsubscribes c s) n).1.1.1.0) in

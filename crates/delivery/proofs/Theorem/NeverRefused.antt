@@ -20,9 +20,9 @@ use Rattle.mcast_txn.specs.Span.{Item}
 use Rattle.mcast_group.specs.Machine.{TopicState, Pending, Entry, find_pending, is_pending, cancel_fault_of, due_part, find_entry}
 use Rattle.mcast_group.proofs.Parts.{Waits, finds_part}
 use Rattle.delivery.specs.Machine.Objections.{Objection}
-use Rattle.delivery.specs.Machine.World.{World, Leftover, Subscription, topic_at, connection_at, speaker, subscription_at, start}
+use Rattle.delivery.specs.Machine.World.{World, Leftover, Subscription, topic_at, speaker, subscription_at, start, speaker_number}
 use Rattle.delivery.specs.Machine.Moves.{Move, Answer, world_after, answer_to, move_refusal, objections, or_out_of_memory, move_answer, undecided_at, find_leftover, oldest_live, commit_answer, proposal_fault, propose_answer, cancel_objection, cancel_objection_of, cancel_answer, release_answer, take_answer, leave_answer}
-use Rattle.delivery.specs.Machine.Moves.Move.{AddsTopic, Opens, Commits, Subscribes, Unsubscribes, Disconnects, Errs, Lost, Leaves, Proposes, Decides, Withdraws, Cancels, Learns, Releases, Turns, Takes}
+use Rattle.delivery.specs.Machine.Moves.Move.{Commits, Leaves, Proposes, Cancels, Releases, Takes}
 use Rattle.delivery.specs.Machine.Moves.Answer.{Refused, Failed}
 use Rattle.delivery.specs.Machine.Runs.{answers_from}
 use Rattle.delivery.specs.Theorem.Laws
@@ -61,7 +61,7 @@ is_waiting : (past : List Answer) (w : World) (c : ℕ) (t : Topic) → Reached 
 is_waiting past w c t h None f e = cc
 is_waiting past w c t h (Some k) f e =
     let g = leftover_found t (speaker w c).leftovers k f in
-    waits_here k.id (topic_at w t).pending (subst (λ u. Waits k.id (topic_in w.topics u).pending) g.topic ((h.inv.serves (connection_at w c).sender).left k g.stands).waits) e
+    waits_here k.id (topic_at w t).pending (subst (λ u. Waits k.id (topic_in w.topics u).pending) g.topic ((h.inv.serves (speaker_number w c)).left k g.stands).waits) e
 
 -- no cancelling is refused because its part isn't pending
 pub cancel_finds_its_part : Laws.CancelFindsItsPart
@@ -78,7 +78,7 @@ cancel_finds_its_part r c t e =
 -- the undecided transaction has no part at a topic that gave it no ticket
 not_waiting : (past : List Answer) (w : World) (c : ℕ) (t : Topic) → Reached past w → Asks w c t → is_pending (undecided_at w c).txn.id (topic_at w t).pending ≡ true → Prim.⊥
 not_waiting past w c t h a e =
-    let f = undecided_at w c in let s = (connection_at w c).sender in
+    let f = undecided_at w c in let s = speaker_number w c in
     let p = any_found (λ (q : Pending). same_id q.part.id f.txn.id) (topic_at w t).pending e in
     let tied = h.inv.tied t in let k = tied.ticketed p.it p.stands in
     let g = (h.inv.serves s).flying f (a.flying.is ∙ ap Some (sym a.flying.at)) in

@@ -1,13 +1,13 @@
 -- Worked rows, computed from the definitions: each equation holds by computation alone. The five that a contract names are in specs/Examples.antt.
-use Rattle.std.specs.Prelude.{◌≡◌, true, List, [], ◌∷◌, map, Some}
+use Rattle.std.specs.Prelude.{◌≡◌, true, List, [], ◌∷◌, map, Some, None}
 use Rattle.std.proofs.Common.{refl}
 use Rattle.mcast_txn.specs.Agreed.{agreed}
 use Rattle.delivery.specs.Machine.Objections.{Objection}
 use Rattle.delivery.specs.Theorem.Due.{due}
 use Rattle.delivery.specs.Machine.Observed.{accepted_at, span_at, frontier_at}
 use Rattle.delivery.specs.Machine.Moves.{Move}
-use Rattle.delivery.specs.Machine.Moves.Move.{Opens, Commits, Subscribes, Unsubscribes, Proposes, Decides, Learns, Releases, Turns, Takes}
-use Rattle.delivery.specs.Machine.Moves.Answer.{Refused, Opened, Begun, Subscribed, Unsubscribed, Ticket, Decided, Learnt, Turned, Handed}
+use Rattle.delivery.specs.Machine.Moves.Move.{Opens, Connects, Commits, Subscribes, Unsubscribes, Proposes, Decides, Learns, Releases, Turns, Takes}
+use Rattle.delivery.specs.Machine.Moves.Answer.{Refused, Done, Opened, Begun, Subscribed, Unsubscribed, Ticket, Decided, Learnt, Turned, Handed}
 use Rattle.delivery.specs.Machine.Runs.{commits_of}
 use Rattle.delivery.specs.Theorem.Laws.{Run, answers_of, final_world}
 use Rattle.delivery.specs.Theorem.Examples.{topic, stamp, id, send, part, transaction, item, run_of, answers_in_order, log_stamps, to_a_and_b, crossing}
@@ -23,14 +23,14 @@ crossing_due = refl
 -- two connections commit to A and B, and both topics give both a ticket; then these events
 abbrev pub four_tickets : List Move → Run
 four_tickets then = run_of (0 ∷ 0 ∷ []) (
-    Opens ∷ Opens ∷ Commits 0 to_a_and_b ∷ Commits 1 to_a_and_b
+    Opens ∷ Connects 0 None ∷ Opens ∷ Connects 1 None ∷ Commits 0 to_a_and_b ∷ Commits 1 to_a_and_b
     ∷ Proposes 0 (topic 0) true ∷ Proposes 1 (topic 1) true ∷ Proposes 1 (topic 0) true ∷ Proposes 0 (topic 1) true ∷ then)
 
 abbrev both_decided : Run
 both_decided = four_tickets (Decides 0 ∷ Decides 1 ∷ Turns (topic 0) ∷ Turns (topic 1) ∷ [])
 
 four_tickets_answers : answers_in_order both_decided
-    ≡ Opened 0 ∷ Opened 1 ∷ Begun (transaction (id 0 1) to_a_and_b) ∷ Begun (transaction (id 1 1) to_a_and_b)
+    ≡ Opened 0 ∷ Done ∷ Opened 1 ∷ Done ∷ Begun (transaction (id 0 1) to_a_and_b) ∷ Begun (transaction (id 1 1) to_a_and_b)
     ∷ Ticket (id 0 1) (stamp 1 0) ∷ Ticket (id 1 1) (stamp 1 1) ∷ Ticket (id 1 1) (stamp 2 0) ∷ Ticket (id 0 1) (stamp 2 1)
     ∷ Decided (id 0 1) (stamp 2 1) ∷ Decided (id 1 1) (stamp 2 0) ∷ Turned (topic 0) 2 ∷ Turned (topic 1) 2 ∷ []
 four_tickets_answers = refl
@@ -48,7 +48,7 @@ one_decided = four_tickets (
     Decides 1 ∷ Turns (topic 0) ∷ Learns (topic 0) (id 1 1) ∷ Releases (topic 0) ∷ Learns (topic 0) (id 0 1) ∷ [])
 
 one_decided_answers : answers_in_order one_decided
-    ≡ Opened 0 ∷ Opened 1 ∷ Begun (transaction (id 0 1) to_a_and_b) ∷ Begun (transaction (id 1 1) to_a_and_b)
+    ≡ Opened 0 ∷ Done ∷ Opened 1 ∷ Done ∷ Begun (transaction (id 0 1) to_a_and_b) ∷ Begun (transaction (id 1 1) to_a_and_b)
     ∷ Ticket (id 0 1) (stamp 1 0) ∷ Ticket (id 1 1) (stamp 1 1) ∷ Ticket (id 1 1) (stamp 2 0) ∷ Ticket (id 0 1) (stamp 2 1)
     ∷ Decided (id 1 1) (stamp 2 0) ∷ Turned (topic 0) 0 ∷ Learnt (id 1 1) (topic 0) ∷ Refused Objection.NothingDue ∷ Refused Objection.NotDecided ∷ []
 one_decided_answers = refl
@@ -60,12 +60,12 @@ one_decided_log = refl
 
 abbrev three_sends : Run
 three_sends = run_of (0 ∷ 0 ∷ []) (
-    Opens ∷ Subscribes 0 (topic 0) ∷ Subscribes 0 (topic 1) ∷ Commits 0 (send 0 1 ∷ send 1 2 ∷ send 0 3 ∷ [])
+    Opens ∷ Connects 0 None ∷ Subscribes 0 (topic 0) ∷ Subscribes 0 (topic 1) ∷ Commits 0 (send 0 1 ∷ send 1 2 ∷ send 0 3 ∷ [])
     ∷ Proposes 0 (topic 0) true ∷ Proposes 0 (topic 0) true ∷ Decides 0 ∷ Proposes 0 (topic 1) true ∷ Decides 0
     ∷ Turns (topic 0) ∷ Turns (topic 1) ∷ Takes 0 ∷ Takes 1 ∷ [])
 
 three_sends_answers : answers_in_order three_sends
-    ≡ Opened 0 ∷ Subscribed 0 0 (topic 0) (stamp 0 0) ∷ Subscribed 1 0 (topic 1) (stamp 0 0) ∷ Begun (transaction (id 0 1) (send 0 1 ∷ send 1 2 ∷ send 0 3 ∷ []))
+    ≡ Opened 0 ∷ Done ∷ Subscribed 0 0 (topic 0) (stamp 0 0) ∷ Subscribed 1 0 (topic 1) (stamp 0 0) ∷ Begun (transaction (id 0 1) (send 0 1 ∷ send 1 2 ∷ send 0 3 ∷ []))
     ∷ Ticket (id 0 1) (stamp 1 0) ∷ Refused Objection.Twice ∷ Refused Objection.Incomplete ∷ Ticket (id 0 1) (stamp 1 1) ∷ Decided (id 0 1) (stamp 1 1)
     ∷ Turned (topic 0) 1 ∷ Turned (topic 1) 1
     ∷ Handed 0 (item (id 0 1) (stamp 1 1) (part 0 1 ∷ part 2 3 ∷ [])) ∷ Handed 1 (item (id 0 1) (stamp 1 1) (part 1 2 ∷ [])) ∷ []
@@ -76,11 +76,11 @@ three_sends_answers = refl
 -- a subscription is closed after the first of two transactions was released, and before the second is
 abbrev pub ends : Run
 ends = run_of (0 ∷ []) (
-    Opens ∷ Opens ∷ Commits 0 (send 0 1 ∷ []) ∷ Proposes 0 (topic 0) true ∷ Decides 0 ∷ Subscribes 1 (topic 0) ∷ Turns (topic 0) ∷ Takes 0
+    Opens ∷ Connects 0 None ∷ Opens ∷ Connects 1 None ∷ Commits 0 (send 0 1 ∷ []) ∷ Proposes 0 (topic 0) true ∷ Decides 0 ∷ Subscribes 1 (topic 0) ∷ Turns (topic 0) ∷ Takes 0
     ∷ Commits 0 (send 0 2 ∷ []) ∷ Proposes 0 (topic 0) true ∷ Decides 0 ∷ Unsubscribes 1 0 ∷ Turns (topic 0) ∷ Takes 0 ∷ [])
 
 ends_answers : answers_in_order ends
-    ≡ Opened 0 ∷ Opened 1 ∷ Begun (transaction (id 0 1) (send 0 1 ∷ [])) ∷ Ticket (id 0 1) (stamp 1 0) ∷ Decided (id 0 1) (stamp 1 0)
+    ≡ Opened 0 ∷ Done ∷ Opened 1 ∷ Done ∷ Begun (transaction (id 0 1) (send 0 1 ∷ [])) ∷ Ticket (id 0 1) (stamp 1 0) ∷ Decided (id 0 1) (stamp 1 0)
     ∷ Subscribed 0 1 (topic 0) (stamp 0 0) ∷ Turned (topic 0) 1 ∷ Handed 0 (item (id 0 1) (stamp 1 0) (part 0 1 ∷ []))
     ∷ Begun (transaction (id 0 2) (send 0 2 ∷ [])) ∷ Ticket (id 0 2) (stamp 2 0) ∷ Decided (id 0 2) (stamp 2 0)
     ∷ Unsubscribed 0 (stamp 1 0) ∷ Turned (topic 0) 1 ∷ Refused Objection.Gone ∷ []

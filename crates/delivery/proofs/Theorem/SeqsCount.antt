@@ -1,6 +1,6 @@
 -- The seq of each transaction counts its sender's.
-use Rattle.std.proofs.Common.{◌≡◌, ℕ, ◌+◌, ◌<◌, ◌≤◌, ◌==◌, Bool, true, false, cond, List, [], ◌∷◌, ◌++◌, length, get_or, set, Option, Some, None, refl, sym, ap, subst, ◌∙◌, arith, ltb}
-use Rattle.std.proofs.lemmas.Bool.{eqb-true, eq-eqb, ltb-true}
+use Rattle.std.proofs.Common.{◌≡◌, ℕ, ◌+◌, ◌<◌, ◌≤◌, ◌==◌, Bool, true, false, cond, List, [], ◌∷◌, ◌++◌, length, get_or, set, Option, Some, None, refl, sym, ap, subst, ◌∙◌, arith}
+use Rattle.std.proofs.lemmas.Bool.{eqb-true, eq-eqb}
 use Rattle.mcast_txn.specs.Ballot.{Decision}
 use Rattle.mcast_txn.specs.declared.id.Topic.{Topic}
 use Rattle.mcast_txn.specs.declared.id.TxnId.{TxnId}
@@ -9,10 +9,10 @@ use Rattle.mcast_txn.proofs.Members.{at_set, at_set_within}
 use Rattle.mcast_group.specs.declared.fault.ProposeFault.{ProposeFault}
 use Rattle.mcast_txn.specs.Span.{Item}
 use Rattle.mcast_group.specs.Machine.{Pending, Entry, due_part}
-use Rattle.mcast_group.proofs.Parts.{not_true}
-use Rattle.delivery.specs.Machine.World.{World, Leftover, SenderState, Connection, Standing, new_sender, nobody, topic_at, connection_at, speaker, subscription_at, entry_at, with_standing, start}
-use Rattle.delivery.specs.Machine.Moves.{Move, Answer, world_after, answer_to, move_refusal, move_effect, move_answer, find_leftover, find_verdict, oldest_live, next_txn, commit_effect, commit_answer, proposal_fault, propose_effect, propose_answer, cancel_effect, cancel_answer, learn_effect, release_answer, take_effect, take_answer, leave_effect, leave_answer, close_effect, close_effect_of}
-use Rattle.delivery.specs.Machine.Moves.Move.{AddsTopic, Opens, Commits, Subscribes, Unsubscribes, Disconnects, Errs, Lost, Leaves, Proposes, Decides, Withdraws, Cancels, Learns, Releases, Turns, Takes}
+use Rattle.mcast_group.proofs.Parts.{not_true, some_same, none_some}
+use Rattle.delivery.specs.Machine.World.{World, Leftover, SenderState, Connection, Standing, new_sender, nobody, topic_at, connection_at, speaker, with_speaker, subscription_at, entry_at, with_standing, start, speaker_number}
+use Rattle.delivery.specs.Machine.Moves.{Move, Answer, world_after, answer_to, move_refusal, move_effect, move_answer, find_leftover, find_verdict, oldest_live, next_txn, connect_effect, commit_effect, commit_answer, proposal_fault, propose_effect, propose_answer, cancel_effect, cancel_answer, learn_effect, release_answer, take_effect, take_answer, leave_effect, leave_answer, close_effect, close_effect_of}
+use Rattle.delivery.specs.Machine.Moves.Move.{AddsTopic, Opens, Connects, Commits, Subscribes, Unsubscribes, Disconnects, Errs, Lost, Leaves, Proposes, Decides, Withdraws, Cancels, Learns, Releases, Turns, Takes}
 use Rattle.delivery.specs.Machine.Moves.Answer.{Refused, Done, Opened}
 use Rattle.delivery.specs.Machine.Runs.{run, answers_from, txn_count, Numbered}
 use Rattle.delivery.specs.Theorem.Laws
@@ -20,14 +20,15 @@ use Rattle.delivery.specs.Theorem.Laws.{Run, answers_of, final_world}
 use Rattle.delivery.proofs.Machine.Invariant.{sender_in}
 use Rattle.delivery.proofs.Machine.SubscriptionSteps.{at_push_two, push_length, set_length}
 use Rattle.delivery.proofs.Machine.InvariantIsKept.{by_refusal, checked, false_not}
+use Rattle.delivery.proofs.Machine.Speakers.{has_speaker, claim_there}
 
-abbrev sender_of : List Connection → ℕ → ℕ
+abbrev sender_of : List Connection → ℕ → Option ℕ
 sender_of connections c = (get_or connections c nobody).sender
 
 record Numbering (past : List Answer) (senders : List SenderState) (connections : List Connection) : Type 0 where
   seqs : (s : ℕ) → s < length senders → (sender_in senders s).seq ≡ txn_count s past
   fresh : (s : ℕ) → length senders ≤ s → txn_count s past ≡ 0
-  owners : (c : ℕ) → c < length connections → sender_of connections c < length senders
+  owners : (c s : ℕ) → sender_of connections c ≡ Some s → s < length senders
   numbered : Numbered past
 
 -- a sender is written with its seq as it was
@@ -37,7 +38,7 @@ sender_kept past senders connections s x e h = record {
       (λ k. e ∙ (ap (λ n. (sender_in senders n).seq) (sym k) ∙ h.seqs r (let m : length (set senders s x) ≡ length senders = set_length senders s x in omega arith)))
       (h.seqs r (let m : length (set senders s x) ≡ length senders = set_length senders s x in omega arith));
   fresh = λ r l. h.fresh r (let m : length (set senders s x) ≡ length senders = set_length senders s x in omega arith);
-  owners = λ c l. let k : sender_of connections c < length senders = h.owners c l in let m : length (set senders s x) ≡ length senders = set_length senders s x in omega arith;
+  owners = λ c r e. let k : r < length senders = h.owners c r e in let m : length (set senders s x) ≡ length senders = set_length senders s x in omega arith;
   numbered = h.numbered;
 }
 
@@ -46,13 +47,9 @@ standing_kept : (past : List Answer) (w : World) (c : ℕ) (standing : Standing)
 standing_kept past w c standing senders h = record {
   seqs = h.seqs;
   fresh = h.fresh;
-  owners = λ d l. at_set (λ (z : Connection). z.sender < length senders) w.connections c d _ nobody
-      (λ k. subst (λ n. sender_of w.connections n < length senders) k (h.owners d (short d l))) (h.owners d (short d l));
+  owners = λ d s. at_set (λ (z : Connection). z.sender ≡ Some s → s < length senders) w.connections c d _ nobody (λ k e. h.owners c s e) (h.owners d s);
   numbered = h.numbered;
 }
-  where
-    short : (d : ℕ) → d < length (with_standing w c standing).connections → d < length w.connections
-    short d l = let m : length (with_standing w c standing).connections ≡ length w.connections = set_length w.connections c _ in omega arith
 
 -- another outcome than a new transaction
 told : (past : List Answer) (senders : List SenderState) (connections : List Connection) (o : Answer) → ((s : ℕ) → txn_count s (o ∷ past) ≡ txn_count s past) → (Numbered past → Numbered (o ∷ past)) → Numbering past senders connections → Numbering (o ∷ past) senders connections
@@ -66,10 +63,10 @@ told past senders connections o a b h = record {
 made_case : (s t n : ℕ) (b : Bool) → (t == s) ≡ b → cond b (n + 1) n ≡ cond (t == s) (n + 1) n
 made_case s t n b e = ap (λ (c : Bool). cond c (n + 1) n) (sym e)
 
-flown_numbering : (past : List Answer) (w : World) (c : ℕ) (sends : List SentMessage) → c < length w.connections → Numbering past w.senders w.connections → Numbering (commit_answer w c sends ∷ past) (commit_effect w c sends).senders (commit_effect w c sends).connections
+flown_numbering : (past : List Answer) (w : World) (c : ℕ) (sends : List SentMessage) → (connection_at w c).sender ≡ Some (speaker_number w c) → Numbering past w.senders w.connections → Numbering (commit_answer w c sends ∷ past) (commit_effect w c sends).senders (commit_effect w c sends).connections
 flown_numbering past w c [] l h = told past w.senders w.connections Done (λ s. refl) (λ k. k) h
 flown_numbering past w c (first ∷ others) l h =
-    let t = (connection_at w c).sender in let own = h.owners c l in let x = sender_in w.senders t in
+    let t = speaker_number w c in let own : speaker_number w c < length w.senders = h.owners c (speaker_number w c) l in let x = sender_in w.senders t in
     let y : SenderState = record x { seq = x.seq + 1; flight = Some (record { txn = next_txn w c (first ∷ others); given = []; mark = None }) } in
     let m : length (set w.senders t y) ≡ length w.senders = set_length w.senders t y in
     record {
@@ -78,17 +75,17 @@ flown_numbering past w c (first ∷ others) l h =
           (λ ne. h.seqs s (omega arith) ∙ made_case s t (txn_count s past) false (not_true (t == s) refl (λ e. ne (sym (eqb-true t s e)))));
       fresh = λ s k. sym (made_case s t (txn_count s past) false (not_true (t == s) refl (λ e. let d : t ≡ s = eqb-true t s e in let o : t < length w.senders = own in omega arith)))
           ∙ h.fresh s (omega arith);
-      owners = λ d k. let o : sender_of w.connections d < length w.senders = h.owners d k in omega arith;
+      owners = λ d s k. let o : s < length w.senders = h.owners d s k in omega arith;
       numbered = (ap (λ (n : ℕ). n + 1) (h.seqs t own), h.numbered);
     }
 
 proposed_numbering : (past : List Answer) (w : World) (c : ℕ) (t : Topic) (o : Option ProposeFault) → Numbering past w.senders w.connections → Numbering (propose_answer w c t o ∷ past) (propose_effect w c t o).senders (propose_effect w c t o).connections
-proposed_numbering past w c t None h = told past _ w.connections (propose_answer w c t None) (λ s. refl) (λ k. k) (sender_kept past w.senders w.connections (connection_at w c).sender _ refl h)
-proposed_numbering past w c t (Some fault) h = told past _ w.connections (propose_answer w c t (Some fault)) (λ s. refl) (λ k. k) (sender_kept past w.senders w.connections (connection_at w c).sender _ refl h)
+proposed_numbering past w c t None h = told past _ w.connections (propose_answer w c t None) (λ s. refl) (λ k. k) (sender_kept past w.senders w.connections (speaker_number w c) _ refl h)
+proposed_numbering past w c t (Some fault) h = told past _ w.connections (propose_answer w c t (Some fault)) (λ s. refl) (λ k. k) (sender_kept past w.senders w.connections (speaker_number w c) _ refl h)
 
 cancelled_numbering : (past : List Answer) (w : World) (c : ℕ) (t : Topic) (o : Option Leftover) → Numbering past w.senders w.connections → Numbering (cancel_answer t o ∷ past) (cancel_effect w c t o).senders (cancel_effect w c t o).connections
 cancelled_numbering past w c t None h = told past w.senders w.connections Done (λ s. refl) (λ k. k) h
-cancelled_numbering past w c t (Some k) h = told past _ w.connections (cancel_answer t (Some k)) (λ s. refl) (λ n. n) (sender_kept past w.senders w.connections (connection_at w c).sender _ refl h)
+cancelled_numbering past w c t (Some k) h = told past _ w.connections (cancel_answer t (Some k)) (λ s. refl) (λ n. n) (sender_kept past w.senders w.connections (speaker_number w c) _ refl h)
 
 learned_same : (w : World) (t : Topic) (id : TxnId) (o : Option Decision) → ((learn_effect w t id o).senders ≡ w.senders) × ((learn_effect w t id o).connections ≡ w.connections)
 learned_same w t id None = (refl, refl)
@@ -117,21 +114,48 @@ handed_numbering past w s (Some item) h = told past w.senders w.connections (tak
 leaving_numbering : (past : List Answer) (w : World) (c : ℕ) (o : Answer) → ((s : ℕ) → txn_count s (o ∷ past) ≡ txn_count s past) → (Numbered past → Numbered (o ∷ past)) → Numbering past w.senders w.connections → Numbering (o ∷ past) w.senders (with_standing w c Standing.Leaving).connections
 leaving_numbering past w c o a b h = told past w.senders _ o a b (standing_kept past w c Standing.Leaving w.senders h)
 
-happens_numbering : (past : List Answer) (w : World) (e : Move) → Numbering past w.senders w.connections → move_refusal w e ≡ None → Numbering (move_answer w e ∷ past) (move_effect w e).senders (move_effect w e).connections
-happens_numbering past w (AddsTopic clock) h e = told past w.senders w.connections Done (λ s. refl) (λ k. k) h
-happens_numbering past w Opens h e =
-    let new : Connection = record { sender = length w.senders; standing = Standing.Open } in
-    let m = push_length w.senders new_sender in let n = push_length w.connections new in
-    told past (move_effect w Opens).senders (move_effect w Opens).connections (Opened (length w.connections)) (λ s. refl) (λ k. k) (record {
+-- a new sender begins
+begun_numbering : (past : List Answer) (w : World) → Numbering past w.senders w.connections → Numbering past (w.senders ++ new_sender ∷ []) w.connections
+begun_numbering past w h =
+    let m = push_length w.senders new_sender in record {
       seqs = λ s l. at_push_two (λ (z : SenderState). z.seq ≡ txn_count s past) w.senders s new_sender new_sender
           (λ k. sym (h.fresh s (omega arith))) (λ ne. h.seqs s (omega arith));
       fresh = λ s l. h.fresh s (omega arith);
-      owners = λ c l. at_push_two (λ (z : Connection). z.sender < length (w.senders ++ new_sender ∷ [])) w.connections c new nobody
-          (λ k. omega arith) (λ ne. let o : sender_of w.connections c < length w.senders = h.owners c (omega arith) in omega arith);
+      owners = λ c s e. let o : s < length w.senders = h.owners c s e in omega arith;
+      numbered = h.numbered;
+    }
+
+-- a connection speaks for a sender that is there
+spoken_numbering : (past : List Answer) (w : World) (c s : ℕ) (senders : List SenderState) → s < length senders → Numbering past senders w.connections
+    → Numbering past senders (with_speaker w c s).connections
+spoken_numbering past w c s senders l h = record {
+  seqs = h.seqs;
+  fresh = h.fresh;
+  owners = λ d r. at_set (λ (z : Connection). z.sender ≡ Some r → r < length senders) w.connections c d _ nobody
+      (λ k e. subst (λ n. n < length senders) (some_same s r e) l) (h.owners d r);
+  numbered = h.numbered;
+}
+
+connected_numbering : (past : List Answer) (w : World) (c : ℕ) (claimed : Option ℕ) → ((s : ℕ) → claimed ≡ Some s → s < length w.senders)
+    → Numbering past w.senders w.connections → Numbering past (connect_effect w c claimed).senders (connect_effect w c claimed).connections
+connected_numbering past w c None there h =
+    spoken_numbering past w c (length w.senders) (w.senders ++ new_sender ∷ []) (let m = push_length w.senders new_sender in omega arith) (begun_numbering past w h)
+connected_numbering past w c (Some s) there h = spoken_numbering past w c s w.senders (there s refl) h
+
+happens_numbering : (past : List Answer) (w : World) (e : Move) → Numbering past w.senders w.connections → move_refusal w e ≡ None → Numbering (move_answer w e ∷ past) (move_effect w e).senders (move_effect w e).connections
+happens_numbering past w (AddsTopic clock) h e = told past w.senders w.connections Done (λ s. refl) (λ k. k) h
+happens_numbering past w Opens h e =
+    let new : Connection = record { sender = None; standing = Standing.Open } in
+    told past w.senders (move_effect w Opens).connections (Opened (length w.connections)) (λ s. refl) (λ k. k) (record {
+      seqs = h.seqs;
+      fresh = h.fresh;
+      owners = λ c s. at_push_two (λ (z : Connection). z.sender ≡ Some s → s < length w.senders) w.connections c new nobody
+          (λ k d. none_some s d) (λ ne. h.owners c s);
       numbered = h.numbered;
     })
+happens_numbering past w (Connects c claimed) h e = told past _ _ Done (λ s. refl) (λ k. k) (connected_numbering past w c claimed (claim_there w c claimed e) h)
 happens_numbering past w (Commits c sends) h e =
-    flown_numbering past w c sends (ltb-true c (length w.connections) (false_not (ltb c (length w.connections)) (checked w (Commits c sends) e).0)) h
+    flown_numbering past w c sends (has_speaker w c (false_not _ (checked w (Commits c sends) e).1.1.1.0)) h
 happens_numbering past w (Subscribes c t) h e = told past w.senders w.connections _ (λ s. refl) (λ k. k) h
 happens_numbering past w (Unsubscribes c s) h e = told past _ _ (move_answer w (Unsubscribes c s)) (λ n. refl) (λ k. k) (same_numbering past w (close_effect w s) (closed_same w s (entry_at w s)) h)
 happens_numbering past w (Disconnects c) h e = leaving_numbering past w c _ (λ s. refl) (λ k. k) h
@@ -139,10 +163,10 @@ happens_numbering past w (Errs c) h e = leaving_numbering past w c _ (λ s. refl
 happens_numbering past w (Lost c) h e = leaving_numbering past w c _ (λ s. refl) (λ k. k) h
 happens_numbering past w (Leaves c) h e = left_numbering past w c (oldest_live c 0 w.subscriptions) h
 happens_numbering past w (Proposes c t memory) h e = proposed_numbering past w c t (proposal_fault w c t memory) h
-happens_numbering past w (Decides c) h e = told past _ w.connections (move_answer w (Decides c)) (λ s. refl) (λ k. k) (sender_kept past w.senders w.connections (connection_at w c).sender _ refl h)
+happens_numbering past w (Decides c) h e = told past _ w.connections (move_answer w (Decides c)) (λ s. refl) (λ k. k) (sender_kept past w.senders w.connections (speaker_number w c) _ refl h)
 happens_numbering past w (Withdraws c) h e =
     told past _ _ (move_answer w (Withdraws c)) (λ s. refl) (λ k. k)
-    (standing_kept past w c Standing.Leaving _ (sender_kept past w.senders w.connections (connection_at w c).sender _ refl h))
+    (standing_kept past w c Standing.Leaving _ (sender_kept past w.senders w.connections (speaker_number w c) _ refl h))
 happens_numbering past w (Cancels c t) h e = cancelled_numbering past w c t (find_leftover t (speaker w c).leftovers) h
 happens_numbering past w (Learns t id) h e = told past _ _ (move_answer w (Learns t id)) (λ n. refl) (λ k. k) (same_numbering past w (move_effect w (Learns t id)) (learned_same w t id (find_verdict id w.verdicts)) h)
 happens_numbering past w (Releases t) h e = released_numbering past w t (due_part (topic_at w t)) h
@@ -162,6 +186,6 @@ seqs_count r =
     (run_numbering r.events [] (start r.capacity r.log_limit r.clocks) (record {
       seqs = λ s l. absurd (omega arith);
       fresh = λ s l. refl;
-      owners = λ c l. absurd (omega arith);
+      owners = λ c s e. none_some s e;
       numbered = tt;
     })).numbered

@@ -20,10 +20,10 @@ use Rattle.mcast_group.proofs.Parts.{Waits, others, not_true, none_some}
 use Rattle.mcast_group.proofs.Turning.{turn_none}
 use Rattle.delivery.specs.Machine.Objections.{Objection}
 use Rattle.delivery.specs.Theorem.Due.{log_row}
-use Rattle.delivery.specs.Machine.World.{World, Undecided, Leftover, SenderState, new_sender, topic_at, connection_at, speaker, subscription_at, entry_at, start, new_topics}
+use Rattle.delivery.specs.Machine.World.{World, Undecided, Leftover, SenderState, new_sender, topic_at, speaker, subscription_at, entry_at, start, new_topics, speaker_number}
 use Rattle.delivery.specs.Machine.Observed.{log_at}
-use Rattle.delivery.specs.Machine.Moves.{Move, Answer, world_after, answer_to, move_refusal, move_effect, move_answer, undecided_at, find_leftover, find_verdict, verdict_in, oldest_live, commit_effect, commit_answer, proposal_fault, propose_effect, propose_answer, withdraw_effect, cancel_effect, cancel_answer, learn_effect, release_answer, queue_has_room, take_effect, take_answer, leave_effect, leave_answer, close_effect, close_effect_of}
-use Rattle.delivery.specs.Machine.Moves.Move.{AddsTopic, Opens, Commits, Subscribes, Unsubscribes, Disconnects, Errs, Lost, Leaves, Proposes, Decides, Withdraws, Cancels, Learns, Releases, Turns, Takes}
+use Rattle.delivery.specs.Machine.Moves.{Move, Answer, world_after, answer_to, move_refusal, move_effect, move_answer, undecided_at, find_leftover, find_verdict, verdict_in, oldest_live, commit_effect, commit_answer, proposal_fault, propose_effect, propose_answer, withdraw_effect, cancel_effect, cancel_answer, learn_effect, release_answer, queue_has_room, take_effect, take_answer, leave_effect, leave_answer, close_effect, close_effect_of, connect_effect}
+use Rattle.delivery.specs.Machine.Moves.Move.{AddsTopic, Opens, Connects, Commits, Subscribes, Unsubscribes, Disconnects, Errs, Lost, Leaves, Proposes, Decides, Withdraws, Cancels, Learns, Releases, Turns, Takes}
 use Rattle.delivery.specs.Machine.Moves.Answer.{Refused, Done, Opened, Subscribed, Unsubscribed, Leaving, Error, Gone, Failed, Decided, Learnt, Handed}
 use Rattle.delivery.specs.Machine.Runs.{run, answers_from, commits_of}
 use Rattle.delivery.specs.Theorem.Settled.{IsSettled, AllResolved}
@@ -131,18 +131,18 @@ turn_settling past w t h l =
 
 proposed_settling : (past : List Answer) (w : World) (c : ℕ) (t : Topic) (memory : Bool) → Reached past w → Settling past w.topics w.senders → Asks w c t → (o : Option ProposeFault) → proposal_fault w c t memory ≡ o → Settling (propose_answer w c t o ∷ past) (propose_effect w c t o).topics (propose_effect w c t o).senders
 proposed_settling past w c t memory h l a None e =
-    let s = (connection_at w c).sender in let f = undecided_at w c in
+    let s = speaker_number w c in let f = undecided_at w c in
     let new = new_ticket w c t a (no_fault w c t memory _ refl e) in
     ticket_settling past w s t f h.inv new (h.flights s f new.flight) l
 proposed_settling past w c t memory h l a (Some fault) e =
-    let s = (connection_at w c).sender in let f = undecided_at w c in let k = a.flying.is ∙ ap Some (sym a.flying.at) in
+    let s = speaker_number w c in let f = undecided_at w c in let k = a.flying.is ∙ ap Some (sym a.flying.at) in
     fewer_quiet past w (propose_effect w c t (Some fault)) (Failed f.txn.id fault) (quiet_failed f.txn.id fault)
     (Fewer-sender w.topics w.senders s _ (omega arith) (one_same w.senders s _ f _ k refl refl)) l
 
 withdrawn_settling : (past : List Answer) (w : World) (c : ℕ) → Reached past w → Settling past w.topics w.senders → move_refusal w (Withdraws c) ≡ None → Settling (move_answer w (Withdraws c) ∷ past) (withdraw_effect w c).topics (withdraw_effect w c).senders
 withdrawn_settling past w c h l e =
     let p = checked w (Withdraws c) e in let fl = in_flight w c p.1.1.0 in
-    let s = (connection_at w c).sender in let f = undecided_at w c in let k = fl.is ∙ ap Some (sym fl.at) in
+    let s = speaker_number w c in let f = undecided_at w c in let k = fl.is ∙ ap Some (sym fl.at) in
     let g = (h.inv.serves s).flying f k in let v = withdraw_effect w c in
     note_withdrawn past v.topics v.senders f.txn.id c
     (at_set (λ (z : SenderState). f.txn.id.seq ≤ z.seq) w.senders s f.txn.id.sender.0 _ new_sender (λ n. g.seq_le)
@@ -156,7 +156,7 @@ withdrawn_settling past w c h l e =
 cancelled_settling : (past : List Answer) (w : World) (c : ℕ) (t : Topic) → Reached past w → Settling past w.topics w.senders → (o : Option Leftover) → find_leftover t (speaker w c).leftovers ≡ o → Settling (cancel_answer t o ∷ past) (cancel_effect w c t o).topics (cancel_effect w c t o).senders
 cancelled_settling past w c t h l None e = note_quiet past w.topics w.senders Done quiet_done l
 cancelled_settling past w c t h l (Some k) e =
-    let s = (connection_at w c).sender in let x = sender_in w.senders s in let v = cancel_effect w c t (Some k) in
+    let s = speaker_number w c in let x = sender_in w.senders s in let v = cancel_effect w c t (Some k) in
     let found = leftover_found t x.leftovers k e in let g = (h.inv.serves s).left k found.stands in
     let y = after_cancel k.id (topic_in w.topics t) in
     note_cancelled past v.topics v.senders k.id t
@@ -200,18 +200,23 @@ flown_settling : (past : List Answer) (w : World) (c : ℕ) (sends : List SentMe
 flown_settling past w c [] h l = note_quiet past w.topics w.senders Done quiet_done l
 flown_settling past w c (first ∷ others) h l = flying_settling past w c first others h.inv l
 
+connected_settling : (past : List Answer) (w : World) (c : ℕ) (claimed : Option ℕ) → Settling past w.topics w.senders → Settling (Done ∷ past) (connect_effect w c claimed).topics (connect_effect w c claimed).senders
+connected_settling past w c None l = fewer_quiet past w (connect_effect w c None) Done quiet_done (record {
+  seqs = λ s. at_push (λ (z : SenderState). (sender_in w.senders s).seq ≤ z.seq) w.senders s new_sender new_sender (λ d o. o) (omega arith);
+  flights = λ s f. at_push (λ (z : SenderState). z.flight ≡ Some f → (g : Undecided) × ((sender_in w.senders s).flight ≡ Some g) × (g.txn ≡ f.txn)) w.senders s new_sender new_sender
+      (λ d o k. none_some f k) (λ k. (f, k, refl));
+  parts = λ t. Gone-same (topic_in w.topics t).pending;
+}) l
+connected_settling past w c (Some s) l = note_quiet past w.topics w.senders Done quiet_done l
+
 happens_settling : (past : List Answer) (w : World) (e : Move) → Reached past w → Settling past w.topics w.senders → move_refusal w e ≡ None → Settling (move_answer w e ∷ past) (move_effect w e).topics (move_effect w e).senders
 happens_settling past w (AddsTopic clock) h l e = fewer_quiet past w (move_effect w (AddsTopic clock)) Done quiet_done (record {
   seqs = λ s. omega arith;
   flights = same_flights w.senders;
   parts = λ t. at_added (λ u z. Gone_to (topic_in w.topics u).pending z.pending) w.topics w.log_limit clock t (λ k q i. absurd i) (Gone-same (topic_in w.topics t).pending);
 }) l
-happens_settling past w Opens h l e = fewer_quiet past w (move_effect w Opens) (Opened (length w.connections)) (quiet_opened (length w.connections)) (record {
-  seqs = λ s. at_push (λ (z : SenderState). (sender_in w.senders s).seq ≤ z.seq) w.senders s new_sender new_sender (λ d o. o) (omega arith);
-  flights = λ s f. at_push (λ (z : SenderState). z.flight ≡ Some f → (g : Undecided) × ((sender_in w.senders s).flight ≡ Some g) × (g.txn ≡ f.txn)) w.senders s new_sender new_sender
-      (λ d o k. none_some f k) (λ k. (f, k, refl));
-  parts = λ t. Gone-same (topic_in w.topics t).pending;
-}) l
+happens_settling past w Opens h l e = note_quiet past w.topics w.senders (Opened (length w.connections)) (quiet_opened (length w.connections)) l
+happens_settling past w (Connects c claimed) h l e = connected_settling past w c claimed l
 happens_settling past w (Commits c sends) h l e = flown_settling past w c sends h l
 happens_settling past w (Subscribes c t) h l e =
     fewer_quiet past w (move_effect w (Subscribes c t)) (move_answer w (Subscribes c t)) (quiet_subscribed _ c t _)
@@ -225,7 +230,7 @@ happens_settling past w (Leaves c) h l e = left_settling past w c (oldest_live c
 happens_settling past w (Proposes c t memory) h l e = proposed_settling past w c t memory h l (asks_of w c t memory e) (proposal_fault w c t memory) refl
 happens_settling past w (Decides c) h l e =
     fewer_quiet past w (move_effect w (Decides c)) (move_answer w (Decides c)) (quiet_decided _ _)
-    (Fewer-sender w.topics w.senders (connection_at w c).sender _ (omega arith) (one_fewer w.senders (connection_at w c).sender _ refl)) l
+    (Fewer-sender w.topics w.senders (speaker_number w c) _ (omega arith) (one_fewer w.senders (speaker_number w c) _ refl)) l
 happens_settling past w (Withdraws c) h l e = withdrawn_settling past w c h l e
 happens_settling past w (Cancels c t) h l e = cancelled_settling past w c t h l (find_leftover t (speaker w c).leftovers) refl
 happens_settling past w (Learns t id) h l e =

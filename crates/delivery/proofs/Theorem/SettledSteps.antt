@@ -16,7 +16,7 @@ use Rattle.mcast_txn.proofs.Members.{In-map_cases, at_set}
 use Rattle.mcast_group.specs.Machine.{TopicState, Pending, Entry, with_stamp, after_learn, after_cancel, after_release, after_turn, decided_stamp}
 use Rattle.mcast_group.proofs.Parts.{Waits, In-insert_cases, told_how, others, not_true, some_same}
 use Rattle.mcast_group.proofs.Turning.{release_keeps, turn_keeps}
-use Rattle.delivery.specs.Machine.World.{World, Undecided, SenderState, new_sender, connection_at, speaker}
+use Rattle.delivery.specs.Machine.World.{World, Undecided, SenderState, new_sender, speaker, speaker_number}
 use Rattle.delivery.specs.Machine.Moves.{Answer, next_txn, commit_effect}
 use Rattle.delivery.specs.Machine.Moves.Answer.{Begun, Ticket, Withdrawn, Cancelled, Turned}
 use Rattle.delivery.specs.Machine.Runs.{txn_of_id}
@@ -233,7 +233,7 @@ flying_settling past w c first others inv h = record {
 }
   where
     sender : ℕ
-    sender = (connection_at w c).sender
+    sender = speaker_number w c
 
     txn : Transaction
     txn = next_txn w c (first ∷ others)
@@ -242,17 +242,17 @@ flying_settling past w c first others inv h = record {
     new_flight = record { txn = next_txn w c (first ∷ others); given = []; mark = None }
 
     moved : (P : SenderState → Type 0) (d : ℕ) → P (record (speaker w c) { seq = (speaker w c).seq + 1; flight = Some (record { txn = next_txn w c (first ∷ others); given = []; mark = None }) }) → P (sender_in w.senders d) → P (sender_in (commit_effect w c (first ∷ others)).senders d)
-    moved P d a b = at_set P w.senders (connection_at w c).sender d _ new_sender (λ e. a) b
+    moved P d a b = at_set P w.senders (speaker_number w c) d _ new_sender (λ e. a) b
 
     older : (id : TxnId) → id.seq ≤ (sender_in w.senders id.sender.0).seq → id.seq ≤ (sender_in (commit_effect w c (first ∷ others)).senders id.sender.0).seq
-    older id o = at_set (λ (z : SenderState). id.seq ≤ z.seq) w.senders (connection_at w c).sender id.sender.0 _ new_sender
+    older id o = at_set (λ (z : SenderState). id.seq ≤ z.seq) w.senders (speaker_number w c) id.sender.0 _ new_sender
         (λ e. let k : id.seq ≤ (speaker w c).seq = subst (λ v. id.seq ≤ (sender_in w.senders v).seq) e o in omega arith) o
 
     newer : (id : TxnId) → id.seq ≤ (sender_in w.senders id.sender.0).seq → same_id (next_txn w c (first ∷ others)).id id ≡ false
     newer id o = not_true (same_id (next_txn w c (first ∷ others)).id id) refl (λ s.
         let d = id_equal (next_txn w c (first ∷ others)).id id s in
         let m : (speaker w c).seq + 1 ≡ id.seq = ap (λ (z : TxnId). z.seq) d in
-        let n : (connection_at w c).sender ≡ id.sender.0 = ap (λ (z : TxnId). z.sender.0) d in
+        let n : speaker_number w c ≡ id.sender.0 = ap (λ (z : TxnId). z.sender.0) d in
         let k : id.seq ≤ (speaker w c).seq = subst (λ v. id.seq ≤ (sender_in w.senders v).seq) (sym n) o in
         omega arith)
 

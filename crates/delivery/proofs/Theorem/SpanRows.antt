@@ -10,7 +10,7 @@ use Rattle.delivery.specs.Theorem.Due.{log_row}
 use Rattle.delivery.specs.Machine.World.{subscription_at}
 use Rattle.delivery.specs.Machine.Observed.{log_at, accepted_at, end_at, frontier_at}
 use Rattle.delivery.specs.Machine.Moves.{Move, world_after, answer_to}
-use Rattle.delivery.specs.Machine.Moves.Move.{Opens, Commits, Subscribes, Unsubscribes, Lost, Leaves, Proposes, Decides, Turns}
+use Rattle.delivery.specs.Machine.Moves.Move.{Opens, Connects, Commits, Subscribes, Unsubscribes, Lost, Leaves, Proposes, Decides, Turns}
 use Rattle.delivery.specs.Machine.Moves.Answer.{Unsubscribed, Gone, Turned}
 use Rattle.delivery.specs.Machine.Runs.{commits_of, released_at}
 use Rattle.delivery.specs.Theorem.Laws.{Run, answers_of, final_world, is_logged, agreed_rows}
@@ -29,7 +29,7 @@ three_due then = record {
   capacity = 2;
   log_limit = 65536;
   clocks = 0 ∷ [];
-  events = Opens ∷ Opens ∷ Subscribes 1 (topic 0) ∷ one_send 1 (decides_one 2 (decides_one 3 (decides_one 4 then)));
+  events = Opens ∷ Connects 0 None ∷ Opens ∷ Connects 1 None ∷ Subscribes 1 (topic 0) ∷ one_send 1 (decides_one 2 (decides_one 3 (decides_one 4 then)));
 }
 
 -- the row and the item of the transaction of this seq, which has one SEND
@@ -103,7 +103,7 @@ four_of_four = (refl, refl)
 -- a transaction to both topics and one to the second alone, each turned there
 abbrev mixed : Run
 mixed = run_of (0 ∷ 0 ∷ []) (
-    Opens ∷ Commits 0 to_a_and_b ∷ Proposes 0 (topic 0) true ∷ Proposes 0 (topic 1) true ∷ Decides 0
+    Opens ∷ Connects 0 None ∷ Commits 0 to_a_and_b ∷ Proposes 0 (topic 0) true ∷ Proposes 0 (topic 1) true ∷ Decides 0
     ∷ Commits 0 (send 1 2 ∷ []) ∷ Proposes 0 (topic 1) true ∷ Decides 0 ∷ Turns (topic 0) ∷ Turns (topic 1) ∷ [])
 
 abbrev both_row : LogRow

@@ -1,5 +1,5 @@
 -- What a run's outcomes tell of its spans, and the bound of its queues.
-use Rattle.std.proofs.Common.{◌≡◌, ℕ, zero, suc, ◌+◌, ◌<◌, ◌≤◌, ◌==◌, true, false, not, ◌⊎◌, inl, inr, List, [], ◌∷◌, length, get_or, Option, Some, None, refl, sym, ap, subst, ◌∙◌, arith, ltb}
+use Rattle.std.proofs.Common.{◌≡◌, ℕ, ◌+◌, ◌<◌, ◌≤◌, ◌==◌, true, false, not, ◌⊎◌, inl, inr, List, [], ◌∷◌, length, Option, Some, None, refl, sym, ap, subst, ◌∙◌, arith, ltb}
 use Rattle.std.specs.Option.{is_some}
 use Rattle.std.proofs.lemmas.Bool.{ltb-true, and_parts, cases_order}
 use Rattle.mcast_txn.specs.Stamp.{zero_stamp}
@@ -15,13 +15,13 @@ use Rattle.mcast_group.proofs.Parts.{none_some}
 use Rattle.delivery.specs.Machine.World.{World, Leftover, Subscription, no_subscription, topic_at, speaker, subscription_at, entry_at, start}
 use Rattle.delivery.specs.Machine.Observed.{accepted_at, end_at}
 use Rattle.delivery.specs.Machine.Moves.{Move, Answer, world_after, answer_to, move_refusal, move_effect, move_answer, is_live, find_leftover, oldest_live, commit_answer, proposal_fault, propose_answer, cancel_answer, release_answer, take_answer, leave_effect, leave_answer, close_effect, close_effect_of, end_now}
-use Rattle.delivery.specs.Machine.Moves.Move.{AddsTopic, Opens, Commits, Subscribes, Unsubscribes, Disconnects, Errs, Lost, Leaves, Proposes, Decides, Withdraws, Cancels, Learns, Releases, Turns, Takes}
+use Rattle.delivery.specs.Machine.Moves.Move.{Commits, Subscribes, Unsubscribes, Leaves, Proposes, Cancels, Releases, Takes}
 use Rattle.delivery.specs.Machine.Moves.Answer.{Subscribed, Unsubscribed}
 use Rattle.delivery.specs.Machine.Runs.{run, answers_from}
 use Rattle.delivery.specs.Theorem.Laws.{Run, answers_of, final_world}
 use Rattle.delivery.specs.Theorem.Reported
 use Rattle.delivery.proofs.Machine.Invariant.{topic_in}
-use Rattle.delivery.proofs.Machine.SubscriptionSteps.{at_push_two, push_length, finds_entry, new_subscription}
+use Rattle.delivery.proofs.Machine.SubscriptionSteps.{beyond, at_push_two, push_length, finds_entry, new_subscription}
 use Rattle.delivery.proofs.Machine.InvariantIsKept.{Reached, tickets, by_refusal, step_reached, checked, false_not}
 use Rattle.delivery.proofs.Theorem.AcceptedIsDue.{reached, start_reached, frontier_is}
 use Rattle.delivery.proofs.Theorem.HandedIsPrefix.{Handing, run_handing}
@@ -155,12 +155,6 @@ ends_now past w e s to r =
     by_refusal (λ v o. o ≡ Unsubscribed s to → end_at v s ≡ Some to) w e (λ why d. absurd (told_of _ _ d tt)) (λ n d. answer_ends past w e s to r n d)
 
 -- ---- a run
-
--- beyond a list's end there is what stands for nothing
-pub beyond : {X : Type 0} (xs : List X) (j : ℕ) (d : X) → length xs ≤ j → get_or xs j d ≡ d
-beyond [] j d l = refl
-beyond (x ∷ xs) zero d l = absurd (omega arith)
-beyond (x ∷ xs) (suc j) d l = beyond xs j d (omega arith)
 
 -- a number is below another, or it isn't
 pub within : (m n : ℕ) → (m < n) ⊎ (n ≤ m)

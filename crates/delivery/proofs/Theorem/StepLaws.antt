@@ -23,9 +23,9 @@ use Rattle.mcast_group.specs.Machine.{TopicState, Pending, Entry, new_topic, fin
 use Rattle.mcast_group.proofs.Parts.{found_part, some_same, none_some, after_release_if}
 use Rattle.mcast_group.proofs.Queues.{delivered_number}
 use Rattle.delivery.specs.Machine.Objections.{Objection}
-use Rattle.delivery.specs.Machine.World.{World, Leftover, topic_at, speaker, connection_at, subscription_at, entry_at, start}
+use Rattle.delivery.specs.Machine.World.{World, Leftover, topic_at, speaker, subscription_at, entry_at, start, speaker_number}
 use Rattle.delivery.specs.Machine.Moves.{Move, Answer, world_after, answer_to, move_refusal, objections, topic_objection, move_effect, move_answer, undecided_at, find_leftover, find_verdict, oldest_live, commit_effect, commit_answer, proposal_fault, propose_effect, propose_answer, cancel_effect, cancel_objection, cancel_objection_of, cancel_answer, learn_effect, learn_objection, learn_objection_of, release_answer, queue_has_room, take_effect, take_answer, leave_effect, leave_answer, close_effect_of}
-use Rattle.delivery.specs.Machine.Moves.Move.{AddsTopic, Opens, Commits, Subscribes, Unsubscribes, Disconnects, Errs, Lost, Leaves, Proposes, Decides, Withdraws, Cancels, Learns, Releases, Turns, Takes}
+use Rattle.delivery.specs.Machine.Moves.Move.{AddsTopic, Opens, Connects, Commits, Subscribes, Unsubscribes, Leaves, Proposes, Decides, Withdraws, Cancels, Learns, Releases, Turns, Takes}
 use Rattle.delivery.specs.Machine.Moves.Answer.{Refused, Ticket}
 use Rattle.delivery.specs.Machine.Runs.{answers_from}
 use Rattle.delivery.specs.Theorem.Laws
@@ -196,7 +196,9 @@ usual_first (c ∷ cs) why h e = usual_case c.0 c.1 why (first_refusal cs) h.0 (
 usual_checks : (w : World) (e : Move) → AllUsual (objections w e)
 usual_checks w (AddsTopic clock) = tt
 usual_checks w Opens = tt
-usual_checks w (Commits c sends) = (refl, (refl, (refl, (refl, (refl, tt)))))
+usual_checks w (Connects c None) = (refl, (refl, (refl, (refl, tt))))
+usual_checks w (Connects c (Some s)) = (refl, (refl, (refl, (refl, (refl, (refl, tt))))))
+usual_checks w (Commits c sends) = (refl, (refl, (refl, (refl, (refl, (refl, tt))))))
 usual_checks w (Subscribes c t) = (refl, (refl, (refl, (refl, tt))))
 usual_checks w (Unsubscribes c s) = (refl, (refl, (refl, (refl, tt))))
 usual_checks w (Leaves c) = (refl, (refl, (refl, (refl, tt))))
@@ -233,7 +235,7 @@ cancelling_usual : (past : List Answer) (w : World) (c : ℕ) (t : Topic) (why :
 cancelling_usual past w c t why h None f e = subst (λ z. is_odd z ≡ false) (some_same Objection.NotNamed why e) refl
 cancelling_usual past w c t why h (Some k) f e =
     let g = leftover_found t (speaker w c).leftovers k f in
-    cancel_usual past w t k why h (λ p i d. unlearnt past w t (connection_at w c).sender k h g.stands p i d p.learnt refl)
+    cancel_usual past w t k why h (λ p i d. unlearnt past w t (speaker_number w c) k h g.stands p i d p.learnt refl)
     (find_pending k.id (topic_in w.topics t).pending) refl e
 
 topic_usual : (past : List Answer) (w : World) (e : Move) (why : Objection) → Reached past w → topic_objection w e ≡ Some why → is_odd why ≡ false

@@ -17,9 +17,9 @@ use Rattle.mcast_group.specs.declared.fault.ProposeFault.{ProposeFault}
 use Rattle.mcast_txn.specs.Span.{Item}
 use Rattle.mcast_group.specs.Machine.{Pending, Entry, due_part}
 use Rattle.mcast_group.proofs.Parts.{some_same}
-use Rattle.delivery.specs.Machine.World.{World, Undecided, Leftover, SenderState, new_sender, connection_at, speaker, entry_at, topic_at, start}
-use Rattle.delivery.specs.Machine.Moves.{Move, Answer, world_after, answer_to, move_refusal, move_effect, move_answer, undecided_at, find_leftover, drop_leftover, leftover, find_verdict, oldest_live, insert_ticket, next_txn, next_ticket, commit_effect, commit_answer, proposal_fault, propose_effect, propose_answer, decide_effect, withdraw_effect, cancel_effect, cancel_answer, learn_effect, release_answer, take_effect, take_answer, leave_effect, leave_answer, close_effect_of}
-use Rattle.delivery.specs.Machine.Moves.Move.{Opens, Commits, Unsubscribes, Leaves, Proposes, Decides, Withdraws, Cancels, Learns, Releases, Takes}
+use Rattle.delivery.specs.Machine.World.{World, Undecided, Leftover, SenderState, new_sender, speaker, entry_at, topic_at, start, speaker_number}
+use Rattle.delivery.specs.Machine.Moves.{Move, Answer, world_after, answer_to, move_refusal, move_effect, move_answer, undecided_at, find_leftover, drop_leftover, leftover, find_verdict, oldest_live, insert_ticket, next_txn, next_ticket, commit_effect, commit_answer, proposal_fault, propose_effect, propose_answer, decide_effect, withdraw_effect, cancel_effect, cancel_answer, learn_effect, release_answer, take_effect, take_answer, leave_effect, leave_answer, close_effect_of, connect_effect}
+use Rattle.delivery.specs.Machine.Moves.Move.{Connects, Commits, Unsubscribes, Leaves, Proposes, Decides, Withdraws, Cancels, Learns, Releases, Takes}
 use Rattle.delivery.specs.Machine.Moves.Answer.{Refused, Done, Begun, Ticket, Failed, Decided, Withdrawn, Cancelled}
 use Rattle.delivery.specs.Machine.Runs.{txn_of_id, run, answers_from}
 use Rattle.delivery.specs.Theorem.Laws.{Run, answers_of, final_world}
@@ -122,7 +122,7 @@ flies_on past senders commits s x a g l e d =
 flown_accounted : (past : List Answer) (w : World) (c : ℕ) (sends : List SentMessage) → is_some (speaker w c).flight ≡ false → Accounted past w.senders w.commits → Accounted (commit_answer w c sends ∷ past) (commit_effect w c sends).senders (commit_effect w c sends).commits
 flown_accounted past w c [] n h = note past Done w.senders w.commits refl h
 flown_accounted past w c (first ∷ others) n h =
-    let s = (connection_at w c).sender in let x = speaker w c in let o = Begun (next_txn w c (first ∷ others)) in
+    let s = speaker_number w c in let x = speaker w c in let o = Begun (next_txn w c (first ∷ others)) in
     let y : SenderState = record x { seq = x.seq + 1; flight = Some (record { txn = next_txn w c (first ∷ others); given = []; mark = None }) } in record {
       somewhere = λ a i. move past o w.senders w.commits w.commits s y a
           (λ f e d. absurd (true≢false (sym (ap (λ (z : Option Undecided). is_some z) e) ∙ n)))
@@ -137,7 +137,7 @@ flown_accounted past w c (first ∷ others) n h =
 
 ticket_accounted : (past : List Answer) (w : World) (c : ℕ) (t : Topic) → Reached past w → Asks w c t → Accounted past w.senders w.commits → Accounted (propose_answer w c t None ∷ past) (propose_effect w c t None).senders (propose_effect w c t None).commits
 ticket_accounted past w c t r a h =
-    let s = (connection_at w c).sender in let f = undecided_at w c in
+    let s = speaker_number w c in let f = undecided_at w c in
     let is : (speaker w c).flight ≡ Some f = a.flying.is ∙ ap Some (sym a.flying.at) in
     let within = within_senders w.senders s f is in let g = (r.inv.serves s).flying f is in
     let new : CommitRow = row (txn_of_id f.txn.id past) (next_ticket w c t) in let o = Ticket f.txn.id (next_ticket w c t) in
@@ -164,7 +164,7 @@ ticket_accounted past w c t r a h =
 proposed_accounted : (past : List Answer) (w : World) (c : ℕ) (t : Topic) (o : Option ProposeFault) → Reached past w → Asks w c t → Accounted past w.senders w.commits → Accounted (propose_answer w c t o ∷ past) (propose_effect w c t o).senders (propose_effect w c t o).commits
 proposed_accounted past w c t None r a h = ticket_accounted past w c t r a h
 proposed_accounted past w c t (Some fault) r a h =
-    let s = (connection_at w c).sender in let f = undecided_at w c in
+    let s = speaker_number w c in let f = undecided_at w c in
     let is : (speaker w c).flight ≡ Some f = a.flying.is ∙ ap Some (sym a.flying.at) in
     let within = within_senders w.senders s f is in let o = Failed f.txn.id fault in
     let later_flight : Undecided = record f { mark = Some fault } in let y : SenderState = record (speaker w c) { flight = Some later_flight } in record {
@@ -182,7 +182,7 @@ proposed_accounted past w c t (Some fault) r a h =
 decided_accounted : (past : List Answer) (w : World) (c : ℕ) → Reached past w → move_refusal w (Decides c) ≡ None → Accounted past w.senders w.commits → Accounted (move_answer w (Decides c) ∷ past) (decide_effect w c).senders (decide_effect w c).commits
 decided_accounted past w c r n h =
     let p = checked w (Decides c) n in let fl = in_flight w c p.1.1.0 in
-    let s = (connection_at w c).sender in let f = undecided_at w c in
+    let s = speaker_number w c in let f = undecided_at w c in
     let is : (speaker w c).flight ≡ Some f = fl.is ∙ ap Some (sym fl.at) in
     let g = (r.inv.serves s).flying f is in let new : CommitRow = row f.txn (greatest f.given) in
     let o = Decided f.txn.id (greatest f.given) in let y : SenderState = record (speaker w c) { floor = greatest f.given; flight = None } in record {
@@ -205,7 +205,7 @@ In-append_right x (y ∷ xs) ys i = inr (In-append_right x xs ys i)
 withdrawn_accounted : (past : List Answer) (w : World) (c : ℕ) → Reached past w → move_refusal w (Withdraws c) ≡ None → Accounted past w.senders w.commits → Accounted (move_answer w (Withdraws c) ∷ past) (withdraw_effect w c).senders (withdraw_effect w c).commits
 withdrawn_accounted past w c r n h =
     let p = checked w (Withdraws c) n in let fl = in_flight w c p.1.1.0 in
-    let s = (connection_at w c).sender in let f = undecided_at w c in let x = sender_in w.senders s in
+    let s = speaker_number w c in let f = undecided_at w c in let x = sender_in w.senders s in
     let is : (speaker w c).flight ≡ Some f = fl.is ∙ ap Some (sym fl.at) in
     let g = (r.inv.serves s).flying f is in
     let y : SenderState = record x { flight = None; leftovers = x.leftovers ++ map (leftover f.txn.id) f.given } in
@@ -239,7 +239,7 @@ dropped t l m (k ∷ ks) e i = dropped_case t k l m ks (k.ticket.topic.0 == t.0)
 cancelled_accounted : (past : List Answer) (w : World) (c : ℕ) (t : Topic) (o : Option Leftover) → find_leftover t (speaker w c).leftovers ≡ o → Accounted past w.senders w.commits → Accounted (cancel_answer t o ∷ past) (cancel_effect w c t o).senders (cancel_effect w c t o).commits
 cancelled_accounted past w c t None e h = note past Done w.senders w.commits refl h
 cancelled_accounted past w c t (Some m) e h =
-    let s = (connection_at w c).sender in let x = sender_in w.senders s in let v = cancel_effect w c t (Some m) in
+    let s = speaker_number w c in let x = sender_in w.senders s in let v = cancel_effect w c t (Some m) in
     let y : SenderState = record x { leftovers = drop_leftover t x.leftovers } in let found = leftover_found t x.leftovers m e in record {
       somewhere = λ b i. move past (Cancelled m.id t) w.senders w.commits w.commits s y b
           (λ f d n. inl (s, f, at_set (λ (z : SenderState). z.flight ≡ Some f) w.senders s s y new_sender (λ k. d) d, n))
@@ -299,8 +299,12 @@ opened_accounted past o senders commits e h = let k = note past o senders commit
     there a (inr (inr (inl x))) = inr (inr (inl (x.0, x.1, subst (λ (z : SenderState). In x.1 z.leftovers) (sym (same x.0)) x.2, x.3, x.4)))
     there a (inr (inr (inr x))) = inr (inr (inr x))
 
+connected_accounted : (past : List Answer) (w : World) (c : ℕ) (claimed : Option ℕ) → Accounted past w.senders w.commits → Accounted (Done ∷ past) (connect_effect w c claimed).senders w.commits
+connected_accounted past w c None h = opened_accounted past Done w.senders w.commits refl h
+connected_accounted past w c (Some s) h = note past Done w.senders w.commits refl h
+
 happens_accounted : (past : List Answer) (w : World) (e : Move) → Reached past w → Accounted past w.senders w.commits → move_refusal w e ≡ None → Accounted (move_answer w e ∷ past) (move_effect w e).senders (move_effect w e).commits
-happens_accounted past w Opens r h n = opened_accounted past _ w.senders w.commits refl h
+happens_accounted past w (Connects c claimed) r h n = connected_accounted past w c claimed h
 happens_accounted past w (Commits c sends) r h n = flown_accounted past w c sends (or_parts _ (is_some (speaker w c).flight) (checked w (Commits c sends) n).1.1.0).1 h
 happens_accounted past w (Unsubscribes c s) r h n = same_accounted past _ w (move_effect w (Unsubscribes c s)) refl (closed_senders w s (entry_at w s)) h
 happens_accounted past w (Leaves c) r h n = left_accounted past w c (oldest_live c 0 w.subscriptions) h

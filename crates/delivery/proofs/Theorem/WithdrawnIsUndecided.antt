@@ -10,9 +10,9 @@ use Rattle.mcast_txn.proofs.Orders.{id_same}
 use Rattle.mcast_group.specs.declared.fault.ProposeFault.{ProposeFault}
 use Rattle.mcast_txn.specs.Span.{Item}
 use Rattle.mcast_group.specs.Machine.{Pending, due_part}
-use Rattle.delivery.specs.Machine.World.{World, Undecided, Leftover, topic_at, connection_at, speaker, start}
+use Rattle.delivery.specs.Machine.World.{World, Undecided, Leftover, topic_at, speaker, start, speaker_number}
 use Rattle.delivery.specs.Machine.Moves.{Move, Answer, world_after, answer_to, move_refusal, move_answer, find_leftover, oldest_live, commit_answer, proposal_fault, propose_answer, cancel_answer, release_answer, take_answer, leave_answer}
-use Rattle.delivery.specs.Machine.Moves.Move.{AddsTopic, Opens, Commits, Subscribes, Unsubscribes, Disconnects, Errs, Lost, Leaves, Proposes, Decides, Withdraws, Cancels, Learns, Releases, Turns, Takes}
+use Rattle.delivery.specs.Machine.Moves.Move.{Commits, Leaves, Proposes, Decides, Withdraws, Cancels, Releases, Takes}
 use Rattle.delivery.specs.Machine.Moves.Answer.{Decided, Withdrawn}
 use Rattle.delivery.specs.Machine.Runs.{answers_from}
 use Rattle.delivery.specs.Theorem.Laws
@@ -67,10 +67,10 @@ answer_ends w (Leaves c) n = leave_ends w c (oldest_live c 0 w.subscriptions)
 answer_ends w (Proposes c t memory) n = propose_ends w c t (proposal_fault w c t memory)
 answer_ends w (Decides c) n =
     let f = in_flight w c (checked w (Decides c) n).1.1.0 in
-    record { sender = (connection_at w c).sender; flight = f.flight; is = f.is; own = ap (λ (z : Undecided). z.txn.id) (sym f.at) }
+    record { sender = speaker_number w c; flight = f.flight; is = f.is; own = ap (λ (z : Undecided). z.txn.id) (sym f.at) }
 answer_ends w (Withdraws c) n =
     let f = in_flight w c (checked w (Withdraws c) n).1.1.0 in
-    record { sender = (connection_at w c).sender; flight = f.flight; is = f.is; own = ap (λ (z : Undecided). z.txn.id) (sym f.at) }
+    record { sender = speaker_number w c; flight = f.flight; is = f.is; own = ap (λ (z : Undecided). z.txn.id) (sym f.at) }
 answer_ends w (Cancels c t) n = cancel_ends w t (find_leftover t (speaker w c).leftovers)
 answer_ends w (Releases t) n = release_ends w t (due_part (topic_at w t))
 answer_ends w (Takes s) n = take_ends w s _

@@ -22,12 +22,13 @@ use Rattle.trace_audit.proofs.OneList.{one_list}
 use Rattle.trace_audit.specs.Explained.{IsCompleteBy}
 use Rattle.delivery.proofs.Machine.Invariant.{topic_in}
 use Rattle.delivery.proofs.Theorem.AcceptedIsDue.{reached}
-use Rattle.delivery.proofs.Theorem.SpansAsAnswered.{beyond, within}
+use Rattle.delivery.proofs.Theorem.SpansAsAnswered.{within}
 use Rattle.delivery.proofs.Core.Said.{commits_said}
 use Rattle.delivery.proofs.Core.AccountOfRun.{run_of, core_is, account_is}
 use Rattle.delivery.proofs.Core.Counts.{counted}
 use Rattle.delivery.proofs.Core.DeliversOfRun.{delivers}
 use Rattle.delivery.proofs.Traces.Explained.{logged_rows, explained, complete}
+use Rattle.delivery.proofs.Machine.SubscriptionSteps.{beyond}
 
 -- a committed transaction names topics of the run alone
 named_there : (r : Run) (row : CommitRow) (t : Topic) → In row (commits_of (answers_of r)) → names t (topics_of row.txn.sends) ≡ true

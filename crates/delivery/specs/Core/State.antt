@@ -1,6 +1,6 @@
 -- The core: its topics' names, the machine of topics and transactions, and the steps so far, from which all
 -- else of it is read.
-use Rattle.std.specs.Prelude.{ℕ, ◌==◌, Bool, true, false, not, ◌&&◌, List, [], ◌∷◌, Option, Some, None, Ok, Err, if◌then◌else◌}
+use Rattle.std.specs.Prelude.{ℕ, ◌==◌, Bool, true, false, not, ◌&&◌, List, [], ◌∷◌, length, Option, Some, None, Ok, Err, if◌then◌else◌}
 use Rattle.std.specs.Option.{option_to_list, option_map_or}
 use Rattle.stomp_frame.specs.Faults.{fault_of}
 use Rattle.stomp_frame.specs.Reader.{Unread, unread_of, with_piece, ReadsNext}
@@ -104,10 +104,12 @@ next_moves k c reading o =
     (frame_in reading) []
     else [])
 
--- The moves of the machine that an event of the core is, with what was read and what came of it. A Decide
--- whose RECEIPT was left out is also the loss of its connection.
+-- The moves of the machine that an event of the core is, with what was read and what came of it. A connection
+-- that is opened begins a sender. A Decide whose RECEIPT was left out is also the loss of its connection.
 abbrev pub moves : Core → Event → Reading → Outcome → List Move
-moves k Event.Open reading o = if is_no_memory o then [] else Move.Opens ∷ []
+moves k Event.Open reading o =
+    if is_no_memory o then []
+    else Move.Opens ∷ Move.Connects (length k.world.connections) None ∷ []
 moves k (Event.Piece c octets) reading o = []
 moves k (Event.Next c) reading o = next_moves k c reading o
 moves k (Event.Propose c t) reading o = Move.Proposes c t (not (is_out_of_memory o)) ∷ []

@@ -6,7 +6,7 @@ use Rattle.stomp_frame.specs.Writing.{spelling_of}
 use Rattle.mcast_txn.specs.declared.stamp.Stamp.{Stamp}
 use Rattle.delivery.specs.declared.stage.Stage.{Stage}
 use Rattle.delivery.specs.Machine.Objections.{Objection}
-use Rattle.delivery.specs.Inner.View.{View, EndpointView, SenderView, LeftView, no_endpoint, is_undecided}
+use Rattle.delivery.specs.Inner.View.{View, EndpointView, SenderView, LeftView, no_endpoint, number_among, is_undecided}
 use Rattle.delivery.specs.Inner.Subscriptions.{left_at, closed_view}
 
 -- ---- checks
@@ -24,7 +24,7 @@ leaving_objection Stage.Gone busy = Some Objection.Gone
 -- the endpoint has no subscription that isn't closed, and its sender is busy
 abbrev pub waits : List SenderView → EndpointView → Bool
 waits senders endpoint =
-    not (nat_lt 0 (length endpoint.live)) && option_map_or is_busy (slice_get senders endpoint.sender) false
+    not (nat_lt 0 (length endpoint.live)) && option_map_or is_busy (slice_get senders (number_among senders endpoint)) false
 
 -- what stands against the next step of leaving of an endpoint, if there is one
 abbrev pub leave_objection : List SenderView → Option EndpointView → Option Objection

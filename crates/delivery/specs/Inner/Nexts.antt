@@ -28,7 +28,7 @@ use Rattle.delivery.specs.Core.Output.{receipt_asked, says_version}
 use Rattle.delivery.specs.Core.State.{Core, IsReadBy, session_at, unread_at}
 use Rattle.delivery.specs.Core.Outcomes.{frame_fault, is_any, reading_outcomes, wants_memory}
 use Rattle.delivery.specs.Inner.Stands.{IsReached, endpoint_objection}
-use Rattle.delivery.specs.Inner.View.{View, EndpointView, SenderView, view_of, no_endpoint, is_undecided}
+use Rattle.delivery.specs.Inner.View.{View, EndpointView, SenderView, view_of, no_endpoint, number_among, is_undecided}
 
 -- ---- one endpoint
 
@@ -55,7 +55,7 @@ sending_objection senders s = if is_sending (slice_get senders s) then Some Obje
 abbrev pub idle_objection : View → ℕ → Option Objection
 idle_objection v c =
     option_or (endpoint_objection (slice_get v.endpoints c))
-    (sending_objection v.senders (get_or v.endpoints c no_endpoint).sender)
+    (sending_objection v.senders (number_among v.senders (get_or v.endpoints c no_endpoint)))
 
 -- ---- what is read
 

@@ -26,13 +26,13 @@ use Rattle.delivery.specs.declared.sending.Sending.{Sending}
 use Rattle.delivery.specs.declared.stage.Stage.{Stage}
 use Rattle.delivery.specs.Machine.Objections.{Objection, refusal_of}
 use Rattle.delivery.specs.Machine.World.{new_sender}
-use Rattle.delivery.specs.Inner.View.{View, SenderView, EndpointView, sender_view, no_endpoint, leaving_endpoint, group_in, no_group}
+use Rattle.delivery.specs.Inner.View.{View, SenderView, EndpointView, sender_view, no_endpoint, number_among, leaving_endpoint, group_in, no_group}
 
 -- ---- whose transaction it is
 
--- the sender that a connection speaks for
+-- the number of the sender that a connection speaks for; while it speaks for none, that of the next one
 abbrev pub speaker_at : View → ℕ → ℕ
-speaker_at v c = (get_or v.endpoints c no_endpoint).sender
+speaker_at v c = number_among v.senders (get_or v.endpoints c no_endpoint)
 
 -- what stands for a sender that there never was
 abbrev pub no_sender : SenderView

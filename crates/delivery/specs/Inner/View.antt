@@ -2,9 +2,9 @@
 -- its steps). It isn't the core itself: rows of the commit list have no SENDs, an undecided transaction
 -- has lost the parts that were taken out, verdicts are found by sender and seq, and each connection has
 -- its endpoint.
-use Rattle.std.specs.Prelude.{ℕ, ◌+◌, Bool, true, false, List, [], ◌∷◌, ◌++◌, map, length, get_or, Option, Some, None, if◌then◌else◌}
+use Rattle.std.specs.Prelude.{ℕ, Bool, true, false, List, [], ◌∷◌, ◌++◌, map, length, get_or, Option, Some, None, if◌then◌else◌}
 use Rattle.std.specs.List.{find, range_with_len}
-use Rattle.std.specs.Option.{option_map, option_and_then}
+use Rattle.std.specs.Option.{option_map, option_and_then, unwrap_or}
 use Rattle.stomp_frame.specs.declared.raw_frame.RawFrame.{RawFrame}
 use Rattle.stomp_frame.specs.Reader.{Unread, unread_of, with_piece}
 use Rattle.stomp_frame.specs.Receipts.{receipt_of}
@@ -131,9 +131,9 @@ stage_view names Standing.Open flight accepted unread = Stage.Open (record {
 stage_view names Standing.Leaving flight accepted unread = Stage.Leaving (parting_receipt accepted)
 stage_view names Standing.Gone flight accepted unread = Stage.Gone
 
--- a connection's endpoint: its sender, how far it is, its subscriptions and its octets out
+-- a connection's endpoint: its sender, once it has one, how far it is, its subscriptions and its octets out
 pub record EndpointView : Type 0 where
-  pub sender : ℕ
+  pub sender : Option ℕ
   pub stage : Stage
   pub live : List ℕ
   pub output : List ℕ
@@ -150,7 +150,7 @@ endpoint_view names w c accepted unread text = record {
 
 -- what stands for an endpoint that there never was
 abbrev pub no_endpoint : EndpointView
-no_endpoint = record { sender = 0; stage = Stage.Gone; live = []; output = [] }
+no_endpoint = record { sender = None; stage = Stage.Gone; live = []; output = [] }
 
 -- an endpoint that is leaving; with it is the receipt that its DISCONNECT asked for
 abbrev pub leaving_endpoint : Option (List ℕ) → EndpointView → EndpointView
@@ -242,7 +242,7 @@ view_of k = view_after k.names k.world k.steps
 -- the endpoint of a connection that has just been opened, which speaks for this sender
 abbrev pub new_endpoint : List (List ℕ) → ℕ → EndpointView
 new_endpoint names sender = record {
-  sender = sender;
+  sender = Some sender;
   stage = Stage.Open (record {
     reader = unread_of reader_limits;
     session = held_after names [];
@@ -276,6 +276,10 @@ abbrev pub written_endpoint : List ℕ → EndpointView → EndpointView
 written_endpoint text endpoint = record endpoint { output = endpoint.output ++ text }
 
 -- ---- reading
+
+-- the number of an endpoint's sender among these; while it has none, that of the next one
+abbrev pub number_among : List SenderView → EndpointView → ℕ
+number_among senders endpoint = unwrap_or endpoint.sender (length senders)
 
 -- the group of a topic
 abbrev pub group_in : View → Topic → GroupState

@@ -2,7 +2,7 @@
 -- it answers.
 use Rattle.std.specs.Prelude.{ℕ, ◌-◌, ◌+◌, ◌==◌, nat_lt, Bool, not, ◌&&◌, ◌||◌, List, [], ◌∷◌, ◌++◌, map, length, find, slice_get, Option, Some, None, if◌then◌else◌}
 use Rattle.std.specs.List.{list_any, list_all}
-use Rattle.std.specs.Option.{is_some, option_map, option_or}
+use Rattle.std.specs.Option.{is_some, option_map, option_or, unwrap_or}
 use Rattle.mcast_txn.specs.declared.id.Topic.{Topic}
 use Rattle.mcast_txn.specs.declared.id.TxnId.{TxnId}
 use Rattle.mcast_txn.specs.declared.draft.sent_message.SentMessage.{SentMessage}
@@ -21,15 +21,17 @@ use Rattle.mcast_txn.specs.Checks.{first_refusal}
 use Rattle.mcast_txn.specs.Span.{Item}
 use Rattle.mcast_group.specs.Machine.{Entry, Pending, new_topic, last_number, next_number, propose_fault, after_propose, learn_fault, after_learn, cancel_fault, after_cancel, due_part, after_release, after_turn, turn_count, after_subscribe, end_of, after_unsubscribe, decided_stamp}
 use Rattle.delivery.specs.Machine.Objections.{Objection}
-use Rattle.delivery.specs.Machine.World.{World, Undecided, Leftover, Subscription, Standing, is_reading, is_gone, topic_at, new_sender, connection_at, speaker, subscription_at, entry_at, with_topic, with_sender, with_standing, with_subscription}
+use Rattle.delivery.specs.Machine.World.{World, SenderState, Undecided, Leftover, Subscription, Standing, is_reading, is_gone, topic_at, new_sender, connection_at, speaker_number, speaker, is_in_use, subscription_at, entry_at, with_topic, with_sender, with_standing, with_speaker, with_subscription}
 use Rattle.delivery.specs.Machine.Observed.{accepted_at, end_at}
 
 -- what may be asked of the core; a run is a list of these
 pub data Move : Type 0 where
   -- a topic is added, with this opening clock
   AddsTopic : (clock : ℕ) → Move
-  -- a connection is opened; a sender of its own comes with it
+  -- a connection is opened; it speaks for no sender yet
   Opens : Move
+  -- the connection speaks for this sender from now on, or for a new one
+  Connects : (c : ℕ) (claimed : Option ℕ) → Move
   -- a frame that commits these SENDs
   Commits : (c : ℕ) (sends : List SentMessage) → Move
   -- SUBSCRIBE to t; UNSUBSCRIBE of s; DISCONNECT; a frame with a fault, which an ERROR answers
@@ -96,6 +98,13 @@ abbrev pub needs_idle : World → ℕ → List (Bool × Objection)
 needs_idle w c =
     needs_connection w c
     ++ (not (is_reading (connection_at w c).standing) || is_some (speaker w c).flight, Objection.Busy) ∷ []
+
+-- what stands against going on as this sender: there is none, or another connection speaks for it; nothing
+-- against a new one
+abbrev pub claim_tests : World → Option ℕ → List (Bool × Objection)
+claim_tests w None = []
+claim_tests w (Some s) =
+    (not (nat_lt s (length w.senders)), Objection.NoSender) ∷ (is_in_use w s, Objection.InUse) ∷ []
 
 -- there is a topic of this number
 abbrev pub is_topic : World → Topic → Bool
@@ -181,7 +190,7 @@ cancel_objection w t (Some k) = option_map cancel_objection_of (cancel_fault k.i
 -- the transaction that these SENDs make
 abbrev pub next_txn : World → ℕ → List SentMessage → Transaction
 next_txn w c sends = record {
-  id = record { sender = record { 0 = (connection_at w c).sender }; seq = (speaker w c).seq + 1 };
+  id = record { sender = record { 0 = speaker_number w c }; seq = (speaker w c).seq + 1 };
   sends = sends;
 }
 
@@ -189,10 +198,23 @@ next_txn w c sends = record {
 abbrev pub commit_effect : World → ℕ → List SentMessage → World
 commit_effect w c [] = w
 commit_effect w c (first ∷ others) =
-    with_sender w (connection_at w c).sender (record (speaker w c) {
+    with_sender w (speaker_number w c) (record (speaker w c) {
       seq = (speaker w c).seq + 1;
       flight = Some (record { txn = next_txn w c (first ∷ others); given = []; mark = None });
     })
+
+-- the senders, with a new one where none of them is gone on with
+abbrev pub claimed_senders : List SenderState → Option ℕ → List SenderState
+claimed_senders senders None = senders ++ new_sender ∷ []
+claimed_senders senders (Some s) = senders
+
+-- The connection speaks for this sender, which goes on with the seq and the floor that it has, or for a new one.
+-- So where two have begun, a claim of 0 goes on with the first, and one of none begins 2.
+abbrev pub connect_effect : World → ℕ → Option ℕ → World
+connect_effect w c claimed =
+    record (with_speaker w c (unwrap_or claimed (length w.senders))) {
+      senders = claimed_senders w.senders claimed;
+    }
 
 -- a subscription of c to t, after those that there are; its topic gives it the items that it releases from
 -- now on
@@ -243,7 +265,7 @@ next_ticket w c t = record { n = next_number (speaker w c).floor (topic_at w t);
 
 -- the core with this undecided transaction of the connection's sender
 abbrev pub with_undecided : World → ℕ → Undecided → World
-with_undecided w c f = with_sender w (connection_at w c).sender (record (speaker w c) { flight = Some f })
+with_undecided w c f = with_sender w (speaker_number w c) (record (speaker w c) { flight = Some f })
 
 -- the part is pending at t and its ticket is the flight's, or the flight is marked
 abbrev pub propose_effect : World → ℕ → Topic → Option ProposeFault → World
@@ -260,7 +282,7 @@ abbrev pub decide_effect : World → ℕ → World
 decide_effect w c =
     let f = undecided_at w c in
     record
-    (with_sender w (connection_at w c).sender (record (speaker w c) {
+    (with_sender w (speaker_number w c) (record (speaker w c) {
       floor = greatest f.given;
       flight = None;
     })) {
@@ -276,7 +298,7 @@ leftover id ticket = record { id = id; ticket = ticket }
 abbrev pub withdraw_effect : World → ℕ → World
 withdraw_effect w c =
     let f = undecided_at w c in
-    with_leaving (with_sender w (connection_at w c).sender (record (speaker w c) {
+    with_leaving (with_sender w (speaker_number w c) (record (speaker w c) {
       flight = None;
       leftovers = (speaker w c).leftovers ++ map (leftover f.txn.id) f.given;
     })) c
@@ -285,7 +307,7 @@ withdraw_effect w c =
 abbrev pub cancel_effect : World → ℕ → Topic → Option Leftover → World
 cancel_effect w c t None = w
 cancel_effect w c t (Some k) =
-    with_sender (with_topic w t (after_cancel k.id (topic_at w t))) (connection_at w c).sender
+    with_sender (with_topic w t (after_cancel k.id (topic_at w t))) (speaker_number w c)
     (record (speaker w c) { leftovers = drop_leftover t (speaker w c).leftovers })
 
 -- t learns the verdict that was found
@@ -370,14 +392,21 @@ move_row w Opens = record {
   tests = [];
   at_topic = None;
   effect = record w {
-    senders = w.senders ++ new_sender ∷ [];
-    connections = w.connections ++ record { sender = length w.senders; standing = Standing.Open } ∷ [];
+    connections = w.connections ++ record { sender = None; standing = Standing.Open } ∷ [];
   };
   answer = Opened (length w.connections);
 }
+move_row w (Connects c claimed) = record {
+  tests = needs_idle w c
+      ++ (is_some (connection_at w c).sender, Objection.HasSender) ∷ claim_tests w claimed;
+  at_topic = None;
+  effect = connect_effect w c claimed;
+  answer = Done;
+}
 move_row w (Commits c sends) = record {
   tests = needs_idle w c
-      ++ (not (list_all (λ send. is_topic w send.topic) sends), Objection.NotNamed)
+      ++ (not (is_some (connection_at w c).sender), Objection.NoSender)
+      ∷ (not (list_all (λ send. is_topic w send.topic) sends), Objection.NotNamed)
       ∷ (nat_lt 0 (length sends) && not (nat_lt (speaker w c).seq last_number), Objection.SeqFull) ∷ [];
   at_topic = None;
   effect = commit_effect w c sends;

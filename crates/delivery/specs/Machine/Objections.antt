@@ -18,6 +18,11 @@ pub data Objection : Type 0 where
   -- the topic gave a ticket before; a named topic gave none yet
   Twice : Objection
   Incomplete : Objection
+  -- the connection speaks for no sender, or there is no such sender; it speaks for one already; another
+  -- connection speaks for this one
+  NoSender : Objection
+  HasSender : Objection
+  InUse : Objection
   -- the sender has no sequence numbers left
   SeqFull : Objection
   -- the connection: it is open; it isn't there; it is leaving, or its transaction is in flight; that isn't in
@@ -46,6 +51,9 @@ refusal_of Objection.Decided = None
 refusal_of Objection.NoSub = Some refusal.NoSub
 refusal_of Objection.Twice = Some refusal.Twice
 refusal_of Objection.Incomplete = Some refusal.Incomplete
+refusal_of Objection.NoSender = None
+refusal_of Objection.HasSender = None
+refusal_of Objection.InUse = None
 refusal_of Objection.SeqFull = None
 refusal_of Objection.NotLeaving = Some refusal.NotLeaving
 refusal_of Objection.NoConn = Some refusal.NoConn

@@ -1,5 +1,7 @@
 -- What the core holds of topics, senders, connections and subscriptions.
-use Rattle.std.specs.Prelude.{ℕ, ◌+◌, Bool, true, false, List, [], ◌∷◌, get_or, set, Option, None}
+use Rattle.std.specs.Prelude.{ℕ, ◌+◌, ◌==◌, Bool, true, false, not, ◌&&◌, List, [], ◌∷◌, length, get_or, set, Option, Some, None}
+use Rattle.std.specs.List.{list_any}
+use Rattle.std.specs.Option.{option_map_or, unwrap_or}
 use Rattle.mcast_txn.specs.declared.id.Topic.{Topic}
 use Rattle.mcast_txn.specs.declared.id.TxnId.{TxnId}
 use Rattle.mcast_txn.specs.declared.stamp.Stamp.{Stamp}
@@ -47,9 +49,9 @@ is_gone Open = false
 is_gone Leaving = false
 is_gone Gone = true
 
--- a connection, and the sender that it speaks for
+-- a connection, and the sender that it speaks for, once it has one
 pub record Connection : Type 0 where
-  pub sender : ℕ
+  pub sender : Option ℕ
   pub standing : Standing
 
 -- a subscription: whose it is, where its span begins, how many of its items were handed on, and what it
@@ -107,15 +109,29 @@ sender_at w s = get_or w.senders s new_sender
 
 -- what stands for a connection that there never was: it is gone
 abbrev pub nobody : Connection
-nobody = record { sender = 0; standing = Gone }
+nobody = record { sender = None; standing = Gone }
 
 -- the connection of this number; beyond the last, nobody
 abbrev pub connection_at : World → ℕ → Connection
 connection_at w c = get_or w.connections c nobody
 
--- the sender that a connection speaks for
+-- the number of the sender that a connection speaks for; while it speaks for none, that of the next one that
+-- begins
+abbrev pub speaker_number : World → ℕ → ℕ
+speaker_number w c = unwrap_or (connection_at w c).sender (length w.senders)
+
+-- the sender that a connection speaks for; while it speaks for none, a new one
 abbrev pub speaker : World → ℕ → SenderState
-speaker w c = sender_at w (connection_at w c).sender
+speaker w c = sender_at w (speaker_number w c)
+
+-- the connection speaks for this sender, and isn't gone
+abbrev pub speaks_for : ℕ → Connection → Bool
+speaks_for s x = not (is_gone x.standing) && option_map_or (λ n. n == s) x.sender false
+
+-- The sender is in use: a connection that isn't gone speaks for it. So the sender of a connection that was lost
+-- is in use while that connection is leaving.
+abbrev pub is_in_use : World → ℕ → Bool
+is_in_use w s = list_any (speaks_for s) w.connections
 
 -- what stands for a subscription that there never was
 abbrev pub no_subscription : Subscription
@@ -144,6 +160,12 @@ with_sender w s x = record w { senders = set w.senders s x }
 abbrev pub with_standing : World → ℕ → Standing → World
 with_standing w c standing = record w {
   connections = set w.connections c (record { sender = (connection_at w c).sender; standing = standing });
+}
+
+-- the core where this connection speaks for this sender
+abbrev pub with_speaker : World → ℕ → ℕ → World
+with_speaker w c s = record w {
+  connections = set w.connections c (record { sender = Some s; standing = (connection_at w c).standing });
 }
 
 -- the core with this subscription in its place

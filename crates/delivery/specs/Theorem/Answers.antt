@@ -1,6 +1,6 @@
 -- What each event is answered: for each outcome, which event it answers, and of which connection, topic,
 -- subscription and transaction it speaks.
-use Rattle.std.specs.Prelude.{◌≡◌, ℕ, ◌<◌, ◌+◌, Bool, true, false, Some, None, ◌⊎◌, [], length, slice_get}
+use Rattle.std.specs.Prelude.{◌≡◌, ℕ, ◌<◌, ◌+◌, Bool, true, false, Option, Some, None, ◌⊎◌, [], length, slice_get}
 use Rattle.std.specs.Option.{is_some}
 use Rattle.mcast_txn.specs.declared.id.Topic.{Topic}
 use Rattle.mcast_txn.specs.Stamp.{greatest}
@@ -12,7 +12,7 @@ use Rattle.mcast_group.specs.Machine.{Pending, propose_fault, due_part}
 use Rattle.delivery.specs.Machine.World.{World, Leftover, topic_at, connection_at, speaker, subscription_at}
 use Rattle.delivery.specs.Machine.Observed.{accepted_at, end_at}
 use Rattle.delivery.specs.Machine.Moves.{Move, Answer, answer_to, undecided_at, is_live}
-use Rattle.delivery.specs.Machine.Moves.Move.{AddsTopic, Opens, Commits, Subscribes, Unsubscribes, Disconnects, Errs, Lost}
+use Rattle.delivery.specs.Machine.Moves.Move.{AddsTopic, Opens, Connects, Commits, Subscribes, Unsubscribes, Disconnects, Errs, Lost}
 use Rattle.delivery.specs.Machine.Moves.Move.{Leaves, Proposes, Decides, Withdraws, Cancels, Learns, Releases, Turns, Takes}
 use Rattle.delivery.specs.Machine.Moves.Answer.{Refused, Done, Opened, Begun, Subscribed, Unsubscribed, Leaving, Error, Gone}
 use Rattle.delivery.specs.Machine.Moves.Answer.{Ticket, Failed, Decided, Withdrawn, Cancelled, Learnt, Released, Turned, Handed}
@@ -40,10 +40,12 @@ IsFailure w c t memory why =
 -- when, is the table `checks`.
 abbrev pub IsAnswer : World → Move → Answer → Type 0
 IsAnswer w e (Refused why) = Unit {0}
-IsAnswer w e Done = ((clock : ℕ) × (e ≡ AddsTopic clock)) ⊎ ((c : ℕ) × (e ≡ Commits c []))
+IsAnswer w e Done =
+    ((clock : ℕ) × (e ≡ AddsTopic clock))
+    ⊎ (((c : ℕ) × (claimed : Option ℕ) × (e ≡ Connects c claimed)) ⊎ ((c : ℕ) × (e ≡ Commits c [])))
 IsAnswer w e (Opened c) = (e ≡ Opens) × (c ≡ length w.connections)
 IsAnswer w e (Begun txn) =
-    (c : ℕ) × (e ≡ Commits c txn.sends) × (txn.id.sender.0 ≡ (connection_at w c).sender)
+    (c : ℕ) × (e ≡ Commits c txn.sends) × ((connection_at w c).sender ≡ Some txn.id.sender.0)
     × (txn.id.seq ≡ (speaker w c).seq + 1)
 IsAnswer w e (Subscribed s c t from) =
     (e ≡ Subscribes c t) × (s ≡ length w.subscriptions) × (from ≡ (topic_at w t).frontier)

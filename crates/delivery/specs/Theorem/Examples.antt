@@ -1,4 +1,4 @@
--- Worked examples: five runs, and what each of them comes to. Each equation holds by computation alone.
+-- Worked examples: six runs, and what each of them comes to. Each equation holds by computation alone.
 use Rattle.std.specs.Prelude.{◌≡◌, ℕ, true, List, [], ◌∷◌, map, reverse, Option, Some, None}
 use Rattle.mcast_txn.specs.declared.id.Topic.{Topic}
 use Rattle.mcast_txn.specs.declared.id.TxnId.{TxnId}
@@ -15,7 +15,7 @@ use Rattle.delivery.specs.Machine.Objections.{Objection}
 use Rattle.delivery.specs.Machine.World.{subscription_at}
 use Rattle.delivery.specs.Machine.Observed.{log_at, accepted_at, span_at}
 use Rattle.delivery.specs.Machine.Moves.{Move, Answer}
-use Rattle.delivery.specs.Machine.Moves.Move.{AddsTopic, Opens, Commits, Subscribes, Unsubscribes, Disconnects}
+use Rattle.delivery.specs.Machine.Moves.Move.{AddsTopic, Opens, Connects, Commits, Subscribes, Unsubscribes, Disconnects}
 use Rattle.delivery.specs.Machine.Moves.Move.{Errs, Lost, Leaves, Proposes, Decides, Withdraws, Cancels, Learns}
 use Rattle.delivery.specs.Machine.Moves.Move.{Releases, Turns, Takes}
 use Rattle.delivery.specs.Machine.Moves.Answer.{Refused, Done, Opened, Begun, Subscribed, Unsubscribed, Leaving}
@@ -96,7 +96,7 @@ to_b_and_c = send 1 2 ∷ send 2 2 ∷ []
 -- then transaction 2 to B and C. The floor lifts both tickets of transaction 2 above (10, A): it is second.
 abbrev pub crossing : Run
 crossing = run_of (9 ∷ 0 ∷ 0 ∷ []) (
-    Opens ∷ Subscribes 0 (topic 1)
+    Opens ∷ Connects 0 None ∷ Subscribes 0 (topic 1)
     ∷ Commits 0 to_a_and_b ∷ Proposes 0 (topic 0) true ∷ Proposes 0 (topic 1) true ∷ Decides 0
     ∷ Commits 0 to_b_and_c ∷ Proposes 0 (topic 1) true ∷ Proposes 0 (topic 2) true ∷ Decides 0
     ∷ Turns (topic 1) ∷ Takes 0 ∷ Takes 0 ∷ Takes 0
@@ -113,7 +113,7 @@ crossing_at_b = item (id 0 1) (stamp 10 0) (part 1 1 ∷ []) ∷ item (id 0 2) (
 -- transaction is withdrawn and cancelled at B, which keeps its clock: connection 3 gets the ticket 3 there.
 abbrev pub withdrawal : Run
 withdrawal = run_of (18446744073709551614 ∷ 0 ∷ []) (
-    Opens ∷ Opens ∷ Opens ∷ Opens ∷ Subscribes 3 (topic 1)
+    Opens ∷ Connects 0 None ∷ Opens ∷ Connects 1 None ∷ Opens ∷ Connects 2 None ∷ Opens ∷ Connects 3 None ∷ Subscribes 3 (topic 1)
     ∷ Commits 0 (send 0 1 ∷ []) ∷ Proposes 0 (topic 0) true ∷ Decides 0 ∷ Turns (topic 0)
     ∷ Commits 2 to_a_and_b ∷ Proposes 2 (topic 1) true
     ∷ Commits 1 (send 1 2 ∷ []) ∷ Proposes 1 (topic 1) true ∷ Decides 1 ∷ Turns (topic 1)
@@ -137,7 +137,7 @@ to_a_b_and_a = send 0 1 ∷ send 1 2 ∷ send 0 3 ∷ []
 -- connection 1 gets its whole part at A.
 abbrev pub loss : Run
 loss = run_of (0 ∷ 0 ∷ []) (
-    Opens ∷ Opens ∷ Subscribes 0 (topic 0) ∷ Subscribes 1 (topic 0)
+    Opens ∷ Connects 0 None ∷ Opens ∷ Connects 1 None ∷ Subscribes 0 (topic 0) ∷ Subscribes 1 (topic 0)
     ∷ Commits 0 to_a_b_and_a ∷ Proposes 0 (topic 0) true
     ∷ Lost 0 ∷ Commits 0 to_a_b_and_a ∷ Takes 0 ∷ Leaves 0 ∷ Leaves 0
     ∷ Proposes 0 (topic 1) true ∷ Decides 0
@@ -154,7 +154,7 @@ loss_at_a = item (id 0 1) (stamp 1 1) (part 0 1 ∷ part 2 3 ∷ []) ∷ []
 -- its queue has accepted. The item is never delivered, and lies in the span, which ends with the frontier.
 abbrev pub disconnect : Run
 disconnect = run_of (0 ∷ []) (
-    AddsTopic 4 ∷ Opens ∷ Opens ∷ Subscribes 0 (topic 1)
+    AddsTopic 4 ∷ Opens ∷ Connects 0 None ∷ Opens ∷ Connects 1 None ∷ Subscribes 0 (topic 1)
     ∷ Commits 1 (send 1 1 ∷ []) ∷ Proposes 1 (topic 1) true ∷ Decides 1 ∷ Turns (topic 1)
     ∷ Disconnects 0 ∷ Takes 0 ∷ Leaves 0 ∷ Leaves 0 ∷ Leaves 0 ∷ [])
 
@@ -187,11 +187,33 @@ lag = record {
   capacity = 2;
   log_limit = 65536;
   clocks = 0 ∷ [];
-  events = Opens ∷ Opens ∷ Opens ∷ Subscribes 1 (topic 0) ∷ Subscribes 2 (topic 0)
+  events = Opens ∷ Connects 0 None ∷ Opens ∷ Connects 1 None ∷ Opens ∷ Connects 2 None ∷ Subscribes 1 (topic 0) ∷ Subscribes 2 (topic 0)
       ∷ one_send 1 (one_send 2 (Takes 1 ∷ one_send 3 (
       Takes 0 ∷ Takes 0 ∷ Takes 0 ∷ Takes 0 ∷ Leaves 1
       ∷ Takes 1 ∷ Takes 1 ∷ Unsubscribes 2 1 ∷ Errs 2 ∷ [])));
 }
+
+-- ---- lasting
+
+-- topics A at clock 9, and B. Connection 0 begins a sender, commits to A and B, and is lost. No other connection
+-- can go on as that sender before it is gone; connection 1 begins one of its own, and subscribes to B. Connection
+-- 2 goes on as the first sender. Both send to B: connection 1's transaction has no floor and is the first of all;
+-- connection 2's has the sender's next seq, and the floor (10, A) lifts its ticket above it.
+abbrev pub lasting : Run
+lasting = run_of (9 ∷ 0 ∷ []) (
+    Opens ∷ Commits 0 to_a_and_b ∷ Connects 0 (Some 0) ∷ Connects 0 None ∷ Connects 0 None
+    ∷ Commits 0 to_a_and_b ∷ Proposes 0 (topic 0) true ∷ Lost 0
+    ∷ Opens ∷ Connects 1 (Some 0) ∷ Leaves 0
+    ∷ Proposes 0 (topic 1) true ∷ Decides 0 ∷ Connects 1 (Some 0) ∷ Leaves 0
+    ∷ Connects 1 None ∷ Subscribes 1 (topic 1) ∷ Opens ∷ Connects 2 (Some 0)
+    ∷ Commits 2 (send 1 2 ∷ []) ∷ Commits 1 (send 1 3 ∷ [])
+    ∷ Proposes 1 (topic 1) true ∷ Decides 1 ∷ Proposes 2 (topic 1) true ∷ Decides 2
+    ∷ Turns (topic 1) ∷ Takes 0 ∷ Takes 0 ∷ Takes 0 ∷ Takes 0 ∷ [])
+
+-- the parts at B, the first sender's in its order
+abbrev pub lasting_at_b : List Item
+lasting_at_b = item (id 1 1) (stamp 2 1) (part 0 3 ∷ []) ∷ item (id 0 1) (stamp 10 0) (part 1 1 ∷ [])
+    ∷ item (id 0 2) (stamp 11 1) (part 0 2 ∷ []) ∷ []
 
 -- ---- what they come to
 
@@ -200,7 +222,7 @@ lag = record {
 pub record WorkedRows : Type 0 where
   -- B has (10, A) and then (11, C), each once, and both are delivered; A and C have one each
   pub crossing_answers : answers_in_order crossing
-      ≡ Opened 0 ∷ Subscribed 0 0 (topic 1) zero_stamp
+      ≡ Opened 0 ∷ Done ∷ Subscribed 0 0 (topic 1) zero_stamp
       ∷ Begun (transaction (id 0 1) to_a_and_b)
       ∷ Ticket (id 0 1) (stamp 10 0) ∷ Ticket (id 0 1) (stamp 1 1) ∷ Decided (id 0 1) (stamp 10 0)
       ∷ Begun (transaction (id 0 2) to_b_and_c)
@@ -215,7 +237,7 @@ pub record WorkedRows : Type 0 where
   pub crossing_delivered : delivered_items 0 (answers_of crossing) ≡ crossing_at_b
   -- the refused transaction has no row and no item; its sender keeps its floor
   pub withdrawal_answers : answers_in_order withdrawal
-      ≡ Opened 0 ∷ Opened 1 ∷ Opened 2 ∷ Opened 3 ∷ Subscribed 0 3 (topic 1) zero_stamp
+      ≡ Opened 0 ∷ Done ∷ Opened 1 ∷ Done ∷ Opened 2 ∷ Done ∷ Opened 3 ∷ Done ∷ Subscribed 0 3 (topic 1) zero_stamp
       ∷ Begun (transaction (id 0 1) (send 0 1 ∷ [])) ∷ Ticket (id 0 1) (stamp 18446744073709551615 0)
       ∷ Decided (id 0 1) (stamp 18446744073709551615 0) ∷ Turned (topic 0) 1
       ∷ Begun (transaction (id 2 1) to_a_and_b) ∷ Ticket (id 2 1) (stamp 1 1)
@@ -238,7 +260,7 @@ pub record WorkedRows : Type 0 where
   pub withdrawal_delivered : delivered_items 0 (answers_of withdrawal) ≡ withdrawal_at_b
   -- the span of the lost connection ends where it began; the other has the part of two SENDs as one item
   pub loss_answers : answers_in_order loss
-      ≡ Opened 0 ∷ Opened 1 ∷ Subscribed 0 0 (topic 0) zero_stamp ∷ Subscribed 1 1 (topic 0) zero_stamp
+      ≡ Opened 0 ∷ Done ∷ Opened 1 ∷ Done ∷ Subscribed 0 0 (topic 0) zero_stamp ∷ Subscribed 1 1 (topic 0) zero_stamp
       ∷ Begun (transaction (id 0 1) to_a_b_and_a) ∷ Ticket (id 0 1) (stamp 1 0)
       ∷ Leaving 0 ∷ Refused Objection.Busy ∷ Refused Objection.Gone ∷ Unsubscribed 0 zero_stamp
       ∷ Refused Objection.Busy
@@ -255,7 +277,7 @@ pub record WorkedRows : Type 0 where
   pub loss_left : left loss 0 ≡ Some (record { to = zero_stamp; accepted = []; cause = Asked })
   -- the item is accepted, the span ends with its stamp, and nothing was delivered
   pub disconnect_answers : answers_in_order disconnect
-      ≡ Done ∷ Opened 0 ∷ Opened 1 ∷ Subscribed 0 0 (topic 1) zero_stamp
+      ≡ Done ∷ Opened 0 ∷ Done ∷ Opened 1 ∷ Done ∷ Subscribed 0 0 (topic 1) zero_stamp
       ∷ Begun (transaction (id 1 1) (send 1 1 ∷ [])) ∷ Ticket (id 1 1) (stamp 5 1)
       ∷ Decided (id 1 1) (stamp 5 1) ∷ Turned (topic 1) 1
       ∷ Leaving 0 ∷ Refused Objection.Gone ∷ Unsubscribed 0 (stamp 5 1) ∷ Gone 0 ∷ Refused Objection.Gone ∷ []
@@ -267,7 +289,7 @@ pub record WorkedRows : Type 0 where
       ≡ Some (record { to = stamp 5 1; accepted = disconnect_at_b; cause = Asked })
   -- the full queue ends before the third item, and an ERROR follows its two; the log and the other have three
   pub lag_answers : answers_in_order lag
-      ≡ Opened 0 ∷ Opened 1 ∷ Opened 2
+      ≡ Opened 0 ∷ Done ∷ Opened 1 ∷ Done ∷ Opened 2 ∷ Done
       ∷ Subscribed 0 1 (topic 0) zero_stamp ∷ Subscribed 1 2 (topic 0) zero_stamp
       ∷ one_sent 1 (one_sent 2 (Handed 1 (one_item 1) ∷ one_sent 3 (
       Handed 0 (one_item 1) ∷ Handed 0 (one_item 2) ∷ Error 1 ∷ Refused Objection.Gone
@@ -284,3 +306,21 @@ pub record WorkedRows : Type 0 where
       ≡ Some (record { to = stamp 2 0; accepted = one_item 1 ∷ one_item 2 ∷ []; cause = Lag })
   pub asked_left : left lag 1
       ≡ Some (record { to = stamp 3 0; accepted = one_item 1 ∷ one_item 2 ∷ one_item 3 ∷ []; cause = Asked })
+  -- a connection needs a sender, has one at most, and gets none that is in use; the second transaction of the
+  -- sender that lasts is above its floor, and delivered after its first
+  pub lasting_answers : answers_in_order lasting
+      ≡ Opened 0 ∷ Refused Objection.NoSender ∷ Refused Objection.NoSender ∷ Done ∷ Refused Objection.HasSender
+      ∷ Begun (transaction (id 0 1) to_a_and_b) ∷ Ticket (id 0 1) (stamp 10 0) ∷ Leaving 0
+      ∷ Opened 1 ∷ Refused Objection.InUse ∷ Refused Objection.Busy
+      ∷ Ticket (id 0 1) (stamp 1 1) ∷ Decided (id 0 1) (stamp 10 0) ∷ Refused Objection.InUse ∷ Gone 0
+      ∷ Done ∷ Subscribed 0 1 (topic 1) zero_stamp ∷ Opened 2 ∷ Done
+      ∷ Begun (transaction (id 0 2) (send 1 2 ∷ [])) ∷ Begun (transaction (id 1 1) (send 1 3 ∷ []))
+      ∷ Ticket (id 1 1) (stamp 2 1) ∷ Decided (id 1 1) (stamp 2 1)
+      ∷ Ticket (id 0 2) (stamp 11 1) ∷ Decided (id 0 2) (stamp 11 1)
+      ∷ Turned (topic 1) 3 ∷ Handed 0 (item (id 1 1) (stamp 2 1) (part 0 3 ∷ []))
+      ∷ Handed 0 (item (id 0 1) (stamp 10 0) (part 1 1 ∷ []))
+      ∷ Handed 0 (item (id 0 2) (stamp 11 1) (part 0 2 ∷ [])) ∷ Refused Objection.NothingDue ∷ []
+  pub lasting_log : log_stamps lasting 1 ≡ stamp 2 1 ∷ stamp 10 0 ∷ stamp 11 1 ∷ []
+  pub lasting_floors : floors lasting ≡ stamp 11 1 ∷ stamp 2 1 ∷ []
+  pub lasting_queue : queue lasting 0 ≡ lasting_at_b
+  pub lasting_delivered : delivered_items 0 (answers_of lasting) ≡ lasting_at_b

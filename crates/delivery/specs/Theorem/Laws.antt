@@ -25,7 +25,7 @@ use Rattle.delivery.specs.Theorem.Due.{log_row, due}
 use Rattle.delivery.specs.Machine.World.{World, start, topic_at, speaker, subscription_at}
 use Rattle.delivery.specs.Machine.Observed.{accepted_at, span_at, log_at, frontier_at}
 use Rattle.delivery.specs.Machine.Moves.{Move, Answer, world_after, answer_to, move_refusal, undecided_at, verdict_in, oldest_live}
-use Rattle.delivery.specs.Machine.Moves.Move.{Commits, Subscribes, Unsubscribes, Leaves, Proposes, Cancels, Learns, Releases, Turns}
+use Rattle.delivery.specs.Machine.Moves.Move.{Connects, Commits, Subscribes, Unsubscribes, Leaves, Proposes, Cancels, Learns, Releases, Turns}
 use Rattle.delivery.specs.Machine.Moves.Answer.{Refused, Ticket, Failed, Decided, Withdrawn, Released, Turned}
 use Rattle.delivery.specs.Machine.Runs.{run, answers_from, commits_of, tickets_of, delivered_items, Numbered}
 use Rattle.delivery.specs.Machine.Runs.{released_at}
@@ -214,13 +214,23 @@ is_odd why = false
 abbrev pub OddNeverComes : Type 0
 OddNeverComes = (r : Run) (why : Objection) → In (Refused why) (answers_of r) → is_odd why ≡ false
 
--- The core reports what refuses a move. The one exception is a frame that would make a transaction whose
--- sender has no sequence number left: the core answers that frame by an ERROR, and makes no move of it.
+-- it stands against speaking for a sender
+abbrev pub is_of_claim : Objection → Bool
+is_of_claim Objection.NoSender = true
+is_of_claim Objection.HasSender = true
+is_of_claim Objection.InUse = true
+is_of_claim why = false
+
+-- The core reports what refuses a move, with two exceptions: a frame that would make a transaction whose sender has
+-- no sequence number left, or whose connection speaks for no sender; and one that would have a connection speak
+-- for a sender. The core answers such a frame by an ERROR, and makes no move of it.
 abbrev pub RefusalsAreReported : Type 0
 RefusalsAreReported =
     (r : Run) (e : Move) (why : Objection) → answer_to (final_world r) e ≡ Refused why
     → (is_reported why ≡ true)
-    ⊎ ((why ≡ Objection.SeqFull) × (c : ℕ) × (sends : List SentMessage) × (e ≡ Commits c sends))
+    ⊎ ((((why ≡ Objection.SeqFull) ⊎ (why ≡ Objection.NoSender))
+    × (c : ℕ) × (sends : List SentMessage) × (e ≡ Commits c sends))
+    ⊎ ((is_of_claim why ≡ true) × (c : ℕ) × (claimed : Option ℕ) × (e ≡ Connects c claimed)))
 
 -- nor do they within a turn: what is found for a transaction is learnt wherever it is pending
 abbrev pub FoundIsLearnt : Type 0

@@ -1,16 +1,17 @@
--- What a run's outcomes and spans tell: whose a transaction is, where a span begins and ends, and how much
--- a queue holds.
-use Rattle.std.specs.Prelude.{◌≡◌, ℕ, ◌<◌, ◌≤◌, ◌+◌, Some, None, ◌⊎◌, List, length}
+-- What a run's outcomes and spans tell: whose a transaction is, whom a connection speaks for, where a span
+-- begins and ends, and how much a queue holds.
+use Rattle.std.specs.Prelude.{◌≡◌, ℕ, ◌<◌, ◌≤◌, ◌+◌, true, false, Option, Some, None, ◌⊎◌, List, [], length}
+use Rattle.std.specs.Option.{unwrap_or}
 use Rattle.mcast_txn.specs.declared.id.Topic.{Topic}
 use Rattle.mcast_txn.specs.declared.draft.sent_message.SentMessage.{SentMessage}
 use Rattle.mcast_txn.specs.declared.stamp.Stamp.{Stamp}
 use Rattle.mcast_txn.specs.Agreed.{Transaction}
 use Rattle.mcast_txn.specs.Lists.{In}
-use Rattle.delivery.specs.Machine.World.{World, connection_at, subscription_at}
+use Rattle.delivery.specs.Machine.World.{World, sender_at, connection_at, speaker, speaks_for, is_in_use, subscription_at}
 use Rattle.delivery.specs.Machine.Observed.{accepted_at, end_at, span_at, frontier_at}
 use Rattle.delivery.specs.Machine.Moves.{Move, world_after, answer_to}
-use Rattle.delivery.specs.Machine.Moves.Move.{Commits, Releases, Turns}
-use Rattle.delivery.specs.Machine.Moves.Answer.{Begun, Subscribed, Unsubscribed}
+use Rattle.delivery.specs.Machine.Moves.Move.{Connects, Commits, Releases, Turns}
+use Rattle.delivery.specs.Machine.Moves.Answer.{Done, Begun, Subscribed, Unsubscribed}
 use Rattle.delivery.specs.Machine.Runs.{delivered_items}
 use Rattle.delivery.specs.Theorem.Laws.{Run, answers_of, final_world}
 
@@ -19,12 +20,34 @@ abbrev pub BegunIsOwn : Type 0
 BegunIsOwn =
     (w : World) (e : Move) (txn : Transaction) → answer_to w e ≡ Begun txn
     → (c : ℕ) × (sends : List SentMessage) × (e ≡ Commits c sends) × (txn.sends ≡ sends)
-    × (txn.id.sender.0 ≡ (connection_at w c).sender)
+    × ((connection_at w c).sender ≡ Some txn.id.sender.0)
 
--- each connection speaks for a sender of its own
-abbrev pub SenderIsOwn : Type 0
-SenderIsOwn = (r : Run) (c : ℕ) → c < length (final_world r).connections
-    → (connection_at (final_world r) c).sender ≡ c
+-- No two connections that aren't gone speak for one sender, and whom one speaks for is there.
+abbrev pub SendersAreOwn : Type 0
+SendersAreOwn =
+    (r : Run) (c d s : ℕ) → speaks_for s (connection_at (final_world r) c) ≡ true
+    → speaks_for s (connection_at (final_world r) d) ≡ true → (c ≡ d) × (s < length (final_world r).senders)
+
+-- A sender that isn't in use has no undecided transaction, and nothing to cancel: who goes on as it begins where
+-- the last one ended.
+abbrev pub RestingAreIdle : Type 0
+RestingAreIdle =
+    (r : Run) (s : ℕ) → is_in_use (final_world r) s ≡ false
+    → ((sender_at (final_world r) s).flight ≡ None) × ((sender_at (final_world r) s).leftovers ≡ [])
+
+-- Who goes on as a sender has its seq and its floor as they were, and all else of it; who begins one has the next
+-- number and a new sender.
+abbrev pub ClaimsGoOn : Type 0
+ClaimsGoOn =
+    (w : World) (c : ℕ) (claimed : Option ℕ) → answer_to w (Connects c claimed) ≡ Done
+    → let s = unwrap_or claimed (length w.senders) in let v = world_after w (Connects c claimed) in
+    ((connection_at v c).sender ≡ Some s) × (speaker v c ≡ sender_at w s)
+
+-- whom a connection speaks for it speaks for until the end
+abbrev pub SendersStay : Type 0
+SendersStay =
+    (w : World) (e : Move) (c s : ℕ) → (connection_at w c).sender ≡ Some s
+    → (connection_at (world_after w e) c).sender ≡ Some s
 
 -- a subscription's span has the topic and the beginning that SUBSCRIBE was answered
 abbrev pub SpansBeginAsAnswered : Type 0

@@ -51,7 +51,7 @@ impl NetState {
         ensures { IsChecked result (idle_objection self.now connection) }
     {
         self.check_open(connection)?;
-        if self.is_sending(self.endpoints[connection as usize].sender) {
+        if self.is_sending(self.number_of(&self.endpoints[connection as usize])) {
             return Err(Refusal::Busy);
         }
         Ok(())

@@ -37,7 +37,8 @@ impl NetState {
         };
         match endpoint.stage {
             Stage::Open(_) => Err(Refusal::NotLeaving),
-            Stage::Leaving(_) if endpoint.live.is_empty() && self.is_busy(endpoint.sender) => {
+            Stage::Leaving(_)
+                if endpoint.live.is_empty() && self.is_busy(self.number_of(endpoint)) => {
                 Err(Refusal::Busy)
             }
             Stage::Leaving(_) => Ok(()),

@@ -29,7 +29,7 @@ impl NetState {
         ensures ok { OnOk result (self.new ≡ launched_view txn connection self.old) }
         ensures err { OnErr result (self.new ≡ self.old) }
     {
-        let index = self.endpoints[connection as usize].sender as usize;
+        let index = self.number_of(&self.endpoints[connection as usize]) as usize;
         if index >= self.senders.len() {
             return Err(NotStarted::NotThere);
         }

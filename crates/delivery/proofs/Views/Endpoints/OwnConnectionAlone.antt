@@ -5,7 +5,6 @@ use Rattle.std.specs.Prelude.{slice_get}
 use Rattle.std.specs.List.{flat_map}
 use Rattle.std.specs.Option.{option_map_or, option_to_list}
 use Rattle.std.proofs.lemmas.List.{get_or-set_other}
-use Rattle.stomp_frame.specs.declared.command.Command.TheVariants as commands
 use Rattle.stomp_frame.specs.declared.raw_frame.RawFrame.{RawFrame}
 use Rattle.stomp_frame.specs.Reader.{Unread, with_piece}
 use Rattle.stomp_frame.specs.Writing.{spelling_of}
@@ -25,7 +24,7 @@ use Rattle.delivery.specs.declared.outcome.Outcome.{Outcome}
 use Rattle.delivery.specs.Machine.World.{World, Connection, Leftover, Standing, nobody, connection_at, subscription_at, speaker, entry_at}
 use Rattle.delivery.specs.Machine.Observed.{accepted_at}
 use Rattle.delivery.specs.Machine.Moves.{Move, Answer, world_after, move_effect, find_leftover, find_verdict, oldest_live, commit_effect, proposal_fault, propose_effect, cancel_effect, learn_effect, take_effect, leave_effect, close_effect_of}
-use Rattle.delivery.specs.Machine.Moves.Move.{AddsTopic, Opens, Commits, Subscribes, Unsubscribes, Disconnects, Errs, Lost, Leaves, Proposes, Decides, Withdraws, Cancels, Learns, Releases, Turns, Takes}
+use Rattle.delivery.specs.Machine.Moves.Move.{Opens, Connects, Commits, Subscribes, Unsubscribes, Disconnects, Errs, Lost, Leaves, Proposes, Decides, Withdraws, Cancels, Learns, Releases, Turns, Takes}
 use Rattle.delivery.specs.Machine.Runs.{run}
 use Rattle.delivery.specs.Core.Account.{account_of, beginning_of}
 use Rattle.delivery.specs.Core.Connections.{event_connection, OpenAreLive, UnsubscribesFind, OtherConnectionsStay}
@@ -46,6 +45,7 @@ use Rattle.delivery.proofs.Views.Endpoints.NothingBeforeOpen.{owned}
 -- a move of another connection than c
 abbrev Apart : World → Move → ℕ → Type 0
 Apart w Opens c = length w.connections ≢ c
+Apart w (Connects d claimed) c = d ≢ c
 Apart w (Disconnects d) c = d ≢ c
 Apart w (Errs d) c = d ≢ c
 Apart w (Lost d) c = d ≢ c
@@ -101,7 +101,8 @@ leaving : (w : World) (d c : ℕ) → d ≢ c → Stays w (record w { connection
 leaving w d c n = shut w c d (record { sender = (connection_at w d).sender; standing = Standing.Leaving }) n
 
 effect_stays : (w : World) (mv : Move) (c : ℕ) → Apart w mv c → Stays w (move_effect w mv) c
-effect_stays w Opens c n = pushed w.connections (record { sender = length w.senders; standing = Standing.Open }) c n
+effect_stays w Opens c n = pushed w.connections (record { sender = None; standing = Standing.Open }) c n
+effect_stays w (Connects d claimed) c n = shut w c d _ n
 effect_stays w (Commits d sends) c n = committed w d sends c
 effect_stays w (Unsubscribes d s) c n = closed w s (entry_at w s) c
 effect_stays w (Disconnects d) c n = leaving w d c n
@@ -147,9 +148,12 @@ standing_stays : (k : Core) (e : Event) (rd : Reading) (o : Outcome) (c : ℕ) �
     → Stays k.world (run (moves k e rd o) k.world) c
 standing_stays k Event.Open rd o c n = by_memory (is_no_memory o)
   where
-    by_memory : (b : Bool) → Stays k.world (run (cond b [] (Opens ∷ [])) k.world) c
+    m : ℕ
+    m = length k.world.connections
+
+    by_memory : (b : Bool) → Stays k.world (run (cond b [] (Opens ∷ Connects m None ∷ [])) k.world) c
     by_memory true = refl
-    by_memory false = move_stays k.world Opens c (unlike _ c n)
+    by_memory false = move_stays (world_after k.world Opens) (Connects m None) c (unlike m c n) ∙ move_stays k.world Opens c (unlike m c n)
 standing_stays k (Event.Piece d octets) rd o c n = refl
 standing_stays k (Event.Next d) rd o c n = next_stays k d rd o c (unlike d c n)
 standing_stays k (Event.Propose d t) rd o c n = move_stays k.world (Proposes d t (not (is_out_of_memory o))) c tt

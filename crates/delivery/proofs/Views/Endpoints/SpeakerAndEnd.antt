@@ -7,17 +7,12 @@ use Rattle.delivery.specs.Core.Output.{has_closed}
 use Rattle.delivery.specs.Core.State.{Core}
 use Rattle.delivery.specs.Inner.Stands.{IsReached}
 use Rattle.delivery.proofs.Core.Said.{has_closed_said}
-use Rattle.delivery.proofs.Core.AccountOfRun.{spoken}
-use Rattle.delivery.proofs.Views.Runs.ByRunOfCore.{by_world, by_account}
+use Rattle.delivery.proofs.Views.Runs.ByRunOfCore.{by_account, claimed_of}
 use Rattle.delivery.proofs.Views.Endpoints.StandingOfConnection.{closed_where_shut}
-
--- a connection speaks for the sender of its number
-pub own_sender : (k : Core) (c : ℕ) → IsReached k → c < length k.world.connections → (connection_at k.world c).sender ≡ c
-own_sender k c reached = by_world (λ w. c < length w.connections → (connection_at w c).sender ≡ c) k reached (λ r. (spoken r).speaks.own c)
 
 -- there are as many senders as connections
 pub as_many : (k : Core) → IsReached k → length k.world.senders ≡ length k.world.connections
-as_many k reached = by_world (λ w. length w.senders ≡ length w.connections) k reached (λ r. (spoken r).speaks.same)
+as_many k reached = (claimed_of k reached).same
 
 -- the account says that a connection was closed where it isn't open
 pub closed_is : (k : Core) (c : ℕ) → IsReached k → c < length k.world.connections

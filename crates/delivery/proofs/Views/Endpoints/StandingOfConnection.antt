@@ -1,6 +1,6 @@
 -- How each move changes the connections: one more is open, one isn't open any more, or none is changed. So a
 -- connection is closed where its standing says so, and never opens again.
-use Rattle.std.proofs.Common.{◌≡◌, ◌≢◌, ℕ, ◌<◌, ◌≤◌, ◌==◌, Bool, true, false, not, ◌||◌, ◌⊎◌, inl, inr, List, [], ◌∷◌, ◌++◌, length, set, Option, Some, None, refl, sym, ap, subst, ◌∙◌, arith}
+use Rattle.std.proofs.Common.{◌≡◌, ◌≢◌, ℕ, ◌<◌, ◌≤◌, ◌==◌, Bool, true, false, not, ◌||◌, ◌⊎◌, inl, inr, List, [], ◌∷◌, ◌++◌, length, get_or, set, Option, Some, None, refl, sym, ap, subst, ◌∙◌, arith}
 use Rattle.std.proofs.lemmas.Bool.{eqb-true, eq-eqb, false≢true, or_parts}
 use Rattle.mcast_txn.specs.declared.id.Topic.{Topic}
 use Rattle.mcast_txn.specs.declared.id.TxnId.{TxnId}
@@ -13,14 +13,14 @@ use Rattle.mcast_group.specs.Machine.{Pending, Entry, due_part}
 use Rattle.mcast_group.proofs.Parts.{not_true}
 use Rattle.delivery.specs.Machine.World.{World, Connection, Leftover, Standing, is_reading, nobody, topic_at, subscription_at, speaker, entry_at}
 use Rattle.delivery.specs.Machine.Moves.{Move, Answer, world_after, answer_to, move_refusal, move_effect, move_answer, find_leftover, find_verdict, oldest_live, commit_effect, commit_answer, proposal_fault, propose_effect, propose_answer, cancel_effect, cancel_answer, learn_effect, release_answer, take_effect, take_answer, leave_effect, leave_answer, close_effect_of}
-use Rattle.delivery.specs.Machine.Moves.Move.{AddsTopic, Opens, Commits, Subscribes, Unsubscribes, Disconnects, Errs, Lost, Leaves, Proposes, Decides, Withdraws, Cancels, Learns, Releases, Turns, Takes}
+use Rattle.delivery.specs.Machine.Moves.Move.{Opens, Connects, Commits, Unsubscribes, Disconnects, Errs, Lost, Leaves, Proposes, Withdraws, Cancels, Learns, Releases, Takes}
 use Rattle.delivery.specs.Machine.Runs.{run}
 use Rattle.delivery.specs.Theorem.Laws.{Run, answers_of, final_world}
 use Rattle.delivery.specs.Theorem.Settled.{closes}
 use Rattle.delivery.specs.Core.Output.{has_closed}
-use Rattle.delivery.proofs.Machine.SubscriptionSteps.{at_old, push_length, set_length}
+use Rattle.delivery.proofs.Machine.SubscriptionSteps.{at_old, push_length, set_length, beyond}
 use Rattle.delivery.proofs.Machine.InvariantIsKept.{by_refusal, checked, false_not}
-use Rattle.delivery.proofs.Theorem.SpansAsAnswered.{beyond, within}
+use Rattle.delivery.proofs.Theorem.SpansAsAnswered.{within}
 use Rattle.delivery.proofs.Core.ByRun.{by_run}
 use Rattle.delivery.proofs.Core.Speaking.{open_in}
 use Rattle.delivery.proofs.Core.AccountOfRun.{spoken}
@@ -65,9 +65,17 @@ pub record IsNew (before after : List Connection) (o : Answer) : Type 0 where
   pub pushed : after ≡ before ++ new ∷ []
   pub none : ClosesNone o
 
+-- this connection is changed, stands as it stood, and none is closed
+pub record IsJoined (before after : List Connection) (o : Answer) : Type 0 where
+  pub number : ℕ
+  pub new : Connection
+  pub set_to : after ≡ set before number new
+  pub standing : new.standing ≡ (get_or before number nobody).standing
+  pub none : ClosesNone o
+
 -- how connections stand after an answer
 abbrev pub Stands : List Connection → List Connection → Answer → Type 0
-Stands before after o = AreSame before after o ⊎ (IsShut before after o ⊎ IsNew before after o)
+Stands before after o = AreSame before after o ⊎ (IsShut before after o ⊎ (IsNew before after o ⊎ IsJoined before after o))
 
 stay : (cs : List Connection) (o : Answer) → ClosesNone o → Stands cs cs o
 stay cs o n = inl (record { same = refl; none = n })
@@ -114,7 +122,8 @@ taken w s None l = shuts w.connections _ _ _ l refl (λ d n. differ _ d n)
 taken w s (Some item) l = stay w.connections _ (λ d. refl)
 
 happens : (w : World) (e : Move) → move_refusal w e ≡ None → Stands w.connections (move_effect w e).connections (move_answer w e)
-happens w Opens n = inr (inr (record { new = record { sender = length w.senders; standing = Standing.Open }; pushed = refl; none = λ d. refl }))
+happens w Opens n = inr (inr (inl (record { new = record { sender = None; standing = Standing.Open }; pushed = refl; none = λ d. refl })))
+happens w (Connects c claimed) n = inr (inr (inr (record { number = c; new = _; set_to = refl; standing = refl; none = λ d. refl })))
 happens w (Commits c sends) n = flown w c sends
 happens w (Unsubscribes c s) n = closed w s (entry_at w s) _ (λ d. refl)
 happens w (Disconnects c) n = shuts w.connections c _ _ (connection_there w c (checked w (Disconnects c) n).0) refl (λ d k. differ c d k)
@@ -142,7 +151,8 @@ stands_after w e = by_refusal (λ v o. Stands w.connections v.connections o) w e
 pub grown_once : (before after : List Connection) (o : Answer) → Stands before after o → length before ≤ length after
 grown_once before after o (inl h) = let m = ap (λ (z : List Connection). length z) h.same in omega arith
 grown_once before after o (inr (inl h)) = let m = ap (λ (z : List Connection). length z) h.set_to ∙ set_length before h.number h.new in omega arith
-grown_once before after o (inr (inr h)) = let m = ap (λ (z : List Connection). length z) h.pushed ∙ push_length before h.new in omega arith
+grown_once before after o (inr (inr (inr h))) = let m = ap (λ (z : List Connection). length z) h.set_to ∙ set_length before h.number h.new in omega arith
+grown_once before after o (inr (inr (inl h))) = let m = ap (λ (z : List Connection). length z) h.pushed ∙ push_length before h.new in omega arith
 
 -- after these moves there are no fewer connections
 pub grown : (es : List Move) (w : World) → length w.connections ≤ length (run es w).connections
@@ -150,12 +160,18 @@ grown [] w = omega arith
 grown (e ∷ es) w =
     let a = grown_once w.connections (world_after w e).connections (answer_to w e) (stands_after w e) in let b = grown es (world_after w e) in omega arith
 
+-- a connection is changed that stands as it stood
+same_open : (before : List Connection) (n : ℕ) (new : Connection) → new.standing ≡ (get_or before n nobody).standing → (c : ℕ) → open_in (set before n new) c ≡ open_in before c
+same_open before n new standing c =
+    at_set (λ (z : Connection). is_reading z.standing ≡ open_in before c) before n c new nobody (λ k. ap is_reading standing ∙ ap (open_in before) (sym k)) refl
+
 shut_once : (before after : List Connection) (o : Answer) (c : ℕ) → Stands before after o → c < length before → open_in before c ≡ false → open_in after c ≡ false
 shut_once before after o c (inl h) l e = subst (λ z. open_in z c ≡ false) (sym h.same) e
 shut_once before after o c (inr (inl h)) l e =
     subst (λ z. open_in z c ≡ false) (sym h.set_to)
     (at_set (λ (z : Connection). is_reading z.standing ≡ false) before h.number c h.new nobody (λ k. h.shut) e)
-shut_once before after o c (inr (inr h)) l e =
+shut_once before after o c (inr (inr (inr h))) l e = subst (λ z. open_in z c ≡ false) (sym h.set_to) (same_open before h.number h.new h.standing c ∙ e)
+shut_once before after o c (inr (inr (inl h))) l e =
     subst (λ z. open_in z c ≡ false) (sym h.pushed) (at_old (λ (z : Connection). is_reading z.standing ≡ false) before c h.new nobody l e)
 
 -- a connection that isn't open is never open again
@@ -187,7 +203,11 @@ calm_once before after o past (inr (inl s)) h c p =
           (h c (λ l. at_set (λ (z : Connection). is_reading z.standing ≡ true → open_in before c ≡ true) before s.number c s.new nobody
           (λ e. absurd (ne (sym e))) (λ k. k) (q (omega arith))))
     ]
-calm_once before after o past (inr (inr s)) h c p =
+calm_once before after o past (inr (inr (inr s))) h c p =
+    let q : c < length (set before s.number s.new) → open_in (set before s.number s.new) c ≡ true = subst (λ z. c < length z → open_in z c ≡ true) s.set_to p in
+    let m = set_length before s.number s.new in
+    unclosed c o past (s.none c) (h c (λ l. sym (same_open before s.number s.new s.standing c) ∙ q (omega arith)))
+calm_once before after o past (inr (inr (inl s))) h c p =
     let q : c < length (before ++ s.new ∷ []) → open_in (before ++ s.new ∷ []) c ≡ true = subst (λ z. c < length z → open_in z c ≡ true) s.pushed p in
     let m = push_length before s.new in
     unclosed c o past (s.none c)

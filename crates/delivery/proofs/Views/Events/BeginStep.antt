@@ -7,7 +7,7 @@ use Rattle.stomp_frame.specs.Reader.{Unread}
 use Rattle.mcast_txn.specs.declared.draft.sent_message.SentMessage.{SentMessage}
 use Rattle.mcast_txn.specs.Ballot.{Decision}
 use Rattle.mcast_group.specs.Machine.{last_number}
-use Rattle.delivery.specs.Machine.World.{World, Undecided, SenderState, Standing, is_reading, connection_at, sender_at, speaker, with_sender}
+use Rattle.delivery.specs.Machine.World.{World, Undecided, SenderState, Standing, is_reading, connection_at, sender_at, speaker, with_sender, speaker_number}
 use Rattle.delivery.specs.Machine.Moves.{find_verdict, next_txn, commit_effect}
 use Rattle.delivery.specs.Core.Output.{receipt_asked, commit_frame}
 use Rattle.delivery.specs.Core.State.{Core}
@@ -26,9 +26,9 @@ flown w c sends = record (speaker w c) {
 
 -- an idle sender that begins is the one with the new transaction
 begun_is_flown : (w : World) (c : ℕ) (sends : List SentMessage) → (speaker w c).flight ≡ None
-    → launched_sender sends (sender_view (connection_at w c).sender (speaker w c)) ≡ sender_view (connection_at w c).sender (flown w c sends)
+    → launched_sender sends (sender_view (speaker_number w c) (speaker w c)) ≡ sender_view (speaker_number w c) (flown w c sends)
 begun_is_flown w c sends idle =
-    let s = (connection_at w c).sender in let x = speaker w c in
+    let s = speaker_number w c in let x = speaker w c in
     ap (λ (o : Option Undecided). launched_sender sends (record { sending = sending_view s x.seq x.floor o; leftovers = (sender_view s x).leftovers })) idle
 
 -- one more transaction, which has no verdict
@@ -57,7 +57,7 @@ pub begun_is : (k : Core) (c : ℕ) (first : SentMessage) (others : List SentMes
 begun_is k c first others reached there reads idle accepted unread text ids =
     let w = k.world in
     let sends = first ∷ others in
-    let s = (connection_at w c).sender in
+    let s = speaker_number w c in
     let x = flown w c sends in
     let v = view_with k.names w accepted unread text ids in
     let known = speaker_there k c reached there in
@@ -87,7 +87,7 @@ pub begun_id_is : (k : Core) (c : ℕ) (sends : List SentMessage) → IsReached 
     → (accepted : ℕ → List RawFrame) (unread : ℕ → Unread) (text ids : ℕ → List ℕ)
     → launched_id (view_with k.names k.world accepted unread text ids) c ≡ (next_txn k.world c sends).id
 begun_id_is k c sends reached there idle accepted unread text ids =
-    let w = k.world in let s = (connection_at w c).sender in
+    let w = k.world in let s = speaker_number w c in
     let v = view_with k.names w accepted unread text ids in
     ap (λ n. Rattle.sender_gate.specs.Gate.next_id (gate_of (sender_in v n).sending)) (speaker_is k.names w accepted unread text ids c there)
     ∙ (ap (λ (y : SenderView). Rattle.sender_gate.specs.Gate.next_id (gate_of y.sending)) (sender_is k.names w accepted unread text ids s (speaker_there k c reached there))

@@ -21,7 +21,7 @@ use Rattle.delivery.specs.declared.outcome.Outcome.{Outcome}
 use Rattle.delivery.specs.declared.refusal.Refusal.{Refusal}
 use Rattle.delivery.specs.declared.refusal.Refusal.TheVariants as refusal
 use Rattle.delivery.specs.Machine.Objections.{Objection, refusal_of}
-use Rattle.delivery.specs.Machine.World.{World, Leftover, SenderState, topic_at, connection_at, sender_at, speaker, with_sender, with_topic}
+use Rattle.delivery.specs.Machine.World.{World, Leftover, SenderState, topic_at, sender_at, speaker, with_sender, with_topic, speaker_number}
 use Rattle.delivery.specs.Machine.Moves.{Move, Answer, move_refusal, needs_connection, is_topic, find_leftover, drop_leftover, cancel_objection, cancel_objection_of, cancel_effect, cancel_answer}
 use Rattle.delivery.specs.Theorem.Laws.{Run, final_world}
 use Rattle.delivery.specs.Core.Steps.{CoreStep, Reading, accepted_of}
@@ -158,7 +158,7 @@ move_checked q c t was free =
     go : (b : Bool) (o : Option Leftover) → find_leftover t (speaker q.world c).leftovers ≡ o
         → option_or (cond (not b) (Some Objection.NotNamed) None) (cancel_objection q.world t o) ≡ cond b (left_objection o) (Some Objection.NotNamed)
     go true None e = refl
-    go true (Some k) e = ap (λ (o : Option CancelFault). option_map cancel_objection_of o) (cancel_free q (connection_at q.world c).sender t k was e)
+    go true (Some k) e = ap (λ (o : Option CancelFault). option_map cancel_objection_of o) (cancel_free q (speaker_number q.world c) t k was e)
     go false o e = refl
 
 -- the private call's refusal
@@ -171,7 +171,7 @@ refusal_checked q c s t was there own =
     ks : List Leftover
     ks = (speaker q.world c).leftovers
 
-    held : sender_in (view_of q) s ≡ sender_view (connection_at q.world c).sender (speaker q.world c)
+    held : sender_in (view_of q) s ≡ sender_view (speaker_number q.world c) (speaker q.world c)
     held = sender_of_endpoint q c s was there own
 
     go : (b : Bool) → is_topic q.world t ≡ b → (o : Option Leftover) → find_leftover t ks ≡ o
@@ -187,7 +187,7 @@ refusal_checked q c s t was there own =
         ∙ (ap (λ (y : SenderView). option_map cancel_refusal_of (cancel_fault (leftover_in y h.index).id (group_in (view_of q) t).topic)) held
         ∙ (ap (λ (y : Ticket). option_map cancel_refusal_of (cancel_fault y.id (group_in (view_of q) t).topic)) h.is
         ∙ (ap (λ (g : GroupState). option_map cancel_refusal_of (cancel_fault k.id g.topic)) group
-        ∙ ap (λ (o : Option CancelFault). option_map cancel_refusal_of o) (cancel_free q (connection_at q.world c).sender t k was e)))))
+        ∙ ap (λ (o : Option CancelFault). option_map cancel_refusal_of o) (cancel_free q (speaker_number q.world c) t k was e)))))
 
 -- a connection that isn't there or is gone
 pub cancel_gone : (q : Core) (c : ℕ) (t : Topic) (o : Objection) (why : Refusal) → there_objection (slice_get (view_of q).endpoints c) ≡ Some o → refusal_of o ≡ Some why
@@ -241,7 +241,7 @@ pub cancel_makes : (q : Core) (c s : ℕ) (t : Topic) → IsReached q → there_
 cancel_makes q c s t was free own allowed =
     let w = q.world in
     let v = view_of q in
-    let n = (connection_at w c).sender in
+    let n = speaker_number w c in
     let x = speaker w c in
     let there = is_there q c free in
     let can = cancels w c t (allowed ∙ refusal_checked q c s t was there own) in

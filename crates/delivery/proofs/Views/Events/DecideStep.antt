@@ -26,7 +26,7 @@ use Rattle.delivery.specs.declared.refusal.Refusal.TheVariants as refusal
 use Rattle.delivery.specs.declared.sending.Sending.{Sending}
 use Rattle.delivery.specs.Theorem.Due.{log_row}
 use Rattle.delivery.specs.Machine.Objections.{Objection, refusal_of}
-use Rattle.delivery.specs.Machine.World.{World, Undecided, SenderState, Connection, Standing, is_reading, is_gone, nobody, connection_at, sender_at, speaker, with_sender}
+use Rattle.delivery.specs.Machine.World.{World, Undecided, SenderState, Connection, Standing, is_reading, is_gone, nobody, connection_at, sender_at, speaker, with_sender, speaker_number}
 use Rattle.delivery.specs.Machine.Moves.{Move, Answer, move_refusal, needs_connection, has_ticket, is_complete, undecided_or_none, undecided_at, decide_effect, with_leaving}
 use Rattle.delivery.specs.Machine.Runs.{run}
 use Rattle.delivery.specs.Core.Account.{account_of}
@@ -137,7 +137,7 @@ decide_refused k c s why reached free is refused =
     let checks = decide_checks x.flight in
     let found = reported (first_refusal checks) why
     (refused ∙ (ap (λ (y : SenderView). decide_refusal y.sending) (sender_of_endpoint k c s reached there is)
-    ∙ decide_checked (connection_at k.world c).sender x.seq x.floor x.flight)) in
+    ∙ decide_checked (speaker_number k.world c) x.seq x.floor x.flight)) in
     let moved : move_refusal k.world (Move.Decides c) ≡ Some found.0 =
     ap (λ (r : Option Objection). Rattle.std.specs.Option.option_or r None)
     (refusal_after (needs_connection k.world c) checks (sym (there_checked k c) ∙ free) ∙ found.1) in
@@ -251,7 +251,7 @@ are_decided : (k : Core) (c s : ℕ) → s ≡ speaker_at (view_of k) c → Deci
 are_decided k c s is h =
     let w = k.world in
     let there = is_there k c h.free in
-    let n = (connection_at w c).sender in
+    let n = speaker_number w c in
     let known = speaker_there k c h.reached there in
     let f = h.can.flight in
     let flight : (sender_at w n).flight ≡ Some f = h.can.is in
@@ -396,7 +396,7 @@ stamp_is : (k : Core) (c s : ℕ) (stamp : Stamp) → s ≡ speaker_at (view_of 
     → greatest (undecided_at k.world c).given ≡ stamp
 stamp_is k c s stamp is h kept =
     let there = is_there k c h.free in
-    let n = (connection_at k.world c).sender in
+    let n = speaker_number k.world c in
     ap (λ (o : Option Undecided). greatest (undecided_or_none o).given) h.can.is
     ∙ sym (kept ∙ (ap (λ (y : SenderView). (decided_row y.sending).stamp) (sender_of_endpoint k c s h.reached there is)
     ∙ ap (λ (r : LogRow). r.stamp) (row_is k n h.can.flight h.reached h.can.is h.can.unmarked)))
@@ -421,7 +421,7 @@ decide_makes k c s stamp cut reached free is allowed kept asked = go cut asked
     decides = record {
       reached = reached;
       free = free;
-      can = decidable (connection_at k.world c).sender (speaker k.world c).seq (speaker k.world c).floor (speaker k.world c).flight
+      can = decidable (speaker_number k.world c) (speaker k.world c).seq (speaker k.world c).floor (speaker k.world c).flight
           (sym (allowed ∙ ap (λ (y : SenderView). decide_refusal y.sending) (sender_of_endpoint k c s reached there is)));
     }
 

@@ -3,7 +3,7 @@ use Rattle.std.proofs.Common.{◌≡◌, ◌≢◌, ℕ, ◌+◌, ◌<◌, ◌�
 use Rattle.std.proofs.Common.{eq-eqb, filter}
 use Rattle.std.specs.Prelude.{slice_get}
 use Rattle.std.specs.List.{flat_map}
-use Rattle.std.specs.Option.{is_some, option_map, option_map_or, option_and_then, option_or, option_to_list}
+use Rattle.std.specs.Option.{is_some, option_map, option_map_or, option_and_then, option_or, option_to_list, unwrap_or}
 use Rattle.std.proofs.lemmas.Bool.{lt-ltb, ltb-true, ltb-false, false≢true}
 use Rattle.std.proofs.lemmas.Option.{slice_get-get_or, slice_get_past}
 use Rattle.std.proofs.lemmas.List.{append-nil, length-map, get_or-set_same, get_or-set_other}
@@ -22,7 +22,7 @@ use Rattle.delivery.specs.declared.outcome.Outcome.{Outcome}
 use Rattle.delivery.specs.declared.refusal.Refusal.{Refusal}
 use Rattle.delivery.specs.declared.stage.Stage.{Stage}
 use Rattle.delivery.specs.Machine.Objections.{Objection, refusal_of}
-use Rattle.delivery.specs.Machine.World.{World, Undecided, SenderState, Connection, Subscription, Standing, nobody, new_sender, connection_at, sender_at, speaker, is_reading, is_gone}
+use Rattle.delivery.specs.Machine.World.{World, Undecided, SenderState, Connection, Subscription, Standing, nobody, new_sender, connection_at, sender_at, speaker, is_reading, is_gone, speaker_number}
 use Rattle.delivery.specs.Machine.Moves.{Move, Answer, move_refusal, objections, oldest_live, is_live, leave_effect, leave_answer, close_effect, end_now}
 use Rattle.delivery.specs.Machine.Runs.{run}
 use Rattle.delivery.specs.Core.Steps.{Reading, accepted_of}
@@ -33,11 +33,11 @@ use Rattle.delivery.specs.Core.Outcomes.{outcome_of, move_outcome, reply_outcome
 use Rattle.delivery.specs.Core.Reports.{each_number}
 use Rattle.delivery.specs.Inner.Stands.{IsReached, Makes, step_of}
 use Rattle.delivery.specs.Core.Connections.{live_numbers}
-use Rattle.delivery.specs.Inner.View.{View, EndpointView, SenderView, LeftView, view_of, view_after, view_with, sender_view, sending_view, undecided_view, stage_view, endpoint_view, parting_receipt, no_endpoint, is_undecided}
+use Rattle.delivery.specs.Inner.View.{View, EndpointView, SenderView, LeftView, view_of, view_after, view_with, sender_view, sending_view, undecided_view, stage_view, endpoint_view, parting_receipt, no_endpoint, is_undecided, number_among}
 use Rattle.delivery.specs.Inner.Subscriptions.{no_sub, left_at, closed_if_left, closed_view}
 use Rattle.delivery.specs.Inner.Leaving.{is_busy, end_with, leaving_objection, waits, leave_objection, oldest_in, oldest_end, oldest_closed, parting_text, has_parting, gone_endpoint}
-use Rattle.delivery.proofs.Theorem.SpansAsAnswered.{within, beyond}
-use Rattle.delivery.proofs.Machine.SubscriptionSteps.{set_length}
+use Rattle.delivery.proofs.Theorem.SpansAsAnswered.{within}
+use Rattle.delivery.proofs.Machine.SubscriptionSteps.{set_length, beyond}
 use Rattle.delivery.proofs.Views.Lists.ByNumber.{each_number-set, get_or-each_number, length-each_number}
 use Rattle.delivery.proofs.Views.Endpoints.EndpointsStay.{quiet_view, leave_is_quiet}
 use Rattle.delivery.proofs.Views.Events.OneMove.{bool_cases, made_world, made_answer, refused_answer, refused_makes, endpoint_is, endpoint_at, no_endpoint as no_endpoint_there, same_endpoint, endpoint_read, with_connection}
@@ -114,8 +114,11 @@ leave_checked k c =
     let endpoint = endpoint_view k.names w c (accepted_of c k.steps) (unread_at c k.steps) (text_out k.names c k.steps) in
     let wait = not (is_some (oldest_live c 0 w.subscriptions)) && (is_some (speaker w c).flight || nat_lt 0 (length (speaker w c).leftovers)) in
     let checks = λ (b : Bool). first_refusal ((not b, Objection.NoConn) ∷ (is_gone x.standing, Objection.Gone) ∷ (is_reading x.standing, Objection.NotLeaving) ∷ (wait, Objection.Busy) ∷ []) in
+    let busy : option_map_or is_busy (slice_get (view_of k).senders (number_among (view_of k).senders endpoint)) false ≡ (is_some (speaker w c).flight || nat_lt 0 (length (speaker w c).leftovers)) =
+    ap (λ (n : ℕ). option_map_or is_busy (slice_get (view_of k).senders (unwrap_or x.sender n)) false) (length-each_number (λ n. sender_view n (sender_at w n)) 0 w.senders)
+    ∙ sender_busy w (speaker_number w c) in
     let waiting : waits (view_of k).senders endpoint ≡ wait =
-    λ i. not ((some_first (live_numbers c 0 w.subscriptions) ∙ ap (λ (o : Option ℕ). is_some o) (oldest_is c 0 w.subscriptions)) i) && sender_busy w x.sender i in
+    λ i. not ((some_first (live_numbers c 0 w.subscriptions) ∙ ap (λ (o : Option ℕ). is_some o) (oldest_is c 0 w.subscriptions)) i) && busy i in
     elim (bool_cases (nat_lt c (length w.connections))) [
       | inl t ↦
           ap (leave_objection (view_of k).senders) (endpoint_is k c (ltb-true c (length w.connections) t))
@@ -331,7 +334,7 @@ leave_gone k c cut reached is none asked =
     ∙ ap (λ (z : List ℕ). cond cut [] z) (ap (λ (rs : List RawFrame). flat_map spelling_of rs) (parting_is k c reached) ∙ (text_of parting ∙ ap parting_text (sym staged))) in
     let endpoint : gone_endpoint cut (f c) ≡ g c = λ i. record {
       sender = (sym now i).sender;
-      stage = stage_view k.names (sym now i).standing (sender_at w (sym now i).sender).flight (accepted c) (unread c);
+      stage = stage_view k.names (sym now i).standing (sender_at w (unwrap_or (sym now i).sender (length w.senders))).flight (accepted c) (unread c);
       live = live_numbers c 0 w.subscriptions;
       output = text c ++ sym own i;
     } in

@@ -2,7 +2,7 @@
 use Rattle.std.proofs.Common.{◌≡◌, ℕ, ◌<◌, Bool, true, false, cond, inl, inr, List, [], ◌∷◌, ◌++◌, length, get_or, Option, Some, None, refl, sym, ap, subst, ◌∙◌, arith, ◌||◌}
 use Rattle.std.specs.Prelude.{Result, Ok, Err}
 use Rattle.std.specs.List.{flat_map, list_any}
-use Rattle.std.specs.Option.{option_map, option_map_or, option_or, option_and_then, option_to_list}
+use Rattle.std.specs.Option.{option_map, option_map_or, option_or, option_and_then, option_to_list, unwrap_or}
 use Rattle.std.proofs.lemmas.List.{append-nil, get_or-set_same}
 use Rattle.mcast_txn.specs.Checks.{first_refusal}
 use Rattle.mcast_txn.specs.Lists.{In}
@@ -200,7 +200,7 @@ next_ends k c reading fault receipt cut stage held new d ends view is =
     λ i. record {
       sender = (sym now i).sender;
       stage = (ap (λ (p : Option (List ℕ)). Stage.Leaving p) (sym parted)
-          ∙ ap (λ (y : Connection). stage_view k.names y.standing (sender_at k.world y.sender).flight (accepted ++ []) (left_by (unread_at c k.steps) reading)) (sym now)) i;
+          ∙ ap (λ (y : Connection). stage_view k.names y.standing (sender_at k.world (unwrap_or y.sender (length k.world.senders))).flight (accepted ++ []) (left_by (unread_at c k.steps) reading)) (sym now)) i;
       live = live_numbers c 0 k.world.subscriptions;
       output = cut_text cut (text_out k.names c k.steps) (error_text fault receipt) (flat_map spelling_of (next_replies (frame_in reading) o))
           (reply_is (frame_in reading) fault cut ∙ sym text) i;

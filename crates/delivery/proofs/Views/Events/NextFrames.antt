@@ -1,8 +1,8 @@
 -- A Next whose frame is accepted, and asks for nothing of the machine but that its connection ends.
-use Rattle.std.proofs.Common.{◌≡◌, ℕ, Bool, true, false, cond, inl, List, [], ◌∷◌, ◌++◌, get_or, Option, Some, None, refl, sym, ap, subst, ◌∙◌}
+use Rattle.std.proofs.Common.{◌≡◌, ℕ, Bool, true, false, cond, inl, List, [], ◌∷◌, ◌++◌, get_or, Option, Some, None, refl, sym, ap, subst, ◌∙◌, length}
 use Rattle.std.specs.Prelude.{codes}
 use Rattle.std.specs.List.{flat_map, find}
-use Rattle.std.specs.Option.{option_map, option_map_or, option_or, option_and_then, option_to_list}
+use Rattle.std.specs.Option.{option_map, option_map_or, option_or, option_and_then, option_to_list, unwrap_or}
 use Rattle.std.proofs.lemmas.List.{append-nil, get_or-set_same}
 use Rattle.mcast_txn.specs.Lists.{In}
 use Rattle.mcast_txn.specs.declared.draft.sent_message.SentMessage.{SentMessage}
@@ -251,7 +251,7 @@ next_disconnects k c f left receipt held new d asks is =
     λ i. record {
       sender = (sym now i).sender;
       stage = (ap (λ (p : Option (List ℕ)). Stage.Leaving p) (sym parted)
-          ∙ ap (λ (y : Connection). stage_view k.names y.standing (sender_at k.world y.sender).flight (accepted ++ f ∷ []) left) (sym now)) i;
+          ∙ ap (λ (y : Connection). stage_view k.names y.standing (sender_at k.world (unwrap_or y.sender (length k.world.senders))).flight (accepted ++ f ∷ []) left) (sym now)) i;
       live = live_numbers c 0 k.world.subscriptions;
       output = sym (append-nil (text_out k.names c k.steps)) i;
     } in

@@ -2,7 +2,7 @@
 -- of it.
 use Rattle.std.proofs.Common.{◌≡◌, ◌≢◌, ℕ, ◌+◌, ◌<◌, ◌==◌, Bool, true, false, cond, inl, inr, List, [], ◌∷◌, ◌++◌, length, set, Option, Some, None, refl, sym, ap, subst, ◌∙◌, arith, eq-eqb}
 use Rattle.std.specs.List.{flat_map}
-use Rattle.std.specs.Option.{option_to_list, is_some}
+use Rattle.std.specs.Option.{option_to_list, is_some, unwrap_or}
 use Rattle.std.proofs.lemmas.Bool.{eqb-true, ltb-true, or_parts}
 use Rattle.std.proofs.lemmas.List.{append-nil, get_or-set_other, set-get_or}
 use Rattle.mcast_txn.specs.Checks.{first_refusal}
@@ -117,7 +117,7 @@ next_written k c reading o x there =
     let connection : connection_at k.world n ≡ connection_at w n = sym (get_or-set_other k.world.connections c n x nobody other) in
     λ i. record {
       sender = (connection i).sender;
-      stage = stage_view k.names (connection i).standing (sender_at k.world (connection i).sender).flight
+      stage = stage_view k.names (connection i).standing (sender_at k.world (unwrap_or (connection i).sender (length k.world.senders))).flight
           (sym (other_accepted c n reading o k.steps other) i) (sym (other_unread c n reading o k.steps other) i);
       live = live_numbers n 0 k.world.subscriptions;
       output = sym (other_text k.names c n reading o k.steps other) i;

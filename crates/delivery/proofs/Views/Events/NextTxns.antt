@@ -1,7 +1,7 @@
 -- A Next whose frame commits a transaction.
 use Rattle.std.proofs.Common.{◌≡◌, ℕ, ◌≤◌, Bool, true, false, cond, not, nat_lt, ◌&&◌, List, [], ◌∷◌, ◌++◌, length, Option, Some, None, refl, sym, ap, subst, ◌∙◌}
 use Rattle.std.specs.List.{list_all, last_or}
-use Rattle.std.specs.Option.{option_or}
+use Rattle.std.specs.Option.{option_or, is_some}
 use Rattle.std.proofs.lemmas.List.{append-nil}
 use Rattle.mcast_txn.specs.Checks.{first_refusal}
 use Rattle.mcast_txn.specs.declared.draft.sent_message.SentMessage.{SentMessage}
@@ -30,6 +30,7 @@ use Rattle.delivery.proofs.Views.Endpoints.EndpointChanges.{with_endpoint}
 use Rattle.delivery.proofs.Views.Events.NextFaults.{endpoint_of}
 use Rattle.delivery.proofs.Views.Events.NextFrames.{accepted_view, move_makes}
 use Rattle.delivery.proofs.Views.Events.NextStep.{held_still, idle_flight, idle_reads, idle_stage, idle_there, next_endpoint, next_of, next_still, own_accepted}
+use Rattle.delivery.proofs.Views.Runs.ByRunOfCore.{claimed_of}
 
 -- ---- nothing stands against it
 
@@ -41,21 +42,22 @@ later_free : {F : Type 0} (cs ds : List (Bool × F)) → first_refusal cs ≡ No
 later_free [] ds none free = free
 later_free (t ∷ ts) ds none free = by_first t.0 t.1 (first_refusal ts) (first_refusal (ts ++ ds)) none (λ h. later_free ts ds h free)
 
-tests_pass : (a b m : Bool) → a ≡ true → b ≡ true
-    → first_refusal ((not a, Objection.NotNamed) ∷ (m && not b, Objection.SeqFull) ∷ []) ≡ None
-tests_pass true true true x y = refl
-tests_pass true true false x y = refl
-tests_pass true false m x y = absurd (cc)
-tests_pass false b m x y = absurd (cc)
+tests_pass : (s a b m : Bool) → s ≡ true → a ≡ true → b ≡ true
+    → first_refusal ((not s, Objection.NoSender) ∷ (not a, Objection.NotNamed) ∷ (m && not b, Objection.SeqFull) ∷ []) ≡ None
+tests_pass true true true true z x y = refl
+tests_pass true true true false z x y = refl
+tests_pass true true false m z x y = absurd (cc)
+tests_pass true false b m z x y = absurd (cc)
+tests_pass false a b m z x y = absurd (cc)
 
 commit_free : (w : World) (c : ℕ) (first : SentMessage) (others : List SentMessage) → first_refusal (needs_idle w c) ≡ None
-    → list_all (λ send. is_topic w send.topic) (first ∷ others) ≡ true → nat_lt (speaker w c).seq last_number ≡ true
+    → is_some (connection_at w c).sender ≡ true → list_all (λ send. is_topic w send.topic) (first ∷ others) ≡ true → nat_lt (speaker w c).seq last_number ≡ true
     → move_refusal w (Move.Commits c (first ∷ others)) ≡ None
-commit_free w c first others idle named left =
+commit_free w c first others idle has named left =
     ap (λ (o : Option Objection). option_or o None)
-    (later_free (needs_idle w c) ((not (list_all (λ send. is_topic w send.topic) (first ∷ others)), Objection.NotNamed)
+    (later_free (needs_idle w c) ((not (is_some (connection_at w c).sender), Objection.NoSender) ∷ (not (list_all (λ send. is_topic w send.topic) (first ∷ others)), Objection.NotNamed)
     ∷ (nat_lt 0 (length (first ∷ others)) && not (nat_lt (speaker w c).seq last_number), Objection.SeqFull) ∷ []) idle
-    (tests_pass (list_all (λ send. is_topic w send.topic) (first ∷ others)) (nat_lt (speaker w c).seq last_number) (nat_lt 0 (length (first ∷ others))) named left))
+    (tests_pass (is_some (connection_at w c).sender) (list_all (λ send. is_topic w send.topic) (first ∷ others)) (nat_lt (speaker w c).seq last_number) (nat_lt 0 (length (first ∷ others))) has named left))
 
 -- ---- its receipt
 
@@ -112,7 +114,7 @@ commits_some k c f left first others receipt held mid new id asks named is withi
     ∙ (ap receipt_asked (last_is None (accepted_of c k.steps) f) ∙ asks.wants)) in
     let view = begun_is k c first others asks.reached there (idle_reads w c asks.idle) flight accepted unread text ids in
     subst (λ (i : TxnId). Makes k (Event.Next c) (Outcome.Flying i) new) same
-    (move_makes k c f left action receipt held new (Move.Commits c sends) o asks refl (commit_free w c first others asks.idle named free) refl refl refl
+    (move_makes k c f left action receipt held new (Move.Commits c sends) o asks refl (commit_free w c first others asks.idle (ap (λ (o : Option ℕ). is_some o) ((claimed_of k asks.reached).own c (idle_there w c asks.idle))) named free) refl refl refl
     (asked ∙ (ap (λ (r : Option (List ℕ)). asked_view r c mid) wanted
     ∙ (ap (λ (v : View). asked_view (receipt_asked (commit_frame (accepted c))) c v) (begun ∙ ap (λ (v : View). launched_view sends c v) still)
     ∙ view))))

@@ -4,7 +4,7 @@ use Rattle.std.proofs.Common.{◌⊎◌, inl, inr}
 use Rattle.std.specs.Prelude.{slice_get}
 use Rattle.std.proofs.lemmas.Bool.{ltb-true, ltb-false}
 use Rattle.std.proofs.lemmas.Option.{slice_get-get_or, slice_get_past}
-use Rattle.std.specs.Option.{option_map, option_to_list}
+use Rattle.std.specs.Option.{option_map, option_to_list, unwrap_or}
 use Rattle.std.proofs.lemmas.List.{get_or-set_same, get_or-set_other, set-get_or}
 use Rattle.mcast_txn.specs.Lists.{In}
 use Rattle.mcast_txn.specs.Checks.{first_refusal}
@@ -85,7 +85,7 @@ pub same_endpoint : (names : List (List ℕ)) (w v : World) (c : ℕ) (accepted 
 same_endpoint names w v c accepted unread text connection senders subscriptions =
     λ i. record {
       sender = (connection i).sender;
-      stage = stage_view names (connection i).standing (get_or (senders i) (connection i).sender new_sender).flight accepted unread;
+      stage = stage_view names (connection i).standing (get_or (senders i) (unwrap_or (connection i).sender (length (senders i))) new_sender).flight accepted unread;
       live = live_numbers c 0 (subscriptions i);
       output = text;
     }
@@ -212,7 +212,7 @@ left_with names w accepted unread text ids c parting d there is =
     let endpoint : leaving_endpoint (parting_receipt (accepted c)) (f c) ≡ endpoint_view names u c (accepted c) (unread c) (text c) =
     λ i. record {
       sender = (sym now i).sender;
-      stage = stage_view names (sym now i).standing (sender_at w (sym now i).sender).flight (accepted c) (unread c);
+      stage = stage_view names (sym now i).standing (sender_at w (unwrap_or (sym now i).sender (length w.senders))).flight (accepted c) (unread c);
       live = live_numbers c 0 w.subscriptions;
       output = text c;
     } in

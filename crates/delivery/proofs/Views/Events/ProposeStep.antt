@@ -29,7 +29,7 @@ use Rattle.delivery.specs.declared.refusal.Refusal.{Refusal}
 use Rattle.delivery.specs.declared.refusal.Refusal.TheVariants as refusal
 use Rattle.delivery.specs.declared.sending.Sending.{Sending}
 use Rattle.delivery.specs.Machine.Objections.{Objection, refusal_of}
-use Rattle.delivery.specs.Machine.World.{World, Undecided, SenderState, topic_at, connection_at, sender_at, speaker, with_sender, with_topic}
+use Rattle.delivery.specs.Machine.World.{World, Undecided, SenderState, topic_at, sender_at, speaker, with_sender, with_topic, speaker_number}
 use Rattle.delivery.specs.Machine.Moves.{Move, Answer, move_refusal, needs_connection, is_topic, has_ticket, insert_ticket, undecided_or_none, undecided_at, next_ticket, proposal_fault, or_out_of_memory, propose_effect, propose_answer}
 use Rattle.delivery.specs.Core.Steps.{CoreStep, Reading, accepted_of}
 use Rattle.delivery.specs.Core.Output.{text_out, sub_id_text}
@@ -186,7 +186,7 @@ propose_refusal_is k c s t was there is =
     let x = speaker k.world c in
     let b = is_group t (view_of k).groups in
     ap (λ (y : SenderView). option_or (flight_refusal y.sending) (cond b (part_refusal t y.sending) (Some refusal.NotNamed))) (sender_of_endpoint k c s was there is)
-    ∙ propose_checked k.world t (connection_at k.world c).sender x.seq x.floor x.flight b (group_there k t was)
+    ∙ propose_checked k.world t (speaker_number k.world c) x.seq x.floor x.flight b (group_there k t was)
 
 -- a part that was taken out before isn't there to be taken
 taken_kept : (t : Topic) (s seq : ℕ) (floor : Stamp) (o : Option Undecided) (why : Refusal)
@@ -226,7 +226,7 @@ unchanged k c s t why was there is refused = go (is_group t (view_of k).groups) 
     x = speaker k.world c
 
     n : ℕ
-    n = (connection_at k.world c).sender
+    n = speaker_number k.world c
 
     held : sender_in (view_of k) s ≡ sender_view n x
     held = sender_of_endpoint k c s was there is
@@ -361,14 +361,14 @@ group_is k c s t h = group_at k t no_group (ltb-true t.0 (length k.world.topics)
 -- the sender's floor
 floor_is : (k : Core) (c s : ℕ) (t : Topic) → Proposes k c s t → floor_in (view_of k) s ≡ (speaker k.world c).floor
 floor_is k c s t h =
-    let n = (connection_at k.world c).sender in let x = speaker k.world c in
+    let n = speaker_number k.world c in let x = speaker k.world c in
     ap (λ (y : SenderView). (gate_of y.sending).floor) (sender_of_endpoint k c s h.was (is_there k c h.free) h.own)
     ∙ ap (λ (z : Sending). (gate_of z).floor) (flying_is n x h.can.flight h.can.is h.can.unmarked)
 
 -- the part that the private call takes out
 pub part_is : (k : Core) (c s : ℕ) (t : Topic) (h : Proposes k c s t) → part_in t (sender_in (view_of k) s).sending ≡ Some (proposed_part h.can.flight t)
 part_is k c s t h =
-    let n = (connection_at k.world c).sender in let x = speaker k.world c in let f = h.can.flight in
+    let n = speaker_number k.world c in let x = speaker k.world c in let f = h.can.flight in
     ap (λ (y : SenderView). part_in t y.sending) (sender_of_endpoint k c s h.was (is_there k c h.free) h.own)
     ∙ (ap (part_in t) (flying_is n x f h.can.is h.can.unmarked)
     ∙ (held_named (part_left f) t (topics_of f.txn.sends) h.can.named ∙ ap (λ (b : Bool). cond b None (Some (proposed_part f t))) h.can.fresh))
@@ -389,8 +389,8 @@ with_flight x f = record x { flight = Some f }
 
 -- a sender that has another undecided transaction, in what is held
 with_flight_quiet : (k : Core) (c s : ℕ) (t : Topic) (h : Proposes k c s t) (f : Undecided)
-    → record (view_of k) { senders = set (view_of k).senders (connection_at k.world c).sender (sender_view (connection_at k.world c).sender (with_flight (speaker k.world c) f)) }
-    ≡ view_after k.names (with_sender k.world (connection_at k.world c).sender (with_flight (speaker k.world c) f)) k.steps
+    → record (view_of k) { senders = set (view_of k).senders (speaker_number k.world c) (sender_view (speaker_number k.world c) (with_flight (speaker k.world c) f)) }
+    ≡ view_after k.names (with_sender k.world (speaker_number k.world c) (with_flight (speaker k.world c) f)) k.steps
 with_flight_quiet k c s t h f =
     sender_quiet k c (with_flight (speaker k.world c) f) h.was (is_there k c h.free) refl (λ accepted. sym (ap (λ (o : Option Undecided). pending_receipt accepted o) h.can.is))
     (λ n. accepted_of n k.steps) (λ n. unread_at n k.steps) (λ n. text_out k.names n k.steps) (λ n. sub_id_text n k.steps)
@@ -400,7 +400,7 @@ with_flight_quiet k c s t h f =
 -- the world with the ticket of this undecided transaction
 abbrev pub ticketed : World → ℕ → Topic → Undecided → World
 ticketed w c t f =
-    with_topic (with_sender w (connection_at w c).sender (with_flight (speaker w c) (record f { given = insert_ticket (next_ticket w c t) f.given }))) t
+    with_topic (with_sender w (speaker_number w c) (with_flight (speaker w c) (record f { given = insert_ticket (next_ticket w c t) f.given }))) t
     (after_propose (speaker w c).floor (proposed_part f t) (topic_at w t))
 
 proposed_whole : (k : Core) (c s : ℕ) (t : Topic) (h : Proposes k c s t)
@@ -410,7 +410,7 @@ proposed_whole k c s t h =
     let v = view_of k in
     let f = h.can.flight in
     let x = speaker w c in
-    let n = (connection_at w c).sender in
+    let n = speaker_number w c in
     let part = proposed_part f t in
     let y = topic_at w t in
     let z = after_propose x.floor part y in
@@ -477,14 +477,14 @@ propose_made k c s t n new h made =
 
 -- the world where this undecided transaction is marked
 abbrev pub marked : World → ℕ → ProposeFault → Undecided → World
-marked w c fault f = with_sender w (connection_at w c).sender (with_flight (speaker w c) (record f { mark = Some fault }))
+marked w c fault f = with_sender w (speaker_number w c) (with_flight (speaker w c) (record f { mark = Some fault }))
 
 failed_whole : (k : Core) (c s : ℕ) (t : Topic) (fault : ProposeFault) (h : Proposes k c s t)
     → failed_view t s fault (view_of k) ≡ view_after k.names (marked k.world c fault h.can.flight) k.steps
 failed_whole k c s t fault h =
     let v = view_of k in
     let f = h.can.flight in
-    let n = (connection_at k.world c).sender in
+    let n = speaker_number k.world c in
     let there = is_there k c h.free in
     let new = with_flight (speaker k.world c) (record f { mark = Some fault }) in
     let senders : set v.senders s (failed_sender fault (taken_sender t (sender_in v s))) ≡ set v.senders n (sender_view n new) =

@@ -1,7 +1,7 @@
 -- What stands against reading a frame of a connection.
 use Rattle.std.proofs.Common.{◌≡◌, ℕ, ◌+◌, ◌<◌, ◌≤◌, Bool, true, false, not, nat_lt, cond, ◌||◌, ◌⊎◌, inl, inr, List, [], ◌∷◌, length, get_or, Option, Some, None, refl, sym, ap, ◌∙◌, arith}
 use Rattle.std.specs.Prelude.{slice_get}
-use Rattle.std.specs.Option.{is_some, option_or}
+use Rattle.std.specs.Option.{is_some, option_or, unwrap_or}
 use Rattle.std.proofs.lemmas.Bool.{ltb-true, ltb-false}
 use Rattle.std.proofs.lemmas.Option.{slice_get-get_or, slice_get_past}
 use Rattle.std.proofs.lemmas.List.{get_or_default}
@@ -12,7 +12,7 @@ use Rattle.mcast_txn.specs.Checks.{first_refusal}
 use Rattle.mcast_txn.specs.declared.stamp.Stamp.{Stamp}
 use Rattle.mcast_group.specs.declared.fault.ProposeFault.{ProposeFault}
 use Rattle.delivery.specs.Machine.Objections.{Objection}
-use Rattle.delivery.specs.Machine.World.{Undecided, SenderState, Standing, connection_at, sender_at, speaker, is_reading, is_gone, new_sender}
+use Rattle.delivery.specs.Machine.World.{Undecided, SenderState, Standing, connection_at, sender_at, speaker, is_reading, is_gone, new_sender, speaker_number}
 use Rattle.delivery.specs.Machine.Moves.{needs_idle}
 use Rattle.delivery.specs.Core.Steps.{accepted_of}
 use Rattle.delivery.specs.Core.Output.{text_out}
@@ -20,7 +20,7 @@ use Rattle.delivery.specs.Core.State.{Core, unread_at}
 use Rattle.delivery.specs.Core.Reports.{each_number}
 use Rattle.delivery.specs.Inner.Nexts.{is_sending, sending_objection, idle_objection}
 use Rattle.delivery.specs.Inner.Stands.{stage_objection, endpoint_objection}
-use Rattle.delivery.specs.Inner.View.{View, EndpointView, SenderView, view_of, stage_view, endpoint_view, sender_view, sending_view, undecided_view, is_undecided}
+use Rattle.delivery.specs.Inner.View.{View, EndpointView, SenderView, view_of, stage_view, endpoint_view, sender_view, sending_view, undecided_view, is_undecided, number_among}
 use Rattle.delivery.proofs.Views.Lists.ByNumber.{get_or-each_number, length-each_number}
 use Rattle.delivery.proofs.Views.Events.OneMove as steps
 use Rattle.delivery.specs.Inner.View as views
@@ -44,17 +44,17 @@ unobjected_there endpoints c free = elim (within c (length endpoints)) [
 
 -- where nothing stands against its endpoint, its sender decides
 pub idle_of : (v : View) (c : ℕ) (endpoint : EndpointView) → endpoint_objection (slice_get v.endpoints c) ≡ None → endpoint ≡ get_or v.endpoints c endpoint
-    → idle_objection v c ≡ sending_objection v.senders endpoint.sender
+    → idle_objection v c ≡ sending_objection v.senders (number_among v.senders endpoint)
 idle_of v c endpoint free is =
     let none = views.no_endpoint in
     let same : get_or v.endpoints c none ≡ endpoint = get_or_default v.endpoints c none endpoint (unobjected_there v.endpoints c free) ∙ sym is in
-    ap (λ (o : Option Objection). option_or o (sending_objection v.senders (get_or v.endpoints c none).sender)) free
-    ∙ ap (λ (l : EndpointView). sending_objection v.senders l.sender) same
+    ap (λ (o : Option Objection). option_or o (sending_objection v.senders (number_among v.senders (get_or v.endpoints c none)))) free
+    ∙ ap (λ (l : EndpointView). sending_objection v.senders (number_among v.senders l)) same
 
 -- where something stands against its endpoint, that does
 pub idle_refused : (v : View) (c : ℕ) (why : Objection) → endpoint_objection (slice_get v.endpoints c) ≡ Some why → idle_objection v c ≡ Some why
 idle_refused v c why is =
-    ap (λ (o : Option Objection). option_or o (sending_objection v.senders (get_or v.endpoints c views.no_endpoint).sender)) is
+    ap (λ (o : Option Objection). option_or o (sending_objection v.senders (number_among v.senders (get_or v.endpoints c views.no_endpoint)))) is
 
 or_none : (a b : Option Objection) → option_or a b ≡ None → a ≡ None
 or_none None b e = refl
@@ -63,7 +63,7 @@ or_none (Some o) b e = absurd (cc)
 -- where nothing stands against a Next, its endpoint is there
 pub idle_within : (v : View) (c : ℕ) → idle_objection v c ≡ None → c < length v.endpoints
 idle_within v c free =
-    unobjected_there v.endpoints c (or_none (endpoint_objection (slice_get v.endpoints c)) (sending_objection v.senders (get_or v.endpoints c views.no_endpoint).sender) free)
+    unobjected_there v.endpoints c (or_none (endpoint_objection (slice_get v.endpoints c)) (sending_objection v.senders (number_among v.senders (get_or v.endpoints c views.no_endpoint))) free)
 
 -- ---- a core
 
@@ -114,13 +114,13 @@ idle_checked k c =
     elim (bool_cases (nat_lt c (length w.connections))) [
       | inl t ↦
           (let there = ltb-true c (length w.connections) t in
-          ap (λ (o : Option EndpointView). option_or (endpoint_objection o) (sending_objection (view_of k).senders (get_or (view_of k).endpoints c none).sender)) (endpoint_is k c there)
-          ∙ (ap (λ (l : EndpointView). option_or (stage_objection (f c).stage) (sending_objection (view_of k).senders l.sender)) (endpoint_at k c none f there)
-          ∙ (ap (λ (b : Bool). option_or (stage_objection (f c).stage) (cond b (Some Objection.Busy) None)) (sending_is k x.sender)
+          ap (λ (o : Option EndpointView). option_or (endpoint_objection o) (sending_objection (view_of k).senders (number_among (view_of k).senders (get_or (view_of k).endpoints c none)))) (endpoint_is k c there)
+          ∙ (ap (λ (l : EndpointView). option_or (stage_objection (f c).stage) (sending_objection (view_of k).senders (number_among (view_of k).senders l))) (endpoint_at k c none f there)
+          ∙ (ap (λ (b : Bool). option_or (stage_objection (f c).stage) (cond b (Some Objection.Busy) None)) (ap (λ (n : ℕ). is_sending (slice_get (view_of k).senders (unwrap_or x.sender n))) (length-each_number (λ n. sender_view n (sender_at w n)) 0 w.senders) ∙ sending_is k (speaker_number w c))
           ∙ (standing_idle k.names x.standing (speaker w c).flight (accepted_of c k.steps) (unread_at c k.steps) flying
           ∙ ap checks (sym t)))))
       | inr n ↦
-          ap (λ (o : Option EndpointView). option_or (endpoint_objection o) (sending_objection (view_of k).senders (get_or (view_of k).endpoints c none).sender))
+          ap (λ (o : Option EndpointView). option_or (endpoint_objection o) (sending_objection (view_of k).senders (number_among (view_of k).senders (get_or (view_of k).endpoints c none))))
           (steps.no_endpoint k c (ltb-false c (length w.connections) n))
           ∙ ap checks (sym n)
     ]

@@ -24,7 +24,7 @@ use Rattle.delivery.specs.declared.refusal.Refusal.{Refusal}
 use Rattle.delivery.specs.declared.sending.Sending.{Sending}
 use Rattle.delivery.specs.declared.stage.Stage.{Stage}
 use Rattle.delivery.specs.Machine.Objections.{Objection, refusal_of}
-use Rattle.delivery.specs.Machine.World.{World, Undecided, SenderState, Connection, Standing, is_reading, is_gone, nobody, connection_at, sender_at, speaker, with_sender}
+use Rattle.delivery.specs.Machine.World.{World, Undecided, SenderState, Connection, Standing, is_reading, is_gone, nobody, connection_at, sender_at, speaker, with_sender, speaker_number}
 use Rattle.delivery.specs.Machine.Moves.{Move, Answer, move_refusal, needs_connection, undecided_or_none, undecided_at, leftover, with_leaving}
 use Rattle.delivery.specs.Core.Account.{account_of, last_id}
 use Rattle.delivery.specs.Core.Output.{has_closed, receipt_asked, commit_frame, failed_title, replies_to, text_out}
@@ -101,7 +101,7 @@ refusal_is : (k : Core) (c s : ℕ) → IsReached k → c < length k.world.conne
 refusal_is k c s reached there is =
     let x = speaker k.world c in
     ap (λ (y : SenderView). withdraw_refusal y.sending) (sender_of_endpoint k c s reached there is)
-    ∙ withdraw_checked (connection_at k.world c).sender x.seq x.floor x.flight
+    ∙ withdraw_checked (speaker_number k.world c) x.seq x.floor x.flight
 
 -- one that is refused
 pub withdraw_refused : (k : Core) (c s : ℕ) (why : Refusal) → IsReached k → there_objection (slice_get (view_of k).endpoints c) ≡ None → s ≡ speaker_at (view_of k) c
@@ -203,12 +203,12 @@ replies_are k c s cut h =
 
 withdrawn_whole : (k : Core) (c s : ℕ) (cut : Bool) (h : Withdraws k c s)
     → refused_view cut (propose_title h.can.fault) c (withdrawn_view s (view_of k))
-    ≡ view_after k.names (with_leaving (with_sender k.world (connection_at k.world c).sender (withdrawn_state (speaker k.world c) h.can.flight)) c)
+    ≡ view_after k.names (with_leaving (with_sender k.world (speaker_number k.world c) (withdrawn_state (speaker k.world c) h.can.flight)) c)
     (step_of (Event.Withdraw c) Reading.Nothing (Outcome.Withdrawn cut) ∷ k.steps)
 withdrawn_whole k c s cut h =
     let w = k.world in
     let v = view_of k in
-    let n = (connection_at w c).sender in
+    let n = speaker_number w c in
     let f = h.can.flight in
     let message = propose_title h.can.fault in
     let x = withdrawn_state (speaker w c) f in
@@ -279,7 +279,7 @@ pub withdraw_makes : (k : Core) (c s : ℕ) (fault : ProposeFault) (cut : Bool) 
 withdraw_makes k c s fault cut was free own allowed kept asked =
     let w = k.world in
     let x = speaker w c in
-    let n = (connection_at w c).sender in
+    let n = speaker_number w c in
     let there = is_there k c free in
     let h : Withdraws k c s = record { was = was; free = free; own = own; can = withdrawable x.flight (sym (allowed ∙ refusal_is k c s was there own)) } in
     let same : h.can.fault ≡ fault = sym (some_same fault h.can.fault

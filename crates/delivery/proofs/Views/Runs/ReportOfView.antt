@@ -22,9 +22,10 @@ use Rattle.delivery.specs.Core.Steps.{accepted_of}
 use Rattle.delivery.specs.Core.State.{Core, unread_at}
 use Rattle.delivery.specs.Inner.View.{View, SubView, EndpointView, view_of, group_view, queue_room, sub_view, left_view, endpoint_view}
 use Rattle.delivery.specs.Inner.ViewReports.{report_in, sub_report, open_report, closed_report, lag_of, lag_in, queue_shown, queued_items, handed_items}
-use Rattle.delivery.proofs.Theorem.SpansAsAnswered.{beyond, within}
+use Rattle.delivery.proofs.Theorem.SpansAsAnswered.{within}
 use Rattle.delivery.proofs.Views.Lists.ByNumber.{each_number-same}
 use Rattle.delivery.proofs.Views.Subscriptions.RoomsOfEntries.{shown_is}
+use Rattle.delivery.proofs.Machine.SubscriptionSteps.{beyond}
 
 -- ---- lists
 

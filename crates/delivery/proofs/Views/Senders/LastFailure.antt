@@ -1,5 +1,5 @@
 -- The account has why an undecided transaction is marked: the last of its proposals that failed.
-use Rattle.std.proofs.Common.{◌≡◌, ℕ, ◌+◌, ◌<◌, Bool, false, cond, List, [], ◌∷◌, ◌++◌, length, set, Option, Some, None, refl, sym, ap, subst, ◌∙◌, arith}
+use Rattle.std.proofs.Common.{◌≡◌, ℕ, ◌+◌, ◌<◌, Bool, false, cond, List, [], ◌∷◌, ◌++◌, length, set, Option, Some, None, refl, sym, ap, ◌∙◌}
 use Rattle.std.specs.Prelude.{slice_get}
 use Rattle.mcast_txn.specs.declared.id.Topic.{Topic}
 use Rattle.mcast_txn.specs.declared.id.TxnId.{TxnId}
@@ -13,10 +13,10 @@ use Rattle.mcast_group.specs.Faults.{propose_title}
 use Rattle.mcast_group.specs.declared.fault.ProposeFault.{ProposeFault}
 use Rattle.mcast_group.specs.Machine.{Pending, Entry, due_part}
 use Rattle.mcast_group.proofs.Parts.{some_same, none_some, not_true}
-use Rattle.delivery.specs.Machine.World.{World, Undecided, Leftover, SenderState, new_sender, topic_at, connection_at, subscription_at, speaker, entry_at}
+use Rattle.delivery.specs.Machine.World.{World, Undecided, Leftover, SenderState, new_sender, topic_at, subscription_at, speaker, entry_at, speaker_number}
 use Rattle.delivery.specs.Machine.Observed.{accepted_at}
-use Rattle.delivery.specs.Machine.Moves.{Move, Answer, move_refusal, move_effect, move_answer, undecided_at, next_txn, next_ticket, insert_ticket, find_leftover, find_verdict, oldest_live, commit_effect, commit_answer, proposal_fault, propose_effect, propose_answer, cancel_effect, cancel_answer, learn_effect, release_answer, take_effect, take_answer, leave_effect, leave_answer, close_effect_of}
-use Rattle.delivery.specs.Machine.Moves.Move.{AddsTopic, Opens, Commits, Subscribes, Unsubscribes, Disconnects, Errs, Lost, Leaves, Proposes, Decides, Withdraws, Cancels, Learns, Releases, Turns, Takes}
+use Rattle.delivery.specs.Machine.Moves.{Move, Answer, move_refusal, move_effect, move_answer, undecided_at, next_txn, next_ticket, insert_ticket, find_leftover, find_verdict, oldest_live, commit_effect, commit_answer, proposal_fault, propose_effect, propose_answer, cancel_effect, cancel_answer, learn_effect, release_answer, take_effect, take_answer, leave_effect, leave_answer, close_effect_of, claimed_senders}
+use Rattle.delivery.specs.Machine.Moves.Move.{Connects, Commits, Unsubscribes, Leaves, Proposes, Decides, Withdraws, Cancels, Learns, Releases, Takes}
 use Rattle.delivery.specs.Theorem.Laws.{Run, answers_of, final_world}
 use Rattle.delivery.specs.Core.Account.{account_of}
 use Rattle.delivery.specs.Core.Output.{failed_title}
@@ -24,12 +24,12 @@ use Rattle.delivery.specs.Core.State.{Core}
 use Rattle.delivery.specs.Inner.Stands.{IsReached}
 use Rattle.delivery.proofs.Machine.Invariant.{sender_in}
 use Rattle.delivery.proofs.Machine.SubscriptionSteps.{at_push_two}
-use Rattle.delivery.proofs.Machine.InvariantIsKept.{by_refusal, checked, in_flight}
+use Rattle.delivery.proofs.Machine.InvariantIsKept.{by_refusal, checked, in_flight, false_not}
 use Rattle.delivery.proofs.Core.ByRun.{by_run}
 use Rattle.delivery.proofs.Core.Said.{said}
 use Rattle.delivery.proofs.Core.AccountOfRun.{spoken}
 use Rattle.delivery.proofs.Views.Runs.ByRunOfCore.{by_account}
-use Rattle.delivery.proofs.Core.Tests.{connection_there}
+use Rattle.delivery.proofs.Machine.Speakers.{flying_speaker}
 
 -- why a transaction was refused reads the same of what is said
 failed_said : (id : TxnId) (past : List Answer) → failed_title id (said past) ≡ failed_title id past
@@ -62,15 +62,15 @@ flown : (past : List Answer) (w : World) (c : ℕ) (sends : List SentMessage) �
 flown past w c [] h = noted past w.senders (commit_answer w c []) (λ id. refl) h
 flown past w c (first ∷ others) h =
     let x = speaker w c in let new : Undecided = record { txn = next_txn w c (first ∷ others); given = []; mark = None } in
-    written (commit_answer w c (first ∷ others) ∷ past) w.senders (connection_at w c).sender (record x { seq = x.seq + 1; flight = Some new })
+    written (commit_answer w c (first ∷ others) ∷ past) w.senders (speaker_number w c) (record x { seq = x.seq + 1; flight = Some new })
     (λ f fault e m. none_some fault (ap (λ (z : Undecided). z.mark) (some_same new f e) ∙ m))
     (noted past w.senders (commit_answer w c (first ∷ others)) (λ id. refl) h)
 
-proposed : (r : Run) (c : ℕ) (t : Topic) (o : Option ProposeFault) → (connection_at (final_world r) c).sender < length (final_world r).senders
+proposed : (r : Run) (c : ℕ) (t : Topic) (o : Option ProposeFault) → (speaker_number (final_world r) c) < length (final_world r).senders
     → (speaker (final_world r) c).flight ≡ Some (undecided_at (final_world r) c)
     → AreMarked (answers_of r) (final_world r).senders → AreMarked (propose_answer (final_world r) c t o ∷ answers_of r) (propose_effect (final_world r) c t o).senders
 proposed r c t None l e h s' y fault' =
-    let w = final_world r in let past = answers_of r in let s = (connection_at w c).sender in let o = propose_answer w c t None in
+    let w = final_world r in let past = answers_of r in let s = speaker_number w c in let o = propose_answer w c t None in
     let g = noted past w.senders o (λ id. refl) h in
     let new : Undecided = record (undecided_at w c) { given = insert_ticket (next_ticket w c t) (undecided_at w c).given } in
     written (o ∷ past) w.senders s (record (speaker w c) { flight = Some new })
@@ -79,7 +79,7 @@ proposed r c t None l e h s' y fault' =
     ap (λ (z : Undecided). failed_title z.txn.id past) (sym q) ∙ h s (undecided_at w c) fault e (ap (λ (z : Undecided). z.mark) q ∙ m)))
     g s' y fault'
 proposed r c t (Some why) l e h s f fault =
-    let w = final_world r in let past = answers_of r in let n = (connection_at w c).sender in let id = (undecided_at w c).txn.id in
+    let w = final_world r in let past = answers_of r in let n = speaker_number w c in let id = (undecided_at w c).txn.id in
     let flying = (spoken r).speaking.flying in
     at_set_within (λ (z : SenderState). z.flight ≡ Some f → f.mark ≡ Some fault → failed_title f.txn.id (Answer.Failed id why ∷ past) ≡ propose_title fault)
     w.senders n s (record (speaker w c) { flight = Some (record (undecided_at w c) { mark = Some why }) }) new_sender l
@@ -98,7 +98,7 @@ proposed r c t (Some why) l e h s f fault =
 cancelled : (past : List Answer) (w : World) (c : ℕ) (t : Topic) (o : Option Leftover) → AreMarked past w.senders → AreMarked (cancel_answer t o ∷ past) (cancel_effect w c t o).senders
 cancelled past w c t None h = noted past w.senders (cancel_answer t None) (λ id. refl) h
 cancelled past w c t (Some k) h =
-    let s = (connection_at w c).sender in let g = noted past w.senders (cancel_answer t (Some k)) (λ id. refl) h in
+    let s = speaker_number w c in let g = noted past w.senders (cancel_answer t (Some k)) (λ id. refl) h in
     written (cancel_answer t (Some k) ∷ past) w.senders s _ (g s) g
 
 learned : (past : List Answer) (w : World) (t : Topic) (id : TxnId) (o : Option Decision) → AreMarked past w.senders → AreMarked past (learn_effect w t id o).senders
@@ -126,22 +126,26 @@ opened past w h s f fault =
     at_push_two (λ (z : SenderState). z.flight ≡ Some f → f.mark ≡ Some fault → failed_title f.txn.id past ≡ propose_title fault) w.senders s new_sender new_sender
     (λ k e m. none_some f e) (λ ne. h s f fault)
 
+connected : (past : List Answer) (w : World) (claimed : Option ℕ) → AreMarked past w.senders → AreMarked past (claimed_senders w.senders claimed)
+connected past w None h = opened past w h
+connected past w (Some s) h = h
+
 happens : (r : Run) (e : Move) → AreMarked (answers_of r) (final_world r).senders → move_refusal (final_world r) e ≡ None
     → AreMarked (move_answer (final_world r) e ∷ answers_of r) (move_effect (final_world r) e).senders
-happens r Opens h n = noted (answers_of r) ((final_world r).senders ++ new_sender ∷ []) (move_answer (final_world r) Opens) (λ id. refl) (opened (answers_of r) (final_world r) h)
+happens r (Connects c claimed) h n = noted (answers_of r) _ (move_answer (final_world r) (Connects c claimed)) (λ id. refl) (connected (answers_of r) (final_world r) claimed h)
 happens r (Commits c sends) h n = flown (answers_of r) (final_world r) c sends h
 happens r (Unsubscribes c s) h n = let w = final_world r in noted (answers_of r) (close_effect_of w s (entry_at w s)).senders (move_answer (final_world r) (Unsubscribes c s)) (λ id. refl) (closed (answers_of r) w s (entry_at w s) h)
 happens r (Leaves c) h n = let w = final_world r in gone (answers_of r) w c (oldest_live c 0 w.subscriptions) h
 happens r (Proposes c t memory) h n =
     let w = final_world r in let k = checked w (Proposes c t memory) n in let fl = in_flight w c k.1.1.0 in
-    let l = connection_there w c k.0 in let p = (spoken r).speaks in let same = p.same in
-    proposed r c t (proposal_fault w c t memory) (subst (λ m. m < length w.senders) (sym (p.own c l)) (omega arith)) (fl.is ∙ ap Some (sym fl.at)) h
+    let own = flying_speaker w c (false_not _ k.1.1.0) in
+    proposed r c t (proposal_fault w c t memory) ((spoken r).speaks.there c (speaker_number w c) own) (fl.is ∙ ap Some (sym fl.at)) h
 happens r (Decides c) h n =
     let w = final_world r in
-    written ((move_answer (final_world r) (Decides c)) ∷ answers_of r) w.senders (connection_at w c).sender _ (λ f fault e m. none_some f e) (noted (answers_of r) w.senders (move_answer (final_world r) (Decides c)) (λ id. refl) h)
+    written ((move_answer (final_world r) (Decides c)) ∷ answers_of r) w.senders (speaker_number w c) _ (λ f fault e m. none_some f e) (noted (answers_of r) w.senders (move_answer (final_world r) (Decides c)) (λ id. refl) h)
 happens r (Withdraws c) h n =
     let w = final_world r in
-    written ((move_answer (final_world r) (Withdraws c)) ∷ answers_of r) w.senders (connection_at w c).sender _ (λ f fault e m. none_some f e) (noted (answers_of r) w.senders (move_answer (final_world r) (Withdraws c)) (λ id. refl) h)
+    written ((move_answer (final_world r) (Withdraws c)) ∷ answers_of r) w.senders (speaker_number w c) _ (λ f fault e m. none_some f e) (noted (answers_of r) w.senders (move_answer (final_world r) (Withdraws c)) (λ id. refl) h)
 happens r (Cancels c t) h n = let w = final_world r in cancelled (answers_of r) w c t (find_leftover t (speaker w c).leftovers) h
 happens r (Learns t id) h n =
     let w = final_world r in noted (answers_of r) (learn_effect w t id (find_verdict id w.verdicts)).senders (move_answer (final_world r) (Learns t id)) (λ i. refl) (learned (answers_of r) w t id (find_verdict id w.verdicts) h)
@@ -161,4 +165,4 @@ pub failed_is : (k : Core) (c : ℕ) (f : Undecided) (fault : ProposeFault) → 
     → failed_title f.txn.id (account_of k.names k.steps) ≡ propose_title fault
 failed_is k c f fault reached flight mark =
     by_account (λ account w. (speaker w c).flight ≡ Some f → failed_title f.txn.id account ≡ propose_title fault) k reached
-    (λ r e. failed_said f.txn.id (answers_of r) ∙ marked r (connection_at (final_world r) c).sender f fault e mark) flight
+    (λ r e. failed_said f.txn.id (answers_of r) ∙ marked r (speaker_number (final_world r) c) f fault e mark) flight

@@ -8,7 +8,7 @@ use Rattle.mcast_txn.specs.declared.id.Topic.{Topic}
 use Rattle.mcast_group.specs.Group.{GroupState}
 use Rattle.mcast_group.specs.Machine.{TopicState}
 use Rattle.delivery.specs.declared.stage.Stage.{Stage}
-use Rattle.delivery.specs.Machine.World.{World, Undecided, SenderState, Connection, Standing, nobody, connection_at, sender_at, speaker, with_sender, with_topic}
+use Rattle.delivery.specs.Machine.World.{World, Undecided, SenderState, Connection, Standing, nobody, connection_at, sender_at, speaker, with_sender, with_topic, speaker_number}
 use Rattle.delivery.specs.Core.State.{Core}
 use Rattle.delivery.specs.Core.Reports.{each_number}
 use Rattle.delivery.specs.Inner.Stands.{IsReached}
@@ -25,12 +25,12 @@ stage_of_receipt names Standing.Gone o p accepted unread same = refl
 
 -- the verdicts stay where the sender's seq does
 pub lists_kept : (k : Core) (c : ℕ) (x : SenderState) → IsReached k → c < length k.world.connections → x.seq ≡ (speaker k.world c).seq
-    → (let w = k.world in let s = (connection_at w c).sender in
+    → (let w = k.world in let s = speaker_number w c in
     each_number (λ n. verdict_list w.verdicts n (sender_at w n).seq) 0 w.senders
     ≡ each_number (λ n. verdict_list w.verdicts n (sender_at (with_sender w s x) n).seq) 0 (set w.senders s x))
 lists_kept k c x reached there seq =
     let w = k.world in
-    let s = (connection_at w c).sender in
+    let s = speaker_number w c in
     let known = speaker_there k c reached there in
     let lists = λ (n : ℕ). verdict_list w.verdicts n (sender_at w n).seq in
     let kept : set (each_number lists 0 w.senders) s (verdict_list w.verdicts s x.seq) ≡ each_number lists 0 w.senders =
@@ -43,12 +43,12 @@ pub sender_quiet : (k : Core) (c : ℕ) (x : SenderState) → IsReached k → c 
     → ((accepted : List RawFrame) → pending_receipt accepted x.flight ≡ pending_receipt accepted (speaker k.world c).flight)
     → (accepted : ℕ → List RawFrame) (unread : ℕ → Unread) (text ids : ℕ → List ℕ)
     → record (view_with k.names k.world accepted unread text ids) {
-      senders = set (view_with k.names k.world accepted unread text ids).senders (connection_at k.world c).sender (sender_view (connection_at k.world c).sender x);
+      senders = set (view_with k.names k.world accepted unread text ids).senders (speaker_number k.world c) (sender_view (speaker_number k.world c) x);
     }
-    ≡ view_with k.names (with_sender k.world (connection_at k.world c).sender x) accepted unread text ids
+    ≡ view_with k.names (with_sender k.world (speaker_number k.world c) x) accepted unread text ids
 sender_quiet k c x reached there seq receipts accepted unread text ids =
     let w = k.world in
-    let s = (connection_at w c).sender in
+    let s = speaker_number w c in
     let v = with_sender w s x in
     let known = speaker_there k c reached there in
     let verdicts = lists_kept k c x reached there seq in

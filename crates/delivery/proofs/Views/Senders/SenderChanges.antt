@@ -2,12 +2,12 @@
 use Rattle.std.proofs.Common.{◌≡◌, ◌≢◌, ℕ, ◌+◌, ◌-◌, ◌<◌, Bool, cond, List, length, get_or, set, Option, None, refl, sym, ap, ◌∙◌, arith}
 use Rattle.std.specs.Prelude.{slice_get}
 use Rattle.std.proofs.lemmas.List.{get_or-set_same, get_or-set_other, set-get_or}
-use Rattle.std.specs.Option.{option_and_then}
+use Rattle.std.specs.Option.{option_and_then, unwrap_or}
 use Rattle.stomp_frame.specs.declared.raw_frame.RawFrame.{RawFrame}
 use Rattle.stomp_frame.specs.Reader.{Unread}
 use Rattle.mcast_txn.specs.declared.id.TxnId.{TxnId}
 use Rattle.mcast_txn.specs.Ballot.{Decision}
-use Rattle.delivery.specs.Machine.World.{World, SenderState, Connection, new_sender, nobody, connection_at, sender_at, speaker, with_sender}
+use Rattle.delivery.specs.Machine.World.{World, SenderState, Connection, new_sender, nobody, connection_at, sender_at, speaker, with_sender, speaker_number}
 use Rattle.delivery.specs.Machine.Moves.{find_verdict}
 use Rattle.delivery.specs.Core.Output.{text_out, sub_id_text}
 use Rattle.delivery.specs.Core.State.{Core, unread_at}
@@ -17,10 +17,12 @@ use Rattle.delivery.specs.Inner.Senders.{speaker_at, sender_in, no_sender}
 use Rattle.delivery.specs.Inner.Stands.{IsReached}
 use Rattle.delivery.specs.Core.Connections.{live_numbers}
 use Rattle.delivery.specs.Inner.View.{EndpointView, SenderView, view_of, view_with, sender_view, endpoint_view, stage_view, no_endpoint, verdict_list}
-use Rattle.delivery.proofs.Views.Endpoints.SpeakerAndEnd.{own_sender, as_many}
-use Rattle.delivery.proofs.Views.Lists.ByNumber.{each_number-set, get_or-each_number}
+use Rattle.delivery.proofs.Views.Endpoints.SpeakerAndEnd.{as_many}
+use Rattle.delivery.proofs.Views.Lists.ByNumber.{each_number-set, get_or-each_number, length-each_number}
 use Rattle.delivery.proofs.Views.Endpoints.StandingOfConnection.{differ}
 use Rattle.delivery.proofs.Views.Verdicts.FoundVerdict.{verdict_is, table, list_of, not_in_list}
+use Rattle.delivery.proofs.Views.Runs.ByRunOfCore.{own_sender}
+use Rattle.delivery.proofs.Machine.Speakers.{kept_speaker}
 
 -- ---- what is looked up
 
@@ -36,8 +38,10 @@ endpoint_in names w accepted unread text ids c d there =
 
 -- its sender
 pub speaker_is : (names : List (List ℕ)) (w : World) (accepted : ℕ → List RawFrame) (unread : ℕ → Unread) (text ids : ℕ → List ℕ) (c : ℕ)
-    → c < length w.connections → speaker_at (view_with names w accepted unread text ids) c ≡ (connection_at w c).sender
-speaker_is names w accepted unread text ids c there = ap (λ (l : EndpointView). l.sender) (endpoint_in names w accepted unread text ids c no_endpoint there)
+    → c < length w.connections → speaker_at (view_with names w accepted unread text ids) c ≡ speaker_number w c
+speaker_is names w accepted unread text ids c there =
+    ap (λ (l : EndpointView). unwrap_or l.sender (length (view_with names w accepted unread text ids).senders)) (endpoint_in names w accepted unread text ids c no_endpoint there)
+    ∙ ap (unwrap_or (connection_at w c).sender) (length-each_number (λ n. sender_view n (sender_at w n)) 0 w.senders)
 
 -- a sender that is there
 pub sender_is : (names : List (List ℕ)) (w : World) (accepted : ℕ → List RawFrame) (unread : ℕ → Unread) (text ids : ℕ → List ℕ) (s : ℕ)
@@ -45,7 +49,7 @@ pub sender_is : (names : List (List ℕ)) (w : World) (accepted : ℕ → List R
 sender_is names w accepted unread text ids s there = number_at (λ n. sender_view n (sender_at w n)) w.senders s no_sender there
 
 -- the same in the view of a core
-pub speaker_of : (k : Core) (c : ℕ) → c < length k.world.connections → speaker_at (view_of k) c ≡ (connection_at k.world c).sender
+pub speaker_of : (k : Core) (c : ℕ) → c < length k.world.connections → speaker_at (view_of k) c ≡ speaker_number k.world c
 speaker_of k c there =
     speaker_is k.names k.world (λ n. accepted_of n k.steps) (λ n. unread_at n k.steps) (λ n. text_out k.names n k.steps) (λ n. sub_id_text n k.steps) c there
 
@@ -59,15 +63,15 @@ endpoint_of k c d there =
     endpoint_in k.names k.world (λ n. accepted_of n k.steps) (λ n. unread_at n k.steps) (λ n. text_out k.names n k.steps) (λ n. sub_id_text n k.steps) c d there
 
 -- the sender of a connection is there
-pub speaker_there : (k : Core) (c : ℕ) → IsReached k → c < length k.world.connections → (connection_at k.world c).sender < length k.world.senders
+pub speaker_there : (k : Core) (c : ℕ) → IsReached k → c < length k.world.connections → (speaker_number k.world c) < length k.world.senders
 speaker_there k c reached there =
     let own = own_sender k c reached there in let many = as_many k reached in omega (arith, own, many, there)
 
 -- the sender of a connection that is there, by its endpoint
 pub sender_of_endpoint : (k : Core) (c s : ℕ) → IsReached k → c < length k.world.connections → s ≡ speaker_at (view_of k) c
-    → sender_in (view_of k) s ≡ sender_view (connection_at k.world c).sender (speaker k.world c)
+    → sender_in (view_of k) s ≡ sender_view (speaker_number k.world c) (speaker k.world c)
 sender_of_endpoint k c s reached there is =
-    ap (λ (n : ℕ). sender_in (view_of k) n) (is ∙ speaker_of k c there) ∙ held_of k (connection_at k.world c).sender (speaker_there k c reached there)
+    ap (λ (n : ℕ). sender_in (view_of k) n) (is ∙ speaker_of k c there) ∙ held_of k (speaker_number k.world c) (speaker_there k c reached there)
 
 -- ---- what is held
 
@@ -115,19 +119,19 @@ endpoint_of_flight names w v c accepted unread text connections subscriptions fl
 
 -- other connections speak for other senders
 pub others_differ : (k : Core) (c n : ℕ) → IsReached k → c < length k.world.connections → n < length k.world.connections → n ≢ c
-    → (connection_at k.world n).sender ≢ (connection_at k.world c).sender
+    → (speaker_number k.world n) ≢ (speaker_number k.world c)
 others_differ k c n reached there within other same =
     other (sym (own_sender k n reached within) ∙ (same ∙ own_sender k c reached there))
 
 -- the endpoint of the sender is another with it, and no other endpoint
 pub endpoints_with_sender : (k : Core) (c : ℕ) (x : SenderState) (accepted : ℕ → List RawFrame) (unread : ℕ → Unread) (text : ℕ → List ℕ)
     → IsReached k → c < length k.world.connections
-    → (let w = k.world in let v = with_sender w (connection_at w c).sender x in
+    → (let w = k.world in let v = with_sender w (speaker_number w c) x in
     set (each_number (λ n. endpoint_view k.names w n (accepted n) (unread n) (text n)) 0 w.connections) c (endpoint_view k.names v c (accepted c) (unread c) (text c))
     ≡ each_number (λ n. endpoint_view k.names v n (accepted n) (unread n) (text n)) 0 w.connections)
 endpoints_with_sender k c x accepted unread text reached there =
     let w = k.world in
-    let s = (connection_at w c).sender in
+    let s = speaker_number w c in
     let v = with_sender w s x in
     let f = λ (n : ℕ). endpoint_view k.names w n (accepted n) (unread n) (text n) in
     let g = λ (n : ℕ). endpoint_view k.names v n (accepted n) (unread n) (text n) in
@@ -136,18 +140,18 @@ endpoints_with_sender k c x accepted unread text reached there =
     ∙ (each_number-set f g 0 w.connections c (connection_at w c) there
     (λ n low high other. endpoint_of_flight k.names w v n (accepted n) (unread n) (text n) refl refl
     (ap (λ (y : SenderState). y.flight)
-    (sym (get_or-set_other w.senders s (connection_at w n).sender x new_sender (others_differ k c n reached there (omega (arith, high)) (λ is. other (is ∙ e)))))))
+    (sym (kept_speaker w n s x ∙ get_or-set_other w.senders s (speaker_number w n) x new_sender (others_differ k c n reached there (omega (arith, high)) (λ is. other (is ∙ e)))))))
     ∙ ap (λ (xs : List Connection). each_number g 0 xs) (set-get_or w.connections c nobody))
 
 -- the endpoint itself, where its sender has this transaction
 pub endpoint_with_sender : (k : Core) (c : ℕ) (x : SenderState) (accepted : List RawFrame) (unread : Unread) (text : List ℕ) → IsReached k → c < length k.world.connections
     → (let w = k.world in
-    endpoint_view k.names (with_sender w (connection_at w c).sender x) c accepted unread text
+    endpoint_view k.names (with_sender w (speaker_number w c) x) c accepted unread text
     ≡ record (endpoint_view k.names w c accepted unread text) { stage = stage_view k.names (connection_at w c).standing x.flight accepted unread })
 endpoint_with_sender k c x accepted unread text reached there =
     let w = k.world in
     ap (λ (y : SenderState). record (endpoint_view k.names w c accepted unread text) { stage = stage_view k.names (connection_at w c).standing y.flight accepted unread })
-    (get_or-set_same w.senders (connection_at w c).sender x new_sender (speaker_there k c reached there))
+    (kept_speaker w c (speaker_number w c) x ∙ get_or-set_same w.senders (speaker_number w c) x new_sender (speaker_there k c reached there))
 
 -- one value is another, where the first has number 0
 pub number_set : {X Y : Type 0} (f g : ℕ → Y) (xs : List X) (c : ℕ) (x : X) → c < length xs → ((n : ℕ) → n < length xs → n ≢ c → f n ≡ g n)
@@ -159,11 +163,11 @@ number_set f g xs c x there same =
 
 -- the transaction of another connection's sender stays
 pub flight_kept : (k : Core) (c n : ℕ) (x : SenderState) → IsReached k → c < length k.world.connections → n < length k.world.connections → n ≢ c
-    → (let w = k.world in (speaker w n).flight ≡ (speaker (with_sender w (connection_at w c).sender x) n).flight)
+    → (let w = k.world in (speaker w n).flight ≡ (speaker (with_sender w (speaker_number w c) x) n).flight)
 flight_kept k c n x reached there within other =
     let w = k.world in
     ap (λ (y : SenderState). y.flight)
-    (sym (get_or-set_other w.senders (connection_at w c).sender (connection_at w n).sender x new_sender (others_differ k c n reached there within other)))
+    (sym (kept_speaker w n (speaker_number w c) x ∙ get_or-set_other w.senders (speaker_number w c) (speaker_number w n) x new_sender (others_differ k c n reached there within other)))
 
 -- ---- the next transaction
 

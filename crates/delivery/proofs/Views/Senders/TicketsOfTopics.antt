@@ -20,10 +20,10 @@ use Rattle.mcast_txn.proofs.TopicLemmas.{topics_rise}
 use Rattle.mcast_group.specs.declared.fault.ProposeFault.{ProposeFault}
 use Rattle.mcast_group.specs.Machine.{Entry}
 use Rattle.mcast_group.proofs.Parts.{some_same, none_some}
-use Rattle.delivery.specs.Machine.World.{World, Undecided, Leftover, SenderState, new_sender, connection_at, subscription_at, sender_at, speaker, entry_at}
+use Rattle.delivery.specs.Machine.World.{World, Undecided, Leftover, SenderState, new_sender, subscription_at, sender_at, speaker, entry_at, speaker_number}
 use Rattle.delivery.specs.Machine.Observed.{accepted_at}
-use Rattle.delivery.specs.Machine.Moves.{Move, move_refusal, move_effect, undecided_at, find_leftover, find_verdict, oldest_live, insert_ticket, next_ticket, next_txn, commit_effect, proposal_fault, propose_effect, cancel_effect, learn_effect, take_effect, leave_effect, close_effect_of}
-use Rattle.delivery.specs.Machine.Moves.Move.{AddsTopic, Opens, Commits, Subscribes, Unsubscribes, Disconnects, Errs, Lost, Leaves, Proposes, Decides, Withdraws, Cancels, Learns, Releases, Turns, Takes}
+use Rattle.delivery.specs.Machine.Moves.{Move, move_refusal, move_effect, undecided_at, find_leftover, find_verdict, oldest_live, insert_ticket, next_ticket, next_txn, commit_effect, proposal_fault, propose_effect, cancel_effect, learn_effect, take_effect, leave_effect, close_effect_of, claimed_senders}
+use Rattle.delivery.specs.Machine.Moves.Move.{Connects, Commits, Unsubscribes, Leaves, Proposes, Decides, Withdraws, Cancels, Learns, Takes}
 use Rattle.delivery.specs.Theorem.Laws.{Run, final_world}
 use Rattle.delivery.specs.Core.State.{Core}
 use Rattle.delivery.specs.Inner.Stands.{IsReached}
@@ -78,12 +78,12 @@ flown : (w : World) (c : ℕ) (sends : List SentMessage) → AreGiven w.senders 
 flown w c [] h = h
 flown w c (first ∷ others) h =
     let x = speaker w c in let new : Undecided = record { txn = next_txn w c (first ∷ others); given = []; mark = None } in
-    written w.senders (connection_at w c).sender (record x { seq = x.seq + 1; flight = Some new })
+    written w.senders (speaker_number w c) (record x { seq = x.seq + 1; flight = Some new })
     (λ f e. subst Given (some_same new f e) (record { rising = tt; named = λ a i. absurd i })) h
 
 proposed : (w : World) (c : ℕ) (t : Topic) (o : Option ProposeFault) → Asks w c t → AreGiven w.senders → AreGiven (propose_effect w c t o).senders
 proposed w c t None asks h =
-    let f = undecided_at w c in let s = (connection_at w c).sender in
+    let f = undecided_at w c in let s = speaker_number w c in
     let g : Given f = h s f (asks.flying.is ∙ ap Some (sym asks.flying.at)) in
     let new : Undecided = record f { given = insert_ticket (next_ticket w c t) f.given } in
     written w.senders s (record (speaker w c) { flight = Some new })
@@ -95,14 +95,14 @@ proposed w c t None asks h =
       ];
     })) h
 proposed w c t (Some fault) asks h =
-    let f = undecided_at w c in let s = (connection_at w c).sender in
+    let f = undecided_at w c in let s = speaker_number w c in
     let g : Given f = h s f (asks.flying.is ∙ ap Some (sym asks.flying.at)) in
     let new : Undecided = record f { mark = Some fault } in
     written w.senders s (record (speaker w c) { flight = Some new }) (λ y e. subst Given (some_same new y e) (record { rising = g.rising; named = g.named })) h
 
 cancelled : (w : World) (c : ℕ) (t : Topic) (o : Option Leftover) → AreGiven w.senders → AreGiven (cancel_effect w c t o).senders
 cancelled w c t None h = h
-cancelled w c t (Some k) h = let s = (connection_at w c).sender in written w.senders s _ (h s) h
+cancelled w c t (Some k) h = let s = speaker_number w c in written w.senders s _ (h s) h
 
 learned : (w : World) (t : Topic) (id : TxnId) (o : Option Decision) → AreGiven w.senders → AreGiven (learn_effect w t id o).senders
 learned w t id None h = h
@@ -123,14 +123,18 @@ taken w s (Some item) h = h
 opened : (w : World) → AreGiven w.senders → AreGiven (w.senders ++ new_sender ∷ [])
 opened w h s f = at_push_two (λ (z : SenderState). z.flight ≡ Some f → Given f) w.senders s new_sender new_sender (λ k e. none_some f e) (λ ne. h s f)
 
+connected : (w : World) (claimed : Option ℕ) → AreGiven w.senders → AreGiven (claimed_senders w.senders claimed)
+connected w None h = opened w h
+connected w (Some s) h = h
+
 happens : (w : World) (e : Move) → AreGiven w.senders → move_refusal w e ≡ None → AreGiven (move_effect w e).senders
-happens w Opens h n = opened w h
+happens w (Connects c claimed) h n = connected w claimed h
 happens w (Commits c sends) h n = flown w c sends h
 happens w (Unsubscribes c s) h n = closed w s (entry_at w s) h
 happens w (Leaves c) h n = gone w c (oldest_live c 0 w.subscriptions) h
 happens w (Proposes c t memory) h n = proposed w c t (proposal_fault w c t memory) (asks_of w c t memory n) h
-happens w (Decides c) h n = written w.senders (connection_at w c).sender _ (λ f e. none_some f e) h
-happens w (Withdraws c) h n = written w.senders (connection_at w c).sender _ (λ f e. none_some f e) h
+happens w (Decides c) h n = written w.senders (speaker_number w c) _ (λ f e. none_some f e) h
+happens w (Withdraws c) h n = written w.senders (speaker_number w c) _ (λ f e. none_some f e) h
 happens w (Cancels c t) h n = cancelled w c t (find_leftover t (speaker w c).leftovers) h
 happens w (Learns t id) h n = learned w t id (find_verdict id w.verdicts) h
 happens w (Takes s) h n = taken w s (slice_get (accepted_at w s) (subscription_at w s).taken) h

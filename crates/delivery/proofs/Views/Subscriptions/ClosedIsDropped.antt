@@ -27,8 +27,8 @@ use Rattle.delivery.specs.Inner.Stands.{IsReached}
 use Rattle.delivery.specs.Core.Connections.{live_numbers}
 use Rattle.delivery.specs.Inner.View.{View, EndpointView, SubView, LeftView, view_with, group_view, queue_room, left_view, endpoint_view, sub_view, no_group, no_endpoint, group_in}
 use Rattle.delivery.specs.Inner.Subscriptions.{no_sub, left_with, left_in, left_at, without_number, shorter_endpoint, closed_with, closed_if_left, closed_view}
-use Rattle.delivery.proofs.Machine.SubscriptionSteps.{found_entry}
-use Rattle.delivery.proofs.Theorem.SpansAsAnswered.{within, beyond}
+use Rattle.delivery.proofs.Machine.SubscriptionSteps.{found_entry, beyond}
+use Rattle.delivery.proofs.Theorem.SpansAsAnswered.{within}
 use Rattle.delivery.proofs.Theorem.TopicsAreSound.{topics_are_sound}
 use Rattle.delivery.proofs.Views.Runs.ByRunOfCore.{by_world}
 use Rattle.delivery.proofs.Views.Runs.AccountOfTransactions.{has_entry}

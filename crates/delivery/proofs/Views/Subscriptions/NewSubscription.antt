@@ -26,8 +26,7 @@ use Rattle.delivery.specs.Core.Reports.{each_number}
 use Rattle.delivery.specs.Core.Connections.{live_numbers}
 use Rattle.delivery.specs.Inner.View.{EndpointView, SubView, view_with, group_view, queue_room, left_view, endpoint_view, sub_view, no_group, no_endpoint, group_in}
 use Rattle.delivery.specs.Inner.Subscriptions.{longer_endpoint, new_room, subscribed_view}
-use Rattle.delivery.proofs.Machine.SubscriptionSteps.{at_push_two, at_end}
-use Rattle.delivery.proofs.Theorem.SpansAsAnswered.{beyond}
+use Rattle.delivery.proofs.Machine.SubscriptionSteps.{at_push_two, at_end, beyond}
 use Rattle.delivery.proofs.Views.Lists.ByNumber.{each_number-push, each_number-same, each_number-set, get_or-each_number, length-each_number, index_is, end_is}
 use Rattle.delivery.proofs.Views.Endpoints.StandingOfConnection.{differ}
 

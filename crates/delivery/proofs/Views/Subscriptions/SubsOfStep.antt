@@ -165,7 +165,7 @@ plain_if true xs ys p q = p
 plain_if false xs ys p q = q
 
 plain_event : (k : Core) (e : Event) (rd : Reading) (o : Outcome) → IsOther e → ArePlain (moves k e rd o)
-plain_event k Event.Open rd o other = plain_if (is_no_memory o) [] (Move.Opens ∷ []) tt (tt, tt)
+plain_event k Event.Open rd o other = plain_if (is_no_memory o) [] (Move.Opens ∷ Move.Connects (length k.world.connections) None ∷ []) tt (tt, (tt, tt))
 plain_event k (Event.Piece c octets) rd o other = tt
 plain_event k (Event.Next c) rd o other = absurd other
 plain_event k (Event.Decide c) rd o other = (tt, plain_if (is_cut o) (Move.Lost c ∷ []) [] (tt, tt) tt)

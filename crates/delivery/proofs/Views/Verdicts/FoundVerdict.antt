@@ -18,10 +18,10 @@ use Rattle.mcast_txn.specs.TopicSet.{names}
 use Rattle.mcast_txn.proofs.Orders.{id_equal}
 use Rattle.mcast_group.specs.declared.fault.ProposeFault.{ProposeFault}
 use Rattle.mcast_group.specs.Machine.{Entry}
-use Rattle.delivery.specs.Machine.World.{World, Undecided, Leftover, SenderState, new_sender, connection_at, subscription_at, sender_at, speaker, entry_at}
+use Rattle.delivery.specs.Machine.World.{World, Undecided, Leftover, SenderState, new_sender, subscription_at, sender_at, speaker, entry_at, speaker_number}
 use Rattle.delivery.specs.Machine.Observed.{accepted_at}
 use Rattle.delivery.specs.Machine.Moves.{Move, Answer, move_refusal, move_effect, undecided_at, find_leftover, find_verdict, oldest_live, commit_effect, proposal_fault, propose_effect, cancel_effect, learn_effect, take_effect, leave_effect, close_effect_of}
-use Rattle.delivery.specs.Machine.Moves.Move.{AddsTopic, Opens, Commits, Subscribes, Unsubscribes, Disconnects, Errs, Lost, Leaves, Proposes, Decides, Withdraws, Cancels, Learns, Releases, Turns, Takes}
+use Rattle.delivery.specs.Machine.Moves.Move.{Commits, Unsubscribes, Leaves, Proposes, Decides, Cancels, Learns, Takes}
 use Rattle.delivery.specs.Machine.Runs.{Numbered, txn_of_id, txn_count}
 use Rattle.delivery.specs.Theorem.Laws.{Run, answers_of, final_world}
 use Rattle.delivery.specs.Core.State.{Core}
@@ -34,10 +34,11 @@ use Rattle.delivery.proofs.Machine.SenderSteps.{In-append_cases}
 use Rattle.delivery.proofs.Machine.InvariantIsKept.{by_refusal, checked, in_flight, verdict_found}
 use Rattle.delivery.proofs.Theorem.AcceptedIsDue.{reached}
 use Rattle.delivery.proofs.Theorem.SeqsCount.{seqs_count}
-use Rattle.delivery.proofs.Theorem.SpansAsAnswered.{beyond, within}
+use Rattle.delivery.proofs.Theorem.SpansAsAnswered.{within}
 use Rattle.delivery.proofs.Core.ByRun.{by_run}
 use Rattle.delivery.proofs.Views.Lists.ByNumber.{get_or-each_number, length-each_number}
 use Rattle.delivery.proofs.Views.Runs.ByRunOfCore.{by_world}
+use Rattle.delivery.proofs.Machine.SubscriptionSteps.{beyond}
 
 -- ---- no transaction has seq 0
 
@@ -105,7 +106,7 @@ happens r (Decides c) h n =
     λ v i. elim (In-append_cases v w.verdicts (record { id = (undecided_at w c).txn.id; rows = (undecided_at w c).given } ∷ []) i) [
       | inl j ↦ h v j
       | inr j ↦ elim j [
-        | inl e ↦ subst (λ (z : Decision). z.id.seq ≢ 0) e (flight_seq r (connection_at w c).sender (undecided_at w c) (fl.is ∙ ap Some (sym fl.at)))
+        | inl e ↦ subst (λ (z : Decision). z.id.seq ≢ 0) e (flight_seq r (speaker_number w c) (undecided_at w c) (fl.is ∙ ap Some (sym fl.at)))
         | inr k ↦ absurd k
       ]
     ]

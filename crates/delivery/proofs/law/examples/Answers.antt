@@ -33,4 +33,9 @@ returns c = record {
   lag_delivered = refl;
   lag_left = refl;
   asked_left = refl;
+  lasting_answers = refl;
+  lasting_log = refl;
+  lasting_floors = refl;
+  lasting_queue = refl;
+  lasting_delivered = refl;
 }

@@ -11,7 +11,7 @@ returns-then-is_sending c =
     let endpoint = c.index.result.now in
     let endpoints = ap (λ (x : View). x.endpoints) c.self.view_is in
     let at = c.index.ensures ∙ ap (λ (ls : List EndpointView). get_or ls c.args.connection endpoint) endpoints in
-    let sender = ap (λ (l : EndpointView). l.sender) c.behind-self.view_is in (
+    let sender = c.number_of.ensures in (
       Objection.Busy,
       idle_of v c.args.connection endpoint c.in_ok-check_open.ensures at
           ∙ (ap (sending_objection v.senders) (sym sender)
@@ -25,7 +25,7 @@ returns c =
     let endpoint = c.index.result.now in
     let endpoints = ap (λ (x : View). x.endpoints) c.self.view_is in
     let at = c.index.ensures ∙ ap (λ (ls : List EndpointView). get_or ls c.args.connection endpoint) endpoints in
-    let sender = ap (λ (l : EndpointView). l.sender) c.behind-self.view_is in
+    let sender = c.number_of.ensures in
     idle_of v c.args.connection endpoint c.in_ok-check_open.ensures at
     ∙ (ap (sending_objection v.senders) (sym sender)
     ∙ ap (λ (b : Bool). cond b (Some Objection.Busy) None) (sym c.is_sending.ensures ∙ c.if-is_sending.false))

@@ -3,7 +3,7 @@ use Rattle.std.specs.Prelude.{slice_get}
 use Rattle.std.proofs.lemmas.Option.{slice_get_past}
 use Rattle.delivery.specs.Machine.Objections.{Objection}
 use Rattle.delivery.specs.Inner.Senders.{gone_objection, there_objection}
-use Rattle.delivery.specs.Inner.View.{View, EndpointView, no_endpoint}
+use Rattle.delivery.specs.Inner.View.{View, EndpointView, no_endpoint, number_among}
 use Rattle.delivery.proofs.Views.Events.OneMove.{endpoint_read}
 use Rattle.delivery.proofs.Views.Events.ConnectionIsThere.{endpoint_found}
 use Rattle.delivery.proofs.net_state.NetState.check_there.Goals as goal
@@ -20,8 +20,9 @@ returns-in-Open c =
       ap (λ (ls : List EndpointView). there_objection (slice_get ls c.args.connection)) endpoints
           ∙ (ap there_objection (endpoint_read c.deref.result.now c.args.connection c.in-Some.endpoint.now h.3.0 h.1)
           ∙ (ap (λ (l : EndpointView). gone_objection l.stage) (sym c.endpoint.view_is) ∙ ap gone_objection c.in-Open.is)),
-      ap (λ (l : EndpointView). l.sender) (c.endpoint.view_is ∙ endpoint_found c.deref.result.now c.args.connection c.in-Some.endpoint.now no_endpoint h.3.0 h.1)
-          ∙ ap (λ (ls : List EndpointView). (get_or ls c.args.connection no_endpoint).sender) (sym endpoints),
+      c.number_of.ensures
+          ∙ (ap (number_among c.args.self.now.senders) (endpoint_found c.deref.result.now c.args.connection c.in-Some.endpoint.now no_endpoint h.3.0 h.1)
+          ∙ ap (λ (ls : List EndpointView). number_among c.args.self.now.senders (get_or ls c.args.connection no_endpoint)) (sym endpoints)),
     )
 
 pub returns-in-Leaving : goal.returns-in-Leaving
@@ -31,8 +32,9 @@ returns-in-Leaving c =
       ap (λ (ls : List EndpointView). there_objection (slice_get ls c.args.connection)) endpoints
           ∙ (ap there_objection (endpoint_read c.deref.result.now c.args.connection c.in-Some.endpoint.now h.3.0 h.1)
           ∙ (ap (λ (l : EndpointView). gone_objection l.stage) (sym c.endpoint.view_is) ∙ ap gone_objection c.in-Leaving.is)),
-      ap (λ (l : EndpointView). l.sender) (c.endpoint.view_is ∙ endpoint_found c.deref.result.now c.args.connection c.in-Some.endpoint.now no_endpoint h.3.0 h.1)
-          ∙ ap (λ (ls : List EndpointView). (get_or ls c.args.connection no_endpoint).sender) (sym endpoints),
+      c.number_of-in-Leaving.ensures
+          ∙ (ap (number_among c.args.self.now.senders) (endpoint_found c.deref.result.now c.args.connection c.in-Some.endpoint.now no_endpoint h.3.0 h.1)
+          ∙ ap (λ (ls : List EndpointView). number_among c.args.self.now.senders (get_or ls c.args.connection no_endpoint)) (sym endpoints)),
     )
 
 pub returns-in-Gone : goal.returns-in-Gone

@@ -10,7 +10,7 @@ use Rattle.delivery.proofs.net_state.NetState.launch.Goals as goal
 pub invariant_of-self-in-Ok-launch : goal.invariant_of-self-in-Ok-launch
 invariant_of-self-in-Ok-launch c =
     let senders = c.self.inside.senders.items in
-    let s = c.behind-self.inside.sender in
+    let s = c.number_of-index.result in
     let there : s < length senders = omega (arith, c.if-index-len.false, c.len.ensures, c.self.inside.senders.ok.0) in
     let idle = ap (λ (x : SenderView). is_flying x.sending) (sym c.index_mut-state.ensures.value) ∙ c.in-Ok-launch.ensures.idle in
     let promised = ap (λ (p : PromisedRows). p.promised) c.in_ok-promise.ensures.ok in
@@ -19,7 +19,7 @@ invariant_of-self-in-Ok-launch c =
 pub returns-in-Err-clause-err : goal.returns-in-Err-clause-err
 returns-in-Err-clause-err c =
     let senders = c.self.inside.senders.items in
-    let s = c.behind-self.inside.sender in
+    let s = c.number_of-index.result in
     let same = c.in-Err.ensures.err ∙ c.index_mut-state.ensures.value in
     let kept : set senders s c.launch.new.self ≡ senders = ap (λ (x : SenderView). set senders s x) same ∙ set-get_or senders s _ in
     let table = seqs_restored _ s c.add_seq.new.self c.drop_seq.new.self c.in-Ok.ensures.ok c.drop_seq.ensures in

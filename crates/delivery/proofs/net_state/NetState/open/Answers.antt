@@ -10,6 +10,7 @@ use Rattle.delivery.proofs.Views.Lists.ByNumber.{length-each_number}
 use Rattle.delivery.proofs.Views.Endpoints.NothingBeforeOpen.{untouched}
 use Rattle.delivery.proofs.Views.Events.OpenStep.{open_makes, open_without}
 use Rattle.delivery.proofs.net_state.NetState.open.Goals as goal
+use Rattle.delivery.proofs.Views.Runs.ByRunOfCore.{claimed_of}
 
 pub returns-in-Ok : goal.returns-in-Ok
 returns-in-Ok c k reached is =
@@ -19,7 +20,7 @@ returns-in-Ok c k reached is =
     many ∙ (ap (λ (v : View). length v.endpoints) (c.self.view_is ∙ is) ∙ length-each_number f 0 k.world.connections) in
     let new = c.in-Ok.ensures.ok ∙ ap with_new_endpoint is in
     subst (λ (v : View). Makes k Event.Open (Outcome.Opened c.len-connection.result) v) (sym new)
-    (subst (λ (n : ℕ). Makes k Event.Open (Outcome.Opened n) (with_new_endpoint (view_of k))) (sym number) (open_makes k (untouched k (length k.world.connections) reached (omega arith))))
+    (subst (λ (n : ℕ). Makes k Event.Open (Outcome.Opened n) (with_new_endpoint (view_of k))) (sym number) (open_makes k (claimed_of k reached) (untouched k (length k.world.connections) reached (omega arith))))
 
 pub returns-in-Err : goal.returns-in-Err
 returns-in-Err c k reached is =

@@ -1,0 +1,412 @@
+-- No two connections that are there speak for one sender, and a sender for which none speaks is idle. Who goes on as a
+-- sender has it as it was, and has it until the end.
+use Rattle.std.proofs.Common.{◌≡◌, ℕ, zero, suc, ◌<◌, ◌==◌, Bool, true, false, not, ◌&&◌, ◌||◌, ◌⊎◌, List, [], ◌∷◌, ◌++◌, length, set, get_or, Option, Some, None, inl, inr, refl, sym, ap, subst, ◌∙◌, arith, ltb}
+use Rattle.std.specs.List.{list_any}
+use Rattle.std.specs.Option.{is_some, option_map_or, unwrap_or}
+use Rattle.std.proofs.lemmas.Bool.{true≢false, and_parts, or_parts, eqb-true, eq-eqb, ltb-true, lt-ltb}
+use Rattle.mcast_txn.specs.Ballot.{Decision}
+use Rattle.mcast_txn.specs.declared.id.Topic.{Topic}
+use Rattle.mcast_txn.specs.declared.id.TxnId.{TxnId}
+use Rattle.mcast_txn.specs.declared.draft.sent_message.SentMessage.{SentMessage}
+use Rattle.mcast_txn.proofs.Members.{at_set, at_set_within}
+use Rattle.mcast_group.specs.declared.fault.ProposeFault.{ProposeFault}
+use Rattle.mcast_txn.specs.Span.{Item}
+use Rattle.mcast_group.specs.Machine.{Entry}
+use Rattle.mcast_group.proofs.Parts.{some_same, none_some, not_true}
+use Rattle.delivery.specs.Machine.Objections.{Objection}
+use Rattle.delivery.specs.Machine.World.{World, Connection, Leftover, SenderState, Standing, Undecided, is_reading, is_gone, nobody, new_sender, connection_at, sender_at, speaker, speaker_number, speaks_for, is_in_use, subscription_at, entry_at, start}
+use Rattle.delivery.specs.Machine.Moves.{Move, world_after, move_refusal, move_effect, find_leftover, find_verdict, drop_leftover, oldest_live, claimed_senders, connect_effect, commit_effect, proposal_fault, propose_effect, cancel_effect, learn_effect, take_effect, leave_effect, close_effect_of}
+use Rattle.delivery.specs.Machine.Moves.Move.{Opens, Connects, Commits, Unsubscribes, Disconnects, Errs, Lost, Leaves, Proposes, Decides, Withdraws, Cancels, Learns, Takes}
+use Rattle.delivery.specs.Machine.Moves.Answer.{Refused, Done}
+use Rattle.delivery.specs.Machine.Runs.{run}
+use Rattle.delivery.specs.Theorem.Laws.{Run, final_world}
+use Rattle.delivery.specs.Theorem.Reported
+use Rattle.delivery.proofs.Machine.Invariant.{sender_in}
+use Rattle.delivery.proofs.Machine.SubscriptionSteps.{at_push, at_end, push_length, set_length, beyond}
+use Rattle.delivery.proofs.Machine.InvariantIsKept.{by_refusal, checked, false_not}
+use Rattle.delivery.proofs.Machine.Speakers.{has_speaker, flying_speaker, claim_there, claim_free}
+
+-- the connection of this number in a list; beyond its end, nobody
+abbrev connection_in : List Connection → ℕ → Connection
+connection_in connections c = get_or connections c nobody
+
+-- none of these connections speaks for s
+abbrev pub Unspoken : List Connection → ℕ → Type 0
+Unspoken connections s = (c : ℕ) → speaks_for s (connection_in connections c) ≡ false
+
+-- the sender has no undecided transaction, and nothing to cancel
+abbrev pub Rests : SenderState → Type 0
+Rests x = (x.flight ≡ None) × (x.leftovers ≡ [])
+
+-- whom a connection speaks for is there; no two that are there speak for one; and one for which none speaks rests
+pub record Speak (senders : List SenderState) (connections : List Connection) : Type 0 where
+  pub there : (c s : ℕ) → (connection_in connections c).sender ≡ Some s → s < length senders
+  pub own : (c d s : ℕ) → speaks_for s (connection_in connections c) ≡ true → speaks_for s (connection_in connections d) ≡ true → c ≡ d
+  pub resting : (s : ℕ) → Unspoken connections s → Rests (sender_in senders s)
+
+-- ---- speaking
+
+sender_case : (s : ℕ) (o : Option ℕ) → option_map_or (λ n. n == s) o false ≡ true → o ≡ Some s
+sender_case s None e = absurd (true≢false (sym e))
+sender_case s (Some n) e = ap Some (eqb-true n s e)
+
+-- who speaks for a sender has it
+pub spoken_sender : (s : ℕ) (x : Connection) → speaks_for s x ≡ true → x.sender ≡ Some s
+spoken_sender s x e = sender_case s x.sender (and_parts (not (is_gone x.standing)) _ e).1
+
+-- who has a sender, and isn't gone, speaks for it
+pub speaks : (s : ℕ) (x : Connection) → is_gone x.standing ≡ false → x.sender ≡ Some s → speaks_for s x ≡ true
+speaks s x there own =
+    ap (λ (b : Bool). not b && option_map_or (λ n. n == s) x.sender false) there
+    ∙ (ap (λ (o : Option ℕ). option_map_or (λ n. n == s) o false) own ∙ eq-eqb s s refl)
+
+-- who has none speaks for none
+silent : (s : ℕ) (x : Connection) → x.sender ≡ None → speaks_for s x ≡ false
+silent s x none = not_true (speaks_for s x) refl (λ e. none_some s (sym none ∙ spoken_sender s x e))
+
+unspoken_case : (s : ℕ) (connections : List Connection) → list_any (speaks_for s) connections ≡ false → Unspoken connections s
+unspoken_case s [] e c = refl
+unspoken_case s (x ∷ xs) e zero = (or_parts (speaks_for s x) (list_any (speaks_for s) xs) e).0
+unspoken_case s (x ∷ xs) e (suc c) = unspoken_case s xs (or_parts (speaks_for s x) (list_any (speaks_for s) xs) e).1 c
+
+-- for a sender that isn't in use none speaks
+pub unspoken : (w : World) (s : ℕ) → is_in_use w s ≡ false → Unspoken w.connections s
+unspoken w s e = unspoken_case s w.connections e
+
+-- an open connection isn't gone
+pub reading_there : (standing : Standing) → is_reading standing ≡ true → is_gone standing ≡ false
+reading_there Standing.Open e = refl
+reading_there Standing.Leaving e = absurd (true≢false (sym e))
+reading_there Standing.Gone e = absurd (true≢false (sym e))
+
+-- ---- writing
+
+-- a sender is written for which a connection speaks
+sender_kept : (senders : List SenderState) (connections : List Connection) (c s : ℕ) (x : SenderState) → speaks_for s (connection_in connections c) ≡ true → Speak senders connections → Speak (set senders s x) connections
+sender_kept senders connections c s x e h = record {
+  there = λ d r k. let l : r < length senders = h.there d r k in let m : length (set senders s x) ≡ length senders = set_length senders s x in omega arith;
+  own = h.own;
+  resting = λ r u. at_set (λ (z : SenderState). Rests z) senders s r x new_sender
+      (λ k. absurd (true≢false (sym e ∙ subst (λ n. speaks_for n (connection_in connections c) ≡ false) k (u c)))) (h.resting r u);
+}
+
+-- a sender is written that rests where it rested
+rest_kept : (senders : List SenderState) (connections : List Connection) (s : ℕ) (x : SenderState) → (Rests (sender_in senders s) → Rests x) → Speak senders connections → Speak (set senders s x) connections
+rest_kept senders connections s x e h = record {
+  there = λ d r k. let l : r < length senders = h.there d r k in let m : length (set senders s x) ≡ length senders = set_length senders s x in omega arith;
+  own = h.own;
+  resting = λ r u. at_set (λ (z : SenderState). Rests z) senders s r x new_sender
+      (λ k. e (subst (λ n. Rests (sender_in senders n)) k (h.resting r u))) (h.resting r u);
+}
+
+-- each connection speaks for whom it spoke
+same_speaking : (senders : List SenderState) (connections others : List Connection) → ((c : ℕ) → (connection_in others c).sender ≡ (connection_in connections c).sender)
+    → ((c s : ℕ) → speaks_for s (connection_in others c) ≡ speaks_for s (connection_in connections c)) → Speak senders connections → Speak senders others
+same_speaking senders connections others same alike h = record {
+  there = λ c s e. h.there c s (sym (same c) ∙ e);
+  own = λ c d s e f. h.own c d s (sym (alike c s) ∙ e) (sym (alike d s) ∙ f);
+  resting = λ s u. h.resting s (λ c. sym (alike c s) ∙ u c);
+}
+
+-- a connection that is there stays there
+standing_kept : (senders : List SenderState) (connections : List Connection) (c : ℕ) (standing : Standing) → is_gone standing ≡ false → is_gone (connection_in connections c).standing ≡ false
+    → Speak senders connections → Speak senders (set connections c (record { sender = (connection_in connections c).sender; standing = standing }))
+standing_kept senders connections c standing n o h =
+    same_speaking senders connections (set connections c new)
+    (λ d. at_set (λ (z : Connection). z.sender ≡ (connection_in connections d).sender) connections c d new nobody (λ k. ap (λ a. (connection_in connections a).sender) (sym k)) refl)
+    (λ d s. at_set (λ (z : Connection). speaks_for s z ≡ speaks_for s (connection_in connections d)) connections c d new nobody
+    (λ k. ap (λ (b : Bool). not b && option_map_or (λ m. m == s) (connection_in connections c).sender false) (n ∙ sym o) ∙ ap (λ a. speaks_for s (connection_in connections a)) (sym k)) refl)
+    h
+  where
+    new : Connection
+    new = record { sender = (connection_in connections c).sender; standing = standing }
+
+-- a connection is gone, whose sender rests
+departed : (w : World) (c : ℕ) → Rests (speaker w c) → Speak w.senders w.connections
+    → Speak w.senders (set w.connections c (record { sender = (connection_at w c).sender; standing = Standing.Gone }))
+departed w c rests h = record {
+  there = λ d s. at_set (λ (z : Connection). z.sender ≡ Some s → s < length w.senders) w.connections c d _ nobody (λ k. h.there c s) (h.there d s);
+  own = λ d b s e f. h.own d b s (spoke d s e) (spoke b s f);
+  resting = λ s u. rest s u (speaks_for s (connection_at w c)) refl;
+}
+  where
+    others : List Connection
+    others = set w.connections c (record { sender = (connection_at w c).sender; standing = Standing.Gone })
+
+    spoke : (d s : ℕ) → speaks_for s (connection_in others d) ≡ true → speaks_for s (connection_at w d) ≡ true
+    spoke d s = at_set (λ (z : Connection). speaks_for s z ≡ true → speaks_for s (connection_at w d) ≡ true) w.connections c d _ nobody
+        (λ k e. absurd (true≢false (sym e))) (λ e. e)
+
+    silent_else : (s : ℕ) → Unspoken others s → speaks_for s (connection_at w c) ≡ false → Unspoken w.connections s
+    silent_else s u n d = at_set (λ (z : Connection). speaks_for s z ≡ false → speaks_for s (connection_at w d) ≡ false) w.connections c d _ nobody
+        (λ k e. subst (λ a. speaks_for s (connection_at w a) ≡ false) (sym k) n) (λ e. e) (u d)
+
+    rest : (s : ℕ) → Unspoken others s → (b : Bool) → speaks_for s (connection_at w c) ≡ b → Rests (sender_in w.senders s)
+    rest s u true e = subst (λ a. Rests (sender_in w.senders a)) (ap (λ (o : Option ℕ). unwrap_or o (length w.senders)) (spoken_sender s (connection_at w c) e)) rests
+    rest s u false e = h.resting s (silent_else s u e)
+
+-- a connection is opened
+opened : (senders : List SenderState) (connections : List Connection) (x : Connection) → x.sender ≡ None → Speak senders connections → Speak senders (connections ++ x ∷ [])
+opened senders connections x none h =
+    same_speaking senders connections (connections ++ x ∷ [])
+    (λ c. at_push (λ (z : Connection). z.sender ≡ (connection_in connections c).sender) connections c x nobody (λ k e. none ∙ e) refl)
+    (λ c s. at_push (λ (z : Connection). speaks_for s z ≡ speaks_for s (connection_in connections c)) connections c x nobody (λ k e. silent s x none ∙ e) refl)
+    h
+
+-- a new sender rests, for which none speaks
+begun : (senders : List SenderState) (connections : List Connection) → Speak senders connections → Speak (senders ++ new_sender ∷ []) connections
+begun senders connections h = record {
+  there = λ c s e. let l : s < length senders = h.there c s e in let m = push_length senders new_sender in omega arith;
+  own = h.own;
+  resting = λ s u. at_push (λ (z : SenderState). Rests z) senders s new_sender new_sender (λ e o. o) (h.resting s u);
+}
+
+-- a connection that has no sender speaks for one that is there, for which none spoke
+joined : (senders : List SenderState) (connections : List Connection) (c s : ℕ) → s < length senders → c < length connections → is_gone (connection_in connections c).standing ≡ false
+    → (connection_in connections c).sender ≡ None → Unspoken connections s → Speak senders connections
+    → Speak senders (set connections c (record { sender = Some s; standing = (connection_in connections c).standing }))
+joined senders connections c s l room there none free h = record {
+  there = λ d r. at_set (λ (z : Connection). z.sender ≡ Some r → r < length senders) connections c d new nobody
+      (λ k e. subst (λ n. n < length senders) (some_same s r e) l) (h.there d r);
+  own = λ d b r e f. both r d b (whose r d e) (whose r b f);
+  resting = λ r u. rest r u (s == r) refl;
+}
+  where
+    new : Connection
+    new = record { sender = Some s; standing = (connection_in connections c).standing }
+
+    -- who speaks now is the connection, for s, or spoke before
+    whose : (r d : ℕ) → speaks_for r (connection_in (set connections c new) d) ≡ true → ((d ≡ c) × (s ≡ r)) ⊎ (speaks_for r (connection_in connections d) ≡ true)
+    whose r d = at_set (λ (z : Connection). speaks_for r z ≡ true → ((d ≡ c) × (s ≡ r)) ⊎ (speaks_for r (connection_in connections d) ≡ true)) connections c d new nobody
+        (λ k e. inl (k, some_same s r (spoken_sender r new e))) (λ e. inr e)
+
+    taken : (r d : ℕ) → s ≡ r → speaks_for r (connection_in connections d) ≡ true → Prim.⊥
+    taken r d k e = true≢false (sym e ∙ subst (λ n. speaks_for n (connection_in connections d) ≡ false) k (free d))
+
+    both : (r d b : ℕ) → ((d ≡ c) × (s ≡ r)) ⊎ (speaks_for r (connection_in connections d) ≡ true) → ((b ≡ c) × (s ≡ r)) ⊎ (speaks_for r (connection_in connections b) ≡ true) → d ≡ b
+    both r d b (inl e) (inl f) = e.0 ∙ sym f.0
+    both r d b (inl e) (inr f) = absurd (taken r b e.1 f)
+    both r d b (inr e) (inl f) = absurd (taken r d f.1 e)
+    both r d b (inr e) (inr f) = h.own d b r e f
+
+    now : speaks_for s (connection_in (set connections c new) c) ≡ true
+    now = at_set_within (λ (z : Connection). speaks_for s z ≡ true) connections c c new nobody room (λ k. speaks s new there refl) (λ ne. absurd (ne refl))
+
+    before : (r : ℕ) → Unspoken (set connections c new) r → Unspoken connections r
+    before r u d = at_set (λ (z : Connection). speaks_for r z ≡ false → speaks_for r (connection_in connections d) ≡ false) connections c d new nobody
+        (λ k e. subst (λ a. speaks_for r (connection_in connections a) ≡ false) (sym k) (silent r (connection_in connections c) none)) (λ e. e) (u d)
+
+    rest : (r : ℕ) → Unspoken (set connections c new) r → (b : Bool) → (s == r) ≡ b → Rests (sender_in senders r)
+    rest r u true e = absurd (true≢false (sym now ∙ subst (λ n. speaks_for n (connection_in (set connections c new) c) ≡ false) (sym (eqb-true s r e)) (u c)))
+    rest r u false e = h.resting r (before r u)
+
+-- ---- each move
+
+-- each sender of a core is spoken for by one connection at most, and rests where there is none
+abbrev pub Speaks : World → Type 0
+Speaks w = Speak w.senders w.connections
+
+is_none : (o : Option ℕ) → is_some o ≡ false → o ≡ None
+is_none None e = refl
+is_none (Some n) e = absurd (true≢false e)
+
+-- for the number of the next sender none speaks
+next_free : (w : World) → Speaks w → Unspoken w.connections (length w.senders)
+next_free w h c = not_true (speaks_for (length w.senders) (connection_at w c)) refl
+    (λ e. let l : length w.senders < length w.senders = h.there c (length w.senders) (spoken_sender (length w.senders) (connection_at w c) e) in omega arith)
+
+connected : (w : World) (c : ℕ) (claimed : Option ℕ) → move_refusal w (Connects c claimed) ≡ None → Speaks w → Speaks (connect_effect w c claimed)
+connected w c claimed n h = by_claim claimed (claim_there w c claimed n) (claim_free w c claimed n)
+  where
+    room : c < length w.connections
+    room = ltb-true c (length w.connections) (false_not _ (checked w (Connects c claimed) n).0)
+
+    none : (connection_at w c).sender ≡ None
+    none = is_none (connection_at w c).sender (checked w (Connects c claimed) n).1.1.1.0
+
+    by_claim : (o : Option ℕ) → ((s : ℕ) → o ≡ Some s → s < length w.senders) → ((s : ℕ) → o ≡ Some s → is_in_use w s ≡ false) → Speaks (connect_effect w c o)
+    by_claim None there free =
+        joined (w.senders ++ new_sender ∷ []) w.connections c (length w.senders) (let m = push_length w.senders new_sender in omega arith) room
+        (checked w (Connects c claimed) n).1.0 none (next_free w h) (begun w.senders w.connections h)
+    by_claim (Some s) there free =
+        joined w.senders w.connections c s (there s refl) room (checked w (Connects c claimed) n).1.0 none (unspoken w s (free s refl)) h
+
+-- a connection that is there has a sender with a transaction in flight, and speaks for it
+pub flying_speaks : (w : World) (c : ℕ) → is_gone (connection_at w c).standing ≡ false → not (is_some (speaker w c).flight) ≡ false → speaks_for (speaker_number w c) (connection_at w c) ≡ true
+flying_speaks w c there e = speaks (speaker_number w c) (connection_at w c) there (flying_speaker w c (false_not _ e))
+
+flown : (w : World) (c : ℕ) (sends : List SentMessage) → speaks_for (speaker_number w c) (connection_at w c) ≡ true → Speaks w → Speaks (commit_effect w c sends)
+flown w c [] e h = h
+flown w c (first ∷ others) e h = sender_kept w.senders w.connections c (speaker_number w c) _ e h
+
+proposed : (w : World) (c : ℕ) (t : Topic) (o : Option ProposeFault) → speaks_for (speaker_number w c) (connection_at w c) ≡ true → Speaks w → Speaks (propose_effect w c t o)
+proposed w c t None e h = sender_kept w.senders w.connections c (speaker_number w c) _ e h
+proposed w c t (Some fault) e h = sender_kept w.senders w.connections c (speaker_number w c) _ e h
+
+cancelled : (w : World) (c : ℕ) (t : Topic) (o : Option Leftover) → Speaks w → Speaks (cancel_effect w c t o)
+cancelled w c t None h = h
+cancelled w c t (Some k) h = rest_kept w.senders w.connections (speaker_number w c) _ (λ r. (r.0, ap (drop_leftover t) r.1)) h
+
+learned : (w : World) (t : Topic) (id : TxnId) (o : Option Decision) → Speaks w → Speaks (learn_effect w t id o)
+learned w t id None h = h
+learned w t id (Some v) h = h
+
+closed : (w : World) (s : ℕ) (o : Option Entry) → Speaks w → Speaks (close_effect_of w s o)
+closed w s None h = h
+closed w s (Some e) h = h
+
+handed : (w : World) (s : ℕ) (o : Option Item) → is_gone (connection_at w (subscription_at w s).connection).standing ≡ false → Speaks w → Speaks (take_effect w s o)
+handed w s None there h = standing_kept w.senders w.connections (subscription_at w s).connection Standing.Leaving refl there h
+handed w s (Some item) there h = h
+
+no_flight : (o : Option Undecided) → is_some o ≡ false → o ≡ None
+no_flight None e = refl
+no_flight (Some f) e = absurd (true≢false e)
+
+no_leftovers : (ks : List Leftover) → ltb 0 (length ks) ≡ false → ks ≡ []
+no_leftovers [] e = refl
+no_leftovers (k ∷ ks) e = absurd (true≢false (sym (lt-ltb 0 (length (k ∷ ks)) (omega arith)) ∙ e))
+
+left : (w : World) (c : ℕ) (o : Option ℕ) → (not (is_some o) && (is_some (speaker w c).flight || ltb 0 (length (speaker w c).leftovers))) ≡ false → Speaks w → Speaks (leave_effect w c o)
+left w c None idle h =
+    let k = or_parts (is_some (speaker w c).flight) (ltb 0 (length (speaker w c).leftovers)) idle in
+    departed w c (no_flight (speaker w c).flight k.0, no_leftovers (speaker w c).leftovers k.1) h
+left w c (Some s) idle h = closed w s (entry_at w s) h
+
+-- each move keeps it
+pub effect_speaks : (w : World) (e : Move) → move_refusal w e ≡ None → Speaks w → Speaks (move_effect w e)
+effect_speaks w Opens n h = opened w.senders w.connections _ refl h
+effect_speaks w (Connects c claimed) n h = connected w c claimed n h
+effect_speaks w (Commits c sends) n h =
+    let p = checked w (Commits c sends) n in
+    flown w c sends (speaks (speaker_number w c) (connection_at w c) p.1.0 (has_speaker w c (false_not _ p.1.1.1.0))) h
+effect_speaks w (Unsubscribes c s) n h = closed w s (entry_at w s) h
+effect_speaks w (Disconnects c) n h = standing_kept w.senders w.connections c Standing.Leaving refl (checked w (Disconnects c) n).1.0 h
+effect_speaks w (Errs c) n h = standing_kept w.senders w.connections c Standing.Leaving refl (checked w (Errs c) n).1.0 h
+effect_speaks w (Lost c) n h = standing_kept w.senders w.connections c Standing.Leaving refl (checked w (Lost c) n).1.0 h
+effect_speaks w (Leaves c) n h = left w c (oldest_live c 0 w.subscriptions) (checked w (Leaves c) n).1.1.1.0 h
+effect_speaks w (Proposes c t memory) n h =
+    let p = checked w (Proposes c t memory) n in proposed w c t (proposal_fault w c t memory) (flying_speaks w c p.1.0 p.1.1.0) h
+effect_speaks w (Decides c) n h =
+    let p = checked w (Decides c) n in sender_kept w.senders w.connections c (speaker_number w c) _ (flying_speaks w c p.1.0 p.1.1.0) h
+effect_speaks w (Withdraws c) n h =
+    let p = checked w (Withdraws c) n in
+    standing_kept _ w.connections c Standing.Leaving refl p.1.0 (sender_kept w.senders w.connections c (speaker_number w c) _ (flying_speaks w c p.1.0 p.1.1.0) h)
+effect_speaks w (Cancels c t) n h = cancelled w c t (find_leftover t (speaker w c).leftovers) h
+effect_speaks w (Learns t id) n h = learned w t id (find_verdict id w.verdicts) h
+effect_speaks w (Takes s) n h =
+    let p = (checked w (Takes s) n).1.0 in
+    handed w s _ (reading_there (connection_at w (subscription_at w s).connection).standing (false_not _ (or_parts (is_some (subscription_at w s).closed) _ p).1)) h
+effect_speaks w _ n h = h
+
+-- so does each event
+pub step_speaks : (w : World) (e : Move) → Speaks w → Speaks (world_after w e)
+step_speaks w e h = by_refusal (λ v o. Speaks v) w e (λ why. h) (λ n. effect_speaks w e n h)
+
+-- and each list of events
+pub run_speaks : (es : List Move) (w : World) → Speaks w → Speaks (run es w)
+run_speaks [] w h = h
+run_speaks (e ∷ es) w h = run_speaks es (world_after w e) (step_speaks w e h)
+
+-- it holds at the start
+pub start_speaks : (capacity log_limit : ℕ) (clocks : List ℕ) → Speaks (start capacity log_limit clocks)
+start_speaks capacity log_limit clocks = record {
+  there = λ c s e. none_some s e;
+  own = λ c d s e. absurd (true≢false (sym e));
+  resting = λ s u. (refl, refl);
+}
+
+-- so after each run
+pub speak : (r : Run) → Speaks (final_world r)
+speak r = run_speaks r.events (start r.capacity r.log_limit r.clocks) (start_speaks r.capacity r.log_limit r.clocks)
+
+-- ---- the laws
+
+pub senders_are_own : Reported.SendersAreOwn
+senders_are_own r c d s e f =
+    let h = speak r in (h.own c d s e f, h.there c s (spoken_sender s (connection_at (final_world r) c) e))
+
+pub resting_are_idle : Reported.RestingAreIdle
+resting_are_idle r s e = (speak r).resting s (unspoken (final_world r) s e)
+
+-- whom a connection speaks for it speaks for on
+abbrev Keeps : World → List Connection → Type 0
+Keeps w connections = (c s : ℕ) → (connection_at w c).sender ≡ Some s → (connection_in connections c).sender ≡ Some s
+
+keeps_standing : (w : World) (c : ℕ) (standing : Standing) → Keeps w (set w.connections c (record { sender = (connection_at w c).sender; standing = standing }))
+keeps_standing w c standing d s e =
+    at_set (λ (z : Connection). z.sender ≡ Some s) w.connections c d _ nobody (λ k. subst (λ n. (connection_at w n).sender ≡ Some s) k e) e
+
+keeps_flown : (w : World) (c : ℕ) (sends : List SentMessage) → Keeps w (commit_effect w c sends).connections
+keeps_flown w c [] d s e = e
+keeps_flown w c (first ∷ others) d s e = e
+
+keeps_proposed : (w : World) (c : ℕ) (t : Topic) (o : Option ProposeFault) → Keeps w (propose_effect w c t o).connections
+keeps_proposed w c t None d s e = e
+keeps_proposed w c t (Some fault) d s e = e
+
+keeps_cancelled : (w : World) (c : ℕ) (t : Topic) (o : Option Leftover) → Keeps w (cancel_effect w c t o).connections
+keeps_cancelled w c t None d s e = e
+keeps_cancelled w c t (Some k) d s e = e
+
+keeps_learned : (w : World) (t : Topic) (id : TxnId) (o : Option Decision) → Keeps w (learn_effect w t id o).connections
+keeps_learned w t id None d s e = e
+keeps_learned w t id (Some v) d s e = e
+
+keeps_closed : (w : World) (r : ℕ) (o : Option Entry) → Keeps w (close_effect_of w r o).connections
+keeps_closed w r None d s e = e
+keeps_closed w r (Some entry) d s e = e
+
+keeps_left : (w : World) (c : ℕ) (o : Option ℕ) → Keeps w (leave_effect w c o).connections
+keeps_left w c None = keeps_standing w c Standing.Gone
+keeps_left w c (Some s) = keeps_closed w s (entry_at w s)
+
+keeps_handed : (w : World) (r : ℕ) (o : Option Item) → Keeps w (take_effect w r o).connections
+keeps_handed w r None d s e = keeps_standing w (subscription_at w r).connection Standing.Leaving d s e
+keeps_handed w r (Some item) d s e = e
+
+effect_keeps : (w : World) (e : Move) → move_refusal w e ≡ None → Keeps w (move_effect w e).connections
+effect_keeps w Opens n = λ c s e. at_push (λ (z : Connection). z.sender ≡ Some s) w.connections c _ nobody (λ k o. none_some s o) e
+effect_keeps w (Connects c claimed) n = λ d s e.
+    at_set (λ (z : Connection). z.sender ≡ Some s) w.connections c d _ nobody
+    (λ k. none_some s (sym (is_none (connection_at w c).sender (checked w (Connects c claimed) n).1.1.1.0) ∙ subst (λ a. (connection_at w a).sender ≡ Some s) k e)) e
+effect_keeps w (Commits c sends) n = keeps_flown w c sends
+effect_keeps w (Unsubscribes c s) n = keeps_closed w s (entry_at w s)
+effect_keeps w (Disconnects c) n = keeps_standing w c Standing.Leaving
+effect_keeps w (Errs c) n = keeps_standing w c Standing.Leaving
+effect_keeps w (Lost c) n = keeps_standing w c Standing.Leaving
+effect_keeps w (Leaves c) n = keeps_left w c (oldest_live c 0 w.subscriptions)
+effect_keeps w (Proposes c t memory) n = keeps_proposed w c t (proposal_fault w c t memory)
+effect_keeps w (Withdraws c) n = keeps_standing w c Standing.Leaving
+effect_keeps w (Cancels c t) n = keeps_cancelled w c t (find_leftover t (speaker w c).leftovers)
+effect_keeps w (Learns t id) n = keeps_learned w t id (find_verdict id w.verdicts)
+effect_keeps w (Takes s) n = keeps_handed w s _
+effect_keeps w _ n = λ c s e. e
+
+pub senders_stay : Reported.SendersStay
+senders_stay w e = by_refusal (λ v o. Keeps w v.connections) w e (λ why c s k. k) (λ n. effect_keeps w e n)
+
+-- ---- going on
+
+abbrev GoesOn : World → ℕ → Option ℕ → World → Type 0
+GoesOn w c claimed v =
+    ((connection_at v c).sender ≡ Some (unwrap_or claimed (length w.senders))) × (speaker v c ≡ sender_at w (unwrap_or claimed (length w.senders)))
+
+same_after : (w : World) (claimed : Option ℕ) → sender_in (claimed_senders w.senders claimed) (unwrap_or claimed (length w.senders)) ≡ sender_at w (unwrap_or claimed (length w.senders))
+same_after w None =
+    at_end (λ (z : SenderState). z ≡ sender_at w (length w.senders)) w.senders new_sender new_sender (sym (beyond w.senders (length w.senders) new_sender (omega arith)))
+same_after w (Some s) = refl
+
+goes_on : (w : World) (c : ℕ) (claimed : Option ℕ) → move_refusal w (Connects c claimed) ≡ None → GoesOn w c claimed (connect_effect w c claimed)
+goes_on w c claimed n = (is, ap (λ (o : Option ℕ). sender_in (claimed_senders w.senders claimed) (unwrap_or o (length (claimed_senders w.senders claimed)))) is ∙ same_after w claimed)
+  where
+    is : (connection_at (connect_effect w c claimed) c).sender ≡ Some (unwrap_or claimed (length w.senders))
+    is = at_set_within (λ (z : Connection). z.sender ≡ Some (unwrap_or claimed (length w.senders))) w.connections c c _ nobody
+        (ltb-true c (length w.connections) (false_not _ (checked w (Connects c claimed) n).0)) (λ k. refl) (λ ne. absurd (ne refl))
+
+pub claims_go_on : Reported.ClaimsGoOn
+claims_go_on w c claimed =
+    by_refusal (λ v o. o ≡ Done → GoesOn w c claimed v) w (Connects c claimed) (λ why k. absurd (by why k)) (λ n k. goes_on w c claimed n)
+  where
+    by : (why : Objection) → Refused why ≡ Done → Prim.⊥
+    by why k = cc
