@@ -1,8 +1,9 @@
 //! What one topic's lock guards.
 
-ghost use Rattle.std.specs.Prelude.{◌≡◌, ◌≢◌, ◌+◌, ◌*◌, ◌<◌, ℕ, [], None, Some, IfOk, IfErr, IfSome, OnOk, OnErr};
+ghost use Rattle.std.specs.Prelude.{◌≡◌, ◌≢◌, ◌⊎◌, ◌+◌, ◌*◌, ◌<◌, ℕ, [], None, Some, IfOk, IfErr, IfSome, OnOk, OnErr};
 ghost use Rattle.sub_queue.specs.Ends.{shown_of_source};
-ghost use Rattle.mcast_group.specs.Group.{result_of};
+ghost use Rattle.mcast_group.specs.Group.{or_no_memory, result_of};
+ghost use Rattle.mcast_group.specs.declared.fault.ProposeFault.TheVariants.{ClockFull};
 ghost use Rattle.mcast_group.specs.Machine.{cancel_fault, next_number};
 ghost use Rattle.delivery.specs.Topics.{max_topics};
 ghost use Rattle.trace_audit.specs.declared.fault.AddFault.TheVariants.{Misfit};
@@ -120,6 +121,8 @@ impl<R: Wait, T: Side> LockedTopic<R, T> {
         }) }
         ensures ok { OnOk result (self.new.place ≡ place_after_propose floor proposal self.old.place) }
         ensures counted { OnOk result (mine.new.amount ≡ mine.old.amount + 1) }
+        ensures fault { IfErr result (λ fault. (fault ≡ or_no_memory (place_fault floor proposal.part self.old.place))
+            ⊎ ((place_fault floor proposal.part self.old.place ≡ None) × (fault ≡ ClockFull))) }
         ensures same { OnErr result (self.new.place ≡ self.old.place) }
         ensures uncounted { OnErr result (mine.new.amount ≡ mine.old.amount) }
     {

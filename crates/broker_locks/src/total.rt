@@ -1,6 +1,6 @@
 //! The total of a broker's tickets.
 
-ghost use Rattle.std.specs.Prelude.{◌≡◌, ◌+◌, ◌<◌, ◌≤◌, Ok, Err, IfSome, IfNone, OnOk, OnErr};
+ghost use Rattle.std.specs.Prelude.{◌≡◌, ◌+◌, ◌<◌, ◌≤◌, Ok, Err, IfSome, IfNone, OnOk, IfErr, OnErr};
 ghost use Rattle.mcast_group.specs.declared.fault.ProposeFault.TheVariants.{ClockFull};
 ghost use Rattle.broker_locks.specs.Tickets.{most_tickets};
 
@@ -45,6 +45,7 @@ impl<W: Side, T: Side> Total<W, T> {
         requires here { 0 < here.old.parts }
         ensures left { self.old.tickets < most_tickets → result ≡ Ok tt }
         ensures full { self.old.tickets ≡ most_tickets → result ≡ Err ClockFull }
+        ensures fault { IfErr result (λ fault. fault ≡ ClockFull) }
         ensures parts { (mine.new.parts ≡ mine.old.parts) × (here.new.parts ≡ here.old.parts) }
         ensures mine { OnOk result (mine.new.amount ≡ mine.old.amount + 1) }
         ensures here { OnOk result (here.new.amount ≡ here.old.amount + 1) }
