@@ -12,6 +12,7 @@ use std::rc::Rc;
 pub const LOG_LIMIT: usize = 65_536;
 const OPEN_LIMIT: usize = 64;
 const SENDS_LIMIT: usize = 64;
+const TOPICS_LIMIT: usize = 1_024;
 
 /// Numbers and topics, ordered by the number first.
 #[derive(Clone, Copy, PartialEq, Eq, PartialOrd, Ord)]
@@ -101,6 +102,17 @@ struct Topic {
 }
 
 impl Topic {
+    fn new(name: &[u8], clock: u64) -> Topic {
+        Topic {
+            name: name.to_vec(),
+            clock,
+            pending: BTreeMap::new(),
+            keys: HashMap::new(),
+            log: Vec::new(),
+            open: Vec::new(),
+        }
+    }
+
     fn frontier(&self) -> Stamp {
         self.log.last().map_or(ZERO, |row| row.stamp)
     }
@@ -233,14 +245,7 @@ pub struct Core {
 
 impl Core {
     pub fn new(capacity: usize, topics: &[(Vec<u8>, u64)]) -> Core {
-        let topic = |(name, clock): &(Vec<u8>, u64)| Topic {
-            name: name.clone(),
-            clock: *clock,
-            pending: BTreeMap::new(),
-            keys: HashMap::new(),
-            log: Vec::new(),
-            open: Vec::new(),
-        };
+        let topic = |(name, clock): &(Vec<u8>, u64)| Topic::new(name, *clock);
         Core {
             capacity,
             topics: topics.iter().map(topic).collect(),
@@ -358,14 +363,33 @@ impl Core {
             self.connections[c as usize].error(&fault, receipt.as_deref(), lack);
             return Ok(Some(format!("error {fault}")));
         }
+        if let Some(name) = frame.destination() {
+            if self.place(name).is_none() {
+                self.topics.push(Topic::new(name, 0));
+            }
+        }
         Ok(Some(self.act(c as usize, action, frame.receipt())))
+    }
+
+    /// The number of the topic of this name.
+    fn place(&self, name: &[u8]) -> Option<usize> {
+        self.topics.iter().position(|topic| topic.name == name)
+    }
+
+    /// The same, or of a name that has none the number of the topic that is to be made.
+    fn place_or_next(&self, name: &[u8]) -> Result<usize, &'static str> {
+        match self.place(name) {
+            Some(place) => Ok(place),
+            None if name.is_empty() || !name.iter().all(u8::is_ascii_graphic) => Err("76 BadDestination"),
+            None if self.topics.len() >= TOPICS_LIMIT => Err("75 TooManyTopics"),
+            None => Ok(self.topics.len()),
+        }
     }
 
     /// What the session makes of a client's frame, and why it refuses it.
     fn judge(&mut self, c: usize, frame: &WholeFrame) -> Result<Action, &'static str> {
         let header = |name| frame.first(name).unwrap_or_default();
-        let named = |topic: &Topic| topic.name == header("destination");
-        let topic = self.topics.iter().position(named).ok_or("67 UnknownDestination");
+        let topic = self.place_or_next(header("destination"));
         let connection = &mut self.connections[c];
         match (connection.is_connected, frame.command) {
             (true, Command::Connect) => Err("61 AlreadyConnected"),

@@ -15,6 +15,8 @@ pub record SubName : Type 0 where
 -- A call of the broker, with what it answered. So `Claims None (Ok gate)` is a CONNECT without client-id that got
 -- the gate of a new sender.
 pub data BrokerRow : Type 0 where
+  -- the names of all topics were looked up: those that the connection knew, and those that it knows then
+  LooksUp : List (List ℕ) → List (List ℕ) → BrokerRow
   -- the sender of this client-id, or a new one where there is none, was claimed
   Claims : Option (List ℕ) → Result GateState ClaimFault → BrokerRow
   -- the gate was given back

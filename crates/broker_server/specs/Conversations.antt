@@ -11,13 +11,14 @@ use Rattle.broker_locks.specs.declared.fault.CommitFault.{CommitFault}
 use Rattle.stomp_frame.specs.declared.raw_frame.RawFrame.{RawFrame}
 use Rattle.stomp_frame.specs.Cases.{is_connect}
 use Rattle.stomp_frame.specs.Headers.{first_of}
-use Rattle.stomp_frame.specs.Reader.{Unread}
+use Rattle.stomp_frame.specs.Reader.{Unread, unread_of}
 use Rattle.stomp_frame.specs.ServerFrames.{connected_frame, receipt_frame}
 use Rattle.stomp_frame.specs.Writing.{spelling_of}
 use Rattle.stomp_session.specs.declared.action.Action.{Action}
 use Rattle.stomp_session.specs.declared.action.Action.TheVariants as actions
 use Rattle.stomp_session.specs.declared.action.Step.{Step}
-use Rattle.stomp_session.specs.Open.{Held, after_close}
+use Rattle.stomp_session.specs.Open.{SessionState, StandsFor, after_close}
+use Rattle.delivery.specs.Core.Steps.{reader_limits}
 use Rattle.broker_server.specs.declared.conversation.conversation_fault.ConversationFault.{ConversationFault}
 use Rattle.broker_server.specs.declared.conversation.conversation_fault.ConversationFault.TheVariants as fault
 use Rattle.broker_server.specs.declared.conversation.exit.Exit.{Exit}
@@ -25,22 +26,36 @@ use Rattle.broker_server.specs.declared.conversation.exit.Exit.TheVariants as ex
 use Rattle.broker_server.specs.BrokerRows.{BrokerRow, SubName, Claims, GivesBack, Subscribes, Unsubscribes, Commits}
 use Rattle.broker_server.specs.ConversationFaults.{told_error}
 
--- an open subscription of a connection: the id that its SUBSCRIBE gave it, which one of the broker it is, and
--- whether the broker said that it has lagged
+-- an open subscription of a connection: the id that its SUBSCRIBE gave it, which one of the broker it is, how many more
+-- items are to be taken before it can have lagged, and whether the broker said that it has
 pub record OpenSubState : Type 0 where
   pub id : List ℕ
   pub sub : SubName
+  pub until_lag : ℕ
   pub lagged : Bool
 
--- a connection: what came and isn't read yet, its session, its sender's gate, its open subscriptions, the octets
--- that wait to be written to it, and why it leaves, once it does
+-- a connection: what came and isn't read yet, its session, the names of the topics that it knows, its sender's gate, its open subscriptions, the octets
+-- that wait to be written to it, why it leaves, once it does, and how many items each of its queues holds
 pub record ConversationState : Type 0 where
   pub reader : Unread
-  pub session : Held
+  pub session : SessionState
+  pub names : List (List ℕ)
   pub gate : Option GateState
   pub subs : List OpenSubState
   pub wire : List ℕ
   pub exit : Option Exit
+  pub capacity : ℕ
+
+-- a connection that has said nothing, of a broker whose queues hold so many items
+pub record IsNew (capacity : ℕ) (c : ConversationState) : Type 0 where
+  pub reader : c.reader ≡ unread_of reader_limits
+  pub session : (names : List (List ℕ)) → StandsFor c.session names []
+  pub names : c.names ≡ []
+  pub gate : c.gate ≡ None
+  pub subs : c.subs ≡ []
+  pub wire : c.wire ≡ []
+  pub exit : c.exit ≡ None
+  pub capacity_is : c.capacity ≡ capacity
 
 -- ---- what is written
 
@@ -97,7 +112,7 @@ abbrev pub Begins
     : List ℕ → Topic → ConversationState → List BrokerRow → Done → ConversationState → Type 0
 Begins id topic old asked result new =
     ((sub : SubName) × (asked ≡ Subscribes topic (Ok sub) ∷ []) × (result ≡ Ok tt)
-    × (new ≡ record old { subs = old.subs ++ (record { id = id; sub = sub; lagged = false }) ∷ [] }))
+    × (new ≡ record old { subs = old.subs ++ (record { id = id; sub = sub; until_lag = old.capacity; lagged = false }) ∷ [] }))
     ⊎ ((why : SubFault) × (asked ≡ Subscribes topic (Err why) ∷ []) × (result ≡ Err (fault.Subscribe why))
     × (new ≡ old))
     ⊎ LacksMemory old asked result new
@@ -134,7 +149,7 @@ Sends sends old asked result new =
 abbrev pub Performs
     : Action → Result (Option (List ℕ)) ConversationFault → ConversationState → List BrokerRow → Done → ConversationState
     → Type 0
-Performs actions.Connected client old asked result new = Connects client old asked result new
+Performs (actions.Connected id) client old asked result new = Connects client old asked result new
 Performs actions.Nothing client old asked result new = (asked ≡ []) × (result ≡ Ok tt) × (new ≡ old)
 Performs (actions.Subscribe id topic) client old asked result new = Begins id topic old asked result new
 Performs (actions.Unsubscribe id) client old asked result new = Ends old asked result new
@@ -146,7 +161,7 @@ Performs actions.Disconnect client old asked result new =
 
 -- whether it is the action of a CONNECT
 abbrev pub is_connected : Action → Bool
-is_connected actions.Connected = true
+is_connected (actions.Connected client) = true
 is_connected _ = false
 
 -- What follows an action that went well: the frames that answer it are written. Where there is no memory for them,

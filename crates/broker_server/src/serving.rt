@@ -13,6 +13,7 @@ mod left;
 mod line;
 mod listening;
 mod marks;
+mod naming;
 mod peer;
 mod running;
 mod seldom;

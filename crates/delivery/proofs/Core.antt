@@ -2,6 +2,7 @@
 pub mod Acts
 pub mod Agreement
 pub mod Rows
+pub mod TopicRows
 pub mod MoreRows
 pub mod OctetsRow
 pub mod ToldEnds
@@ -24,6 +25,9 @@ pub mod LagsAsTold
 pub mod DeliversOfRun
 pub mod ReadingsShown
 pub mod Counts
+pub mod FrameWorld
+pub mod NamesKnown
+pub mod NamesFew
 pub mod FramesRead
 pub mod StepsOfRun
 pub mod MoveOfStep

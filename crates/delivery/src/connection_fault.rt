@@ -31,7 +31,7 @@ pub enum ConnectionFault {
 }
 
 impl ConnectionFault {
-    /// Its number: 1 to 10, 20 to 23, 60 to 72 or 74.
+    /// Its number: 1 to 10, 20 to 23, 60 to 66, 68 to 72 or 74 to 76.
     pub fn number(self) -> u32
         ensures { result ≡ connection_number self }
     {

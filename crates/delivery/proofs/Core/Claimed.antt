@@ -1,6 +1,7 @@
 -- In a run of the core each connection speaks for a sender, and there are no others: that of its number.
-use Rattle.std.proofs.Common.{◌≡◌, ℕ, ◌<◌, Bool, true, false, cond, not, ◌||◌, List, [], ◌∷◌, length, get_or, set, Option, Some, None, refl, sym, ap, subst, ◌∙◌, arith}
+use Rattle.std.proofs.Common.{◌≡◌, ℕ, ◌+◌, ◌<◌, Bool, true, false, cond, not, ◌||◌, ◌&&◌, List, [], ◌∷◌, ◌++◌, length, get_or, set, Option, Some, None, refl, sym, ap, subst, ◌∙◌, arith, true≢false}
 use Rattle.std.specs.List.{list_all}
+use Rattle.std.specs.Prelude.{codes}
 use Rattle.std.specs.Option.{is_some, option_map_or, option_to_list, option_or, unwrap_or}
 use Rattle.std.proofs.lemmas.Bool.{false≢true, and_parts, lt-ltb}
 use Rattle.stomp_frame.specs.declared.raw_frame.RawFrame.{RawFrame}
@@ -10,23 +11,25 @@ use Rattle.mcast_txn.specs.declared.id.Topic.{Topic}
 use Rattle.mcast_txn.specs.declared.id.TxnId.{TxnId}
 use Rattle.mcast_txn.specs.declared.draft.sent_message.SentMessage.{SentMessage}
 use Rattle.mcast_txn.specs.Span.{Item}
-use Rattle.mcast_txn.proofs.Members.{at_set_within}
+use Rattle.mcast_txn.proofs.Members.{at_set, at_set_within}
 use Rattle.mcast_group.specs.declared.fault.ProposeFault.{ProposeFault}
 use Rattle.mcast_group.specs.Machine.{Entry}
 use Rattle.stomp_session.specs.declared.action.Action.{Action}
 use Rattle.stomp_session.specs.declared.action.Action.TheVariants as actions
 use Rattle.stomp_session.specs.Answers.{action_by}
+use Rattle.stomp_session.specs.Names.{is_known}
+use Rattle.stomp_session.specs.Frames.{field, has_destination}
 use Rattle.delivery.specs.declared.event.Event.{Event}
 use Rattle.delivery.specs.declared.outcome.Outcome.{Outcome}
 use Rattle.delivery.specs.Topics.{TopicList}
 use Rattle.delivery.specs.Machine.Objections.{Objection}
 use Rattle.delivery.specs.Machine.World.{World, Connection, Leftover, SenderState, Standing, is_gone, is_reading, nobody, new_sender, connection_at, speaker, speaker_number, subscription_at, entry_at}
 use Rattle.delivery.specs.Machine.Moves.{Move, world_after, move_refusal, move_effect, objections, find_leftover, find_verdict, oldest_live, connect_effect, commit_effect, proposal_fault, propose_effect, cancel_effect, learn_effect, take_effect, leave_effect, close_effect_of}
-use Rattle.delivery.specs.Machine.Moves.Move.{Opens, Connects, Commits, Unsubscribes, Disconnects, Errs, Lost, Leaves, Proposes, Decides, Withdraws, Cancels, Learns, Takes}
+use Rattle.delivery.specs.Machine.Moves.Move.{AddsTopic, Opens, Connects, Commits, Subscribes, Unsubscribes, Disconnects, Errs, Lost, Leaves, Proposes, Decides, Withdraws, Cancels, Learns, Releases, Turns, Takes}
 use Rattle.delivery.specs.Machine.Runs.{run}
 use Rattle.delivery.specs.Core.Steps.{CoreStep, Reading, frame_in, has_effect}
 use Rattle.delivery.specs.Core.Output.{is_cut}
-use Rattle.delivery.specs.Core.State.{Core, core_of, moves, frame_move, session_at, is_faulted, is_no_memory}
+use Rattle.delivery.specs.Core.State.{Core, core_of, moves, frame_move, names_at, session_at, topic_moves, is_faulted, is_no_memory}
 use Rattle.delivery.proofs.Machine.SubscriptionSteps.{at_end, at_push_two, push_length, set_length, beyond}
 use Rattle.delivery.proofs.Machine.InvariantIsKept.{NoneHolds, by_refusal}
 use Rattle.delivery.proofs.Theorem.SendersAreOwn.{senders_stay}
@@ -164,15 +167,22 @@ opened_claimed w h =
 -- ---- a step of the core
 
 frame_quiet : (k : Core) (c : ℕ) (action : Action) → list_all is_quiet (option_to_list (frame_move k c action)) ≡ true
-frame_quiet k c actions.Connected = refl
+frame_quiet k c (actions.Connected client) = refl
 frame_quiet k c _ = refl
 
+made_quiet : (b : Bool) (ms : List Move) → list_all is_quiet ms ≡ true → list_all is_quiet (cond b (AddsTopic 0 ∷ []) [] ++ ms) ≡ true
+made_quiet true ms h = h
+made_quiet false ms h = h
+
 next_quiet : (k : Core) (c : ℕ) (a b : Bool) (read : Option RawFrame)
-    → list_all is_quiet (cond a (Errs c ∷ []) (cond b (option_map_or (λ f. option_to_list (frame_move k c (action_by f.command (session_at k c) f))) read []) [])) ≡ true
+    → list_all is_quiet
+    (cond a (Errs c ∷ []) (cond b (option_map_or (λ f. topic_moves (names_at k) f ++ option_to_list (frame_move k c (action_by f.command (session_at k c) f))) read []) [])) ≡ true
 next_quiet k c true b read = refl
 next_quiet k c false false read = refl
 next_quiet k c false true None = refl
-next_quiet k c false true (Some f) = frame_quiet k c (action_by f.command (session_at k c) f)
+next_quiet k c false true (Some f) =
+    made_quiet (has_destination f.command && not (is_known (field (codes "destination") f) (names_at k)))
+    (option_to_list (frame_move k c (action_by f.command (session_at k c) f))) (frame_quiet k c (action_by f.command (session_at k c) f))
 
 cut_quiet : (c : ℕ) (b : Bool) → list_all is_quiet (Decides c ∷ cond b (Lost c ∷ []) []) ≡ true
 cut_quiet c true = refl

@@ -22,7 +22,7 @@ use Rattle.delivery.specs.Theorem.Settled.{closes}
 use Rattle.delivery.specs.Core.Output.{has_closed}
 use Rattle.delivery.proofs.Machine.Invariant.{sender_in}
 use Rattle.delivery.proofs.Machine.SenderSteps.{In-append_cases, In-drop}
-use Rattle.delivery.proofs.Machine.SubscriptionSteps.{at_push, at_end, at_push_two, push_length, set_length}
+use Rattle.delivery.proofs.Machine.SubscriptionSteps.{at_push, at_end, at_push_two, at_old, push_length, set_length, beyond}
 use Rattle.delivery.proofs.Machine.InvariantIsKept.{by_refusal, checked, false_not, in_flight}
 use Rattle.delivery.proofs.Theorem.SendersAreOwn.{Speaks, effect_speaks, start_speaks, flying_speaks, speaks, reading_there}
 use Rattle.delivery.proofs.Machine.Speakers.{has_speaker, claim_free}

@@ -1,9 +1,9 @@
 -- Whom a connection speaks for, where a test says that it speaks for somebody, and whom it claims.
-use Rattle.std.proofs.Common.{◌≡◌, ℕ, ◌<◌, true, false, length, get_or, Option, Some, None, refl, sym, ap, ◌∙◌, arith, set}
+use Rattle.std.proofs.Common.{◌≡◌, ℕ, ◌<◌, ◌≤◌, Bool, true, false, not, length, get_or, Option, Some, None, refl, sym, ap, ◌∙◌, arith, ltb, set}
 use Rattle.std.specs.Option.{is_some, unwrap_or}
 use Rattle.std.proofs.lemmas.Bool.{true≢false, ltb-true}
 use Rattle.mcast_group.proofs.Parts.{some_same, none_some}
-use Rattle.delivery.specs.Machine.World.{World, SenderState, new_sender, connection_at, sender_at, speaker, speaker_number, is_in_use, with_sender}
+use Rattle.delivery.specs.Machine.World.{World, Undecided, SenderState, new_sender, connection_at, sender_at, speaker, speaker_number, is_in_use, with_sender}
 use Rattle.delivery.specs.Machine.Moves.{move_refusal}
 use Rattle.delivery.specs.Machine.Moves.Move.{Connects}
 use Rattle.delivery.proofs.Machine.InvariantIsKept.{checked, false_not}

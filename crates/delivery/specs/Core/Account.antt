@@ -21,7 +21,7 @@ use Rattle.delivery.specs.Theorem.Due.{due}
 use Rattle.delivery.specs.Theorem.Laws.{agreed_rows}
 use Rattle.delivery.specs.Machine.Moves.{Answer}
 use Rattle.delivery.specs.Machine.Runs.{commits_of, delivered_items, txn_count, released_at}
-use Rattle.delivery.specs.Core.Steps.{CoreStep, Reading, frame_in, accepted_of, number_by}
+use Rattle.delivery.specs.Core.Steps.{CoreStep, Reading, frame_in, accepted_of, names_after, number_by}
 
 -- ---- what is read of an account
 
@@ -167,10 +167,11 @@ account_of_step names older account (Event.Cancel c t) reading o =
     account_of_other (Event.Cancel c t) (last_id c account) o
 account_of_step names older account e reading o = account_of_other e (last_id 0 account) o
 
--- The account of a run over topics of these names, the newest answer first. Refused events and those without
+-- The account of a run that began with topics of these names, the newest answer first: each step's destinations
+-- are numbered by the names before it. Refused events and those without
 -- memory add nothing to it, nor does a frame that only its session needs.
 abbrev pub account_of : List (List ℕ) → List CoreStep → List Answer
 account_of names [] = []
 account_of names (step ∷ older) =
     let account = account_of names older in
-    account_of_step names older account step.event step.reading step.outcome ++ account
+    account_of_step (names_after names older) older account step.event step.reading step.outcome ++ account

@@ -6,6 +6,7 @@ use Rattle.stomp_frame.specs.declared.raw_frame.RawFrame.{RawFrame}
 use Rattle.mcast_txn.specs.declared.id.Topic.{Topic}
 use Rattle.mcast_txn.specs.Checks.{first_refusal}
 use Rattle.stomp_session.specs.Frames.{id_of}
+use Rattle.stomp_session.specs.Open.{state_of}
 use Rattle.stomp_session.specs.Refusals.{session_fault}
 use Rattle.delivery.specs.declared.event.Event.{Event}
 use Rattle.delivery.specs.Topics.{TopicList}
@@ -48,11 +49,13 @@ event_connection w (Event.Lost c) = Some c
 -- standing: its sender, and whether it is open, leaving or gone.
 -- unread: what its reader stands for.
 -- accepted: the frames that its session has accepted.
+-- session: what its session has open, though another connection's frame may make a topic.
 -- text: the octets that were written to it.
 pub record KeepsConnection (before after : Core) (c : ℕ) : Type 0 where
   pub standing : connection_at after.world c ≡ connection_at before.world c
   pub unread : unread_at c after.steps ≡ unread_at c before.steps
   pub accepted : accepted_of c after.steps ≡ accepted_of c before.steps
+  pub session : state_of (session_at after c) ≡ state_of (session_at before c)
   pub text : text_out after.names c after.steps ≡ text_out before.names c before.steps
 
 -- ---- of every run, over all topics with their opening clocks and all capacities

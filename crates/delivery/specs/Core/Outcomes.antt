@@ -20,7 +20,7 @@ use Rattle.delivery.specs.Machine.Moves.{Move, Answer, needs_open, needs_idle, m
 use Rattle.delivery.specs.Core.Steps.{CoreStep, Reading}
 use Rattle.delivery.specs.Core.Account.{account_of}
 use Rattle.delivery.specs.Core.Output.{next_replies, replies_to}
-use Rattle.delivery.specs.Core.State.{Core, IsReadBy, unread_at, session_at, frame_move, core_of}
+use Rattle.delivery.specs.Core.State.{Core, IsReadBy, unread_at, session_at, frame_move, core_for, core_of}
 
 -- ---- the machine's answers, as the core reports them
 
@@ -66,14 +66,14 @@ is_any (x ∷ xs) = true
 abbrev pub frame_no_memory : ConnectionFault
 frame_no_memory = ConnectionFault.Session SessionFault.NoMemory
 
--- Why the frame ends its connection, if it does: by the case table; by the session; by its topic or its
--- sender, reported as want of memory. In this order.
+-- Why the frame ends its connection, if it does: by the case table; by the session; by its topic, which is there
+-- once it is made, or its sender, reported as want of memory. In this order.
 abbrev pub frame_fault : Core → ℕ → RawFrame → Option ConnectionFault
 frame_fault k c f =
     option_or (option_map ConnectionFault.Frame (case_fault f))
     (option_or (option_map ConnectionFault.Session (session_fault (session_at k c) f))
     (option_map (λ why. frame_no_memory)
-    (option_and_then (λ move. move_refusal k.world move)
+    (option_and_then (λ move. move_refusal (core_for k f).world move)
     (frame_move k c (action_by f.command (session_at k c) f)))))
 
 -- a fault's ERROR, or the same with its reply left out
@@ -83,7 +83,7 @@ fault_outcomes fault = Outcome.Faulted fault false ∷ Outcome.Faulted fault tru
 -- what comes of a frame that is accepted, with memory
 abbrev pub frame_outcome : Core → ℕ → RawFrame → List Outcome
 frame_outcome k c f =
-    option_map_or (move_outcome k) (frame_move k c (action_by f.command (session_at k c) f))
+    option_map_or (move_outcome (core_for k f)) (frame_move k c (action_by f.command (session_at k c) f))
     (Outcome.Done ∷ [])
 
 -- An accepted frame wants memory: its session takes some for it, as for each frame that makes a subscription

@@ -1,7 +1,7 @@
 //! Scripts as their readers and writers see them: those of `examples/scripts`, and refusals.
 
 use super::peers::{LineFeeds, Source, Target};
-use super::script_rows::{CROSSING, FOUR_TICKETS, FRAMES, ORDER, Row, SPANS};
+use super::script_rows::{CROSSING, FOUR_TICKETS, FRAMES, ORDER, Row, SPANS, USES};
 use broker_server::{Counting, ProgramFault, run_audit, run_script, run_trace};
 use std::alloc::Global;
 use std::test::Fail;
@@ -65,7 +65,7 @@ fn first_wrong(alloc: Global, rows: &[&Row]) -> Result<usize, ProgramFault> {
 
 #[test]
 fn examples(rt: HostRuntime) {
-    for rows in [ORDER, SPANS, FRAMES] {
+    for rows in [ORDER, SPANS, FRAMES, USES] {
         assert_eq!(rt; first_wrong(rt.alloc(), rows), Ok(rows.len()));
     }
 }

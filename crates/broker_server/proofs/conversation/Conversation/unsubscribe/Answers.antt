@@ -28,10 +28,12 @@ returns g c =
     let with : List OpenSubState → ConversationState = λ xs. record {
       reader = held.reader;
       session = held.session;
+      names = held.names;
       gate = held.gate;
       subs = xs;
       wire = held.wire;
       exit = held.exit;
+      capacity = held.capacity;
     } in (
       Unsubscribes it.sub ∷ [],
       asks_one called c.args.calls.now c.unsubscribe.new.self (Unsubscribes it.sub) one,
