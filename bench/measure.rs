@@ -41,7 +41,14 @@ const GROUP: Rate = Rate {
 
 /// The octets of a piece; at 0 all of the input is one piece.
 const PIECES: [&str; 5] = ["0", "1", "16", "4096", "65536"];
-const CORE_INPUTS: [&str; 4] = ["core-one", "core-subscribers", "core-connections", "core-undecided"];
+const CORE_INPUTS: [&str; 6] = [
+    "core-one",
+    "core-subscribers",
+    "core-connections",
+    "core-undecided",
+    "core-uses",
+    "core-claims",
+];
 const SCRIPT_INPUTS: [&str; 3] = ["script-transactions", "script-bodies", "script-connections"];
 /// Whether threads have topics of their own, how many topics a transaction has, how many threads commit, and how many
 /// transactions all of them commit. Each topic has two subscriptions.

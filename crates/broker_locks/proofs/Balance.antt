@@ -17,7 +17,6 @@ use Rattle.mcast_txn.proofs.Orders.{same_topics}
 use Rattle.sub_queue.specs.Shown.{Room, Shown}
 use Rattle.mcast_group.specs.declared.fault.ProposeFault.TheVariants.{Twice}
 use Rattle.mcast_group.specs.declared.fault.LearnFault.{LearnFault}
-use Rattle.mcast_group.specs.CellGroup.{CellGroupState, CellTurns, IsRead, ProposalState, cell_group_after_cancel, cell_group_after_propose}
 use Rattle.mcast_group.specs.Group.{GroupState, Turns, group_after_release, group_after_releases, group_after_subscribe, group_after_tries, group_after_unsubscribe, result_of}
 use Rattle.mcast_group.specs.Machine.{Entry, Pending, TopicState, after_cancel, after_drain, after_learn, after_propose, after_subscribe, after_unsubscribe, end_of, find_entry, new_topic, cancel_fault, cancel_fault_of, find_pending, next_number, propose_fault, subscribe_fault, after_release, after_tries, after_try, decided_stamp, due_part, learn_fault, parts_without, row_of, with_stamp}
 use Rattle.mcast_group.specs.Sound.{IsSound, RisesById}
@@ -25,7 +24,7 @@ use Rattle.mcast_group.proofs.Allowed.{keeps_sound}
 use Rattle.mcast_group.proofs.Indices.{without_at}
 use Rattle.mcast_group.proofs.Parts.{due_is, found_part, insert_length, map_length, after_release_if}
 use Rattle.mcast_group.proofs.Releasing.{placed_at}
-use Rattle.broker_locks.specs.Place.{IsBalanced, PlaceState, cells_after_drain, is_part_at, new_place, place_after_subscribe, place_after_unsubscribe, place_fault, place_subscribe_fault, rows_since, source_answers}
+use Rattle.broker_locks.specs.Place.{IsBalanced, PlaceState, any_verdict, is_part_at, new_place, place_after_subscribe, place_after_unsubscribe, place_fault, place_subscribe_fault, rows_since, source_answers}
 use Rattle.broker_locks.specs.Inner.KeptRows.{RowsKept, place_with, trace_kept}
 use Rattle.broker_locks.specs.KeptTrace.{KeepsTrace, KeptTrace, kept_after_unsubscribe, no_trace, was_used}
 use Rattle.broker_locks.specs.declared.kept_span.KeptSpan.{KeptSpan}
@@ -151,11 +150,11 @@ part_topic t part is = same_topics part.topic t (go (part.topic.0 == t.0) refl i
     go false e h = cc
 
 -- where a part isn't of the topic, there is a fault
-pub allowed_is_part : (floor : Stamp) (part : TopicPart) (place : PlaceState) → place_fault floor part place ≡ None → is_part_at place.cells.group.topic.topic part ≡ true
-allowed_is_part floor part place e = go (is_part_at place.cells.group.topic.topic part) refl e
+pub allowed_is_part : (floor : Stamp) (part : TopicPart) (place : PlaceState) → place_fault floor part place ≡ None → is_part_at place.group.topic.topic part ≡ true
+allowed_is_part floor part place e = go (is_part_at place.group.topic.topic part) refl e
   where
-    go : (b : Bool) → is_part_at place.cells.group.topic.topic part ≡ b → (if b then propose_fault floor part place.cells.group.topic else Some Twice) ≡ None
-        → is_part_at place.cells.group.topic.topic part ≡ true
+    go : (b : Bool) → is_part_at place.group.topic.topic part ≡ b → (if b then propose_fault floor part place.group.topic else Some Twice) ≡ None
+        → is_part_at place.group.topic.topic part ≡ true
     go true is h = is
     go false is h = cc
 
@@ -175,14 +174,14 @@ no_fault None e = refl
 no_fault (Some f) e = cc
 
 -- one part less is pending, and so one may be counted
-pub cancel_counts : (place : PlaceState) (id : TxnId) → IsBalanced place → cancel_fault id place.cells.group.topic ≡ None → place.cancelled + 1 ≤ place.tickets
-cancel_counts place id b allowed = omega (arith, b.balance, cancels_one id place.cells.group.topic b.sound.by_id allowed)
+pub cancel_counts : (place : PlaceState) (id : TxnId) → IsBalanced place → cancel_fault id place.group.topic ≡ None → place.cancelled + 1 ≤ place.tickets
+cancel_counts place id b allowed = omega (arith, b.balance, cancels_one id place.group.topic b.sound.by_id allowed)
 
 -- after a turn: no more is released than there are tickets
-pub turn_counts : (place : PlaceState) (new : CellGroupState) (count : ℕ) → IsBalanced place → CellTurns source_answers place.cells new
-    → count ≡ rows_since place.cells new → place.released + count ≤ place.tickets
+pub turn_counts : (place : PlaceState) (new : GroupState) (count : ℕ) → IsBalanced place → Turns source_answers any_verdict place.group new
+    → count ≡ rows_since place.group new → place.released + count ≤ place.tickets
 turn_counts place new count b turns e =
-    let k = turn_keeps source_answers (IsRead place.cells.waiting turns.taken) place.cells.group new.group b.sound turns.turns in
+    let k = turn_keeps source_answers any_verdict place.group new b.sound turns in
     omega (arith, b.balance, k.both, k.held, e)
 
 -- a new place
@@ -194,30 +193,29 @@ balanced_new topic log_limit clock keep_trace = record { sound = keeps_sound.ope
     go false = tt
 
 -- a subscription of a place that keeps this
-module _ (g : CellGroupState) (t r c : ℕ) (number : ℕ) where
-  pub allowed_some : (kept : RowsKept) → list_any (λ (s : KeptSpan). s.number == number) kept.spans ≡ false → subscribe_fault number g.group.topic ≡ None
+module _ (g : GroupState) (t r c : ℕ) (number : ℕ) where
+  pub allowed_some : (kept : RowsKept) → list_any (λ (s : KeptSpan). s.number == number) kept.spans ≡ false → subscribe_fault number g.topic ≡ None
       → place_subscribe_fault number (place_with g t r c (Some kept)) ≡ None
-  allowed_some kept free allowed = let e = used_alike (kept.drained ++ g.group.topic.held) number kept.spans ∙ free in rw e allowed
+  allowed_some kept free allowed = let e = used_alike (kept.drained ++ g.topic.held) number kept.spans ∙ free in rw e allowed
 
-  pub fault_some : (kept : RowsKept) → (if list_any (λ (s : KeptSpan). s.number == number) kept.spans then Some SubInUse else subscribe_fault number g.group.topic)
+  pub fault_some : (kept : RowsKept) → (if list_any (λ (s : KeptSpan). s.number == number) kept.spans then Some SubInUse else subscribe_fault number g.topic)
       ≡ place_subscribe_fault number (place_with g t r c (Some kept))
-  fault_some kept = ap (λ (b : Bool). if b then Some SubInUse else subscribe_fault number g.group.topic) (sym (used_alike (kept.drained ++ g.group.topic.held) number kept.spans))
+  fault_some kept = ap (λ (b : Bool). if b then Some SubInUse else subscribe_fault number g.topic) (sym (used_alike (kept.drained ++ g.topic.held) number kept.spans))
 
-  pub viewed_subscribed : (room : Room) (kept : RowsKept) → place_with (record g { group = group_after_subscribe number room g.group }) t r c (Some (rows_subscribed number g.group.topic.frontier kept)) ≡ place_after_subscribe number room (place_with g t r c (Some kept))
+  pub viewed_subscribed : (room : Room) (kept : RowsKept) → place_with (group_after_subscribe number room g) t r c (Some (rows_subscribed number g.topic.frontier kept)) ≡ place_after_subscribe number room (place_with g t r c (Some kept))
   viewed_subscribed room kept =
-      ap (λ (z : KeptTrace). record { cells = record g { group = group_after_subscribe number room g.group }; tickets = t; released = r; cancelled = c; kept = Some z }) (kept_subscribed kept g.group.topic.held number g.group.topic.frontier)
+      ap (λ (z : KeptTrace). record { group = group_after_subscribe number room g; tickets = t; released = r; cancelled = c; kept = Some z }) (kept_subscribed kept g.topic.held number g.topic.frontier)
 
 -- the place of these fields
-module _ (g : CellGroupState) (t r c : ℕ) (k : Option RowsKept) (b : IsBalanced (place_with g t r c k)) where
+module _ (g : GroupState) (t r c : ℕ) (k : Option RowsKept) (b : IsBalanced (place_with g t r c k)) where
   -- after a ticket
-  pub balanced_proposed : (new : CellGroupState) (floor : Stamp) (proposal : ProposalState) → is_part_at g.group.topic.topic proposal.part ≡ true → propose_fault floor proposal.part g.group.topic ≡ None
-      → new ≡ cell_group_after_propose floor proposal g → IsBalanced (place_with new (t + 1) r c k)
-  balanced_proposed new floor proposal is allowed e =
-      let x = g.group.topic in
-      let part = proposal.part in
+  pub balanced_proposed : (new : GroupState) (floor : Stamp) (part : TopicPart) → is_part_at g.topic.topic part ≡ true → propose_fault floor part g.topic ≡ None
+      → new ≡ record g { topic = after_propose floor part g.topic } → IsBalanced (place_with new (t + 1) r c k)
+  balanced_proposed new floor part is allowed e =
+      let x = g.topic in
       let more = insert_length (record { part = part; number = next_number floor x; learnt = None }) x.pending in
       let up : x.clock ≤ max x.clock floor.n = omega arith in
-      subst (λ (z : CellGroupState). IsBalanced (place_with z (t + 1) r c k)) (sym e) (record {
+      subst (λ (z : GroupState). IsBalanced (place_with z (t + 1) r c k)) (sym e) (record {
         sound = keeps_sound.proposes floor part x b.sound (part_topic x.topic part is) allowed;
         balance = omega (arith, b.balance, more);
         clock = omega (arith, b.clock, up);
@@ -225,11 +223,11 @@ module _ (g : CellGroupState) (t r c : ℕ) (k : Option RowsKept) (b : IsBalance
       })
 
   -- after a cancelling
-  pub balanced_cancelled : (new : CellGroupState) (id : TxnId) → cancel_fault id g.group.topic ≡ None
-      → new ≡ cell_group_after_cancel id g → IsBalanced (place_with new t r (c + 1) k)
+  pub balanced_cancelled : (new : GroupState) (id : TxnId) → cancel_fault id g.topic ≡ None
+      → new ≡ record g { topic = after_cancel id g.topic } → IsBalanced (place_with new t r (c + 1) k)
   balanced_cancelled new id allowed e =
-      let x = g.group.topic in
-      subst (λ (z : CellGroupState). IsBalanced (place_with z t r (c + 1) k)) (sym e) (record {
+      let x = g.topic in
+      subst (λ (z : GroupState). IsBalanced (place_with z t r (c + 1) k)) (sym e) (record {
         sound = keeps_sound.cancels id x b.sound;
         balance = omega (arith, b.balance, cancels_one id x b.sound.by_id allowed);
         clock = b.clock;
@@ -237,87 +235,87 @@ module _ (g : CellGroupState) (t r c : ℕ) (k : Option RowsKept) (b : IsBalance
       })
 
   -- after a turn
-  pub balanced_turned : (new : CellGroupState) (count : ℕ) → CellTurns source_answers g new → count ≡ rows_since g new → IsBalanced (place_with new t (r + count) c k)
+  pub balanced_turned : (new : GroupState) (count : ℕ) → Turns source_answers any_verdict g new → count ≡ rows_since g new → IsBalanced (place_with new t (r + count) c k)
   balanced_turned new count turns e =
-      let z = turn_keeps source_answers (IsRead g.waiting turns.taken) g.group new.group b.sound turns.turns in
+      let z = turn_keeps source_answers any_verdict g new b.sound turns in
       record {
         sound = z.sound;
         balance = omega (arith, b.balance, z.both, z.held, e);
         clock = omega (arith, b.clock, z.clock);
-        trace = traced_turned k source_answers (IsRead g.waiting turns.taken) g.group new.group b.sound turns.turns b.trace;
+        trace = traced_turned k source_answers any_verdict g new b.sound turns b.trace;
       }
 
   -- after a drain
-  pub balanced_drained : (more : Option RowsKept) (new : CellGroupState) → new ≡ cells_after_drain g → more ≡ option_map (rows_drained g.group.topic.held) k → IsBalanced (place_with new t r c more)
+  pub balanced_drained : (more : Option RowsKept) (new : GroupState) → new ≡ record g { topic = after_drain g.topic } → more ≡ option_map (rows_drained g.topic.held) k → IsBalanced (place_with new t r c more)
   balanced_drained more new e is =
-      subst (λ (z : CellGroupState). IsBalanced (place_with z t r c more)) (sym e)
-      (subst (λ (o : Option RowsKept). IsBalanced (place_with (cells_after_drain g) t r c o)) (sym is)
-      (record { sound = keeps_sound.drains g.group.topic b.sound; balance = b.balance; clock = b.clock; trace = go k b.trace }))
+      subst (λ (z : GroupState). IsBalanced (place_with z t r c more)) (sym e)
+      (subst (λ (o : Option RowsKept). IsBalanced (place_with (record g { topic = after_drain g.topic }) t r c o)) (sym is)
+      (record { sound = keeps_sound.drains g.topic b.sound; balance = b.balance; clock = b.clock; trace = go k b.trace }))
     where
-      go : (o : Option RowsKept) → Traced g.group.topic o → Traced (after_drain g.group.topic) (option_map (rows_drained g.group.topic.held) o)
+      go : (o : Option RowsKept) → Traced g.topic o → Traced (after_drain g.topic) (option_map (rows_drained g.topic.held) o)
       go None h = tt
-      go (Some o) h = traced_drained o g.group.topic h
+      go (Some o) h = traced_drained o g.topic h
 
   -- after a drain into a trace, or one that found no memory
-  pub balanced_tried : {A E : Type 0} (o : Result A E) (kept more : RowsKept) (new : CellGroupState) → k ≡ Some kept → OnOk o (more ≡ rows_drained g.group.topic.held kept)
-      → OnOk o (new ≡ cells_after_drain g) → OnErr o ((more ≡ kept) × (new ≡ g)) → IsBalanced (place_with new t r c (Some more))
+  pub balanced_tried : {A E : Type 0} (o : Result A E) (kept more : RowsKept) (new : GroupState) → k ≡ Some kept → OnOk o (more ≡ rows_drained g.topic.held kept)
+      → OnOk o (new ≡ record g { topic = after_drain g.topic }) → OnErr o ((more ≡ kept) × (new ≡ g)) → IsBalanced (place_with new t r c (Some more))
   balanced_tried (Ok a) kept more new some rows e err =
-      balanced_drained (Some more) new e (ap (λ (z : RowsKept). Some z) rows ∙ sym (ap (λ (o : Option RowsKept). option_map (rows_drained g.group.topic.held) o) some))
+      balanced_drained (Some more) new e (ap (λ (z : RowsKept). Some z) rows ∙ sym (ap (λ (o : Option RowsKept). option_map (rows_drained g.topic.held) o) some))
   balanced_tried (Err f) kept more new some rows e err =
-      subst (λ (z : CellGroupState). IsBalanced (place_with z t r c (Some more))) (sym err.1)
+      subst (λ (z : GroupState). IsBalanced (place_with z t r c (Some more))) (sym err.1)
       (subst (λ (o : Option RowsKept). IsBalanced (place_with g t r c o)) (some ∙ ap (λ (z : RowsKept). Some z) (sym err.0)) b)
 
   -- after a drain where no trace is kept, or one that found no memory
-  pub balanced_given : {A E : Type 0} (o : Result A E) (new : CellGroupState) → k ≡ None → OnOk o (new ≡ cells_after_drain g) → OnErr o (new ≡ g) → IsBalanced (place_with new t r c k)
+  pub balanced_given : {A E : Type 0} (o : Result A E) (new : GroupState) → k ≡ None → OnOk o (new ≡ record g { topic = after_drain g.topic }) → OnErr o (new ≡ g) → IsBalanced (place_with new t r c k)
   balanced_given (Ok a) new none e err =
-      balanced_drained k new e (none ∙ sym (ap (λ (o : Option RowsKept). option_map (rows_drained g.group.topic.held) o) none))
-  balanced_given (Err f) new none e err = subst (λ (z : CellGroupState). IsBalanced (place_with z t r c k)) (sym err) b
+      balanced_drained k new e (none ∙ sym (ap (λ (o : Option RowsKept). option_map (rows_drained g.topic.held) o) none))
+  balanced_given (Err f) new none e err = subst (λ (z : GroupState). IsBalanced (place_with z t r c k)) (sym err) b
 
   -- after a subscription began, or was refused
-  pub balanced_subscribed : {A B : Type 0} (o : Result A B) (new : CellGroupState) (more : Option RowsKept) (number : ℕ) (room : Room)
-      → OnOk o (place_subscribe_fault number (place_with g t r c k) ≡ None) → OnOk o (new ≡ record g { group = group_after_subscribe number room g.group })
-      → OnOk o (more ≡ option_map (rows_subscribed number g.group.topic.frontier) k) → OnErr o ((new ≡ g) × (more ≡ k)) → IsBalanced (place_with new t r c more)
+  pub balanced_subscribed : {A B : Type 0} (o : Result A B) (new : GroupState) (more : Option RowsKept) (number : ℕ) (room : Room)
+      → OnOk o (place_subscribe_fault number (place_with g t r c k) ≡ None) → OnOk o (new ≡ group_after_subscribe number room g)
+      → OnOk o (more ≡ option_map (rows_subscribed number g.topic.frontier) k) → OnErr o ((new ≡ g) × (more ≡ k)) → IsBalanced (place_with new t r c more)
   balanced_subscribed (Ok a) new more number room allowed ok is err =
-      subst (λ (z : CellGroupState). IsBalanced (place_with z t r c more)) (sym ok)
-      (subst (λ (z : Option RowsKept). IsBalanced (place_with (record g { group = group_after_subscribe number room g.group }) t r c z)) (sym is)
-      (record { sound = keeps_sound.subscribes number g.group.topic b.sound (free k allowed).0; balance = b.balance; clock = b.clock; trace = go k b.trace allowed }))
+      subst (λ (z : GroupState). IsBalanced (place_with z t r c more)) (sym ok)
+      (subst (λ (z : Option RowsKept). IsBalanced (place_with (group_after_subscribe number room g) t r c z)) (sym is)
+      (record { sound = keeps_sound.subscribes number g.topic b.sound (free k allowed).0; balance = b.balance; clock = b.clock; trace = go k b.trace allowed }))
     where
-      free : (z : Option RowsKept) → place_subscribe_fault number (place_with g t r c z) ≡ None → (subscribe_fault number g.group.topic ≡ None) × (was_used number (option_map (trace_kept g.group.topic.held) z) ≡ false)
-      free z e = by (was_used number (option_map (trace_kept g.group.topic.held) z)) e
+      free : (z : Option RowsKept) → place_subscribe_fault number (place_with g t r c z) ≡ None → (subscribe_fault number g.topic ≡ None) × (was_used number (option_map (trace_kept g.topic.held) z) ≡ false)
+      free z e = by (was_used number (option_map (trace_kept g.topic.held) z)) e
         where
-          by : (w : Bool) → (if w then Some SubInUse else subscribe_fault number g.group.topic) ≡ None → (subscribe_fault number g.group.topic ≡ None) × (w ≡ false)
+          by : (w : Bool) → (if w then Some SubInUse else subscribe_fault number g.topic) ≡ None → (subscribe_fault number g.topic ≡ None) × (w ≡ false)
           by true h = cc
           by false h = (h, refl)
 
-      go : (z : Option RowsKept) → Traced g.group.topic z → place_subscribe_fault number (place_with g t r c z) ≡ None → Traced (after_subscribe number g.group.topic) (option_map (rows_subscribed number g.group.topic.frontier) z)
+      go : (z : Option RowsKept) → Traced g.topic z → place_subscribe_fault number (place_with g t r c z) ≡ None → Traced (after_subscribe number g.topic) (option_map (rows_subscribed number g.topic.frontier) z)
       go None h e = tt
       go (Some z) h e =
           let f = free (Some z) e in
-          traced_subscribed z number g.group.topic h (sym (used_alike (z.drained ++ g.group.topic.held) number z.spans) ∙ f.1) f.0
+          traced_subscribed z number g.topic h (sym (used_alike (z.drained ++ g.topic.held) number z.spans) ∙ f.1) f.0
   balanced_subscribed (Err f) new more number room allowed ok is err =
-      subst (λ (z : CellGroupState). IsBalanced (place_with z t r c more)) (sym err.0)
+      subst (λ (z : GroupState). IsBalanced (place_with z t r c more)) (sym err.0)
       (subst (λ (z : Option RowsKept). IsBalanced (place_with g t r c z)) (sym err.1) b)
 
   -- after one ended
-  pub balanced_unsubscribed : (new : CellGroupState) (more : Option RowsKept) (number : ℕ) (e : Entry) (to : Stamp) → find_entry number g.group.topic.subscriptions ≡ Some e → to ≡ (end_of g.group.topic.frontier e).to
-      → new ≡ record g { group = group_after_unsubscribe number g.group } → more ≡ option_map (rows_ended number to) k → IsBalanced (place_with new t r c more)
+  pub balanced_unsubscribed : (new : GroupState) (more : Option RowsKept) (number : ℕ) (e : Entry) (to : Stamp) → find_entry number g.topic.subscriptions ≡ Some e → to ≡ (end_of g.topic.frontier e).to
+      → new ≡ group_after_unsubscribe number g → more ≡ option_map (rows_ended number to) k → IsBalanced (place_with new t r c more)
   balanced_unsubscribed new more number e to found ends ok is =
-      subst (λ (z : CellGroupState). IsBalanced (place_with z t r c more)) (sym ok)
-      (subst (λ (z : Option RowsKept). IsBalanced (place_with (record g { group = group_after_unsubscribe number g.group }) t r c z)) (sym is)
-      (record { sound = keeps_sound.unsubscribes number g.group.topic b.sound; balance = b.balance; clock = b.clock; trace = go k b.trace }))
+      subst (λ (z : GroupState). IsBalanced (place_with z t r c more)) (sym ok)
+      (subst (λ (z : Option RowsKept). IsBalanced (place_with (group_after_unsubscribe number g) t r c z)) (sym is)
+      (record { sound = keeps_sound.unsubscribes number g.topic b.sound; balance = b.balance; clock = b.clock; trace = go k b.trace }))
     where
-      go : (z : Option RowsKept) → Traced g.group.topic z → Traced (after_unsubscribe number g.group.topic) (option_map (rows_ended number to) z)
+      go : (z : Option RowsKept) → Traced g.topic z → Traced (after_unsubscribe number g.topic) (option_map (rows_ended number to) z)
       go None h = tt
-      go (Some z) h = traced_ended z number to g.group.topic e b.sound h found ends
+      go (Some z) h = traced_ended z number to g.topic e b.sound h found ends
 
   -- and so it is seen
-  pub viewed_unsubscribed : (new : CellGroupState) (more : Option RowsKept) (number : ℕ) (e : Entry) (to : Stamp) → find_entry number g.group.topic.subscriptions ≡ Some e → to ≡ (end_of g.group.topic.frontier e).to
-      → new ≡ record g { group = group_after_unsubscribe number g.group } → more ≡ option_map (rows_ended number to) k → place_with new t r c more ≡ place_after_unsubscribe number (place_with g t r c k)
+  pub viewed_unsubscribed : (new : GroupState) (more : Option RowsKept) (number : ℕ) (e : Entry) (to : Stamp) → find_entry number g.topic.subscriptions ≡ Some e → to ≡ (end_of g.topic.frontier e).to
+      → new ≡ group_after_unsubscribe number g → more ≡ option_map (rows_ended number to) k → place_with new t r c more ≡ place_after_unsubscribe number (place_with g t r c k)
   viewed_unsubscribed new more number e to found ends ok is =
-      ap (λ (z : CellGroupState). place_with z t r c more) ok
-      ∙ (ap (λ (z : Option RowsKept). place_with (record g { group = group_after_unsubscribe number g.group }) t r c z) is
-      ∙ ap (λ (o : Option KeptTrace). record { cells = record g { group = group_after_unsubscribe number g.group }; tickets = t; released = r; cancelled = c; kept = o }) (go k b.trace))
+      ap (λ (z : GroupState). place_with z t r c more) ok
+      ∙ (ap (λ (z : Option RowsKept). place_with (group_after_unsubscribe number g) t r c z) is
+      ∙ ap (λ (o : Option KeptTrace). record { group = group_after_unsubscribe number g; tickets = t; released = r; cancelled = c; kept = o }) (go k b.trace))
     where
-      go : (z : Option RowsKept) → Traced g.group.topic z → option_map (trace_kept g.group.topic.held) (option_map (rows_ended number to) z) ≡ option_map (kept_after_unsubscribe number g.group.topic) (option_map (trace_kept g.group.topic.held) z)
+      go : (z : Option RowsKept) → Traced g.topic z → option_map (trace_kept g.topic.held) (option_map (rows_ended number to) z) ≡ option_map (kept_after_unsubscribe number g.topic) (option_map (trace_kept g.topic.held) z)
       go None h = refl
-      go (Some z) h = ap (λ (y : KeptTrace). Some y) (kept_ended z number to g.group.topic e b.sound h found ends)
+      go (Some z) h = ap (λ (y : KeptTrace). Some y) (kept_ended z number to g.topic e b.sound h found ends)

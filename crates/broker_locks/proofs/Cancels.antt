@@ -10,7 +10,7 @@ use Rattle.mcast_txn.specs.Lists.{In, RisesBy}
 use Rattle.mcast_txn.proofs.Members.{In-get_or}
 use Rattle.mcast_txn.proofs.Orders.{id_itself}
 use Rattle.mcast_txn.proofs.Rising.{below_later}
-use Rattle.broker_locks.specs.Commits.{EnteredPart, entered}
+use Rattle.broker_locks.specs.Commits.{Proposal, entered}
 use Rattle.broker_locks.specs.Rows.{PlaceRow, Entered, Cancelled, is_pair, is_uncancelled, uncancelled_after, pairs_without}
 use Rattle.broker_locks.specs.Inner.Cancelling.{AreUncancelled, cancelled_at}
 
@@ -44,7 +44,7 @@ module _ (t : Topic) (id : TxnId) where
       stays (pairs_without u other pairs) other us below.1 (without_other u other pairs (let h = below.0 in λ (e : u.0 ≡ t.0). omega (arith, h, e)) ∙ is)
 
   -- entering more leaves it
-  still : (pairs : List (Topic × TxnId)) (floor : Stamp) (ps : List EnteredPart)
+  still : (pairs : List (Topic × TxnId)) (floor : Stamp) (ps : List Proposal)
       → list_any (is_pair t id) pairs ≡ true → list_any (is_pair t id) (uncancelled_after pairs (map (entered floor) ps)) ≡ true
   still pairs floor [] is = is
   still pairs floor (p ∷ ps) is =
@@ -56,12 +56,12 @@ module _ (t : Topic) (id : TxnId) where
       or_right false b e = e
 
 -- what was entered is there
-entered_there : (pairs : List (Topic × TxnId)) (floor : Stamp) (ps : List EnteredPart) (p : EnteredPart) → In p ps
+entered_there : (pairs : List (Topic × TxnId)) (floor : Stamp) (ps : List Proposal) (p : Proposal) → In p ps
     → list_any (is_pair p.part.topic p.part.id) (uncancelled_after pairs (map (entered floor) ps)) ≡ true
 entered_there pairs floor [] p at = absurd at
 entered_there pairs floor (q ∷ ps) p (inl e) =
     let is : is_pair p.part.topic p.part.id (q.part.topic, q.part.id) ≡ true =
-    subst (λ (r : EnteredPart). is_pair p.part.topic p.part.id (r.part.topic, r.part.id) ≡ true) (sym e) (own_pair p.part.topic p.part.id) in
+    subst (λ (r : Proposal). is_pair p.part.topic p.part.id (r.part.topic, r.part.id) ≡ true) (sym e) (own_pair p.part.topic p.part.id) in
     still p.part.topic p.part.id ((q.part.topic, q.part.id) ∷ pairs) floor ps (ap (λ (b : Bool). b || list_any (is_pair p.part.topic p.part.id) pairs) is)
   where
     own_pair : (t : Topic) (id : TxnId) → is_pair t id (t, id) ≡ true
@@ -69,7 +69,7 @@ entered_there pairs floor (q ∷ ps) p (inl e) =
 entered_there pairs floor (q ∷ ps) p (inr at) = entered_there ((q.part.topic, q.part.id) ∷ pairs) floor ps p at
 
 -- a part that was entered last is uncancelled
-pub was_entered : (old : List PlaceRow) (floor : Stamp) (ps : List EnteredPart) (p : EnteredPart) → In p ps
+pub was_entered : (old : List PlaceRow) (floor : Stamp) (ps : List Proposal) (p : Proposal) → In p ps
     → is_uncancelled p.part.topic p.part.id (old ++ map (entered floor) ps) ≡ true
 was_entered old floor ps p at =
     ap (λ (pairs : List (Topic × TxnId)). list_any (is_pair p.part.topic p.part.id) pairs) (after_both [] old (map (entered floor) ps))

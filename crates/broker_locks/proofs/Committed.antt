@@ -9,7 +9,7 @@ use Rattle.mcast_group.specs.declared.fault.ProposeFault.TheVariants as propose
 use Rattle.sender_gate.specs.Gate.{FlightState, GateState, gate_after}
 use Rattle.broker_locks.specs.declared.fault.CommitFault.{CommitFault}
 use Rattle.broker_locks.specs.declared.fault.CommitFault.TheVariants.{AlreadySet}
-use Rattle.broker_locks.specs.Commits.{IsCommitted, IsRefused, EnteredPart, cancelled, entered, parts_in, proposed_stamp, refused_floor}
+use Rattle.broker_locks.specs.Commits.{IsCommitted, IsRefused, Proposal, cancelled, entered, parts_in, proposed_stamp, refused_floor}
 use Rattle.broker_locks.specs.Faults.{commit_fault}
 use Rattle.broker_locks.specs.Inner.Cancelling.{IsDecidedGate, cancelled_at, topics_given}
 use Rattle.broker_locks.specs.Inner.Proposing.{HasProposed, IsWhole}
@@ -37,7 +37,7 @@ decided_gate flight gate rows are left above =
     record { left = left ∙ ap (λ (r : List Stamp). gate_after flight (greatest r)) (rows_are rows flight.tickets are); above = above }
 
 -- a topic's fault keeps the floor
-fault_floor : (fault : ProposeFault) (floor : Stamp) (ps : List EnteredPart) → refused_floor (commit_fault fault) floor ps ≡ floor
+fault_floor : (fault : ProposeFault) (floor : Stamp) (ps : List Proposal) → refused_floor (commit_fault fault) floor ps ≡ floor
 fault_floor propose.Twice floor ps = refl
 fault_floor propose.ClockFull floor ps = refl
 fault_floor propose.LogFull floor ps = refl
@@ -51,7 +51,7 @@ fault_other propose.LogFull e = cc
 fault_other propose.NoMemory e = cc
 
 module _ (first now : FlightState) (ns : List ℕ) (old rows : List PlaceRow) (whole : IsWhole first) (so : HasProposed (parts_in first.parts) first ns now old rows) where
-  abbrev ps : List EnteredPart
+  abbrev ps : List Proposal
   ps = made first now ns old rows whole so
 
   floor_is : (gate : GateState) → IsDecidedGate now gate → gate.floor ≡ greatest (map proposed_stamp ps)

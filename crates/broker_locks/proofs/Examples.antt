@@ -1,5 +1,5 @@
 -- Worked examples of the definitions that public contracts name, computed.
-use Rattle.std.proofs.Common.{◌≡◌, ◌++◌, ℕ, true, false, List, [], ◌∷◌, Some, None, Ok, refl, sym, ap, ◌∙◌, inl, inr}
+use Rattle.std.proofs.Common.{◌≡◌, ◌++◌, ℕ, true, false, List, [], ◌∷◌, Some, None, refl}
 use Rattle.mcast_txn.specs.declared.id.Topic.{Topic}
 use Rattle.mcast_txn.specs.declared.id.TxnId.{TxnId}
 use Rattle.mcast_txn.specs.declared.stamp.Stamp.{Stamp}
@@ -9,11 +9,7 @@ use Rattle.sender_gate.specs.Gate.{FlightState, GateState}
 use Rattle.broker_locks.specs.declared.fault.CommitFault.TheVariants.{LogFull, AlreadySet}
 use Rattle.broker_locks.specs.Commits.{IsCommitted, IsRefused}
 use Rattle.mcast_txn.specs.Span.{LogRow}
-use Rattle.mcast_txn.specs.Ballot.{Decision}
-use Rattle.mcast_txn.specs.Flight.{Sight}
-use Rattle.mcast_txn.specs.Lists.{In}
-use Rattle.mcast_group.specs.CellGroup.{CellGroupState, IsRead, ReadsOwn, Waiting}
-use Rattle.mcast_group.specs.Machine.{Pending, TopicState, after_turn, new_topic}
+use Rattle.mcast_group.specs.Machine.{TopicState, new_topic}
 use Rattle.mcast_txn.specs.declared.mark.Mark.{Mark}
 use Rattle.trace_audit.specs.declared.row.TraceRow.{TraceRow}
 use Rattle.trace_audit.specs.declared.row.TraceRow.TheVariants as row
@@ -21,7 +17,7 @@ use Rattle.trace_audit.specs.declared.fault.AddFault.TheVariants.{Misfit, NoMemo
 use Rattle.trace_audit.specs.Trace.{TraceData, no_trace_data}
 use Rattle.broker_locks.specs.Gathering.{IsTraceLeft}
 use Rattle.broker_locks.specs.KeptTrace.{AddsFirst, KeptSub, KeptTrace, kept_after_subscribe, kept_after_unsubscribe, marks_between, rows_kept, was_used}
-use Rattle.broker_locks.specs.Place.{HasTurned, PlaceState, new_place, place_after_drain, place_after_propose, place_after_turn, place_fault, rows_given}
+use Rattle.broker_locks.specs.Place.{PlaceState, new_place, place_fault, place_after_propose, rows_given}
 use Rattle.broker_locks.specs.TopicTraces.{with_rows}
 use Rattle.broker_locks.proofs.Balance.{balanced_new}
 use Rattle.broker_locks.specs.Rows.{PlaceRow, Entered, Cancelled, is_uncancelled}
@@ -109,7 +105,7 @@ of_another_topic = refl
 of_its_topic : place_fault floor (part 2) place ≡ None
 of_its_topic = refl
 
-pending_there : place_fault floor (part 2) (place_after_propose floor (record { part = part 2; cell = 7 }) place) ≡ Some Twice
+pending_there : place_fault floor (part 2) (place_after_propose floor (part 2) place) ≡ Some Twice
 pending_there = refl
 
 -- ---- a kept trace
@@ -207,70 +203,9 @@ gathered_empty = record {
 
 -- ---- drained rows
 
-abbrev cells : CellGroupState
-cells = record { group = record { topic = topic; rooms = [] }; waiting = []; notes = [] }
-
 -- a place gives the rows that it drains to its caller, but where a trace keeps them
-given : rows_given (record place { cells = cells }) ≡ log_row 3 ∷ []
+given : rows_given (record place { group = record { topic = topic; rooms = [] } }) ≡ log_row 3 ∷ []
 given = refl
 
-none_given : rows_given (record place { cells = cells; kept = Some kept }) ≡ []
+none_given : rows_given (record place { group = record { topic = topic; rooms = [] }; kept = Some kept }) ≡ []
 none_given = refl
-
--- ---- a head's turn
-
--- topic 0 gave the part number 11, topic 2 gave 21, and the flight's cell is 7
-abbrev verdict : Decision
-verdict = record { id = id; rows = record { n = 11; topic = at_topic 0 } ∷ record { n = 21; topic = at_topic 2 } ∷ [] }
-
-abbrev waits : PlaceState
-waits = place_after_propose floor (record { part = part 0; cell = 7 }) (new_place (at_topic 0) 8 3 false)
-
-abbrev noted : Sight
-noted = record { cell = 7; known = Some verdict }
-
-abbrev learnt : CellGroupState
-learnt = record {
-  group = record { topic = after_turn (λ e. true) (λ i. Some verdict) waits.cells.group.topic; rooms = [] };
-  waiting = [];
-  notes = noted ∷ [];
-}
-
--- its row is released with the stamp of the verdict, (21, 2), and the note is kept
-abbrev row_of_it : LogRow
-row_of_it = record { id = id; topics = at_topic 0 ∷ at_topic 2 ∷ []; stamp = record { n = 21; topic = at_topic 2 } }
-
-by_its_own_cell : HasTurned {E = Unit} waits (place_after_drain (place_after_turn learnt waits)) (record { released = 1; lagged = false }) (Ok (row_of_it ∷ []))
-by_its_own_cell = record {
-  turned = learnt;
-  turns = record {
-    taken = noted ∷ [];
-    turns = record {
-      find = λ i. Some verdict;
-      found = waited;
-      releases = ((λ e. true) ∷ [], refl, ((λ p e. tt), tt), refl);
-      none_pending = λ f. refl;
-    };
-    kept = refl;
-    stays = λ w i. absurd i;
-  };
-  released = refl;
-  lagged = refl;
-  leaves = (refl, refl);
-}
-  where
-    waited : (p : Pending) → In p waits.cells.group.topic.pending → IsRead waits.cells.waiting (noted ∷ []) p.part (Some verdict)
-    waited p (inl e) = record { cell = 7; waited = inl (ap (λ (q : Pending). record { id = q.part.id; cell = 7 }) e); noted = inl refl }
-    waited p (inr i) = absurd i
-
--- a note of cell 8 isn't its own
-abbrev another : Sight
-another = record { cell = 8; known = Some verdict }
-
-not_by_another : ReadsOwn waits.cells.waiting (another ∷ []) (part 0) verdict → ◌≡◌ {A = ℕ} 7 8
-not_by_another r = go r.cell r.waited r.noted
-  where
-    go : (cell : ℕ) → In {X = Waiting} (record { id = id; cell = cell }) waits.cells.waiting → In {X = Sight} (record { cell = cell; known = Some verdict }) (another ∷ []) → ◌≡◌ {A = ℕ} 7 8
-    go cell (inl e) (inl f) = ap (λ (w : Waiting). w.cell) e ∙ sym (ap (λ (n : Sight). n.cell) f)
-    go cell (inr i) f = absurd i
-    go cell (inl e) (inr i) = absurd i

@@ -26,7 +26,7 @@ rows_more places place =
     ap (flat_map topic_rows) (flat_map-append traces_left places (place ∷ []))
     ∙ (flat_map-append topic_rows (flat_map traces_left places) (traces_left place ++ [])
     ∙ (ap (λ (z : List TopicTrace). rows_left places ++ flat_map topic_rows z) (append-nil (traces_left place))
-    ∙ ap (λ (z : List TraceRow). rows_left places ++ z) (rows_of_place place.cells.group.topic place.kept)))
+    ∙ ap (λ (z : List TraceRow). rows_left places ++ z) (rows_of_place place.group.topic place.kept)))
 
 pub gathered_more : (places : List PlaceState) (place : PlaceState) (mid new : TraceData) → AddsAll (rows_left places) no_trace_data mid → AddsAll (place_rows place) mid new → AddsAll (rows_left (places ++ place ∷ [])) no_trace_data new
 gathered_more places place mid new so_far adds =

@@ -1,5 +1,5 @@
 -- What a head's turn leaves of a topic's limit, and of its place's tickets.
-use Rattle.std.proofs.Common.{◌≡◌, Bool, List, [], ◌∷◌, Option, Some, None, Result, Ok, Err, refl, ap, ◌∙◌}
+use Rattle.std.proofs.Common.{◌≡◌, ℕ, Bool, List, [], ◌∷◌, Option, Some, None, Result, Ok, Err, refl, ap, ◌∙◌}
 use Rattle.mcast_txn.specs.declared.id.TxnId.{TxnId}
 use Rattle.mcast_txn.specs.Ballot.{Decision}
 use Rattle.mcast_txn.specs.Span.{LogRow}
@@ -9,8 +9,7 @@ use Rattle.mcast_group.specs.declared.fault.LearnFault.{LearnFault}
 use Rattle.mcast_group.specs.Group.{GroupState, Turns, group_after_release, group_after_releases, group_after_tries}
 use Rattle.mcast_group.specs.Machine.{Entry, Pending, TopicState, after_learn, after_release, after_tries, after_try, decided_stamp, due_part, learn_fault}
 use Rattle.mcast_group.proofs.Parts.{after_release_if}
-use Rattle.mcast_group.specs.declared.turned.Turned.{Turned}
-use Rattle.broker_locks.specs.Place.{DrainLeaves, HasTurned, PlaceState, place_after_turn}
+use Rattle.broker_locks.specs.Place.{HasTurned, PlaceState, TurnLeaves}
 
 release_limit : (takes : Entry → Bool) (x : TopicState) → (after_release takes x).log_limit ≡ x.log_limit
 release_limit takes x = go (due_part x)
@@ -44,17 +43,16 @@ turn_limit may finds g new turns =
     ∙ (releases_limit turns.releases.0 (group_after_tries turns.find g) ∙ tries_limit turns.find g.topic.pending g.topic)
 
 -- a head's turn gives no ticket, and the limit stays
-left_limit : {E : Type 0} (place new : PlaceState) (drained : Result (List LogRow) E) → DrainLeaves place drained new → new.cells.group.topic.log_limit ≡ place.cells.group.topic.log_limit
-left_limit place new (Ok rows) h = ap (λ (p : PlaceState). p.cells.group.topic.log_limit) h.1
-left_limit place new (Err e) h = ap (λ (p : PlaceState). p.cells.group.topic.log_limit) h
+left_limit : {E : Type 0} (old new : PlaceState) (turned : GroupState) (answer : Result (ℕ × List LogRow) E) → TurnLeaves old turned answer new → new.group.topic.log_limit ≡ turned.topic.log_limit
+left_limit old new turned (Ok done) h = ap (λ (p : PlaceState). p.group.topic.log_limit) h.2
+left_limit old new turned (Err e) h = ap (λ (p : PlaceState). p.group.topic.log_limit) h
 
-left_tickets : {E : Type 0} (place new : PlaceState) (drained : Result (List LogRow) E) → DrainLeaves place drained new → new.tickets ≡ place.tickets
-left_tickets place new (Ok rows) h = ap (λ (p : PlaceState). p.tickets) h.1
-left_tickets place new (Err e) h = ap (λ (p : PlaceState). p.tickets) h
+left_tickets : {E : Type 0} (old new : PlaceState) (turned : GroupState) (answer : Result (ℕ × List LogRow) E) → TurnLeaves old turned answer new → new.tickets ≡ old.tickets
+left_tickets old new turned (Ok done) h = ap (λ (p : PlaceState). p.tickets) h.2
+left_tickets old new turned (Err e) h = ap (λ (p : PlaceState). p.tickets) h
 
-pub head_limit : {E : Type 0} (old new : PlaceState) (told : Turned) (drained : Result (List LogRow) E) → HasTurned old new told drained → new.cells.group.topic.log_limit ≡ old.cells.group.topic.log_limit
-head_limit old new told drained h =
-    left_limit (place_after_turn h.turned old) new drained h.leaves ∙ turn_limit _ _ old.cells.group h.turned.group h.turns.turns
+pub head_limit : {E : Type 0} (old new : PlaceState) (answer : Result (ℕ × List LogRow) E) → HasTurned old new answer → new.group.topic.log_limit ≡ old.group.topic.log_limit
+head_limit old new answer h = left_limit old new h.turned answer h.leaves ∙ turn_limit _ _ old.group h.turned h.turns
 
-pub head_tickets : {E : Type 0} (old new : PlaceState) (told : Turned) (drained : Result (List LogRow) E) → HasTurned old new told drained → new.tickets ≡ old.tickets
-head_tickets old new told drained h = left_tickets (place_after_turn h.turned old) new drained h.leaves
+pub head_tickets : {E : Type 0} (old new : PlaceState) (answer : Result (ℕ × List LogRow) E) → HasTurned old new answer → new.tickets ≡ old.tickets
+head_tickets old new answer h = left_tickets old new h.turned answer h.leaves

@@ -20,7 +20,7 @@ use Rattle.mcast_txn.proofs.Rising.{below_later}
 use Rattle.mcast_txn.proofs.Orders.{id_same}
 use Rattle.sender_gate.specs.Gate.{FlightState, flight_answer, over_floor}
 use Rattle.sender_gate.proofs.FlightLemmas.{high_enough}
-use Rattle.broker_locks.specs.Commits.{EnteredPart, entered, parts_in}
+use Rattle.broker_locks.specs.Commits.{Proposal, entered, parts_in}
 use Rattle.broker_locks.specs.Inner.Proposing.{HasProposed, IsWhole, parts_after, tickets_after, proposals_of, slots_after, topic_number}
 use Rattle.broker_locks.specs.Rows.{PlaceRow, Entered, IsTicketFor}
 
@@ -74,7 +74,7 @@ pub proposals_push : (ps : List TopicPart) (ns : List ℕ) (n : ℕ) (d : TopicP
 proposals_push [] ns n d h = absurd (omega (arith, h))
 proposals_push (p ∷ []) [] n d h = refl
 proposals_push (p ∷ q ∷ ps) [] n d h = refl
-proposals_push (p ∷ ps) (m ∷ ns) n d h = ap (λ (l : List EnteredPart). record { part = p; number = m } ∷ l) (proposals_push ps ns n d (omega (arith, h)))
+proposals_push (p ∷ ps) (m ∷ ns) n d h = ap (λ (l : List Proposal). record { part = p; number = m } ∷ l) (proposals_push ps ns n d (omega (arith, h)))
 
 -- a fact of each, at an index
 all_at_index : {id : TxnId} (ps : List TopicPart) (k : ℕ) (d : TopicPart) → AllByRecursion (λ p. p.id ≡ id) ps → k < length ps → (get_or ps k d).id ≡ id

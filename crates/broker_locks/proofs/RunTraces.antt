@@ -1,6 +1,6 @@
 -- A trace that a broker gathered is that of one run.
-use Rattle.std.proofs.Common.{◌≡◌, ◌≢◌, ◌≤◌, ◌+◌, ◌++◌, ◌==◌, ◌||◌, ℕ, Bool, true, false, inl, inr, List, [], ◌∷◌, length, map, Option, Some, None, refl, sym, ap, subst, ◌∙◌, arith}
-use Rattle.std.specs.List.{flat_map}
+use Rattle.std.proofs.Common.{◌≡◌, ◌≢◌, ◌≤◌, ◌<◌, ◌+◌, ◌++◌, ◌==◌, ◌||◌, ℕ, Bool, true, false, inl, inr, List, [], ◌∷◌, length, map, Option, Some, None, refl, sym, ap, subst, ◌∙◌, arith}
+use Rattle.std.specs.List.{flat_map, list_any}
 use Rattle.std.proofs.lemmas.Grind.{flat_map-append}
 use Rattle.std.proofs.lemmas.Bool.Decides.{nat_tests}
 use Rattle.std.proofs.lemmas.List.{map-append}
@@ -8,6 +8,7 @@ use Rattle.mcast_txn.specs.declared.id.Topic.{Topic}
 use Rattle.mcast_txn.specs.Lists.{In}
 use Rattle.mcast_txn.proofs.Members.{In-map, In-map_cases}
 use Rattle.mcast_txn.specs.declared.mark.Mark.{Mark}
+use Rattle.mcast_group.specs.Machine.{TopicState}
 use Rattle.trace_audit.specs.declared.row.SpanRow.{SpanRow}
 use Rattle.trace_audit.specs.declared.row.TraceRow.{TraceRow}
 use Rattle.trace_audit.specs.declared.row.TraceRow.TheVariants as row
@@ -18,7 +19,7 @@ use Rattle.mcast_txn.specs.Span.{LogRow}
 use Rattle.broker_locks.specs.Gathering.{AreOfTopics, IsTraceLeft, GatheredIsDue, traces_left}
 use Rattle.broker_locks.specs.KeptTrace.{AllFit, KeptTrace, topic_trace}
 use Rattle.broker_locks.specs.Place.{PlaceState}
-use Rattle.broker_locks.specs.TopicTraces.{AreOfOneRun, NoneTwice, SubTrace, TopicTrace, log_rows, sub_rows, topic_rows}
+use Rattle.broker_locks.specs.TopicTraces.{AreOfOneRun, NoneTwice, SubTrace, TopicTrace, log_rows, sub_rows, topic_rows, topics_trace}
 use Rattle.broker_locks.proofs.TraceRows.{explained_is_due, span_lines, span_of}
 
 -- ---- no span is there twice
@@ -101,7 +102,7 @@ spans_are (x ∷ topics) =
 
 -- one place more
 pub of_topics_more : (i : ℕ) (places : List PlaceState) (place : PlaceState) (n : ℕ) → AreOfTopics i places → n ≡ i + length places
-    → place.cells.group.topic.topic.0 ≡ n → AreOfTopics i (places ++ place ∷ [])
+    → place.group.topic.topic.0 ≡ n → AreOfTopics i (places ++ place ∷ [])
 of_topics_more i [] place n each e is = (omega (arith, e, is), tt)
 of_topics_more i (p ∷ places) place n each e is = (each.0, of_topics_more (i + 1) places place n each.1 (omega (arith, e)) is)
 
@@ -109,10 +110,10 @@ left_above : (i : ℕ) (places : List PlaceState) → AreOfTopics i places → (
 left_above i [] each x k = absurd k
 left_above i (p ∷ places) each x k = go p.kept k (λ h. left_above (i + 1) places each.1 x h)
   where
-    go : (o : Option KeptTrace) → In x ((elim o [ None ↦ [] | Some kept ↦ topic_trace p.cells.group.topic kept ∷ [] ]) ++ flat_map traces_left places)
+    go : (o : Option KeptTrace) → In x ((elim o [ None ↦ [] | Some kept ↦ topic_trace p.group.topic kept ∷ [] ]) ++ flat_map traces_left places)
         → (In x (flat_map traces_left places) → i + 1 ≤ x.topic.0) → i ≤ x.topic.0
     go None k later = let h = later k in omega (arith, h)
-    go (Some kept) (inl e) later = let at : p.cells.group.topic.topic.0 ≡ x.topic.0 = ap (λ (z : TopicTrace). z.topic.0) e in omega (arith, at, each.0)
+    go (Some kept) (inl e) later = let at : p.group.topic.topic.0 ≡ x.topic.0 = ap (λ (z : TopicTrace). z.topic.0) e in omega (arith, at, each.0)
     go (Some kept) (inr k) later = let h = later k in omega (arith, h)
 
 left_once : (i : ℕ) (places : List PlaceState) → AreOfTopics i places → NoneTwice (λ (x : TopicTrace). x.topic.0) (flat_map traces_left places)
@@ -120,7 +121,7 @@ left_once i [] each = tt
 left_once i (p ∷ places) each = go p.kept (left_once (i + 1) places each.1)
   where
     go : (o : Option KeptTrace) → NoneTwice (λ (x : TopicTrace). x.topic.0) (flat_map traces_left places)
-        → NoneTwice (λ (x : TopicTrace). x.topic.0) ((elim o [ None ↦ [] | Some kept ↦ topic_trace p.cells.group.topic kept ∷ [] ]) ++ flat_map traces_left places)
+        → NoneTwice (λ (x : TopicTrace). x.topic.0) ((elim o [ None ↦ [] | Some kept ↦ topic_trace p.group.topic kept ∷ [] ]) ++ flat_map traces_left places)
     go None once = once
     go (Some kept) once = ((λ y k e. (let above = left_above (i + 1) places each.1 y k in absurd (omega (arith, above, each.0, e)))), once)
 

@@ -16,7 +16,7 @@ use Rattle.mcast_txn.proofs.Members.{In-map_cases}
 use Rattle.mcast_txn.proofs.Rising.{rises-map}
 use Rattle.mcast_txn.proofs.TopicLemmas.{topics_rise}
 use Rattle.sender_gate.specs.Gate.{FlightState, GateState, flight_of, gate_after}
-use Rattle.broker_locks.specs.Commits.{IsUntouched, EnteredPart, cancelled, parts_in, proposed_stamp}
+use Rattle.broker_locks.specs.Commits.{IsUntouched, Proposal, cancelled, parts_in, proposed_stamp}
 use Rattle.broker_locks.specs.Inner.Cancelling.{AreUncancelled, cancelled_at, topics_given}
 use Rattle.broker_locks.specs.Inner.Proposing.{HasProposed, IsWhole, parts_after, proposals_of, slots_after, tickets_after, topic_number}
 use Rattle.broker_locks.specs.Rows.{PlaceRow, is_uncancelled}
@@ -66,13 +66,13 @@ rows_given (p ∷ ps) [] = no_rows ps
 rows_given (p ∷ ps) (n ∷ ns) = ap (λ (rows : List Stamp). record { n = n; topic = p.topic } ∷ rows) (rows_given ps ns)
 
 -- the proposals are of the first parts
-pub first_parts : (ps : List TopicPart) (ns : List ℕ) → map (λ (p : EnteredPart). p.part) (proposals_of ps ns) ≡ take (length (proposals_of ps ns)) ps
+pub first_parts : (ps : List TopicPart) (ns : List ℕ) → map (λ (p : Proposal). p.part) (proposals_of ps ns) ≡ take (length (proposals_of ps ns)) ps
 first_parts [] ns = refl
 first_parts (p ∷ ps) [] = refl
 first_parts (p ∷ ps) (n ∷ ns) = ap (λ (l : List TopicPart). p ∷ l) (first_parts ps ns)
 
 -- and of all, where there is a number for each
-pub all_parts : (ps : List TopicPart) (ns : List ℕ) → length ns ≡ length ps → map (λ (p : EnteredPart). p.part) (proposals_of ps ns) ≡ ps
+pub all_parts : (ps : List TopicPart) (ns : List ℕ) → length ns ≡ length ps → map (λ (p : Proposal). p.part) (proposals_of ps ns) ≡ ps
 all_parts [] ns e = refl
 all_parts (p ∷ ps) [] e = absurd (omega (arith, e))
 all_parts (p ∷ ps) (n ∷ ns) e = ap (λ (l : List TopicPart). p ∷ l) (all_parts ps ns (omega (arith, e)))
@@ -83,10 +83,10 @@ none_missing [] ns e = refl
 none_missing (p ∷ ps) [] e = absurd (omega (arith, e))
 none_missing (p ∷ ps) (n ∷ ns) e = none_missing ps ns (omega (arith, e))
 
-own_proposals : (id : TxnId) (ps : List TopicPart) (ns : List ℕ) → AllByRecursion (λ p. p.id ≡ id) ps → (p : EnteredPart) → In p (proposals_of ps ns) → p.part.id ≡ id
+own_proposals : (id : TxnId) (ps : List TopicPart) (ns : List ℕ) → AllByRecursion (λ p. p.id ≡ id) ps → (p : Proposal) → In p (proposals_of ps ns) → p.part.id ≡ id
 own_proposals id [] ns own p at = absurd at
 own_proposals id (q ∷ ps) [] own p at = absurd at
-own_proposals id (q ∷ ps) (n ∷ ns) own p (inl e) = sym (ap (λ (r : EnteredPart). r.part.id) e) ∙ own.0
+own_proposals id (q ∷ ps) (n ∷ ns) own p (inl e) = sym (ap (λ (r : Proposal). r.part.id) e) ∙ own.0
 own_proposals id (q ∷ ps) (n ∷ ns) own p (inr at) = own_proposals id ps ns own.1 p at
 
 below_all : (t : Topic) (ps : List TopicPart) (ns : List ℕ) → AllByRecursion (λ p. t.0 < topic_number p) ps → AllByRecursion (λ (u : Topic). t.0 < u.0) (map (λ (row : Stamp). row.topic) (map proposed_stamp (proposals_of ps ns)))
@@ -121,7 +121,7 @@ rows_back (row ∷ rows) = ap (λ (l : List Stamp). row ∷ l) (rows_back rows)
 -- where the first parts were entered
 module _ (first now : FlightState) (ns : List ℕ) (old rows : List PlaceRow) (whole : IsWhole first) (so : HasProposed (parts_in first.parts) first ns now old rows) where
   -- the proposals
-  abbrev pub made : List EnteredPart
+  abbrev pub made : List Proposal
   made = proposals_of (parts_in first.parts) ns
 
   -- the tickets

@@ -26,20 +26,20 @@ pub record IsUntouched (flight : FlightState) : Type 0 where
   pub tickets : flight.tickets ≡ free_slots (topics_of sends)
 
 -- a part that was entered, and the number that its topic gave
-pub record EnteredPart : Type 0 where
+pub record Proposal : Type 0 where
   pub part : TopicPart
   pub number : ℕ
 
 -- the row of a proposal with this floor
-abbrev pub entered : Stamp → EnteredPart → PlaceRow
+abbrev pub entered : Stamp → Proposal → PlaceRow
 entered floor p = Entered p.part floor p.number
 
 -- the row of its cancelling
-abbrev pub cancelled : EnteredPart → PlaceRow
+abbrev pub cancelled : Proposal → PlaceRow
 cancelled p = Cancelled p.part.topic p.part.id
 
 -- the stamp that the transaction would have by this proposal alone
-abbrev pub proposed_stamp : EnteredPart → Stamp
+abbrev pub proposed_stamp : Proposal → Stamp
 proposed_stamp p = record { n = p.number; topic = p.part.topic }
 
 -- the parts of a flight that weren't taken out, by rising topic
@@ -53,7 +53,7 @@ parts_in slots = flat_map (λ slot. option_to_list slot.1) slots
 -- left: it is the gate's floor.
 pub record IsCommitted (flight : FlightState) (old new : List PlaceRow) (gate : GateState)
     (stamp : Stamp) : Type 0 where
-  pub proposals : List EnteredPart
+  pub proposals : List Proposal
   pub all : map (λ p. p.part) proposals ≡ parts_in flight.parts
   pub rows : new ≡ old ++ map (entered flight.floor) proposals
   pub greatest : stamp ≡ greatest (map proposed_stamp proposals)
@@ -62,7 +62,7 @@ pub record IsCommitted (flight : FlightState) (old new : List PlaceRow) (gate : 
 
 -- the floor after a refused commit: the flight's, or where it had another verdict, the greatest of the
 -- proposals
-abbrev pub refused_floor : CommitFault → Stamp → List EnteredPart → Stamp
+abbrev pub refused_floor : CommitFault → Stamp → List Proposal → Stamp
 refused_floor commit.ClockFull floor proposals = floor
 refused_floor commit.LogFull floor proposals = floor
 refused_floor commit.NoMemory floor proposals = floor
@@ -76,7 +76,7 @@ refused_floor commit.AlreadySet floor proposals = greatest (map proposed_stamp p
 -- decided: there each part was entered, and the floor is above the old one.
 pub record IsRefused (flight : FlightState) (old new : List PlaceRow) (gate : GateState)
     (fault : CommitFault) : Type 0 where
-  pub proposals : List EnteredPart
+  pub proposals : List Proposal
   pub first : map (λ p. p.part) proposals ≡ take (length proposals) (parts_in flight.parts)
   pub rows : new ≡ old ++ (map (entered flight.floor) proposals ++ map cancelled proposals)
   pub left : gate ≡ gate_after flight (refused_floor fault flight.floor proposals)
@@ -89,9 +89,8 @@ pub record IsRefused (flight : FlightState) (old new : List PlaceRow) (gate : Ga
 abbrev pub topics_in : FlightState → List Topic
 topics_in flight = map (λ p. p.topic) (parts_in flight.parts)
 
--- The point was told the first so many of these topics, in order, each once and with its place: by what it
--- was, what it is then. So where each telling puts the topic behind a list, it has the first two behind its
--- list after two tellings.
+-- The point was told the first so many of these topics, in order, each once and with its place: by what it was, what it is
+-- then. So where each telling puts the topic behind a list, it has the first two behind its list after two tellings.
 abbrev pub AreTold : {Q : Type 0} → (Q → Topic → ℕ → Q → Type 0) → List Topic → ℕ → Q → Q → Type 0
 AreTold told topics zero old new = new ≡ old
 AreTold {Q = Q} told topics (suc n) old new =
@@ -130,12 +129,9 @@ HasNoMemory tried fault = (tried ≡ 0) × (fault ≡ commit.NoMemory)
 -- Where a refused commit stopped, and why.
 -- tried: how many of its topics were tried.
 -- tells: the point was told these, and no other.
--- why: a place refused the last of them by this fault, or the flight had another verdict, or there was no
---   memory at first.
+-- why: a place refused the last of them by this fault, or the flight had another verdict, or there was no memory at first.
 pub record StopsAt {P Q : Type 0} (may_refuse : P → Stamp → TopicPart → ProposeFault → Type 0)
-    (told : Q → Topic → ℕ → Q → Type 0) (flight : FlightState) (old new : Q) (fault : CommitFault)
-    : Type 0 where
+    (told : Q → Topic → ℕ → Q → Type 0) (flight : FlightState) (old new : Q) (fault : CommitFault) : Type 0 where
   pub tried : ℕ
   pub tells : AreTold told (topics_in flight) tried old new
-  pub why : IsPlaceFault may_refuse flight tried fault
-      ⊎ (IsSetBefore flight tried fault ⊎ HasNoMemory tried fault)
+  pub why : IsPlaceFault may_refuse flight tried fault ⊎ (IsSetBefore flight tried fault ⊎ HasNoMemory tried fault)

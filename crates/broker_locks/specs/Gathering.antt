@@ -15,13 +15,13 @@ use Rattle.broker_locks.specs.TopicTraces.{SubTrace, TopicTrace, frontier_of, is
 abbrev pub traces_left : PlaceState → List TopicTrace
 traces_left place = elim place.kept [
   | None ↦ []
-  | Some kept ↦ topic_trace place.cells.group.topic kept ∷ []
+  | Some kept ↦ topic_trace place.group.topic kept ∷ []
 ]
 
 -- the places are of the topics from this number on, in order
 abbrev pub AreOfTopics : ℕ → List PlaceState → Type 0
 AreOfTopics i [] = Unit {0}
-AreOfTopics i (place ∷ places) = (place.cells.group.topic.topic.0 ≡ i) × AreOfTopics (i + 1) places
+AreOfTopics i (place ∷ places) = (place.group.topic.topic.0 ≡ i) × AreOfTopics (i + 1) places
 
 -- A broker of this many topics gathered this trace.
 -- places: what was behind its locks.
@@ -44,7 +44,7 @@ pub record IsRowRefused (fault : AddFault) (places : List PlaceState) : Type 0 w
 -- the place after these was of another topic than its number
 pub record IsElsewhere (fault : AddFault) (places : List PlaceState) : Type 0 where
   pub place : PlaceState
-  pub other : place.cells.group.topic.topic.0 ≢ length places
+  pub other : place.group.topic.topic.0 ≢ length places
   pub is : fault ≡ Misfit
 
 -- A broker of this many topics was refused while it gathered its trace.
@@ -58,8 +58,8 @@ pub record StopsGathering (count : ℕ) (fault : AddFault) : Type 0 where
   pub each : AllByRecursion IsBalanced places
   pub why : IsRowRefused fault places ⊎ IsElsewhere fault places
 
--- Where a list of transactions explains the trace that a broker gathered, what each subscription's source has
--- pushed is that list restricted to its topic and span, up to the topic's frontier.
+-- Where a list of transactions explains the trace that a broker gathered, what each subscription's source has pushed is that
+-- list restricted to its topic and span, up to the topic's frontier.
 abbrev pub GatheredIsDue : Type 0
 GatheredIsDue =
     (count : ℕ) (trace : TraceData) (agreed : List LogRow) (left : IsTraceLeft count trace)

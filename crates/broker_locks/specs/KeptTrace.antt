@@ -4,7 +4,7 @@ use Rattle.std.specs.Prelude.{Option, Some, None, if◌then◌else◌}
 use Rattle.std.specs.List.{filter, flat_map, list_any}
 use Rattle.mcast_txn.specs.declared.stamp.Stamp.{Stamp}
 use Rattle.mcast_txn.specs.Lists.{In, Rises, RisesBy}
-use Rattle.mcast_txn.specs.Span.{LogRow, in_span, row_stamp, row_mark, item_mark}
+use Rattle.mcast_txn.specs.Span.{Item, LogRow, in_span, row_stamp, row_mark, item_mark}
 use Rattle.mcast_txn.specs.Stamp.{stamp_lt}
 use Rattle.mcast_group.specs.Machine.{Entry, EntryEnd, TopicState, end_of, find_entry}
 use Rattle.mcast_txn.specs.declared.mark.Mark.{Mark}

@@ -1,40 +1,35 @@
--- What one topic's lock guards: the topic, and beside it counts and, if one is kept, a trace.
-use Rattle.std.specs.Prelude.{◌≡◌, ◌==◌, ◌&&◌, ◌+◌, ◌-◌, ◌≤◌, nat_lt, ℕ, Bool, false, List, [], length}
+-- What one topic's lock guards: the topic's group, and beside it counts and, if one is kept, a trace.
+use Rattle.std.specs.Prelude.{◌≡◌, ◌==◌, ◌&&◌, ◌+◌, ◌-◌, ◌≤◌, ℕ, Bool, false, List, [], length}
 use Rattle.std.specs.Prelude.{Option, Some, None, IfSome, if◌then◌else◌, Result, Ok, Err}
 use Rattle.std.specs.Option.{option_map}
 use Rattle.mcast_txn.specs.declared.id.Topic.{Topic}
 use Rattle.mcast_txn.specs.declared.id.TxnId.{TxnId}
 use Rattle.mcast_txn.specs.declared.stamp.Stamp.{Stamp}
-use Rattle.mcast_txn.specs.declared.parts.part.Part.{Part}
-use Rattle.mcast_txn.specs.Flight.{cell_of}
-use Rattle.mcast_txn.specs.Part.{data_of, flight_of_part}
+use Rattle.mcast_txn.specs.Ballot.{Decision}
 use Rattle.mcast_txn.specs.Span.{LogRow}
 use Rattle.mcast_txn.specs.TopicSet.{names}
 use Rattle.mcast_txn.specs.Transaction.{TopicPart}
 use Rattle.sub_queue.specs.Shown.{Shown, Room, IsFull}
 use Rattle.mcast_group.specs.declared.fault.ProposeFault.{ProposeFault}
 use Rattle.mcast_group.specs.declared.fault.ProposeFault.TheVariants.{Twice}
-use Rattle.mcast_group.specs.CellGroup.{CellGroupState, CellTurns, ProposalState}
-use Rattle.mcast_group.specs.CellGroup.{cell_group_after_cancel, cell_group_after_propose, new_cell_group, open_count}
-use Rattle.mcast_group.specs.Group.{group_after_subscribe, group_after_unsubscribe}
+use Rattle.mcast_group.specs.Group.{GroupState, Turns, group_after_subscribe, group_after_unsubscribe}
 use Rattle.mcast_group.specs.declared.fault.SubFault.{SubFault}
-use Rattle.mcast_group.specs.declared.turned.Turned.{Turned}
 use Rattle.mcast_group.specs.declared.fault.SubFault.TheVariants.{SubInUse}
-use Rattle.mcast_group.specs.Machine.{after_drain, propose_fault, subscribe_fault}
+use Rattle.mcast_group.specs.Machine.{after_cancel, after_drain, after_propose, new_topic, propose_fault}
+use Rattle.mcast_group.specs.Machine.{subscribe_fault}
 use Rattle.mcast_group.specs.Sound.{IsSound}
 use Rattle.trace_audit.specs.declared.row.TraceRow.{TraceRow}
 use Rattle.broker_locks.specs.KeptTrace.{KeptTrace, KeepsTrace, no_trace, rows_kept, was_used}
 use Rattle.broker_locks.specs.KeptTrace.{kept_after_drain, kept_after_subscribe, kept_after_unsubscribe}
 
 -- A place.
--- cells: the topic, with its parts that haven't learnt, each with its flight's cell, and the notes by which
---   the others did.
+-- group: the topic's group.
 -- tickets: how many tickets the topic gave.
 -- released: how many rows it released.
 -- cancelled: how many parts were cancelled there.
 -- kept: what is kept for a run's trace, where one is kept.
 pub record PlaceState : Type 0 where
-  pub cells : CellGroupState
+  pub group : GroupState
   pub tickets : ℕ
   pub released : ℕ
   pub cancelled : ℕ
@@ -46,10 +41,10 @@ pub record PlaceState : Type 0 where
 -- clock: each ticket raised the clock.
 -- trace: where a trace is kept, it is that of the topic.
 pub record IsBalanced (place : PlaceState) : Type 0 where
-  pub sound : IsSound place.cells.group.topic
-  pub balance : place.tickets ≡ place.released + place.cancelled + length place.cells.group.topic.pending
-  pub clock : place.tickets ≤ place.cells.group.topic.clock
-  pub trace : IfSome place.kept (KeepsTrace place.cells.group.topic)
+  pub sound : IsSound place.group.topic
+  pub balance : place.tickets ≡ place.released + place.cancelled + length place.group.topic.pending
+  pub clock : place.tickets ≤ place.group.topic.clock
+  pub trace : IfSome place.kept (KeepsTrace place.group.topic)
 
 -- the most parts and undrained rows of a broker's topic, taken together (our choice)
 abbrev pub topic_limit : ℕ
@@ -58,7 +53,7 @@ topic_limit = 65536
 -- the place of a topic that nothing was done at
 abbrev pub new_place : Topic → ℕ → ℕ → Bool → PlaceState
 new_place topic log_limit clock keep_trace = record {
-  cells = new_cell_group topic log_limit clock;
+  group = record { topic = new_topic topic log_limit clock; rooms = [] };
   tickets = 0;
   released = 0;
   cancelled = 0;
@@ -67,7 +62,7 @@ new_place topic log_limit clock keep_trace = record {
 
 -- the rows of a trace for a place
 abbrev pub place_rows : PlaceState → List TraceRow
-place_rows place = rows_kept place.cells.group.topic place.kept
+place_rows place = rows_kept place.group.topic place.kept
 
 -- the part is of this topic, which its transaction names
 abbrev pub is_part_at : Topic → TopicPart → Bool
@@ -76,98 +71,84 @@ is_part_at t part = part.topic.0 == t.0 && names t part.topics
 -- why a place gives no ticket: the part isn't of its topic, or the topic gives none
 abbrev pub place_fault : Stamp → TopicPart → PlaceState → Option ProposeFault
 place_fault floor part place =
-    if is_part_at place.cells.group.topic.topic part
-    then propose_fault floor part place.cells.group.topic else Some Twice
+    if is_part_at place.group.topic.topic part then propose_fault floor part place.group.topic else Some Twice
 
--- a part as it is proposed: what it says, and the name of its flight's cell
-abbrev pub proposal_of : Part → ProposalState
-proposal_of part = record { part = data_of part; cell = cell_of (flight_of_part part) }
-
--- the part is pending and waits to learn from its flight's cell, and one ticket more was given
-abbrev pub place_after_propose : Stamp → ProposalState → PlaceState → PlaceState
-place_after_propose floor proposal place = record place {
-  cells = cell_group_after_propose floor proposal place.cells;
+-- the part is pending, and one ticket more was given
+abbrev pub place_after_propose : Stamp → TopicPart → PlaceState → PlaceState
+place_after_propose floor part place = record place {
+  group = record place.group { topic = after_propose floor part place.group.topic };
   tickets = place.tickets + 1;
 }
 
 -- the transaction's part is pending no longer, and one part more was cancelled
 abbrev pub place_after_cancel : TxnId → PlaceState → PlaceState
 place_after_cancel id place = record place {
-  cells = cell_group_after_cancel id place.cells;
+  group = record place.group { topic = after_cancel id place.group.topic };
   cancelled = place.cancelled + 1;
 }
 
--- how many rows a topic has released since it was another
-abbrev pub rows_since : CellGroupState → CellGroupState → ℕ
-rows_since old new = length new.group.topic.held - length old.group.topic.held
+-- how many rows a group has released since it was another
+abbrev pub rows_since : GroupState → GroupState → ℕ
+rows_since old new = length new.topic.held - length old.topic.held
 
--- the topic was turned
-abbrev pub place_after_turn : CellGroupState → PlaceState → PlaceState
+-- the group was turned
+abbrev pub place_after_turn : GroupState → PlaceState → PlaceState
 place_after_turn turned place =
-    record place { cells = turned; released = place.released + rows_since place.cells turned }
-
--- the topic's log was drained
-abbrev pub cells_after_drain : CellGroupState → CellGroupState
-cells_after_drain cells =
-    record cells { group = record cells.group { topic = after_drain cells.group.topic } }
+    record place { group = turned; released = place.released + rows_since place.group turned }
 
 -- the log was drained
 abbrev pub place_after_drain : PlaceState → PlaceState
 place_after_drain place = record place {
-  cells = cells_after_drain place.cells;
-  kept = option_map (kept_after_drain place.cells.group.topic.held) place.kept;
+  group = record place.group { topic = after_drain place.group.topic };
+  kept = option_map (kept_after_drain place.group.topic.held) place.kept;
 }
 
 -- a source may refuse an item only where as many items as its capacity may be untaken
 abbrev pub source_answers : Shown → Bool → Type 0
 source_answers shown answer = answer ≡ false → IsFull shown
 
+-- any verdict may be found in the cell of a part's flight
+abbrev pub any_verdict : TopicPart → Option Decision → Type 0
+any_verdict part found = Unit {0}
+
 -- the rows that a drain gives to its caller: those of the log, but where a trace keeps them
 abbrev pub rows_given : PlaceState → List LogRow
-rows_given place = elim place.kept [ None ↦ place.cells.group.topic.held | Some kept ↦ [] ]
+rows_given place = elim place.kept [ None ↦ place.group.topic.held | Some kept ↦ [] ]
 
--- what a drain leaves of a place: the log was drained where there was memory, and its rows are the answer
-abbrev pub DrainLeaves : {E : Type 0} → PlaceState → Result (List LogRow) E → PlaceState → Type 0
-DrainLeaves place (Ok rows) new = (rows ≡ rows_given place) × (new ≡ place_after_drain place)
-DrainLeaves place (Err fault) new = new ≡ place
+-- what a head's turn leaves: with an answer, the number of rows that were released, the log was drained too
+abbrev pub TurnLeaves : {E : Type 0}
+    → PlaceState → GroupState → Result (ℕ × List LogRow) E → PlaceState → Type 0
+TurnLeaves old turned (Ok done) new =
+    (done.0 ≡ rows_since old.group turned)
+    × (done.1 ≡ rows_given (place_after_turn turned old))
+    × (new ≡ place_after_drain (place_after_turn turned old))
+TurnLeaves old turned (Err fault) new = new ≡ place_after_turn turned old
 
 -- A head's turn of a place.
--- turned: the topic after the turn, before its log was drained.
--- turns: it is a turn of the topic, in which each part that learnt did so by a note that was taken of its own
---   flight's cell; these notes are kept, after those that there were. So where a part waits with cell 7, a note
---   (7, v) gives it the stamp of v, and no other note gives it any.
--- released: it is told how many rows were released.
--- lagged: it is told whether fewer subscriptions are open than before.
--- leaves: the place is left with it, and the log was drained where there was memory.
-pub record HasTurned {E : Type 0} (old new : PlaceState) (told : Turned) (drained : Result (List LogRow) E)
-    : Type 0 where
-  pub turned : CellGroupState
-  pub turns : CellTurns source_answers old.cells turned
-  pub released : told.released ≡ rows_since old.cells turned
-  pub lagged : told.lagged
-      ≡ nat_lt (open_count turned.group.topic.subscriptions) (open_count old.cells.group.topic.subscriptions)
-  pub leaves : DrainLeaves (place_after_turn turned old) drained new
-
--- how many rows were released, with the drained rows that no trace keeps, where there was memory to drain
-abbrev pub released_and_drained : {E : Type 0} → Turned → Result (List LogRow) E → Result (ℕ × List LogRow) E
-released_and_drained told (Ok rows) = Ok (told.released, rows)
-released_and_drained told (Err fault) = Err fault
+-- turned: the group after the turn, before its log was drained.
+-- turns: it is a turn of the group, with what the cells of the parts' flights hold.
+-- leaves: the place is left with it, and the log was drained where there was memory; the answer is the number
+--   of rows that were released, with the drained rows that no trace keeps.
+pub record HasTurned {E : Type 0} (old new : PlaceState) (answer : Result (ℕ × List LogRow) E) : Type 0 where
+  pub turned : GroupState
+  pub turns : Turns source_answers any_verdict old.group turned
+  pub leaves : TurnLeaves old turned answer new
 
 -- why a subscription doesn't begin: its number is in use, or was used where a trace is kept
 abbrev pub place_subscribe_fault : ℕ → PlaceState → Option SubFault
 place_subscribe_fault number place =
-    if was_used number place.kept then Some SubInUse else subscribe_fault number place.cells.group.topic
+    if was_used number place.kept then Some SubInUse else subscribe_fault number place.group.topic
 
 -- a subscription of this number began, with an outlet of this room
 abbrev pub place_after_subscribe : ℕ → Room → PlaceState → PlaceState
 place_after_subscribe number room place = record place {
-  cells = record place.cells { group = group_after_subscribe number room place.cells.group };
-  kept = option_map (kept_after_subscribe number place.cells.group.topic.frontier) place.kept;
+  group = group_after_subscribe number room place.group;
+  kept = option_map (kept_after_subscribe number place.group.topic.frontier) place.kept;
 }
 
 -- the subscription of this number was ended
 abbrev pub place_after_unsubscribe : ℕ → PlaceState → PlaceState
 place_after_unsubscribe number place = record place {
-  cells = record place.cells { group = group_after_unsubscribe number place.cells.group };
-  kept = option_map (kept_after_unsubscribe number place.cells.group.topic) place.kept;
+  group = group_after_unsubscribe number place.group;
+  kept = option_map (kept_after_unsubscribe number place.group.topic) place.kept;
 }

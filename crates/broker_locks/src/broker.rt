@@ -1,6 +1,6 @@
 //! A broker's topics, each behind a lock of its own.
 
-ghost use Rattle.std.specs.Prelude.{◌≡◌, ◌≤◌, ◌<◌, ◌+◌, ◌*◌, ℕ, List, [], false, length, map, vec_len, None, Ok, Err, IfOk, IfErr, OnOk, OnErr, IsErr};
+ghost use Rattle.std.specs.Prelude.{◌≡◌, ◌≤◌, ◌<◌, ◌+◌, ◌*◌, ℕ, List, [], length, map, vec_len, None, Ok, Err, IfOk, IfErr, OnOk, OnErr, IsErr};
 ghost use Rattle.std.specs.Option.{option_map};
 ghost use Rattle.delivery.specs.Topics.{max_topics};
 ghost use Rattle.mcast_group.specs.declared.fault.SubFault.TheVariants.{SubInUse};
@@ -8,7 +8,7 @@ ghost use Rattle.sender_gate.specs.Senders.{MayRefuse, SendersState, claim_refus
 ghost use Rattle.broker_locks.specs.declared.server_fault.ServerFault.TheVariants.{TooManyConns};
 ghost use Rattle.broker_locks.specs.Commits.{AreTold, IsCommitted, IsRefused, IsUntouched, KnowsStamp, topics_in};
 ghost use Rattle.broker_locks.specs.Gathering.{IsTraceLeft, StopsGathering};
-ghost use Rattle.broker_locks.specs.Opening.{clock_at_start, opening_places};
+ghost use Rattle.broker_locks.specs.Opening.{opening_clock, opening_places};
 ghost use Rattle.broker_locks.specs.Rows.{PlaceRow};
 
 use crate::commit::commit_on;
@@ -25,7 +25,7 @@ use crate::total::{Total, opened};
 use crate::worker::Worker;
 use crossbeam_utils::CachePadded;
 use delivery::{MAX_TOPICS, Topics};
-use mcast_group::{Ended, NoSub, SubFault, SubState, Turned};
+use mcast_group::{Ended, NoSub, SubFault, SubState};
 use mcast_txn::{NoMemory, Seen, Stamp, Topic};
 use sender_gate::{ClaimFault, Flying, Gate, Senders};
 use std::alloc::Global;
@@ -38,11 +38,10 @@ use trace_audit::{AddFault, Trace};
 /// A topic's lock, on cache lines of its own, so that two threads at two topics don't share one.
 pub(crate) type TopicLock<R, T> = CachePadded<Mutex<LockedTopic<R, T>>>;
 
-/// The topics of a broker, each behind a lock of its own, of which there are 1,024 whatever topics it begins with.
-/// Beside them a lock for the total of tickets, and one for the senders. No call holds two locks, but that a proposal
-/// takes the total's within its topic's, for one step. Nothing is said of what a call finds behind a lock but what
-/// its type keeps; what it does there is said on `Place`. `W` is the ledger of the workers' tickets, `T` that of the
-/// topics'.
+/// The topics of a broker, each behind a lock of its own, of which there are 1,024 whatever topics it begins with. Beside
+/// them a lock for the total of tickets, and one for the senders. No call holds two locks, but that a proposal takes the
+/// total's within its topic's, for one step. Nothing is said of what a call finds behind a lock but what its type keeps;
+/// what it does there is said on `Place`. `W` is the ledger of the workers' tickets, `T` that of the topics'.
 pub struct Broker<R: Wait, W: Side, T: Side> {
     alloc: Global,
     topics: Topics,
@@ -75,8 +74,8 @@ impl<R: Wait, W: Side, T: Side> Drop for Broker<R, W, T> {
 
 impl<R: Wait, W: Side, T: Side> Broker<R, W, T> {
     /// A broker of these topics, whose subscriptions have queues of this capacity, 1 to 4,096; whether a trace of its
-    /// run is kept. It has 1,024 topics: those behind the ones that are given have clock 0. The ledger of its workers
-    /// has 257 parts, that of its topics 1,024.
+    /// run is kept. It has 1,024 topics: those behind the ones that are given have clock 0. The ledger of its workers has
+    /// 257 parts, that of its topics 1,024.
     pub fn new(
         alloc: Global,
         topics: Topics,
@@ -119,8 +118,7 @@ impl<R: Wait, W: Side, T: Side> Broker<R, W, T> {
         self.capacity
     }
 
-    /// One more worker, which was given no ticket yet. It takes no memory. Refused by 100 alone, where 256 ever
-    /// joined.
+    /// One more worker, which was given no ticket yet. It takes no memory. Refused by 100 alone, where 256 ever joined.
     pub fn join(&self, rt: &R) -> Result<Worker<W>, ServerFault>
         ensures worker { IfOk result (λ worker. worker ≡ record { workers = 1; tickets = 0 }) }
         ensures fault { IfErr result (λ fault. fault ≡ TooManyConns) }
@@ -138,8 +136,8 @@ impl<R: Wait, W: Side, T: Side> Broker<R, W, T> {
         worker.into_shares()
     }
 
-    /// The counts of all topics added up, given the shares of all workers that ever joined, with no memory. Refused
-    /// (103) where they aren't of as many workers: broker and shares are returned.
+    /// The counts of all topics added up, given the shares of all workers that ever joined, with no memory. Refused (103)
+    /// where they aren't of as many workers: broker and shares are returned.
     pub fn tally(self, _rt: &R, shares: Shares<W>) -> Result<Tally, (Broker<R, W, T>, Shares<W>)>
         requires { (W.parts ≡ W.all) × (T.parts ≡ T.all) }
         ensures tickets { IfOk result (λ tally. tally.tickets ≡ shares.tickets) }
@@ -173,8 +171,8 @@ impl<R: Wait, W: Side, T: Side> Broker<R, W, T> {
         Ok(counted(total, shares, locks))
     }
 
-    /// The gate of the sender of this client-id, as it was given back last, or of a new sender: some state of the
-    /// senders gave it. Refused: 77, 78 or 55, as a state of them refuses it.
+    /// The gate of the sender of this client-id, as it was given back last, or of a new sender: some state of the senders
+    /// gave it. Refused: 77, 78 or 55, as a state of them refuses it.
     pub fn claim(&self, rt: &R, client: Option<&[u8]>) -> Result<Gate, ClaimFault>
         ensures gate { IfOk result (λ gate. (senders : SendersState)
             × (claim_refusal (option_map (λ id. id.now) client.entry) senders ≡ None)
@@ -190,8 +188,8 @@ impl<R: Wait, W: Side, T: Side> Broker<R, W, T> {
         self.senders.lock(rt).give_back(gate)
     }
 
-    /// Begins a subscription at the topic: its number, the frontier then, and the end that takes. The k-th at topic t
-    /// has number `k * 1,024 + t`. Refused: 47 where there is no such lock or no number is left, 42 out of memory.
+    /// Begins a subscription at the topic: its number, the frontier then, and the end that takes. The k-th at topic t has
+    /// number `k * 1,024 + t`. Refused: 47 where there is no such lock or no number is left, 42 out of memory.
     pub fn subscribe(&self, rt: &R, topic: Topic) -> Result<Subscribed, SubFault>
         ensures nowhere { max_topics ≤ topic.0 → result ≡ Err SubInUse }
         ensures number { IfOk result (λ begun. (k : ℕ) × (begun.sub ≡ k * max_topics + topic.0)) }
@@ -239,8 +237,7 @@ impl<R: Wait, W: Side, T: Side> Broker<R, W, T> {
             (λ done. (old new : List PlaceRow) × IsCommitted flying.state old new done.0 done.1) }
         ensures told { OnOk result
             (AreTold Q.told (topics_in flying.state) (length (topics_in flying.state)) point.old point.new) }
-        ensures given { OnOk result
-            (worker.new.tickets ≡ worker.old.tickets + length (topics_in flying.state)) }
+        ensures given { OnOk result (worker.new.tickets ≡ worker.old.tickets + length (topics_in flying.state)) }
         ensures refused { IfErr result
             (λ refused. (old new : List PlaceRow) × IsRefused flying.state old new refused.0 refused.1) }
         ensures no_less { OnErr result (worker.old.tickets ≤ worker.new.tickets) }
@@ -251,10 +248,10 @@ impl<R: Wait, W: Side, T: Side> Broker<R, W, T> {
         Ok((gate, stamp))
     }
 
-    /// Commits a transaction, as `commit_on` does over these locks: each is held for one proposal, by rising topic,
-    /// and none while the point is told. What it answers is said there; of what was done at the places, which other
-    /// threads may change at any time, it says no more than that there are such rows. The worker's tickets rise by
-    /// one for each topic, and where the commit is refused, by one for each that gave a ticket before.
+    /// Commits a transaction, as `commit_on` does over these locks: each is held for one proposal, by rising topic, and
+    /// none while the point is told. What it answers is said there; of what was done at the places, which other threads
+    /// may change at any time, it says no more than that there are such rows. The worker's tickets rise by one for each
+    /// topic, and where the commit is refused, by one for each that gave a ticket before.
     pub fn commit_seen<Q: Point>(
         &self,
         rt: &R,
@@ -268,8 +265,7 @@ impl<R: Wait, W: Side, T: Side> Broker<R, W, T> {
         ensures set { IfOk result (λ done. KnowsStamp flying.flight done.1 done.2) }
         ensures told { OnOk result
             (AreTold Q.told (topics_in flying.state) (length (topics_in flying.state)) point.old point.new) }
-        ensures given { OnOk result
-            (worker.new.tickets ≡ worker.old.tickets + length (topics_in flying.state)) }
+        ensures given { OnOk result (worker.new.tickets ≡ worker.old.tickets + length (topics_in flying.state)) }
         ensures refused { IfErr result
             (λ refused. (old new : List PlaceRow) × IsRefused flying.state old new refused.0 refused.1) }
         ensures no_less { OnErr result (worker.old.tickets ≤ worker.new.tickets) }
@@ -285,36 +281,24 @@ impl<R: Wait, W: Side, T: Side> Broker<R, W, T> {
         answer
     }
 
-    /// `head_turned`, which answers how many rows it released, and no count where there was no memory for the drain.
+    /// Turns the topic and drains its log. Returns how many rows it released: 0 where there is no such lock. Out of
+    /// memory for the drain, the turn stands. The drained rows that no trace keeps are let go after the lock.
     pub fn head_turn(&self, rt: &R, topic: Topic) -> Result<u64, NoMemory>
         ensures nowhere { max_topics ≤ topic.0 → result ≡ Ok 0 }
     {
-        let (turned, drained) = self.head_turned(rt, topic);
-        drained?;
-        Ok(turned.released)
-    }
-
-    /// Turns the topic and drains its log. Returns how many rows it released and whether a subscription lagged, none
-    /// where there is no such lock, and beside it whether there was memory for the drain: without, the turn stands.
-    /// The drained rows that no trace keeps are let go after the lock.
-    pub fn head_turned(&self, rt: &R, topic: Topic) -> (Turned, Result<(), NoMemory>)
-        ensures nowhere { max_topics ≤ topic.0 → result ≡ (record { released = 0; lagged = false }, Ok tt) }
-    {
-        let Some(lock) = self.lock_of(topic) else {
-            let nothing = Turned {
-                released: 0,
-                lagged: false,
-            };
-            return (nothing, Ok(()));
-        };
-        let (turned, drained) = lock.lock(rt).head_turned(rt);
-        (turned, drained.map(drop))
+        match self.lock_of(topic) {
+            Some(lock) => {
+                let (released, drained) = lock.lock(rt).head(rt)?;
+                drop(drained);
+                Ok(released)
+            }
+            None => Ok(0),
+        }
     }
 
     /// The trace of the run: what each topic leaves for it, by the topics' numbers; an empty one where no trace is
-    /// kept. No lock is taken, since nobody else has the broker. Refused by 91 out of memory; 98, where what two
-    /// topics leave doesn't fit together, or a place is of another topic than its lock, never comes, but that is not
-    /// proved.
+    /// kept. No lock is taken, since nobody else has the broker. Refused by 91 out of memory; 98, where what two topics
+    /// leave doesn't fit together, or a place is of another topic than its lock, never comes, but that is not proved.
     pub fn into_trace(self) -> Result<Trace, AddFault>
         ensures gathered { IfOk result (IsTraceLeft max_topics) }
         ensures refused { IfErr result (StopsGathering max_topics) }
@@ -349,16 +333,12 @@ impl<R: Wait, W: Side, T: Side> Broker<R, W, T> {
     }
 
     /// The lock of the total of tickets.
-    pub(crate) fn total(&self) -> &Mutex<Total<W, T>>
-        ensures { result.now ≡ self.now.total }
-    {
+    pub(crate) fn total(&self) -> &Mutex<Total<W, T>> {
         &self.total
     }
 
     /// Where it allocates.
-    pub(crate) fn alloc(&self) -> Global
-        ensures { result ≡ self.now.alloc }
-    {
+    pub(crate) fn alloc(&self) -> Global {
         self.alloc
     }
 }
@@ -390,7 +370,7 @@ fn opening_topics<R: Wait, T: Side>(
 
 /// The number that the clock of a topic begins at: 0 where it isn't one of these.
 fn clock_of(topics: &Topics, i: usize) -> u64
-    ensures { result ≡ clock_at_start topics.now i }
+    ensures { result ≡ opening_clock topics.now i }
 {
     if i < topics.len() { topics.clock(i) } else { 0 }
 }

@@ -17,12 +17,12 @@ use mcast_group::ProposeFault;
 use mcast_txn::{AlreadySet, Flight, Seen, Stamp, Tickets, TxnId};
 use sender_gate::{Flying, Gate};
 
-/// Commits a transaction: enters its parts by rising topic, each with the gate's floor, and decides by the tickets.
-/// The point is told before each proposal. Returned are the gate, whose floor is the stamp now, the stamp, and a note
-/// of the flight's cell, which knows the verdict that was set there. Refused: 40, 41, 42 or 49 where a topic refuses
-/// its part, with that topic's fault, 42 also where there is no memory to share the flight, before the first
-/// proposal; then what was entered is cancelled, and the gate is returned with its old floor. 32 where the flight has
-/// another verdict; then the parts are cancelled likewise, and the gate's floor is this one's stamp.
+/// Commits a transaction: enters its parts by rising topic, each with the gate's floor, and decides by the tickets. The
+/// point is told before each proposal. Returned are the gate, whose floor is the stamp now, the stamp, and a note of the
+/// flight's cell, which knows the verdict that was set there. Refused: 40, 41, 42 or 49 where a topic refuses its part,
+/// with that topic's fault, 42 also where there is no memory to share the flight, before the first proposal; then what
+/// was entered is cancelled, and the gate is returned with its old floor. 32 where the flight has another verdict; then
+/// the parts are cancelled likewise, and the gate's floor is this one's stamp.
 pub fn commit_on<P: Places, Q: Point>(
     flying: Flying,
     places: &mut P,
@@ -58,8 +58,8 @@ pub fn commit_on<P: Places, Q: Point>(
     }
 }
 
-/// Decides a flight all of whose parts were entered, and sets its verdict in its cell. Where the cell has another,
-/// the parts are cancelled.
+/// Decides a flight all of whose parts were entered, and sets its verdict in its cell. Where the cell has another, the
+/// parts are cancelled.
 fn settle<P: Places>(
     flying: Flying,
     flight: &Flight,
@@ -72,8 +72,7 @@ fn settle<P: Places>(
         × (P.rows places.new ≡ P.rows places.old)) }
     ensures set { IfOk result (λ done. KnowsStamp flying.flight done.1 done.2) }
     ensures given { P.given places.new ≡ P.given places.old }
-    ensures refused { IfErr result
-        (λ refused. IsDecidedGate flying.state refused.0 × (refused.1 ≡ commit.AlreadySet)
+    ensures refused { IfErr result (λ refused. IsDecidedGate flying.state refused.0 × (refused.1 ≡ commit.AlreadySet)
         × (P.rows places.new
         ≡ P.rows places.old ++ map (cancelled_at flying.state.id) (topics_given flying.state))) }
 {
@@ -105,8 +104,7 @@ fn propose_all<P: Places, Q: Point>(
         × OnOk result (length ns ≡ length ps) }
     ensures own { flying.new.flight ≡ flying.old.flight }
     ensures told { OnOk result
-        (AreTold Q.told (topics_in flying.old.state) (length (topics_in flying.old.state))
-        point.old point.new) }
+        (AreTold Q.told (topics_in flying.old.state) (length (topics_in flying.old.state)) point.old point.new) }
     ensures stops { IfErr result
         (λ fault. TriesPart P.may_refuse Q.told flying.old.state point.old point.new fault) }
 {

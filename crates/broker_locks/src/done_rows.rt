@@ -1,22 +1,20 @@
 //! Rows of what was done at places.
 
 ghost use Rattle.std.specs.Prelude.{◌≡◌, ◌++◌, ◌+◌, ◌≤◌, [], ◌∷◌, length, true, OnOk};
+ghost use Rattle.std.specs.Arc.{arc_value};
 ghost use Rattle.mcast_txn.specs.Part.{data_of};
-ghost use Rattle.broker_locks.specs.Inner.Done.{done_row};
 ghost use Rattle.broker_locks.specs.Rows.{Entered, Cancelled, is_uncancelled, uncancelled_after};
 
-use mcast_txn::{NoMemory, Part, Sender, Stamp, Topic, TxnId};
-use smallvec::SmallVec;
+use mcast_txn::{NoMemory, Part, Stamp, Topic, TxnId};
 use std::alloc::Global;
-use std::default::MadeWith;
 use std::marker::Model;
-use std::snapshot::Snapshot;
+use std::sync::Arc;
 
 /// What was done at a place.
 #[derive(Drop)]
 pub(crate) enum DoneRow {
     Entered {
-        part: Snapshot<Part>,
+        part: Arc<Part>,
         floor: Stamp,
         n: u64,
     },
@@ -26,51 +24,10 @@ pub(crate) enum DoneRow {
     },
 }
 
-/// A row, as contracts see it: it takes no bytes.
-#[derive(Drop)]
-pub(crate) struct ShownRow {
-    row: Snapshot<DoneRow>,
-}
-
-impl Model for ShownRow {
-    ghost use Rattle.broker_locks.specs.Inner.Done.{done_row};
-    ghost use Rattle.broker_locks.specs.Rows.{PlaceRow};
-
-    ghost Value = { PlaceRow };
-
-    ghost view = { λ s. done_row s.row.value };
-}
-
-impl ShownRow {
-    /// This row.
-    fn of(row: &DoneRow) -> ShownRow
-        ensures { result ≡ done_row row.now }
-    {
-        ShownRow {
-            row: Snapshot::of(row),
-        }
-    }
-}
-
-impl MadeWith<Global> for ShownRow {
-    /// What lies in a place of a list that isn't used.
-    fn made_with(_alloc: Global) -> Self {
-        let id = TxnId {
-            sender: Sender(0),
-            seq: 0,
-        };
-        ShownRow::of(&DoneRow::Cancelled {
-            topic: Topic(0),
-            id,
-        })
-    }
-}
-
-/// What was done at places, with room for the cancelling of each part that was entered. It serves contracts alone, so
-/// its rows take no bytes, and up to eight of them no memory. In contracts it is the list of these rows, and for how
-/// many more there is room.
+/// What was done at places, with room for the cancelling of each part that was entered. In contracts it is the list of
+/// these rows, and for how many more there is room.
 pub(crate) struct DoneRows {
-    rows: SmallVec<ShownRow, 8>,
+    rows: Vec<DoneRow>,
 }
 
 impl Drop for DoneRows {
@@ -82,16 +39,15 @@ impl Drop for DoneRows {
 }
 
 impl Model for DoneRows {
-    ghost use Rattle.std.specs.Prelude.{◌-◌, ◌≤◌, [], length};
-    ghost use Rattle.broker_locks.specs.Inner.Done.{RowsDone};
+    ghost use Rattle.std.specs.Prelude.{◌-◌, ◌≤◌, [], map, length, vec_len, vec_capacity};
+    ghost use Rattle.broker_locks.specs.Inner.Done.{RowsDone, done_row};
     ghost use Rattle.broker_locks.specs.Rows.{uncancelled_after};
 
     ghost Value = { RowsDone };
 
-    ghost view = { λ d. record { rows = d.rows.items; spare = d.rows.capacity - length d.rows.items } };
+    ghost view = { λ d. record { rows = map done_row d.rows.items; spare = vec_capacity d.rows - vec_len d.rows } };
 
-    ghost invariant = { λ d. length (uncancelled_after [] d.rows.items)
-        ≤ d.rows.capacity - length d.rows.items };
+    ghost invariant = { λ d. length (uncancelled_after [] (map done_row d.rows.items)) ≤ vec_capacity d.rows - vec_len d.rows };
 }
 
 impl DoneRows {
@@ -100,7 +56,7 @@ impl DoneRows {
         ensures { result.rows ≡ [] }
     {
         DoneRows {
-            rows: SmallVec::new(alloc),
+            rows: Vec::new(alloc),
         }
     }
 
@@ -117,12 +73,11 @@ impl DoneRows {
     }
 
     /// A part was entered.
-    pub(crate) fn enter(&mut self, part: Snapshot<Part>, floor: Stamp, n: u64)
+    pub(crate) fn enter(&mut self, part: Arc<Part>, floor: Stamp, n: u64)
         requires { length (uncancelled_after [] self.old.rows) + 2 ≤ self.old.spare }
-        ensures { self.new.rows ≡ self.old.rows ++ Entered (data_of part.value) floor n ∷ [] }
+        ensures { self.new.rows ≡ self.old.rows ++ Entered (data_of (arc_value part)) floor n ∷ [] }
     {
-        let row = DoneRow::Entered { part, floor, n };
-        self.rows.push_reserved(ShownRow::of(&row));
+        self.rows.push_reserved(DoneRow::Entered { part, floor, n });
     }
 
     /// A part that was entered was cancelled.
@@ -130,7 +85,6 @@ impl DoneRows {
         requires { is_uncancelled topic id self.old.rows ≡ true }
         ensures { self.new.rows ≡ self.old.rows ++ Cancelled topic id ∷ [] }
     {
-        let row = DoneRow::Cancelled { topic, id };
-        self.rows.push_reserved(ShownRow::of(&row));
+        self.rows.push_reserved(DoneRow::Cancelled { topic, id });
     }
 }

@@ -4,19 +4,18 @@ ghost use Rattle.std.specs.Prelude.{◌≡◌, ◌++◌, ◌==◌, ◌≤◌, �
 ghost use Rattle.std.specs.List.{list_any};
 ghost use Rattle.sub_queue.specs.Ends.{shown_of_source};
 ghost use Rattle.mcast_group.specs.Group.{group_after_subscribe, sub_refusal};
-ghost use Rattle.mcast_group.specs.Machine.{subscribe_fault};
+ghost use Rattle.mcast_group.specs.Machine.{after_drain, subscribe_fault};
 ghost use Rattle.mcast_group.specs.Sound.{IsSound};
 ghost use Rattle.mcast_txn.proofs.Rising.{Finds};
 ghost use Rattle.mcast_txn.specs.Lists.{Rises};
 ghost use Rattle.mcast_txn.specs.Span.{row_stamp};
 ghost use Rattle.broker_locks.specs.KeptTrace.{AddsAll, AddsFirst, KeepsTrace, topic_trace};
-ghost use Rattle.broker_locks.specs.Place.{cells_after_drain};
 ghost use Rattle.broker_locks.specs.TopicTraces.{topic_rows};
 
 use crate::kept_span::KeptSpan;
 use crate::log_section::LogSection;
 use crate::trace_rows::{add_log, add_subscription};
-use mcast_group::{CellGroup, Group, LogRows, Row, SubFault, SubState};
+use mcast_group::{Group, LogRows, Row, SubFault, SubState};
 use mcast_txn::{NoMemory, Stamp};
 use std::alloc::Global;
 use std::marker::Model;
@@ -82,44 +81,40 @@ impl KeptRows {
     /// changed.
     pub(crate) fn drain<R: Wait>(
         &mut self,
-        group: &mut CellGroup<Source<R>>,
+        group: &mut Group<Source<R>>,
     ) -> Result<LogRows, NoMemory>
         ensures none { IfOk result (λ rows. rows ≡ []) }
-        ensures rows { OnOk result (self.new
-            ≡ record self.old { drained = self.old.drained ++ group.old.group.topic.held }) }
-        ensures drained { OnOk result (group.new ≡ cells_after_drain group.old) }
+        ensures rows { OnOk result (self.new ≡ record self.old { drained = self.old.drained ++ group.old.topic.held }) }
+        ensures drained { OnOk result (group.new ≡ record group.old { topic = after_drain group.old.topic }) }
         ensures err { OnErr result ((self.new ≡ self.old) × (group.new ≡ group.old)) }
     {
-        self.drained.reserve(group.group().held_len())?;
+        self.drained.reserve(group.held_len())?;
         let mut rows = group.drain_log()?;
         put_rows(&mut self.drained, &mut rows);
         Ok(rows)
     }
 
-    /// Begins a subscription of the group whose number was never used. Refused by 47 where it was, and as by the
-    /// group; then nothing has changed, and the source is returned.
+    /// Begins a subscription of the group whose number was never used. Refused by 47 where it was, and as by the group;
+    /// then nothing has changed, and the source is returned.
     pub(crate) fn subscribe<R: Wait>(
         &mut self,
-        group: &mut CellGroup<Source<R>>,
+        group: &mut Group<Source<R>>,
         number: u64,
         source: Source<R>,
     ) -> Result<Stamp, (SubFault, Source<R>)>
         requires empty { source.items ≡ [] }
-        requires traced { KeepsTrace group.old.group.topic (trace_kept group.old.group.topic.held self.old) }
-        ensures from { IfOk result (λ from. from ≡ group.old.group.topic.frontier) }
+        requires traced { KeepsTrace group.old.topic (trace_kept group.old.topic.held self.old) }
+        ensures from { IfOk result (λ from. from ≡ group.old.topic.frontier) }
         ensures unused { OnOk result (list_any (λ s. s.number == number) self.old.spans ≡ false) }
-        ensures allowed { OnOk result (subscribe_fault number group.old.group.topic ≡ None) }
-        ensures group { OnOk result (group.new
-            ≡ record group.old {
-              group = group_after_subscribe number (shown_of_source source).room group.old.group;
-            }) }
+        ensures allowed { OnOk result (subscribe_fault number group.old.topic ≡ None) }
+        ensures group { OnOk result (group.new ≡ group_after_subscribe number (shown_of_source source).room group.old) }
         ensures spans { OnOk result (self.new ≡ record self.old {
           spans = insert_by_number span_number
-              (record { number = number; from = group.old.group.topic.frontier; to = None }) self.old.spans;
+              (record { number = number; from = group.old.topic.frontier; to = None }) self.old.spans;
         }) }
         ensures fault { IfErr result (λ e. e.0 ≡ sub_refusal
             (if list_any (λ s. s.number == number) self.old.spans then Some SubFault.SubInUse
-            else subscribe_fault number group.old.group.topic)) }
+            else subscribe_fault number group.old.topic)) }
         ensures back { IfErr result (λ e. shown_of_source e.1 ≡ shown_of_source source) }
         ensures err { OnErr result ((self.new ≡ self.old) × (group.new ≡ group.old)) }
     {
@@ -177,8 +172,7 @@ impl KeptRows {
     ) -> Result<(), AddFault>
         requires { Rises row_stamp (drained.now ++ held.now) }
         ensures ok { OnOk result
-            (AddsAll (spans_rows group.now.topic (drained.now ++ held.now) self.now.spans)
-            trace.old trace.new) }
+            (AddsAll (spans_rows group.now.topic (drained.now ++ held.now) self.now.spans) trace.old trace.new) }
         ensures err { IfErr result
             (λ fault. AddsFirst fault (spans_rows group.now.topic (drained.now ++ held.now) self.now.spans)
             trace.old trace.new) }
@@ -189,8 +183,8 @@ impl KeptRows {
         Ok(())
     }
 
-    /// Adds what the topic leaves for a trace: its log, drained and held, and its subscriptions. Refused, by 98 where
-    /// a row doesn't fit the trace, and by 91 out of memory, the rows before the refused one were added.
+    /// Adds what the topic leaves for a trace: its log, drained and held, and its subscriptions. Refused, by 98 where a
+    /// row doesn't fit the trace, and by 91 out of memory, the rows before the refused one were added.
     pub(crate) fn rows<R: Wait>(
         &self,
         group: &Group<Source<R>>,

@@ -6,14 +6,13 @@ use crate::broker::Broker;
 use crate::done_rows::DoneRows;
 use crate::places::Places;
 use crate::side::Side;
-use mcast_group::{Proposal, ProposeFault};
+use mcast_group::ProposeFault;
 use mcast_txn::{Part, Stamp, Ticket, Topic, TxnId};
-use std::snapshot::Snapshot;
 use std::sync::ledger::Share;
 use std::sync::{Arc, Wait};
 
-/// A broker's locks, the share of the worker that commits, and what its commit did behind them. Each call takes a
-/// topic's lock, within it the total's for one step of a proposal, and lets go of both.
+/// A broker's locks, the share of the worker that commits, and what its commit did behind them. Each call takes a topic's
+/// lock, within it the total's for one step of a proposal, and lets go of both.
 #[derive(Drop)]
 pub(crate) struct Locked<'a, R: Wait, W: Side, T: Side> {
     broker: &'a Broker<R, W, T>,
@@ -65,8 +64,8 @@ impl<'a, R: Wait, W: Side, T: Side> Places for Locked<'a, R, W, T> {
 
     ghost may_refuse = { λ l floor part fault. Unit {0} };
 
-    /// Enters the part behind its topic's lock, before which it is moved to the heap. Refused as there, 49 also where
-    /// there is no such lock, 42 also where there is no memory to move it.
+    /// Enters the part behind its topic's lock. Refused as there, 49 also where there is no such lock, 42 also where there
+    /// is no memory for what is stored of it.
     fn propose(&mut self, floor: Stamp, part: Arc<Part>) -> Result<Ticket, ProposeFault> {
         let Some(lock) = self.broker.lock_of(part.topic) else {
             return Err(ProposeFault::Twice);
@@ -74,20 +73,17 @@ impl<'a, R: Wait, W: Side, T: Side> Places for Locked<'a, R, W, T> {
         let Ok(()) = self.done.reserve() else {
             return Err(ProposeFault::NoMemory);
         };
-        let shown = Snapshot::of(&*part);
-        let Ok(proposal) = Proposal::new(self.broker.alloc(), part) else {
+        let Ok(copy) = part.clone() else {
             return Err(ProposeFault::NoMemory);
         };
-        let total = self.broker.total();
-        let ticket = lock
-            .lock(self.rt)
-            .propose(self.rt, total, &mut self.share, floor, proposal)?;
-        self.done.enter(shown, floor, ticket.n);
+        let mut topic = lock.lock(self.rt);
+        let mut total = self.broker.total().lock(self.rt);
+        let ticket = topic.propose(&mut total, &mut self.share, floor, part)?;
+        self.done.enter(copy, floor, ticket.n);
         Ok(ticket)
     }
 
-    /// Cancels the part behind its topic's lock. Where the place refuses, as no commit makes it do, that is stored
-    /// too.
+    /// Cancels the part behind its topic's lock. Where the place refuses, as no commit makes it do, that is stored too.
     fn cancel(&mut self, topic: Topic, id: TxnId) {
         if let Some(lock) = self.broker.lock_of(topic) {
             let _refused = lock.lock(self.rt).cancel(id);

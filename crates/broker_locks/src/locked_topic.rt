@@ -1,36 +1,40 @@
 //! What one topic's lock guards.
 
 ghost use Rattle.std.specs.Prelude.{◌≡◌, ◌≢◌, ◌+◌, ◌*◌, ◌<◌, ℕ, [], None, Some, IfOk, IfErr, IfSome, OnOk, OnErr};
+ghost use Rattle.std.specs.Arc.{arc_value};
+ghost use Rattle.mcast_txn.specs.Part.{data_of};
 ghost use Rattle.sub_queue.specs.Ends.{shown_of_source};
-ghost use Rattle.mcast_group.specs.Group.{result_of};
-ghost use Rattle.mcast_group.specs.Machine.{cancel_fault, next_number};
+ghost use Rattle.mcast_group.specs.Group.{or_no_memory};
+ghost use Rattle.mcast_group.specs.declared.fault.ProposeFault.TheVariants.{ClockFull};
+ghost use Rattle.mcast_group.specs.Machine.{next_number};
 ghost use Rattle.delivery.specs.Topics.{max_topics};
 ghost use Rattle.trace_audit.specs.declared.fault.AddFault.TheVariants.{Misfit};
-ghost use Rattle.broker_locks.specs.Place.{HasTurned, new_place, place_after_cancel, place_after_propose, place_after_subscribe, place_after_unsubscribe, place_fault, topic_limit};
+ghost use Rattle.broker_locks.specs.Place.{HasTurned, new_place, place_after_propose, place_after_subscribe, place_after_unsubscribe, place_fault, topic_limit};
+ghost use Rattle.broker_locks.specs.Tickets.{most_tickets};
 
 use crate::counts::Counts;
 use crate::place::Place;
 use crate::side::Side;
 use crate::total::Total;
 use delivery::MAX_TOPICS;
-use mcast_group::{CancelFault, Ended, LogRows, NoSub, Proposal, ProposeFault, SubFault, Turned};
-use mcast_txn::{NoMemory, Stamp, Ticket, Topic, TxnId};
+use mcast_group::{CancelFault, Ended, LogRows, NoSub, ProposeFault, SubFault};
+use mcast_txn::{NoMemory, Part, Stamp, Ticket, Topic, TxnId};
 use std::alloc::Global;
 use std::sync::ledger::Share;
-use std::sync::{Mutex, Wait};
+use std::sync::{Arc, Wait};
 use sub_queue::Source;
 use trace_audit::AddFault;
 
 /// The most parts and undrained rows of a topic, taken together (our choice).
 pub const LOG_LIMIT: usize = 65_536;
 
-/// A topic's place, of at most 65,536 parts and rows, which of its subscriptions is next, from 0, if one is left, and
-/// its share of the tickets, which are those that it gave.
+/// A topic's place, of at most 65,536 parts and rows, which of its subscriptions is next, from 0, if one is left, and its
+/// share of the tickets, which are those that it gave.
 pub(crate) struct LockedTopic<R: Wait, T: Side> {
     pub(crate) place: Place<R>,
     pub(crate) next: Option<u64>,
     pub(crate) share: Share<T>,
-    ghost limit: { place.cells.group.topic.log_limit ≡ 65536 },
+    ghost limit: { place.group.topic.log_limit ≡ 65536 },
     ghost one: { share.parts ≡ 1 },
     ghost counted: { share.amount ≡ place.tickets },
 }
@@ -69,8 +73,8 @@ impl<R: Wait, T: Side> LockedTopic<R, T> {
 
     /// Its place, if it is that of this topic. Refused by 98 where it isn't.
     pub(crate) fn into_place(self, number: u32) -> Result<Place<R>, AddFault>
-        ensures number { IfOk result (λ place. place.cells.group.topic.topic.0 ≡ number) }
-        ensures other { OnErr result (self.place.cells.group.topic.topic.0 ≢ number) }
+        ensures number { IfOk result (λ place. place.group.topic.topic.0 ≡ number) }
+        ensures other { OnErr result (self.place.group.topic.topic.0 ≢ number) }
         ensures fault { IfErr result (λ fault. fault ≡ Misfit) }
     {
         let LockedTopic {
@@ -99,63 +103,56 @@ impl<R: Wait, T: Side> LockedTopic<R, T> {
         (place.counts(), share)
     }
 
-    /// Enters a part, and counts its ticket as the worker's that has this share. All memory is made first; then the
-    /// total's lock is taken, for the count alone. Refused as by the place, and then by 40 where the total is full;
-    /// then nothing has changed, and nothing is counted.
+    /// Enters a part, and counts its ticket as the worker's that has this share. Refused by 40 where the total is full, and
+    /// else as by the place; then nothing has changed, and nothing was counted.
     pub(crate) fn propose<W: Side>(
         &mut self,
-        rt: &R,
-        total: &Mutex<Total<W, T>>,
+        total: &mut Total<W, T>,
         mine: &mut Share<W>,
         floor: Stamp,
-        proposal: Proposal,
+        part: Arc<Part>,
     ) -> Result<Ticket, ProposeFault>
         requires { 0 < mine.old.parts }
         ensures parts { mine.new.parts ≡ mine.old.parts }
-        ensures allowed { OnOk result (place_fault floor proposal.part self.old.place ≡ None) }
+        ensures allowed { OnOk result (place_fault floor (data_of (arc_value part)) self.old.place ≡ None) }
         ensures ticket { IfOk result (λ ticket. ticket ≡ record {
-          id = proposal.part.id;
-          topic = self.old.place.cells.group.topic.topic;
-          n = next_number floor self.old.place.cells.group.topic;
+          id = (arc_value part).id;
+          topic = self.old.place.group.topic.topic;
+          n = next_number floor self.old.place.group.topic;
         }) }
-        ensures ok { OnOk result (self.new.place ≡ place_after_propose floor proposal self.old.place) }
+        ensures ok { OnOk result (self.new.place ≡ place_after_propose floor (data_of (arc_value part)) self.old.place) }
         ensures counted { OnOk result (mine.new.amount ≡ mine.old.amount + 1) }
+        ensures full { total.old.tickets ≡ most_tickets → IfErr result (λ fault. fault ≡ ClockFull) }
         ensures same { OnErr result (self.new.place ≡ self.old.place) }
         ensures uncounted { OnErr result (mine.new.amount ≡ mine.old.amount) }
     {
+        if total.is_full() {
+            return Err(ProposeFault::ClockFull);
+        }
         let LockedTopic {
             place,
             next: _,
             share,
         } = self;
-        let mut proposal = proposal;
-        place.prepare(floor, &mut proposal)?;
-        total.lock(rt).count(mine, share)?;
-        let answer = place.enter(floor, proposal);
-        if answer.is_err() {
-            total.lock(rt).take_back(mine, share);
-        }
-        answer
+        let ticket = place.propose(floor, part)?;
+        total.give(mine, share);
+        Ok(ticket)
     }
 
     /// Takes the transaction's part out, as the place does.
-    pub(crate) fn cancel(&mut self, id: TxnId) -> Result<(), CancelFault>
-        ensures answer { result ≡ result_of (cancel_fault id self.old.place.cells.group.topic) }
-        ensures ok { OnOk result (self.new.place ≡ place_after_cancel id self.old.place) }
-        ensures err { OnErr result (self.new.place ≡ self.old.place) }
-    {
+    pub(crate) fn cancel(&mut self, id: TxnId) -> Result<(), CancelFault> {
         self.place.cancel(id)
     }
 
     /// Turns the topic and drains its log, as the place does.
-    pub(crate) fn head_turned(&mut self, rt: &R) -> (Turned, Result<LogRows, NoMemory>)
-        ensures { HasTurned self.old.place self.new.place result.0 result.1 }
+    pub(crate) fn head(&mut self, rt: &R) -> Result<(u64, LogRows), NoMemory>
+        ensures { HasTurned self.old.place self.new.place result }
     {
-        self.place.head_turned(rt)
+        self.place.head(rt)
     }
 
-    /// Begins the next subscription, the k-th from 0, at this topic, and returns its number, `k * 1,024 + topic`, and
-    /// the frontier. Refused: 47 where no number is left, and as by the place; nothing has changed then.
+    /// Begins the next subscription, the k-th from 0, at this topic, and returns its number, `k * 1,024 + topic`, and the
+    /// frontier. Refused: 47 where no number is left, and as by the place; nothing has changed then.
     pub(crate) fn subscribe(
         &mut self,
         topic: Topic,
@@ -164,12 +161,10 @@ impl<R: Wait, T: Side> LockedTopic<R, T> {
         requires { source.items ≡ [] }
         ensures number { IfOk result
             (λ begun. (k : ℕ) × (self.old.next ≡ Some k) × (begun.0 ≡ k * max_topics + topic.0)) }
-        ensures from { IfOk result (λ begun. begun.1 ≡ self.old.place.cells.group.topic.frontier) }
+        ensures from { IfOk result (λ begun. begun.1 ≡ self.old.place.group.topic.frontier) }
         ensures ok { IfOk result
-            (λ begun. self.new.place
-            ≡ place_after_subscribe begun.0 (shown_of_source source).room self.old.place) }
-        ensures next { IfOk result
-            (λ _. IfSome self.new.next (λ next. (k : ℕ) × (self.old.next ≡ Some k) × (next ≡ k + 1))) }
+            (λ begun. self.new.place ≡ place_after_subscribe begun.0 (shown_of_source source).room self.old.place) }
+        ensures next { IfOk result (λ _. IfSome self.new.next (λ next. (k : ℕ) × (self.old.next ≡ Some k) × (next ≡ k + 1))) }
         ensures err { OnErr result ((self.new.place ≡ self.old.place) × (self.new.next ≡ self.old.next)) }
     {
         let Some(k) = self.next else {

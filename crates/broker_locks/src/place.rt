@@ -1,38 +1,34 @@
 //! What one topic's lock guards.
 
-ghost use Rattle.std.specs.Prelude.{◌≡◌, ◌+◌, ℕ, List, [], length, nat_lt, slice_get, true, Result, Some, None, OnOk, OnErr, IfOk, IfErr};
+ghost use Rattle.std.specs.Prelude.{◌≡◌, ◌+◌, [], length, Some, None, OnOk, OnErr, IfOk, IfErr};
 ghost use Rattle.std.specs.Arc.{arc_value};
 ghost use Rattle.mcast_txn.specs.Part.{data_of};
-ghost use Rattle.mcast_txn.specs.Span.{LogRow};
 ghost use Rattle.mcast_txn.specs.TopicSet.{names};
 ghost use Rattle.sub_queue.specs.Ends.{shown_of_source};
-ghost use Rattle.mcast_group.specs.CellGroup.{CellGroupState, CellTurns, open_count};
 ghost use Rattle.mcast_group.specs.Group.{HasLeft, or_no_memory, result_of, sub_refusal};
 ghost use Rattle.mcast_group.specs.Machine.{cancel_fault, next_number, state_of, unsubscribe_fault};
-ghost use Rattle.broker_locks.specs.KeptTrace.{AddsAll, AddsFirst};
 ghost use Rattle.broker_locks.specs.Place.{HasTurned, IsBalanced, is_part_at, new_place, place_after_cancel, place_after_drain, place_after_propose};
-ghost use Rattle.broker_locks.specs.Place.{place_after_subscribe, place_after_turn, place_after_unsubscribe, place_fault, place_rows, place_subscribe_fault, proposal_of};
-ghost use Rattle.broker_locks.specs.Place.{released_and_drained, rows_given, rows_since, source_answers};
+ghost use Rattle.broker_locks.specs.Place.{place_after_subscribe, place_after_turn, place_after_unsubscribe, place_fault, place_rows, place_subscribe_fault, rows_given, rows_since};
+ghost use Rattle.broker_locks.specs.KeptTrace.{AddsAll, AddsFirst};
+ghost use Rattle.broker_locks.specs.Place.{any_verdict, source_answers};
+ghost use Rattle.mcast_group.specs.Group.{GroupState, Turns};
 
 use crate::counts::Counts;
 use crate::kept_rows::KeptRows;
 use mcast_group::{
-    CancelFault, CellGroup, Ended, Group, LogRows, NoSub, Proposal, ProposeFault, SubFault,
-    SubState, Turned,
+    CancelFault, Cells, Ended, Group, LogRows, NoSub, ProposeFault, SubFault, SubState,
 };
-use mcast_txn::{NoMemory, Part, Seen, Stamp, Ticket, Topic, TxnId};
+use mcast_txn::{NoMemory, Part, Stamp, Ticket, Topic, TxnId};
 use std::alloc::Global;
 use std::marker::Model;
 use std::sync::{Arc, Wait};
 use sub_queue::Source;
 use trace_audit::{AddFault, Trace};
 
-/// What one topic's lock guards: the topic, over queues that two threads share, whose parts learn from the cells of
-/// their own flights, how many tickets it gave, rows it released and parts were cancelled, and, where a trace is
-/// kept, what the topic leaves for it.
+/// What one topic's lock guards: the topic's group, over queues that two threads share, how many tickets it gave, rows
+/// it released and parts were cancelled, and, where a trace is kept, what the topic leaves for it.
 pub struct Place<R: Wait> {
-    alloc: Global,
-    group: CellGroup<Source<R>>,
+    group: Group<Source<R>>,
     tickets: u64,
     released: u64,
     cancelled: u64,
@@ -43,7 +39,6 @@ impl<R: Wait> Drop for Place<R> {
     /// Written out, so that letting a place go is one call for the prover wherever it happens.
     fn drop(self) {
         let Place {
-            alloc: _,
             group,
             tickets: _,
             released: _,
@@ -79,8 +74,7 @@ impl<R: Wait> Place<R> {
         ensures { result ≡ new_place topic log_limit clock keep_trace }
     {
         Place {
-            alloc,
-            group: CellGroup::new(alloc, topic, clock, log_limit),
+            group: Group::new(alloc, topic, clock, log_limit),
             tickets: 0,
             released: 0,
             cancelled: 0,
@@ -94,26 +88,9 @@ impl<R: Wait> Place<R> {
 
     /// The topic's group.
     pub fn group(&self) -> &Group<Source<R>>
-        ensures { result.now ≡ self.now.cells.group }
-    {
-        self.group.group()
-    }
-
-    /// The topic, with its parts that haven't learnt: `waiting_len` of it says that they are those of its pending
-    /// parts.
-    pub fn cells(&self) -> &CellGroup<Source<R>>
-        ensures { result.now ≡ self.now.cells }
+        ensures { result.now ≡ self.now.group }
     {
         &self.group
-    }
-
-    /// A note that says what a kept one does: that of this index, from 0, of those by which parts learnt, or `None`
-    /// past the last. It takes no memory.
-    pub fn note(&mut self, index: usize) -> Option<Seen>
-        ensures note { result ≡ slice_get self.old.cells.notes index }
-        ensures kept { self.new ≡ self.old }
-    {
-        self.group.note(index)
     }
 
     /// How many tickets the topic gave, and what became of their parts. They are balanced, and the topic is sound, by
@@ -123,7 +100,7 @@ impl<R: Wait> Place<R> {
           tickets = self.now.tickets;
           released = self.now.released;
           cancelled = self.now.cancelled;
-          pending = length self.now.cells.group.topic.pending;
+          pending = length self.now.group.topic.pending;
         } }
         ensures balanced { IsBalanced self.now }
     {
@@ -131,76 +108,37 @@ impl<R: Wait> Place<R> {
             tickets: self.tickets,
             released: self.released,
             cancelled: self.cancelled,
-            pending: self.group.group().pending_len() as u64,
+            pending: self.group.pending_len() as u64,
         }
     }
 
-    /// Enters a part, and gives its ticket. Refused, in this order: 49 where the part isn't of this topic or a part
-    /// of the transaction is pending, 40 where no number is left, 41 where the log is at its limit, 42 out of memory;
-    /// the place is then as it was.
+    /// Enters a part, and gives its ticket. Refused, in this order: 49 where the part isn't of this topic or a part of
+    /// the transaction is pending, 40 where no number is left, 41 where the log is at its limit, 42 out of memory; the
+    /// place is then as it was.
     pub fn propose(&mut self, floor: Stamp, part: Arc<Part>) -> Result<Ticket, ProposeFault>
         ensures allowed { OnOk result (place_fault floor (data_of (arc_value part)) self.old ≡ None) }
         ensures ticket { IfOk result (λ ticket. ticket ≡ record {
           id = (arc_value part).id;
-          topic = self.old.cells.group.topic.topic;
-          n = next_number floor self.old.cells.group.topic;
+          topic = self.old.group.topic.topic;
+          n = next_number floor self.old.group.topic;
         }) }
-        ensures ok { OnOk result
-            (self.new ≡ place_after_propose floor (proposal_of (arc_value part)) self.old) }
+        ensures ok { OnOk result (self.new ≡ place_after_propose floor (data_of (arc_value part)) self.old) }
         ensures fault { IfErr result
             (λ fault. fault ≡ or_no_memory (place_fault floor (data_of (arc_value part)) self.old)) }
         ensures err { OnErr result (self.new ≡ self.old) }
     {
-        if !is_part_at(self.group().topic(), &part) {
+        if !is_part_at(self.group.topic(), &part) {
             return Err(ProposeFault::Twice);
         }
-        let ticket = self.group.propose(self.alloc, floor, part)?;
+        let ticket = self.group.propose(floor, part)?;
         self.tickets += 1;
         Ok(ticket)
     }
 
-    /// Makes the room that `enter` needs for this part, and gives no number. Refused as `propose`; the place is as it
-    /// was, either way.
-    pub(crate) fn prepare(
-        &mut self,
-        floor: Stamp,
-        proposal: &mut Proposal,
-    ) -> Result<(), ProposeFault>
-        ensures allowed { OnOk result (place_fault floor proposal.old.part self.old ≡ None) }
-        ensures fault { IfErr result
-            (λ fault. fault ≡ or_no_memory (place_fault floor proposal.old.part self.old)) }
-        ensures same { self.new ≡ self.old }
-        ensures kept { proposal.new ≡ proposal.old }
-    {
-        if !is_part_at(self.group().topic(), proposal.part()) {
-            return Err(ProposeFault::Twice);
-        }
-        self.group.prepare(floor, proposal)
-    }
-
-    /// `propose`, of a part of this topic. It takes no memory where `prepare` made the room and nothing has changed
-    /// since.
-    pub(crate) fn enter(&mut self, floor: Stamp, proposal: Proposal) -> Result<Ticket, ProposeFault>
-        requires { is_part_at self.old.cells.group.topic.topic proposal.part ≡ true }
-        ensures ticket { IfOk result (λ ticket. ticket ≡ record {
-          id = proposal.part.id;
-          topic = self.old.cells.group.topic.topic;
-          n = next_number floor self.old.cells.group.topic;
-        }) }
-        ensures ok { OnOk result (self.new ≡ place_after_propose floor proposal self.old) }
-        ensures fault { IfErr result
-            (λ fault. fault ≡ or_no_memory (place_fault floor proposal.part self.old)) }
-        ensures err { OnErr result (self.new ≡ self.old) }
-    {
-        let ticket = self.group.enter(floor, proposal)?;
-        self.tickets += 1;
-        Ok(ticket)
-    }
-
-    /// Takes the transaction's part out, with no memory. Refused, in this order: 43 where no part of the transaction
-    /// is pending, 46 where it has learnt its stamp; the place is then as it was.
+    /// Takes the transaction's part out, with no memory. Refused, in this order: 43 where no part of the transaction is
+    /// pending, 46 where it has learnt its stamp; the place is then as it was.
     pub fn cancel(&mut self, id: TxnId) -> Result<(), CancelFault>
-        ensures answer { result ≡ result_of (cancel_fault id self.old.cells.group.topic) }
+        ensures answer { result ≡ result_of (cancel_fault id self.old.group.topic) }
         ensures ok { OnOk result (self.new ≡ place_after_cancel id self.old) }
         ensures err { OnErr result (self.new ≡ self.old) }
     {
@@ -209,25 +147,16 @@ impl<R: Wait> Place<R> {
         Ok(())
     }
 
-    /// `head_turned`, of whose turn it returns the count alone, and nothing where there was no memory for the drain.
+    /// Turns the topic: each pending part learns the verdict that its flight's cell holds, and what is due is released;
+    /// then the log is drained, into the trace where one is kept. Returns how many rows were released, and the drained
+    /// rows that no trace keeps, for the caller to let go once the lock is free. Out of memory for the drain, the turn
+    /// stands, and nothing is drained. It may wait for a take that is under way.
     pub fn head(&mut self, rt: &R) -> Result<(u64, LogRows), NoMemory>
-        ensures { (told : Turned) × (drained : Result (List LogRow) NoMemory)
-            × HasTurned self.old self.new told drained × (result ≡ released_and_drained told drained) }
+        ensures { HasTurned self.old self.new result }
     {
-        let (turned, drained) = self.head_turned(rt);
-        Ok((turned.released, drained?))
-    }
-
-    /// Turns the topic: each part that hasn't learnt looks into the cell of its own flight and learns the verdict
-    /// that it finds, of which a note is kept, and what is due is released. Then the log is drained, into the trace
-    /// where one is kept. Returns what the turn did, and the drained rows that no trace keeps, for the caller to let
-    /// go once the lock is free. Out of memory for the drain, the turn stands, and nothing is drained. It may wait
-    /// for a take that is under way.
-    pub fn head_turned(&mut self, rt: &R) -> (Turned, Result<LogRows, NoMemory>)
-        ensures { HasTurned self.old self.new result.0 result.1 }
-    {
-        let turned = self.turn(rt);
-        (turned, self.drain())
+        let count = self.turn(rt);
+        let rows = self.drain()?;
+        Ok((count, rows))
     }
 
     /// Drains the log, into the trace where one is kept. Returns the rows that no trace keeps. Out of memory, nothing
@@ -244,28 +173,25 @@ impl<R: Wait> Place<R> {
     }
 
     /// Turns the topic.
-    fn turn(&mut self, rt: &R) -> Turned
-        ensures { (turned : CellGroupState) × CellTurns source_answers self.old.cells turned
-            × (self.new ≡ place_after_turn turned self.old)
-            × (result.released ≡ rows_since self.old.cells turned)
-            × (result.lagged ≡ nat_lt (open_count turned.group.topic.subscriptions)
-            (open_count self.old.cells.group.topic.subscriptions)) }
+    fn turn(&mut self, rt: &R) -> u64
+        ensures { (turned : GroupState) × Turns source_answers any_verdict self.old.group turned
+            × (self.new ≡ place_after_turn turned self.old) × (result ≡ rows_since self.old.group turned) }
     {
-        let turned = self.group.turn(rt);
-        self.released += turned.released;
-        turned
+        let count = self.group.turn(rt, &Cells);
+        self.released += count;
+        count
     }
 
     /// Begins a subscription of this number after the frontier, which it answers. The source has pushed nothing yet.
-    /// Refused, in this order: 47 where the number is in use, or was used where a trace is kept, 42 out of memory;
-    /// the place is then as it was, and the source is returned.
+    /// Refused, in this order: 47 where the number is in use, or was used where a trace is kept, 42 out of memory; the
+    /// place is then as it was, and the source is returned.
     pub fn subscribe(
         &mut self,
         number: u64,
         source: Source<R>,
     ) -> Result<Stamp, (SubFault, Source<R>)>
         requires { source.items ≡ [] }
-        ensures from { IfOk result (λ from. from ≡ self.old.cells.group.topic.frontier) }
+        ensures from { IfOk result (λ from. from ≡ self.old.group.topic.frontier) }
         ensures allowed { OnOk result (place_subscribe_fault number self.old ≡ None) }
         ensures ok { OnOk result
             (self.new ≡ place_after_subscribe number (shown_of_source source).room self.old) }
@@ -280,14 +206,13 @@ impl<R: Wait> Place<R> {
     }
 
     /// Ends the subscription of this number, with no memory, and returns what it leaves. A trace that is kept has its
-    /// last stamp then, and the rows that its source pushed. Refused by 48 where there is none; the place is then as
-    /// it was.
+    /// last stamp then, and the rows that its source pushed. Refused by 48 where there is none; the place is then as it
+    /// was.
     pub fn unsubscribe(&mut self, number: u64) -> Result<Ended<Source<R>>, NoSub>
         ensures left { IfOk result
-            (λ left. HasLeft number self.old.cells.group (shown_of_source left.outlet) left.to left.cause) }
+            (λ left. HasLeft number self.old.group (shown_of_source left.outlet) left.to left.cause) }
         ensures ok { OnOk result (self.new ≡ place_after_unsubscribe number self.old) }
-        ensures fault { IfErr result
-            (λ fault. unsubscribe_fault number self.old.cells.group.topic ≡ Some fault) }
+        ensures fault { IfErr result (λ fault. unsubscribe_fault number self.old.group.topic ≡ Some fault) }
         ensures err { OnErr result (self.new ≡ self.old) }
     {
         let ended = self.group.unsubscribe(number)?;
@@ -298,25 +223,25 @@ impl<R: Wait> Place<R> {
     }
 
     /// Adds what the topic leaves for a trace, where one is kept: the rows that it released, drained and held, in
-    /// order, and for each of its subscriptions, ended ones too, its span and the rows that its source pushed.
-    /// Refused, the rows before the refused one were added: 98 where that one doesn't fit the trace, as a second span
-    /// of one subscription doesn't, and 91 where it does, and there is no memory for it.
+    /// order, and for each of its subscriptions, ended ones too, its span and the rows that its source pushed. Refused,
+    /// the rows before the refused one were added: 98 where that one doesn't fit the trace, as a second span of one
+    /// subscription doesn't, and 91 where it does, and there is no memory for it.
     pub fn rows(&self, trace: &mut Trace) -> Result<(), AddFault>
         ensures balanced { IsBalanced self.now }
         ensures ok { OnOk result (AddsAll (place_rows self.now) trace.old trace.new) }
         ensures err { IfErr result (λ fault. AddsFirst fault (place_rows self.now) trace.old trace.new) }
     {
         match &self.kept {
-            Some(kept) => kept.rows(self.group(), trace),
+            Some(kept) => kept.rows(&self.group, trace),
             None => Ok(()),
         }
     }
 
     /// Whether the subscription of this number is open or has lagged, if there is one.
     pub fn state(&self, number: u64) -> Option<SubState>
-        ensures { result ≡ state_of number self.now.cells.group.topic }
+        ensures { result ≡ state_of number self.now.group.topic }
     {
-        self.group().state(number)
+        self.group.state(number)
     }
 }
 

@@ -29,8 +29,7 @@ pub trait Places {
     fn propose(&mut self, floor: Stamp, part: Arc<Part>) -> Result<Ticket, ProposeFault>
         ensures ticket { IfOk result (λ ticket. IsTicketFor floor (data_of (arc_value part)) ticket) }
         ensures entered { IfOk result
-            (λ ticket. rows self.new
-            ≡ rows self.old ++ Entered (data_of (arc_value part)) floor ticket.n ∷ []) }
+            (λ ticket. rows self.new ≡ rows self.old ++ Entered (data_of (arc_value part)) floor ticket.n ∷ []) }
         ensures one { OnOk result (given self.new ≡ given self.old + 1) }
         ensures refused { OnErr result (rows self.new ≡ rows self.old) }
         ensures none { OnErr result (given self.new ≡ given self.old) }

@@ -3,8 +3,8 @@
 use std::marker::Brand;
 use std::sync::ledger::Ledger;
 
-/// A ledger by which a broker's tickets are counted. A broker has two: one whose shares its workers have, and one
-/// whose shares its topics have.
+/// A ledger by which a broker's tickets are counted. A broker has two: one whose shares its workers have, and one whose
+/// shares its topics have.
 pub trait Side: Ledger {
     ghost use Rattle.std.specs.Prelude.{ℕ};
 

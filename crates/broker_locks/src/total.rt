@@ -1,20 +1,17 @@
 //! The total of a broker's tickets.
 
-ghost use Rattle.std.specs.Prelude.{◌≡◌, ◌+◌, ◌<◌, ◌≤◌, Ok, Err, IfSome, IfNone, OnOk, OnErr};
-ghost use Rattle.mcast_group.specs.declared.fault.ProposeFault.TheVariants.{ClockFull};
+ghost use Rattle.std.specs.Prelude.{◌≡◌, ◌+◌, ◌<◌, ◌≤◌, IfSome, IfNone, IsTrue, IsFalse};
 ghost use Rattle.broker_locks.specs.Tickets.{most_tickets};
 
 use crate::side::Side;
 use crate::worker::Worker;
-use mcast_group::ProposeFault;
 use std::sync::ledger::{Blank, Book, Share};
 
 /// How many workers may ever join a broker.
 pub(crate) const MOST_WORKERS: u64 = 256;
 
-/// How many tickets a broker's topics gave, all together, as the workers' ledger and the topics' count them. Beside
-/// it how many workers ever joined, with the share of those who haven't, and a share of no topic, with which a tally
-/// begins.
+/// How many tickets a broker's topics gave, all together, as the workers' ledger and the topics' count them. Beside it how
+/// many workers ever joined, with the share of those who haven't, and a share of no topic, with which a tally begins.
 #[derive(Drop)]
 pub(crate) struct Total<W: Side, T: Side> {
     pub(crate) tickets: u64,
@@ -34,23 +31,22 @@ pub(crate) struct Total<W: Side, T: Side> {
 }
 
 impl<W: Side, T: Side> Total<W, T> {
-    /// Counts a ticket, which the topic of this share is to give to the worker of that one. Refused by 40 exactly
-    /// where no ticket is left; nothing has changed then.
-    pub(crate) fn count(
-        &mut self,
-        mine: &mut Share<W>,
-        here: &mut Share<T>,
-    ) -> Result<(), ProposeFault>
+    /// Whether no ticket is left.
+    pub(crate) fn is_full(&self) -> bool
+        ensures full { IsTrue result → self.now.tickets ≡ most_tickets }
+        ensures left { IsFalse result → self.now.tickets < most_tickets }
+    {
+        self.tickets == u64::MAX
+    }
+
+    /// Counts a ticket that the topic of this share gave to the worker of that one.
+    pub(crate) fn give(&mut self, mine: &mut Share<W>, here: &mut Share<T>)
+        requires left { self.old.tickets < most_tickets }
         requires mine { 0 < mine.old.parts }
         requires here { 0 < here.old.parts }
-        ensures left { self.old.tickets < most_tickets → result ≡ Ok tt }
-        ensures full { self.old.tickets ≡ most_tickets → result ≡ Err ClockFull }
-        ensures parts { (mine.new.parts ≡ mine.old.parts) × (here.new.parts ≡ here.old.parts) }
-        ensures mine { OnOk result (mine.new.amount ≡ mine.old.amount + 1) }
-        ensures here { OnOk result (here.new.amount ≡ here.old.amount + 1) }
-        ensures tickets { OnOk result (self.new.tickets ≡ self.old.tickets + 1) }
-        ensures same { OnErr result ((mine.new.amount ≡ mine.old.amount) × (here.new.amount ≡ here.old.amount)
-            × (self.new.tickets ≡ self.old.tickets)) }
+        ensures mine { (mine.new.parts ≡ mine.old.parts) × (mine.new.amount ≡ mine.old.amount + 1) }
+        ensures here { (here.new.parts ≡ here.old.parts) × (here.new.amount ≡ here.old.amount + 1) }
+        ensures tickets { self.new.tickets ≡ self.old.tickets + 1 }
     {
         let Total {
             tickets,
@@ -60,34 +56,9 @@ impl<W: Side, T: Side> Total<W, T> {
             topics,
             end: _,
         } = self;
-        if *tickets == u64::MAX {
-            return Err(ProposeFault::ClockFull);
-        }
         *tickets += 1;
         workers.add(mine, 1);
         topics.add(here, 1);
-        Ok(())
-    }
-
-    /// Takes back a ticket that was counted for these and wasn't given.
-    pub(crate) fn take_back(&mut self, mine: &mut Share<W>, here: &mut Share<T>)
-        requires mine { 0 < mine.old.amount }
-        requires here { 0 < here.old.amount }
-        ensures mine { (mine.new.parts ≡ mine.old.parts) × (mine.new.amount + 1 ≡ mine.old.amount) }
-        ensures here { (here.new.parts ≡ here.old.parts) × (here.new.amount + 1 ≡ here.old.amount) }
-        ensures tickets { self.new.tickets + 1 ≡ self.old.tickets }
-    {
-        let Total {
-            tickets,
-            joined: _,
-            workers,
-            rest: _,
-            topics,
-            end: _,
-        } = self;
-        workers.sub(mine, 1);
-        topics.sub(here, 1);
-        *tickets -= 1;
     }
 
     /// One more worker, if fewer than 256 ever joined.
@@ -115,8 +86,7 @@ impl<W: Side, T: Side> Total<W, T> {
 
 /// A total of no tickets, which no worker joined, and the share of all topics.
 pub(crate) fn opened<W: Side, T: Side>(workers: Blank, topics: Blank) -> (Total<W, T>, Share<T>)
-    requires workers { (workers.name ≡ W.name) × (workers.parts ≡ W.parts) × (W.parts ≡ W.all)
-        × (W.all ≡ 257) }
+    requires workers { (workers.name ≡ W.name) × (workers.parts ≡ W.parts) × (W.parts ≡ W.all) × (W.all ≡ 257) }
     requires topics { (topics.name ≡ T.name) × (topics.parts ≡ T.parts) }
     ensures parts { result.1.parts ≡ T.parts }
     ensures none { result.1.amount ≡ 0 }

@@ -28,12 +28,11 @@ fn log_row(alloc: Global, topic: Topic, row: &Row) -> Result<LogRow, NoMemory>
     })
 }
 
-/// Adds a row of a topic's log. Whether it fits is tested before its topics are copied, so that 91 comes only where
-/// it does.
+/// Adds a row of a topic's log. Whether it fits is tested before its topics are copied, so that 91 comes only where it
+/// does.
 fn add_log_row(alloc: Global, trace: &mut Trace, topic: Topic, row: &Row) -> Result<(), AddFault>
     ensures ok { OnOk result (AddsAll (logged_row topic row.now ∷ []) trace.old trace.new) }
-    ensures fault { IfErr result
-        (λ fault. is_misfit (logged_row topic row.now) trace.old ≡ says_misfit fault) }
+    ensures fault { IfErr result (λ fault. is_misfit (logged_row topic row.now) trace.old ≡ says_misfit fault) }
     ensures err { OnErr result (trace.new ≡ trace.old) }
 {
     if !names(topic, row.topics.as_slice()) {

@@ -7,8 +7,8 @@ use crate::side::Side;
 use std::marker::Model;
 use std::sync::ledger::Share;
 
-/// A worker of a broker: whoever commits lends it to each commit. It is its share of the tickets. In contracts it is
-/// of how many workers it is, one, and how many tickets its commits were given.
+/// A worker of a broker: whoever commits lends it to each commit. It is its share of the tickets. In contracts it is of
+/// how many workers it is, one, and how many tickets its commits were given.
 #[derive(Drop)]
 pub struct Worker<W: Side> {
     pub(crate) shares: Shares<W>,

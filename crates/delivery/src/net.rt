@@ -44,7 +44,7 @@ impl Drop for Net {
 }
 
 impl Model for Net {
-    ghost use Rattle.std.specs.Prelude.{◌-◌, reverse, vec_len, vec_capacity};
+    ghost use Rattle.std.specs.Prelude.{◌-◌, length, reverse, take, vec_len, vec_capacity};
     ghost use Rattle.delivery.specs.Nets.{KeptRun};
     ghost use Rattle.delivery.specs.Inner.NetInvariant.{KeepsRun};
     ghost use Rattle.delivery.specs.Inner.Readings.{steps_of};
@@ -52,14 +52,15 @@ impl Model for Net {
     ghost Value = { KeptRun };
 
     ghost view = { λ n. record {
-      topics = record { names = n.state.names; clocks = n.clocks.items };
+      topics = record { names = take (length n.clocks.items) n.state.names; clocks = n.clocks.items };
       capacity = n.state.capacity;
       kept = n.kept.items;
       steps = steps_of (reverse n.kept.items);
       spare = vec_capacity n.kept - vec_len n.kept;
     } };
 
-    ghost invariant = { λ n. KeepsRun (record { names = n.state.names; clocks = n.clocks.items }) n.state.capacity
+    ghost invariant = { λ n. KeepsRun
+        (record { names = take (length n.clocks.items) n.state.names; clocks = n.clocks.items }) n.state.capacity
         n.kept.items n.state };
 }
 

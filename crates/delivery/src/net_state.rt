@@ -41,7 +41,6 @@ pub use queue_report::QueueReport;
 pub use report::Report;
 use std::alloc::Global;
 use std::marker::Model;
-use std::sync::Arc;
 use stomp_frame::{NoMemory, Octets, ServerFrame};
 use stomp_session::Names;
 use sub_queue::VecOutlet;
@@ -49,13 +48,13 @@ use sub_queue::VecOutlet;
 /// The most parts and rows of a topic, taken together.
 const LOG_LIMIT: usize = 65_536;
 
-/// What the core holds: of each topic its group, of each sender its transaction and its verdicts, of each connection
+/// What the core holds: of each topic its name and its group, of each sender its transaction and its verdicts, of each connection
 /// its endpoint, each subscription, and the commit list, with a row promised to each transaction that is on its way.
 /// In contracts it is the view of a core.
 #[derive(Drop)]
 pub(crate) struct NetState {
     alloc: Global,
-    names: Arc<Names>,
+    names: Names,
     capacity: usize,
     groups: Vec<Group<VecOutlet>>,
     senders: Vec<SenderState>,
@@ -66,7 +65,6 @@ pub(crate) struct NetState {
 }
 
 impl Model for NetState {
-    ghost use Rattle.std.specs.Arc.{arc_value};
     ghost use Rattle.std.specs.Prelude.{◌≡◌};
     ghost use Rattle.delivery.specs.Inner.Rooms.{flying_count};
     ghost use Rattle.delivery.specs.Inner.View.{View};
@@ -74,7 +72,7 @@ impl Model for NetState {
     ghost Value = { View };
 
     ghost view = { λ n. record {
-      names = arc_value n.names;
+      names = n.names;
       capacity = n.capacity;
       groups = n.groups.items;
       senders = n.senders.items;
@@ -115,7 +113,7 @@ impl NetState {
         let groups = new_groups(alloc, clocks)?;
         Ok(NetState {
             alloc,
-            names: Arc::new(alloc, names)?,
+            names,
             capacity,
             groups,
             senders: Vec::new(alloc),
@@ -209,11 +207,10 @@ impl NetState {
     {
         self.endpoints.reserve(1)?;
         self.senders.reserve(1)?;
-        let names = self.names.clone()?;
         self.table.add_sender(self.alloc)?;
         let sender = self.senders.len() as u64;
         self.endpoints
-            .push_reserved(Endpoint::new(self.alloc, names, sender));
+            .push_reserved(Endpoint::new(self.alloc, sender));
         self.senders
             .push_reserved(SenderState::new(self.alloc, Sender(sender)));
         Ok(())

@@ -2,5 +2,4 @@
 
 mod broker_core;
 mod draws;
-mod locks;
 mod programs;

@@ -34,7 +34,7 @@ impl AddFault {
 #[derive(Clone, Copy, Debug, PartialEq, Eq, Error)]
 pub enum AuditFault {
     /// 93: two log rows of one transaction differ in stamp or topics.
-    #[error("93 TwoVerdicts: two log rows of one transaction differ in stamp or topics")]
+    #[error("93 TwoVerdicts: two log rows of one transaction are_different in stamp or topics")]
     TwoVerdicts,
     /// 97: rows of two transactions have one stamp.
     #[error("97 SameStamp: rows of two transactions have one stamp")]

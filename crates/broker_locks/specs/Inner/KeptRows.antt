@@ -4,7 +4,7 @@ use Rattle.std.specs.List.{flat_map}
 use Rattle.std.specs.Option.{option_map}
 use Rattle.mcast_txn.specs.declared.stamp.Stamp.{Stamp}
 use Rattle.mcast_txn.specs.Span.{LogRow}
-use Rattle.mcast_group.specs.CellGroup.{CellGroupState}
+use Rattle.mcast_group.specs.Group.{GroupState}
 use Rattle.mcast_group.specs.Machine.{Entry, TopicState, find_entry}
 use Rattle.trace_audit.specs.declared.row.SpanRow.{SpanRow}
 use Rattle.trace_audit.specs.declared.row.TraceRow.{TraceRow}
@@ -73,11 +73,11 @@ abbrev pub spans_rows : TopicState → List LogRow → List KeptSpan → List Tr
 spans_rows x log spans = flat_map (λ s. sub_rows x.topic (span_trace x log s)) spans
 
 -- a place of which this is stored for a trace
-abbrev pub place_with : CellGroupState → ℕ → ℕ → ℕ → Option RowsKept → PlaceState
-place_with cells tickets released cancelled kept = record {
-  cells = cells;
+abbrev pub place_with : GroupState → ℕ → ℕ → ℕ → Option RowsKept → PlaceState
+place_with group tickets released cancelled kept = record {
+  group = group;
   tickets = tickets;
   released = released;
   cancelled = cancelled;
-  kept = option_map (trace_kept cells.group.topic.held) kept;
+  kept = option_map (trace_kept group.topic.held) kept;
 }

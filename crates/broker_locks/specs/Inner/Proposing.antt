@@ -8,7 +8,7 @@ use Rattle.mcast_txn.specs.declared.id.Topic.{Topic}
 use Rattle.mcast_txn.specs.declared.stamp.Stamp.{Stamp}
 use Rattle.mcast_group.specs.declared.fault.ProposeFault.{ProposeFault}
 use Rattle.sender_gate.specs.Gate.{FlightState}
-use Rattle.broker_locks.specs.Commits.{AreTold, EnteredPart, entered, parts_in, topics_in}
+use Rattle.broker_locks.specs.Commits.{AreTold, Proposal, entered, parts_in, topics_in}
 use Rattle.broker_locks.specs.Rows.{PlaceRow}
 
 -- a part's topic as a number
@@ -30,7 +30,7 @@ abbrev pub parts_after : List TopicPart → List ℕ → Slots TopicPart
 parts_after ps ns = slots_after (λ p. Some p) ps (map (λ n. None) ns)
 
 -- the first parts with their numbers
-abbrev pub proposals_of : List TopicPart → List ℕ → List EnteredPart
+abbrev pub proposals_of : List TopicPart → List ℕ → List Proposal
 proposals_of [] ns = []
 proposals_of (p ∷ ps) [] = []
 proposals_of (p ∷ ps) (n ∷ ns) = record { part = p; number = n } ∷ proposals_of ps ns
@@ -53,8 +53,7 @@ pub record HasProposed (ps : List TopicPart) (first : FlightState) (ns : List �
 
 -- The first parts of a flight were tried, and a place refused the last of them.
 pub record TriesPart {P Q : Type 0} (may_refuse : P → Stamp → TopicPart → ProposeFault → Type 0)
-    (told : Q → Topic → ℕ → Q → Type 0) (flight : FlightState) (old new : Q) (fault : ProposeFault)
-    : Type 0 where
+    (told : Q → Topic → ℕ → Q → Type 0) (flight : FlightState) (old new : Q) (fault : ProposeFault) : Type 0 where
   pub before : ℕ
   pub tells : AreTold told (topics_in flight) (before + 1) old new
   pub places : P

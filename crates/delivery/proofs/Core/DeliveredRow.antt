@@ -20,7 +20,7 @@ use Rattle.delivery.specs.Machine.Runs.{commits_of, delivered_items}
 use Rattle.delivery.specs.Core.Reports.{Report}
 use Rattle.delivery.specs.Core.Account.{account_of, released_log}
 use Rattle.delivery.specs.Core.Reports.{report_of, log_in, queue_in, span_of}
-use Rattle.delivery.specs.Core.Delivery.{Delivers, EndsAsTold}
+use Rattle.delivery.specs.Core.Delivery.{Delivers, EndsAsTold, EndsAtFrontier}
 use Rattle.delivery.proofs.Core.Acts.{topic, stamp, id, made, part, log_row as row, A}
 use Rattle.delivery.proofs.Core.Rows.{ends}
 use Rattle.delivery.proofs.Core.ToldEnds.{in_ends}

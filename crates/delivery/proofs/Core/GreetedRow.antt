@@ -1,7 +1,7 @@
 -- One run with all that is asked of it, so that neither a run of the core nor its delivery is asked in vain: a connection is
 -- opened, fed a CONNECT, and greeted.
 use Rattle.std.proofs.Common.{inl, refl, arith}
-use Rattle.std.specs.Prelude.{◌≡◌, ℕ, zero, suc, ◌==◌, ◌<◌, ◌++◌, Bool, true, false, if◌then◌else◌, List, [], ◌∷◌, codes, Ok}
+use Rattle.std.specs.Prelude.{◌≡◌, ℕ, zero, suc, ◌==◌, ◌<◌, ◌++◌, Bool, true, false, if◌then◌else◌, List, [], ◌∷◌, map, reverse, codes, Ok}
 use Rattle.std.specs.Str.{is_utf8, chars}
 use Rattle.std.specs.Char.{encode_utf8}
 use Rattle.stomp_escape.specs.Inner.Unescaping.{unescaped_from}

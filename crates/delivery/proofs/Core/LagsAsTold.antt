@@ -25,7 +25,7 @@ use Rattle.delivery.specs.Core.Account.{released_frontier}
 use Rattle.delivery.specs.Core.Reports.{QueueReport, queue_report, cause_at}
 use Rattle.delivery.specs.Core.Delivery.{last_queued, EndsByLag}
 use Rattle.delivery.proofs.Machine.Invariant.{topic_in}
-use Rattle.delivery.proofs.Machine.InvariantIsKept.{tickets, step_reached}
+use Rattle.delivery.proofs.Machine.InvariantIsKept.{Reached, tickets, step_reached}
 use Rattle.delivery.proofs.Machine.SpanSteps.{step_tells}
 use Rattle.delivery.proofs.Theorem.AcceptedIsDue.{reached, start_reached, queued, frontier_is}
 use Rattle.delivery.proofs.Theorem.ClosedAsAnswered.{closed_as_told, closed_stays}

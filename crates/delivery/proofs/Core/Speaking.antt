@@ -22,7 +22,7 @@ use Rattle.delivery.specs.Theorem.Settled.{closes}
 use Rattle.delivery.specs.Core.Output.{has_closed}
 use Rattle.delivery.proofs.Machine.Invariant.{sender_in}
 use Rattle.delivery.proofs.Machine.SenderSteps.{In-append_cases, In-drop}
-use Rattle.delivery.proofs.Machine.SubscriptionSteps.{at_push, at_end, at_push_two, push_length, set_length}
+use Rattle.delivery.proofs.Machine.SubscriptionSteps.{at_push, at_end, at_push_two, at_old, push_length, set_length, beyond}
 use Rattle.delivery.proofs.Machine.InvariantIsKept.{by_refusal, checked, false_not, in_flight}
 use Rattle.delivery.proofs.Theorem.SendersAreOwn.{Speaks, effect_speaks, start_speaks, flying_speaks, speaks, reading_there}
 use Rattle.delivery.proofs.Machine.Speakers.{has_speaker, claim_free}
@@ -204,11 +204,9 @@ joined past senders connections c s idle h =
     let new : Connection = record { sender = Some s; standing = (get_or connections c nobody).standing } in record {
       seqs = h.seqs;
       flying = h.flying;
-      left = λ r k i. (let a = h.left r k i in (
-        a.0,
-        λ d. at_set (λ (z : Connection). z.sender ≡ Some r → is_reading z.standing ≡ false) connections c d new nobody
-            (λ e m. absurd (subst (λ ks. In k ks) (ap (λ n. (sender_in senders n).leftovers) (sym (some_same s r m)) ∙ idle) i)) (a.1 d),
-      ));
+      left = λ r k i. (let a = h.left r k i in
+          (a.0, λ d. at_set (λ (z : Connection). z.sender ≡ Some r → is_reading z.standing ≡ false) connections c d new nobody
+          (λ e m. absurd (subst (λ ks. In k ks) (ap (λ n. (sender_in senders n).leftovers) (sym (some_same s r m)) ∙ idle) i)) (a.1 d)));
       shut = λ d l. at_set (λ (z : Connection). is_reading z.standing ≡ false → has_closed d past ≡ true) connections c d new nobody
           (λ e m. subst (λ n. has_closed n past ≡ true) (sym e) (h.shut c (subst (λ n. n < length connections) e (there d l)) m))
           (h.shut d (there d l));

@@ -1,9 +1,9 @@
 -- The steps of a run are a function of its events and outcomes.
-use Rattle.std.proofs.Common.{◌≡◌, ℕ, Bool, true, false, cond, inl, inr, List, [], ◌∷◌, map, Option, Some, None, Result, Ok, Err, refl, sym, ap, ◌∙◌}
-use Rattle.std.proofs.lemmas.Bool.{false≢true}
+use Rattle.std.proofs.Common.{◌≡◌, ℕ, Bool, true, false, cond, not, inl, inr, List, [], ◌∷◌, ◌++◌, map, Option, Some, None, Result, Ok, Err, refl, sym, ap, subst, ◌∙◌}
+use Rattle.std.proofs.lemmas.Bool.{true≢false, false≢true}
 use Rattle.std.proofs.lemmas.List.{reverse-reverse}
 use Rattle.std.specs.Prelude.{reverse}
-use Rattle.std.specs.Option.{option_map}
+use Rattle.std.specs.Option.{is_some, option_map}
 use Rattle.stomp_frame.specs.declared.raw_frame.RawFrame.{RawFrame}
 use Rattle.stomp_frame.specs.declared.fault.Check.{Check}
 use Rattle.stomp_frame.specs.declared.fault.Check.TheVariants as checks
@@ -24,7 +24,7 @@ use Rattle.delivery.specs.declared.connection_fault.ConnectionFault.{ConnectionF
 use Rattle.delivery.specs.declared.kept.Kept.{Kept}
 use Rattle.delivery.specs.Machine.Objections.{Objection, refusal_of}
 use Rattle.delivery.specs.Machine.Moves.{needs_idle}
-use Rattle.delivery.specs.Core.Steps.{CoreStep, Reading, says_frame, kept_of, reader_limits}
+use Rattle.delivery.specs.Core.Steps.{CoreStep, Reading, frame_in, says_frame, kept_of, reader_limits}
 use Rattle.delivery.specs.Core.State.{Core, core_of, IsReadBy, unread_at}
 use Rattle.delivery.specs.Inner.Readings.{reading_of, reads_nothing, reading_at, steps_of}
 use Rattle.delivery.specs.Core.Delivery.{kept_run, StepsAreKept}

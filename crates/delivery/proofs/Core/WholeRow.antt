@@ -1,7 +1,7 @@
 -- One whole delivery: a connection subscribes to two topics, commits a transaction to both, is delivered an item of the first,
 -- and unsubscribes from it; its queue of the second, which takes one item, lags as a second transaction comes.
 use Rattle.std.proofs.Common.{inl, inr, refl, sym, ap, subst, ◌∙◌, arith}
-use Rattle.std.specs.Prelude.{◌≡◌, ℕ, zero, suc, nat_lt, ◌==◌, ◌+◌, ◌<◌, ◌≤◌, ◌++◌, Bool, true, false, if◌then◌else◌, length, List, [], ◌∷◌, codes, Ok, Some}
+use Rattle.std.specs.Prelude.{◌≡◌, ℕ, zero, suc, nat_lt, ◌==◌, ◌+◌, ◌<◌, ◌≤◌, ◌++◌, Bool, true, false, if◌then◌else◌, length, List, [], ◌∷◌, codes, Ok, Option, Some, None}
 use Rattle.std.specs.Fmt.{digits}
 use Rattle.std.specs.Option.{option_to_list}
 use Rattle.std.specs.Str.{is_utf8, chars}

@@ -24,7 +24,7 @@ use Rattle.mcast_txn.specs.Span.{Item}
 use Rattle.mcast_group.specs.Machine.{Pending, Entry, propose_refusals, propose_fault, is_pending, after_learn, due_part, after_release, after_turn, decided_stamp}
 use Rattle.mcast_group.proofs.Parts.{some_same, none_some, not_true}
 use Rattle.delivery.specs.Machine.Objections.{Objection}
-use Rattle.delivery.specs.Machine.World.{World, Undecided, Leftover, SenderState, topic_at, new_sender, speaker, entry_at, speaker_number}
+use Rattle.delivery.specs.Machine.World.{World, Undecided, Leftover, SenderState, topic_at, new_sender, connection_at, speaker, entry_at, speaker_number}
 use Rattle.delivery.specs.Machine.Moves.{Move, Answer, world_after, answer_to, move_refusal, move_effect, move_answer, undecided_at, undecided_or_none, find_leftover, find_verdict, verdict_in, oldest_live, has_ticket, next_txn, next_ticket, connect_effect, commit_effect, commit_answer, proposal_fault, propose_effect, propose_answer, decide_effect, withdraw_effect, cancel_effect, cancel_answer, learn_effect, learn_objection, release_answer, queue_has_room, take_effect, take_answer, leave_effect, leave_answer, close_effect, close_effect_of, or_out_of_memory, learn_objection_of, is_topic, objections, topic_objection}
 use Rattle.delivery.specs.Machine.Moves.Move.{AddsTopic, Opens, Connects, Commits, Subscribes, Unsubscribes, Disconnects, Errs, Lost, Leaves, Proposes, Decides, Withdraws, Cancels, Learns, Releases, Turns, Takes}
 use Rattle.delivery.specs.Machine.Moves.Answer.{Refused, Done, Begun, Ticket}

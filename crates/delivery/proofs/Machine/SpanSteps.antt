@@ -14,7 +14,7 @@ use Rattle.mcast_group.proofs.Parts.{none_some}
 use Rattle.delivery.specs.Machine.World.{World, Leftover, Subscription, no_subscription, topic_at, speaker, subscription_at, entry_at, with_topic}
 use Rattle.delivery.specs.Machine.Observed.{entry_items, entry_to, accepted_at, end_at}
 use Rattle.delivery.specs.Machine.Moves.{Move, Answer, world_after, move_effect, find_leftover, find_verdict, oldest_live, commit_effect, proposal_fault, propose_effect, cancel_effect, learn_effect, take_effect, undecided_at, leave_effect, close_effect_of}
-use Rattle.delivery.specs.Machine.Moves.Move.{AddsTopic, Commits, Subscribes, Unsubscribes, Leaves, Proposes, Cancels, Learns, Releases, Turns, Takes}
+use Rattle.delivery.specs.Machine.Moves.Move.{AddsTopic, Opens, Commits, Subscribes, Unsubscribes, Disconnects, Errs, Lost, Leaves, Proposes, Decides, Withdraws, Cancels, Learns, Releases, Turns, Takes}
 use Rattle.delivery.proofs.Machine.Invariant.{topic_in, Owned}
 use Rattle.delivery.proofs.Machine.TopicSteps.{at_topic_from}
 use Rattle.delivery.proofs.Machine.SubscriptionSteps.{at_push_two, at_added, set_length, push_length, found_entry, new_subscription, new_entry, topic_with, taken_more}

@@ -1,16 +1,20 @@
 -- A transaction in flight is its frame's, and its sender is that for which its connection speaks.
-use Rattle.std.proofs.Common.{◌≡◌, ℕ, List, [], ◌∷◌, Option, Some, None, refl, sym, ap, ◌∙◌}
+use Rattle.std.proofs.Common.{◌≡◌, ℕ, ◌<◌, List, [], ◌∷◌, length, set, get_or, Option, Some, None, refl, sym, ap, subst, ◌∙◌, arith}
 use Rattle.mcast_txn.specs.Agreed.{Transaction}
+use Rattle.mcast_txn.specs.Ballot.{Decision}
 use Rattle.mcast_txn.specs.declared.id.Topic.{Topic}
+use Rattle.mcast_txn.specs.declared.id.TxnId.{TxnId}
 use Rattle.mcast_txn.specs.declared.draft.sent_message.SentMessage.{SentMessage}
+use Rattle.mcast_txn.proofs.Members.{at_set}
 use Rattle.mcast_group.specs.declared.fault.ProposeFault.{ProposeFault}
 use Rattle.mcast_txn.specs.Span.{Item}
-use Rattle.mcast_group.specs.Machine.{Pending, due_part}
+use Rattle.mcast_group.specs.Machine.{Pending, Entry, due_part}
 use Rattle.delivery.specs.Machine.Objections.{Objection}
-use Rattle.delivery.specs.Machine.World.{World, Leftover, topic_at, connection_at, speaker, speaker_number}
+use Rattle.delivery.specs.Machine.World.{World, Connection, Leftover, SenderState, Standing, nobody, new_sender, topic_at, connection_at, subscription_at, speaker, entry_at, start, speaker_number}
 use Rattle.delivery.specs.Machine.Moves.{Move, move_refusal, move_answer, find_leftover, oldest_live, next_txn, commit_answer, proposal_fault, propose_answer, cancel_answer, release_answer, take_answer, leave_answer}
-use Rattle.delivery.specs.Machine.Moves.Move.{Commits, Leaves, Proposes, Cancels, Releases, Takes}
+use Rattle.delivery.specs.Machine.Moves.Move.{AddsTopic, Opens, Commits, Subscribes, Unsubscribes, Disconnects, Errs, Lost, Leaves, Proposes, Decides, Withdraws, Cancels, Learns, Releases, Turns, Takes}
 use Rattle.delivery.specs.Machine.Moves.Answer.{Refused, Begun}
+use Rattle.delivery.specs.Machine.Runs.{run}
 use Rattle.delivery.specs.Theorem.Reported
 use Rattle.delivery.proofs.Machine.InvariantIsKept.{by_refusal, checked, false_not}
 use Rattle.delivery.proofs.Machine.Speakers.{has_speaker}

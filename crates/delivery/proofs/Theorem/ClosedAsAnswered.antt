@@ -17,7 +17,7 @@ use Rattle.mcast_group.proofs.Parts.{some_same, none_some}
 use Rattle.delivery.specs.Machine.World.{World, Leftover, Subscription, no_subscription, topic_at, speaker, subscription_at, entry_at}
 use Rattle.delivery.specs.Machine.Observed.{entry_items, entry_to, accepted_at, end_at}
 use Rattle.delivery.specs.Machine.Moves.{Move, Answer, world_after, answer_to, move_refusal, move_effect, move_answer, is_live, find_leftover, find_verdict, oldest_live, commit_effect, commit_answer, proposal_fault, propose_effect, propose_answer, cancel_effect, cancel_answer, learn_effect, release_answer, take_effect, take_answer, leave_effect, leave_answer, close_effect_of}
-use Rattle.delivery.specs.Machine.Moves.Move.{AddsTopic, Commits, Subscribes, Unsubscribes, Leaves, Proposes, Cancels, Learns, Releases, Takes}
+use Rattle.delivery.specs.Machine.Moves.Move.{AddsTopic, Opens, Commits, Subscribes, Unsubscribes, Disconnects, Errs, Lost, Leaves, Proposes, Decides, Withdraws, Cancels, Learns, Releases, Turns, Takes}
 use Rattle.delivery.specs.Machine.Moves.Answer.{Learnt, Unsubscribed}
 use Rattle.delivery.specs.Theorem.Laws.{Run, answers_of, final_world}
 use Rattle.delivery.specs.Theorem.Spans

@@ -13,9 +13,9 @@ use Rattle.mcast_group.specs.declared.fault.ProposeFault.{ProposeFault}
 use Rattle.mcast_txn.specs.Span.{Item}
 use Rattle.mcast_group.specs.Machine.{Entry}
 use Rattle.mcast_group.proofs.Parts.{not_true}
-use Rattle.delivery.specs.Machine.World.{World, Leftover, SenderState, new_sender, speaker, entry_at, start, speaker_number}
+use Rattle.delivery.specs.Machine.World.{World, Leftover, SenderState, new_sender, connection_at, speaker, entry_at, start, speaker_number}
 use Rattle.delivery.specs.Machine.Moves.{Move, Answer, world_after, answer_to, move_refusal, move_effect, undecided_at, find_leftover, find_verdict, oldest_live, commit_effect, proposal_fault, propose_effect, decide_effect, cancel_effect, learn_effect, take_effect, leave_effect, close_effect_of, connect_effect}
-use Rattle.delivery.specs.Machine.Moves.Move.{Connects, Commits, Unsubscribes, Leaves, Proposes, Decides, Withdraws, Cancels, Learns, Takes}
+use Rattle.delivery.specs.Machine.Moves.Move.{AddsTopic, Opens, Connects, Commits, Subscribes, Unsubscribes, Disconnects, Errs, Lost, Leaves, Proposes, Decides, Withdraws, Cancels, Learns, Releases, Turns, Takes}
 use Rattle.delivery.specs.Machine.Runs.{run}
 use Rattle.delivery.specs.Theorem.Laws.{Run, final_world}
 use Rattle.delivery.specs.Theorem.Tied.{floor_after}

@@ -20,9 +20,9 @@ use Rattle.mcast_txn.specs.Span.{Item}
 use Rattle.mcast_group.specs.Machine.{TopicState, Pending, Entry, find_pending, is_pending, cancel_fault_of, due_part, find_entry}
 use Rattle.mcast_group.proofs.Parts.{Waits, finds_part}
 use Rattle.delivery.specs.Machine.Objections.{Objection}
-use Rattle.delivery.specs.Machine.World.{World, Leftover, Subscription, topic_at, speaker, subscription_at, start, speaker_number}
+use Rattle.delivery.specs.Machine.World.{World, Leftover, Subscription, topic_at, connection_at, speaker, subscription_at, start, speaker_number}
 use Rattle.delivery.specs.Machine.Moves.{Move, Answer, world_after, answer_to, move_refusal, objections, or_out_of_memory, move_answer, undecided_at, find_leftover, oldest_live, commit_answer, proposal_fault, propose_answer, cancel_objection, cancel_objection_of, cancel_answer, release_answer, take_answer, leave_answer}
-use Rattle.delivery.specs.Machine.Moves.Move.{Commits, Leaves, Proposes, Cancels, Releases, Takes}
+use Rattle.delivery.specs.Machine.Moves.Move.{AddsTopic, Opens, Commits, Subscribes, Unsubscribes, Disconnects, Errs, Lost, Leaves, Proposes, Decides, Withdraws, Cancels, Learns, Releases, Turns, Takes}
 use Rattle.delivery.specs.Machine.Moves.Answer.{Refused, Failed}
 use Rattle.delivery.specs.Machine.Runs.{answers_from}
 use Rattle.delivery.specs.Theorem.Laws

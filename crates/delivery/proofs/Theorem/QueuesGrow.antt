@@ -13,7 +13,7 @@ use Rattle.mcast_group.proofs.Queues.{More, More-same}
 use Rattle.delivery.specs.Machine.World.{World, Leftover, Subscription, no_subscription, topic_at, speaker, subscription_at, entry_at, with_topic}
 use Rattle.delivery.specs.Machine.Observed.{entry_items, accepted_at}
 use Rattle.delivery.specs.Machine.Moves.{Move, Answer, move_effect, find_leftover, find_verdict, verdict_in, oldest_live, commit_effect, proposal_fault, propose_effect, cancel_effect, learn_effect, queue_has_room, take_effect, undecided_at, leave_effect}
-use Rattle.delivery.specs.Machine.Moves.Move.{AddsTopic, Commits, Subscribes, Unsubscribes, Leaves, Proposes, Cancels, Learns, Releases, Turns, Takes}
+use Rattle.delivery.specs.Machine.Moves.Move.{AddsTopic, Opens, Commits, Subscribes, Unsubscribes, Disconnects, Errs, Lost, Leaves, Proposes, Decides, Withdraws, Cancels, Learns, Releases, Turns, Takes}
 use Rattle.delivery.specs.Theorem.Laws.{answers_of, final_world}
 use Rattle.delivery.specs.Theorem.Spans
 use Rattle.delivery.proofs.Machine.Invariant.{topic_in}

@@ -15,7 +15,7 @@ use Rattle.mcast_group.proofs.Parts.{some_same, none_some}
 use Rattle.delivery.specs.Machine.Objections.{Objection, is_reported}
 use Rattle.delivery.specs.Machine.World.{World, Leftover, topic_at, speaker}
 use Rattle.delivery.specs.Machine.Moves.{Move, move_refusal, objections, topic_objection, find_leftover, find_verdict, learn_objection, learn_objection_of, cancel_objection, cancel_objection_of}
-use Rattle.delivery.specs.Machine.Moves.Move.{AddsTopic, Opens, Connects, Commits, Subscribes, Unsubscribes, Leaves, Proposes, Decides, Withdraws, Cancels, Learns, Releases, Turns}
+use Rattle.delivery.specs.Machine.Moves.Move.{AddsTopic, Opens, Connects, Commits, Subscribes, Unsubscribes, Disconnects, Errs, Lost, Leaves, Proposes, Decides, Withdraws, Cancels, Learns, Releases, Turns, Takes}
 use Rattle.delivery.specs.Theorem.Laws
 use Rattle.delivery.specs.Theorem.Laws.{Run, answers_of, final_world, is_odd, is_of_claim}
 use Rattle.delivery.proofs.Theorem.AcceptedIsDue.{reached}

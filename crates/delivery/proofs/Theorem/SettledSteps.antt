@@ -16,7 +16,7 @@ use Rattle.mcast_txn.proofs.Members.{In-map_cases, at_set}
 use Rattle.mcast_group.specs.Machine.{TopicState, Pending, Entry, with_stamp, after_learn, after_cancel, after_release, after_turn, decided_stamp}
 use Rattle.mcast_group.proofs.Parts.{Waits, In-insert_cases, told_how, others, not_true, some_same}
 use Rattle.mcast_group.proofs.Turning.{release_keeps, turn_keeps}
-use Rattle.delivery.specs.Machine.World.{World, Undecided, SenderState, new_sender, speaker, speaker_number}
+use Rattle.delivery.specs.Machine.World.{World, Undecided, SenderState, new_sender, connection_at, speaker, speaker_number}
 use Rattle.delivery.specs.Machine.Moves.{Answer, next_txn, commit_effect}
 use Rattle.delivery.specs.Machine.Moves.Answer.{Begun, Ticket, Withdrawn, Cancelled, Turned}
 use Rattle.delivery.specs.Machine.Runs.{txn_of_id}

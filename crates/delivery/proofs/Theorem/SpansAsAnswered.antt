@@ -1,5 +1,5 @@
 -- What a run's outcomes tell of its spans, and the bound of its queues.
-use Rattle.std.proofs.Common.{◌≡◌, ℕ, ◌+◌, ◌<◌, ◌≤◌, ◌==◌, true, false, not, ◌⊎◌, inl, inr, List, [], ◌∷◌, length, Option, Some, None, refl, sym, ap, subst, ◌∙◌, arith, ltb}
+use Rattle.std.proofs.Common.{◌≡◌, ℕ, zero, suc, ◌+◌, ◌<◌, ◌≤◌, ◌==◌, true, false, not, ◌⊎◌, inl, inr, List, [], ◌∷◌, length, get_or, Option, Some, None, refl, sym, ap, subst, ◌∙◌, arith, ltb}
 use Rattle.std.specs.Option.{is_some}
 use Rattle.std.proofs.lemmas.Bool.{ltb-true, and_parts, cases_order}
 use Rattle.mcast_txn.specs.Stamp.{zero_stamp}
@@ -15,7 +15,7 @@ use Rattle.mcast_group.proofs.Parts.{none_some}
 use Rattle.delivery.specs.Machine.World.{World, Leftover, Subscription, no_subscription, topic_at, speaker, subscription_at, entry_at, start}
 use Rattle.delivery.specs.Machine.Observed.{accepted_at, end_at}
 use Rattle.delivery.specs.Machine.Moves.{Move, Answer, world_after, answer_to, move_refusal, move_effect, move_answer, is_live, find_leftover, oldest_live, commit_answer, proposal_fault, propose_answer, cancel_answer, release_answer, take_answer, leave_effect, leave_answer, close_effect, close_effect_of, end_now}
-use Rattle.delivery.specs.Machine.Moves.Move.{Commits, Subscribes, Unsubscribes, Leaves, Proposes, Cancels, Releases, Takes}
+use Rattle.delivery.specs.Machine.Moves.Move.{AddsTopic, Opens, Commits, Subscribes, Unsubscribes, Disconnects, Errs, Lost, Leaves, Proposes, Decides, Withdraws, Cancels, Learns, Releases, Turns, Takes}
 use Rattle.delivery.specs.Machine.Moves.Answer.{Subscribed, Unsubscribed}
 use Rattle.delivery.specs.Machine.Runs.{run, answers_from}
 use Rattle.delivery.specs.Theorem.Laws.{Run, answers_of, final_world}

@@ -23,9 +23,9 @@ use Rattle.mcast_group.specs.Machine.{TopicState, Pending, Entry, new_topic, fin
 use Rattle.mcast_group.proofs.Parts.{found_part, some_same, none_some, after_release_if}
 use Rattle.mcast_group.proofs.Queues.{delivered_number}
 use Rattle.delivery.specs.Machine.Objections.{Objection}
-use Rattle.delivery.specs.Machine.World.{World, Leftover, topic_at, speaker, subscription_at, entry_at, start, speaker_number}
+use Rattle.delivery.specs.Machine.World.{World, Leftover, topic_at, speaker, connection_at, subscription_at, entry_at, start, speaker_number}
 use Rattle.delivery.specs.Machine.Moves.{Move, Answer, world_after, answer_to, move_refusal, objections, topic_objection, move_effect, move_answer, undecided_at, find_leftover, find_verdict, oldest_live, commit_effect, commit_answer, proposal_fault, propose_effect, propose_answer, cancel_effect, cancel_objection, cancel_objection_of, cancel_answer, learn_effect, learn_objection, learn_objection_of, release_answer, queue_has_room, take_effect, take_answer, leave_effect, leave_answer, close_effect_of}
-use Rattle.delivery.specs.Machine.Moves.Move.{AddsTopic, Opens, Connects, Commits, Subscribes, Unsubscribes, Leaves, Proposes, Decides, Withdraws, Cancels, Learns, Releases, Turns, Takes}
+use Rattle.delivery.specs.Machine.Moves.Move.{AddsTopic, Opens, Connects, Commits, Subscribes, Unsubscribes, Disconnects, Errs, Lost, Leaves, Proposes, Decides, Withdraws, Cancels, Learns, Releases, Turns, Takes}
 use Rattle.delivery.specs.Machine.Moves.Answer.{Refused, Ticket}
 use Rattle.delivery.specs.Machine.Runs.{answers_from}
 use Rattle.delivery.specs.Theorem.Laws

@@ -10,9 +10,9 @@ use Rattle.mcast_txn.proofs.Orders.{id_same}
 use Rattle.mcast_group.specs.declared.fault.ProposeFault.{ProposeFault}
 use Rattle.mcast_txn.specs.Span.{Item}
 use Rattle.mcast_group.specs.Machine.{Pending, due_part}
-use Rattle.delivery.specs.Machine.World.{World, Undecided, Leftover, topic_at, speaker, start, speaker_number}
+use Rattle.delivery.specs.Machine.World.{World, Undecided, Leftover, topic_at, connection_at, speaker, start, speaker_number}
 use Rattle.delivery.specs.Machine.Moves.{Move, Answer, world_after, answer_to, move_refusal, move_answer, find_leftover, oldest_live, commit_answer, proposal_fault, propose_answer, cancel_answer, release_answer, take_answer, leave_answer}
-use Rattle.delivery.specs.Machine.Moves.Move.{Commits, Leaves, Proposes, Decides, Withdraws, Cancels, Releases, Takes}
+use Rattle.delivery.specs.Machine.Moves.Move.{AddsTopic, Opens, Commits, Subscribes, Unsubscribes, Disconnects, Errs, Lost, Leaves, Proposes, Decides, Withdraws, Cancels, Learns, Releases, Turns, Takes}
 use Rattle.delivery.specs.Machine.Moves.Answer.{Decided, Withdrawn}
 use Rattle.delivery.specs.Machine.Runs.{answers_from}
 use Rattle.delivery.specs.Theorem.Laws

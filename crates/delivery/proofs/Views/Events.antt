@@ -13,11 +13,13 @@ pub mod TakeStep
 pub mod TurnStep
 pub mod WithdrawStep
 pub mod NextStep
+pub mod FrameTopic
 pub mod NextFaults
 pub mod NextFrames
 pub mod NextSubs
 pub mod NextTxns
 pub mod WantsMemory
+pub mod TopicTaken
 pub mod OneMove
 pub mod ConnectionIsThere
 pub mod ReadingChecks

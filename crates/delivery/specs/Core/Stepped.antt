@@ -20,7 +20,7 @@ use Rattle.delivery.specs.Machine.Moves.{undecided_at, insert_ticket, oldest_liv
 use Rattle.delivery.specs.Theorem.Laws.{move_topic, live_topic}
 use Rattle.delivery.specs.Theorem.Spans.{EndsBeforeRow}
 use Rattle.delivery.specs.Core.Steps.{CoreStep, Reading, frame_in}
-use Rattle.delivery.specs.Core.State.{Core, core_of, core_after, session_at, frame_move}
+use Rattle.delivery.specs.Core.State.{Core, core_of, core_after, names_at, session_at, frame_move}
 use Rattle.delivery.specs.Core.Outcomes.{MayStep, IsCoreRun}
 
 -- ---- what an event is about
@@ -104,6 +104,11 @@ pub record HasStepped (before after : Core) (step : CoreStep) : Type 0 where
   -- what is refused changes nothing else, nor does what is answered that there was no memory
   pub refused : (why : Refusal) → step.outcome ≡ Outcome.Refused why → after.world ≡ before.world
   pub no_memory : step.outcome ≡ Outcome.NoMemory → after.world ≡ before.world
+  -- a topic that is made has clock 0 and an empty log, and there is one for each name and no other
+  pub opened : (t : Topic) → length before.world.topics ≤ t.0 → t.0 < length after.world.topics
+      → ((topic_at after.world t).clock ≡ 0) × ((topic_at after.world t).held ≡ [])
+  pub as_many : length before.world.topics ≡ length (names_at before)
+      → length after.world.topics ≡ length (names_at after)
   -- an event at one topic changes no other
   pub others : (t : Topic) → t.0 < length before.world.topics
       → event_topic before step.event step.reading ≢ Some t

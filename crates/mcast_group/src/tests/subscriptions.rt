@@ -50,7 +50,7 @@ fn a_full_queue_lags(rt: HostRuntime) {
     assert_eq!(rt; group.held_len(), 3);
 }
 
-/// Queues of two items, step by step.
+/// Queues of two items, step by step, as in docs/ORDERING.md.
 const IN_STEPS: [(Call, Answer); 20] = [
     (Propose(1, &[0], 0), Answer::Ticket(1)),
     (Propose(2, &[0], 0), Answer::Ticket(2)),

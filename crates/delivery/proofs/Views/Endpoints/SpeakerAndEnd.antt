@@ -1,13 +1,13 @@
 -- Connections of a core that a run leads to: whose they are, and which were closed.
 use Rattle.std.proofs.Common.{◌≡◌, ℕ, ◌<◌, not, length, ◌∙◌}
-use Rattle.delivery.specs.Machine.World.{is_reading, connection_at}
+use Rattle.delivery.specs.Machine.World.{is_reading, connection_at, speaker_number}
 use Rattle.delivery.specs.Theorem.Laws.{answers_of}
 use Rattle.delivery.specs.Core.Account.{account_of}
 use Rattle.delivery.specs.Core.Output.{has_closed}
 use Rattle.delivery.specs.Core.State.{Core}
 use Rattle.delivery.specs.Inner.Stands.{IsReached}
 use Rattle.delivery.proofs.Core.Said.{has_closed_said}
-use Rattle.delivery.proofs.Views.Runs.ByRunOfCore.{by_account, claimed_of}
+use Rattle.delivery.proofs.Views.Runs.ByRunOfCore.{by_world, by_account, claimed_of}
 use Rattle.delivery.proofs.Views.Endpoints.StandingOfConnection.{closed_where_shut}
 
 -- there are as many senders as connections

@@ -13,7 +13,7 @@ use Rattle.mcast_group.specs.Machine.{Pending, Entry, due_part}
 use Rattle.mcast_group.proofs.Parts.{not_true}
 use Rattle.delivery.specs.Machine.World.{World, Connection, Leftover, Standing, is_reading, nobody, topic_at, subscription_at, speaker, entry_at}
 use Rattle.delivery.specs.Machine.Moves.{Move, Answer, world_after, answer_to, move_refusal, move_effect, move_answer, find_leftover, find_verdict, oldest_live, commit_effect, commit_answer, proposal_fault, propose_effect, propose_answer, cancel_effect, cancel_answer, learn_effect, release_answer, take_effect, take_answer, leave_effect, leave_answer, close_effect_of}
-use Rattle.delivery.specs.Machine.Moves.Move.{Opens, Connects, Commits, Unsubscribes, Disconnects, Errs, Lost, Leaves, Proposes, Withdraws, Cancels, Learns, Releases, Takes}
+use Rattle.delivery.specs.Machine.Moves.Move.{AddsTopic, Opens, Connects, Commits, Subscribes, Unsubscribes, Disconnects, Errs, Lost, Leaves, Proposes, Decides, Withdraws, Cancels, Learns, Releases, Turns, Takes}
 use Rattle.delivery.specs.Machine.Runs.{run}
 use Rattle.delivery.specs.Theorem.Laws.{Run, answers_of, final_world}
 use Rattle.delivery.specs.Theorem.Settled.{closes}

@@ -21,7 +21,7 @@ use Rattle.delivery.specs.declared.outcome.Outcome.{Outcome}
 use Rattle.delivery.specs.declared.refusal.Refusal.{Refusal}
 use Rattle.delivery.specs.declared.refusal.Refusal.TheVariants as refusal
 use Rattle.delivery.specs.Machine.Objections.{Objection, refusal_of}
-use Rattle.delivery.specs.Machine.World.{World, Leftover, SenderState, topic_at, sender_at, speaker, with_sender, with_topic, speaker_number}
+use Rattle.delivery.specs.Machine.World.{World, Leftover, SenderState, topic_at, connection_at, sender_at, speaker, with_sender, with_topic, speaker_number}
 use Rattle.delivery.specs.Machine.Moves.{Move, Answer, move_refusal, needs_connection, is_topic, find_leftover, drop_leftover, cancel_objection, cancel_objection_of, cancel_effect, cancel_answer}
 use Rattle.delivery.specs.Theorem.Laws.{Run, final_world}
 use Rattle.delivery.specs.Core.Steps.{CoreStep, Reading, accepted_of}
@@ -233,7 +233,7 @@ cancels w c t e = go (is_topic w t) refl (find_leftover t (speaker w c).leftover
     go false topic o found e = none_some refusal.NotNamed e
 
 quiet : (names : List (List ℕ)) (c : ℕ) (t : Topic) (older : List CoreStep) → IsQuiet names (step_of (Event.Cancel c t) Reading.Nothing Outcome.Cancelled) older
-quiet names c t older = record { accepted = λ d. append-nil (accepted_of d older); unread = λ d. refl; text = λ d. append-nil (text_out names d older); ids = λ s. refl }
+quiet names c t older = record { accepted = λ d. append-nil (accepted_of d older); unread = λ d. refl; text = λ d. append-nil (text_out names d older); ids = λ s. refl; named = refl }
 
 -- the part is taken out, and the ticket dropped
 pub cancel_makes : (q : Core) (c s : ℕ) (t : Topic) → IsReached q → there_objection (slice_get (view_of q).endpoints c) ≡ None → s ≡ speaker_at (view_of q) c

@@ -19,7 +19,7 @@ use Rattle.delivery.specs.Machine.Runs.{run}
 use Rattle.delivery.specs.Core.Account.{account_of}
 use Rattle.delivery.specs.Core.Output.{replies_to}
 use Rattle.delivery.specs.Core.Steps.{Reading, accepted_of}
-use Rattle.delivery.specs.Core.State.{Core, moves, unread_at}
+use Rattle.delivery.specs.Core.State.{Core, moves, unread_at, names_at}
 use Rattle.delivery.specs.Core.Outcomes.{outcomes, outcome_of, move_outcome, reply_outcomes, cut_of, is_any, IsReadAt}
 use Rattle.delivery.specs.Inner.Senders.{gone_objection, there_objection}
 use Rattle.delivery.specs.declared.stage.Stage.{Stage}
@@ -44,7 +44,7 @@ there_checked k c =
     elim (bool_cases (nat_lt c (length k.world.connections))) [
       | inl t ↦
           ap there_objection (endpoint_is k c (ltb-true c (length k.world.connections) t))
-          ∙ (gone_is k.names x.standing (speaker k.world c).flight (accepted_of c k.steps) (unread_at c k.steps)
+          ∙ (gone_is (names_at k) x.standing (speaker k.world c).flight (accepted_of c k.steps) (unread_at c k.steps)
           ∙ ap checks (sym t))
       | inr f ↦ ap there_objection (no_endpoint k c (ltb-false c (length k.world.connections) f)) ∙ ap checks (sym f)
     ]

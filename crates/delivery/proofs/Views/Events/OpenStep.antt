@@ -4,10 +4,10 @@ use Rattle.std.proofs.lemmas.List.{get_or_append_left}
 use Rattle.delivery.specs.declared.event.Event.{Event}
 use Rattle.delivery.specs.declared.outcome.Outcome.{Outcome}
 use Rattle.delivery.specs.Machine.World.{SenderState, Connection, Standing, nobody, new_sender, connection_at, sender_at, speaker_number, World}
-use Rattle.delivery.specs.Machine.Moves.{Move}
+use Rattle.delivery.specs.Machine.Moves.{Move, move_effect}
 use Rattle.delivery.specs.Core.Steps.{Reading, accepted_of}
 use Rattle.delivery.specs.Core.Output.{text_out}
-use Rattle.delivery.specs.Core.State.{Core, unread_at}
+use Rattle.delivery.specs.Core.State.{Core, unread_at, names_at}
 use Rattle.delivery.specs.Core.Reports.{each_number}
 use Rattle.delivery.specs.Inner.Stands.{Makes, step_of}
 use Rattle.delivery.specs.Core.Connections.{live_numbers}
@@ -93,8 +93,8 @@ open_makes k claimed nothing =
     pushed (λ n. verdict_list w.verdicts n (sender_at w n).seq) (λ n. verdict_list w.verdicts n (sender_at new n).seq) w.senders new_sender []
     (λ n h. ap (λ (z : SenderState). verdict_list w.verdicts n z.seq) (sym (state n)))
     (ap (λ (z : SenderState). verdict_list w.verdicts s z.seq) last) in
-    let f = λ (n : ℕ). endpoint_view k.names w n (accepted_of n k.steps) (unread_at n k.steps) (text_out k.names n k.steps) in
-    let g = λ (n : ℕ). endpoint_view k.names new n (accepted_of n k.steps) (unread_at n k.steps) (text_out k.names n k.steps) in
+    let f = λ (n : ℕ). endpoint_view (names_at k) w n (accepted_of n k.steps) (unread_at n k.steps) (text_out k.names n k.steps) in
+    let g = λ (n : ℕ). endpoint_view (names_at k) new n (accepted_of n k.steps) (unread_at n k.steps) (text_out k.names n k.steps) in
     let same : (n : ℕ) → n < length w.connections → f n ≡ g n = λ n h.
     let conn : connection_at w n ≡ connection_at new n = sym (get_or_append_left w.connections (x ∷ []) nobody n h) in
     let own = claimed.own n h in
@@ -103,21 +103,21 @@ open_makes k claimed nothing =
     ∙ (sym (state n) ∙ ap (λ (o : Option ℕ). sender_at new (unwrap_or o (length new.senders))) (sym own ∙ ap (λ (z : Connection). z.sender) conn)) in
     λ i. record {
       sender = (conn i).sender;
-      stage = stage_view k.names (conn i).standing (speaks i).flight (accepted_of n k.steps) (unread_at n k.steps);
+      stage = stage_view (names_at k) (conn i).standing (speaks i).flight (accepted_of n k.steps) (unread_at n k.steps);
       live = live_numbers n 0 w.subscriptions;
       output = text_out k.names n k.steps;
     } in
-    let endpoint : g c ≡ new_endpoint k.names (length (view_of k).senders) =
+    let endpoint : g c ≡ new_endpoint (length (view_of k).senders) =
     let speaks : sender_at new (speaker_number new c) ≡ new_sender = ap (λ (z : Connection). sender_at new (unwrap_or z.sender (length new.senders))) there ∙ last in
     (λ i. record {
       sender = (there i).sender;
-      stage = stage_view k.names (there i).standing (speaks i).flight (nothing.accepted i) (nothing.unread i);
+      stage = stage_view (names_at k) (there i).standing (speaks i).flight (nothing.accepted i) (nothing.unread i);
       live = nothing.live i;
       output = nothing.text i;
     })
-    ∙ ap (new_endpoint k.names) (sym many) in
-    let endpoints : (view_of k).endpoints ++ new_endpoint k.names (length (view_of k).senders) ∷ [] ≡ each_number g 0 new.connections =
-    pushed f g w.connections x (new_endpoint k.names (length (view_of k).senders)) same endpoint in
+    ∙ ap new_endpoint (sym many) in
+    let endpoints : (view_of k).endpoints ++ new_endpoint (length (view_of k).senders) ∷ [] ≡ each_number g 0 new.connections =
+    pushed f g w.connections x (new_endpoint (length (view_of k).senders)) same endpoint in
     record {
       reading = Reading.Nothing;
       may = record { reading = refl; outcome = inl refl };

@@ -29,9 +29,9 @@ use Rattle.delivery.specs.declared.refusal.Refusal.{Refusal}
 use Rattle.delivery.specs.declared.refusal.Refusal.TheVariants as refusal
 use Rattle.delivery.specs.declared.sending.Sending.{Sending}
 use Rattle.delivery.specs.Machine.Objections.{Objection, refusal_of}
-use Rattle.delivery.specs.Machine.World.{World, Undecided, SenderState, topic_at, sender_at, speaker, with_sender, with_topic, speaker_number}
+use Rattle.delivery.specs.Machine.World.{World, Undecided, SenderState, topic_at, connection_at, sender_at, speaker, with_sender, with_topic, speaker_number}
 use Rattle.delivery.specs.Machine.Moves.{Move, Answer, move_refusal, needs_connection, is_topic, has_ticket, insert_ticket, undecided_or_none, undecided_at, next_ticket, proposal_fault, or_out_of_memory, propose_effect, propose_answer}
-use Rattle.delivery.specs.Core.Steps.{CoreStep, Reading, accepted_of}
+use Rattle.delivery.specs.Core.Steps.{CoreStep, Reading, accepted_of, has_effect, names_after}
 use Rattle.delivery.specs.Core.Output.{text_out, sub_id_text}
 use Rattle.delivery.specs.Core.State.{Core, unread_at, is_out_of_memory}
 use Rattle.delivery.specs.Core.Outcomes.{move_outcome, outcomes}
@@ -41,7 +41,7 @@ use Rattle.delivery.specs.Inner.View.{View, SenderView, view_of, view_after, sen
 use Rattle.delivery.proofs.Theorem.AcceptedIsDue.{reached}
 use Rattle.delivery.proofs.Views.Events.DecideStep.{flying_is}
 use Rattle.delivery.proofs.Views.Runs.ByRunOfCore.{by_world}
-use Rattle.delivery.proofs.Views.Endpoints.EndpointsStay.{IsQuiet, quiet_view}
+use Rattle.delivery.proofs.Views.Endpoints.EndpointsStay.{IsQuiet, none_named, quiet_view}
 use Rattle.delivery.proofs.Views.Events.ReleaseStep.{group_at}
 use Rattle.delivery.proofs.Views.Senders.SenderChanges.{speaker_of, sender_of_endpoint}
 use Rattle.delivery.proofs.Views.Senders.SameSeqAndReceipt.{sender_quiet, topic_quiet}
@@ -338,7 +338,8 @@ quiet_proposal : (names : List (List ℕ)) (c : ℕ) (t : Topic) (o : Outcome) (
     → ((d : ℕ) → text_out names d (step_of (Event.Propose c t) Reading.Nothing o ∷ older) ≡ text_out names d older)
     → ((s : ℕ) → sub_id_text s (step_of (Event.Propose c t) Reading.Nothing o ∷ older) ≡ sub_id_text s older)
     → IsQuiet names (step_of (Event.Propose c t) Reading.Nothing o) older
-quiet_proposal names c t o older accepted text ids = record { accepted = accepted; unread = λ d. refl; text = text; ids = ids }
+quiet_proposal names c t o older accepted text ids =
+    record { accepted = accepted; unread = λ d. refl; text = text; ids = ids; named = none_named (names_after names older) (has_effect o) }
 
 proposed_quiet : (names : List (List ℕ)) (c : ℕ) (t : Topic) (n : ℕ) (older : List CoreStep) → IsQuiet names (step_of (Event.Propose c t) Reading.Nothing (Outcome.Proposed n)) older
 proposed_quiet names c t n older =

@@ -29,7 +29,7 @@ use Rattle.delivery.specs.Machine.Moves.{Move, Answer, move_refusal, needs_conne
 use Rattle.delivery.specs.Core.Account.{account_of, last_id}
 use Rattle.delivery.specs.Core.Output.{has_closed, receipt_asked, commit_frame, failed_title, replies_to, text_out}
 use Rattle.delivery.specs.Core.Steps.{Reading, accepted_of}
-use Rattle.delivery.specs.Core.State.{Core, unread_at}
+use Rattle.delivery.specs.Core.State.{Core, unread_at, names_at}
 use Rattle.delivery.specs.Core.Reports.{each_number}
 use Rattle.delivery.specs.Core.Outcomes.{move_outcome, is_any}
 use Rattle.delivery.specs.Inner.Senders.{gone_objection, there_objection, speaker_at, sender_in, withdraw_refusal, failure_of, withdrawn_sender, withdrawn_view, reads_frames, shut_stage, with_error, refused_endpoint, refused_view}
@@ -219,8 +219,8 @@ withdrawn_whole k c s cut h =
     let known = speaker_there k c h.was there in
     let standing = (connection_at w c).standing in
     let account = account_of k.names k.steps in
-    let old = λ (m : ℕ). endpoint_view k.names w m (accepted_of m k.steps) (unread_at m k.steps) (text_out k.names m k.steps) in
-    let new = λ (m : ℕ). endpoint_view k.names u m (accepted_of m (step ∷ k.steps)) (unread_at m k.steps) (text_out k.names m (step ∷ k.steps)) in
+    let old = λ (m : ℕ). endpoint_view (names_at k) w m (accepted_of m k.steps) (unread_at m k.steps) (text_out k.names m k.steps) in
+    let new = λ (m : ℕ). endpoint_view (names_at k) u m (accepted_of m (step ∷ k.steps)) (unread_at m k.steps) (text_out k.names m (step ∷ k.steps)) in
     let accepted = accepted_of c k.steps in
     let unread = unread_at c k.steps in
     let text = text_out k.names c k.steps in
@@ -232,20 +232,20 @@ withdrawn_whole k c s cut h =
     ∙ senders_with w n x known)) in
     let texts : cond cut text (with_error message text (old c).stage) ≡ text_out k.names c (step ∷ k.steps) =
     error_or_none cut more (with_error message text (old c).stage) text
-    (ap (λ (o : Option Undecided). with_error message text (stage_view k.names standing o accepted unread)) h.can.is
-    ∙ (error_text k.names standing f accepted unread message text
+    (ap (λ (o : Option Undecided). with_error message text (stage_view (names_at k) standing o accepted unread)) h.can.is
+    ∙ (error_text (names_at k) standing f accepted unread message text
     ∙ ap (λ (fs : List RawFrame). text ++ flat_map spelling_of fs) (sym (replies_are k c s cut h)))) in
-    let gone : is_gone standing ≡ false = not_gone k.names standing (speaker w c).flight accepted unread
+    let gone : is_gone standing ≡ false = not_gone (names_at k) standing (speaker w c).flight accepted unread
     (sym (ap there_objection (endpoint_is k c there)) ∙ h.free) in
     let none : is_reading standing ≡ true → parting_receipt accepted ≡ None = λ reads. ap (λ (o : Option RawFrame). option_and_then receipt_of o) (not_parting k c h.was reads) in
     let parting = parting_receipt (accepted_of c (step ∷ k.steps)) in
     let stages : shut_stage (old c).stage ≡ Stage.Leaving parting =
-    shut_is k.names standing (speaker w c).flight accepted unread gone none
+    shut_is (names_at k) standing (speaker w c).flight accepted unread gone none
     ∙ ap (λ (fs : List RawFrame). Stage.Leaving (parting_receipt fs)) (sym (append-nil accepted)) in
     let endpoint : refused_endpoint cut message (old c) ≡ leaving_endpoint parting (new c) = λ i. record (old c) { stage = stages i; output = texts i } in
     let others : (m : ℕ) → m < length w.connections → m ≢ c → old m ≡ new m = λ m within other.
-    endpoint_of_flight k.names w u m (accepted_of m k.steps) (unread_at m k.steps) (text_out k.names m k.steps) refl refl (flight_kept k c m x h.was there within other)
-    ∙ (λ i. endpoint_view k.names u m (sym (append-nil (accepted_of m k.steps)) i) (unread_at m k.steps) (sym (silent m other) i)) in
+    endpoint_of_flight (names_at k) w u m (accepted_of m k.steps) (unread_at m k.steps) (text_out k.names m k.steps) refl refl (flight_kept k c m x h.was there within other)
+    ∙ (λ i. endpoint_view (names_at k) u m (sym (append-nil (accepted_of m k.steps)) i) (unread_at m k.steps) (sym (silent m other) i)) in
     let changed : set (each_number old 0 w.connections) c (new c) ≡ each_number new 0 w.connections =
     number_set old new w.connections c (connection_at w c) there others
     ∙ ap (λ (ys : List Connection). each_number new 0 ys) (set-get_or w.connections c nobody) in
@@ -304,7 +304,7 @@ withdraw_makes k c s fault cut was free own allowed kept asked =
     replied k c s false h outcome asked = replied_in k c (Event.Withdraw c) (Move.Withdraws c) (Outcome.Withdrawn false) outcome
     replied k c s true h outcome asked =
         let there = is_there k c h.free in
-        let reads = open_reads k.names (connection_at k.world c).standing (speaker k.world c).flight (accepted_of c k.steps) (unread_at c k.steps)
+        let reads = open_reads (names_at k) (connection_at k.world c).standing (speaker k.world c).flight (accepted_of c k.steps) (unread_at c k.steps)
         (ap (λ (l : EndpointView). reads_frames l.stage) (sym (endpoint_of k c no_endpoint there)) ∙ asked refl) in
         cut_in k c (Event.Withdraw c) (Move.Withdraws c) (Outcome.Withdrawn false) outcome
         (ap is_any (replies_are k c s false h) ∙ ap (λ (b : Bool). is_any (cond (not (not b)) (error_of k c h.can.fault ∷ []) [])) reads)

@@ -1,17 +1,19 @@
 -- What a net keeps: it is delivered, and it grows by a step.
-use Rattle.std.proofs.Common.{◌≡◌, ℕ, ◌-◌, List, [], ◌∷◌, ◌++◌, map, reverse, refl, sym, ap, subst, ◌∙◌, append_assoc, append-nil}
-use Rattle.std.proofs.lemmas.List.{map-append, reverse-append}
+use Rattle.std.proofs.Common.{◌≡◌, ℕ, ◌-◌, ◌≤◌, List, [], ◌∷◌, ◌++◌, map, length, reverse, refl, sym, ap, subst, ◌∙◌, append_assoc, append-nil}
+use Rattle.std.proofs.lemmas.List.{map-append, reverse-reverse, reverse-append}
 use Rattle.std.proofs.lemmas.Grind.{reverse_onto}
 use Rattle.delivery.specs.declared.event.Event.{Event}
 use Rattle.delivery.specs.declared.outcome.Outcome.{Outcome}
 use Rattle.delivery.specs.declared.kept.Kept.{Kept}
+use Rattle.std.specs.Prelude.{take}
+use Rattle.stomp_session.specs.Names.{max_topics}
 use Rattle.delivery.specs.Topics.{TopicList}
 use Rattle.delivery.specs.Nets.{KeptRun, HasTaken, HasAnswered, IsDelivered, HasReport}
 use Rattle.delivery.specs.Machine.World.{World}
-use Rattle.delivery.specs.Core.Steps.{CoreStep, kept_of}
+use Rattle.delivery.specs.Core.Steps.{CoreStep, kept_of, names_after}
 use Rattle.delivery.specs.Inner.Readings.{reading_at, steps_of}
 use Rattle.delivery.specs.Core.Outcomes.{IsCoreRun}
-use Rattle.delivery.specs.Core.State.{Core, core_of}
+use Rattle.delivery.specs.Core.State.{Core, core_of, names_at, new_core}
 use Rattle.delivery.specs.Core.Reports.{Report, report_of}
 use Rattle.delivery.specs.Core.Delivery.{Delivery, kept_run}
 use Rattle.delivery.specs.Inner.NetInvariant.{KeepsRun}
@@ -20,14 +22,18 @@ use Rattle.delivery.specs.Inner.View.{View, view_of}
 use Rattle.delivery.specs.Inner.ViewReports.{report_in}
 use Rattle.delivery.proofs.Core.AccountOfRun.{run_of, world_is, core_is}
 use Rattle.delivery.proofs.Core.DeliveryOfRun.{delivery}
+use Rattle.delivery.proofs.Core.NamesKnown.{names_first}
 use Rattle.delivery.proofs.Core.StepsOfRun.{steps_turned}
 use Rattle.delivery.proofs.Theorem.SpansAsAnswered.{known}
 use Rattle.delivery.proofs.Views.Runs.ReportOfView.{reported}
 
--- what a net holds has the names and the capacity that it began with
-pub names_kept : (topics : TopicList) (capacity : ℕ) (kept : List Kept) (held : View) → KeepsRun topics capacity kept held → held.names ≡ topics.names
+-- what a net holds has the opening names first, and the capacity that it began with
+pub names_kept : (topics : TopicList) (capacity : ℕ) (kept : List Kept) (held : View) → KeepsRun topics capacity kept held
+    → take (length topics.clocks) held.names ≡ topics.names
 names_kept topics capacity kept held keeps =
-    ap (λ (v : View). v.names) keeps.view ∙ ap (λ (k : Core). k.names) (core_is topics capacity keeps.steps)
+    let names : held.names ≡ names_after topics.names keeps.steps =
+    ap (λ (v : View). v.names) keeps.view ∙ ap (λ (k : Core). names_at k) (core_is topics capacity keeps.steps) in
+    (λ i. take (keeps.as_many i) (names i)) ∙ names_first topics.names keeps.steps
 
 pub capacity_kept : (topics : TopicList) (capacity : ℕ) (kept : List Kept) (held : View) → KeepsRun topics capacity kept held → held.capacity ≡ capacity
 capacity_kept topics capacity kept held keeps =
@@ -110,31 +116,48 @@ grown topics capacity kept held new e o keeps answers =
       view = makes.view;
     }
 
+-- the topics that a net began with, where this is held
+abbrev pub opening_of : List ℕ → View → TopicList
+opening_of clocks held = record { names = take (length clocks) held.names; clocks = clocks }
+
 -- the same of the names and the capacity that are held then
 pub step_kept : (clocks : List ℕ) (kept : List Kept) (held new : View) (e : Event) (o : Outcome)
-    → KeepsRun (record { names = held.names; clocks = clocks }) held.capacity kept held → Answers held e o new
-    → KeepsRun (record { names = new.names; clocks = clocks }) new.capacity (kept ++ record { event = e; outcome = o } ∷ []) new
+    → KeepsRun (opening_of clocks held) held.capacity kept held → Answers held e o new
+    → KeepsRun (opening_of clocks new) new.capacity (kept ++ record { event = e; outcome = o } ∷ []) new
 step_kept clocks kept held new e o keeps answers =
-    let topics : TopicList = record { names = held.names; clocks = clocks } in
+    let topics : TopicList = opening_of clocks held in
     let later = grown topics held.capacity kept held new e o keeps answers in
     let run = kept ++ record { event = e; outcome = o } ∷ [] in
-    subst (λ (n : ℕ). KeepsRun (record { names = new.names; clocks = clocks }) n run new)
+    subst (λ (n : ℕ). KeepsRun (opening_of clocks new) n run new)
     (sym (capacity_kept topics held.capacity run new later))
     (subst (λ (names : List (List ℕ)). KeepsRun (record { names = names; clocks = clocks }) held.capacity run new)
     (sym (names_kept topics held.capacity run new later)) later)
 
--- the names and the capacity stay
+-- the opening names and the capacity stay
 pub names_stay : (clocks : List ℕ) (kept : List Kept) (held new : View) (e : Event) (o : Outcome)
-    → KeepsRun (record { names = held.names; clocks = clocks }) held.capacity kept held → Answers held e o new → new.names ≡ held.names
+    → KeepsRun (opening_of clocks held) held.capacity kept held → Answers held e o new
+    → take (length clocks) new.names ≡ take (length clocks) held.names
 names_stay clocks kept held new e o keeps answers =
-    let topics : TopicList = record { names = held.names; clocks = clocks } in
+    let topics : TopicList = opening_of clocks held in
     names_kept topics held.capacity (kept ++ record { event = e; outcome = o } ∷ []) new (grown topics held.capacity kept held new e o keeps answers)
 
 pub capacity_stays : (clocks : List ℕ) (kept : List Kept) (held new : View) (e : Event) (o : Outcome)
-    → KeepsRun (record { names = held.names; clocks = clocks }) held.capacity kept held → Answers held e o new → new.capacity ≡ held.capacity
+    → KeepsRun (opening_of clocks held) held.capacity kept held → Answers held e o new → new.capacity ≡ held.capacity
 capacity_stays clocks kept held new e o keeps answers =
-    let topics : TopicList = record { names = held.names; clocks = clocks } in
+    let topics : TopicList = opening_of clocks held in
     capacity_kept topics held.capacity (kept ++ record { event = e; outcome = o } ∷ []) new (grown topics held.capacity kept held new e o keeps answers)
+
+-- a net before its first event keeps the run of no step
+pub new_kept : (topics : TopicList) (capacity : ℕ) (held : View) → length topics.clocks ≡ length topics.names → length topics.clocks ≤ max_topics
+    → held ≡ view_of (new_core topics capacity) → (opening_of topics.clocks held ≡ topics) × KeepsRun (opening_of topics.clocks held) held.capacity [] held
+new_kept topics capacity held as_many few is =
+    let keeps : KeepsRun topics capacity [] held = record { as_many = as_many; few = few; steps = []; are_kept = refl; is_run = tt; view = is } in
+    let opening : opening_of topics.clocks held ≡ topics =
+    ap (λ (names : List (List ℕ)). record { names = names; clocks = topics.clocks }) (names_kept topics capacity [] held keeps) in (
+      opening,
+      subst (λ (n : ℕ). KeepsRun (opening_of topics.clocks held) n [] held) (sym (capacity_kept topics capacity [] held keeps))
+          (subst (λ (t : TopicList). KeepsRun t capacity [] held) (sym opening) keeps),
+    )
 
 -- ---- events in turn
 

@@ -1,5 +1,5 @@
 -- The account has why an undecided transaction is marked: the last of its proposals that failed.
-use Rattle.std.proofs.Common.{◌≡◌, ℕ, ◌+◌, ◌<◌, Bool, false, cond, List, [], ◌∷◌, ◌++◌, length, set, Option, Some, None, refl, sym, ap, ◌∙◌}
+use Rattle.std.proofs.Common.{◌≡◌, ℕ, ◌+◌, ◌<◌, Bool, false, cond, List, [], ◌∷◌, ◌++◌, length, set, Option, Some, None, refl, sym, ap, subst, ◌∙◌, arith}
 use Rattle.std.specs.Prelude.{slice_get}
 use Rattle.mcast_txn.specs.declared.id.Topic.{Topic}
 use Rattle.mcast_txn.specs.declared.id.TxnId.{TxnId}
@@ -13,10 +13,10 @@ use Rattle.mcast_group.specs.Faults.{propose_title}
 use Rattle.mcast_group.specs.declared.fault.ProposeFault.{ProposeFault}
 use Rattle.mcast_group.specs.Machine.{Pending, Entry, due_part}
 use Rattle.mcast_group.proofs.Parts.{some_same, none_some, not_true}
-use Rattle.delivery.specs.Machine.World.{World, Undecided, Leftover, SenderState, new_sender, topic_at, subscription_at, speaker, entry_at, speaker_number}
+use Rattle.delivery.specs.Machine.World.{World, Undecided, Leftover, SenderState, new_sender, topic_at, connection_at, subscription_at, speaker, entry_at, speaker_number}
 use Rattle.delivery.specs.Machine.Observed.{accepted_at}
 use Rattle.delivery.specs.Machine.Moves.{Move, Answer, move_refusal, move_effect, move_answer, undecided_at, next_txn, next_ticket, insert_ticket, find_leftover, find_verdict, oldest_live, commit_effect, commit_answer, proposal_fault, propose_effect, propose_answer, cancel_effect, cancel_answer, learn_effect, release_answer, take_effect, take_answer, leave_effect, leave_answer, close_effect_of, claimed_senders}
-use Rattle.delivery.specs.Machine.Moves.Move.{Connects, Commits, Unsubscribes, Leaves, Proposes, Decides, Withdraws, Cancels, Learns, Releases, Takes}
+use Rattle.delivery.specs.Machine.Moves.Move.{AddsTopic, Opens, Connects, Commits, Subscribes, Unsubscribes, Disconnects, Errs, Lost, Leaves, Proposes, Decides, Withdraws, Cancels, Learns, Releases, Turns, Takes}
 use Rattle.delivery.specs.Theorem.Laws.{Run, answers_of, final_world}
 use Rattle.delivery.specs.Core.Account.{account_of}
 use Rattle.delivery.specs.Core.Output.{failed_title}
@@ -29,6 +29,7 @@ use Rattle.delivery.proofs.Core.ByRun.{by_run}
 use Rattle.delivery.proofs.Core.Said.{said}
 use Rattle.delivery.proofs.Core.AccountOfRun.{spoken}
 use Rattle.delivery.proofs.Views.Runs.ByRunOfCore.{by_account}
+use Rattle.delivery.proofs.Core.Tests.{connection_there}
 use Rattle.delivery.proofs.Machine.Speakers.{flying_speaker}
 
 -- why a transaction was refused reads the same of what is said

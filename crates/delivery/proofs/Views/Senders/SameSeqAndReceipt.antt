@@ -9,7 +9,7 @@ use Rattle.mcast_group.specs.Group.{GroupState}
 use Rattle.mcast_group.specs.Machine.{TopicState}
 use Rattle.delivery.specs.declared.stage.Stage.{Stage}
 use Rattle.delivery.specs.Machine.World.{World, Undecided, SenderState, Connection, Standing, nobody, connection_at, sender_at, speaker, with_sender, with_topic, speaker_number}
-use Rattle.delivery.specs.Core.State.{Core}
+use Rattle.delivery.specs.Core.State.{Core, names_at}
 use Rattle.delivery.specs.Core.Reports.{each_number}
 use Rattle.delivery.specs.Inner.Stands.{IsReached}
 use Rattle.delivery.specs.Inner.View.{EndpointView, view_with, sender_view, endpoint_view, stage_view, pending_receipt, verdict_list, group_view}
@@ -42,28 +42,28 @@ lists_kept k c x reached there seq =
 pub sender_quiet : (k : Core) (c : ℕ) (x : SenderState) → IsReached k → c < length k.world.connections → x.seq ≡ (speaker k.world c).seq
     → ((accepted : List RawFrame) → pending_receipt accepted x.flight ≡ pending_receipt accepted (speaker k.world c).flight)
     → (accepted : ℕ → List RawFrame) (unread : ℕ → Unread) (text ids : ℕ → List ℕ)
-    → record (view_with k.names k.world accepted unread text ids) {
-      senders = set (view_with k.names k.world accepted unread text ids).senders (speaker_number k.world c) (sender_view (speaker_number k.world c) x);
+    → record (view_with (names_at k) k.world accepted unread text ids) {
+      senders = set (view_with (names_at k) k.world accepted unread text ids).senders (speaker_number k.world c) (sender_view (speaker_number k.world c) x);
     }
-    ≡ view_with k.names (with_sender k.world (speaker_number k.world c) x) accepted unread text ids
+    ≡ view_with (names_at k) (with_sender k.world (speaker_number k.world c) x) accepted unread text ids
 sender_quiet k c x reached there seq receipts accepted unread text ids =
     let w = k.world in
     let s = speaker_number w c in
     let v = with_sender w s x in
     let known = speaker_there k c reached there in
     let verdicts = lists_kept k c x reached there seq in
-    let old = λ (n : ℕ). endpoint_view k.names w n (accepted n) (unread n) (text n) in
-    let new = λ (n : ℕ). endpoint_view k.names v n (accepted n) (unread n) (text n) in
-    let endpoint : new c ≡ old c = endpoint_with_sender k c x (accepted c) (unread c) (text c) reached there
-    ∙ ap (λ (z : Stage). record (old c) { stage = z }) (stage_of_receipt k.names (connection_at w c).standing x.flight (speaker w c).flight (accepted c) (unread c) (receipts (accepted c))) in
+    let old = λ (n : ℕ). endpoint_view (names_at k) w n (accepted n) (unread n) (text n) in
+    let new = λ (n : ℕ). endpoint_view (names_at k) v n (accepted n) (unread n) (text n) in
+    let endpoint : new c ≡ old c = endpoint_with_sender (names_at k) k c x (accepted c) (unread c) (text c) reached there
+    ∙ ap (λ (z : Stage). record (old c) { stage = z }) (stage_of_receipt (names_at k) (connection_at w c).standing x.flight (speaker w c).flight (accepted c) (unread c) (receipts (accepted c))) in
     let others : (n : ℕ) → n < length w.connections → n ≢ c → old n ≡ new n = λ n within other.
-    endpoint_of_flight k.names w v n (accepted n) (unread n) (text n) refl refl (flight_kept k c n x reached there within other) in
+    endpoint_of_flight (names_at k) w v n (accepted n) (unread n) (text n) refl refl (flight_kept k c n x reached there within other) in
     let same : set (each_number old 0 w.connections) c (new c) ≡ each_number old 0 w.connections =
     ap (λ (l : EndpointView). set (each_number old 0 w.connections) c l) (endpoint ∙ sym (number_at old w.connections c (old c) there))
     ∙ set-get_or (each_number old 0 w.connections) c (old c) in
     let endpoints = sym same ∙ (number_set old new w.connections c (connection_at w c) there others
     ∙ ap (λ (xs : List Connection). each_number new 0 xs) (set-get_or w.connections c nobody)) in
-    λ i. record (view_with k.names w accepted unread text ids) { senders = senders_with w s x known i; verdicts = verdicts i; endpoints = endpoints i }
+    λ i. record (view_with (names_at k) w accepted unread text ids) { senders = senders_with w s x known i; verdicts = verdicts i; endpoints = endpoints i }
 
 -- a topic alone changes
 pub topic_quiet : (names : List (List ℕ)) (w : World) (t : Topic) (y : TopicState)

@@ -10,7 +10,7 @@ use Rattle.mcast_txn.specs.Ballot.{Decision}
 use Rattle.delivery.specs.Machine.World.{World, SenderState, Connection, new_sender, nobody, connection_at, sender_at, speaker, with_sender, speaker_number}
 use Rattle.delivery.specs.Machine.Moves.{find_verdict}
 use Rattle.delivery.specs.Core.Output.{text_out, sub_id_text}
-use Rattle.delivery.specs.Core.State.{Core, unread_at}
+use Rattle.delivery.specs.Core.State.{Core, unread_at, names_at}
 use Rattle.delivery.specs.Core.Steps.{accepted_of}
 use Rattle.delivery.specs.Core.Reports.{each_number}
 use Rattle.delivery.specs.Inner.Senders.{speaker_at, sender_in, no_sender}
@@ -51,16 +51,16 @@ sender_is names w accepted unread text ids s there = number_at (λ n. sender_vie
 -- the same in the view of a core
 pub speaker_of : (k : Core) (c : ℕ) → c < length k.world.connections → speaker_at (view_of k) c ≡ speaker_number k.world c
 speaker_of k c there =
-    speaker_is k.names k.world (λ n. accepted_of n k.steps) (λ n. unread_at n k.steps) (λ n. text_out k.names n k.steps) (λ n. sub_id_text n k.steps) c there
+    speaker_is (names_at k) k.world (λ n. accepted_of n k.steps) (λ n. unread_at n k.steps) (λ n. text_out k.names n k.steps) (λ n. sub_id_text n k.steps) c there
 
 pub held_of : (k : Core) (s : ℕ) → s < length k.world.senders → sender_in (view_of k) s ≡ sender_view s (sender_at k.world s)
 held_of k s there =
-    sender_is k.names k.world (λ n. accepted_of n k.steps) (λ n. unread_at n k.steps) (λ n. text_out k.names n k.steps) (λ n. sub_id_text n k.steps) s there
+    sender_is (names_at k) k.world (λ n. accepted_of n k.steps) (λ n. unread_at n k.steps) (λ n. text_out k.names n k.steps) (λ n. sub_id_text n k.steps) s there
 
 pub endpoint_of : (k : Core) (c : ℕ) (d : EndpointView) → c < length k.world.connections
-    → get_or (view_of k).endpoints c d ≡ endpoint_view k.names k.world c (accepted_of c k.steps) (unread_at c k.steps) (text_out k.names c k.steps)
+    → get_or (view_of k).endpoints c d ≡ endpoint_view (names_at k) k.world c (accepted_of c k.steps) (unread_at c k.steps) (text_out k.names c k.steps)
 endpoint_of k c d there =
-    endpoint_in k.names k.world (λ n. accepted_of n k.steps) (λ n. unread_at n k.steps) (λ n. text_out k.names n k.steps) (λ n. sub_id_text n k.steps) c d there
+    endpoint_in (names_at k) k.world (λ n. accepted_of n k.steps) (λ n. unread_at n k.steps) (λ n. text_out k.names n k.steps) (λ n. sub_id_text n k.steps) c d there
 
 -- the sender of a connection is there
 pub speaker_there : (k : Core) (c : ℕ) → IsReached k → c < length k.world.connections → (speaker_number k.world c) < length k.world.senders
@@ -124,33 +124,33 @@ others_differ k c n reached there within other same =
     other (sym (own_sender k n reached within) ∙ (same ∙ own_sender k c reached there))
 
 -- the endpoint of the sender is another with it, and no other endpoint
-pub endpoints_with_sender : (k : Core) (c : ℕ) (x : SenderState) (accepted : ℕ → List RawFrame) (unread : ℕ → Unread) (text : ℕ → List ℕ)
+pub endpoints_with_sender : (names : List (List ℕ)) (k : Core) (c : ℕ) (x : SenderState) (accepted : ℕ → List RawFrame) (unread : ℕ → Unread) (text : ℕ → List ℕ)
     → IsReached k → c < length k.world.connections
     → (let w = k.world in let v = with_sender w (speaker_number w c) x in
-    set (each_number (λ n. endpoint_view k.names w n (accepted n) (unread n) (text n)) 0 w.connections) c (endpoint_view k.names v c (accepted c) (unread c) (text c))
-    ≡ each_number (λ n. endpoint_view k.names v n (accepted n) (unread n) (text n)) 0 w.connections)
-endpoints_with_sender k c x accepted unread text reached there =
+    set (each_number (λ n. endpoint_view names w n (accepted n) (unread n) (text n)) 0 w.connections) c (endpoint_view names v c (accepted c) (unread c) (text c))
+    ≡ each_number (λ n. endpoint_view names v n (accepted n) (unread n) (text n)) 0 w.connections)
+endpoints_with_sender names k c x accepted unread text reached there =
     let w = k.world in
     let s = speaker_number w c in
     let v = with_sender w s x in
-    let f = λ (n : ℕ). endpoint_view k.names w n (accepted n) (unread n) (text n) in
-    let g = λ (n : ℕ). endpoint_view k.names v n (accepted n) (unread n) (text n) in
+    let f = λ (n : ℕ). endpoint_view names w n (accepted n) (unread n) (text n) in
+    let g = λ (n : ℕ). endpoint_view names v n (accepted n) (unread n) (text n) in
     let e : c ≡ 0 + c = omega arith in
     ap (λ (n : ℕ). set (each_number f 0 w.connections) c (g n)) e
     ∙ (each_number-set f g 0 w.connections c (connection_at w c) there
-    (λ n low high other. endpoint_of_flight k.names w v n (accepted n) (unread n) (text n) refl refl
+    (λ n low high other. endpoint_of_flight names w v n (accepted n) (unread n) (text n) refl refl
     (ap (λ (y : SenderState). y.flight)
     (sym (kept_speaker w n s x ∙ get_or-set_other w.senders s (speaker_number w n) x new_sender (others_differ k c n reached there (omega (arith, high)) (λ is. other (is ∙ e)))))))
     ∙ ap (λ (xs : List Connection). each_number g 0 xs) (set-get_or w.connections c nobody))
 
 -- the endpoint itself, where its sender has this transaction
-pub endpoint_with_sender : (k : Core) (c : ℕ) (x : SenderState) (accepted : List RawFrame) (unread : Unread) (text : List ℕ) → IsReached k → c < length k.world.connections
+pub endpoint_with_sender : (names : List (List ℕ)) (k : Core) (c : ℕ) (x : SenderState) (accepted : List RawFrame) (unread : Unread) (text : List ℕ) → IsReached k → c < length k.world.connections
     → (let w = k.world in
-    endpoint_view k.names (with_sender w (speaker_number w c) x) c accepted unread text
-    ≡ record (endpoint_view k.names w c accepted unread text) { stage = stage_view k.names (connection_at w c).standing x.flight accepted unread })
-endpoint_with_sender k c x accepted unread text reached there =
+    endpoint_view names (with_sender w (speaker_number w c) x) c accepted unread text
+    ≡ record (endpoint_view names w c accepted unread text) { stage = stage_view names (connection_at w c).standing x.flight accepted unread })
+endpoint_with_sender names k c x accepted unread text reached there =
     let w = k.world in
-    ap (λ (y : SenderState). record (endpoint_view k.names w c accepted unread text) { stage = stage_view k.names (connection_at w c).standing y.flight accepted unread })
+    ap (λ (y : SenderState). record (endpoint_view names w c accepted unread text) { stage = stage_view names (connection_at w c).standing y.flight accepted unread })
     (kept_speaker w c (speaker_number w c) x ∙ get_or-set_same w.senders (speaker_number w c) x new_sender (speaker_there k c reached there))
 
 -- one value is another, where the first has number 0

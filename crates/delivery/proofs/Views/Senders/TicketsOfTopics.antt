@@ -20,10 +20,10 @@ use Rattle.mcast_txn.proofs.TopicLemmas.{topics_rise}
 use Rattle.mcast_group.specs.declared.fault.ProposeFault.{ProposeFault}
 use Rattle.mcast_group.specs.Machine.{Entry}
 use Rattle.mcast_group.proofs.Parts.{some_same, none_some}
-use Rattle.delivery.specs.Machine.World.{World, Undecided, Leftover, SenderState, new_sender, subscription_at, sender_at, speaker, entry_at, speaker_number}
+use Rattle.delivery.specs.Machine.World.{World, Undecided, Leftover, SenderState, new_sender, connection_at, subscription_at, sender_at, speaker, entry_at, speaker_number}
 use Rattle.delivery.specs.Machine.Observed.{accepted_at}
 use Rattle.delivery.specs.Machine.Moves.{Move, move_refusal, move_effect, undecided_at, find_leftover, find_verdict, oldest_live, insert_ticket, next_ticket, next_txn, commit_effect, proposal_fault, propose_effect, cancel_effect, learn_effect, take_effect, leave_effect, close_effect_of, claimed_senders}
-use Rattle.delivery.specs.Machine.Moves.Move.{Connects, Commits, Unsubscribes, Leaves, Proposes, Decides, Withdraws, Cancels, Learns, Takes}
+use Rattle.delivery.specs.Machine.Moves.Move.{AddsTopic, Opens, Connects, Commits, Subscribes, Unsubscribes, Disconnects, Errs, Lost, Leaves, Proposes, Decides, Withdraws, Cancels, Learns, Releases, Turns, Takes}
 use Rattle.delivery.specs.Theorem.Laws.{Run, final_world}
 use Rattle.delivery.specs.Core.State.{Core}
 use Rattle.delivery.specs.Inner.Stands.{IsReached}

@@ -13,7 +13,7 @@ use Rattle.mcast_group.specs.declared.fault.ProposeFault.{ProposeFault}
 use Rattle.mcast_group.specs.Machine.{Entry}
 use Rattle.delivery.specs.Machine.World.{World, Leftover, Subscription, no_subscription, subscription_at, speaker, entry_at}
 use Rattle.delivery.specs.Machine.Moves.{Move, world_after, move_refusal, move_effect, is_live, find_leftover, find_verdict, oldest_live, commit_effect, proposal_fault, propose_effect, cancel_effect, learn_effect, take_effect, leave_effect, close_effect_of}
-use Rattle.delivery.specs.Machine.Moves.Move.{Commits, Subscribes, Unsubscribes, Leaves, Proposes, Cancels, Learns, Takes}
+use Rattle.delivery.specs.Machine.Moves.Move.{AddsTopic, Opens, Commits, Subscribes, Unsubscribes, Disconnects, Errs, Lost, Leaves, Proposes, Decides, Withdraws, Cancels, Learns, Releases, Turns, Takes}
 use Rattle.delivery.specs.Machine.Runs.{run}
 use Rattle.delivery.specs.Core.Connections.{live_numbers}
 use Rattle.delivery.proofs.Machine.SubscriptionSteps.{set_length}

@@ -18,10 +18,10 @@ use Rattle.mcast_txn.specs.TopicSet.{names}
 use Rattle.mcast_txn.proofs.Orders.{id_equal}
 use Rattle.mcast_group.specs.declared.fault.ProposeFault.{ProposeFault}
 use Rattle.mcast_group.specs.Machine.{Entry}
-use Rattle.delivery.specs.Machine.World.{World, Undecided, Leftover, SenderState, new_sender, subscription_at, sender_at, speaker, entry_at, speaker_number}
+use Rattle.delivery.specs.Machine.World.{World, Undecided, Leftover, SenderState, new_sender, connection_at, subscription_at, sender_at, speaker, entry_at, speaker_number}
 use Rattle.delivery.specs.Machine.Observed.{accepted_at}
 use Rattle.delivery.specs.Machine.Moves.{Move, Answer, move_refusal, move_effect, undecided_at, find_leftover, find_verdict, oldest_live, commit_effect, proposal_fault, propose_effect, cancel_effect, learn_effect, take_effect, leave_effect, close_effect_of}
-use Rattle.delivery.specs.Machine.Moves.Move.{Commits, Unsubscribes, Leaves, Proposes, Decides, Cancels, Learns, Takes}
+use Rattle.delivery.specs.Machine.Moves.Move.{AddsTopic, Opens, Commits, Subscribes, Unsubscribes, Disconnects, Errs, Lost, Leaves, Proposes, Decides, Withdraws, Cancels, Learns, Releases, Turns, Takes}
 use Rattle.delivery.specs.Machine.Runs.{Numbered, txn_of_id, txn_count}
 use Rattle.delivery.specs.Theorem.Laws.{Run, answers_of, final_world}
 use Rattle.delivery.specs.Core.State.{Core}

@@ -1,4 +1,4 @@
-use Rattle.std.proofs.Common.{◌∙◌, arith}
+use Rattle.std.proofs.Common.{◌≡◌, ◌∙◌, arith}
 use Rattle.broker_locks.proofs.broker.Broker.new.Goals as goal
 
 pub invariant_of-result : goal.invariant_of-result

@@ -18,7 +18,7 @@ returns-in_default-clause-fault g c =
 pub returns-in_default-reserve-clause-fault : goal.returns-in_default-reserve-clause-fault
 returns-in_default-reserve-clause-fault g c =
     let e = unused_at c.args.self.now.spans c.args.number c.in-Err.index c.in-Err.ensures.absent in
-    let allowed = unused_allowed c.args.self.now c.args.group.now.group.topic c.args.number c.requires.traced e in
+    let allowed = unused_allowed c.args.self.now c.args.group.now.topic c.args.number c.requires.traced e in
     rw (e, allowed) refl
 
 pub returns-in_err-from-clause-fault : goal.returns-in_err-from-clause-fault
@@ -46,4 +46,4 @@ returns-clause-spans g c =
     c.in-Ok-insert.ensures.items ∙ (ap (λ (ss : List KeptSpan). insert ss c.in-Err.index new) c.in-Ok.ensures.items ∙ puts_in_gap c.self.inside.spans.items c.in-Err.index new gap) in
     ap (λ (ss : List KeptSpan). record { drained = c.self.inside.drained.items; spans = ss }) items
     ∙ (ap (λ (f : Stamp). record { drained = c.self.inside.drained.items; spans = insert_by_number span_number (record { number = c.args.number; from = f; to = None }) c.self.inside.spans.items }) c.in_ok-from.ensures.from
-    ∙ ap (λ (k : RowsKept). record { drained = k.drained; spans = insert_by_number span_number (record { number = c.args.number; from = c.args.group.now.group.topic.frontier; to = None }) k.spans }) c.self.view_is)
+    ∙ ap (λ (k : RowsKept). record { drained = k.drained; spans = insert_by_number span_number (record { number = c.args.number; from = c.args.group.now.topic.frontier; to = None }) k.spans }) c.self.view_is)

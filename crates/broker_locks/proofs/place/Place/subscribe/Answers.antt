@@ -1,8 +1,7 @@
 use Rattle.std.proofs.Common.{◌≡◌, Option, Some, None, IfErr, refl, sym, ap, subst, ◌∙◌}
 use Rattle.std.specs.Option.{option_map}
 use Rattle.sub_queue.specs.Ends.{shown_of_source}
-use Rattle.mcast_group.specs.CellGroup.{CellGroupState}
-use Rattle.mcast_group.specs.Group.{group_after_subscribe, sub_refusal}
+use Rattle.mcast_group.specs.Group.{GroupState, group_after_subscribe, sub_refusal}
 use Rattle.mcast_group.specs.declared.fault.SubFault.{SubFault}
 use Rattle.broker_locks.specs.Inner.KeptRows.{RowsKept, place_with}
 use Rattle.broker_locks.specs.Place.{PlaceState, place_after_subscribe, place_subscribe_fault}
@@ -12,11 +11,11 @@ use Rattle.broker_locks.proofs.PlaceTraces.{Traced, rows_subscribed}
 use Rattle.broker_locks.proofs.place.Place.subscribe.Goals as goal
 
 pub subscribe-requires-clause-traced : goal.subscribe-requires-clause-traced
-subscribe-requires-clause-traced g c = subst (Traced c.self.inside.group.group.topic) c.in-Some.is c.self.invariant.trace
+subscribe-requires-clause-traced g c = subst (Traced c.self.inside.group.topic) c.in-Some.is c.self.invariant.trace
 
 pub invariant_of-self : goal.invariant_of-self
 invariant_of-self g c =
-    let x = c.self.inside.group.group.topic in
+    let x = c.self.inside.group.topic in
     let some = c.in-Some.is in
     let s = c.subscribe in
     balanced_subscribed c.self.inside.group c.self.inside.tickets c.self.inside.released c.self.inside.cancelled c.self.inside.kept c.self.invariant s.result s.new.group (Some s.new.self) c.args.number (shown_of_source c.args.source).room
@@ -27,7 +26,7 @@ invariant_of-self g c =
 
 pub invariant_of-self-in-None : goal.invariant_of-self-in-None
 invariant_of-self-in-None g c =
-    let x = c.self.inside.group.group.topic in
+    let x = c.self.inside.group.topic in
     let none = c.in-None.is in
     let s = c.subscribe-in-None in
     balanced_subscribed c.self.inside.group c.self.inside.tickets c.self.inside.released c.self.inside.cancelled c.self.inside.kept c.self.invariant s.result s.new.self c.self.inside.kept c.args.number (shown_of_source c.args.source).room
@@ -46,8 +45,8 @@ returns-in-Some-clause-ok g c =
     let base : place_with c.self.inside.group c.self.inside.tickets c.self.inside.released c.self.inside.cancelled (Some c.in-Some.kept) ≡ c.args.self.now = ap (λ (o : Option RowsKept). place_with c.self.inside.group c.self.inside.tickets c.self.inside.released c.self.inside.cancelled o) (sym c.in-Some.is) ∙ c.self.view_is in
     let room = (shown_of_source c.args.source).room in
     on_ok_two c.subscribe.result (λ group spans.
-    ap (λ (z : CellGroupState). place_with z c.self.inside.tickets c.self.inside.released c.self.inside.cancelled (Some c.subscribe.new.self)) group
-    ∙ (ap (λ (z : RowsKept). place_with (record c.self.inside.group { group = group_after_subscribe c.args.number room c.self.inside.group.group }) c.self.inside.tickets c.self.inside.released c.self.inside.cancelled (Some z)) spans
+    ap (λ (z : GroupState). place_with z c.self.inside.tickets c.self.inside.released c.self.inside.cancelled (Some c.subscribe.new.self)) group
+    ∙ (ap (λ (z : RowsKept). place_with (group_after_subscribe c.args.number room c.self.inside.group) c.self.inside.tickets c.self.inside.released c.self.inside.cancelled (Some z)) spans
     ∙ (viewed_subscribed c.self.inside.group c.self.inside.tickets c.self.inside.released c.self.inside.cancelled c.args.number room c.in-Some.kept
     ∙ ap (place_after_subscribe c.args.number room) base))) c.subscribe.ensures.group c.subscribe.ensures.spans
 
@@ -60,5 +59,5 @@ pub returns-in-Some-clause-err : goal.returns-in-Some-clause-err
 returns-in-Some-clause-err g c =
     let base : place_with c.self.inside.group c.self.inside.tickets c.self.inside.released c.self.inside.cancelled (Some c.in-Some.kept) ≡ c.args.self.now = ap (λ (o : Option RowsKept). place_with c.self.inside.group c.self.inside.tickets c.self.inside.released c.self.inside.cancelled o) (sym c.in-Some.is) ∙ c.self.view_is in
     on_err c.subscribe.result (λ h.
-    ap (λ (z : CellGroupState). place_with z c.self.inside.tickets c.self.inside.released c.self.inside.cancelled (Some c.subscribe.new.self)) h.1
+    ap (λ (z : GroupState). place_with z c.self.inside.tickets c.self.inside.released c.self.inside.cancelled (Some c.subscribe.new.self)) h.1
     ∙ (ap (λ (z : RowsKept). place_with c.self.inside.group c.self.inside.tickets c.self.inside.released c.self.inside.cancelled (Some z)) h.0 ∙ base)) c.subscribe.ensures.err

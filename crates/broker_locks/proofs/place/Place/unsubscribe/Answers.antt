@@ -1,6 +1,6 @@
 use Rattle.std.proofs.Common.{Option, Some, sym, ap, subst, ◌∙◌}
 use Rattle.std.specs.Option.{option_map}
-use Rattle.mcast_group.specs.CellGroup.{CellGroupState}
+use Rattle.mcast_group.specs.Group.{GroupState}
 use Rattle.broker_locks.specs.declared.place.Place.TheInside.{Inside}
 use Rattle.broker_locks.specs.Inner.KeptRows.{RowsKept, place_with}
 use Rattle.broker_locks.specs.Place.{IsBalanced, place_after_unsubscribe}
@@ -10,7 +10,7 @@ use Rattle.broker_locks.proofs.place.Place.unsubscribe.Goals.{in-Some, in_defaul
 use Rattle.broker_locks.proofs.place.Place.unsubscribe.Goals as goal
 
 pub invariant_of-self : goal.invariant_of-self
-invariant_of-self g c = subst (λ (z : CellGroupState). IsBalanced (place_with z c.self.inside.tickets c.self.inside.released c.self.inside.cancelled c.self.inside.kept)) (sym c.in_err-ended.ensures.err) c.self.invariant
+invariant_of-self g c = subst (λ (z : GroupState). IsBalanced (place_with z c.self.inside.tickets c.self.inside.released c.self.inside.cancelled c.self.inside.kept)) (sym c.in_err-ended.ensures.err) c.self.invariant
 
 pub invariant_of-self-2 : goal.invariant_of-self-2
 invariant_of-self-2 g c =

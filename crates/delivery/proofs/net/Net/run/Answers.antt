@@ -5,7 +5,7 @@ use Rattle.delivery.specs.declared.kept.Kept.{Kept}
 use Rattle.delivery.specs.Nets.{KeptRun, HasTaken}
 use Rattle.delivery.specs.Inner.Readings.{steps_of}
 use Rattle.std.specs.Prelude.{reverse}
-use Rattle.delivery.proofs.Views.Runs.KeptRuns.{has_report, taken_none, taken_more}
+use Rattle.delivery.proofs.Views.Runs.KeptRuns.{opening_of, has_report, taken_none, taken_more}
 use Rattle.delivery.proofs.net.Net.run.Goals as goal
 
 nothing_left : {X : Type 0} (l : List X) → length l ≡ 0 → l ≡ []
@@ -26,7 +26,7 @@ loop-event-init c =
     let spare = vec_capacity c.reserve.new.self - vec_len c.reserve.new.self in
     let was = ap (λ (net : KeptRun). net.spare) c.self.view_is in
     let new : List Kept → KeptRun = λ kept. record {
-      topics = record { names = held.names; clocks = c.self.inside.clocks.items };
+      topics = opening_of c.self.inside.clocks.items held;
       capacity = held.capacity;
       kept = kept;
       steps = steps_of (reverse kept);

@@ -3,7 +3,7 @@ use Rattle.delivery.specs.declared.event.Event.{Event}
 use Rattle.delivery.specs.declared.outcome.Outcome.{Outcome}
 use Rattle.delivery.specs.Core.Steps.{accepted_of}
 use Rattle.delivery.specs.Core.Output.{text_out}
-use Rattle.delivery.specs.Core.State.{unread_at}
+use Rattle.delivery.specs.Core.State.{unread_at, names_at}
 use Rattle.delivery.specs.Inner.Stands.{Makes}
 use Rattle.delivery.specs.Inner.View.{View, view_of, endpoint_view, with_new_endpoint}
 use Rattle.delivery.proofs.Views.Lists.ByNumber.{length-each_number}
@@ -15,7 +15,7 @@ use Rattle.delivery.proofs.Views.Runs.ByRunOfCore.{claimed_of}
 pub returns-in-Ok : goal.returns-in-Ok
 returns-in-Ok c k reached is =
     let many : c.len-connection.result ≡ length c.self.inside.endpoints.items = omega (arith, c.self.inside.endpoints.ok.0, c.len-connection.ensures) in
-    let f = λ (n : ℕ). endpoint_view k.names k.world n (accepted_of n k.steps) (unread_at n k.steps) (text_out k.names n k.steps) in
+    let f = λ (n : ℕ). endpoint_view (names_at k) k.world n (accepted_of n k.steps) (unread_at n k.steps) (text_out k.names n k.steps) in
     let number : c.len-connection.result ≡ length k.world.connections =
     many ∙ (ap (λ (v : View). length v.endpoints) (c.self.view_is ∙ is) ∙ length-each_number f 0 k.world.connections) in
     let new = c.in-Ok.ensures.ok ∙ ap with_new_endpoint is in

@@ -12,14 +12,14 @@ pub act-requires-clause-there : goal.act-requires-clause-there
 act-requires-clause-there c =
     let v = c.args.self.now in
     let w = c.next_step.new.self in
-    let n = changed_length v w c.args.connection (staged_endpoint (get_or w.endpoints c.args.connection no_endpoint).stage (get_or v.endpoints c.args.connection no_endpoint)) (c.next_step.ensures.stays no_endpoint) in
+    let n = changed_length (record v { names = w.names }) w c.args.connection (staged_endpoint (get_or w.endpoints c.args.connection no_endpoint).stage (get_or v.endpoints c.args.connection no_endpoint)) (c.next_step.ensures.stays no_endpoint) in
     omega (arith, n, c.requires.there)
 
 pub refuse-requires : goal.refuse-requires
 refuse-requires c =
     let v = c.args.self.now in
     let w = c.next_step.new.self in
-    let n = changed_length v w c.args.connection (staged_endpoint (get_or w.endpoints c.args.connection no_endpoint).stage (get_or v.endpoints c.args.connection no_endpoint)) (c.next_step.ensures.stays no_endpoint) in
+    let n = changed_length (record v { names = w.names }) w c.args.connection (staged_endpoint (get_or w.endpoints c.args.connection no_endpoint).stage (get_or v.endpoints c.args.connection no_endpoint)) (c.next_step.ensures.stays no_endpoint) in
     omega (arith, n, c.requires.there)
 
 pub act-requires-clause-asks : goal.act-requires-clause-asks

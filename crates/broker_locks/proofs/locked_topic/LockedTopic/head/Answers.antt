@@ -1,0 +1,9 @@
+use Rattle.std.proofs.Common.{sym, ◌∙◌}
+use Rattle.broker_locks.proofs.Limits.{head_limit, head_tickets}
+use Rattle.broker_locks.proofs.locked_topic.LockedTopic.head.Goals as goal
+
+pub invariant_of-self-clause-limit : goal.invariant_of-self-clause-limit
+invariant_of-self-clause-limit g c = head_limit c.args.self.now.place c.head.new.self c.head.result c.head.ensures ∙ c.args.self.now.limit
+
+pub invariant_of-self-clause-counted : goal.invariant_of-self-clause-counted
+invariant_of-self-clause-counted g c = c.args.self.now.counted ∙ sym (head_tickets c.args.self.now.place c.head.new.self c.head.result c.head.ensures)
