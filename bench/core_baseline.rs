@@ -25,6 +25,8 @@ fn write_outcome(outcome: Outcome, out: &mut impl Write) -> Result<(), Refused> 
         Outcome::Released(id) => writeln!(out, "r {} {}", id.0, id.1)?,
         Outcome::Turned(count) => writeln!(out, "t {count}")?,
         Outcome::Handed(count) => writeln!(out, "h {count}")?,
+        Outcome::Leaving => out.write_all(b"v\n")?,
+        Outcome::Gone => out.write_all(b"g\n")?,
     }
     Ok(())
 }
@@ -82,6 +84,8 @@ fn event(octets: &[u8]) -> Option<Event> {
         b'R' => Some(Event::Release(number(digits))),
         b'T' => Some(Event::Turn(number(digits))),
         b'K' => Some(Event::Take(number(digits))),
+        b'V' => Some(Event::Leave(number(digits))),
+        b'X' => Some(Event::Lost(number(digits))),
         _ => None,
     }
 }

@@ -274,6 +274,43 @@ fn core_connections(place: usize, numbers: &mut Numbers) -> Vec<u8> {
     events.0
 }
 
+/// One connection that sends SENDs of their own to 1,024 topics, each of which the first SEND to it makes.
+fn core_uses(place: usize, numbers: &mut Numbers) -> Vec<u8> {
+    const TOPICS: usize = 1_024;
+    if place == 0 {
+        return Events::open(0, 1).0;
+    }
+    if place > 64 * TOPICS {
+        return end();
+    }
+    let topic = (place - 1) % TOPICS;
+    let mut events = Events(Vec::new());
+    events.feed(0, &with_text(topic, None, numbers), 1);
+    events.add('A', 0, topic);
+    events.add('D', 0, "");
+    events.add('T', topic, "");
+    events.0
+}
+
+/// 65,536 client-ids, each claimed by a connection that is then lost and gone, and then once more.
+fn core_claims(place: usize) -> Vec<u8> {
+    const CLIENTS: usize = 65_536;
+    if place == 0 {
+        return Events::open(0, 0).0;
+    }
+    if place > 2 * CLIENTS {
+        return end();
+    }
+    let (connection, client) = (place - 1, (place - 1) % CLIENTS);
+    let mut events = Events(Vec::new());
+    events.add('O', 0, "");
+    let frame = format!("CONNECT\naccept-version:1.2\nhost:h\nclient-id:{client}\n\n\0");
+    events.feed(connection, frame.as_bytes(), 1);
+    events.add('X', connection, "");
+    events.add('V', connection, "");
+    events.0
+}
+
 /// One topic, at which 10,000 transactions stay undecided, each of another connection: once there are
 /// more, the oldest is decided, learnt and released.
 fn core_undecided(place: usize, numbers: &mut Numbers) -> Vec<u8> {
@@ -467,6 +504,8 @@ fn frames(name: &str, place: usize, numbers: &mut Numbers) -> Option<Vec<u8>> {
         "core-subscribers" => Some(core_subscribers(place, numbers)),
         "core-connections" => Some(core_connections(place, numbers)),
         "core-undecided" => Some(core_undecided(place, numbers)),
+        "core-uses" => Some(core_uses(place, numbers)),
+        "core-claims" => Some(core_claims(place)),
         "script-transactions" => Some(script_transactions(place, numbers)),
         "script-bodies" => Some(script_bodies(place, numbers)),
         "script-connections" => Some(script_connections(place, numbers)),

@@ -13,6 +13,8 @@ pub const LOG_LIMIT: usize = 65_536;
 pub const CAPACITY: usize = 4_096;
 pub const OPEN_LIMIT: usize = 64;
 pub const SENDS_LIMIT: usize = 64;
+pub const TOPICS_LIMIT: usize = 1_024;
+pub const CLIENTS_LIMIT: usize = 65_536;
 
 pub type Refused = Box<dyn Error>;
 
@@ -42,6 +44,8 @@ pub enum Event {
     Release(usize),
     Turn(usize),
     Take(usize),
+    Leave(usize),
+    Lost(usize),
 }
 
 #[derive(Clone, Copy)]
@@ -57,6 +61,8 @@ pub enum Outcome {
     Released(Id),
     Turned(usize),
     Handed(usize),
+    Leaving,
+    Gone,
 }
 
 /// A SEND: its place in its transaction, its topic, the headers that go on to its MESSAGE, and its body.
@@ -166,18 +172,26 @@ pub struct Flight {
     given: Vec<Option<u64>>,
 }
 
-/// A connection and its sender: what it was fed and hasn't read, its session, its transaction on its way,
-/// its verdicts, and the octets out.
+/// A sender: its last stamp, its verdicts, and whether a connection speaks for it.
+#[derive(Default)]
+pub struct Sender {
+    pub floor: Option<Stamp>,
+    pub verdicts: Vec<Option<Vec<Stamp>>>,
+    pub is_in_use: bool,
+}
+
+/// A connection: what it was fed and hasn't read, its sender, its session, its transaction on its way, and
+/// the octets out.
 #[derive(Default)]
 pub struct Connection {
     pub fed: Vec<u8>,
     pub read: usize,
     pub is_connected: bool,
+    pub is_leaving: bool,
+    pub sender: usize,
     pub subscriptions: HashMap<Vec<u8>, usize>,
     pub transactions: HashMap<Vec<u8>, Vec<Send>>,
-    pub floor: Option<Stamp>,
     pub flight: Option<Flight>,
-    pub verdicts: Vec<Option<Vec<Stamp>>>,
     pub out: Vec<u8>,
 }
 
@@ -199,10 +213,8 @@ impl Connection {
         Ok(())
     }
 
-    /// Sends the transaction on its way, as the next one of the sender of this number.
-    fn commit(&mut self, sender: usize, sends: Vec<Send>) -> Outcome {
-        self.verdicts.push(None);
-        let id = (sender, self.verdicts.len());
+    /// Sends the transaction of this id on its way.
+    fn commit(&mut self, id: Id, sends: Vec<Send>) -> Outcome {
         let mut topics: Vec<usize> = sends.iter().map(|send| send.topic).collect();
         topics.sort_unstable();
         topics.dedup();
@@ -253,6 +265,9 @@ pub struct Core {
     pub names: HashMap<Vec<u8>, usize>,
     pub topics: Vec<Topic>,
     pub connections: Vec<Connection>,
+    pub senders: Vec<Sender>,
+    /// The senders that are kept, by client-id.
+    pub clients: HashMap<Vec<u8>, usize>,
     pub queues: Vec<Queue>,
     pub commits: Vec<Row>,
     pub kept: Vec<(Event, Outcome)>,
@@ -266,6 +281,8 @@ impl Core {
             names: topics.into_iter().enumerate().map(|(number, topic)| (topic.0, number)).collect(),
             topics: clocks.into_iter().map(|clock| Topic { clock, ..Topic::default() }).collect(),
             connections: Vec::new(),
+            senders: Vec::new(),
+            clients: HashMap::new(),
             queues: Vec::new(),
             commits: Vec::new(),
             kept: Vec::new(),
@@ -292,6 +309,8 @@ impl Core {
             }
             Event::Turn(topic) => self.turn(*topic)?,
             Event::Take(queue) => self.take(*queue)?,
+            Event::Leave(c) => self.leave(*c)?,
+            Event::Lost(c) => self.lose(*c)?,
         };
         self.kept.push((event, outcome));
         Ok(outcome)
@@ -325,6 +344,8 @@ impl Core {
                 connection.is_connected = true;
                 let text = b"CONNECTED\nversion:1.2\nheart-beat:0,0\n\n\0";
                 connection.out.extend_from_slice(text);
+                let sender = self.claim(frame.first(b"client-id"))?;
+                self.connections[c].sender = sender;
                 return Ok(Outcome::Done);
             }
             (false, _) => return Err("60 NotConnected".into()),
@@ -333,7 +354,7 @@ impl Core {
                 let sends = connection.transactions.remove(header(frame, "transaction"));
                 let sends = sends.ok_or("66 NoSuchTxn")?;
                 if !sends.is_empty() {
-                    return Ok(connection.commit(c, sends));
+                    return Ok(self.commit(c, sends));
                 }
             }
             (true, Command::Send) => return self.send(c, frame),
@@ -343,19 +364,63 @@ impl Core {
         Ok(Outcome::Done)
     }
 
-    fn topic(&self, frame: &Frame) -> Result<usize, Refused> {
-        let topic = self.names.get(header(frame, "destination"));
-        Ok(*topic.ok_or("67 UnknownDestination")?)
+    /// The sender that is kept by this client-id, or a new one.
+    fn claim(&mut self, client: Option<&[u8]>) -> Result<usize, Refused> {
+        let next = self.senders.len();
+        let sender = match client {
+            Some(client) => match self.clients.get(client) {
+                Some(&sender) => sender,
+                None if self.clients.len() >= CLIENTS_LIMIT => return Err("78 TooManyClients".into()),
+                None => {
+                    self.clients.insert(client.to_vec(), next);
+                    next
+                }
+            },
+            None => next,
+        };
+        if sender == next {
+            self.senders.push(Sender::default());
+        }
+        if std::mem::replace(&mut self.senders[sender].is_in_use, true) {
+            return Err("77 SenderInUse".into());
+        }
+        Ok(sender)
+    }
+
+    /// Sends the transaction on its way, as the next one of the connection's sender.
+    fn commit(&mut self, c: usize, sends: Vec<Send>) -> Outcome {
+        let sender = self.connections[c].sender;
+        let verdicts = &mut self.senders[sender].verdicts;
+        verdicts.push(None);
+        let id = (sender, verdicts.len());
+        self.connections[c].commit(id, sends)
+    }
+
+    /// The topic of the frame's destination, which is made where it isn't there.
+    fn topic(&mut self, frame: &Frame) -> Result<usize, Refused> {
+        let name = header(frame, "destination");
+        if let Some(&topic) = self.names.get(name) {
+            return Ok(topic);
+        }
+        if name.is_empty() || !name.iter().all(u8::is_ascii_graphic) {
+            return Err("76 BadDestination".into());
+        }
+        if self.topics.len() >= TOPICS_LIMIT {
+            return Err("75 TooManyTopics".into());
+        }
+        self.names.insert(name.to_vec(), self.topics.len());
+        self.topics.push(Topic::default());
+        Ok(self.topics.len() - 1)
     }
 
     /// A SEND outside a transaction is one of its own.
     fn send(&mut self, c: usize, frame: &Frame) -> Result<Outcome, Refused> {
         let topic = self.topic(frame)?;
-        let connection = &mut self.connections[c];
         let Some(name) = frame.first(b"transaction") else {
-            return Ok(connection.commit(c, vec![send_of(topic, 0, frame)]));
+            return Ok(self.commit(c, vec![send_of(topic, 0, frame)]));
         };
-        let sends = connection.transactions.get_mut(name).ok_or("66 NoSuchTxn")?;
+        let transactions = &mut self.connections[c].transactions;
+        let sends = transactions.get_mut(name).ok_or("66 NoSuchTxn")?;
         if sends.len() == SENDS_LIMIT {
             return Err("71 TooManySends".into());
         }
@@ -398,7 +463,7 @@ impl Core {
         let found = flight.topics.binary_search(&topic);
         let place = found.map_err(|_| "84 NotNamed")?;
         let part = flight.parts[place].take().ok_or("51 Twice")?;
-        let floor = connection.floor.unwrap_or(ZERO);
+        let floor = self.senders[connection.sender].floor.unwrap_or(ZERO);
         let number = self.topics[topic].propose(topic, floor, part)?;
         flight.given[place] = Some(number);
         Ok(Outcome::Proposed(number))
@@ -411,8 +476,9 @@ impl Core {
         let rows = tickets.map(|(&topic, &given)| given.map(|number| Stamp { number, topic }));
         let rows = rows.collect::<Option<Vec<Stamp>>>().ok_or("52 Incomplete")?;
         let stamp = rows.iter().copied().max().unwrap_or(ZERO);
-        connection.floor = Some(stamp);
-        connection.verdicts[flight.id.1 - 1] = Some(rows);
+        let sender = &mut self.senders[connection.sender];
+        sender.floor = Some(stamp);
+        sender.verdicts[flight.id.1 - 1] = Some(rows);
         self.commits.push(Row {
             id: flight.id,
             topics: flight.topics,
@@ -423,7 +489,7 @@ impl Core {
 
     /// The stamp of a transaction, if it is decided.
     fn stamp(&self, id: Id) -> Option<Stamp> {
-        let rows = self.connections.get(id.0)?.verdicts.get(id.1 - 1)?.as_ref()?;
+        let rows = self.senders.get(id.0)?.verdicts.get(id.1 - 1)?.as_ref()?;
         rows.iter().copied().max()
     }
 
@@ -449,6 +515,37 @@ impl Core {
             count += 1;
         }
         Ok(Outcome::Turned(count))
+    }
+
+    /// The connection is lost; no input has one with a subscription.
+    fn lose(&mut self, c: usize) -> Result<Outcome, Refused> {
+        let connection = self.connections.get_mut(c).ok_or("80 NoConn")?;
+        if connection.is_leaving {
+            return Err("81 Busy".into());
+        }
+        if !connection.subscriptions.is_empty() {
+            return Err("no input has this".into());
+        }
+        connection.is_leaving = true;
+        connection.fed = Vec::new();
+        connection.read = 0;
+        connection.transactions.clear();
+        Ok(Outcome::Leaving)
+    }
+
+    /// The connection is gone, and its sender may be claimed again.
+    fn leave(&mut self, c: usize) -> Result<Outcome, Refused> {
+        let connection = self.connections.get_mut(c).ok_or("80 NoConn")?;
+        if !connection.is_leaving {
+            return Err("79 NotLeaving".into());
+        }
+        if connection.flight.is_some() {
+            return Err("81 Busy".into());
+        }
+        if connection.is_connected {
+            self.senders[connection.sender].is_in_use = false;
+        }
+        Ok(Outcome::Gone)
     }
 
     /// Writes the MESSAGEs of the subscription's next item to its connection.

@@ -17,6 +17,14 @@ impl WholeFrame {
         found.map(|header| &header.1[..])
     }
 
+    /// The destination of a SEND or a SUBSCRIBE.
+    pub fn destination(&self) -> Option<&[u8]> {
+        match self.command {
+            Command::Send | Command::Subscribe => self.first("destination"),
+            _ => None,
+        }
+    }
+
     /// The receipt that it asks for; a CONNECT can't ask for one.
     pub fn receipt(&self) -> Option<&[u8]> {
         match self.command {

@@ -62,6 +62,8 @@ fn event(line: &[u8]) -> Result<Event, Refused> {
         b"release" => Event::Release(first),
         b"turn" => Event::Turn(first),
         b"take" => Event::Take(first),
+        b"leave" => Event::Leave(first),
+        b"lost" => Event::Lost(first),
         b"learn" => {
             let (sender, seq) = word(rest);
             Event::Learn(first, (number(sender), number(seq)))
@@ -104,6 +106,8 @@ fn write_outcome(outcome: Outcome, out: &mut impl Write) -> Result<(), Refused> 
         Outcome::Released(id) => write!(out, "released {} {}", id.0, id.1)?,
         Outcome::Turned(count) => write!(out, "turned {count}")?,
         Outcome::Handed(count) => write!(out, "handed {count}")?,
+        Outcome::Leaving => out.write_all(b"leaving")?,
+        Outcome::Gone => out.write_all(b"gone")?,
     }
     Ok(out.write_all(b"\n")?)
 }

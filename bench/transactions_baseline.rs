@@ -1,6 +1,6 @@
 //! The job of `bench/transactions_main.txt` in plain Rust, with the standard library alone: it
 //! reads one connection's frames from standard input to its end, and gives each transaction its
-//! stamp among the topics A to H. It ends with status 2 at a refusal.
+//! stamp among the topics A to H and those that its frames make. It ends with status 2 at a refusal.
 
 mod cases;
 mod gate;
@@ -10,7 +10,7 @@ mod stomp;
 
 use cases::classify;
 use gate::{Gate, Verdict};
-use session::{Send, Session};
+use session::{Send, Session, Topics};
 use std::error::Error;
 use std::io::{Read, Write};
 use std::process::ExitCode;
@@ -45,13 +45,14 @@ fn run() -> Result<(), Box<dyn Error>> {
     let mut text = Vec::new();
     stomp::input()?.read_to_end(&mut text)?;
     let mut out = stomp::output()?;
-    let mut session = Session::new(&NAMES);
+    let mut topics = Topics::new(&NAMES);
+    let mut session = Session::new();
     let mut gate = Gate::new();
-    let mut clocks = [0; NAMES.len()];
+    let mut clocks = [0; 1_024];
     for frame in Frames::new(&text) {
         let frame = frame.map_err(|fault| fault.message())?;
         classify(&frame)?;
-        if let Some(txn) = session.step(frame)? {
+        if let Some(txn) = session.step(frame, &mut topics)? {
             write_line(&commit(&mut gate, txn, &mut clocks)?, &mut out)?;
         }
     }

@@ -12,6 +12,8 @@ use std::rc::Rc;
 pub const LOG_LIMIT: usize = 65_536;
 const OPEN_LIMIT: usize = 64;
 const SENDS_LIMIT: usize = 64;
+const TOPICS_LIMIT: usize = 1_024;
+const CLIENTS_LIMIT: usize = 65_536;
 
 /// Numbers and topics, ordered by the number first.
 #[derive(Clone, Copy, PartialEq, Eq, PartialOrd, Ord)]
@@ -101,6 +103,17 @@ struct Topic {
 }
 
 impl Topic {
+    fn new(name: &[u8], clock: u64) -> Topic {
+        Topic {
+            name: name.to_vec(),
+            clock,
+            pending: BTreeMap::new(),
+            keys: HashMap::new(),
+            log: Vec::new(),
+            open: Vec::new(),
+        }
+    }
+
     fn frontier(&self) -> Stamp {
         self.log.last().map_or(ZERO, |row| row.stamp)
     }
@@ -131,6 +144,20 @@ struct Flight {
     receipt: Option<Vec<u8>>,
 }
 
+/// A sender: its number, how many transactions it has begun, and the stamp of the last that was decided.
+#[derive(Clone, Copy)]
+struct Sender {
+    number: u64,
+    seq: u64,
+    floor: Stamp,
+}
+
+/// A sender that is kept by its client-id.
+struct Kept {
+    sender: Sender,
+    is_in_use: bool,
+}
+
 #[derive(PartialEq, Eq)]
 enum Phase {
     Open,
@@ -146,8 +173,9 @@ pub struct Connection {
     subscriptions: HashMap<Vec<u8>, usize>,
     transactions: HashMap<Vec<u8>, Vec<Send>>,
     flight: Option<Flight>,
-    floor: Stamp,
-    seq: u64,
+    /// Whom it speaks for, from its CONNECT on, and the client-id that it said.
+    sender: Sender,
+    client: Option<Vec<u8>>,
     /// The tickets of its withdrawn transaction that weren't cancelled.
     withdrawn: HashSet<(usize, u64)>,
     /// The receipt of its DISCONNECT.
@@ -195,7 +223,7 @@ fn put(out: &mut Vec<u8>, text: &str, value: &[u8]) {
 /// What an accepted frame does.
 enum Action {
     Nothing,
-    Connected,
+    Connected(Option<Vec<u8>>),
     Subscribe(Vec<u8>, usize),
     Unsubscribe(Vec<u8>),
     Commit(Vec<Send>),
@@ -229,18 +257,15 @@ pub struct Core {
     pub queues: Vec<Queue>,
     pub commits: Vec<Row>,
     stamps: HashMap<Id, Stamp>,
+    /// How many senders have begun.
+    begun: u64,
+    /// By client-id.
+    kept: HashMap<Vec<u8>, Kept>,
 }
 
 impl Core {
     pub fn new(capacity: usize, topics: &[(Vec<u8>, u64)]) -> Core {
-        let topic = |(name, clock): &(Vec<u8>, u64)| Topic {
-            name: name.clone(),
-            clock: *clock,
-            pending: BTreeMap::new(),
-            keys: HashMap::new(),
-            log: Vec::new(),
-            open: Vec::new(),
-        };
+        let topic = |(name, clock): &(Vec<u8>, u64)| Topic::new(name, *clock);
         Core {
             capacity,
             topics: topics.iter().map(topic).collect(),
@@ -248,6 +273,8 @@ impl Core {
             queues: Vec::new(),
             commits: Vec::new(),
             stamps: HashMap::new(),
+            begun: 0,
+            kept: HashMap::new(),
         }
     }
 
@@ -299,8 +326,12 @@ impl Core {
             subscriptions: HashMap::new(),
             transactions: HashMap::new(),
             flight: None,
-            floor: ZERO,
-            seq: 0,
+            sender: Sender {
+                number: 0,
+                seq: 0,
+                floor: ZERO,
+            },
+            client: None,
             withdrawn: HashSet::new(),
             last_receipt: None,
             out: Vec::new(),
@@ -358,14 +389,62 @@ impl Core {
             self.connections[c as usize].error(&fault, receipt.as_deref(), lack);
             return Ok(Some(format!("error {fault}")));
         }
+        if let Some(name) = frame.destination() {
+            if self.place(name).is_none() {
+                self.topics.push(Topic::new(name, 0));
+            }
+        }
         Ok(Some(self.act(c as usize, action, frame.receipt())))
+    }
+
+    /// Why nobody may now speak for the sender of this client-id.
+    fn claim_fault(&self, client: Option<&[u8]>) -> Option<&'static str> {
+        let client = client?;
+        match self.kept.get(client) {
+            Some(kept) => kept.is_in_use.then_some("77 SenderInUse"),
+            None => (self.kept.len() >= CLIENTS_LIMIT).then_some("78 TooManyClients"),
+        }
+    }
+
+    /// The sender that goes on, or a new one.
+    fn claim(&mut self, client: Option<&[u8]>) -> Sender {
+        if let Some(kept) = client.and_then(|client| self.kept.get_mut(client)) {
+            kept.is_in_use = true;
+            return kept.sender;
+        }
+        let sender = Sender {
+            number: self.begun,
+            seq: 0,
+            floor: ZERO,
+        };
+        self.begun += 1;
+        if let Some(client) = client {
+            let is_in_use = true;
+            self.kept.insert(client.to_vec(), Kept { sender, is_in_use });
+        }
+        sender
+    }
+
+    /// The number of the topic of this name.
+    fn place(&self, name: &[u8]) -> Option<usize> {
+        self.topics.iter().position(|topic| topic.name == name)
+    }
+
+    /// The same, or of a name that has none the number of the topic that is to be made.
+    fn place_or_next(&self, name: &[u8]) -> Result<usize, &'static str> {
+        match self.place(name) {
+            Some(place) => Ok(place),
+            None if name.is_empty() || !name.iter().all(u8::is_ascii_graphic) => Err("76 BadDestination"),
+            None if self.topics.len() >= TOPICS_LIMIT => Err("75 TooManyTopics"),
+            None => Ok(self.topics.len()),
+        }
     }
 
     /// What the session makes of a client's frame, and why it refuses it.
     fn judge(&mut self, c: usize, frame: &WholeFrame) -> Result<Action, &'static str> {
         let header = |name| frame.first(name).unwrap_or_default();
-        let named = |topic: &Topic| topic.name == header("destination");
-        let topic = self.topics.iter().position(named).ok_or("67 UnknownDestination");
+        let topic = self.place_or_next(header("destination"));
+        let claim = self.claim_fault(frame.first("client-id"));
         let connection = &mut self.connections[c];
         match (connection.is_connected, frame.command) {
             (true, Command::Connect) => Err("61 AlreadyConnected"),
@@ -375,7 +454,10 @@ impl Core {
                     .split(',')
                     .any(|version| version.trim_matches(' ') == "1.2")
                 {
-                    true => Ok(Action::Connected),
+                    true => match claim {
+                        None => Ok(Action::Connected(frame.first("client-id").map(<[u8]>::to_vec))),
+                        Some(fault) => Err(fault),
+                    },
                     false => Err("62 NoVersion"),
                 }
             }
@@ -421,9 +503,12 @@ impl Core {
     fn act(&mut self, c: usize, action: Action, receipt: Option<&[u8]>) -> String {
         let told = match action {
             Action::Nothing => "done".into(),
-            Action::Connected => {
+            Action::Connected(client) => {
+                let sender = self.claim(client.as_deref());
                 let connection = &mut self.connections[c];
                 connection.is_connected = true;
+                connection.sender = sender;
+                connection.client = client;
                 connection
                     .out
                     .extend_from_slice(b"CONNECTED\nversion:1.2\nheart-beat:0,0\n\n\0");
@@ -480,25 +565,25 @@ impl Core {
     /// Sends a transaction on its way, as the next one of its connection's sender.
     fn begin(&mut self, c: usize, sends: Vec<Send>, receipt: Option<&[u8]>) -> String {
         let connection = &mut self.connections[c];
-        connection.seq += 1;
+        connection.sender.seq += 1;
         let mut topics: Vec<usize> = sends.iter().map(|send| send.topic).collect();
         topics.sort_unstable();
         topics.dedup();
         connection.flight = Some(Flight {
-            seq: connection.seq,
+            seq: connection.sender.seq,
             tickets: vec![None; topics.len()],
             topics: topics.into(),
             sends: sends.into_iter().map(Rc::new).collect(),
             mark: None,
             receipt: receipt.map(<[u8]>::to_vec),
         });
-        format!("flight {c} {}", connection.seq)
+        format!("flight {} {}", connection.sender.number, connection.sender.seq)
     }
 
     fn propose(&mut self, c: u64, t: u64, lack: Lack) -> Result<Option<String>, Refused> {
         let topic = self.topic_at(t);
         let connection = there(&mut self.connections, c)?;
-        let floor = connection.floor.number;
+        let Sender { number: sender, floor, .. } = connection.sender;
         let flight = connection.flight.as_mut().ok_or_else(|| refused("83 NoFlight"))?;
         if flight.mark.is_some() {
             return Err(refused("88 Marked"));
@@ -512,7 +597,7 @@ impl Core {
             return Err(refused("51 Twice"));
         }
         let at = &mut self.topics[topic];
-        let clock = at.clock.max(floor);
+        let clock = at.clock.max(floor.number);
         let fault = match lack {
             _ if clock == u64::MAX => Some("40 ClockFull"),
             _ if at.pending.len() + at.log.len() >= LOG_LIMIT => Some("41 LogFull"),
@@ -529,7 +614,7 @@ impl Core {
             flight.mark = Some(fault);
             return Ok(Some(format!("failed {fault}")));
         }
-        let id = (c, flight.seq);
+        let id = (sender, flight.seq);
         let key = Stamp {
             number: clock + 1,
             topic,
@@ -567,13 +652,13 @@ impl Core {
             topic,
         });
         let stamp = rows.max().expect("it has topics");
-        connection.floor = stamp;
+        connection.sender.floor = stamp;
         match lack {
             Lack::Reply => connection.leave(),
             _ if is_answered => connection.receipt(flight.receipt.as_deref()),
             _ => {}
         }
-        let id = (c, flight.seq);
+        let id = (connection.sender.number, flight.seq);
         self.stamps.insert(id, stamp);
         let topics = flight.topics;
         self.commits.push(Row { id, stamp, topics });
@@ -608,8 +693,9 @@ impl Core {
         let found = connection.withdrawn.iter().copied().find(|row| row.0 == topic);
         let row = found.ok_or_else(|| refused("84 NotNamed"))?;
         connection.withdrawn.remove(&row);
+        let sender = connection.sender.number;
         let topic = &mut self.topics[topic];
-        let key = topic.keys.remove(&(c, row.1)).expect("it is pending");
+        let key = topic.keys.remove(&(sender, row.1)).expect("it is pending");
         topic.pending.remove(&key);
         Ok("cancelled".into())
     }
@@ -738,6 +824,11 @@ impl Core {
             _ => return Ok(None),
         }
         connection.phase = Phase::Gone;
+        let client = connection.client.take();
+        if let Some(kept) = client.and_then(|client| self.kept.get_mut(&client)) {
+            kept.sender = connection.sender;
+            kept.is_in_use = false;
+        }
         Ok(Some("gone".into()))
     }
 

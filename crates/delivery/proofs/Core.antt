@@ -2,6 +2,7 @@
 pub mod Acts
 pub mod Agreement
 pub mod Rows
+pub mod TopicRows
 pub mod MoreRows
 pub mod OctetsRow
 pub mod ToldEnds
@@ -12,7 +13,7 @@ pub mod WholeRow
 pub mod SteppedRows
 -- The delivery of every run.
 pub mod Said
-pub mod Claimed
+pub mod ClaimsStand
 pub mod Speaking
 pub mod ByRun
 pub mod Tests
@@ -24,6 +25,9 @@ pub mod LagsAsTold
 pub mod DeliversOfRun
 pub mod ReadingsShown
 pub mod Counts
+pub mod FrameWorld
+pub mod NamesKnown
+pub mod NamesFew
 pub mod FramesRead
 pub mod StepsOfRun
 pub mod MoveOfStep

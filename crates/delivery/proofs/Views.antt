@@ -3,6 +3,7 @@ pub mod Events
 pub mod Endpoints
 pub mod Senders
 pub mod Subscriptions
+pub mod Clients
 pub mod Verdicts
 pub mod Lists
 pub mod Runs

@@ -44,11 +44,14 @@ refusal_title refusal.Gone = codes "87 Gone"
 refusal_title refusal.Marked = codes "88 Marked"
 refusal_title refusal.NotMarked = codes "89 NotMarked"
 
--- the number of what ends a connection: that of the check, of the case table or of the session
+-- the number of what ends a connection: that of the check, of the case table or of the session, or the
+-- core's own
 abbrev pub connection_number : ConnectionFault → ℕ
 connection_number (connection.Stream check) = frame_number (fault_of check)
 connection_number (connection.Frame fault) = case_number fault
 connection_number (connection.Session fault) = number_of fault
+connection_number connection.SenderInUse = 77
+connection_number connection.TooManyClients = 78
 connection_number connection.Lagged = 74
 connection_number connection.ReaderNoMemory = 72
 
@@ -57,5 +60,7 @@ abbrev pub connection_title : ConnectionFault → List ℕ
 connection_title (connection.Stream check) = title_of (fault_of check)
 connection_title (connection.Frame fault) = case_title fault
 connection_title (connection.Session fault) = session_title fault
+connection_title connection.SenderInUse = codes "77 SenderInUse"
+connection_title connection.TooManyClients = codes "78 TooManyClients"
 connection_title connection.Lagged = codes "74 Lagged"
 connection_title connection.ReaderNoMemory = codes "72 NoMemory"

@@ -1,4 +1,5 @@
 -- Only serves proofs.
+pub mod Clients
 pub mod Leaving
 pub mod NetInvariant
 pub mod Nexts

@@ -42,7 +42,7 @@ is_told o = true
 -- The net is a run of the machine.
 -- core: its core is the machine after its moves.
 -- account: the account of its steps is what the machine answered to them.
--- opening: the run's topics open with the net's clocks.
+-- opening: the run's topics open with the net's clocks, and those that were made with 0.
 pub record IsRunOfMachine (net : KeptRun) : Type 0 where
   pub core : (core_of_net net).world ≡ final_world (run_of_net net)
   pub account : account_of_net net ≡ filter is_told (answers_of (run_of_net net))

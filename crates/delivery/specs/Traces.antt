@@ -14,7 +14,7 @@ use Rattle.delivery.specs.Topics.{TopicList}
 use Rattle.delivery.specs.Nets.{KeptRun, account_of_net, core_of_net, HasReport}
 use Rattle.delivery.specs.Theorem.Settled.{IsSettled}
 use Rattle.delivery.specs.Machine.Moves.{Answer}
-use Rattle.delivery.specs.Core.Steps.{CoreStep}
+use Rattle.delivery.specs.Core.Steps.{CoreStep, names_after}
 use Rattle.delivery.specs.Core.Account.{account_of}
 use Rattle.delivery.specs.Core.State.{core_of}
 use Rattle.delivery.specs.Core.Outcomes.{IsCoreRun}
@@ -46,6 +46,10 @@ trace_of r = record {
 
 -- ---- what an auditor finds
 
+-- how many topics a net has: those that it began with, and those that were made since
+abbrev pub topic_count : KeptRun → ℕ
+topic_count net = length (names_after net.topics.names net.steps)
+
 -- each of so many topics is settled
 abbrev pub AllSettled : ℕ → List Answer → Type 0
 AllSettled count account = (t : Topic) → t.0 < count → IsSettled t account
@@ -62,7 +66,7 @@ pub record IsExplained (count : ℕ) (account : List Answer) (trace : TraceData)
 pub record IsTraced (net : KeptRun) (trace : TraceData) : Type 0 where
   pub is_trace : trace ≡ trace_of (report_of (core_of_net net))
   pub is_delivered : HasReport net
-  pub is_explained : IsExplained (length net.topics.names) (account_of_net net) trace
+  pub is_explained : IsExplained (topic_count net) (account_of_net net) trace
 
 -- ---- of every run
 
@@ -72,7 +76,7 @@ abbrev pub RunsAreExplained : Type 0
 RunsAreExplained =
     (topics : TopicList) (capacity : ℕ) (steps : List CoreStep) → length topics.clocks ≡ length topics.names
     → IsCoreRun topics capacity steps
-    → IsExplained (length topics.names) (account_of topics.names steps)
+    → IsExplained (length (names_after topics.names steps)) (account_of topics.names steps)
     (trace_of (report_of (core_of topics capacity steps)))
 
 -- no fault is the refusal of a net's trace
@@ -85,5 +89,5 @@ TracesAreAccepted =
 abbrev pub TracesAreComplete : Type 0
 TracesAreComplete =
     (net : KeptRun) (trace : TraceData) → IsTraced net trace
-    → AllSettled (length net.topics.names) (account_of_net net)
+    → AllSettled (topic_count net) (account_of_net net)
     → (rows : List LogRow) → IsExplainedBy rows trace → IsCompleteBy rows trace

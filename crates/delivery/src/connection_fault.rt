@@ -22,6 +22,12 @@ pub enum ConnectionFault {
     /// sender.
     #[error("the frame is refused as the session stands: see its own fault, and connect again")]
     Session(SessionFault),
+    /// 77: the sender of a CONNECT's client-id is spoken for by another connection, which isn't gone.
+    #[error("77 SenderInUse: another connection has this client-id; connect again once it is gone")]
+    SenderInUse,
+    /// 78: a CONNECT has a client-id that isn't kept where 65,536 are, or would begin a sender where no number is left.
+    #[error("78 TooManyClients: no more client-ids are kept; connect with one that is, or without")]
+    TooManyClients,
     /// 74: the subscription's queue was full when an item was due, and all that it had accepted was delivered.
     #[error("74 Lagged: take from the subscription's queue before it is full; subscribe again")]
     Lagged,
@@ -31,7 +37,7 @@ pub enum ConnectionFault {
 }
 
 impl ConnectionFault {
-    /// Its number: 1 to 10, 20 to 23, 60 to 72 or 74.
+    /// Its number: 1 to 10, 20 to 23, 60 to 66, 68 to 72 or 74 to 78.
     pub fn number(self) -> u32
         ensures { result ≡ connection_number self }
     {
@@ -39,6 +45,8 @@ impl ConnectionFault {
             ConnectionFault::Stream(check) => check.fault().number(),
             ConnectionFault::Frame(fault) => fault.number(),
             ConnectionFault::Session(fault) => fault.number(),
+            ConnectionFault::SenderInUse => 77,
+            ConnectionFault::TooManyClients => 78,
             ConnectionFault::Lagged => 74,
             ConnectionFault::ReaderNoMemory => 72,
         }
@@ -52,6 +60,8 @@ impl ConnectionFault {
             ConnectionFault::Stream(check) => check.fault().title(),
             ConnectionFault::Frame(fault) => fault.title(),
             ConnectionFault::Session(fault) => fault.title(),
+            ConnectionFault::SenderInUse => b"77 SenderInUse".as_slice(),
+            ConnectionFault::TooManyClients => b"78 TooManyClients".as_slice(),
             ConnectionFault::Lagged => b"74 Lagged".as_slice(),
             ConnectionFault::ReaderNoMemory => b"72 NoMemory".as_slice(),
         }

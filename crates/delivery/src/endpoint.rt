@@ -20,7 +20,6 @@ use mcast_txn::Released;
 use std::alloc::Global;
 use std::marker::Model;
 use std::mem;
-use std::sync::Arc;
 use stomp_frame::{FrameReader, Limits, NoMemory, Octets, RawFrame, ServerFrame, write_server};
 use stomp_session::{Names, Session, Step};
 
@@ -50,15 +49,15 @@ impl Model for Endpoint {
 }
 
 impl Endpoint {
-    /// The endpoint of a connection that has just been opened, which speaks for this sender. It takes no memory.
-    pub(crate) fn new(alloc: Global, names: Arc<Names>, sender: u64) -> Endpoint
-        ensures { result ≡ new_endpoint names.value sender }
+    /// The endpoint of a connection that has just been opened. It takes no memory.
+    pub(crate) fn new(alloc: Global) -> Endpoint
+        ensures { result ≡ new_endpoint }
     {
         Endpoint {
-            sender: Some(sender),
+            sender: None,
             stage: Stage::Open(OpenEndpoint {
                 reader: FrameReader::new(alloc, READER_LIMITS),
-                session: Session::new(alloc, names),
+                session: Session::new(alloc),
                 receipt: None,
             }),
             live: Vec::new(alloc),
@@ -85,16 +84,18 @@ impl Endpoint {
         write_server(frame, &mut self.output)
     }
 
-    /// What its next frame asks for, if it is open.
+    /// What its next frame asks for, if it is open. The topics' names get the frame's destination, where it is accepted
+    /// and has a new one.
     pub(crate) fn next_step(
         &mut self,
         alloc: Global,
+        names: &mut Names,
     ) -> Result<Option<Step>, (ConnectionFault, Option<RawFrame>)>
         ensures stays { self.new ≡ staged_endpoint self.new.stage self.old }
-        ensures judges { JudgesAt self.old.stage result self.new.stage }
+        ensures judges { JudgesAt names.old self.old.stage result self.new.stage names.new }
     {
         if let Stage::Open(endpoint) = &mut self.stage {
-            endpoint.next_step(alloc)
+            endpoint.next_step(alloc, names)
         } else {
             Ok(None)
         }

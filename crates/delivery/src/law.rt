@@ -1,6 +1,6 @@
 //! Laws: functions that do nothing, whose contracts are theorems about every run or step of the core.
 
-ghost use Rattle.delivery.specs.Core.Connections.{OpenAreLive, OtherConnectionsStay, UnsubscribesFind};
+ghost use Rattle.delivery.specs.Core.Connections.{FramesPass, OpenAreLive, OtherConnectionsStay, UnsubscribesFind};
 ghost use Rattle.delivery.specs.Core.Delivery.{RunsDeliver, StepsAreKept};
 ghost use Rattle.delivery.specs.Core.Stepped.{StepsHaveStepped};
 ghost use Rattle.delivery.specs.Theorem.Answers.{MovesAreAnswered};
@@ -234,11 +234,13 @@ pub fn readings()
 {}
 
 /// What an open connection's session has open are the connection's subscriptions that aren't closed, so an
-/// UNSUBSCRIBE that it accepts ends one of them, and 48 never comes of a Next. An event of one connection changes no
-/// other: a Take is of its subscription's.
+/// UNSUBSCRIBE that it accepts ends one of them, and 48 never comes of a Next. Of the frames that their sessions and their
+/// claims let pass the machine refuses but a transaction whose sender has no number left. An event of one connection
+/// changes no other: a Take is of its subscription's.
 pub fn connections()
     ensures live { OpenAreLive }
     ensures ends { UnsubscribesFind }
+    ensures pass { FramesPass }
     ensures others { OtherConnectionsStay }
 {}
 

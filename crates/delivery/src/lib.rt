@@ -35,4 +35,5 @@ pub use oracle::agreed::{CommitRow, agreed};
 pub use oracle::due::{QueueItem, due};
 pub use outcome::Outcome;
 pub use refusal::Refusal;
-pub use topics::{MAX_TOPICS, Topics};
+pub use stomp_session::MAX_TOPICS;
+pub use topics::Topics;

@@ -12,6 +12,7 @@ use crate::kept::Kept;
 use crate::net_state::{NetState, Report};
 use crate::outcome::Outcome;
 use crate::topics::Topics;
+use sender_gate::Senders;
 use std::alloc::Global;
 use std::marker::Model;
 use stomp_frame::NoMemory;
@@ -26,6 +27,7 @@ pub const MAX_CAPACITY: usize = 4096;
 pub struct Net {
     clocks: Vec<u64>,
     state: NetState,
+    clients: Senders,
     kept: Vec<Kept>,
 }
 
@@ -35,32 +37,35 @@ impl Drop for Net {
         let Net {
             clocks,
             state,
+            clients,
             kept,
         } = self;
         drop(clocks);
         drop(state);
+        drop(clients);
         drop(kept);
     }
 }
 
 impl Model for Net {
-    ghost use Rattle.std.specs.Prelude.{◌-◌, reverse, vec_len, vec_capacity};
+    ghost use Rattle.std.specs.Prelude.{◌-◌, length, reverse, take, vec_len, vec_capacity};
     ghost use Rattle.delivery.specs.Nets.{KeptRun};
-    ghost use Rattle.delivery.specs.Inner.NetInvariant.{KeepsRun};
+    ghost use Rattle.delivery.specs.Inner.NetInvariant.{KeepsBoth};
     ghost use Rattle.delivery.specs.Inner.Readings.{steps_of};
 
     ghost Value = { KeptRun };
 
     ghost view = { λ n. record {
-      topics = record { names = n.state.names; clocks = n.clocks.items };
+      topics = record { names = take (length n.clocks.items) n.state.names; clocks = n.clocks.items };
       capacity = n.state.capacity;
       kept = n.kept.items;
       steps = steps_of (reverse n.kept.items);
       spare = vec_capacity n.kept - vec_len n.kept;
     } };
 
-    ghost invariant = { λ n. KeepsRun (record { names = n.state.names; clocks = n.clocks.items }) n.state.capacity
-        n.kept.items n.state };
+    ghost invariant = { λ n. KeepsBoth
+        (record { names = take (length n.clocks.items) n.state.names; clocks = n.clocks.items }) n.state.capacity
+        n.kept.items n.state n.clients };
 }
 
 impl Net {
@@ -76,6 +81,7 @@ impl Net {
         Ok(Net {
             clocks,
             state,
+            clients: Senders::new(alloc),
             kept: Vec::new(alloc),
         })
     }
@@ -142,7 +148,7 @@ impl Net {
         ensures answered { HasAnswered event result self.old self.new }
         ensures delivered { HasReport self.new }
     {
-        let outcome = self.state.answer(&event);
+        let outcome = self.state.answer(&event, &mut self.clients);
         self.kept.push_reserved(Kept { event, outcome });
         outcome
     }

@@ -16,6 +16,7 @@ ghost use Rattle.delivery.specs.Inner.View.{EndpointView, view_of, new_group, le
 ghost use Rattle.delivery.specs.declared.event.Event.{Event as Asked};
 
 mod answer;
+mod claiming;
 mod closing;
 mod frames;
 mod leaving;
@@ -36,12 +37,11 @@ use crate::stage::Stage;
 use crate::sub::Sub;
 use crate::table::Table;
 use mcast_group::Group;
-use mcast_txn::{Sender, Topic, TxnId};
+use mcast_txn::{Topic, TxnId};
 pub use queue_report::QueueReport;
 pub use report::Report;
 use std::alloc::Global;
 use std::marker::Model;
-use std::sync::Arc;
 use stomp_frame::{NoMemory, Octets, ServerFrame};
 use stomp_session::Names;
 use sub_queue::VecOutlet;
@@ -49,13 +49,13 @@ use sub_queue::VecOutlet;
 /// The most parts and rows of a topic, taken together.
 const LOG_LIMIT: usize = 65_536;
 
-/// What the core holds: of each topic its group, of each sender its transaction and its verdicts, of each connection
+/// What the core holds: of each topic its name and its group, of each sender its transaction and its verdicts, of each connection
 /// its endpoint, each subscription, and the commit list, with a row promised to each transaction that is on its way.
 /// In contracts it is the view of a core.
 #[derive(Drop)]
 pub(crate) struct NetState {
     alloc: Global,
-    names: Arc<Names>,
+    names: Names,
     capacity: usize,
     groups: Vec<Group<VecOutlet>>,
     senders: Vec<SenderState>,
@@ -66,7 +66,6 @@ pub(crate) struct NetState {
 }
 
 impl Model for NetState {
-    ghost use Rattle.std.specs.Arc.{arc_value};
     ghost use Rattle.std.specs.Prelude.{◌≡◌};
     ghost use Rattle.delivery.specs.Inner.Rooms.{flying_count};
     ghost use Rattle.delivery.specs.Inner.View.{View};
@@ -74,7 +73,7 @@ impl Model for NetState {
     ghost Value = { View };
 
     ghost view = { λ n. record {
-      names = arc_value n.names;
+      names = n.names;
       capacity = n.capacity;
       groups = n.groups.items;
       senders = n.senders.items;
@@ -115,7 +114,7 @@ impl NetState {
         let groups = new_groups(alloc, clocks)?;
         Ok(NetState {
             alloc,
-            names: Arc::new(alloc, names)?,
+            names,
             capacity,
             groups,
             senders: Vec::new(alloc),
@@ -202,24 +201,16 @@ impl NetState {
         }
     }
 
-    /// One more sender and its connection. After `NoMemory` all is what it was.
+    /// One more connection. After `NoMemory` all is what it was.
     fn add_endpoint(&mut self) -> Result<(), NoMemory>
         ensures ok { OnOk result (self.new ≡ with_new_endpoint self.old) }
         ensures err { OnErr result (self.new ≡ self.old) }
     {
-        self.endpoints.reserve(1)?;
-        self.senders.reserve(1)?;
-        let names = self.names.clone()?;
-        self.table.add_sender(self.alloc)?;
-        let sender = self.senders.len() as u64;
-        self.endpoints
-            .push_reserved(Endpoint::new(self.alloc, names, sender));
-        self.senders
-            .push_reserved(SenderState::new(self.alloc, Sender(sender)));
+        self.endpoints.push(Endpoint::new(self.alloc))?;
         Ok(())
     }
 
-    /// A connection is opened, and with it a sender of its own. Out of memory all is what it was.
+    /// A connection is opened, which speaks for no sender yet. Out of memory all is what it was.
     pub(crate) fn open(&mut self) -> Outcome
         ensures { (k : Core) → IsReached k → self.old ≡ view_of k → Makes k Asked.Open result self.new }
     {

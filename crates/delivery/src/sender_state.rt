@@ -1,6 +1,6 @@
 //! Senders of the core.
 
-ghost use Rattle.std.specs.Prelude.{◌≡◌, ◌≤◌, ◌+◌, ◌++◌, ◌<◌, ◌==◌, true, false, length, Some, IfOk, IfSome, OnOk, OnErr, vec_len, vec_capacity};
+ghost use Rattle.std.specs.Prelude.{◌≡◌, ◌≤◌, ◌+◌, ◌++◌, ◌<◌, ◌==◌, true, false, [], length, Some, IfOk, IfSome, OnOk, OnErr, vec_len, vec_capacity};
 ghost use Rattle.std.specs.Arc.{arc_value};
 ghost use Rattle.std.specs.List.{position, remove};
 ghost use Rattle.std.specs.Option.{option_map};
@@ -9,10 +9,10 @@ ghost use Rattle.mcast_txn.specs.Part.{data_of};
 ghost use Rattle.mcast_txn.specs.TopicSet.{names};
 ghost use Rattle.mcast_group.specs.Machine.{last_number};
 ghost use Rattle.sender_gate.specs.Gate.{next_id};
-ghost use Rattle.delivery.specs.Machine.World.{new_sender};
 ghost use Rattle.delivery.specs.Inner.Rooms.{is_flying};
 ghost use Rattle.delivery.specs.Inner.Senders.{gate_of, launched_sender, decide_refusal, decision_of, decided_row, decided_sender, flight_refusal, part_refusal, part_in, taken_sender, put_sender, failed_sender, withdraw_refusal, failure_of, withdrawn_sender, leftover_at, leftover_in};
-ghost use Rattle.delivery.specs.Inner.View.{sender_view};
+ghost use Rattle.delivery.specs.Inner.Clients.{idle_gate};
+ghost use Rattle.delivery.specs.declared.sending.Sending.TheVariants as sendings;
 ghost use Rattle.delivery.specs.Inner.Leaving.{is_busy};
 
 use crate::in_flight::InFlight;
@@ -47,13 +47,23 @@ impl Model for SenderState {
 }
 
 impl SenderState {
-    /// A sender that has made no transaction. It takes no memory.
-    pub(crate) fn new(alloc: Global, sender: Sender) -> SenderState
-        ensures { result ≡ sender_view sender.0 new_sender }
+    /// A sender between two transactions, with nothing to cancel. It takes no memory.
+    pub(crate) fn new(alloc: Global, gate: Gate) -> SenderState
+        ensures { result ≡ record { sending = sendings.Idle gate; leftovers = [] } }
     {
         SenderState {
-            sending: Sending::Idle(Gate::new(sender)),
+            sending: Sending::Idle(gate),
             leftovers: Vec::new(alloc),
+        }
+    }
+
+    /// Its gate, if it is between two transactions.
+    pub(crate) fn gate(&self) -> Option<Gate>
+        ensures { result ≡ idle_gate self.now }
+    {
+        match &self.sending {
+            Sending::Idle(gate) => Some(Gate::resume(gate.sender(), gate.seq(), gate.floor())),
+            _ => None,
         }
     }
 

@@ -48,6 +48,13 @@ impl Table {
         Ok(())
     }
 
+    /// One sender fewer: the last one.
+    pub(crate) fn drop_sender(&mut self)
+        ensures { self.new ≡ take (length self.old - 1) self.old }
+    {
+        self.senders.pop();
+    }
+
     /// One more transaction of this sender, which isn't decided. After `NoMemory` the table is what it was.
     pub(crate) fn add_seq(&mut self, sender: usize) -> Result<(), NoMemory>
         ensures ok { OnOk result (self.new ≡ set self.old sender (get_or self.old sender [] ++ None ∷ [])) }

@@ -8,10 +8,7 @@ use mcast_txn::Topic;
 use std::alloc::Global;
 use std::marker::Model;
 use stomp_frame::NoMemory;
-use stomp_session::Names;
-
-/// The most topics that a core has.
-pub const MAX_TOPICS: usize = 1024;
+use stomp_session::{MAX_TOPICS, Names};
 
 /// The topics that a core begins with, numbered from 0 in the order in which they were added: of each its name, which
 /// no other has, and the number that its clock begins at. In contracts it is the list of the names and that of the

@@ -1,15 +1,20 @@
 -- The definitions, computed on short lists of frames.
-use Rattle.std.proofs.Common.{◌≡◌, ℕ, List, [], ◌∷◌, codes, true, false, refl, Some, None}
+use Rattle.std.proofs.Common.{◌≡◌, ℕ, List, [], ◌∷◌, ◌++◌, codes, true, false, refl, subst, inl, inr, Some, None}
 use Rattle.stomp_frame.specs.declared.command.Command.{Command}
 use Rattle.stomp_frame.specs.declared.command.Command.TheVariants as commands
 use Rattle.stomp_frame.specs.declared.raw_frame.RawFrame.{RawFrame}
 use Rattle.stomp_session.specs.declared.phase.Phase.TheVariants.{New, Connected, Closed}
 use Rattle.stomp_session.specs.declared.fault.SessionFault.TheVariants as faults
-use Rattle.stomp_session.specs.Open.{open_subscriptions, open_transactions, phase_of, held_after}
-use Rattle.stomp_session.specs.Frames.{send_of}
+use Rattle.std.proofs.lemmas.Bool.{false≢true}
+use Rattle.std.specs.List.{repeat}
+use Rattle.mcast_txn.specs.Lists.{In}
+use Rattle.stomp_session.specs.Open.{IsKnownTo, StandsFor, held_after, open_subscriptions, open_transactions, phase_of, state_of}
+use Rattle.stomp_session.specs.Names.{index_of, is_name}
+use Rattle.stomp_session.specs.Frames.{client_of, send_of, with_destination}
 use Rattle.stomp_session.specs.Refusals.{session_fault}
 use Rattle.stomp_session.specs.Answers.{takes_memory}
 use Rattle.stomp_session.specs.Versions.{has_version}
+use Rattle.stomp_session.proofs.Later.{later_names_stand}
 
 abbrev names : List (List ℕ)
 names = codes "A" ∷ codes "B" ∷ []
@@ -54,13 +59,70 @@ none_is_open = refl
 pub phases_follow : (phase_of [] ≡ New) × (phase_of (connect ∷ []) ≡ Connected) × (phase_of (connect ∷ disconnect ∷ []) ≡ Closed)
 phases_follow = (refl, refl, refl)
 
--- a frame before the CONNECT; an id that is open; the destination comes before the id
+-- A SEND and a SUBSCRIBE make the topic of a new destination, of a known one they make none; a COMMIT makes none. Each
+-- case of a letter is another name.
+pub names_grow :
+    (with_destination (send (codes "x")) (codes "A" ∷ []) ≡ names)
+    × (with_destination (send (codes "x")) names ≡ names)
+    × (with_destination (subscribe (codes "a") (codes "b")) names ≡ codes "A" ∷ codes "B" ∷ codes "b" ∷ [])
+    × (with_destination (commit (codes "x")) names ≡ names)
+names_grow = (refl, refl, refl, refl)
+
+-- a name that isn't there has the number that it gets
+pub next_number : (index_of (codes "B") names ≡ 1) × (index_of (codes "C") names ≡ 2)
+next_number = (refl, refl)
+
+-- what may be a topic's name
+pub names_are_graphic : (is_name (codes "A") ≡ true) × (is_name (codes "!~") ≡ true) × (is_name (codes "A B") ≡ false) × (is_name [] ≡ false)
+names_are_graphic = (refl, refl, refl, refl)
+
+-- the frames of a session that subscribed to B
+abbrev past : List RawFrame
+past = connect ∷ subscribe (codes "b") (codes "B") ∷ []
+
+-- it stands for them by A and B
+pub stands : StandsFor (state_of (held_after names past)) names past
+stands = record { holds = refl; known = λ f i. known_at f i }
+  where
+    known_at : (f : RawFrame) → In f past → IsKnownTo names f
+    known_at f (inl e) = subst (IsKnownTo names) e (λ has. cc)
+    known_at f (inr (inl e)) = subst (IsKnownTo names) e (λ has. refl)
+    known_at f (inr (inr h)) = absurd h
+
+-- by A, B and C it stands for them too, and not by A alone
+pub stands_later : StandsFor (state_of (held_after names past)) (names ++ codes "C" ∷ []) past
+stands_later = later_names_stand (state_of (held_after names past)) names (codes "C" ∷ []) past stands
+
+pub stands_by_known : StandsFor (state_of (held_after (codes "A" ∷ []) past)) (codes "A" ∷ []) past → Prim.⊥
+stands_by_known s = false≢true (s.known (subscribe (codes "b") (codes "B")) (inr (inl refl)) refl)
+
+-- a frame before the CONNECT; an id that is open; a bad destination comes before the id
 pub refusals_in_order :
     (session_fault (held_after names []) (subscribe (codes "a") (codes "A")) ≡ Some faults.NotConnected)
     × (session_fault (held_after names (connect ∷ subscribe (codes "a") (codes "A") ∷ [])) (subscribe (codes "a") (codes "A")) ≡ Some faults.SubIdInUse)
-    × (session_fault (held_after names (connect ∷ subscribe (codes "a") (codes "A") ∷ [])) (subscribe (codes "a") (codes "q")) ≡ Some faults.UnknownDestination)
+    × (session_fault (held_after names (connect ∷ subscribe (codes "a") (codes "A") ∷ [])) (subscribe (codes "a") (codes "A B")) ≡ Some faults.BadDestination)
     × (session_fault (held_after names (connect ∷ subscribe (codes "a") (codes "A") ∷ unsubscribe (codes "a") ∷ [])) (subscribe (codes "a") (codes "A")) ≡ None)
 refusals_in_order = (refl, refl, refl, refl)
+
+-- as many names as there may be
+abbrev crowd : List (List ℕ)
+crowd = repeat 1024 (codes "A" ∷ [])
+
+-- Where there are 1,024 topics, a new one is one too many, before an unknown transaction, and a bad destination is
+-- told before that; a known one is accepted.
+pub no_more_topics :
+    (session_fault (held_after crowd (connect ∷ [])) (subscribe (codes "a") (codes "C")) ≡ Some faults.TooManyTopics)
+    × (session_fault (held_after crowd (connect ∷ [])) (send (codes "x")) ≡ Some faults.TooManyTopics)
+    × (session_fault (held_after crowd (connect ∷ [])) (subscribe (codes "a") []) ≡ Some faults.BadDestination)
+    × (session_fault (held_after crowd (connect ∷ [])) (subscribe (codes "a") (codes "A")) ≡ None)
+no_more_topics = (refl, refl, refl, refl)
+
+-- the first client-id counts
+pub clients :
+    (client_of connect ≡ None)
+    × (client_of (frame commands.Connect ((codes "client-id", codes "p") ∷ (codes "client-id", codes "q") ∷ [])) ≡ Some (codes "p"))
+    × (client_of (frame commands.Stomp ((codes "client-id", []) ∷ [])) ≡ Some [])
+clients = (refl, refl, refl)
 
 -- a version is an item of a list between commas, without the spaces round it
 pub versions : (has_version (codes "1.2") (codes "1.0, 1.2") ≡ true) × (has_version (codes "1.2") (codes " 1.2 ") ≡ true) × (has_version (codes "1.2") (codes "11.2") ≡ false) × (has_version (codes "1.2") [] ≡ false)

@@ -18,7 +18,7 @@ use Rattle.stomp_session.specs.declared.fault.SessionFault.{SessionFault}
 use Rattle.stomp_session.specs.declared.fault.SessionFault.TheVariants as faults
 use Rattle.stomp_session.specs.Frames.{topic_of, id_of, transaction_of, is_subscribe, is_unsubscribe, is_begin, is_end, is_send, is_disconnect, names_subscription, names_transaction, is_send_in, send_of}
 use Rattle.stomp_session.specs.Open.{Held, subscriptions_left, transactions_left, is_connected, is_ended, phase_of, held_after}
-use Rattle.stomp_session.specs.Refusals.{Condition, is_closed, is_new, is_open, is_full, has_other_ack, has_unknown_destination, open_refusals, refusals_by}
+use Rattle.stomp_session.specs.Refusals.{Condition, is_closed, is_new, is_open, is_full, has_other_ack, has_bad_destination, has_one_topic_too_many, open_refusals, refusals_by}
 use Rattle.mcast_txn.specs.Checks.{first_refusal}
 use Rattle.stomp_session.specs.Inner.Effects.{entries_without, with_send, effect, refusal_by}
 use Rattle.stomp_session.proofs.LeftOpen.{opened, opened-quiet, opened-open, opened-close, opened-send, list_any-push}
@@ -165,11 +165,12 @@ first : (a b : Bool) (x y : SessionFault) → first_refusal ((a, x) ∷ (b, y) �
 first true b x y none = cc
 first false b x y none = refl
 
-third : (a b c d : Bool) (x y z w : SessionFault) → first_refusal ((a, x) ∷ (b, y) ∷ (c, z) ∷ (d, w) ∷ []) ≡ None → c ≡ false
-third true b c d x y z w none = cc
-third false true c d x y z w none = cc
-third false false true d x y z w none = cc
-third false false false d x y z w none = refl
+fourth : (a b c d e : Bool) (v w x y z : SessionFault) → first_refusal ((a, v) ∷ (b, w) ∷ (c, x) ∷ (d, y) ∷ (e, z) ∷ []) ≡ None → d ≡ false
+fourth true b c d e v w x y z none = cc
+fourth false true c d e v w x y z none = cc
+fourth false false true d e v w x y z none = cc
+fourth false false false true e v w x y z none = cc
+fourth false false false false e v w x y z none = refl
 
 module _ (names : List (List ℕ)) (frames : List RawFrame) (f : RawFrame) where
   is_ended-push : is_ended (frames ++ f ∷ []) ≡ (is_ended frames || is_disconnect f.command)
@@ -227,7 +228,7 @@ module _ (names : List (List ℕ)) (frames : List RawFrame) (f : RawFrame) where
       let s : Held = held_after names frames in
       let going : is_ended frames ≡ false = accepted-going commands.Subscribe names frames f none in
       let checked : (is_connected frames ≡ true) × (first_refusal (refusals_by commands.Subscribe s f) ≡ None) = connected-refusals (refusals_by commands.Subscribe s f) going none in
-      let shut_here : is_open (id_of f) s.subscriptions ≡ false = third (has_other_ack f) (has_unknown_destination s f) (is_open (id_of f) s.subscriptions) (is_full s.subscriptions) faults.AckMode faults.UnknownDestination faults.SubIdInUse faults.TooManySubs checked.1 in
+      let shut_here : is_open (id_of f) s.subscriptions ≡ false = fourth (has_other_ack f) (has_bad_destination s f) (has_one_topic_too_many s f) (is_open (id_of f) s.subscriptions) (is_full s.subscriptions) faults.AckMode faults.BadDestination faults.TooManyTopics faults.SubIdInUse faults.TooManySubs checked.1 in
       let shut : is_open (id_of f) (subscriptions_left names frames) ≡ false = subst (λ b. is_open (id_of f) (if b then [] else subscriptions_left names frames) ≡ false) going shut_here in
       to_live commands.Subscribe going (connected-push _ _ going (ap is_disconnect e) checked.0
       (subscriptions_left-open names frames f (ap is_subscribe e) shut)

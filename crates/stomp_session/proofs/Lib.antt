@@ -1,5 +1,6 @@
 pub mod Entries
 pub mod LeftOpen
 pub mod History
+pub mod Later
 pub mod Taken
 pub mod Examples

@@ -12,7 +12,7 @@ use Rattle.stomp_session.specs.declared.action.Action.TheVariants as actions
 use Rattle.stomp_session.specs.declared.action.Step.{Step}
 use Rattle.stomp_session.specs.declared.fault.SessionFault.{SessionFault}
 use Rattle.stomp_session.specs.declared.fault.SessionFault.TheVariants.{NoMemory}
-use Rattle.stomp_session.specs.Frames.{topic_of, id_of, transaction_of, send_of}
+use Rattle.stomp_session.specs.Frames.{client_of, topic_of, id_of, transaction_of, send_of}
 use Rattle.stomp_session.specs.Open.{Held}
 use Rattle.stomp_session.specs.Refusals.{sends_in, session_fault}
 
@@ -24,8 +24,8 @@ commit (send ∷ sends) = actions.Commit (send ∷ sends)
 -- What the connection has to do for the frame. A SEND outside a transaction is one of its own (STOMP 1.2,
 -- "SEND").
 abbrev pub action_by : Command → Held → RawFrame → Action
-action_by commands.Connect s f = actions.Connected
-action_by commands.Stomp s f = actions.Connected
+action_by commands.Connect s f = actions.Connected (client_of f)
+action_by commands.Stomp s f = actions.Connected (client_of f)
 action_by commands.Subscribe s f = actions.Subscribe (id_of f) (topic_of s.names f)
 action_by commands.Unsubscribe s f = actions.Unsubscribe (id_of f)
 action_by commands.Send s f =
@@ -41,14 +41,15 @@ pub record Accepts (s : Held) (f : RawFrame) (step : Step) : Type 0 where
   pub action : step.action ≡ action_by f.command s f
   pub receipt : step.receipt ≡ receipt_of f
 
--- an action's id is text
+-- an action's id is text, and so is its client-id, if it has one
 abbrev pub IsTextIn : Action → Type 0
+IsTextIn (actions.Connected client) = IfSome client IsText
 IsTextIn (actions.Subscribe id topic) = IsText id
 IsTextIn (actions.Unsubscribe id) = IsText id
 IsTextIn _ = Unit {0}
 
 -- What is returned is text, so that a server's frame can be written with it: the receipt, and the
--- action's id.
+-- action's id or client-id.
 pub record AreTexts (step : Step) : Type 0 where
   pub receipt : IfSome step.receipt IsText
   pub action : IsTextIn step.action

@@ -1,5 +1,5 @@
 -- What a client's frame names (STOMP 1.2, "Client Frames").
-use Rattle.std.specs.Prelude.{ℕ, Bool, true, false, ◌||◌, ◌&&◌, List, [], codes}
+use Rattle.std.specs.Prelude.{ℕ, Bool, true, false, ◌||◌, ◌&&◌, List, [], codes, Option, if◌then◌else◌}
 use Rattle.std.specs.Option.{option_map_or}
 use Rattle.std.specs.Str.{bytes_eq}
 use Rattle.stomp_frame.specs.declared.command.Command.{Command}
@@ -8,7 +8,7 @@ use Rattle.stomp_frame.specs.declared.raw_frame.RawFrame.{RawFrame}
 use Rattle.stomp_frame.specs.Headers.{first_of}
 use Rattle.mcast_txn.specs.declared.id.Topic.{Topic}
 use Rattle.mcast_txn.specs.declared.draft.sent_message.SentMessage.{SentMessage}
-use Rattle.stomp_session.specs.Names.{index_of}
+use Rattle.stomp_session.specs.Names.{index_of, with_name}
 
 -- the value of a header that the case table requires of the frame
 abbrev pub field : List ℕ → RawFrame → List ℕ
@@ -17,6 +17,22 @@ field name f = option_map_or (λ value. value) (first_of name f.headers) []
 -- the topic of a SEND's or a SUBSCRIBE's destination
 abbrev pub topic_of : List (List ℕ) → RawFrame → Topic
 topic_of names f = record { 0 = index_of (field (codes "destination") f) names }
+
+-- whether it names a topic as its destination: a SEND or a SUBSCRIBE does
+abbrev pub has_destination : Command → Bool
+has_destination commands.Send = true
+has_destination commands.Subscribe = true
+has_destination _ = false
+
+-- The names, with the frame's destination after them where it has one that isn't there yet. So A and a SEND to
+-- B are A and B, A and a SEND to A are A, and so are A and a COMMIT.
+abbrev pub with_destination : RawFrame → List (List ℕ) → List (List ℕ)
+with_destination f names =
+    if has_destination f.command then with_name (field (codes "destination") f) names else names
+
+-- the client-id of a CONNECT or a STOMP, if it has one (own): the first one, where it has several
+abbrev pub client_of : RawFrame → Option (List ℕ)
+client_of f = first_of (codes "client-id") f.headers
 
 -- a SUBSCRIBE's or an UNSUBSCRIBE's subscription
 abbrev pub id_of : RawFrame → List ℕ

@@ -1,14 +1,16 @@
 -- What is open after a list of accepted frames, as the list itself says (STOMP 1.2, "SUBSCRIBE",
 -- "UNSUBSCRIBE", "BEGIN", "COMMIT", "ABORT", "DISCONNECT").
-use Rattle.std.specs.Prelude.{◌≡◌, ℕ, Bool, not, ◌&&◌, List, [], ◌∷◌, filter, map, if◌then◌else◌}
+use Rattle.std.specs.Prelude.{◌≡◌, ℕ, Bool, true, not, ◌&&◌, List, [], ◌∷◌, ◌++◌, codes, filter, map, if◌then◌else◌}
 use Rattle.std.specs.List.{list_any}
 use Rattle.stomp_frame.specs.declared.raw_frame.RawFrame.{RawFrame}
 use Rattle.stomp_frame.specs.Cases.{is_connect}
+use Rattle.mcast_txn.specs.Lists.{In}
 use Rattle.mcast_txn.specs.declared.id.Topic.{Topic}
 use Rattle.mcast_txn.specs.declared.draft.sent_message.SentMessage.{SentMessage}
 use Rattle.stomp_session.specs.declared.phase.Phase.{Phase}
 use Rattle.stomp_session.specs.declared.phase.Phase.TheVariants.{New, Connected, Closed}
-use Rattle.stomp_session.specs.Frames.{topic_of, id_of, transaction_of, is_subscribe, is_begin, is_disconnect, names_subscription, names_transaction, is_send_in, send_of}
+use Rattle.stomp_session.specs.Names.{is_known}
+use Rattle.stomp_session.specs.Frames.{field, has_destination, topic_of, id_of, transaction_of, is_subscribe, is_begin, is_disconnect, names_subscription, names_transaction, is_send_in, send_of}
 
 -- The subscriptions that SUBSCRIBEs of these frames left open, with their topics, in order: of each
 -- subscription the last frame that names it is a SUBSCRIBE.
@@ -50,14 +52,14 @@ open_subscriptions names frames = if is_ended frames then [] else subscriptions_
 abbrev pub open_transactions : List (List ℕ) → List RawFrame → List (List ℕ × List SentMessage)
 open_transactions names frames = if is_ended frames then [] else transactions_left names frames
 
--- what a session holds: the names of the topics, how far it is, and what is open
+-- what a frame is judged by: the topics' names so far, how far its session is, and what is open
 pub record Held : Type 0 where
   pub names : List (List ℕ)
   pub phase : Phase
   pub subscriptions : List (List ℕ × Topic)
   pub transactions : List (List ℕ × List SentMessage)
 
--- what a session holds after these accepted frames
+-- what the next frame is judged by after these accepted frames
 abbrev pub held_after : List (List ℕ) → List RawFrame → Held
 held_after names frames = record {
   names = names;
@@ -66,10 +68,33 @@ held_after names frames = record {
   transactions = open_transactions names frames;
 }
 
--- The session holds just what is open after these accepted frames, and is connected or closed as they say.
-abbrev pub StandsFor : Held → List RawFrame → Type 0
-StandsFor s frames = s ≡ held_after s.names frames
+-- what a session holds: how far it is, and what is open; the names aren't its own
+pub record SessionState : Type 0 where
+  pub phase : Phase
+  pub subscriptions : List (List ℕ × Topic)
+  pub transactions : List (List ℕ × List SentMessage)
+
+-- what of it the session holds: all but the names
+abbrev pub state_of : Held → SessionState
+state_of s = record { phase = s.phase; subscriptions = s.subscriptions; transactions = s.transactions }
+
+-- where it is a SEND or a SUBSCRIBE, its destination is one of these names
+abbrev pub IsKnownTo : List (List ℕ) → RawFrame → Type 0
+IsKnownTo names f = has_destination f.command ≡ true → is_known (field (codes "destination") f) names ≡ true
+
+-- The session holds just what is open after these accepted frames, their topics numbered by these names, and
+-- is connected or closed as they say; each of their destinations is one of the names. So a session after a
+-- CONNECT and a SUBSCRIBE to B stands for them by A and B, and by A, B and C, and not by A alone.
+pub record StandsFor (s : SessionState) (names : List (List ℕ)) (frames : List RawFrame) : Type 0 where
+  pub holds : s ≡ state_of (held_after names frames)
+  pub known : (f : RawFrame) → In f frames → IsKnownTo names f
+
+-- What a session stands for it still stands for once other connections have made topics.
+abbrev pub LaterNamesStand : Type 0
+LaterNamesStand =
+    (s : SessionState) (names more : List (List ℕ)) (frames : List RawFrame) → StandsFor s names frames
+    → StandsFor s (names ++ more) frames
 
 -- what a session holds after it was closed: nothing is open
-abbrev pub after_close : Held → Held
-after_close s = record { names = s.names; phase = Closed; subscriptions = []; transactions = [] }
+abbrev pub after_close : SessionState → SessionState
+after_close s = record s { phase = Closed; subscriptions = []; transactions = [] }

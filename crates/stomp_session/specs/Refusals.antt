@@ -1,6 +1,6 @@
 -- What a session refuses, and in which order (STOMP 1.2, "Client Frames"; the limits and the order are this
 -- server's own).
-use Rattle.std.specs.Prelude.{ℕ, Bool, true, false, not, nat_lt, List, [], ◌∷◌, codes, length, Option}
+use Rattle.std.specs.Prelude.{ℕ, Bool, true, false, not, ◌&&◌, nat_lt, List, [], ◌∷◌, codes, length, Option}
 use Rattle.std.specs.List.{list_any}
 use Rattle.std.specs.Map.{lookup}
 use Rattle.std.specs.Option.{option_map_or, unwrap_or}
@@ -14,9 +14,9 @@ use Rattle.mcast_txn.specs.Draft.{max_sends}
 use Rattle.stomp_session.specs.declared.phase.Phase.{Phase}
 use Rattle.stomp_session.specs.declared.phase.Phase.TheVariants as phases
 use Rattle.stomp_session.specs.declared.fault.SessionFault.{SessionFault}
-use Rattle.stomp_session.specs.declared.fault.SessionFault.TheVariants.{NotConnected, AlreadyConnected, NoVersion, SubIdInUse, NoSuchSub, TxnInUse, NoSuchTxn, UnknownDestination, AckMode, TooManySubs, TooManyTxns, TooManySends, Closed}
+use Rattle.stomp_session.specs.declared.fault.SessionFault.TheVariants.{NotConnected, AlreadyConnected, NoVersion, SubIdInUse, NoSuchSub, TxnInUse, NoSuchTxn, AckMode, TooManySubs, TooManyTxns, TooManySends, Closed, TooManyTopics, BadDestination}
 use Rattle.mcast_txn.specs.Checks.{first_refusal}
-use Rattle.stomp_session.specs.Names.{is_known}
+use Rattle.stomp_session.specs.Names.{is_known, is_name, max_topics}
 use Rattle.stomp_session.specs.Frames.{field, id_of, transaction_of}
 use Rattle.stomp_session.specs.Open.{Held}
 use Rattle.stomp_session.specs.Versions.{has_version}
@@ -61,8 +61,16 @@ has_other_ack f =
     option_map_or (λ ack. not (bytes_eq ack (codes "auto"))) (first_of (codes "ack") f.headers) false
 
 -- a destination that is no topic's name
-abbrev pub has_unknown_destination : Held → RawFrame → Bool
-has_unknown_destination s f = not (is_known (field (codes "destination") f) s.names)
+abbrev pub has_new_destination : Held → RawFrame → Bool
+has_new_destination s f = not (is_known (field (codes "destination") f) s.names)
+
+-- one that no topic is made for; so `A B`, where that is no topic's name
+abbrev pub has_bad_destination : Held → RawFrame → Bool
+has_bad_destination s f = has_new_destination s f && not (is_name (field (codes "destination") f))
+
+-- one that would be a topic too many
+abbrev pub has_one_topic_too_many : Held → RawFrame → Bool
+has_one_topic_too_many s f = has_new_destination s f && not (nat_lt (length s.names) max_topics)
 
 -- a SEND in a transaction that isn't open
 abbrev pub is_in_no_transaction : Held → RawFrame → Bool
@@ -79,7 +87,8 @@ is_in_full_transaction s f =
 abbrev pub refusals_by : Command → Held → RawFrame → List Condition
 refusals_by commands.Subscribe s f =
     (has_other_ack f, AckMode)
-    ∷ (has_unknown_destination s f, UnknownDestination)
+    ∷ (has_bad_destination s f, BadDestination)
+    ∷ (has_one_topic_too_many s f, TooManyTopics)
     ∷ (is_open (id_of f) s.subscriptions, SubIdInUse)
     ∷ (is_full s.subscriptions, TooManySubs)
     ∷ []
@@ -89,7 +98,8 @@ refusals_by commands.Begin s f =
     ∷ (is_full s.transactions, TooManyTxns)
     ∷ []
 refusals_by commands.Send s f =
-    (has_unknown_destination s f, UnknownDestination)
+    (has_bad_destination s f, BadDestination)
+    ∷ (has_one_topic_too_many s f, TooManyTopics)
     ∷ (is_in_no_transaction s f, NoSuchTxn)
     ∷ (is_in_full_transaction s f, TooManySends)
     ∷ []

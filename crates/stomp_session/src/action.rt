@@ -6,8 +6,9 @@ use stomp_frame::Octets;
 /// What a connection has to do for an accepted frame.
 #[derive(Drop)]
 pub enum Action {
-    /// Write CONNECTED (STOMP 1.2, "CONNECTED Frame").
-    Connected,
+    /// Write CONNECTED (STOMP 1.2, "CONNECTED Frame"), for the client of this `client-id`, if the frame has one (our
+    /// own header, not the standard's).
+    Connected(Option<Octets>),
     /// Nothing but the receipt.
     Nothing,
     /// Open a subscription of this id at this topic (STOMP 1.2, "SUBSCRIBE").

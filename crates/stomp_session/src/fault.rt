@@ -31,9 +31,6 @@ pub enum SessionFault {
     /// 66: no transaction of this name is open.
     #[error("66 NoSuchTxn: begin the transaction first")]
     NoSuchTxn,
-    /// 67: the destination is no topic.
-    #[error("67 UnknownDestination: name a topic of this server as destination")]
-    UnknownDestination,
     /// 68: an ack other than auto.
     #[error("68 AckMode: subscribe with ack:auto, or without ack")]
     AckMode,
@@ -53,10 +50,16 @@ pub enum SessionFault {
     /// 73: the session is closed.
     #[error("73 Closed: the session has ended; connect again")]
     Closed,
+    /// 75: the destination is no topic, and there are 1,024 topics.
+    #[error("75 TooManyTopics: at most 1,024 topics are made; name one that is there")]
+    TooManyTopics,
+    /// 76: the destination is no topic, and can't be the name of one.
+    #[error("76 BadDestination: name a topic with octets from 33 to 126 alone, at least one")]
+    BadDestination,
 }
 
 impl SessionFault {
-    /// Its number, 60 to 73.
+    /// Its number: 60 to 66, 68 to 73, 75 or 76.
     pub fn number(self) -> u32
         ensures { result ≡ number_of self }
     {
@@ -68,13 +71,14 @@ impl SessionFault {
             SessionFault::NoSuchSub => 64,
             SessionFault::TxnInUse => 65,
             SessionFault::NoSuchTxn => 66,
-            SessionFault::UnknownDestination => 67,
             SessionFault::AckMode => 68,
             SessionFault::TooManySubs => 69,
             SessionFault::TooManyTxns => 70,
             SessionFault::TooManySends => 71,
             SessionFault::NoMemory => 72,
             SessionFault::Closed => 73,
+            SessionFault::TooManyTopics => 75,
+            SessionFault::BadDestination => 76,
         }
     }
 
@@ -90,13 +94,14 @@ impl SessionFault {
             SessionFault::NoSuchSub => b"64 NoSuchSub".as_slice(),
             SessionFault::TxnInUse => b"65 TxnInUse".as_slice(),
             SessionFault::NoSuchTxn => b"66 NoSuchTxn".as_slice(),
-            SessionFault::UnknownDestination => b"67 UnknownDestination".as_slice(),
             SessionFault::AckMode => b"68 AckMode".as_slice(),
             SessionFault::TooManySubs => b"69 TooManySubs".as_slice(),
             SessionFault::TooManyTxns => b"70 TooManyTxns".as_slice(),
             SessionFault::TooManySends => b"71 TooManySends".as_slice(),
             SessionFault::NoMemory => b"72 NoMemory".as_slice(),
             SessionFault::Closed => b"73 Closed".as_slice(),
+            SessionFault::TooManyTopics => b"75 TooManyTopics".as_slice(),
+            SessionFault::BadDestination => b"76 BadDestination".as_slice(),
         }
     }
 }

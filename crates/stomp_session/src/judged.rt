@@ -5,13 +5,12 @@ ghost use Rattle.stomp_frame.specs.Headers.{IsText, first_of};
 ghost use Rattle.stomp_frame.specs.Receipts.{asked_receipt, receipt_of};
 ghost use Rattle.stomp_session.specs.Answers.{AreTexts};
 ghost use Rattle.stomp_session.specs.Inner.Effects.{HasItsId, action_of};
-ghost use Rattle.stomp_session.specs.Frames.{id_of};
 
 use crate::action::{Action, Step};
 use mcast_txn::{Topic, Txn};
 use stomp_frame::{Command, Headers, Octets, RawFrame};
 
-/// What an accepted frame asks of the connection, while its id and its receipt are still in the frame.
+/// What an accepted frame asks of the connection, while its id, its client-id and its receipt are still in the frame.
 #[derive(Drop)]
 pub(crate) enum Judged {
     Connected,
@@ -32,6 +31,15 @@ fn take_id(headers: &mut Headers) -> Octets
     headers.take(b"id").unwrap()
 }
 
+/// The client-id of a frame, if it has one, moved out of its headers.
+fn take_client(headers: &mut Headers) -> Option<Octets>
+    ensures value { result ≡ first_of (codes "client-id") headers.old }
+    ensures text { IfSome result IsText }
+    ensures receipt { first_of (codes "receipt") headers.new ≡ first_of (codes "receipt") headers.old }
+{
+    headers.take(b"client-id")
+}
+
 /// The receipt that a frame of this command asks for, moved out of its headers.
 fn take_receipt(command: Command, headers: &mut Headers) -> Option<Octets>
     ensures value { result ≡ asked_receipt command headers.old }
@@ -44,16 +52,16 @@ fn take_receipt(command: Command, headers: &mut Headers) -> Option<Octets>
 }
 
 impl Judged {
-    /// The step of the frame, whose id and receipt are moved out of it.
+    /// The step of the frame, whose id or client-id and receipt are moved out of it.
     pub(crate) fn into_step(self, frame: RawFrame) -> Step
         requires { HasItsId self frame }
-        ensures action { result.action ≡ action_of self (id_of frame) }
+        ensures action { result.action ≡ action_of self frame }
         ensures receipt { result.receipt ≡ receipt_of frame }
         ensures texts { AreTexts result }
     {
         let mut headers = frame.headers;
         let action = match self {
-            Judged::Connected => Action::Connected,
+            Judged::Connected => Action::Connected(take_client(&mut headers)),
             Judged::Nothing => Action::Nothing,
             Judged::Subscribe(topic) => Action::Subscribe(take_id(&mut headers), topic),
             Judged::Unsubscribe => Action::Unsubscribe(take_id(&mut headers)),

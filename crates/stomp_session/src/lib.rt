@@ -2,8 +2,10 @@
 #![tactic(auto)]
 
 mod action;
+mod destination;
 mod fault;
 mod judged;
+pub mod law;
 mod names;
 mod opened;
 mod phase;
@@ -14,7 +16,7 @@ mod versions;
 
 pub use action::{Action, Step};
 pub use fault::SessionFault;
-pub use names::Names;
+pub use names::{MAX_TOPICS, Names, is_name};
 pub use phase::Phase;
 pub use session::Session;
 

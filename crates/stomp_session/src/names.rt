@@ -1,14 +1,43 @@
 //! The names of the topics.
 
-ghost use Rattle.std.specs.Prelude.{◌≡◌, ◌↔◌, ◌<◌, ◌^◌, [], IsTrue, length, is_some, slice_get, IfSome, OnOk, OnErr};
+ghost use Rattle.std.specs.Prelude.{◌≡◌, ◌↔◌, ◌-◌, ◌<◌, ◌^◌, [], true, not, IsTrue, length, take, is_some, slice_get, Some, None, IfSome, IfOk, IfErr, OnOk, OnErr};
+ghost use Rattle.std.specs.List.{list_all};
 ghost use Rattle.std.specs.Option.{option_map};
-ghost use Rattle.stomp_session.specs.Names.{is_known, index_of, with_name};
+ghost use Rattle.stomp_session.specs.Names.{index_of, is_graphic, is_known, is_name, max_topics, with_name};
+ghost use Rattle.stomp_session.specs.Inner.Effects.{destination_fault};
 
+use crate::destination::Destination;
+use crate::fault::SessionFault;
 use indexmap::IndexSet;
 use mcast_txn::Topic;
 use std::alloc::Global;
 use std::marker::Model;
 use stomp_frame::NoMemory;
+
+/// The most topics that there are (our choice, not the standard's).
+pub const MAX_TOPICS: usize = 1024;
+
+/// Whether the octets may be the name of a topic that a frame makes: one or more, from 33 to 126 (our choice, not the
+/// standard's).
+pub fn is_name(text: &[u8]) -> bool
+    ensures { result ≡ is_name text.now }
+{
+    !text.is_empty() && are_graphic(text)
+}
+
+/// Whether each octet is from 33 to 126.
+fn are_graphic(text: &[u8]) -> bool
+    ensures { result ≡ list_all is_graphic text.now }
+{
+    text.iter().all(|b| is_graphic(*b))
+}
+
+/// Whether an octet is from 33 to 126.
+fn is_graphic(b: u8) -> bool
+    ensures { result ≡ is_graphic b }
+{
+    b >= 33 && b <= 126
+}
 
 /// The names of the topics, each once: a topic's number is the index of its name, from 0. In contracts it is the list
 /// of the names.
@@ -64,6 +93,43 @@ impl Names {
         let name = Vec::from_slice(self.alloc, name)?;
         self.names.insert(name)?;
         Ok(())
+    }
+
+    /// Takes the last name away, which takes no memory. There must be one.
+    pub fn take_back(&mut self)
+        requires { 0 < length self.old }
+        ensures { self.new ≡ take (length self.old - 1) self.old }
+    {
+        let last = self.len() - 1;
+        self.names.truncate(last);
+    }
+
+    /// What a destination names: 76 where no topic has the name and none is made for it, 75 where none has it and there
+    /// are 1,024. It changes nothing, and takes no memory.
+    pub(crate) fn judge(&self, name: &[u8]) -> Result<Destination, SessionFault>
+        ensures topic { IfOk result (λ d. d.topic.0 ≡ index_of name.now self.now) }
+        ensures is_new { IfOk result (λ d. d.is_new ≡ not (is_known name.now self.now)) }
+        ensures few { IfOk result (λ d. d.is_new ≡ true → length self.now < max_topics) }
+        ensures ok { OnOk result (destination_fault name.now self.now ≡ None) }
+        ensures err { IfErr result (λ fault. destination_fault name.now self.now ≡ Some fault) }
+    {
+        if let Some(topic) = self.find(name) {
+            return Ok(Destination {
+                topic,
+                is_new: false,
+            });
+        }
+        if !is_name(name) {
+            return Err(SessionFault::BadDestination);
+        }
+        let count = self.len();
+        if count >= MAX_TOPICS {
+            return Err(SessionFault::TooManyTopics);
+        }
+        Ok(Destination {
+            topic: Topic(count as u32),
+            is_new: true,
+        })
     }
 
     /// The topic of this name, or `None` where no topic has it. It is found without a walk.

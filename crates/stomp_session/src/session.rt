@@ -1,6 +1,6 @@
 //! A connection's session.
 
-ghost use Rattle.std.specs.Prelude.{◌≡◌, ◌∷◌, [], ◌++◌, codes, List, Some, None, IfSome, IfOk, IfErr, OnOk, OnErr};
+ghost use Rattle.std.specs.Prelude.{◌≡◌, ◌∷◌, [], ◌++◌, codes, ℕ, List, Some, None, IfSome, IfOk, IfErr, OnOk, OnErr};
 ghost use Rattle.stomp_frame.specs.declared.command.Command.TheVariants as commands;
 ghost use Rattle.stomp_frame.specs.declared.raw_frame.RawFrame.{RawFrame as Frame};
 ghost use Rattle.stomp_frame.specs.ClientFrames.{raw_of};
@@ -8,13 +8,16 @@ ghost use Rattle.stomp_frame.specs.Headers.{IsText, first_of};
 ghost use Rattle.stomp_session.specs.declared.action.Action.TheVariants as actions;
 ghost use Rattle.stomp_session.specs.declared.phase.Phase.TheVariants as phases;
 ghost use Rattle.stomp_session.specs.declared.fault.SessionFault.TheVariants as faults;
+ghost use Rattle.stomp_session.specs.Names.{with_name};
+ghost use Rattle.stomp_session.specs.Frames.{field, with_destination};
 ghost use Rattle.stomp_session.specs.Open.{after_close, held_after, StandsFor};
 ghost use Rattle.mcast_txn.specs.Checks.{first_refusal};
 ghost use Rattle.stomp_session.specs.Refusals.{is_closed, is_new, has_other_ack};
 ghost use Rattle.stomp_session.specs.Answers.{Accepts, AreTexts, Refuses};
-ghost use Rattle.stomp_session.specs.Inner.Effects.{AcceptsAs, Handles, IsRouteOf, RefusesAs, refusal_by};
+ghost use Rattle.stomp_session.specs.Inner.Effects.{AcceptsAs, Handles, IsRouteOf, RefusesAs, held_with, refusal_by};
 
 use crate::action::{Action, Step};
+use crate::destination::Destination;
 use crate::fault::SessionFault;
 use crate::judged::Judged;
 use crate::names::Names;
@@ -25,16 +28,15 @@ use crate::versions::has_version;
 use mcast_txn::{Draft, Topic, Txn};
 use std::alloc::Global;
 use std::marker::Model;
-use std::sync::Arc;
 use stomp_frame::{
     AbortFrame, BeginFrame, ClientFrame, CommitFrame, ConnectFrame, DisconnectFrame, Headers,
     NoMemory, Octets, RawFrame, SendFrame, SubscribeFrame, UnsubscribeFrame,
 };
 
-/// The session of one connection: how far it is, and what its frames have opened. In contracts it is what it holds.
+/// The session of one connection: how far it is, and what its frames have opened. In contracts it is what it holds. The
+/// topics' names aren't its own: each step is lent them.
 pub struct Session {
     alloc: Global,
-    names: Arc<Names>,
     phase: Phase,
     subscriptions: Opened<Topic>,
     transactions: Opened<Draft>,
@@ -45,25 +47,22 @@ impl Drop for Session {
     fn drop(self) {
         let Session {
             alloc: _,
-            names,
             phase: _,
             subscriptions,
             transactions,
         } = self;
-        drop(names);
         drop(subscriptions);
         drop(transactions);
     }
 }
 
 impl Model for Session {
-    ghost use Rattle.stomp_session.specs.Open.{Held};
+    ghost use Rattle.stomp_session.specs.Open.{SessionState};
     ghost use Rattle.stomp_session.specs.Inner.Sound.{IsSoundSession};
 
-    ghost Value = { Held };
+    ghost Value = { SessionState };
 
     ghost view = { λ s. record {
-      names = s.names.value;
       phase = s.phase;
       subscriptions = s.subscriptions;
       transactions = s.transactions;
@@ -112,13 +111,11 @@ fn single(
 
 impl Session {
     /// A session before its first frame. It takes no memory.
-    pub fn new(alloc: Global, names: Arc<Names>) -> Session
-        ensures names { result.names ≡ names.value }
-        ensures start { StandsFor result [] }
+    pub fn new(alloc: Global) -> Session
+        ensures { (names : List (List ℕ)) → StandsFor result names [] }
     {
         Session {
             alloc,
-            names,
             phase: Phase::New,
             subscriptions: Opened::new(alloc),
             transactions: Opened::new(alloc),
@@ -150,7 +147,8 @@ impl Session {
 
     /// Judges a CONNECT or a STOMP, and connects.
     fn connect(&mut self, frame: &ConnectFrame) -> Result<Judged, SessionFault>
-        ensures { Handles commands.Connect self.old frame.now.raw result self.new }
+        ensures { (names : List (List ℕ))
+            → Handles commands.Connect (held_with names self.old) frame.now.raw result self.new }
     {
         match self.phase {
             Phase::New => {}
@@ -164,17 +162,22 @@ impl Session {
         Ok(Judged::Connected)
     }
 
-    /// Judges a SUBSCRIBE, and opens its subscription.
-    fn subscribe(&mut self, frame: &SubscribeFrame) -> Result<Judged, SessionFault>
-        ensures { Handles commands.Subscribe self.old frame.now.raw result self.new }
+    /// Judges a SUBSCRIBE, and opens its subscription; where its topic is new, its name is added last.
+    fn subscribe(
+        &mut self,
+        frame: &SubscribeFrame,
+        names: &mut Names,
+    ) -> Result<Judged, SessionFault>
+        ensures handles { Handles commands.Subscribe (held_with names.old self.old) frame.now.raw result self.new }
+        ensures named { OnOk result
+            (names.new ≡ with_name (field (codes "destination") frame.now.raw) names.old) }
+        ensures unnamed { OnErr result (names.new ≡ names.old) }
     {
         self.connected()?;
         if has_other_ack(&frame.raw) {
             return Err(SessionFault::AckMode);
         }
-        let Some(topic) = self.names.find(frame.destination()) else {
-            return Err(SessionFault::UnknownDestination);
-        };
+        let Destination { topic, is_new } = names.judge(frame.destination())?;
         let id = frame.id();
         if self.subscriptions.is_open(id) {
             return Err(SessionFault::SubIdInUse);
@@ -183,12 +186,16 @@ impl Session {
             return Err(SessionFault::TooManySubs);
         }
         self.subscriptions.open(id, topic)?;
+        if is_new {
+            names.add(frame.destination())?;
+        }
         Ok(Judged::Subscribe(topic))
     }
 
     /// Judges an UNSUBSCRIBE, and ends its subscription.
     fn unsubscribe(&mut self, frame: &UnsubscribeFrame) -> Result<Judged, SessionFault>
-        ensures { Handles commands.Unsubscribe self.old frame.now.raw result self.new }
+        ensures { (names : List (List ℕ))
+            → Handles commands.Unsubscribe (held_with names self.old) frame.now.raw result self.new }
     {
         self.connected()?;
         if self.subscriptions.take(frame.id()).is_none() {
@@ -199,7 +206,8 @@ impl Session {
 
     /// Judges a DISCONNECT, and closes.
     fn disconnect(&mut self, _frame: &DisconnectFrame) -> Result<Judged, SessionFault>
-        ensures { Handles commands.Disconnect self.old _frame.now.raw result self.new }
+        ensures { (names : List (List ℕ))
+            → Handles commands.Disconnect (held_with names self.old) _frame.now.raw result self.new }
     {
         self.connected()?;
         self.end();
@@ -208,7 +216,8 @@ impl Session {
 
     /// Judges a BEGIN, and opens its transaction.
     fn begin(&mut self, frame: &BeginFrame) -> Result<Judged, SessionFault>
-        ensures { Handles commands.Begin self.old frame.now.raw result self.new }
+        ensures { (names : List (List ℕ))
+            → Handles commands.Begin (held_with names self.old) frame.now.raw result self.new }
     {
         self.connected()?;
         let name = frame.transaction();
@@ -224,7 +233,8 @@ impl Session {
 
     /// Judges a COMMIT, and takes its transaction out.
     fn commit(&mut self, frame: &CommitFrame) -> Result<Judged, SessionFault>
-        ensures { Handles commands.Commit self.old frame.now.raw result self.new }
+        ensures { (names : List (List ℕ))
+            → Handles commands.Commit (held_with names self.old) frame.now.raw result self.new }
     {
         self.connected()?;
         let Some(draft) = self.transactions.take(frame.transaction()) else {
@@ -239,7 +249,8 @@ impl Session {
 
     /// Judges an ABORT, and drops its transaction.
     fn abort(&mut self, frame: &AbortFrame) -> Result<Judged, SessionFault>
-        ensures { Handles commands.Abort self.old frame.now.raw result self.new }
+        ensures { (names : List (List ℕ))
+            → Handles commands.Abort (held_with names self.old) frame.now.raw result self.new }
     {
         self.connected()?;
         if self.transactions.take(frame.transaction()).is_none() {
@@ -249,54 +260,75 @@ impl Session {
     }
 
     /// Judges a SEND: where it goes, and the receipt that it asks for.
-    fn accepts_send(&self, frame: &SendFrame) -> Result<(Route, Option<Octets>), SessionFault>
-        ensures accepted { OnOk result (refusal_by commands.Send self.now frame.now.raw ≡ None) }
-        ensures route { IfOk result (λ sent. IsRouteOf self.now frame.now.raw sent.0) }
+    fn accepts_send(
+        &self,
+        frame: &SendFrame,
+        names: &Names,
+    ) -> Result<(Route, Option<Octets>), SessionFault>
+        ensures accepted { OnOk result
+            (refusal_by commands.Send (held_with names.now self.now) frame.now.raw ≡ None) }
+        ensures route { IfOk result (λ sent. IsRouteOf (held_with names.now self.now) frame.now.raw sent.0) }
         ensures receipt { IfOk result (λ sent. sent.1 ≡ first_of (codes "receipt") frame.now.raw.headers) }
         ensures text { IfOk result (λ sent. IfSome sent.1 IsText) }
-        ensures refused { IfErr result (RefusesAs commands.Send self.now frame.now.raw) }
+        ensures refused { IfErr result (RefusesAs commands.Send (held_with names.now self.now) frame.now.raw) }
     {
         self.connected()?;
-        let topic = self
-            .names
-            .find(frame.destination())
-            .ok_or(SessionFault::UnknownDestination)?;
+        let Destination { topic, is_new } = names.judge(frame.destination())?;
         let transaction = match frame.raw.headers.first(b"transaction") {
             Some(name) => Some(self.transactions.index_for_send(name)?),
             None => None,
         };
         let receipt = receipt(self.alloc, &frame.raw.headers)?;
-        Ok((Route { topic, transaction }, receipt))
+        let route = Route {
+            topic,
+            is_new,
+            transaction,
+        };
+        Ok((route, receipt))
     }
 
-    /// Judges a SEND, and moves its content to where it goes; a refused one is returned as it came.
-    fn send(&mut self, frame: SendFrame) -> Result<Step, (SendFrame, SessionFault)>
+    /// Judges a SEND, and moves its content to where it goes; where its topic is new, its name is added first. A
+    /// refused one is returned as it came, and the names are what they were.
+    #[tactic(auto, using(crate::proofs::Later::taken_back))]
+    fn send(
+        &mut self,
+        frame: SendFrame,
+        names: &mut Names,
+    ) -> Result<Step, (SendFrame, SessionFault)>
         ensures accepted { IfOk result
-            (λ step. AcceptsAs commands.Send self.old frame.raw step self.new) }
+            (λ step. AcceptsAs commands.Send (held_with names.old self.old) frame.raw step self.new) }
         ensures texts { IfOk result AreTexts }
-        ensures refused { IfErr result (λ e. RefusesAs commands.Send self.old frame.raw e.1) }
+        ensures refused { IfErr result
+            (λ e. RefusesAs commands.Send (held_with names.old self.old) frame.raw e.1) }
         ensures back { IfErr result (λ e. e.0 ≡ frame) }
-        ensures names { self.new.names ≡ self.old.names }
+        ensures named { OnOk result (names.new ≡ with_name (field (codes "destination") frame.raw) names.old) }
+        ensures unnamed { OnErr result (names.new ≡ names.old) }
     {
-        let (Route { topic, transaction }, receipt) = match self.accepts_send(&frame) {
+        let (route, receipt) = match self.accepts_send(&frame, names) {
             Ok(accepted) => accepted,
             Err(fault) => return Err((frame, fault)),
         };
+        if route.is_new && names.add(frame.destination()).is_err() {
+            return Err((frame, SessionFault::NoMemory));
+        }
         let RawFrame {
             command,
             headers,
             body,
         } = frame.raw;
-        let sent = match transaction {
+        let sent = match route.transaction {
             Some(index) => self
                 .transactions
-                .add(index, topic, headers, body)
+                .add(index, route.topic, headers, body)
                 .map(|()| Action::Nothing),
-            None => single(self.alloc, topic, headers, body),
+            None => single(self.alloc, route.topic, headers, body),
         };
         match sent {
             Ok(action) => Ok(Step { action, receipt }),
             Err((headers, body)) => {
+                if route.is_new {
+                    names.take_back();
+                }
                 let raw = RawFrame {
                     command,
                     headers,
@@ -322,32 +354,40 @@ impl Session {
 
     /// Takes a frame: what the connection has to do for it, or the first of its refusals with the frame as it came.
     ///
+    /// `names` are the names of all topics so far. A SUBSCRIBE or a SEND to a destination that isn't among them adds
+    /// it, as the next topic's, where it is accepted; a refused frame leaves them as they were.
+    ///
     /// 73 where the session is closed. A CONNECT is refused by 61 and 62, any other frame before it by 60.
-    /// SUBSCRIBE: 68, 67, 63, 69. UNSUBSCRIBE: 64. BEGIN: 65, 70. SEND: 67, 66, 71. COMMIT and ABORT: 66. Out of
-    /// memory, 72, comes last, and only at SUBSCRIBE, BEGIN, SEND and a COMMIT whose transaction has SENDs. Each
+    /// SUBSCRIBE: 68, 76, 75, 63, 69. UNSUBSCRIBE: 64. BEGIN: 65, 70. SEND: 76, 75, 66, 71. COMMIT and ABORT: 66. Out
+    /// of memory, 72, comes last, and only at SUBSCRIBE, BEGIN, SEND and a COMMIT whose transaction has SENDs. Each
     /// refusal but 73 closes the session, as DISCONNECT does: its open subscriptions end, and its open transactions
     /// are aborted.
-    pub fn step(&mut self, frame: ClientFrame) -> Result<Step, (ClientFrame, SessionFault)>
-        ensures accepted { IfOk result (λ step. (frames : List Frame) → StandsFor self.old frames
-            → Accepts (held_after self.old.names frames) (raw_of frame) step
-            × StandsFor self.new (frames ++ raw_of frame ∷ [])) }
+    pub fn step(
+        &mut self,
+        frame: ClientFrame,
+        names: &mut Names,
+    ) -> Result<Step, (ClientFrame, SessionFault)>
+        ensures accepted { IfOk result (λ step. (frames : List Frame) → StandsFor self.old names.old frames
+            → Accepts (held_after names.old frames) (raw_of frame) step
+            × StandsFor self.new names.new (frames ++ raw_of frame ∷ [])) }
+        ensures named { OnOk result (names.new ≡ with_destination (raw_of frame) names.old) }
         ensures texts { IfOk result AreTexts }
-        ensures refused { IfErr result (λ e. (frames : List Frame) → StandsFor self.old frames
-            → Refuses (held_after self.old.names frames) (raw_of frame) e.1) }
+        ensures refused { IfErr result (λ e. (frames : List Frame) → StandsFor self.old names.old frames
+            → Refuses (held_after names.old frames) (raw_of frame) e.1) }
         ensures back { IfErr result (λ e. e.0 ≡ frame) }
         ensures closes { OnErr result (self.new ≡ after_close self.old) }
+        ensures unnamed { OnErr result (names.new ≡ names.old) }
         ensures stays_closed { self.old.phase ≡ phases.Closed
             → (result ≡ Err (frame, faults.Closed)) × (self.new ≡ self.old) }
-        ensures names { self.new.names ≡ self.old.names }
     {
         macro_rules! answers {
-            ($($case:ident => $method:ident;)*) => {
+            ($($case:ident => $method:ident($($lent:ident)?);)*) => {
                 match frame {
-                    ClientFrame::Send(frame) => match self.send(frame) {
+                    ClientFrame::Send(frame) => match self.send(frame, names) {
                         Ok(step) => Ok(step),
                         Err((frame, fault)) => self.refused(ClientFrame::Send(frame), fault),
                     },
-                    $(ClientFrame::$case(frame) => match self.$method(&frame) {
+                    $(ClientFrame::$case(frame) => match self.$method(&frame $(, $lent)?) {
                         Ok(judged) => Ok(judged.into_step(frame.raw)),
                         Err(fault) => self.refused(ClientFrame::$case(frame), fault),
                     },)*
@@ -358,13 +398,13 @@ impl Session {
             return Err((frame, SessionFault::Closed));
         }
         answers! {
-            Connect => connect;
-            Subscribe => subscribe;
-            Unsubscribe => unsubscribe;
-            Begin => begin;
-            Commit => commit;
-            Abort => abort;
-            Disconnect => disconnect;
+            Connect => connect();
+            Subscribe => subscribe(names);
+            Unsubscribe => unsubscribe();
+            Begin => begin();
+            Commit => commit();
+            Abort => abort();
+            Disconnect => disconnect();
         }
     }
 }

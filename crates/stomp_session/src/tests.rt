@@ -2,6 +2,7 @@
 
 mod answers;
 mod client;
+mod first_uses;
 mod histories;
 mod made;
 mod memory;

@@ -30,7 +30,8 @@ use Rattle.stomp_frame.specs.Reader.{Unread}
 use Rattle.stomp_session.specs.Answers.{action_by, commit}
 use Rattle.stomp_session.specs.Open.{Held}
 use Rattle.stomp_session.specs.Refusals.{sends_in}
-use Rattle.stomp_session.specs.Frames.{topic_of, id_of, transaction_of, send_of}
+use Rattle.stomp_session.specs.Names.{is_known}
+use Rattle.stomp_session.specs.Frames.{has_destination, field, topic_of, id_of, transaction_of, send_of}
 use Rattle.delivery.specs.Topics.{TopicList}
 use Rattle.delivery.specs.declared.event.Event.{Event}
 use Rattle.delivery.specs.declared.outcome.Outcome.{Outcome}
@@ -40,14 +41,14 @@ use Rattle.delivery.specs.Theorem.Due.{due, is_due, item_at}
 use Rattle.delivery.specs.Theorem.Laws.{Run, answers_of, final_world}
 use Rattle.delivery.specs.Machine.Objections.{Objection, refusal_of}
 use Rattle.delivery.specs.Machine.Observed.{accepted_at, end_at, frontier_at}
-use Rattle.delivery.specs.Machine.World.{World, Leftover, topic_at, subscription_at, speaker, start, speaker_number}
-use Rattle.delivery.specs.Machine.Moves.{Move, Answer, world_after, answer_to, move_refusal, move_effect, move_answer, needs_open, needs_idle, undecided_at, find_leftover, oldest_live, or_out_of_memory, commit_answer, proposal_fault, propose_answer, cancel_answer, release_answer, take_answer, leave_answer, next_ticket, end_now}
-use Rattle.delivery.specs.Machine.Moves.Move.{Commits, Subscribes, Unsubscribes, Disconnects, Errs, Lost, Leaves, Proposes, Decides, Withdraws, Cancels, Learns, Releases, Turns, Takes, Opens, Connects}
+use Rattle.delivery.specs.Machine.World.{World, Leftover, topic_at, connection_at, subscription_at, speaker, start, speaker_number}
+use Rattle.delivery.specs.Machine.Moves.{Move, Answer, world_after, answer_to, move_refusal, move_effect, move_answer, needs_open, needs_idle, undecided_at, find_leftover, oldest_live, or_out_of_memory, commit_answer, proposal_fault, propose_answer, cancel_answer, release_answer, take_answer, leave_answer, next_ticket, end_now, next_txn}
+use Rattle.delivery.specs.Machine.Moves.Move.{Commits, Subscribes, Unsubscribes, Disconnects, Errs, Lost, Leaves, Proposes, Decides, Withdraws, Cancels, Learns, Releases, Turns, Takes, Connects, AddsTopic}
 use Rattle.delivery.specs.Machine.Runs.{run, answers_from, commits_of, delivered_items}
-use Rattle.delivery.specs.Core.Steps.{CoreStep, Reading, frame_in, number_by}
-use Rattle.delivery.specs.Core.Account.{Beginning, no_item, beginning_of, due_to, next_item, last_id, released_frontier, committed_by, account_of, account_of_next, account_of_step}
+use Rattle.delivery.specs.Core.Steps.{CoreStep, Reading, frame_in, has_effect, names_after, number_by}
+use Rattle.delivery.specs.Core.Account.{Beginning, no_item, beginning_of, due_to, next_item, released_frontier, committed_by, account_of, account_of_frame, account_of_next, account_of_step, last_of}
 use Rattle.delivery.specs.Core.Output.{has_closed, replies_to}
-use Rattle.delivery.specs.Core.State.{Core, core_of, moves, session_at, frame_move, is_out_of_memory, unread_at}
+use Rattle.delivery.specs.Core.State.{Core, core_of, moves, session_at, frame_move, topic_moves, is_faulted, is_out_of_memory, unread_at}
 use Rattle.delivery.specs.Core.Outcomes.{outcome_of, move_outcome, unless, frame_no_memory, frame_fault, fault_outcomes, frame_outcome, reading_outcomes, cut_of, is_any, reply_outcomes, outcomes, IsCoreRun, accepted_outcomes, outcomes_without, wants_memory}
 use Rattle.delivery.proofs.Machine.Invariant.{sender_in}
 use Rattle.delivery.proofs.Machine.SenderSteps.{leftover_found, In-append_cases}
@@ -55,12 +56,14 @@ use Rattle.delivery.proofs.Machine.InvariantIsKept.{NoneHolds, checked, false_no
 use Rattle.delivery.proofs.Theorem.AcceptedIsDue.{reached, accepted_is_due}
 use Rattle.delivery.proofs.Theorem.LogIsOfAnswers.{front}
 use Rattle.delivery.proofs.Theorem.SpansAsAnswered.{handing}
-use Rattle.delivery.proofs.Core.Claimed.{Claimed, own_number, claimed, fresh_free}
-use Rattle.delivery.proofs.Core.ByRun.{run_append, answers_append}
+use Rattle.delivery.proofs.Core.ByRun.{run_append, answers_append, longer}
 use Rattle.delivery.proofs.Core.Said.{said, commits_said, txn_count_said, delivered_said, beginning_said, has_closed_said, released_frontier_said}
 use Rattle.delivery.proofs.Core.Speaking.{Spoken, id_at, open_in, run_spoken, start_spoken}
 use Rattle.delivery.proofs.Core.Started.{begin_of, beginning_is, frontier_of}
 use Rattle.delivery.proofs.Core.Tests.{connection_there}
+use Rattle.delivery.specs.Core.Claims.{claims_of, claimed_sender, sender_of}
+use Rattle.delivery.proofs.Core.ClaimsStand.{claims_stand, claims_own}
+use Rattle.delivery.proofs.Machine.Speakers.{has_speaker, flying_speaker, cancelling_speaker}
 
 -- ---- the run of the machine that a run of the core is
 
@@ -139,7 +142,7 @@ by_answer P w e o h g d = by_case (move_refusal w e) refl
 -- the account says after these moves what the machine answered to them
 abbrev Says : List (List ℕ) → Run → List CoreStep → Event → Reading → Outcome → Type 0
 Says names r older e rd o =
-    account_of_step names older (said (answers_of r)) e rd o ++ said (answers_of r)
+    account_of_step (names_after names older) older (said (answers_of r)) e rd o ++ said (answers_of r)
     ≡ said (answers_from (moves (core_at names r older) e rd o) (final_world r) (answers_of r))
 
 -- a refused answer says nothing
@@ -193,37 +196,37 @@ released_says names r older rd t o i =
 
 -- ---- transactions
 
--- each connection speaks for the sender of its number
-abbrev pub Own : Run → Type 0
-Own r = (c : ℕ) → c < length (final_world r).connections → speaker_number (final_world r) c ≡ c
+-- whom a connection speaks for its claim says
+abbrev pub Own : World → List CoreStep → Type 0
+Own w older = (c s : ℕ) → (connection_at w c).sender ≡ Some s → s ≡ sender_of c (claims_of older)
 
 -- the id of the last transaction of a connection's sender, as the account counts it
-last_is : (r : Run) (c : ℕ) → Own r → c < length (final_world r).connections
-    → id_at (speaker_number (final_world r) c) (speaker (final_world r) c).seq ≡ last_id c (said (answers_of r))
-last_is r c whose l =
-    let w = final_world r in let h = spoken r in let own : speaker_number w c ≡ c = whose c l in
-    ap (λ n. id_at n (sender_in w.senders n).seq) own
-    ∙ ap (λ n. id_at c n) (h.speaking.seqs c ∙ sym (txn_count_said c (answers_of r)))
+last_is : (r : Run) (older : List CoreStep) (c : ℕ) → Own (final_world r) older → (connection_at (final_world r) c).sender ≡ Some (speaker_number (final_world r) c)
+    → id_at (speaker_number (final_world r) c) (speaker (final_world r) c).seq ≡ last_of c older (said (answers_of r))
+last_is r older c whose has =
+    let w = final_world r in let s = sender_of c (claims_of older) in
+    ap (λ n. id_at n (sender_in w.senders n).seq) (whose c (speaker_number w c) has)
+    ∙ ap (λ n. id_at s n) ((spoken r).speaking.seqs s ∙ sym (txn_count_said s (answers_of r)))
 
 -- so is that of its undecided one
-pub undecided_is : (r : Run) (c : ℕ) → Own r → c < length (final_world r).connections → not (is_some (speaker (final_world r) c).flight) ≡ false
-    → (undecided_at (final_world r) c).txn.id ≡ last_id c (said (answers_of r))
-undecided_is r c whose l f =
+pub undecided_is : (r : Run) (older : List CoreStep) (c : ℕ) → Own (final_world r) older → not (is_some (speaker (final_world r) c).flight) ≡ false
+    → (undecided_at (final_world r) c).txn.id ≡ last_of c older (said (answers_of r))
+undecided_is r older c whose f =
     let w = final_world r in let fl = in_flight w c f in
-    (spoken r).speaking.flying (speaker_number w c) (undecided_at w c) (fl.is ∙ ap Some (sym fl.at)) ∙ last_is r c whose l
+    (spoken r).speaking.flying (speaker_number w c) (undecided_at w c) (fl.is ∙ ap Some (sym fl.at)) ∙ last_is r older c whose (flying_speaker w c (false_not _ f))
 
 proposed_case : (names : List (List ℕ)) (r : Run) (older : List CoreStep) (rd : Reading) (c : ℕ) (t : Topic) (m : Bool) (f : Option ProposeFault) (z : Outcome)
-    → (undecided_at (final_world r) c).txn.id ≡ last_id c (said (answers_of r))
+    → (undecided_at (final_world r) c).txn.id ≡ last_of c older (said (answers_of r))
     → m ≡ not (is_out_of_memory z) → answer_to (final_world r) (Proposes c t m) ≡ propose_answer (final_world r) c t f → outcome_of (propose_answer (final_world r) c t f) ≡ Some z
     → Says names r older (Event.Propose c t) rd z
 proposed_case names r older rd c t m None z id e a d =
     let w = final_world r in let past = answers_of r in
-    ap (λ q. account_of_step names older (said past) (Event.Propose c t) rd q ++ said past) (sym (some_same _ z d))
+    ap (λ q. account_of_step (names_after names older) older (said past) (Event.Propose c t) rd q ++ said past) (sym (some_same _ z d))
     ∙ (ap (λ q. Answer.Ticket q (next_ticket w c t) ∷ said past) (sym id)
     ∙ (ap (λ b. said (b ∷ past)) (sym a) ∙ ap (λ q. said (answer_to w (Proposes c t q) ∷ past)) e))
 proposed_case names r older rd c t m (Some fault) z id e a d =
     let w = final_world r in let past = answers_of r in
-    ap (λ q. account_of_step names older (said past) (Event.Propose c t) rd q ++ said past) (sym (some_same _ z d))
+    ap (λ q. account_of_step (names_after names older) older (said past) (Event.Propose c t) rd q ++ said past) (sym (some_same _ z d))
     ∙ (ap (λ q. Answer.Failed q fault ∷ said past) (sym id)
     ∙ (ap (λ b. said (b ∷ past)) (sym a) ∙ ap (λ q. said (answer_to w (Proposes c t q) ∷ past)) e))
 
@@ -238,7 +241,7 @@ same_memory w c t false o None None d =
     subst (λ z. outcome_of (propose_answer w c t (or_out_of_memory (not (is_out_of_memory z)) None)) ≡ Some z) (some_same _ o d) refl
 same_memory w c t m o None (Some fault) d = d
 
-proposed_says : (names : List (List ℕ)) (r : Run) (older : List CoreStep) (whose : Own r) (rd : Reading) (c : ℕ) (t : Topic) (o : Outcome)
+proposed_says : (names : List (List ℕ)) (r : Run) (older : List CoreStep) (whose : Own (final_world r) older) (rd : Reading) (c : ℕ) (t : Topic) (o : Outcome)
     → In o (move_outcome (core_at names r older) (Proposes c t true) ++ move_outcome (core_at names r older) (Proposes c t false))
     → Says names r older (Event.Propose c t) rd o
 proposed_says names r older whose rd c t o i = elim (In-append_cases o _ _ i) [
@@ -254,22 +257,23 @@ proposed_says names r older whose rd c t o i = elim (In-append_cases o _ _ i) [
         (λ why x a e. unsaid _ past why (ap (λ y. answer_to w (Proposes c t (not (is_out_of_memory y)))) e ∙ a))
         (λ n a z d e.
         (let k = checked w (Proposes c t q) n in
-        proposed_case names r older rd c t q fault z (undecided_is r c whose (connection_there w c k.0) k.1.1.0) (ap (λ y. not (is_out_of_memory y)) (sym e)) a d))
+        proposed_case names r older rd c t q fault z (undecided_is r older c whose k.1.1.0) (ap (λ y. not (is_out_of_memory y)) (sym e)) a d))
         (same_memory w c t m o (move_refusal w (Proposes c t m)) _ d) refl
 
-cancelled_case : (names : List (List ℕ)) (r : Run) (older : List CoreStep) (whose : Own r) (rd : Reading) (c : ℕ) (t : Topic) (o : Option Leftover) (z : Outcome)
+cancelled_case : (names : List (List ℕ)) (r : Run) (older : List CoreStep) (whose : Own (final_world r) older) (rd : Reading) (c : ℕ) (t : Topic) (o : Option Leftover) (z : Outcome)
     → c < length (final_world r).connections → find_leftover t (speaker (final_world r) c).leftovers ≡ o
     → answer_to (final_world r) (Cancels c t) ≡ cancel_answer t o → outcome_of (cancel_answer t o) ≡ Some z → Says names r older (Event.Cancel c t) rd z
 cancelled_case names r older whose rd c t None z l e a d =
     subst (Says names r older (Event.Cancel c t) rd) (some_same _ z d) (ap (λ b. said (b ∷ answers_of r)) (sym a))
 cancelled_case names r older whose rd c t (Some k) z l e a d =
     let w = final_world r in let past = answers_of r in let s = speaker_number w c in
-    let id : k.id ≡ last_id c (said past) =
-    ((spoken r).speaking.left s k (leftover_found t (sender_in w.senders s).leftovers k e).stands).0 ∙ last_is r c whose l in
+    let found = leftover_found t (sender_in w.senders s).leftovers k e in
+    let id : k.id ≡ last_of c older (said past) =
+    ((spoken r).speaking.left s k found.stands).0 ∙ last_is r older c whose (cancelling_speaker w c k found.stands) in
     subst (Says names r older (Event.Cancel c t) rd) (some_same _ z d)
     (ap (λ q. Answer.Cancelled q t ∷ said past) (sym id) ∙ ap (λ b. said (b ∷ past)) (sym a))
 
-cancelled_says : (names : List (List ℕ)) (r : Run) (older : List CoreStep) (whose : Own r) (rd : Reading) (c : ℕ) (t : Topic) (o : Outcome)
+cancelled_says : (names : List (List ℕ)) (r : Run) (older : List CoreStep) (whose : Own (final_world r) older) (rd : Reading) (c : ℕ) (t : Topic) (o : Outcome)
     → In o (move_outcome (core_at names r older) (Cancels c t)) → Says names r older (Event.Cancel c t) rd o
 cancelled_says names r older whose rd c t o i =
     let w = final_world r in
@@ -322,7 +326,7 @@ left_says names r older rd c o i =
     (λ why x a. (unsaid _ (answers_of r) why a, unsaid _ (answers_of r) why a))
     (λ n a z d. left_case names r older rd c (oldest_live c 0 w.subscriptions) z a d) h.is) h.cut
 
-withdrawn_says : (names : List (List ℕ)) (r : Run) (older : List CoreStep) (whose : Own r) (rd : Reading) (c : ℕ) (o : Outcome)
+withdrawn_says : (names : List (List ℕ)) (r : Run) (older : List CoreStep) (whose : Own (final_world r) older) (rd : Reading) (c : ℕ) (o : Outcome)
     → In o (reply_outcomes (core_at names r older) c (Event.Withdraw c) (move_outcome (core_at names r older) (Withdraws c))) → Says names r older (Event.Withdraw c) rd o
 withdrawn_says names r older whose rd c o i =
     let w = final_world r in let past = answers_of r in let P = Says names r older (Event.Withdraw c) rd in
@@ -332,7 +336,7 @@ withdrawn_says names r older whose rd c o i =
     (λ why x a. (unsaid _ past why a, unsaid _ past why a))
     (λ n a z d.
     (let k = checked w (Withdraws c) n in
-    let e = ap (λ q. Answer.Withdrawn q c ∷ said past) (sym (undecided_is r c whose (connection_there w c k.0) k.1.1.0)) ∙ ap (λ b. said (b ∷ past)) (sym a) in
+    let e = ap (λ q. Answer.Withdrawn q c ∷ said past) (sym (undecided_is r older c whose k.1.1.0)) ∙ ap (λ b. said (b ∷ past)) (sym a) in
     subst (λ q. P q × P (cut_of q)) (some_same _ z d) (e, e))) h.is) h.cut
 
 -- ---- a decision
@@ -370,7 +374,7 @@ lost_after r c n h =
     ∙ answer_is v (Lost c)
     (ap (λ (z : Option Objection). option_or z None) (unpassed (needs_open v c) (k.0, (k.1.0, (ap not o, tt)))))
 
-decided_says : (names : List (List ℕ)) (r : Run) (older : List CoreStep) (whose : Own r) (rd : Reading) (c : ℕ) (o : Outcome) → account_of names older ≡ said (answers_of r)
+decided_says : (names : List (List ℕ)) (r : Run) (older : List CoreStep) (whose : Own (final_world r) older) (rd : Reading) (c : ℕ) (o : Outcome) → account_of names older ≡ said (answers_of r)
     → In o (reply_outcomes (core_at names r older) c (Event.Decide c) (move_outcome (core_at names r older) (Decides c))) → Says names r older (Event.Decide c) rd o
 decided_says names r older whose rd c o acc i =
     let h = replied (core_at names r older) c (Event.Decide c) _ o i in by_cut h.base h.is h.cut
@@ -384,8 +388,8 @@ decided_says names r older whose rd c o acc i =
     Due : Outcome → Type 0
     Due z = is_any (replies_to c older (account_of names older) (Event.Decide c) Reading.Nothing z) ≡ true
 
-    id_is : move_refusal w (Decides c) ≡ None → (undecided_at w c).txn.id ≡ last_id c (said (answers_of r))
-    id_is n = let k = checked w (Decides c) n in undecided_is r c whose (connection_there w c k.0) k.1.1.0
+    id_is : move_refusal w (Decides c) ≡ None → (undecided_at w c).txn.id ≡ last_of c older (said (answers_of r))
+    id_is n = let k = checked w (Decides c) n in undecided_is r older c whose k.1.1.0
 
     uncut : move_refusal w (Decides c) ≡ None → answer_to w (Decides c) ≡ move_answer w (Decides c) → P (Outcome.Decided (greatest (undecided_at w c).given) false)
     uncut n a =
@@ -539,63 +543,138 @@ unsubscribed_id commands.Send s f id e = absurd (no_unsubscribe_sent s f (first_
 unsubscribed_id commands.Commit s f id e = absurd (no_unsubscribe_committed (sends_in (transaction_of f) s.transactions) id e)
 unsubscribed_id _ s f id e = cc
 
-flown_case : (names : List (List ℕ)) (r : Run) (older : List CoreStep) (whose : Own r) (c : ℕ) (f : RawFrame) (left : Unread) (sends : List SentMessage) (z : Outcome)
-    → c < length (final_world r).connections → action_by f.command (session_at (core_at names r older) c) f ≡ actions.Commit sends
-    → answer_to (final_world r) (Commits c sends) ≡ commit_answer (final_world r) c sends → outcome_of (commit_answer (final_world r) c sends) ≡ Some z
+-- ---- the topic that a frame makes
+
+-- the run with the topic of a frame, where it makes one
+abbrev pub for_frame : List (List ℕ) → Run → List CoreStep → RawFrame → Run
+for_frame names r older f = longer r (topic_moves (names_after names older) f)
+
+-- its world
+pub framed_world : (names : List (List ℕ)) (r : Run) (older : List CoreStep) (f : RawFrame)
+    → final_world (for_frame names r older f) ≡ run (topic_moves (names_after names older) f) (final_world r)
+framed_world names r older f = run_append r.events (topic_moves (names_after names older) f) (start r.capacity r.log_limit r.clocks)
+
+topic_silent : (b : Bool) (w : World) (past : List Answer) → said (answers_from (cond b (AddsTopic 0 ∷ []) []) w past) ≡ said past
+topic_silent true w past = refl
+topic_silent false w past = refl
+
+-- the account says nothing of a topic that is made
+framed_said : (names : List (List ℕ)) (r : Run) (older : List CoreStep) (f : RawFrame) → said (answers_of (for_frame names r older f)) ≡ said (answers_of r)
+framed_said names r older f =
+    ap said (answers_append r.events (topic_moves (names_after names older) f) (start r.capacity r.log_limit r.clocks) [])
+    ∙ topic_silent (has_destination f.command && not (is_known (field (codes "destination") f) (names_after names older))) (final_world r) (answers_of r)
+
+-- the moves of an accepted frame after the one that makes its topic
+abbrev own_moves : List (List ℕ) → Run → List CoreStep → ℕ → RawFrame → Action → List Move
+own_moves names r older c f action = option_to_list (frame_move (core_at names r older) c action)
+
+-- the account says after a frame's own move what the machine answered to it, over the run with the frame's topic
+abbrev SaysMove : List (List ℕ) → Run → List CoreStep → ℕ → RawFrame → Outcome → Type 0
+SaysMove names r older c f o =
+    let q = for_frame names r older f in
+    account_of_frame (names_after names older) c older f (said (answers_of q)) o ++ said (answers_of q)
+    ≡ said (answers_from (own_moves names r older c f (action_by f.command (session_at (core_at names r older) c) f)) (final_world q) (answers_of q))
+
+-- so the account says it of both
+says_both : (names : List (List ℕ)) (r : Run) (older : List CoreStep) (c : ℕ) (f : RawFrame) (left : Unread) (z : Outcome) → has_effect z ≡ true → is_faulted z ≡ false
+    → SaysMove names r older c f z → Says names r older (Event.Next c) (Reading.Finds f left) z
+says_both names r older c f left z effect sound h =
+    let ts = topic_moves (names_after names older) f in
+    let ms = own_moves names r older c f (action_by f.command (session_at (core_at names r older) c) f) in
+    let w = final_world r in let past = answers_of r in let s = start r.capacity r.log_limit r.clocks in
+    let moves_are : cond (is_faulted z) (Errs c ∷ []) (cond (has_effect z) (ts ++ ms) []) ≡ ts ++ ms =
+    ap (λ (b : Bool). cond b (Errs c ∷ []) (cond (has_effect z) (ts ++ ms) [])) sound ∙ ap (λ (b : Bool). cond b (ts ++ ms) []) effect in
+    ap (λ (p : List Answer). account_of_frame (names_after names older) c older f p z ++ p) (sym (framed_said names r older f))
+    ∙ (h
+    ∙ (ap (λ (v : World). said (answers_from ms v (answers_of (for_frame names r older f)))) (run_append r.events ts s)
+    ∙ (ap (λ (p : List Answer). said (answers_from ms (run ts w) p)) (answers_append r.events ts s [])
+    ∙ (ap said (sym (answers_append ts ms w past))
+    ∙ ap (λ (es : List Move). said (answers_from es w past)) (sym moves_are)))))
+
+topic_owns : (b : Bool) (w : World) (older : List CoreStep) → Own w older → Own (run (cond b (AddsTopic 0 ∷ []) []) w) older
+topic_owns true w older h = h
+topic_owns false w older h = h
+
+-- so it is once the frame's topic was made
+framed_owns : (names : List (List ℕ)) (r : Run) (older : List CoreStep) (f : RawFrame) → Own (final_world r) older → Own (final_world (for_frame names r older f)) older
+framed_owns names r older f h =
+    subst (λ w. Own w older) (sym (framed_world names r older f))
+    (topic_owns (has_destination f.command && not (is_known (field (codes "destination") f) (names_after names older))) (final_world r) older h)
+
+flown_case : (names : List (List ℕ)) (r : Run) (older : List CoreStep) (whose : Own (final_world r) older) (c : ℕ) (f : RawFrame) (left : Unread) (sends : List SentMessage) (z : Outcome)
+    → (connection_at (final_world (for_frame names r older f)) c).sender ≡ Some (speaker_number (final_world (for_frame names r older f)) c) → action_by f.command (session_at (core_at names r older) c) f ≡ actions.Commit sends
+    → answer_to (final_world (for_frame names r older f)) (Commits c sends) ≡ commit_answer (final_world (for_frame names r older f)) c sends
+    → outcome_of (commit_answer (final_world (for_frame names r older f)) c sends) ≡ Some z
     → Says names r older (Event.Next c) (Reading.Finds f left) z
 flown_case names r older whose c f left [] z l e a d =
+    let q = for_frame names r older f in
     subst (Says names r older (Event.Next c) (Reading.Finds f left)) (some_same _ z d)
-    (ap (λ b. said (b ∷ answers_of r)) (sym a)
-    ∙ ap (λ b. said (answers_from (option_to_list (frame_move (core_at names r older) c b)) (final_world r) (answers_of r))) (sym e))
+    (says_both names r older c f left Outcome.Done refl refl
+    (ap (λ b. said (b ∷ answers_of q)) (sym a)
+    ∙ ap (λ b. said (answers_from (own_moves names r older c f b) (final_world q) (answers_of q))) (sym e)))
 flown_case names r older whose c f left (first ∷ others) z l e a d =
-    let past = answers_of r in let last = last_id c (said past) in
+    let q = for_frame names r older f in
+    let past = answers_of q in let last = last_of c older (said past) in
     subst (Says names r older (Event.Next c) (Reading.Finds f left)) (some_same _ z d)
+    (says_both names r older c f left (Outcome.Flying (next_txn (final_world q) c (first ∷ others)).id) refl refl
     (ap (λ b. Answer.Begun (record { id = record last { seq = last.seq + 1 }; sends = committed_by b }) ∷ said past) e
-    ∙ (ap (λ (b : TxnId). Answer.Begun (record { id = record b { seq = b.seq + 1 }; sends = first ∷ others }) ∷ said past) (sym (last_is r c whose l))
+    ∙ (ap (λ (b : TxnId). Answer.Begun (record { id = record b { seq = b.seq + 1 }; sends = first ∷ others }) ∷ said past) (sym (last_is q older c (framed_owns names r older f whose) l))
     ∙ (ap (λ b. said (b ∷ past)) (sym a)
-    ∙ ap (λ b. said (answers_from (option_to_list (frame_move (core_at names r older) c b)) (final_world r) past)) (sym e))))
+    ∙ ap (λ b. said (answers_from (own_moves names r older c f b) (final_world q) past)) (sym e)))))
 
-accepted_says : (names : List (List ℕ)) (r : Run) (older : List CoreStep) (whose : Own r) (c : ℕ) (f : RawFrame) (left : Unread) (o : Outcome) (action : Action)
+accepted_says : (names : List (List ℕ)) (r : Run) (older : List CoreStep) (whose : Own (final_world r) older) (c : ℕ) (f : RawFrame) (left : Unread) (o : Outcome) (action : Action)
     → action_by f.command (session_at (core_at names r older) c) f ≡ action
-    → In o (option_map_or (move_outcome (core_at names r older)) (frame_move (core_at names r older) c action) (Outcome.Done ∷ []))
+    → In o (option_map_or (move_outcome (core_at names (for_frame names r older f) older)) (frame_move (core_at names r older) c action) (Outcome.Done ∷ []))
     → Says names r older (Event.Next c) (Reading.Finds f left) o
-accepted_says names r older whose c f left o actions.Connected e (inl d) =
-    subst (Says names r older (Event.Next c) (Reading.Finds f left)) d
-    (ap (λ b. said (answers_from (option_to_list (frame_move (core_at names r older) c b)) (final_world r) (answers_of r))) (sym e))
-accepted_says names r older whose c f left o actions.Connected e (inr i) = absurd i
+accepted_says names r older whose c f left o (actions.Connected client) e i =
+    let q = for_frame names r older f in let mv = Connects c (claimed_sender client (claims_of older)) in
+    let w = final_world q in let past = answers_of q in let P = Says names r older (Event.Next c) (Reading.Finds f left) in
+    by_answer P w mv o (λ why x a. refl)
+    (λ n a z d. subst P (some_same Outcome.Done z d)
+    (says_both names r older c f left Outcome.Done refl refl
+    (ap (λ b. said (b ∷ past)) (sym a)
+    ∙ ap (λ b. said (answers_from (own_moves names r older c f b) w past)) (sym e))))
+    (in_option o _ i)
 accepted_says names r older whose c f left o actions.Nothing e (inl d) =
+    let q = for_frame names r older f in
     subst (Says names r older (Event.Next c) (Reading.Finds f left)) d
-    (ap (λ b. said (answers_from (option_to_list (frame_move (core_at names r older) c b)) (final_world r) (answers_of r))) (sym e))
+    (says_both names r older c f left Outcome.Done refl refl (ap (λ b. said (answers_from (own_moves names r older c f b) (final_world q) (answers_of q))) (sym e)))
 accepted_says names r older whose c f left o actions.Nothing e (inr i) = absurd i
 accepted_says names r older whose c f left o (actions.Subscribe id t) e i =
-    let w = final_world r in let past = answers_of r in let P = Says names r older (Event.Next c) (Reading.Finds f left) in
+    let q = for_frame names r older f in
+    let w = final_world q in let past = answers_of q in let P = Says names r older (Event.Next c) (Reading.Finds f left) in
     by_answer P w (Subscribes c t) o (λ why x a. refl)
     (λ n a z d. subst P (some_same _ z d)
+    (says_both names r older c f left (Outcome.Subscribed (length w.subscriptions) (topic_at w t).frontier) refl refl
     (ap (λ u. Answer.Subscribed (length w.subscriptions) c u (topic_at w t).frontier ∷ said past)
     (subscribed_topic f.command (session_at (core_at names r older) c) f id t e)
     ∙ (ap (λ b. said (b ∷ past)) (sym a)
-    ∙ ap (λ b. said (answers_from (option_to_list (frame_move (core_at names r older) c b)) w past)) (sym e))))
+    ∙ ap (λ b. said (answers_from (own_moves names r older c f b) w past)) (sym e)))))
     (in_option o _ i)
 accepted_says names r older whose c f left o (actions.Unsubscribe id) e i =
-    let w = final_world r in let past = answers_of r in let P = Says names r older (Event.Next c) (Reading.Finds f left) in
+    let q = for_frame names r older f in
+    let w = final_world q in let past = answers_of q in let P = Says names r older (Event.Next c) (Reading.Finds f left) in
     let s = number_by c id older in
     by_answer P w (Unsubscribes c s) o (λ why x a. refl)
     (λ n a z d. subst P (some_same _ z d)
+    (says_both names r older c f left (Outcome.Unsubscribed s (end_now w s)) refl refl
     (ap (λ b. Answer.Unsubscribed (number_by c b older) (end_now w s) ∷ said past) (unsubscribed_id f.command (session_at (core_at names r older) c) f id e)
     ∙ (ap (λ b. said (b ∷ past)) (sym a)
-    ∙ ap (λ b. said (answers_from (option_to_list (frame_move (core_at names r older) c b)) w past)) (sym e))))
+    ∙ ap (λ b. said (answers_from (own_moves names r older c f b) w past)) (sym e)))))
     (in_option o _ i)
 accepted_says names r older whose c f left o (actions.Commit sends) e i =
-    let w = final_world r in let P = Says names r older (Event.Next c) (Reading.Finds f left) in
+    let w = final_world (for_frame names r older f) in let P = Says names r older (Event.Next c) (Reading.Finds f left) in
     by_answer P w (Commits c sends) o (λ why x a. refl)
-    (λ n a z d. flown_case names r older whose c f left sends z (connection_there w c (checked w (Commits c sends) n).0) e a d)
+    (λ n a z d. flown_case names r older whose c f left sends z (has_speaker w c (false_not _ (checked w (Commits c sends) n).1.1.1.0)) e a d)
     (in_option o _ i)
 accepted_says names r older whose c f left o actions.Disconnect e i =
-    let w = final_world r in let past = answers_of r in let P = Says names r older (Event.Next c) (Reading.Finds f left) in
+    let q = for_frame names r older f in
+    let w = final_world q in let past = answers_of q in let P = Says names r older (Event.Next c) (Reading.Finds f left) in
     by_answer P w (Disconnects c) o (λ why x a. refl)
     (λ n a z d. subst P (some_same _ z d)
+    (says_both names r older c f left Outcome.Leaving refl refl
     (ap (λ b. said (b ∷ past)) (sym a)
-    ∙ ap (λ b. said (answers_from (option_to_list (frame_move (core_at names r older) c b)) w past)) (sym e)))
+    ∙ ap (λ b. said (answers_from (own_moves names r older c f b) w past)) (sym e))))
     (in_option o _ i)
 
 -- ---- a Next
@@ -628,21 +707,23 @@ faulted_says names r older rd c fault o n i = elim i [
 
     errs : (cut : Bool) → P (Outcome.Faulted fault cut)
     errs cut =
-        ap (λ z. z ++ said (answers_of r)) (fault_account names older (said (answers_of r)) c (frame_in rd) fault cut)
+        ap (λ z. z ++ said (answers_of r)) (fault_account (names_after names older) older (said (answers_of r)) c (frame_in rd) fault cut)
         ∙ ap (λ b. said (b ∷ answers_of r)) (sym (answer_is (final_world r) (Errs c) (ap (λ (z : Option Objection). option_or z None) n)))
 
-found_says : (names : List (List ℕ)) (r : Run) (older : List CoreStep) (whose : Own r) (c : ℕ) (f : RawFrame) (left : Unread) (o : Outcome) (why : Option ConnectionFault)
+found_says : (names : List (List ℕ)) (r : Run) (older : List CoreStep) (whose : Own (final_world r) older) (c : ℕ) (f : RawFrame) (left : Unread) (o : Outcome) (why : Option ConnectionFault)
     → first_refusal (needs_idle (final_world r) c) ≡ None
     → In o (option_map_or fault_outcomes why (accepted_outcomes (core_at names r older) c f))
     → Says names r older (Event.Next c) (Reading.Finds f left) o
 found_says names r older whose c f left o (Some fault) n i = faulted_says names r older (Reading.Finds f left) c fault o n i
 found_says names r older whose c f left o None n i = elim (In-append_cases o (frame_outcome (core_at names r older) c f) _ i) [
-  | inl j ↦ accepted_says names r older whose c f left o (action_by f.command (session_at (core_at names r older) c) f) refl j
+  | inl j ↦ accepted_says names r older whose c f left o (action_by f.command (session_at (core_at names r older) c) f) refl
+      (subst (λ (w : World). In o (option_map_or (move_outcome (core_with names w older)) (frame_move (core_at names r older) c (action_by f.command (session_at (core_at names r older) c) f)) (Outcome.Done ∷ [])))
+      (sym (framed_world names r older f)) j)
   | inr j ↦ faulted_says names r older (Reading.Finds f left) c frame_no_memory o n
       (was_wanted (wants_memory (core_at names r older) c f) frame_no_memory o j)
 ]
 
-read_says : (names : List (List ℕ)) (r : Run) (older : List CoreStep) (whose : Own r) (rd : Reading) (c : ℕ) (o : Outcome) → first_refusal (needs_idle (final_world r) c) ≡ None
+read_says : (names : List (List ℕ)) (r : Run) (older : List CoreStep) (whose : Own (final_world r) older) (rd : Reading) (c : ℕ) (o : Outcome) → first_refusal (needs_idle (final_world r) c) ≡ None
     → In o (reading_outcomes (core_at names r older) c rd) → Says names r older (Event.Next c) rd o
 read_says names r older whose Reading.Nothing c o n i =
     faulted_says names r older Reading.Nothing c ConnectionFault.ReaderNoMemory o n
@@ -652,26 +733,23 @@ read_says names r older whose (Reading.Waits left) c o n (inr i) = absurd i
 read_says names r older whose (Reading.Finds f left) c o n i = found_says names r older whose c f left o (frame_fault (core_at names r older) c f) n i
 read_says names r older whose (Reading.Fails check left) c o n i = faulted_says names r older (Reading.Fails check left) c (ConnectionFault.Stream check) o n i
 
-next_says : (names : List (List ℕ)) (r : Run) (older : List CoreStep) (whose : Own r) (rd : Reading) (c : ℕ) (o : Outcome) (why : Option Objection)
+next_says : (names : List (List ℕ)) (r : Run) (older : List CoreStep) (whose : Own (final_world r) older) (rd : Reading) (c : ℕ) (o : Outcome) (why : Option Objection)
     → first_refusal (needs_idle (final_world r) c) ≡ why → In o (unless why (reading_outcomes (core_at names r older) c rd)) → Says names r older (Event.Next c) rd o
 next_says names r older whose rd c o None n i = read_says names r older whose rd c o n i
 next_says names r older whose rd c o (Some why) n i =
     let k = refusal_some (refusal_of why) o (in_option o _ i) in
-    subst (Says names r older (Event.Next c) rd) k.is (ap (λ z. z ++ said (answers_of r)) (refused_account names older (said (answers_of r)) c (frame_in rd) k.why))
+    subst (Says names r older (Event.Next c) rd) k.is (ap (λ z. z ++ said (answers_of r)) (refused_account (names_after names older) older (said (answers_of r)) c (frame_in rd) k.why))
 
 -- ---- every event
 
 opened_says : (names : List (List ℕ)) (r : Run) (older : List CoreStep) (rd : Reading) (o : Outcome)
     → In o (outcomes (core_at names r older) Event.Open rd) → Says names r older Event.Open rd o
 opened_says names r older rd o i = elim i [
-  | inl e ↦
-      let w = final_world r in
-      subst (Says names r older Event.Open rd) e
-      (ap (λ b. said (b ∷ Answer.Opened (length w.connections) ∷ answers_of r)) (sym (answer_is (move_effect w Opens) (Connects (length w.connections) None) (fresh_free w))))
+  | inl e ↦ subst (Says names r older Event.Open rd) e refl
   | inr j ↦ elim j [ inl e ↦ subst (Says names r older Event.Open rd) e refl | inr k ↦ absurd k ]
 ]
 
-event_says : (names : List (List ℕ)) (r : Run) (older : List CoreStep) (whose : Own r) (e : Event) (rd : Reading) (o : Outcome) → account_of names older ≡ said (answers_of r)
+event_says : (names : List (List ℕ)) (r : Run) (older : List CoreStep) (whose : Own (final_world r) older) (e : Event) (rd : Reading) (o : Outcome) → account_of names older ≡ said (answers_of r)
     → In o (outcomes (core_at names r older) e rd) → Says names r older e rd o
 event_says names r older whose Event.Open rd o acc i = opened_says names r older rd o i
 event_says names r older whose (Event.Piece c octets) rd o acc i = refl
@@ -703,12 +781,12 @@ pub account_is : (topics : TopicList) (capacity : ℕ) (steps : List CoreStep) �
 account_is topics capacity [] run = refl
 account_is topics capacity (step ∷ older) run =
     let r = run_of topics capacity older in let k = core_of topics capacity older in
-    let whose : Own r = λ c. own_number (final_world r) c (subst (λ w. Claimed w) (world_is topics capacity older) (claimed topics capacity older)) in
+    let whose : Own (final_world r) older = subst (λ w. Own w older) (world_is topics capacity older) (claims_own older (claims_stand topics capacity older run.1)) in
     let acc = account_is topics capacity older run.1 in let c = core_is topics capacity older in
     let i : In step.outcome (outcomes (core_at topics.names r older) step.event step.reading) =
     subst (λ z. In step.outcome (outcomes z step.event step.reading)) c run.0.outcome in
     let ms = moves k step.event step.reading step.outcome in
-    ap (λ z. account_of_step topics.names older z step.event step.reading step.outcome ++ z) acc
+    ap (λ z. account_of_step (names_after topics.names older) older z step.event step.reading step.outcome ++ z) acc
     ∙ (event_says topics.names r older whose step.event step.reading step.outcome acc i
     ∙ (ap (λ z. said (answers_from (moves z step.event step.reading step.outcome) (final_world r) (answers_of r))) (sym c)
     ∙ ap said (sym (answers_append (all_moves topics capacity older) ms (start capacity 65536 topics.clocks) []))))

@@ -1,5 +1,6 @@
 -- How many topics and connections there are after a run of the core.
-use Rattle.std.proofs.Common.{◌≡◌, ℕ, suc, ◌+◌, Bool, true, false, cond, inl, inr, true≢false, List, [], ◌∷◌, ◌++◌, length, Option, Some, None, refl, sym, ap, subst, ◌∙◌, arith}
+use Rattle.std.proofs.Common.{◌≡◌, ℕ, suc, ◌+◌, Bool, true, false, cond, not, ◌&&◌, inl, inr, true≢false, List, [], ◌∷◌, ◌++◌, length, Option, Some, None, refl, sym, ap, subst, ◌∙◌, arith}
+use Rattle.std.specs.Prelude.{codes}
 use Rattle.std.specs.List.{list_all}
 use Rattle.std.proofs.lemmas.Bool.{false≢true, and_parts}
 use Rattle.std.specs.Option.{option_map_or, option_to_list}
@@ -9,10 +10,13 @@ use Rattle.mcast_txn.specs.declared.draft.sent_message.SentMessage.{SentMessage}
 use Rattle.mcast_txn.specs.Ballot.{Decision}
 use Rattle.mcast_txn.specs.Span.{Item}
 use Rattle.mcast_group.specs.declared.fault.ProposeFault.{ProposeFault}
-use Rattle.mcast_group.specs.Machine.{Entry}
+use Rattle.mcast_group.specs.Machine.{Entry, new_topic}
 use Rattle.stomp_session.specs.declared.action.Action.{Action}
 use Rattle.stomp_session.specs.declared.action.Action.TheVariants as actions
 use Rattle.stomp_session.specs.Answers.{action_by}
+use Rattle.stomp_session.specs.Names.{is_known}
+use Rattle.stomp_session.specs.Frames.{field, has_destination, with_destination}
+use Rattle.delivery.proofs.Core.ByRun.{run_append}
 use Rattle.stomp_frame.specs.declared.raw_frame.RawFrame.{RawFrame}
 use Rattle.delivery.specs.declared.event.Event.{Event}
 use Rattle.delivery.specs.declared.outcome.Outcome.{Outcome}
@@ -23,13 +27,13 @@ use Rattle.delivery.specs.Machine.Moves.Move.{AddsTopic, Opens, Connects, Commit
 use Rattle.delivery.specs.Machine.Runs.{run}
 use Rattle.delivery.specs.Core.Steps.{CoreStep, Reading, frame_in, has_effect}
 use Rattle.delivery.specs.Core.Output.{is_cut}
-use Rattle.delivery.specs.Core.State.{Core, core_of, moves, frame_move, session_at, is_faulted, is_no_memory, unread_at}
+use Rattle.delivery.specs.Core.State.{Core, log_limit, core_after, core_for, core_of, moves, frame_move, names_at, session_at, topic_moves, is_faulted, is_no_memory, unread_at}
 use Rattle.delivery.proofs.Machine.SubscriptionSteps.{set_length, push_length}
 use Rattle.delivery.specs.declared.refusal.Refusal.{Refusal}
 use Rattle.delivery.specs.declared.connection_fault.ConnectionFault.{ConnectionFault}
 use Rattle.delivery.specs.Theorem.Answers.{IsAnswer}
 use Rattle.delivery.specs.Core.Steps.{number_by}
-use Rattle.delivery.specs.Core.Outcomes.{outcome_of, move_outcome, unless, frame_no_memory, frame_fault, fault_outcomes, frame_outcome, reading_outcomes, cut_of, reply_outcomes, outcomes, IsCoreRun, accepted_outcomes, is_any, outcomes_without, wants_memory}
+use Rattle.delivery.specs.Core.Outcomes.{outcome_of, move_outcome, unless, frame_no_memory, frame_fault, fault_outcomes, frame_outcome, reading_outcomes, cut_of, reply_outcomes, outcomes, IsReadAt, IsCoreRun, accepted_outcomes, is_any, outcomes_without, wants_memory}
 use Rattle.delivery.specs.Core.Delivery.{opened_by, opened_in}
 use Rattle.mcast_txn.specs.Checks.{first_refusal}
 use Rattle.mcast_txn.specs.Lists.{In}
@@ -39,11 +43,12 @@ use Rattle.delivery.proofs.Machine.SenderSteps.{In-append_cases}
 use Rattle.delivery.proofs.Machine.InvariantIsKept.{by_refusal}
 use Rattle.delivery.proofs.Theorem.MovesAreAnswered.{events_are_answered}
 use Rattle.delivery.proofs.Core.AccountOfRun.{in_option, refusal_some, replied, either_cut}
+use Rattle.delivery.specs.Core.Claims.{claims_of, claimed_sender}
 
 -- ---- the machine's moves
 
 -- the move adds no topic
-abbrev adds_none : Move → Bool
+abbrev pub adds_none : Move → Bool
 adds_none (AddsTopic clock) = false
 adds_none e = true
 
@@ -108,66 +113,104 @@ effect_grows w (Releases t) n = same w _ (set_length w.topics t.0 _) refl
 effect_grows w (Turns t) n = same w _ (set_length w.topics t.0 _) refl
 effect_grows w (Takes s) n = taken w s _
 
+-- every move opens so many
+effect_opens : (w : World) (e : Move) → length (move_effect w e).connections ≡ length w.connections + opened_by_move e
+effect_opens w (AddsTopic clock) = omega arith
+effect_opens w e = (effect_grows w e refl).connections
+
+-- a move that opens no connection
+abbrev opens_none : Move → Bool
+opens_none Opens = false
+opens_none e = true
+
 -- a move that adds no topic and opens no connection
 abbrev is_plain : Move → Bool
 is_plain (AddsTopic clock) = false
 is_plain Opens = false
 is_plain e = true
 
-plain_adds : (e : Move) → is_plain e ≡ true → (adds_none e ≡ true) × (opened_by_move e ≡ 0)
+none_opened : (e : Move) → opens_none e ≡ true → opened_by_move e ≡ 0
+none_opened Opens p = absurd (false≢true p)
+none_opened _ p = refl
+
+plain_adds : (e : Move) → is_plain e ≡ true → adds_none e ≡ true
 plain_adds (AddsTopic clock) p = absurd (false≢true p)
 plain_adds Opens p = absurd (false≢true p)
-plain_adds _ p = (refl, refl)
+plain_adds _ p = refl
 
-step_plain : (w : World) (e : Move) → is_plain e ≡ true → Grown w (world_after w e) 0
-step_plain w e p =
-    let k = plain_adds e p in
-    by_refusal (λ v o. Grown w v 0) w e (λ why. same w w refl refl) (λ m. subst (λ n. Grown w (move_effect w e) n) k.1 (effect_grows w e k.0))
+-- a move that adds none leaves as many
+pub step_adds_none : (w : World) (e : Move) → adds_none e ≡ true → length (world_after w e).topics ≡ length w.topics
+step_adds_none w e p = by_refusal (λ v o. length v.topics ≡ length w.topics) w e (λ why. refl) (λ m. (effect_grows w e p).topics)
 
-then : (w v u : World) (n : ℕ) → Grown w v 0 → Grown v u n → Grown w u n
-then w v u n a b = record { topics = b.topics ∙ a.topics; connections = (let i = a.connections in let j = b.connections in omega arith) }
+-- moves that open no connection leave as many
+run_none : (ms : List Move) (w : World) → list_all opens_none ms ≡ true → length (run ms w).connections ≡ length w.connections
+run_none [] w p = refl
+run_none (e ∷ es) w p =
+    let k = and_parts (opens_none e) (list_all opens_none es) p in
+    let none = none_opened e k.0 in
+    let step : length (world_after w e).connections ≡ length w.connections =
+    by_refusal (λ v o. length v.connections ≡ length w.connections) w e (λ why. refl) (λ m. (let n = effect_opens w e in omega (arith, n, none))) in
+    run_none es (world_after w e) k.1 ∙ step
 
-before : (w v u : World) (n : ℕ) → Grown w v n → Grown v u 0 → Grown w u n
-before w v u n a b = record { topics = b.topics ∙ a.topics; connections = (let i = a.connections in let j = b.connections in omega arith) }
-
-run_plain : (ms : List Move) (w : World) → list_all is_plain ms ≡ true → Grown w (run ms w) 0
-run_plain [] w p = same w w refl refl
+-- plain moves leave as many topics
+run_plain : (ms : List Move) (w : World) → list_all is_plain ms ≡ true → length (run ms w).topics ≡ length w.topics
+run_plain [] w p = refl
 run_plain (e ∷ es) w p =
     let k = and_parts (is_plain e) (list_all is_plain es) p in
-    then w (world_after w e) (run es (world_after w e)) 0 (step_plain w e k.0) (run_plain es (world_after w e) k.1)
+    run_plain es (world_after w e) k.1
+    ∙ by_refusal (λ v o. length v.topics ≡ length w.topics) w e (λ why. refl) (λ m. (effect_grows w e (plain_adds e k.0)).topics)
 
 -- ---- the moves of an event
 
+frame_none_opened : (k : Core) (c : ℕ) (action : Action) → list_all opens_none (option_to_list (frame_move k c action)) ≡ true
+frame_none_opened k c (actions.Connected client) = refl
+frame_none_opened k c _ = refl
+
 frame_plain : (k : Core) (c : ℕ) (action : Action) → list_all is_plain (option_to_list (frame_move k c action)) ≡ true
-frame_plain k c actions.Connected = refl
+frame_plain k c (actions.Connected client) = refl
 frame_plain k c _ = refl
 
-next_plain : (k : Core) (c : ℕ) (a b : Bool) (read : Option RawFrame)
-    → list_all is_plain (cond a (Errs c ∷ []) (cond b (option_map_or (λ f. option_to_list (frame_move k c (action_by f.command (session_at k c) f))) read []) [])) ≡ true
-next_plain k c true b read = refl
-next_plain k c false false read = refl
-next_plain k c false true None = refl
-next_plain k c false true (Some f) = frame_plain k c (action_by f.command (session_at k c) f)
+made_none : (b : Bool) (ms : List Move) → list_all opens_none ms ≡ true → list_all opens_none (cond b (AddsTopic 0 ∷ []) [] ++ ms) ≡ true
+made_none true ms h = h
+made_none false ms h = h
+
+next_none_opened : (k : Core) (c : ℕ) (a b : Bool) (read : Option RawFrame)
+    → list_all opens_none
+    (cond a (Errs c ∷ []) (cond b (option_map_or (λ f. topic_moves (names_at k) f ++ option_to_list (frame_move k c (action_by f.command (session_at k c) f))) read []) [])) ≡ true
+next_none_opened k c true b read = refl
+next_none_opened k c false false read = refl
+next_none_opened k c false true None = refl
+next_none_opened k c false true (Some f) =
+    made_none (has_destination f.command && not (is_known (field (codes "destination") f) (names_at k))) (option_to_list (frame_move k c (action_by f.command (session_at k c) f)))
+    (frame_none_opened k c (action_by f.command (session_at k c) f))
 
 cut_plain : (c : ℕ) (b : Bool) → list_all is_plain (Decides c ∷ cond b (Lost c ∷ []) []) ≡ true
 cut_plain c true = refl
 cut_plain c false = refl
 
+cut_none : (c : ℕ) (b : Bool) → list_all opens_none (Decides c ∷ cond b (Lost c ∷ []) []) ≡ true
+cut_none c true = refl
+cut_none c false = refl
+
 take_plain : (s : ℕ) (b : Bool) → list_all is_plain (cond b [] (Takes s ∷ [])) ≡ true
 take_plain s true = refl
 take_plain s false = refl
+
+take_none : (s : ℕ) (b : Bool) → list_all opens_none (cond b [] (Takes s ∷ [])) ≡ true
+take_none s true = refl
+take_none s false = refl
 
 -- the event opens a connection
 abbrev is_open_event : Event → Bool
 is_open_event Event.Open = true
 is_open_event e = false
 
-event_plain : (k : Core) (e : Event) (rd : Reading) (o : Outcome) → is_open_event e ≡ false → list_all is_plain (moves k e rd o) ≡ true
-event_plain k Event.Open rd o p = absurd (true≢false p)
-event_plain k (Event.Next c) rd o p = next_plain k c (is_faulted o) (has_effect o) (frame_in rd)
-event_plain k (Event.Decide c) rd o p = cut_plain c (is_cut o)
-event_plain k (Event.Take s) rd o p = take_plain s (is_no_memory o)
-event_plain k _ rd o p = refl
+event_none_opened : (k : Core) (e : Event) (rd : Reading) (o : Outcome) → is_open_event e ≡ false → list_all opens_none (moves k e rd o) ≡ true
+event_none_opened k Event.Open rd o p = absurd (true≢false p)
+event_none_opened k (Event.Next c) rd o p = next_none_opened k c (is_faulted o) (has_effect o) (frame_in rd)
+event_none_opened k (Event.Decide c) rd o p = cut_none c (is_cut o)
+event_none_opened k (Event.Take s) rd o p = take_none s (is_no_memory o)
+event_none_opened k _ rd o p = refl
 
 -- ---- the outcomes of an event
 
@@ -209,18 +252,19 @@ wanted_none : (wanted : Bool) (fault : ConnectionFault) → Opened-none (outcome
 wanted_none true fault = fault_none fault
 wanted_none false fault = no_outcome
 
-frame_none : (k : Core) (c : ℕ) (action : Action) → Opened-none (option_map_or (move_outcome k) (frame_move k c action) (Outcome.Done ∷ []))
-frame_none k c actions.Connected = one_none Outcome.Done [] refl no_outcome
-frame_none k c actions.Nothing = one_none Outcome.Done [] refl no_outcome
-frame_none k c (actions.Subscribe id t) = move_none k (Subscribes c t) refl
-frame_none k c (actions.Unsubscribe id) = move_none k (Unsubscribes c (number_by c id k.steps)) refl
-frame_none k c (actions.Commit sends) = move_none k (Commits c sends) refl
-frame_none k c actions.Disconnect = move_none k (Disconnects c) refl
+frame_none : (k : Core) (w : World) (c : ℕ) (action : Action)
+    → Opened-none (option_map_or (move_outcome (record k { world = w })) (frame_move k c action) (Outcome.Done ∷ []))
+frame_none k w c (actions.Connected client) = move_none (record k { world = w }) (Connects c (claimed_sender client (claims_of k.steps))) refl
+frame_none k w c actions.Nothing = one_none Outcome.Done [] refl no_outcome
+frame_none k w c (actions.Subscribe id t) = move_none (record k { world = w }) (Subscribes c t) refl
+frame_none k w c (actions.Unsubscribe id) = move_none (record k { world = w }) (Unsubscribes c (number_by c id k.steps)) refl
+frame_none k w c (actions.Commit sends) = move_none (record k { world = w }) (Commits c sends) refl
+frame_none k w c actions.Disconnect = move_none (record k { world = w }) (Disconnects c) refl
 
 found_none : (k : Core) (c : ℕ) (f : RawFrame) (why : Option ConnectionFault) → Opened-none (option_map_or fault_outcomes why (accepted_outcomes k c f))
 found_none k c f (Some fault) = fault_none fault
 found_none k c f None =
-    append_none (frame_outcome k c f) (outcomes_without (wants_memory k c f) frame_no_memory) (frame_none k c (action_by f.command (session_at k c) f))
+    append_none (frame_outcome k c f) (outcomes_without (wants_memory k c f) frame_no_memory) (frame_none k (core_for k f).world c (action_by f.command (session_at k c) f))
     (wanted_none (wants_memory k c f) frame_no_memory)
 
 reading_none : (k : Core) (c : ℕ) (rd : Reading) → Opened-none (reading_outcomes k c rd)
@@ -246,35 +290,157 @@ event_none k (Event.Take s) rd p = unless_none (move_refusal k.world (Takes s)) 
 event_none k (Event.Leave c) rd p = reply_none k c (Event.Leave c) (Leaves c) refl
 event_none k (Event.Lost c) rd p = move_none k (Lost c) refl
 
--- ---- a step
+-- ---- connections
 
-opens : (k : Core) (o : Outcome) (rd : Reading) → In o (outcomes k Event.Open rd) → Grown k.world (run (moves k Event.Open rd o) k.world) (opened_by o)
+-- the connections after an event
+abbrev After : Core → Event → Reading → Outcome → Type 0
+After k e rd o = length (run (moves k e rd o) k.world).connections ≡ length k.world.connections + opened_by o
+
+opens : (k : Core) (o : Outcome) (rd : Reading) → In o (outcomes k Event.Open rd) → After k Event.Open rd o
 opens k o rd i = elim i [
-  | inl e ↦
-      let w = k.world in let v = move_effect w Opens in let mv = Connects (length w.connections) None in
-      subst (λ z. Grown w (run (moves k Event.Open rd z) w) (opened_by z)) e (before w v (world_after v mv) 1 (effect_grows w Opens refl) (step_plain v mv refl))
-  | inr j ↦ elim j [
-    | inl e ↦ subst (λ z. Grown k.world (run (moves k Event.Open rd z) k.world) (opened_by z)) e (same k.world k.world refl refl)
-    | inr n ↦ absurd n
-  ]
+  | inl e ↦ subst (After k Event.Open rd) e (effect_opens k.world Opens)
+  | inr j ↦ elim j [ inl e ↦ subst (After k Event.Open rd) e (omega arith) | inr n ↦ absurd n ]
 ]
 
-plain_step : (k : Core) (e : Event) (rd : Reading) (o : Outcome) → In o (outcomes k e rd) → is_open_event e ≡ false → Grown k.world (run (moves k e rd o) k.world) (opened_by o)
-plain_step k e rd o i p = subst (λ n. Grown k.world (run (moves k e rd o) k.world) n) (sym (event_none k e rd p o i)) (run_plain (moves k e rd o) k.world (event_plain k e rd o p))
-
-step_case : (k : Core) (e : Event) (rd : Reading) (o : Outcome) → In o (outcomes k e rd) → (b : Bool) → is_open_event e ≡ b → Grown k.world (run (moves k e rd o) k.world) (opened_by o)
+step_case : (k : Core) (e : Event) (rd : Reading) (o : Outcome) → In o (outcomes k e rd) → (b : Bool) → is_open_event e ≡ b → After k e rd o
 step_case k Event.Open rd o i b p = opens k o rd i
-step_case k event rd o i b p = plain_step k event rd o i refl
+step_case k event rd o i b p =
+    let n = run_none (moves k event rd o) k.world (event_none_opened k event rd o refl) in
+    let none = event_none k event rd refl o i in omega (arith, n, none)
+
+-- ---- topics
+
+-- a topic is made where a name is new
+made_both : (a known : Bool) (names : List (List ℕ)) (name : List ℕ) (w : World) → length w.topics ≡ length names
+    → length (run (cond (a && not known) (AddsTopic 0 ∷ []) []) w).topics ≡ length (cond a (cond known names (names ++ name ∷ [])) names)
+made_both true true names name w h = h
+made_both true false names name w h =
+    let a = push_length w.topics (new_topic (record { 0 = length w.topics }) w.log_limit 0) in let b = push_length names name in omega (arith, a, b, h)
+made_both false known names name w h = h
+
+-- there is a topic for each name once a frame's destination has one
+pub topic_for_name : (k : Core) (f : RawFrame) → length k.world.topics ≡ length (names_at k)
+    → length (core_for k f).world.topics ≡ length (with_destination f (names_at k))
+topic_for_name k f h =
+    made_both (has_destination f.command) (is_known (field (codes "destination") f) (names_at k)) (names_at k) (field (codes "destination") f) k.world h
+
+next_topics : (k : Core) (c : ℕ) (a b : Bool) (read : Option RawFrame) → (a ≡ true → b ≡ false) → length k.world.topics ≡ length (names_at k)
+    → length
+    (run
+    (cond a (Errs c ∷ []) (cond b (option_map_or (λ f. topic_moves (names_at k) f ++ option_to_list (frame_move k c (action_by f.command (session_at k c) f))) read []) [])) k.world).topics
+    ≡ length (option_map_or (λ f. with_destination f (names_at k)) (cond b read None) (names_at k))
+next_topics k c true true read apart h = absurd (true≢false (apart refl))
+next_topics k c true false read apart h = run_plain (Errs c ∷ []) k.world refl ∙ h
+next_topics k c false false read apart h = h
+next_topics k c false true None apart h = h
+next_topics k c false true (Some f) apart h =
+    let ms = option_to_list (frame_move k c (action_by f.command (session_at k c) f)) in
+    ap (λ (w : World). length w.topics) (run_append (topic_moves (names_at k) f) ms k.world)
+    ∙ (run_plain ms (core_for k f).world (frame_plain k c (action_by f.command (session_at k c) f)) ∙ topic_for_name k f h)
+
+pub no_effect : (o : Outcome) → is_faulted o ≡ true → has_effect o ≡ false
+no_effect (Outcome.Faulted fault cut) e = refl
+no_effect o e = absurd (false≢true e)
+
+-- what reads nothing makes no topic
+still_topics : (k : Core) (e : Event) (rd : Reading) (o : Outcome) → rd ≡ Reading.Nothing → list_all is_plain (moves k e rd o) ≡ true → length k.world.topics ≡ length (names_at k)
+    → length (run (moves k e rd o) k.world).topics ≡ length (names_at (core_after k (record { event = e; reading = rd; outcome = o })))
+still_topics k e rd o is plain h =
+    run_plain (moves k e rd o) k.world plain
+    ∙ (h ∙ ap (λ (n : Option RawFrame). length (option_map_or (λ f. with_destination f (names_at k)) n (names_at k))) (sym (unread (has_effect o) rd is)))
+  where
+    unread : (b : Bool) (q : Reading) → q ≡ Reading.Nothing → cond b (frame_in q) None ≡ None
+    unread true q n = ap frame_in n
+    unread false q n = refl
+
+open_plain : (b : Bool) (k : Core) → length (run (cond b [] (Opens ∷ [])) k.world).topics ≡ length k.world.topics
+open_plain true k = refl
+open_plain false k = refl
+
+-- after a step there is a topic for each name, where there was before
+pub step_topics : (k : Core) (e : Event) (rd : Reading) (o : Outcome) → IsReadAt k e rd → length k.world.topics ≡ length (names_at k)
+    → length (run (moves k e rd o) k.world).topics ≡ length (names_at (core_after k (record { event = e; reading = rd; outcome = o })))
+step_topics k Event.Open rd o is h = open_plain (is_no_memory o) k ∙ still_topics k (Event.Piece 0 []) rd o is refl h
+step_topics k (Event.Next c) rd o is h = next_topics k c (is_faulted o) (has_effect o) (frame_in rd) (no_effect o) h
+step_topics k (Event.Decide c) rd o is h = still_topics k (Event.Decide c) rd o is (cut_plain c (is_cut o)) h
+step_topics k (Event.Take s) rd o is h = still_topics k (Event.Take s) rd o is (take_plain s (is_no_memory o)) h
+step_topics k e rd o is h = still_topics k e rd o is refl h
+
+-- ---- a run
 
 new_count : (i limit : ℕ) (clocks : List ℕ) → length (new_topics i limit clocks) ≡ length clocks
 new_count i limit [] = refl
 new_count i limit (clock ∷ clocks) = ap suc (new_count (i + 1) limit clocks)
 
--- there are as many topics as at first, and as many connections as were opened
-pub counted : (topics : TopicList) (capacity : ℕ) (steps : List CoreStep) → IsCoreRun topics capacity steps
-    → (length (core_of topics capacity steps).world.topics ≡ length topics.clocks) × (length (core_of topics capacity steps).world.connections ≡ opened_in steps)
-counted topics capacity [] run = (new_count 0 65536 topics.clocks, refl)
-counted topics capacity (step ∷ older) run =
-    let k = core_of topics capacity older in let h = counted topics capacity older run.1 in
-    let g = step_case k step.event step.reading step.outcome run.0.outcome (is_open_event step.event) refl in
-    (g.topics ∙ h.0, g.connections ∙ ap (λ (n : ℕ). n + opened_by step.outcome) h.1)
+-- there are as many connections as were opened
+pub connections_counted : (topics : TopicList) (capacity : ℕ) (steps : List CoreStep) → IsCoreRun topics capacity steps
+    → length (core_of topics capacity steps).world.connections ≡ opened_in steps
+connections_counted topics capacity [] run = refl
+connections_counted topics capacity (step ∷ older) run =
+    let k = core_of topics capacity older in
+    step_case k step.event step.reading step.outcome run.0.outcome (is_open_event step.event) refl
+    ∙ ap (λ (n : ℕ). n + opened_by step.outcome) (connections_counted topics capacity older run.1)
+
+-- there is a topic for each name
+pub topics_counted : (topics : TopicList) (capacity : ℕ) (steps : List CoreStep) → length topics.clocks ≡ length topics.names → IsCoreRun topics capacity steps
+    → length (core_of topics capacity steps).world.topics ≡ length (names_at (core_of topics capacity steps))
+topics_counted topics capacity [] same run = new_count 0 65536 topics.clocks ∙ same
+topics_counted topics capacity (step ∷ older) same run =
+    let k = core_of topics capacity older in
+    step_topics k step.event step.reading step.outcome run.0.reading (topics_counted topics capacity older same run.1)
+
+-- both
+pub counted : (topics : TopicList) (capacity : ℕ) (steps : List CoreStep) → length topics.clocks ≡ length topics.names → IsCoreRun topics capacity steps
+    → (length (core_of topics capacity steps).world.topics ≡ length (names_at (core_of topics capacity steps)))
+    × (length (core_of topics capacity steps).world.connections ≡ opened_in steps)
+counted topics capacity steps same run = (topics_counted topics capacity steps same run, connections_counted topics capacity steps run)
+
+-- ---- how many rows a topic holds
+
+closed_limit : (w : World) (s : ℕ) (o : Option Entry) → (close_effect_of w s o).log_limit ≡ w.log_limit
+closed_limit w s None = refl
+closed_limit w s (Some e) = refl
+
+-- no move changes it
+effect_limit : (w : World) (e : Move) → (move_effect w e).log_limit ≡ w.log_limit
+effect_limit w (Commits c []) = refl
+effect_limit w (Commits c (first ∷ others)) = refl
+effect_limit w (Unsubscribes c s) = closed_limit w s (entry_at w s)
+effect_limit w (Leaves c) = left_limit (oldest_live c 0 w.subscriptions)
+  where
+    left_limit : (o : Option ℕ) → (leave_effect w c o).log_limit ≡ w.log_limit
+    left_limit None = refl
+    left_limit (Some s) = closed_limit w s (entry_at w s)
+effect_limit w (Proposes c t memory) = proposed_limit (proposal_fault w c t memory)
+  where
+    proposed_limit : (o : Option ProposeFault) → (propose_effect w c t o).log_limit ≡ w.log_limit
+    proposed_limit None = refl
+    proposed_limit (Some fault) = refl
+effect_limit w (Cancels c t) = cancelled_limit (find_leftover t (speaker w c).leftovers)
+  where
+    cancelled_limit : (o : Option Leftover) → (cancel_effect w c t o).log_limit ≡ w.log_limit
+    cancelled_limit None = refl
+    cancelled_limit (Some k) = refl
+effect_limit w (Learns t id) = learned_limit (find_verdict id w.verdicts)
+  where
+    learned_limit : (o : Option Decision) → (learn_effect w t id o).log_limit ≡ w.log_limit
+    learned_limit None = refl
+    learned_limit (Some v) = refl
+effect_limit w (Takes s) = taken_limit _
+  where
+    taken_limit : (o : Option Item) → (take_effect w s o).log_limit ≡ w.log_limit
+    taken_limit None = refl
+    taken_limit (Some item) = refl
+effect_limit w _ = refl
+
+run_limit : (ms : List Move) (w : World) → (run ms w).log_limit ≡ w.log_limit
+run_limit [] w = refl
+run_limit (e ∷ es) w =
+    run_limit es (world_after w e) ∙ by_refusal (λ v o. v.log_limit ≡ w.log_limit) w e (λ why. refl) (λ m. effect_limit w e)
+
+-- so it is that of a core
+pub limit_counted : (topics : TopicList) (capacity : ℕ) (steps : List CoreStep) → (core_of topics capacity steps).world.log_limit ≡ log_limit
+limit_counted topics capacity [] = refl
+limit_counted topics capacity (step ∷ older) =
+    let k = core_of topics capacity older in
+    run_limit (moves k step.event step.reading step.outcome) k.world ∙ limit_counted topics capacity older

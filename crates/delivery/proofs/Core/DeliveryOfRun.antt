@@ -3,9 +3,9 @@ use Rattle.std.proofs.Common.{◌≡◌, ℕ, ◌<◌, List, [], length, sym, ap
 use Rattle.mcast_group.proofs.Parts.{map_length}
 use Rattle.mcast_group.specs.Machine.{TopicState}
 use Rattle.delivery.specs.Topics.{TopicList}
-use Rattle.delivery.specs.Core.Steps.{CoreStep}
+use Rattle.delivery.specs.Core.Steps.{CoreStep, names_after}
 use Rattle.delivery.specs.Core.Output.{text_out}
-use Rattle.delivery.specs.Core.State.{Core, core_of}
+use Rattle.delivery.specs.Core.State.{Core, core_of, names_at}
 use Rattle.delivery.specs.Core.Reports.{report_of, out_in}
 use Rattle.delivery.specs.Core.Delivery.{RunsDeliver}
 use Rattle.delivery.proofs.Core.AccountOfRun.{run_of, core_at, core_is}
@@ -25,11 +25,12 @@ written topics capacity steps =
 -- every run of the core is delivered
 pub delivery : RunsDeliver
 delivery topics capacity steps same run =
-    let k = core_of topics capacity steps in let n = counted topics capacity steps run in record {
+    let k = core_of topics capacity steps in let n = counted topics capacity steps same run in
+    let names : names_at k ≡ names_after topics.names steps = ap (λ (z : Core). names_at z) (core_is topics capacity steps) in record {
       delivered = delivers topics capacity steps run;
       written = record {
         are_read = are_readings topics capacity steps run;
         output = written topics capacity steps;
-        counts = (map_length (λ (x : TopicState). x.held) k.world.topics ∙ (n.0 ∙ same), each_length (λ c. text_out k.names c k.steps) 0 k.world.connections ∙ n.1);
+        counts = (map_length (λ (x : TopicState). x.held) k.world.topics ∙ (n.0 ∙ ap (λ (z : List (List ℕ)). length z) names), each_length (λ c. text_out k.names c k.steps) 0 k.world.connections ∙ n.1);
       };
     }

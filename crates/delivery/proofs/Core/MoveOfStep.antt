@@ -1,5 +1,6 @@
 -- Which move of the machine a step of the core is.
-use Rattle.std.proofs.Common.{◌≡◌, ℕ, Bool, true, false, cond, not, ◌⊎◌, inl, inr, List, [], ◌∷◌, ◌++◌, length, Option, Some, None, refl, sym, ap, subst, ◌∙◌}
+use Rattle.std.proofs.Common.{◌≡◌, ℕ, Bool, true, false, cond, not, ◌&&◌, ◌⊎◌, inl, inr, List, [], ◌∷◌, ◌++◌, length, Option, Some, None, refl, sym, ap, subst, ◌∙◌}
+use Rattle.std.specs.Prelude.{codes}
 use Rattle.std.specs.Option.{option_map_or, option_and_then, option_to_list}
 use Rattle.stomp_frame.specs.declared.raw_frame.RawFrame.{RawFrame}
 use Rattle.stomp_frame.specs.Cases.{case_fault}
@@ -12,30 +13,34 @@ use Rattle.mcast_group.proofs.Parts.{some_same}
 use Rattle.stomp_session.specs.declared.action.Action.{Action}
 use Rattle.stomp_session.specs.declared.action.Action.TheVariants as actions
 use Rattle.stomp_session.specs.Answers.{action_by}
+use Rattle.stomp_session.specs.Names.{is_known}
+use Rattle.stomp_session.specs.Frames.{field, has_destination}
 use Rattle.stomp_session.specs.Refusals.{session_fault}
 use Rattle.delivery.specs.declared.event.Event.{Event}
 use Rattle.delivery.specs.declared.outcome.Outcome.{Outcome}
 use Rattle.delivery.specs.declared.connection_fault.ConnectionFault.{ConnectionFault}
 use Rattle.delivery.specs.Machine.Objections.{Objection, refusal_of}
-use Rattle.delivery.specs.Machine.World.{World, SenderState, Connection, topic_at}
+use Rattle.delivery.specs.Machine.World.{World, topic_at}
 use Rattle.delivery.specs.Machine.Moves.{Move, Answer, needs_open, needs_idle, move_refusal, move_effect, answer_to, world_after, commit_answer, end_now}
-use Rattle.delivery.specs.Machine.Moves.Move.{Opens, Commits, Subscribes, Unsubscribes, Disconnects, Errs, Lost, Leaves, Proposes, Decides, Withdraws, Cancels, Learns, Releases, Turns, Takes}
+use Rattle.delivery.specs.Machine.Moves.Move.{AddsTopic, Opens, Connects, Commits, Subscribes, Unsubscribes, Disconnects, Errs, Lost, Leaves, Proposes, Decides, Withdraws, Cancels, Learns, Releases, Turns, Takes}
 use Rattle.delivery.specs.Machine.Runs.{run}
 use Rattle.delivery.specs.Theorem.Laws.{move_topic}
 use Rattle.delivery.specs.Core.Steps.{Reading, number_by, has_effect}
 use Rattle.delivery.specs.Core.Output.{is_cut}
-use Rattle.delivery.specs.Core.State.{Core, session_at, frame_move, is_faulted, is_no_memory, is_out_of_memory, moves, unread_at}
-use Rattle.delivery.specs.Core.Outcomes.{outcome_of, move_outcome, unless, frame_no_memory, frame_fault, fault_outcomes, frame_outcome, reading_outcomes, cut_of, outcomes, accepted_outcomes, is_any, wants_memory}
+use Rattle.delivery.specs.Core.State.{Core, core_for, names_at, session_at, frame_move, is_faulted, is_no_memory, is_out_of_memory, moves, unread_at}
+use Rattle.delivery.specs.Core.Outcomes.{outcome_of, move_outcome, unless, frame_no_memory, frame_fault, fault_outcomes, frame_outcome, reading_outcomes, cut_of, outcomes, accepted_outcomes, is_any, wants_memory, claim_fault}
 use Rattle.delivery.specs.Core.Stepped.{event_topic}
 use Rattle.delivery.proofs.Machine.SenderSteps.{In-append_cases}
-use Rattle.delivery.proofs.Core.Claimed.{opened_world}
 use Rattle.delivery.proofs.Core.AccountOfRun.{in_option, refusal_some, replied, same_memory, was_wanted}
-use Rattle.delivery.proofs.Core.ReadingsShown.{unrefused, effect_of}
+use Rattle.delivery.proofs.Core.ReadingsShown.{effect_of}
+use Rattle.delivery.specs.Core.Claims.{claims_of, claimed_sender}
+use Rattle.delivery.proofs.Core.ClaimsStand.{unobjected}
 
 -- ---- the moves of an event
 
 -- a move of a frame that is accepted
 abbrev pub is_of_frame : Move → Bool
+is_of_frame (Connects c claimed) = true
 is_of_frame (Commits c sends) = true
 is_of_frame (Subscribes c t) = true
 is_of_frame (Unsubscribes c s) = true
@@ -44,7 +49,7 @@ is_of_frame mv = false
 
 -- the move is one of this event
 abbrev pub IsMoveOf : Event → Move → Type 0
-IsMoveOf Event.Open mv = Prim.⊥
+IsMoveOf Event.Open mv = mv ≡ Opens
 IsMoveOf (Event.Piece c octets) mv = Prim.⊥
 IsMoveOf (Event.Next c) mv = is_of_frame mv ≡ true
 IsMoveOf (Event.Propose c t) mv = (memory : Bool) × (mv ≡ Proposes c t memory)
@@ -101,18 +106,28 @@ pub record Erred (k : Core) (e : Event) (rd : Reading) (o : Outcome) : Type 0 wh
   pub world : world_then k e rd o ≡ world_after k.world (Errs connection)
   pub faulted : is_faulted o ≡ true
 
--- the step opens a connection, which begins a sender
-pub record Began (k : Core) (e : Event) (rd : Reading) (o : Outcome) : Type 0 where
-  pub senders : List SenderState
-  pub connections : List Connection
-  pub world : world_then k e rd o ≡ record k.world { senders = senders; connections = connections }
-  pub opened : is_opened o ≡ true
+-- the world once a topic was made
+abbrev pub with_topic : World → World
+with_topic w = world_after w (AddsTopic 0)
 
--- what a step is of the machine: nothing, an ERROR, a move, a decision with a loss, or a connection's opening
+-- after the topic of a frame was made, nothing more was done, or a move of the frame
+abbrev pub MovedThen : Core → Event → Reading → Outcome → Type 0
+MovedThen k e rd o =
+    ((world_then k e rd o ≡ with_topic k.world) × (is_plain o ≡ true))
+    ⊎ ((move : Move) × (is_of_frame move ≡ true) × (move_topic k.world move ≡ event_topic k e rd)
+    × (world_then k e rd o ≡ world_after (with_topic k.world) move)
+    × (outcome_of (answer_to (with_topic k.world) move) ≡ Some o))
+
+-- the step is a frame that makes its topic, and what it does then
+pub record MadeTopic (k : Core) (e : Event) (rd : Reading) (o : Outcome) : Type 0 where
+  pub effect : has_effect o ≡ true
+  pub then : MovedThen k e rd o
+
+-- what a step is of the machine: nothing, an ERROR, a move, a decision with a loss, or a topic and a move
 abbrev pub Comes : Core → Event → Reading → Outcome → Type 0
 Comes k e rd o =
     ((world_then k e rd o ≡ k.world) × (is_plain o ≡ true))
-    ⊎ (Erred k e rd o ⊎ (Moved k e rd o ⊎ (DecidedAndLost k e rd o ⊎ Began k e rd o)))
+    ⊎ (Erred k e rd o ⊎ (Moved k e rd o ⊎ (DecidedAndLost k e rd o ⊎ MadeTopic k e rd o)))
 
 -- ---- outcomes
 
@@ -132,10 +147,18 @@ refused_after w mv why n = ap (λ (o : Option Objection). elim o [ None ↦ move
 
 -- ---- a Next
 
--- the moves of an accepted frame, by its action
-abbrev frame_moves : Core → ℕ → Action → Outcome → List Move
-frame_moves k c action o =
-    cond (is_faulted o) (Errs c ∷ []) (cond (has_effect o) (option_to_list (frame_move k c action)) [])
+-- the moves of an accepted frame, by whether it makes its topic, and its action
+abbrev frame_moves : Core → Bool → ℕ → Action → Outcome → List Move
+frame_moves k new c action o =
+    cond (is_faulted o) (Errs c ∷ []) (cond (has_effect o) (cond new (AddsTopic 0 ∷ []) [] ++ option_to_list (frame_move k c action)) [])
+
+-- a frame makes its topic
+abbrev is_first_use : Core → RawFrame → Bool
+is_first_use k f = has_destination f.command && not (is_known (field (codes "destination") f) (names_at k))
+
+-- the world before a frame's own move
+abbrev first_world : Core → Bool → World
+first_world k new = run (cond new (AddsTopic 0 ∷ []) []) k.world
 
 erred : (k : Core) (c : ℕ) (rd : Reading) (fault : ConnectionFault) (o : Outcome) → In o (fault_outcomes fault) → Comes k (Event.Next c) rd o
 erred k c rd fault o i = elim i [
@@ -148,26 +171,56 @@ erred k c rd fault o i = elim i [
 
 -- a frame that has its effect is the move of its action
 accepted : (k : Core) (c : ℕ) (f : RawFrame) (left : Unread) (o : Outcome) (action : Action) (mv : Move) → action_by f.command (session_at k c) f ≡ action
-    → frame_move k c action ≡ Some mv → is_of_frame mv ≡ true → is_faulted o ≡ false → has_effect o ≡ true → outcome_of (answer_to k.world mv) ≡ Some o
+    → frame_move k c action ≡ Some mv → is_of_frame mv ≡ true → is_faulted o ≡ false → has_effect o ≡ true
+    → outcome_of (answer_to (core_for k f).world mv) ≡ Some o
     → Comes k (Event.Next c) (Reading.Finds f left) o
-accepted k c f left o action mv by is own sound effect came =
-    let found : frame_move k c (action_by f.command (session_at k c) f) ≡ Some mv = ap (frame_move k c) by ∙ is in
-    let moved : frame_moves k c (action_by f.command (session_at k c) f) o ≡ mv ∷ [] =
-    ap (λ b. cond b (Errs c ∷ []) (cond (has_effect o) (option_to_list (frame_move k c (action_by f.command (session_at k c) f))) [])) sound
-    ∙ (ap (λ b. cond b (option_to_list (frame_move k c (action_by f.command (session_at k c) f))) []) effect ∙ ap (λ (m : Option Move). option_to_list m) found) in
-    alone k (Event.Next c) (Reading.Finds f left) o mv own (sym (ap (option_and_then (move_topic k.world)) found))
-    (ap (λ ms. run ms k.world) moved) came
+accepted k c f left o action mv by is own sound effect came = by_use (is_first_use k f) refl
+  where
+    found : frame_move k c (action_by f.command (session_at k c) f) ≡ Some mv
+    found = ap (frame_move k c) by ∙ is
+
+    moved : frame_moves k (is_first_use k f) c (action_by f.command (session_at k c) f) o ≡ cond (is_first_use k f) (AddsTopic 0 ∷ []) [] ++ mv ∷ []
+    moved =
+        let ms = cond (is_first_use k f) (AddsTopic 0 ∷ []) [] ++ option_to_list (frame_move k c (action_by f.command (session_at k c) f)) in
+        ap (λ b. cond b (Errs c ∷ []) (cond (has_effect o) ms [])) sound
+        ∙ (ap (λ b. cond b ms []) effect ∙ ap (λ (m : Option Move). cond (is_first_use k f) (AddsTopic 0 ∷ []) [] ++ option_to_list m) found)
+
+    by_use : (new : Bool) → is_first_use k f ≡ new → Comes k (Event.Next c) (Reading.Finds f left) o
+    by_use false e =
+        alone k (Event.Next c) (Reading.Finds f left) o mv own (sym (ap (option_and_then (move_topic k.world)) found))
+        (ap (λ ms. run ms k.world) moved ∙ ap (λ (b : Bool). run (cond b (AddsTopic 0 ∷ []) [] ++ mv ∷ []) k.world) e)
+        (subst (λ (b : Bool). outcome_of (answer_to (first_world k b) mv) ≡ Some o) e came)
+    by_use true e = inr (inr (inr (inr (record {
+      effect = effect;
+      then = inr (
+        mv,
+        own,
+        sym (ap (option_and_then (move_topic k.world)) found),
+        ap (λ ms. run ms k.world) moved ∙ ap (λ (b : Bool). run (cond b (AddsTopic 0 ∷ []) [] ++ mv ∷ []) k.world) e,
+        subst (λ (b : Bool). outcome_of (answer_to (first_world k b) mv) ≡ Some o) e came,
+      );
+    }))))
 
 -- a frame that is done has none
 done : (k : Core) (c : ℕ) (f : RawFrame) (left : Unread) (o : Outcome) (action : Action) → action_by f.command (session_at k c) f ≡ action
     → frame_move k c action ≡ None → Outcome.Done ≡ o → Comes k (Event.Next c) (Reading.Finds f left) o
-done k c f left o action by is e =
-    subst (Comes k (Event.Next c) (Reading.Finds f left)) e
-    (inl (ap (λ (m : Option Move). run (option_to_list m) k.world) (ap (frame_move k c) by ∙ is), refl))
+done k c f left o action by is e = subst (Comes k (Event.Next c) (Reading.Finds f left)) e (by_use (is_first_use k f) refl)
+  where
+    moved : run (frame_moves k (is_first_use k f) c (action_by f.command (session_at k c) f) Outcome.Done) k.world ≡ run (cond (is_first_use k f) (AddsTopic 0 ∷ []) [] ++ []) k.world
+    moved =
+        ap (λ (m : Option Move). run (cond (is_first_use k f) (AddsTopic 0 ∷ []) [] ++ option_to_list m) k.world) (ap (frame_move k c) by ∙ is)
+
+    by_use : (new : Bool) → is_first_use k f ≡ new → Comes k (Event.Next c) (Reading.Finds f left) Outcome.Done
+    by_use false e = inl (moved ∙ ap (λ (b : Bool). run (cond b (AddsTopic 0 ∷ []) [] ++ []) k.world) e, refl)
+    by_use true e = inr (inr (inr (inr (record {
+      effect = refl;
+      then = inl (moved ∙ ap (λ (b : Bool). run (cond b (AddsTopic 0 ∷ []) [] ++ []) k.world) e, refl);
+    }))))
 
 -- a commit of some SENDs, or of none
 committed : (k : Core) (c : ℕ) (f : RawFrame) (left : Unread) (o : Outcome) (sends : List SentMessage) → action_by f.command (session_at k c) f ≡ actions.Commit sends
-    → outcome_of (answer_to k.world (Commits c sends)) ≡ Some o → outcome_of (commit_answer k.world c sends) ≡ Some o → Comes k (Event.Next c) (Reading.Finds f left) o
+    → outcome_of (answer_to (core_for k f).world (Commits c sends)) ≡ Some o → outcome_of (commit_answer (core_for k f).world c sends) ≡ Some o
+    → Comes k (Event.Next c) (Reading.Finds f left) o
 committed k c f left o [] by came d =
     let is = some_same _ o d in
     accepted k c f left o (actions.Commit []) (Commits c []) by refl refl (ap is_faulted (sym is)) (ap has_effect (sym is)) came
@@ -176,21 +229,25 @@ committed k c f left o (first ∷ more) by came d =
     accepted k c f left o (actions.Commit (first ∷ more)) (Commits c (first ∷ more)) by refl refl (ap is_faulted (sym is)) (ap has_effect (sym is)) came
 
 accepted_by : (k : Core) (c : ℕ) (f : RawFrame) (left : Unread) (o : Outcome) (action : Action) → action_by f.command (session_at k c) f ≡ action
-    → option_and_then (λ mv. move_refusal k.world mv) (frame_move k c action) ≡ None
-    → In o (option_map_or (move_outcome k) (frame_move k c action) (Outcome.Done ∷ [])) → Comes k (Event.Next c) (Reading.Finds f left) o
-accepted_by k c f left o actions.Connected by n i = elim i [ inl e ↦ done k c f left o actions.Connected by refl e | inr j ↦ absurd j ]
+    → option_and_then (λ mv. move_refusal (core_for k f).world mv) (frame_move k c action) ≡ None
+    → In o (option_map_or (move_outcome (core_for k f)) (frame_move k c action) (Outcome.Done ∷ [])) → Comes k (Event.Next c) (Reading.Finds f left) o
+accepted_by k c f left o (actions.Connected client) by n i =
+    let w = (core_for k f).world in let mv = Connects c (claimed_sender client (claims_of k.steps)) in
+    let is = some_same Outcome.Done o (effect_of w mv o n i) in
+    accepted k c f left o (actions.Connected client) mv by refl refl (ap is_faulted (sym is)) (ap has_effect (sym is)) (in_option o _ i)
 accepted_by k c f left o actions.Nothing by n i = elim i [ inl e ↦ done k c f left o actions.Nothing by refl e | inr j ↦ absurd j ]
 accepted_by k c f left o (actions.Subscribe id t) by n i =
-    let is = some_same (Outcome.Subscribed (length k.world.subscriptions) (topic_at k.world t).frontier) o (effect_of k.world (Subscribes c t) o n i) in
+    let w = (core_for k f).world in
+    let is = some_same (Outcome.Subscribed (length w.subscriptions) (topic_at w t).frontier) o (effect_of w (Subscribes c t) o n i) in
     accepted k c f left o (actions.Subscribe id t) (Subscribes c t) by refl refl (ap is_faulted (sym is)) (ap has_effect (sym is)) (in_option o _ i)
 accepted_by k c f left o (actions.Unsubscribe id) by n i =
-    let s = number_by c id k.steps in
-    let is = some_same (Outcome.Unsubscribed s (end_now k.world s)) o (effect_of k.world (Unsubscribes c s) o n i) in
+    let w = (core_for k f).world in let s = number_by c id k.steps in
+    let is = some_same (Outcome.Unsubscribed s (end_now w s)) o (effect_of w (Unsubscribes c s) o n i) in
     accepted k c f left o (actions.Unsubscribe id) (Unsubscribes c s) by refl refl (ap is_faulted (sym is)) (ap has_effect (sym is)) (in_option o _ i)
 accepted_by k c f left o (actions.Commit sends) by n i =
-    committed k c f left o sends by (in_option o _ i) (effect_of k.world (Commits c sends) o n i)
+    committed k c f left o sends by (in_option o _ i) (effect_of (core_for k f).world (Commits c sends) o n i)
 accepted_by k c f left o actions.Disconnect by n i =
-    let is = some_same Outcome.Leaving o (effect_of k.world (Disconnects c) o n i) in
+    let is = some_same Outcome.Leaving o (effect_of (core_for k f).world (Disconnects c) o n i) in
     accepted k c f left o actions.Disconnect (Disconnects c) by refl refl (ap is_faulted (sym is)) (ap has_effect (sym is)) (in_option o _ i)
 
 found : (k : Core) (c : ℕ) (f : RawFrame) (left : Unread) (o : Outcome) (why : Option ConnectionFault) → frame_fault k c f ≡ why
@@ -198,7 +255,8 @@ found : (k : Core) (c : ℕ) (f : RawFrame) (left : Unread) (o : Outcome) (why :
 found k c f left o (Some fault) e i = erred k c (Reading.Finds f left) fault o i
 found k c f left o None e i = elim (In-append_cases o (frame_outcome k c f) _ i) [
   | inl j ↦ accepted_by k c f left o (action_by f.command (session_at k c) f) refl
-      (unrefused (case_fault f) (session_fault (session_at k c) f) (option_and_then (λ mv. move_refusal k.world mv) (frame_move k c (action_by f.command (session_at k c) f))) e) j
+      (unobjected (case_fault f) (session_fault (session_at k c) f) (claim_fault k (action_by f.command (session_at k c) f))
+      (option_and_then (λ mv. move_refusal (core_for k f).world mv) (frame_move k c (action_by f.command (session_at k c) f))) e).1 j
   | inr j ↦ erred k c (Reading.Finds f left) frame_no_memory o (was_wanted (wants_memory k c f) frame_no_memory o j)
 ]
 
@@ -221,7 +279,7 @@ next_comes k c rd o (Some why) i =
 opened_comes : (k : Core) (rd : Reading) (o : Outcome) → In o (move_outcome k Opens ++ Outcome.NoMemory ∷ []) → Comes k Event.Open rd o
 opened_comes k rd o i = elim (In-append_cases o (move_outcome k Opens) (Outcome.NoMemory ∷ []) i) [
   | inl j ↦ elim j [
-    | inl e ↦ subst (Comes k Event.Open rd) e (inr (inr (inr (inr (record { senders = _; connections = _; world = opened_world k.world; opened = refl })))))
+    | inl e ↦ subst (Comes k Event.Open rd) e (alone k Event.Open rd _ Opens refl refl refl refl)
     | inr n ↦ absurd n
   ]
   | inr j ↦ elim j [ inl e ↦ subst (Comes k Event.Open rd) e (inl (refl, refl)) | inr n ↦ absurd n ]

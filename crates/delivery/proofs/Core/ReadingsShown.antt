@@ -20,36 +20,42 @@ use Rattle.delivery.specs.declared.event.Event.{Event}
 use Rattle.delivery.specs.declared.outcome.Outcome.{Outcome}
 use Rattle.delivery.specs.declared.connection_fault.ConnectionFault.{ConnectionFault}
 use Rattle.delivery.specs.Machine.Objections.{Objection, refusal_of}
-use Rattle.delivery.specs.Machine.World.{World, topic_at}
+use Rattle.delivery.specs.Machine.World.{World, topic_at, is_in_use}
 use Rattle.delivery.specs.Machine.Moves.{Move, needs_idle, move_refusal, move_answer, answer_to, commit_answer, end_now}
-use Rattle.delivery.specs.Machine.Moves.Move.{Commits, Subscribes, Unsubscribes, Disconnects}
+use Rattle.delivery.specs.Machine.Moves.Move.{Connects, Commits, Subscribes, Unsubscribes, Disconnects}
 use Rattle.delivery.specs.Core.Steps.{CoreStep, Reading, frame_in, has_frame, says_frame, reads_as_said, shows_reading, number_by}
-use Rattle.delivery.specs.Core.State.{Core, core_of, IsReadBy, unread_at, session_at, frame_move}
-use Rattle.delivery.specs.Core.Outcomes.{outcome_of, move_outcome, unless, frame_no_memory, frame_fault, fault_outcomes, frame_outcome, reading_outcomes, outcomes, IsReadAt, IsCoreRun, accepted_outcomes, is_any, wants_memory}
+use Rattle.delivery.specs.Core.State.{Core, core_of, IsReadBy, unread_at, session_at, frame_move, core_for}
+use Rattle.delivery.specs.Core.Outcomes.{outcome_of, move_outcome, unless, frame_no_memory, frame_fault, fault_outcomes, frame_outcome, reading_outcomes, outcomes, IsReadAt, IsCoreRun, accepted_outcomes, is_any, wants_memory, claim_fault}
 use Rattle.delivery.proofs.Machine.SenderSteps.{In-append_cases}
 use Rattle.delivery.proofs.Core.AccountOfRun.{in_option, refusal_some, answer_is, was_wanted}
+use Rattle.delivery.specs.Core.Claims.{claims_of, claimed_sender, is_one_too_many}
+use Rattle.delivery.proofs.Core.ClaimsStand.{unobjected}
 
 -- a Next that read this shows it
 abbrev Shows : Reading → Outcome → Type 0
 Shows rd o = cond (says_frame o) (is_some (frame_in rd)) (not (is_some (frame_in rd))) ≡ true
 
--- a fault of a frame is of a frame that was read
-framed : (a : Option CaseFault) (b : Option SessionFault) (c : Option Objection) (fault : ConnectionFault)
-    → option_or (option_map ConnectionFault.Frame a) (option_or (option_map ConnectionFault.Session b) (option_map (λ why. frame_no_memory) c)) ≡ Some fault
-    → has_frame fault ≡ true
-framed (Some x) b c fault e = ap has_frame (sym (some_same _ fault e))
-framed None (Some x) c fault e = ap has_frame (sym (some_same _ fault e))
-framed None None (Some x) fault e = ap has_frame (sym (some_same _ fault e))
-framed None None None fault e = none_some fault e
+-- a fault of a claim is of a frame that was read
+claimed : (k : Core) (action : Action) (fault : ConnectionFault) → claim_fault k action ≡ Some fault → has_frame fault ≡ true
+claimed k (actions.Connected client) fault e =
+    by (option_map_or (is_in_use k.world) (claimed_sender client (claims_of k.steps)) false) (is_one_too_many client (claims_of k.steps)) e
+  where
+    by : (a b : Bool) → first_refusal ((a, ConnectionFault.SenderInUse) ∷ (b, ConnectionFault.TooManyClients) ∷ []) ≡ Some fault → has_frame fault ≡ true
+    by true b d = ap has_frame (sym (some_same _ fault d))
+    by false true d = ap has_frame (sym (some_same _ fault d))
+    by false false d = none_some fault d
+claimed k _ fault e = none_some fault e
 
--- where there is none, the frame's move isn't refused
-pub unrefused : (a : Option CaseFault) (b : Option SessionFault) (c : Option Objection)
-    → option_or (option_map ConnectionFault.Frame a) (option_or (option_map ConnectionFault.Session b) (option_map (λ why. frame_no_memory) c)) ≡ None
-    → c ≡ None
-unrefused (Some x) b c e = none_some _ (sym e)
-unrefused None (Some x) c e = none_some _ (sym e)
-unrefused None None (Some x) e = none_some _ (sym e)
-unrefused None None None e = refl
+-- so is each fault of a frame
+framed : (a : Option CaseFault) (b : Option SessionFault) (d : Option ConnectionFault) (c : Option Objection) (fault : ConnectionFault)
+    → (d ≡ Some fault → has_frame fault ≡ true)
+    → option_or (option_map ConnectionFault.Frame a) (option_or (option_map ConnectionFault.Session b) (option_or d (option_map (λ why. frame_no_memory) c))) ≡ Some fault
+    → has_frame fault ≡ true
+framed (Some x) b d c fault h e = ap has_frame (sym (some_same _ fault e))
+framed None (Some x) d c fault h e = ap has_frame (sym (some_same _ fault e))
+framed None None (Some x) c fault h e = h e
+framed None None None (Some x) fault h e = ap has_frame (sym (some_same _ fault e))
+framed None None None None fault h e = none_some fault e
 
 committed_said : (w : World) (c : ℕ) (sends : List SentMessage) (o : Outcome) → outcome_of (commit_answer w c sends) ≡ Some o → says_frame o ≡ true
 committed_said w c [] o d = ap says_frame (sym (some_same _ o d))
@@ -60,17 +66,18 @@ pub effect_of : (w : World) (mv : Move) (o : Outcome) → move_refusal w mv ≡ 
 effect_of w mv o n i = ap outcome_of (sym (answer_is w mv n)) ∙ in_option o _ i
 
 -- the outcome of an accepted frame says that it was read
-accepted_said : (k : Core) (c : ℕ) (action : Action) (o : Outcome) → option_and_then (λ mv. move_refusal k.world mv) (frame_move k c action) ≡ None
-    → In o (option_map_or (move_outcome k) (frame_move k c action) (Outcome.Done ∷ [])) → says_frame o ≡ true
-accepted_said k c actions.Connected o n i = elim i [ inl e ↦ ap says_frame (sym e) | inr j ↦ absurd j ]
-accepted_said k c actions.Nothing o n i = elim i [ inl e ↦ ap says_frame (sym e) | inr j ↦ absurd j ]
-accepted_said k c (actions.Subscribe id t) o n i =
-    ap says_frame (sym (some_same (Outcome.Subscribed (length k.world.subscriptions) (topic_at k.world t).frontier) o (effect_of k.world (Subscribes c t) o n i)))
-accepted_said k c (actions.Unsubscribe id) o n i =
+accepted_said : (k : Core) (w : World) (c : ℕ) (action : Action) (o : Outcome) → option_and_then (λ mv. move_refusal w mv) (frame_move k c action) ≡ None
+    → In o (option_map_or (move_outcome (record k { world = w })) (frame_move k c action) (Outcome.Done ∷ [])) → says_frame o ≡ true
+accepted_said k w c (actions.Connected client) o n i =
+    ap says_frame (sym (some_same Outcome.Done o (effect_of w (Connects c (claimed_sender client (claims_of k.steps))) o n i)))
+accepted_said k w c actions.Nothing o n i = elim i [ inl e ↦ ap says_frame (sym e) | inr j ↦ absurd j ]
+accepted_said k w c (actions.Subscribe id t) o n i =
+    ap says_frame (sym (some_same (Outcome.Subscribed (length w.subscriptions) (topic_at w t).frontier) o (effect_of w (Subscribes c t) o n i)))
+accepted_said k w c (actions.Unsubscribe id) o n i =
     let s = number_by c id k.steps in
-    ap says_frame (sym (some_same (Outcome.Unsubscribed s (end_now k.world s)) o (effect_of k.world (Unsubscribes c s) o n i)))
-accepted_said k c (actions.Commit sends) o n i = committed_said k.world c sends o (effect_of k.world (Commits c sends) o n i)
-accepted_said k c actions.Disconnect o n i = ap says_frame (sym (some_same Outcome.Leaving o (effect_of k.world (Disconnects c) o n i)))
+    ap says_frame (sym (some_same (Outcome.Unsubscribed s (end_now w s)) o (effect_of w (Unsubscribes c s) o n i)))
+accepted_said k w c (actions.Commit sends) o n i = committed_said w c sends o (effect_of w (Commits c sends) o n i)
+accepted_said k w c actions.Disconnect o n i = ap says_frame (sym (some_same Outcome.Leaving o (effect_of w (Disconnects c) o n i)))
 
 read : (rd : Reading) (o : Outcome) (b : Bool) → says_frame o ≡ b → is_some (frame_in rd) ≡ b → Shows rd o
 read rd o true e f = ap (λ b. cond b (is_some (frame_in rd)) (not (is_some (frame_in rd)))) e ∙ f
@@ -85,11 +92,14 @@ faulted rd fault o h i = elim i [
 found : (k : Core) (c : ℕ) (f : RawFrame) (left : Unread) (o : Outcome) (why : Option ConnectionFault) → frame_fault k c f ≡ why
     → In o (option_map_or fault_outcomes why (accepted_outcomes k c f)) → Shows (Reading.Finds f left) o
 found k c f left o (Some fault) e i =
-    faulted (Reading.Finds f left) fault o (framed (case_fault f) (session_fault (session_at k c) f) (option_and_then (λ mv. move_refusal k.world mv) (frame_move k c (action_by f.command (session_at k c) f))) fault e) i
+    faulted (Reading.Finds f left) fault o
+    (framed (case_fault f) (session_fault (session_at k c) f) (claim_fault k (action_by f.command (session_at k c) f))
+    (option_and_then (λ mv. move_refusal (core_for k f).world mv) (frame_move k c (action_by f.command (session_at k c) f))) fault
+    (claimed k (action_by f.command (session_at k c) f) fault) e) i
 found k c f left o None e i = elim (In-append_cases o (frame_outcome k c f) _ i) [
   | inl j ↦ read (Reading.Finds f left) o true
-      (accepted_said k c (action_by f.command (session_at k c) f) o
-      (unrefused (case_fault f) (session_fault (session_at k c) f) (option_and_then (λ mv. move_refusal k.world mv) (frame_move k c (action_by f.command (session_at k c) f))) e) j) refl
+      (accepted_said k (core_for k f).world c (action_by f.command (session_at k c) f) o
+      (unobjected (case_fault f) (session_fault (session_at k c) f) (claim_fault k (action_by f.command (session_at k c) f)) (option_and_then (λ mv. move_refusal (core_for k f).world mv) (frame_move k c (action_by f.command (session_at k c) f))) e).1 j) refl
   | inr j ↦ faulted (Reading.Finds f left) frame_no_memory o refl (was_wanted (wants_memory k c f) frame_no_memory o j)
 ]
 

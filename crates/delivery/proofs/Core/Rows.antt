@@ -14,9 +14,9 @@ use Rattle.delivery.specs.Core.Outcomes.{outcomes}
 use Rattle.delivery.specs.declared.event.Event.{Event}
 use Rattle.delivery.specs.declared.refusal.Refusal.{Refusal}
 use Rattle.delivery.specs.declared.connection_fault.ConnectionFault.{ConnectionFault}
-use Rattle.delivery.specs.declared.outcome.Outcome.TheVariants.{Opened, Done, Subscribed, Unsubscribed, Flying, Proposed, Failed, Decided, Withdrawn, Cancelled, Turned, Handed, Faulted, Leaving, Gone, Refused}
+use Rattle.delivery.specs.declared.outcome.Outcome.TheVariants.{Opened, Done, Subscribed, Unsubscribed, Flying, Proposed, Failed, Decided, Withdrawn, Cancelled, Turned, Handed, Faulted, Leaving, Gone, Refused, Fed}
 use Rattle.delivery.specs.Core.Account.{account_of}
-use Rattle.delivery.specs.Core.State.{Core, new_core}
+use Rattle.delivery.specs.Core.State.{Core, names_at, new_core}
 use Rattle.delivery.specs.Core.Reports.{report_of}
 use Rattle.delivery.proofs.Core.Agreement.{agreements, all_agree}
 use Rattle.delivery.proofs.Core.Acts.{topic_list, Act, frame, part, made, x_to, y_to, machine_account, seen, topic, stamp, id, log_row, act, reads, waits, without, played, shown_outcomes, subscribe, begin, send_in, send, commit, disconnect, asking, opens, propose, turn, A, B}
@@ -168,17 +168,18 @@ lags_outs : (report_of lags).outs
 unfolding digits
 lags_outs = refl
 
--- ---- the four faults, each frame with a receipt
+-- ---- a first use and three faults, each frame with a receipt
 
--- four refused frames: of an unknown topic, an unknown transaction, an ack mode, and an ACK
+-- a SEND to a topic that it makes, and three refused frames: of an unknown transaction, an ack mode, and an ACK
 abbrev pub faults_acts : List Act
 faults_acts = opens 0 (opens 1 (opens 2 (opens 3 (
     reads 0 (asking (codes "r") (send (codes "Z") [])) ∷ reads 1 (asking (codes "r") (commit (codes "q")))
     ∷ reads 2 (asking (codes "r") (record (subscribe (codes "s") (codes "Z")) { headers = (codes "ack", codes "client") ∷ (subscribe (codes "s") (codes "Z")).headers }))
     ∷ reads 3 (asking (codes "r") (frame commands.Ack [] []))
+    ∷ act (Event.Piece 0 (codes "x")) ∷ act (Event.Leave 0) ∷ act (Event.Next 0)
     ∷ act (Event.Piece 3 (codes "x")) ∷ act (Event.Leave 3) ∷ act (Event.Next 3) ∷ []))))
 
--- the core after the four faults
+-- the core after them
 abbrev pub faults : Core
 faults = played one faults_acts
 
@@ -187,17 +188,21 @@ faults_agrees = refl
 
 faults_outcomes : shown_outcomes faults
     ≡ Opened 0 ∷ Done ∷ Opened 1 ∷ Done ∷ Opened 2 ∷ Done ∷ Opened 3 ∷ Done
-    ∷ Faulted (ConnectionFault.Session sessions.UnknownDestination) false ∷ Faulted (ConnectionFault.Session sessions.NoSuchTxn) false
+    ∷ Flying (id 0 1) ∷ Faulted (ConnectionFault.Session sessions.NoSuchTxn) false
     ∷ Faulted (ConnectionFault.Session sessions.AckMode) false ∷ Faulted (ConnectionFault.Frame cases.Unsupported) false
+    ∷ Fed ∷ Refused Refusal.NotLeaving ∷ Refused Refusal.Busy
     ∷ Refused Refusal.Busy ∷ Gone false ∷ Refused Refusal.Gone ∷ []
 faults_outcomes = refl
+
+faults_names : names_at faults ≡ A ∷ codes "Z" ∷ []
+faults_names = refl
 
 -- the text of the CONNECTED frame
 abbrev pub greeting : List ℕ
 greeting = codes "CONNECTED\nversion:1.2\nheart-beat:0,0\n\n\0"
 
 faults_outs : (report_of faults).outs
-    ≡ (greeting ++ codes "ERROR\nmessage:67 UnknownDestination\nreceipt-id:r\ncontent-length:0\n\n\0")
+    ≡ greeting
     ∷ (greeting ++ codes "ERROR\nmessage:66 NoSuchTxn\nreceipt-id:r\ncontent-length:0\n\n\0")
     ∷ (greeting ++ codes "ERROR\nmessage:68 AckMode\nreceipt-id:r\ncontent-length:0\n\n\0")
     ∷ (greeting ++ codes "ERROR\nmessage:21 Unsupported\nreceipt-id:r\ncontent-length:0\n\n\0") ∷ []

@@ -1,7 +1,7 @@
 -- A net is a run of the machine, so that the laws of the machine's runs are laws of nets.
-use Rattle.std.proofs.Common.{◌≡◌, ℕ, Bool, true, false, List, [], ◌∷◌, ◌++◌, Option, Some, None, refl, sym, ap, subst, ◌∙◌, append-nil, length}
+use Rattle.std.proofs.Common.{◌≡◌, ℕ, Bool, true, false, List, [], ◌∷◌, ◌++◌, Option, Some, None, refl, sym, ap, subst, ◌∙◌, zero, suc, not, ◌&&◌}
 use Rattle.std.specs.List.{filter}
-use Rattle.std.specs.Prelude.{get_or, if◌then◌else◌}
+use Rattle.std.specs.Prelude.{codes, get_or, if◌then◌else◌}
 use Rattle.std.specs.Option.{option_to_list, option_map_or}
 use Rattle.stomp_frame.specs.declared.raw_frame.RawFrame.{RawFrame}
 use Rattle.mcast_txn.specs.Lists.{In}
@@ -10,6 +10,8 @@ use Rattle.mcast_group.specs.Sound.{IsSound}
 use Rattle.stomp_session.specs.declared.action.Action.{Action}
 use Rattle.stomp_session.specs.declared.action.Action.TheVariants as actions
 use Rattle.stomp_session.specs.Answers.{action_by}
+use Rattle.stomp_session.specs.Names.{is_known}
+use Rattle.stomp_session.specs.Frames.{field, has_destination}
 use Rattle.delivery.specs.declared.event.Event.{Event}
 use Rattle.delivery.specs.declared.outcome.Outcome.{Outcome}
 use Rattle.delivery.specs.Topics.{TopicList}
@@ -20,7 +22,7 @@ use Rattle.delivery.specs.Theorem.Laws.{answers_of, final_world}
 use Rattle.delivery.specs.Core.Account.{account_of}
 use Rattle.delivery.specs.Theorem.Tied.{added_clocks}
 use Rattle.delivery.specs.Core.Steps.{CoreStep, Reading, frame_in, has_effect}
-use Rattle.delivery.specs.Core.State.{Core, core_of, moves, session_at, frame_move, is_faulted, is_no_memory}
+use Rattle.delivery.specs.Core.State.{Core, core_of, moves, names_at, session_at, frame_move, topic_moves, is_faulted, is_no_memory}
 use Rattle.delivery.specs.Core.Output.{is_cut}
 use Rattle.delivery.specs.Nets.{KeptRun}
 use Rattle.delivery.specs.NetLaws.{moves_of, run_of_net, is_told, NetsAreRuns, NetsAreTied, NetsAreSound, NothingOddComes, NoneFailsTwice}
@@ -48,45 +50,73 @@ said_is (Answer.Refused why ∷ past) = said_is past
 said_is (Answer.Done ∷ past) = said_is past
 said_is (o ∷ past) = ap (λ z. o ∷ z) (said_is past)
 
--- ---- no move adds a topic
+-- ---- a topic that is made begins at 0
 
 added_append : (es fs : List Move) → added_clocks (es ++ fs) ≡ added_clocks es ++ added_clocks fs
 added_append [] fs = refl
 added_append (Move.AddsTopic clock ∷ es) fs = ap (λ (z : List ℕ). clock ∷ z) (added_append es fs)
 added_append (e ∷ es) fs = added_append es fs
 
-none_by_action : (k : Core) (c : ℕ) (action : Action) → added_clocks (option_to_list (frame_move k c action)) ≡ []
-none_by_action k c actions.Connected = refl
-none_by_action k c actions.Nothing = refl
-none_by_action k c (actions.Subscribe id t) = refl
-none_by_action k c (actions.Unsubscribe id) = refl
-none_by_action k c (actions.Commit sends) = refl
-none_by_action k c actions.Disconnect = refl
+-- each of these numbers is 0
+abbrev AreZero : List ℕ → Type 0
+AreZero clocks = (i : ℕ) → get_or clocks i 0 ≡ 0
 
-none_by_frame : (k : Core) (c : ℕ) (read : Option RawFrame)
-    → added_clocks (option_map_or (λ (f : RawFrame). option_to_list (frame_move k c (action_by f.command (session_at k c) f))) read []) ≡ []
-none_by_frame k c None = refl
-none_by_frame k c (Some f) = none_by_action k c (action_by f.command (session_at k c) f)
+zero_append : (xs ys : List ℕ) → AreZero xs → AreZero ys → AreZero (xs ++ ys)
+zero_append [] ys h g i = g i
+zero_append (x ∷ xs) ys h g zero = h zero
+zero_append (x ∷ xs) ys h g (suc i) = zero_append xs ys (λ j. h (suc j)) g i
 
-none_if : (b : Bool) (es fs : List Move) → added_clocks es ≡ [] → added_clocks fs ≡ [] → added_clocks (if b then es else fs) ≡ []
-none_if true es fs h g = h
-none_if false es fs h g = g
+-- behind others they change nothing
+zero_behind : (xs ys : List ℕ) → AreZero ys → (i : ℕ) → get_or (xs ++ ys) i 0 ≡ get_or xs i 0
+zero_behind [] ys h i = h i
+zero_behind (x ∷ xs) ys h zero = refl
+zero_behind (x ∷ xs) ys h (suc i) = zero_behind xs ys h i
 
-none_added : (k : Core) (e : Event) (rd : Reading) (o : Outcome) → added_clocks (moves k e rd o) ≡ []
-none_added k Event.Open rd o = none_if (is_no_memory o) [] (Move.Opens ∷ Move.Connects (length k.world.connections) None ∷ []) refl refl
-none_added k (Event.Next c) rd o =
-    none_if (is_faulted o) (Errs c ∷ []) _ refl (none_if (has_effect o) _ [] (none_by_frame k c (frame_in rd)) refl)
-none_added k (Event.Decide c) rd o = none_if (is_cut o) (Lost c ∷ []) [] refl refl
-none_added k (Event.Take s) rd o = none_if (is_no_memory o) [] (Move.Takes s ∷ []) refl refl
-none_added k e rd o = refl
+zero_added : (es fs : List Move) → AreZero (added_clocks es) → AreZero (added_clocks fs) → AreZero (added_clocks (es ++ fs))
+zero_added es fs h g = subst AreZero (sym (added_append es fs)) (zero_append (added_clocks es) (added_clocks fs) h g)
 
-no_topics_added : (topics : TopicList) (capacity : ℕ) (steps : List CoreStep) → added_clocks (moves_of topics capacity steps) ≡ []
-no_topics_added topics capacity [] = refl
-no_topics_added topics capacity (step ∷ older) =
+zero_by_action : (k : Core) (c : ℕ) (action : Action) → AreZero (added_clocks (option_to_list (frame_move k c action)))
+zero_by_action k c (actions.Connected client) i = refl
+zero_by_action k c actions.Nothing i = refl
+zero_by_action k c (actions.Subscribe id t) i = refl
+zero_by_action k c (actions.Unsubscribe id) i = refl
+zero_by_action k c (actions.Commit sends) i = refl
+zero_by_action k c actions.Disconnect i = refl
+
+zero_if : (b : Bool) (es fs : List Move) → AreZero (added_clocks es) → AreZero (added_clocks fs) → AreZero (added_clocks (if b then es else fs))
+zero_if true es fs h g = h
+zero_if false es fs h g = g
+
+one_zero : AreZero (0 ∷ [])
+one_zero zero = refl
+one_zero (suc i) = refl
+
+no_zero : AreZero []
+no_zero i = refl
+
+zero_by_frame : (k : Core) (c : ℕ) (read : Option RawFrame)
+    → AreZero
+    (added_clocks (option_map_or (λ (f : RawFrame). topic_moves (names_at k) f ++ option_to_list (frame_move k c (action_by f.command (session_at k c) f))) read []))
+zero_by_frame k c None = no_zero
+zero_by_frame k c (Some f) =
+    zero_added (topic_moves (names_at k) f) (option_to_list (frame_move k c (action_by f.command (session_at k c) f)))
+    (zero_if (has_destination f.command && not (is_known (field (codes "destination") f) (names_at k))) (Move.AddsTopic 0 ∷ []) [] one_zero no_zero)
+    (zero_by_action k c (action_by f.command (session_at k c) f))
+
+zero_by_event : (k : Core) (e : Event) (rd : Reading) (o : Outcome) → AreZero (added_clocks (moves k e rd o))
+zero_by_event k Event.Open rd o = zero_if (is_no_memory o) [] (Move.Opens ∷ []) no_zero no_zero
+zero_by_event k (Event.Next c) rd o =
+    zero_if (is_faulted o) (Errs c ∷ []) _ no_zero (zero_if (has_effect o) _ [] (zero_by_frame k c (frame_in rd)) no_zero)
+zero_by_event k (Event.Decide c) rd o = zero_if (is_cut o) (Lost c ∷ []) [] no_zero no_zero
+zero_by_event k (Event.Take s) rd o = zero_if (is_no_memory o) [] (Move.Takes s ∷ []) no_zero no_zero
+zero_by_event k e rd o = no_zero
+
+zero_by_run : (topics : TopicList) (capacity : ℕ) (steps : List CoreStep) → AreZero (added_clocks (moves_of topics capacity steps))
+zero_by_run topics capacity [] = no_zero
+zero_by_run topics capacity (step ∷ older) =
     let k = core_of topics capacity older in
-    added_append (moves_of topics capacity older) (moves k step.event step.reading step.outcome)
-    ∙ (ap (λ (z : List ℕ). z ++ added_clocks (moves k step.event step.reading step.outcome)) (no_topics_added topics capacity older)
-    ∙ none_added k step.event step.reading step.outcome)
+    zero_added (moves_of topics capacity older) (moves k step.event step.reading step.outcome) (zero_by_run topics capacity older)
+    (zero_by_event k step.event step.reading step.outcome)
 
 -- ---- nets
 
@@ -96,8 +126,7 @@ nets_are_runs net r is = record {
   core = world_is net.topics net.capacity net.steps ∙ ap (λ q. final_world q) (run_is net);
   account = account_is net.topics net.capacity net.steps is.is_run
       ∙ (ap (λ q. said (answers_of q)) (run_is net) ∙ said_is (answers_of (run_of_net net)));
-  opening = λ t. ap (λ (z : List ℕ). get_or (net.topics.clocks ++ z) t.0 0) (no_topics_added net.topics net.capacity net.steps)
-      ∙ ap (λ (z : List ℕ). get_or z t.0 0) (append-nil net.topics.clocks);
+  opening = λ t. zero_behind net.topics.clocks (added_clocks (moves_of net.topics net.capacity net.steps)) (zero_by_run net.topics net.capacity net.steps) t.0;
 }
 
 pub nets_are_tied : NetsAreTied

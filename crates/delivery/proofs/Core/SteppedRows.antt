@@ -1,7 +1,7 @@
 -- Rows of what one event makes of a core (`HasStepped`), computed in cores of two topics that are written out. Beside each
 -- field stands a step that meets its premise, as the core makes it, and what a wrong machine makes instead: that field alone
 -- refuses it.
-use Rattle.std.specs.Prelude.{◌≡◌, ℕ, zero, suc, ◌+◌, ◌≤◌, ◌⊎◌, false, List, [], ◌∷◌, ◌++◌, map, length, Option, Some, None}
+use Rattle.std.specs.Prelude.{◌≡◌, ℕ, zero, suc, ◌+◌, ◌≤◌, ◌⊎◌, false, List, [], ◌∷◌, ◌++◌, codes, map, length, Option, Some, None}
 use Rattle.std.proofs.Common.{refl, sym, ap, ◌∙◌, subst, inl, inr, arith}
 use Rattle.std.proofs.lemmas.Bool.{false≢true}
 use Rattle.mcast_txn.specs.declared.id.Topic.{Topic}
@@ -13,15 +13,16 @@ use Rattle.mcast_group.specs.Machine.{TopicState, Pending}
 use Rattle.mcast_group.proofs.Parts.{some_same, none_some}
 use Rattle.delivery.specs.declared.event.Event.{Event}
 use Rattle.delivery.specs.declared.outcome.Outcome.{Outcome}
-use Rattle.delivery.specs.declared.outcome.Outcome.TheVariants.{Opened, Unsubscribed, Proposed, Failed, Decided, Released, Turned, Handed, Refused, NoMemory}
+use Rattle.delivery.specs.declared.outcome.Outcome.TheVariants.{Opened, Done, Unsubscribed, Proposed, Failed, Decided, Released, Turned, Handed, Refused, NoMemory}
 use Rattle.delivery.specs.declared.refusal.Refusal.{Refusal}
-use Rattle.delivery.specs.Machine.World.{World, SenderState, Subscription, Standing, topic_at}
+use Rattle.delivery.specs.Machine.World.{connection_at, World, SenderState, Subscription, Standing, topic_at}
 use Rattle.delivery.specs.Machine.Observed.{log_at, accepted_at, end_at}
+use Rattle.delivery.specs.Core.Claims.{claims_of, sender_claimed}
 use Rattle.delivery.specs.Core.Steps.{CoreStep, Reading}
-use Rattle.delivery.specs.Core.State.{Core, core_after}
+use Rattle.delivery.specs.Core.State.{Core, core_after, names_at, new_core}
 use Rattle.delivery.specs.Core.Outcomes.{outcomes}
-use Rattle.delivery.specs.Core.Stepped.{HasStepped, GivesTicket, GivesStamp, DeliversNext, LagsFull}
-use Rattle.delivery.proofs.Core.Acts.{topic, stamp, id, log_row, made, part, A, B}
+use Rattle.delivery.specs.Core.Stepped.{HasStepped, GivesTicket, GivesStamp, DeliversNext, IsNewTopic, LagsFull}
+use Rattle.delivery.proofs.Core.Acts.{topic_list, topic, stamp, id, log_row, made, opens, part, played, reads, subscribe, A, B}
 
 -- ---- what the rows are written with
 
@@ -335,6 +336,58 @@ two_topics h =
     number_of : Option Topic → ℕ
     number_of None = 0
     number_of (Some t) = t.0
+
+-- ---- a topic that is made is new, and there is one for each name (`opened`, `as_many`)
+
+-- a core without topics after a connection's SUBSCRIBE to A
+abbrev pub used : Core
+used = played (new_core (topic_list []) 2) (opens 0 (reads 0 (subscribe (codes "s") A) ∷ []))
+
+made_new : IsNewTopic (topic_at used.world (topic 0))
+made_new = (refl, refl, refl, refl)
+
+made_one : length used.world.topics ≡ length (names_at used)
+made_one = refl
+
+-- a core of A and B, and one with this topic too, which has no name
+abbrev pub two : Core
+two = core (bare 0 0) (bare 1 9) [] Standing.Open []
+
+abbrev pub three : TopicState → Core
+three t = record two { world = record two.world { topics = bare 0 0 ∷ bare 1 9 ∷ t ∷ [] } }
+
+-- a topic that is made with clock 1
+late_clock : Steps two (three (bare 2 1)) (Event.Next 0) Done → Prim.⊥
+late_clock h = let e : 1 ≡ 0 = (h.opened (topic 2) (omega arith) (omega arith)).0 in absurd (omega (arith, e))
+
+-- one whose subscriptions begin at (5, A)
+late_frontier : Steps two (three (record (bare 2 0) { frontier = stamp 5 0 })) (Event.Next 0) Done → Prim.⊥
+late_frontier h =
+    let e : 5 ≡ 0 = ap (λ (a : Stamp). a.n) (h.opened (topic 2) (omega arith) (omega arith)).3 in absurd (omega (arith, e))
+
+-- one that has no name
+nameless : Steps two (three (bare 2 0)) (Event.Next 0) Done → Prim.⊥
+nameless h = let e : 3 ≡ 2 = h.as_many in absurd (omega (arith, e))
+
+-- ---- whom a connection speaks for, and how many senders there are, is as its claim says (`speaks`, `begun`)
+
+-- the connection of that core claimed a sender, the first
+used_speaks : (connection_at used.world 0).sender ≡ Some 0
+used_speaks = refl
+
+used_claimed : sender_claimed 0 (claims_of used.steps) ≡ Some 0
+used_claimed = refl
+
+used_begun : length used.world.senders ≡ 1
+used_begun = refl
+
+-- a connection that speaks for a sender which it never claimed
+unclaimed : Steps two two (Event.Lost 0) (Refused Refusal.Gone) → Prim.⊥
+unclaimed h = none_some 0 (sym (h.speaks 0))
+
+-- a sender that began by no claim
+unbegun : Steps (sending []) (sending []) (Event.Lost 0) (Refused Refusal.Gone) → Prim.⊥
+unbegun h = let e : 1 ≡ 0 = h.begun in absurd (omega (arith, e))
 
 -- ---- a span ends where it is closed, or where its queue has no room for a row (`ends`)
 

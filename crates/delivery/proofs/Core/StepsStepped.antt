@@ -7,6 +7,7 @@ use Rattle.std.proofs.lemmas.Bool.{true≢false, false≢true, and_parts, ltb-tr
 use Rattle.std.proofs.lemmas.List.{get_or_past}
 use Rattle.mcast_txn.specs.declared.id.Topic.{Topic}
 use Rattle.mcast_txn.specs.declared.id.TxnId.{TxnId}
+use Rattle.mcast_txn.specs.declared.draft.sent_message.SentMessage.{SentMessage}
 use Rattle.mcast_txn.specs.declared.stamp.Stamp.{Stamp}
 use Rattle.mcast_txn.specs.Stamp.{greatest}
 use Rattle.mcast_txn.specs.Part.{part_at}
@@ -17,26 +18,26 @@ use Rattle.mcast_txn.specs.Transaction.{topics_of}
 use Rattle.mcast_txn.specs.TopicSet.{names}
 use Rattle.mcast_txn.proofs.Members.{at_set, at_set_within}
 use Rattle.mcast_group.specs.declared.fault.ProposeFault.{ProposeFault}
-use Rattle.mcast_group.specs.Machine.{TopicState, new_topic, after_propose}
+use Rattle.mcast_group.specs.Machine.{Entry, TopicState, new_topic, after_propose}
 use Rattle.mcast_group.proofs.Parts.{some_same, none_some}
 use Rattle.delivery.specs.declared.event.Event.{Event}
 use Rattle.delivery.specs.declared.outcome.Outcome.{Outcome}
 use Rattle.delivery.specs.declared.refusal.Refusal.{Refusal}
 use Rattle.delivery.specs.Machine.Objections.{Objection, refusal_of}
-use Rattle.delivery.specs.Machine.World.{World, Undecided, SenderState, Connection, Subscription, nobody, no_subscription, new_sender, topic_at, sender_at, connection_at, speaker, subscription_at, speaker_number}
+use Rattle.delivery.specs.Machine.World.{World, Undecided, SenderState, Connection, Subscription, nobody, no_subscription, new_sender, topic_at, sender_at, connection_at, speaker, subscription_at, entry_at, start, speaker_number}
 use Rattle.delivery.specs.Machine.Observed.{accepted_at, end_at, log_at}
-use Rattle.delivery.specs.Machine.Moves.{Move, Answer, world_after, answer_to, move_refusal, undecided_or_none, undecided_at, has_ticket, insert_ticket, is_complete, next_ticket, proposal_fault, propose_effect, propose_answer, decide_effect, take_effect}
-use Rattle.delivery.specs.Machine.Moves.Move.{Errs, Lost, Proposes, Decides, Releases, Turns, Takes}
+use Rattle.delivery.specs.Machine.Moves.{Move, Answer, world_after, answer_to, move_refusal, undecided_or_none, undecided_at, has_ticket, insert_ticket, is_complete, next_ticket, proposal_fault, propose_effect, propose_answer, decide_effect, take_effect, commit_effect, close_effect_of}
+use Rattle.delivery.specs.Machine.Moves.Move.{AddsTopic, Connects, Commits, Subscribes, Unsubscribes, Disconnects, Errs, Lost, Proposes, Decides, Releases, Turns, Takes}
 use Rattle.delivery.specs.Theorem.Answers.{IsAnswer}
-use Rattle.delivery.specs.Theorem.Laws.{Run, final_world, answers_of}
+use Rattle.delivery.specs.Theorem.Laws.{Run, final_world, answers_of, move_topic}
 use Rattle.delivery.specs.Theorem.Spans.{EndsBeforeRow}
 use Rattle.delivery.specs.Machine.Runs.{delivered_items}
-use Rattle.delivery.specs.Core.Steps.{Reading}
+use Rattle.delivery.specs.Core.Steps.{Reading, has_effect}
 use Rattle.delivery.specs.Core.Output.{is_cut}
 use Rattle.delivery.specs.Core.State.{Core, core_of, core_after, is_faulted, is_no_memory}
 use Rattle.delivery.specs.Core.Outcomes.{outcome_of, cut_of}
 use Rattle.delivery.specs.Core.Stepped
-use Rattle.delivery.specs.Core.Stepped.{event_topic, GivesTicket, GivesStamp, DeliversNext, LagsFull, HasStepped}
+use Rattle.delivery.specs.Core.Stepped.{event_topic, GivesTicket, GivesStamp, DeliversNext, LagsFull, HasStepped, IsNewTopic}
 use Rattle.delivery.specs.Inner.Stands.{IsReached}
 use Rattle.delivery.proofs.Machine.Invariant.{topic_in}
 use Rattle.delivery.proofs.Machine.InvariantIsKept.{by_refusal, checked, false_not, in_flight, asks_of, Asks}
@@ -45,12 +46,16 @@ use Rattle.delivery.proofs.Theorem.StepLaws.{refusals_change_nothing, others_unt
 use Rattle.delivery.proofs.Theorem.EndsAreAnswered.{ends_are_told}
 use Rattle.delivery.proofs.Theorem.LagsEndBeforeRow.{lags_end_before_row}
 use Rattle.delivery.proofs.Theorem.RowsEnter.{AllEnter, Enters, rows_enter}
-use Rattle.delivery.proofs.Theorem.SpansAsAnswered.{known, handing, within, spans_end_as_told}
+use Rattle.delivery.proofs.Theorem.SpansAsAnswered.{known, handing, within, ends_stay, spans_end_as_told}
 use Rattle.delivery.proofs.Core.AccountOfRun.{refusal_some}
+use Rattle.delivery.proofs.Core.ClaimsStand.{core_stands}
 use Rattle.delivery.proofs.Core.AtNext.{at_next}
 use Rattle.delivery.proofs.Machine.Speakers.{kept_number}
-use Rattle.delivery.proofs.Core.MoveOfStep.{IsMoveOf, is_of_frame, is_plain, world_then, is_opened, Comes, remembered, comes}
-use Rattle.delivery.proofs.Views.Runs.ByRunOfCore.{by_world}
+use Rattle.delivery.proofs.Core.MoveOfStep.{IsMoveOf, is_of_frame, is_plain, world_then, with_topic, Comes, remembered, comes}
+use Rattle.delivery.proofs.Views.Runs.ByRunOfCore.{machine_run, world_of, by_world}
+use Rattle.delivery.proofs.Core.ByRun.{longer, run_append}
+use Rattle.delivery.proofs.Core.Counts.{adds_none, step_adds_none, topics_counted}
+use Rattle.delivery.proofs.Machine.SubscriptionSteps.{at_push_two, push_length}
 use Rattle.delivery.proofs.Views.Senders.TicketsOfTopics.{given, tickets_are}
 
 -- ---- outcomes and answers
@@ -126,14 +131,14 @@ proposal_event : (e : Event) (mv : Move) (c : ℕ) (t : Topic) (m : Bool) → Is
 proposal_event (Event.Propose d u) mv c t m (memory, own) is = let one : d ≡ c = cc in let other : u ≡ t = cc in λ i. Event.Propose (one i) (other i)
 proposal_event (Event.Next d) mv c t m own is = absurd (false≢true (sym (ap is_of_frame is) ∙ own))
 proposal_event (Event.Piece d octets) mv c t m own is = absurd own
-proposal_event Event.Open mv c t m own is = absurd own
+proposal_event Event.Open mv c t m own is = cc
 proposal_event e mv c t m own is = cc
 
 decision_event : (e : Event) (mv : Move) (c : ℕ) → IsMoveOf e mv → mv ≡ Decides c → e ≡ Event.Decide c
 decision_event (Event.Decide d) mv c own is = let one : d ≡ c = cc in ap Event.Decide one
 decision_event (Event.Next d) mv c own is = absurd (false≢true (sym (ap is_of_frame is) ∙ own))
 decision_event (Event.Piece d octets) mv c own is = absurd own
-decision_event Event.Open mv c own is = absurd own
+decision_event Event.Open mv c own is = cc
 decision_event (Event.Propose d u) mv c (memory, own) is = cc
 decision_event e mv c own is = cc
 
@@ -141,7 +146,7 @@ take_event : (e : Event) (mv : Move) (s : ℕ) → IsMoveOf e mv → mv ≡ Take
 take_event (Event.Take q) mv s own is = let one : q ≡ s = cc in ap Event.Take one
 take_event (Event.Next d) mv s own is = absurd (false≢true (sym (ap is_of_frame is) ∙ own))
 take_event (Event.Piece d octets) mv s own is = absurd own
-take_event Event.Open mv s own is = absurd own
+take_event Event.Open mv s own is = cc
 take_event (Event.Propose d u) mv s (memory, own) is = cc
 take_event e mv s own is = cc
 
@@ -149,7 +154,7 @@ release_event : (e : Event) (mv : Move) (t : Topic) → IsMoveOf e mv → mv ≡
 release_event (Event.Release u) mv t own is = let one : u ≡ t = cc in ap Event.Release one
 release_event (Event.Next d) mv t own is = absurd (false≢true (sym (ap is_of_frame is) ∙ own))
 release_event (Event.Piece d octets) mv t own is = absurd own
-release_event Event.Open mv t own is = absurd own
+release_event Event.Open mv t own is = cc
 release_event (Event.Propose d u) mv t (memory, own) is = cc
 release_event e mv t own is = cc
 
@@ -157,7 +162,7 @@ turn_event : (e : Event) (mv : Move) (t : Topic) → IsMoveOf e mv → mv ≡ Tu
 turn_event (Event.Turn u) mv t own is = let one : u ≡ t = cc in ap Event.Turn one
 turn_event (Event.Next d) mv t own is = absurd (false≢true (sym (ap is_of_frame is) ∙ own))
 turn_event (Event.Piece d octets) mv t own is = absurd own
-turn_event Event.Open mv t own is = absurd own
+turn_event Event.Open mv t own is = cc
 turn_event (Event.Propose d u) mv t (memory, own) is = cc
 turn_event e mv t own is = cc
 
@@ -173,7 +178,7 @@ refused_stays k e rd o why (inr (inr (inl h))) is =
     let base : h.base ≡ Outcome.Refused why = uncut_refusal h.base why (subst (λ z. (h.base ≡ z) ⊎ (cut_of h.base ≡ z)) is h.cut) in
     h.world ∙ still k.world h.move why (h.is ∙ ap (λ (z : Outcome). Some z) base)
 refused_stays k e rd o why (inr (inr (inr (inl h)))) is = absurd (false≢true (sym (ap is_cut is) ∙ h.was_cut))
-refused_stays k e rd o why (inr (inr (inr (inr h)))) is = absurd (false≢true (sym (ap is_opened is) ∙ h.opened))
+refused_stays k e rd o why (inr (inr (inr (inr h)))) is = absurd (false≢true (sym (ap has_effect is) ∙ h.effect))
 
 unremembered_stays : (k : Core) (e : Event) (rd : Reading) (o : Outcome) → Comes k e rd o → o ≡ Outcome.NoMemory → world_then k e rd o ≡ k.world
 unremembered_stays k e rd o (inl h) is = h.0
@@ -182,9 +187,18 @@ unremembered_stays k e rd o (inr (inr (inl h))) is =
     let base : h.base ≡ Outcome.NoMemory = uncut_memory h.base (subst (λ z. (h.base ≡ z) ⊎ (cut_of h.base ≡ z)) is h.cut) in
     absurd (true≢false (sym (ap is_no_memory base) ∙ remembered (answer_to k.world h.move) h.base h.is))
 unremembered_stays k e rd o (inr (inr (inr (inl h)))) is = absurd (false≢true (sym (ap is_cut is) ∙ h.was_cut))
-unremembered_stays k e rd o (inr (inr (inr (inr h)))) is = absurd (false≢true (sym (ap is_opened is) ∙ h.opened))
+unremembered_stays k e rd o (inr (inr (inr (inr h)))) is = absurd (false≢true (sym (ap has_effect is) ∙ h.effect))
 
 -- ---- other topics
+
+-- the topic of a frame's move is the same once its topic is made
+same_topic : (w : World) (mv : Move) → is_of_frame mv ≡ true → move_topic (with_topic w) mv ≡ move_topic w mv
+same_topic w (Commits c sends) own = refl
+same_topic w (Subscribes c t) own = refl
+same_topic w (Unsubscribes c s) own = refl
+same_topic w (Disconnects c) own = refl
+same_topic w (Connects c claimed) own = refl
+same_topic w _ own = absurd (false≢true own)
 
 -- a move that is about no topic changes none
 others_stay : (k : Core) (e : Event) (rd : Reading) (o : Outcome) (t : Topic) → t.0 < length k.world.topics → event_topic k e rd ≢ Some t → Comes k e rd o
@@ -200,7 +214,16 @@ others_stay k e rd o t l ne (inr (inr (inr (inl h)))) =
     let second : (world_after (world_after w (Decides c)) (Lost c)).topics ≡ (world_after w (Decides c)).topics =
     by_refusal (λ v a. v.topics ≡ (world_after w (Decides c)).topics) (world_after w (Decides c)) (Lost c) (λ why. refl) (λ n. refl) in
     ap (λ (z : World). topic_at z t) h.world ∙ ap (λ z. topic_in z t) (second ∙ first)
-others_stay k e rd o t l ne (inr (inr (inr (inr h)))) = ap (λ (w : World). topic_at w t) h.world
+others_stay k e rd o t l ne (inr (inr (inr (inr h)))) =
+    let w = k.world in
+    let first : topic_at (with_topic w) t ≡ topic_at w t = others_untouched w (AddsTopic 0) t l (λ d. none_some t d) in
+    let there : t.0 < length (with_topic w).topics = (let n = push_length w.topics (new_topic (record { 0 = length w.topics }) w.log_limit 0) in omega (arith, n, l)) in
+    elim h.then [
+      | inl (is, plain) ↦ ap (λ (z : World). topic_at z t) is ∙ first
+      | inr (mv, own, topic, is, came) ↦
+          ap (λ (z : World). topic_at z t) is
+          ∙ (others_untouched (with_topic w) mv t there (λ d. ne (sym topic ∙ (sym (same_topic w mv own) ∙ d))) ∙ first)
+    ]
 
 -- ---- tickets
 
@@ -240,6 +263,7 @@ ticket_comes : (k : Core) (e : Event) (rd : Reading) (o : Outcome) (n : ℕ) →
 ticket_comes k e rd o n (inl h) is = absurd (false≢true (sym (ap is_plain is) ∙ h.1))
 ticket_comes k e rd o n (inr (inl h)) is = absurd (false≢true (sym (ap is_faulted is) ∙ h.faulted))
 ticket_comes k e rd o n (inr (inr (inr (inl h)))) is = absurd (false≢true (sym (ap is_cut is) ∙ h.was_cut))
+ticket_comes k e rd o n (inr (inr (inr (inr h)))) is = absurd (false≢true (sym (ap has_effect is) ∙ h.effect))
 ticket_comes k e rd o n (inr (inr (inl h))) is =
     let w = k.world in
     let base : h.base ≡ Outcome.Proposed n = uncut_ticket h.base n (subst (λ z. (h.base ≡ z) ⊎ (cut_of h.base ≡ z)) is h.cut) in
@@ -252,7 +276,6 @@ ticket_comes k e rd o n (inr (inr (inl h))) is =
       subst (λ v. GivesTicket w v c t n) (sym (h.world ∙ ap (world_after w) own.3))
           (ticket_after w c t m a.0 a.1 n a.3 (ap (answer_to w) (sym own.3) ∙ a.2)),
     )
-ticket_comes k e rd o n (inr (inr (inr (inr h)))) is = absurd (false≢true (sym (ap is_opened is) ∙ h.opened))
 
 -- ---- a stamp
 
@@ -337,7 +360,7 @@ stamp_comes k e rd o stamp cut reached (inr (inr (inr (inl h)))) is =
     let same : c ≡ own.0 = (let d = own.1 in cc) in
     let greatest_is : stamp ≡ greatest (undecided_at w c).given = own.3 ∙ ap (λ d. greatest (undecided_at w d).given) (sym same) in
     (c, h.event, subst (λ v. GivesStamp w v c stamp) (sym h.world) (stamp_lost w (world_after w (Decides c)) c stamp (stamp_after k c a.0 stamp reached a.1 greatest_is)))
-stamp_comes k e rd o stamp cut reached (inr (inr (inr (inr h)))) is = absurd (false≢true (sym (ap is_opened is) ∙ h.opened))
+stamp_comes k e rd o stamp cut reached (inr (inr (inr (inr h)))) is = absurd (false≢true (sym (ap has_effect is) ∙ h.effect))
 
 -- ---- an item
 
@@ -365,7 +388,7 @@ item_comes : (k : Core) (e : Event) (rd : Reading) (o : Outcome) (count : ℕ) �
 item_comes k e rd o count (inl h) is = absurd (false≢true (sym (ap is_plain is) ∙ h.1))
 item_comes k e rd o count (inr (inl h)) is = absurd (false≢true (sym (ap is_faulted is) ∙ h.faulted))
 item_comes k e rd o count (inr (inr (inr (inl h)))) is = absurd (false≢true (sym (ap is_cut is) ∙ h.was_cut))
-item_comes k e rd o count (inr (inr (inr (inr h)))) is = absurd (false≢true (sym (ap is_opened is) ∙ h.opened))
+item_comes k e rd o count (inr (inr (inr (inr h)))) is = absurd (false≢true (sym (ap has_effect is) ∙ h.effect))
 item_comes k e rd o count (inr (inr (inl h))) is =
     let w = k.world in
     let base : h.base ≡ Outcome.Handed count = uncut_item h.base count (subst (λ z. (h.base ≡ z) ⊎ (cut_of h.base ≡ z)) is h.cut) in
@@ -411,9 +434,48 @@ run_ended r mv s end none some = elim (ends_are_told r mv s end none some) [
   )
 ]
 
-move_ended : (k : Core) → IsReached k → (mv : Move) (s : ℕ) (end : Stamp) → end_at k.world s ≡ None → end_at (world_after k.world mv) s ≡ Some end → Ended k.world mv s end
-move_ended k reached =
-    by_world (λ w. (mv : Move) (s : ℕ) (end : Stamp) → end_at w s ≡ None → end_at (world_after w mv) s ≡ Some end → Ended w mv s end) k reached run_ended
+-- a world that a run of the machine leads to
+record IsRun (w : World) : Type 0 where
+  run : Run
+  is : w ≡ final_world run
+
+by_run : (P : World → Type 0) (w : World) → IsRun w → ((r : Run) → P (final_world r)) → P w
+by_run P w ran h = subst P (sym ran.is) (h ran.run)
+
+ran_to : (k : Core) → IsReached k → IsRun k.world
+ran_to k reached = record { run = machine_run reached; is = world_of k reached }
+
+-- with a topic made
+made_run : (w : World) → IsRun w → IsRun (with_topic w)
+made_run w ran = record {
+  run = longer ran.run (AddsTopic 0 ∷ []);
+  is = ap with_topic ran.is ∙ sym (run_append ran.run.events (AddsTopic 0 ∷ []) (start ran.run.capacity ran.run.log_limit ran.run.clocks));
+}
+
+move_ended : (w : World) → IsRun w → (mv : Move) (s : ℕ) (end : Stamp) → end_at w s ≡ None → end_at (world_after w mv) s ≡ Some end → Ended w mv s end
+move_ended w ran =
+    by_run (λ z. (mv : Move) (s : ℕ) (end : Stamp) → end_at z s ≡ None → end_at (world_after z mv) s ≡ Some end → Ended z mv s end) w ran run_ended
+
+-- a move that is answered no end, and is no release and no turn, ends no span
+unended : (w : World) → IsRun w → (mv : Move) (s : ℕ) → ((end : Stamp) → answer_to w mv ≡ Answer.Unsubscribed s end → Prim.⊥)
+    → ((t : Topic) → (mv ≡ Releases t) ⊎ (mv ≡ Turns t) → Prim.⊥) → end_at w s ≡ None → end_at (world_after w mv) s ≡ None
+unended w ran mv s silent other none = by_end (end_at (world_after w mv) s) refl
+  where
+    by_end : (x : Option Stamp) → end_at (world_after w mv) s ≡ x → x ≡ None
+    by_end None e = refl
+    by_end (Some end) e = elim (move_ended w ran mv s end none e) [
+      | inl a ↦ absurd (silent end a)
+      | inr (by, full, row) ↦ absurd (other (subscription_at w s).topic by)
+    ]
+
+-- a topic that is made ends no span
+made_unended : (w : World) → IsRun w → (s : ℕ) → end_at w s ≡ None → end_at (with_topic w) s ≡ None
+made_unended w ran s none = unended w ran (AddsTopic 0) s (λ end a. cc) (λ t by. elim by [ inl d ↦ cc | inr d ↦ cc ]) none
+
+-- a frame's move is no release and no turn
+frame_at_rest : (mv : Move) (t : Topic) → is_of_frame mv ≡ true → (mv ≡ Releases t) ⊎ (mv ≡ Turns t) → Prim.⊥
+frame_at_rest mv t own (inl d) = false≢true (sym (ap is_of_frame d) ∙ own)
+frame_at_rest mv t own (inr d) = false≢true (sym (ap is_of_frame d) ∙ own)
 
 lost_ends : (w : World) (c s : ℕ) → end_at (world_after (world_after w (Decides c)) (Lost c)) s ≡ end_at w s
 lost_ends w c s =
@@ -433,19 +495,27 @@ ends_come : (k : Core) (e : Event) (rd : Reading) (o : Outcome) (s : ℕ) (end :
 ends_come k e rd o s end reached (inl h) none some = none_some end (sym none ∙ (ap (λ (w : World). end_at w s) (sym h.0) ∙ some))
 ends_come k e rd o s end reached (inr (inl h)) none some =
     let mv = Errs h.connection in
-    elim (move_ended k reached mv s end none (ap (λ (w : World). end_at w s) (sym h.world) ∙ some)) [
+    elim (move_ended k.world (ran_to k reached) mv s end none (ap (λ (w : World). end_at w s) (sym h.world) ∙ some)) [
       | inl a ↦ elim (subst (IsAnswer k.world mv) a (events_are_answered k.world mv)) [ inl q ↦ (let d = q.1 in cc) | inr q ↦ (let d = q.1 in cc) ]
       | inr (by, full, row) ↦ elim by [ inl d ↦ cc | inr d ↦ cc ]
     ]
 ends_come k e rd o s end reached (inr (inr (inl h))) none some =
-    elim (move_ended k reached h.move s end none (ap (λ (w : World). end_at w s) (sym h.world) ∙ some)) [
+    elim (move_ended k.world (ran_to k reached) h.move s end none (ap (λ (w : World). end_at w s) (sym h.world) ∙ some)) [
       | inl a ↦ inl (end_cut o h.base s end (some_same h.base (Outcome.Unsubscribed s end) (sym h.is ∙ ap outcome_of a)) h.cut)
       | inr (by, full, row) ↦ inr (subst (λ v. LagsFull k.world v e s end) (sym h.world) (record { by = lag_event k e h.move s h.own by; full = full; row = row }))
     ]
 ends_come k e rd o s end reached (inr (inr (inr (inl h)))) none some =
     none_some end (sym none ∙ (sym (lost_ends k.world h.connection s) ∙ (ap (λ (w : World). end_at w s) (sym h.world) ∙ some)))
 ends_come k e rd o s end reached (inr (inr (inr (inr h)))) none some =
-    none_some end (sym none ∙ (ap (λ (w : World). end_at w s) (sym h.world) ∙ some))
+    let w = k.world in let ran = ran_to k reached in
+    let first = made_unended w ran s none in
+    elim h.then [
+      | inl (is, plain) ↦ none_some end (sym first ∙ (ap (λ (z : World). end_at z s) (sym is) ∙ some))
+      | inr (mv, own, topic, is, came) ↦ elim (move_ended (with_topic w) (made_run w ran) mv s end first (ap (λ (z : World). end_at z s) (sym is) ∙ some)) [
+        | inl a ↦ inl (some_same o (Outcome.Unsubscribed s end) (sym came ∙ ap outcome_of a))
+        | inr (by, full, row) ↦ absurd (frame_at_rest mv (subscription_at (with_topic w) s).topic own by)
+      ]
+    ]
 
 -- an end is that of an answer
 outcome_end : (a : Answer) (s : ℕ) (end : Stamp) → outcome_of a ≡ Some (Outcome.Unsubscribed s end) → a ≡ Answer.Unsubscribed s end
@@ -461,9 +531,9 @@ uncut_end (Outcome.Gone cut) s end (inr e) = cc
 uncut_end b s end (inr e) = e
 
 -- the span of a subscription has the end that is answered
-move_closes : (k : Core) → IsReached k → (mv : Move) (s : ℕ) (end : Stamp) → answer_to k.world mv ≡ Answer.Unsubscribed s end → end_at (world_after k.world mv) s ≡ Some end
-move_closes k reached =
-    by_world (λ w. (mv : Move) (s : ℕ) (end : Stamp) → answer_to w mv ≡ Answer.Unsubscribed s end → end_at (world_after w mv) s ≡ Some end) k reached
+move_closes : (w : World) → IsRun w → (mv : Move) (s : ℕ) (end : Stamp) → answer_to w mv ≡ Answer.Unsubscribed s end → end_at (world_after w mv) s ≡ Some end
+move_closes w ran =
+    by_run (λ z. (mv : Move) (s : ℕ) (end : Stamp) → answer_to z mv ≡ Answer.Unsubscribed s end → end_at (world_after z mv) s ≡ Some end) w ran
     (λ r mv s end a. at_next (λ past w. In (Answer.Unsubscribed s end) past → end_at w s ≡ Some end) (λ q i. spans_end_as_told q s end i) r mv (inl a))
 
 closed_comes : (k : Core) (e : Event) (rd : Reading) (o : Outcome) (s : ℕ) (end : Stamp) → IsReached k → Comes k e rd o → o ≡ Outcome.Unsubscribed s end
@@ -473,14 +543,39 @@ closed_comes k e rd o s end reached (inr (inl h)) is = absurd (false≢true (sym
 closed_comes k e rd o s end reached (inr (inr (inl h))) is =
     let base : h.base ≡ Outcome.Unsubscribed s end = uncut_end h.base s end (subst (λ z. (h.base ≡ z) ⊎ (cut_of h.base ≡ z)) is h.cut) in
     ap (λ (w : World). end_at w s) h.world
-    ∙ move_closes k reached h.move s end (outcome_end (answer_to k.world h.move) s end (h.is ∙ ap (λ (z : Outcome). Some z) base))
+    ∙ move_closes k.world (ran_to k reached) h.move s end (outcome_end (answer_to k.world h.move) s end (h.is ∙ ap (λ (z : Outcome). Some z) base))
 closed_comes k e rd o s end reached (inr (inr (inr (inl h)))) is = absurd (false≢true (sym (ap is_cut is) ∙ h.was_cut))
-closed_comes k e rd o s end reached (inr (inr (inr (inr h)))) is = absurd (false≢true (sym (ap is_opened is) ∙ h.opened))
+closed_comes k e rd o s end reached (inr (inr (inr (inr h)))) is =
+    let w = k.world in
+    elim h.then [
+      | inl (at, plain) ↦ absurd (false≢true (sym (ap is_plain is) ∙ plain))
+      | inr (mv, own, topic, at, came) ↦
+          ap (λ (z : World). end_at z s) at
+          ∙ move_closes (with_topic w) (made_run w (ran_to k reached)) mv s end
+          (outcome_end (answer_to (with_topic w) mv) s end (came ∙ ap (λ (z : Outcome). Some z) is))
+    ]
 
 -- ---- rows and items
 
-move_enters : (k : Core) → IsReached k → (mv : Move) → AllEnter k.world (world_after k.world mv)
-move_enters k reached = by_world (λ w. (mv : Move) → AllEnter w (world_after w mv)) k reached rows_enter
+move_enters : (w : World) → IsRun w → (mv : Move) → AllEnter w (world_after w mv)
+move_enters w ran = by_run (λ z. (mv : Move) → AllEnter z (world_after z mv)) w ran rows_enter
+
+-- a span that has no end after a move had none before
+open_before : (w : World) → IsRun w → (mv : Move) (s : ℕ) → end_at (world_after w mv) s ≡ None → end_at w s ≡ None
+open_before w ran mv s none = by_end (end_at w s) refl
+  where
+    stays : (end : Stamp) → end_at w s ≡ Some end → end_at (world_after w mv) s ≡ Some end
+    stays = by_run (λ z. (end : Stamp) → end_at z s ≡ Some end → end_at (world_after z mv) s ≡ Some end) w ran (λ r end e. ends_stay r mv s end e)
+
+    by_end : (x : Option Stamp) → end_at w s ≡ x → x ≡ None
+    by_end None e = refl
+    by_end (Some end) e = none_some end (sym none ∙ stays end e)
+
+-- so it is of a topic that is made and a move
+made_enters : (w : World) → IsRun w → (mv : Move) → AllEnter w (world_after (with_topic w) mv)
+made_enters w ran mv s l n =
+    let first = move_enters w ran (AddsTopic 0) s l (open_before (with_topic w) (made_run w ran) mv s n) in
+    let second = move_enters (with_topic w) (made_run w ran) mv s l n in omega (arith, first, second)
 
 -- a decision and a loss change no topic and no subscription
 lost_enters : (w : World) (c : ℕ) → AllEnter w (world_after (world_after w (Decides c)) (Lost c))
@@ -492,10 +587,92 @@ lost_enters w c s l =
 
 rows_come : (k : Core) (e : Event) (rd : Reading) (o : Outcome) → IsReached k → Comes k e rd o → AllEnter k.world (world_then k e rd o)
 rows_come k e rd o reached (inl h) = subst (AllEnter k.world) (sym h.0) (λ s l n. refl)
-rows_come k e rd o reached (inr (inl h)) = subst (AllEnter k.world) (sym h.world) (move_enters k reached (Errs h.connection))
-rows_come k e rd o reached (inr (inr (inl h))) = subst (AllEnter k.world) (sym h.world) (move_enters k reached h.move)
+rows_come k e rd o reached (inr (inl h)) = subst (AllEnter k.world) (sym h.world) (move_enters k.world (ran_to k reached) (Errs h.connection))
+rows_come k e rd o reached (inr (inr (inl h))) = subst (AllEnter k.world) (sym h.world) (move_enters k.world (ran_to k reached) h.move)
 rows_come k e rd o reached (inr (inr (inr (inl h)))) = subst (AllEnter k.world) (sym h.world) (lost_enters k.world h.connection)
-rows_come k e rd o reached (inr (inr (inr (inr h)))) = subst (AllEnter k.world) (sym h.world) (λ s l n. refl)
+rows_come k e rd o reached (inr (inr (inr (inr h)))) =
+    let ran = ran_to k reached in
+    elim h.then [
+      | inl (is, plain) ↦ subst (AllEnter k.world) (sym is) (move_enters k.world ran (AddsTopic 0))
+      | inr (mv, own, topic, is, came) ↦ subst (AllEnter k.world) (sym is) (made_enters k.world ran mv)
+    ]
+
+-- ---- a topic that is made
+
+-- nothing was proposed at it
+abbrev IsNew : World → Topic → Type 0
+IsNew w t = IsNewTopic (topic_at w t)
+
+made_new : (w : World) (t : Topic) → length w.topics ≤ t.0 → t.0 < length (with_topic w).topics → IsNew (with_topic w) t
+made_new w t low high =
+    at_push_two IsNewTopic w.topics t.0 (new_topic (record { 0 = length w.topics }) w.log_limit 0) (new_topic t 0 0)
+    (λ e. (refl, refl, refl, refl)) (λ ne. absurd (ne (let n = push_length w.topics (new_topic (record { 0 = length w.topics }) w.log_limit 0) in omega (arith, n, low, high))))
+
+closed_new : (w : World) (s : ℕ) (o : Option Entry) (t : Topic) → IsNew w t → IsNew (close_effect_of w s o) t
+closed_new w s None t h = h
+closed_new w s (Some e) t h =
+    at_set IsNewTopic w.topics (subscription_at w s).topic.0 t.0 _ (new_topic t 0 0)
+    (λ q. subst (λ (n : ℕ). IsNewTopic (topic_at w (record { 0 = n }))) q h) h
+
+-- a frame's move leaves it so
+frame_new : (w : World) (mv : Move) (t : Topic) → is_of_frame mv ≡ true → IsNew w t → IsNew (world_after w mv) t
+frame_new w (Commits c sends) t own h = by_refusal (λ v a. IsNew v t) w (Commits c sends) (λ why. h) (λ n. begun_new sends)
+  where
+    begun_new : (sends : List SentMessage) → IsNew (commit_effect w c sends) t
+    begun_new [] = h
+    begun_new (first ∷ others) = h
+frame_new w (Subscribes c u) t own h = by_refusal (λ v a. IsNew v t) w (Subscribes c u) (λ why. h)
+    (λ n. at_set IsNewTopic w.topics u.0 t.0 _ (new_topic t 0 0)
+    (λ q. subst (λ (n : ℕ). IsNewTopic (topic_at w (record { 0 = n }))) q h) h)
+frame_new w (Unsubscribes c s) t own h = by_refusal (λ v a. IsNew v t) w (Unsubscribes c s) (λ why. h) (λ n. closed_new w s (entry_at w s) t h)
+frame_new w (Connects c claimed) t own h = by_refusal (λ v a. IsNew v t) w (Connects c claimed) (λ why. h) (λ n. h)
+frame_new w (Disconnects c) t own h = by_refusal (λ v a. IsNew v t) w (Disconnects c) (λ why. h) (λ n. h)
+frame_new w _ t own h = absurd (false≢true own)
+
+-- an event's move makes no topic
+frame_adds : (mv : Move) → is_of_frame mv ≡ true → adds_none mv ≡ true
+frame_adds (AddsTopic clock) own = absurd (false≢true own)
+frame_adds _ own = refl
+
+own_adds : (e : Event) (mv : Move) → IsMoveOf e mv → adds_none mv ≡ true
+own_adds (Event.Piece c octets) mv own = absurd own
+own_adds (Event.Next c) mv own = frame_adds mv own
+own_adds (Event.Propose c t) mv (memory, own) = ap adds_none own
+own_adds Event.Open mv own = ap adds_none own
+own_adds (Event.Decide c) mv own = ap adds_none own
+own_adds (Event.Withdraw c) mv own = ap adds_none own
+own_adds (Event.Cancel c t) mv own = ap adds_none own
+own_adds (Event.Learn t id) mv own = ap adds_none own
+own_adds (Event.Release t) mv own = ap adds_none own
+own_adds (Event.Turn t) mv own = ap adds_none own
+own_adds (Event.Take s) mv own = ap adds_none own
+own_adds (Event.Leave c) mv own = ap adds_none own
+own_adds (Event.Lost c) mv own = ap adds_none own
+
+-- where there are as many topics, none was made
+none_made : (w v u : World) (t : Topic) → v ≡ u → length u.topics ≡ length w.topics → length w.topics ≤ t.0 → t.0 < length v.topics → IsNew v t
+none_made w v u t is same low high =
+    let n : length v.topics ≡ length u.topics = ap (λ (z : World). length z.topics) is in absurd (omega (arith, n, same, low, high))
+
+opened_comes : (k : Core) (e : Event) (rd : Reading) (o : Outcome) → Comes k e rd o → (t : Topic) → length k.world.topics ≤ t.0 → t.0 < length (world_then k e rd o).topics
+    → IsNew (world_then k e rd o) t
+opened_comes k e rd o (inl h) t low high = none_made k.world (world_then k e rd o) k.world t h.0 refl low high
+opened_comes k e rd o (inr (inl h)) t low high =
+    none_made k.world (world_then k e rd o) (world_after k.world (Errs h.connection)) t h.world (step_adds_none k.world (Errs h.connection) refl) low high
+opened_comes k e rd o (inr (inr (inl h))) t low high =
+    none_made k.world (world_then k e rd o) (world_after k.world h.move) t h.world (step_adds_none k.world h.move (own_adds e h.move h.own)) low high
+opened_comes k e rd o (inr (inr (inr (inl h)))) t low high =
+    let c = h.connection in let v = world_after k.world (Decides c) in
+    none_made k.world (world_then k e rd o) (world_after v (Lost c)) t h.world (step_adds_none v (Lost c) refl ∙ step_adds_none k.world (Decides c) refl) low high
+opened_comes k e rd o (inr (inr (inr (inr h)))) t low high =
+    let w = k.world in
+    elim h.then [
+      | inl (is, plain) ↦ subst (λ v. IsNew v t) (sym is)
+          (made_new w t low (subst (λ (v : World). t.0 < length v.topics) is high))
+      | inr (mv, own, topic, is, came) ↦ subst (λ v. IsNew v t) (sym is)
+          (frame_new (with_topic w) mv t own
+          (made_new w t low (subst (λ (n : ℕ). t.0 < n) (step_adds_none (with_topic w) mv (frame_adds mv own)) (subst (λ (v : World). t.0 < length v.topics) is high))))
+    ]
 
 -- ---- what holds of each core
 
@@ -529,6 +706,10 @@ steps_stepped topics capacity step older as_many is_run =
       may = is_run.0;
       refused = λ why is. refused_stays k e rd o why came is;
       no_memory = λ is. unremembered_stays k e rd o came is;
+      opened = λ t low high. opened_comes k e rd o came t low high;
+      as_many = topics_counted topics capacity (step ∷ older) as_many is_run;
+      speaks = (core_stands topics capacity (step ∷ older) is_run).spoken;
+      begun = (core_stands topics capacity (step ∷ older) is_run).begun;
       others = λ t l ne. others_stay k e rd o t l ne came;
       ticket = λ n is. ticket_comes k e rd o n came is;
       named = are_named (core_after k step) later;

@@ -1,13 +1,14 @@
 -- Whom a connection speaks for, where a test says that it speaks for somebody, and whom it claims.
-use Rattle.std.proofs.Common.{◌≡◌, ℕ, ◌<◌, true, false, length, get_or, Option, Some, None, refl, sym, ap, ◌∙◌, arith, set}
+use Rattle.std.proofs.Common.{◌≡◌, ℕ, ◌<◌, true, false, length, get_or, Option, Some, None, refl, sym, ap, ◌∙◌, arith, set, subst}
 use Rattle.std.specs.Option.{is_some, unwrap_or}
 use Rattle.std.proofs.lemmas.Bool.{true≢false, ltb-true}
 use Rattle.mcast_group.proofs.Parts.{some_same, none_some}
-use Rattle.delivery.specs.Machine.World.{World, SenderState, new_sender, connection_at, sender_at, speaker, speaker_number, is_in_use, with_sender}
+use Rattle.delivery.specs.Machine.World.{World, SenderState, new_sender, connection_at, sender_at, speaker, speaker_number, is_in_use, with_sender, Leftover}
 use Rattle.delivery.specs.Machine.Moves.{move_refusal}
 use Rattle.delivery.specs.Machine.Moves.Move.{Connects}
 use Rattle.delivery.proofs.Machine.InvariantIsKept.{checked, false_not}
 use Rattle.delivery.proofs.Machine.SubscriptionSteps.{beyond, set_length}
+use Rattle.mcast_txn.specs.Lists.{In}
 
 some_unwrapped : (o : Option ℕ) (d : ℕ) → is_some o ≡ true → o ≡ Some (unwrap_or o d)
 some_unwrapped None d e = absurd (true≢false (sym e))
@@ -43,3 +44,11 @@ kept_number w c s y = ap (unwrap_or (connection_at w c).sender) (set_length w.se
 -- a connection's sender then
 pub kept_speaker : (w : World) (c s : ℕ) (y : SenderState) → speaker (with_sender w s y) c ≡ get_or (set w.senders s y) (speaker_number w c) new_sender
 kept_speaker w c s y = ap (λ (n : ℕ). get_or (set w.senders s y) n new_sender) (kept_number w c s y)
+
+-- a connection whose sender has something to cancel speaks for it
+pub cancelling_speaker : (w : World) (c : ℕ) (k : Leftover) → In k (speaker w c).leftovers → (connection_at w c).sender ≡ Some (speaker_number w c)
+cancelling_speaker w c k i = has_speaker w c (by (connection_at w c).sender i)
+  where
+    by : (o : Option ℕ) → In k (sender_at w (unwrap_or o (length w.senders))).leftovers → is_some o ≡ true
+    by None j = absurd (subst (λ (z : SenderState). In k z.leftovers) (beyond w.senders (length w.senders) new_sender (omega arith)) j)
+    by (Some s) j = refl

@@ -61,7 +61,7 @@ speaks s x there own =
     ∙ (ap (λ (o : Option ℕ). option_map_or (λ n. n == s) o false) own ∙ eq-eqb s s refl)
 
 -- who has none speaks for none
-silent : (s : ℕ) (x : Connection) → x.sender ≡ None → speaks_for s x ≡ false
+pub silent : (s : ℕ) (x : Connection) → x.sender ≡ None → speaks_for s x ≡ false
 silent s x none = not_true (speaks_for s x) refl (λ e. none_some s (sym none ∙ spoken_sender s x e))
 
 unspoken_case : (s : ℕ) (connections : List Connection) → list_any (speaks_for s) connections ≡ false → Unspoken connections s
@@ -259,7 +259,7 @@ handed : (w : World) (s : ℕ) (o : Option Item) → is_gone (connection_at w (s
 handed w s None there h = standing_kept w.senders w.connections (subscription_at w s).connection Standing.Leaving refl there h
 handed w s (Some item) there h = h
 
-no_flight : (o : Option Undecided) → is_some o ≡ false → o ≡ None
+pub no_flight : (o : Option Undecided) → is_some o ≡ false → o ≡ None
 no_flight None e = refl
 no_flight (Some f) e = absurd (true≢false e)
 

@@ -14,13 +14,15 @@ use Rattle.mcast_txn.proofs.TopicLemmas.{topics_rise}
 use Rattle.mcast_group.specs.Group.{GroupState}
 use Rattle.trace_audit.specs.Logs.{LogLine}
 use Rattle.trace_audit.specs.Trace.{fits, rise_after}
-use Rattle.delivery.specs.Topics.{max_topics}
+use Rattle.stomp_session.specs.Names.{max_topics}
 use Rattle.delivery.specs.Nets.{KeptRun}
 use Rattle.delivery.specs.Theorem.Due.{log_row}
 use Rattle.delivery.specs.Machine.Moves.{Answer}
 use Rattle.delivery.specs.Machine.Runs.{commits_of}
 use Rattle.delivery.specs.Core.Account.{account_of}
 use Rattle.delivery.specs.Core.State.{core_of}
+use Rattle.delivery.specs.Core.Steps.{names_after}
+use Rattle.delivery.proofs.Core.NamesFew.{names_few}
 use Rattle.delivery.specs.Core.Reports.{Report, report_of}
 use Rattle.delivery.specs.Core.Delivery.{Delivers}
 use Rattle.delivery.specs.Inner.NetInvariant.{KeepsRun}
@@ -80,8 +82,11 @@ held_few net held keeps =
     let k = core_of net.topics net.capacity keeps.steps in
     let is : report_in held ≡ report_of k = ap report_in keeps.view ∙ reported k in
     let logs : length held.groups ≡ length (report_in held).logs = sym (length-map held.groups (λ (g : GroupState). g.topic.held)) in
-    let many : length held.groups ≡ length net.topics.names = logs ∙ (ap (λ (r : Report). length r.logs) is ∙ logs_length net.topics net.capacity keeps.steps keeps.as_many keeps.is_run) in
-    omega (arith, many, keeps.as_many, keeps.few)
+    let many : length held.groups ≡ length (names_after net.topics.names keeps.steps) =
+    logs ∙ (ap (λ (r : Report). length r.logs) is ∙ logs_length net.topics net.capacity keeps.steps keeps.as_many keeps.is_run) in
+    let opening : length net.topics.names ≤ max_topics = (let n = keeps.as_many in let few = keeps.few in omega (arith, n, few)) in
+    let few = names_few net.topics net.capacity keeps.steps opening keeps.is_run in
+    omega (arith, many, few)
 
 -- the trace of what it reports is its trace
 pub held_traced : (net : KeptRun) (held : View) → net.steps ≡ steps_of (reverse net.kept) → KeepsRun net.topics net.capacity net.kept held → IsTraced net (trace_of (report_in held))

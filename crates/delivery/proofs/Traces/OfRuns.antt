@@ -12,9 +12,9 @@ use Rattle.delivery.specs.Nets.{KeptRun, core_of_net, HasReport}
 use Rattle.delivery.specs.Theorem.Due.{log_row}
 use Rattle.delivery.specs.Theorem.Laws.{Run, answers_of, final_world}
 use Rattle.delivery.specs.Machine.Runs.{commits_of}
-use Rattle.delivery.specs.Core.Steps.{CoreStep}
+use Rattle.delivery.specs.Core.Steps.{CoreStep, names_after}
 use Rattle.delivery.specs.Core.Account.{account_of}
-use Rattle.delivery.specs.Core.State.{Core, core_of}
+use Rattle.delivery.specs.Core.State.{Core, core_of, names_at}
 use Rattle.delivery.specs.Core.Outcomes.{IsCoreRun}
 use Rattle.delivery.specs.Core.Reports.{report_of}
 use Rattle.delivery.specs.Traces.{trace_of, AllSettled, IsTraced, RunsAreExplained, TracesAreAccepted, TracesAreComplete}
@@ -58,9 +58,10 @@ reported_there topics capacity steps run row t k named =
 
 -- how many logs are reported
 pub logs_length : (topics : TopicList) (capacity : ℕ) (steps : List CoreStep) → length topics.clocks ≡ length topics.names
-    → IsCoreRun topics capacity steps → length (report_of (core_of topics capacity steps)).logs ≡ length topics.names
+    → IsCoreRun topics capacity steps → length (report_of (core_of topics capacity steps)).logs ≡ length (names_after topics.names steps)
 logs_length topics capacity steps same run =
-    map_length (λ (x : TopicState). x.held) (core_of topics capacity steps).world.topics ∙ ((counted topics capacity steps run).0 ∙ same)
+    map_length (λ (x : TopicState). x.held) (core_of topics capacity steps).world.topics
+    ∙ ((counted topics capacity steps same run).0 ∙ ap (λ (c : Core). length (names_at c)) (core_is topics capacity steps))
 
 -- the trace of each run is explained, and complete where all topics are settled
 pub runs_are_explained : RunsAreExplained

@@ -7,3 +7,4 @@ pub mod DisconnectIsLast
 pub mod EndpointChanges
 pub mod OutcomeOfReading
 pub mod EndpointsStay
+pub mod FramesArePassed

@@ -6,6 +6,7 @@ pub mod LearnStep
 pub mod LeaveStep
 pub mod LostStep
 pub mod OpenStep
+pub mod ConnectStep
 pub mod PieceStep
 pub mod ProposeStep
 pub mod ReleaseStep
@@ -13,11 +14,13 @@ pub mod TakeStep
 pub mod TurnStep
 pub mod WithdrawStep
 pub mod NextStep
+pub mod FrameTopic
 pub mod NextFaults
 pub mod NextFrames
 pub mod NextSubs
 pub mod NextTxns
 pub mod WantsMemory
+pub mod TopicTaken
 pub mod OneMove
 pub mod ConnectionIsThere
 pub mod ReadingChecks

@@ -6,3 +6,4 @@ pub mod TicketsOfTopics
 pub mod SlotsOfTopics
 pub mod RoomLasts
 pub mod SendsAreToTopics
+pub mod ConnectedSpeak

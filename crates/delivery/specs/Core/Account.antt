@@ -21,18 +21,19 @@ use Rattle.delivery.specs.Theorem.Due.{due}
 use Rattle.delivery.specs.Theorem.Laws.{agreed_rows}
 use Rattle.delivery.specs.Machine.Moves.{Answer}
 use Rattle.delivery.specs.Machine.Runs.{commits_of, delivered_items, txn_count, released_at}
-use Rattle.delivery.specs.Core.Steps.{CoreStep, Reading, frame_in, accepted_of, number_by}
+use Rattle.delivery.specs.Core.Claims.{claims_of, sender_of}
+use Rattle.delivery.specs.Core.Steps.{CoreStep, Reading, frame_in, accepted_of, names_after, number_by}
 
 -- ---- what is read of an account
 
--- the sender that a connection speaks for
-abbrev pub sender_of : ℕ → ℕ
-sender_of c = c
-
--- the id of the connection's last transaction, which counts its sender's from 1
+-- the id of a sender's last transaction, which counts the sender's from 1
 abbrev pub last_id : ℕ → List Answer → TxnId
-last_id c account =
-    record { sender = record { 0 = sender_of c }; seq = txn_count (sender_of c) account }
+last_id s account = record { sender = record { 0 = s }; seq = txn_count s account }
+
+-- the same of the sender that connection c speaks for after these steps: so of the third of its
+-- transactions, where an earlier connection of its client-id made two
+abbrev pub last_of : ℕ → List CoreStep → List Answer → TxnId
+last_of c older account = last_id (sender_of c (claims_of older)) account
 
 -- the SENDs that an action commits
 abbrev pub committed_by : Action → List SentMessage
@@ -94,7 +95,7 @@ next_item s account =
 abbrev pub account_of_frame : List (List ℕ) → ℕ → List CoreStep → RawFrame → List Answer
     → Outcome → List Answer
 account_of_frame names c older f account (Outcome.Flying id) =
-    let last = last_id c account in
+    let last = last_of c older account in
     Answer.Begun (record {
       id = record last { seq = last.seq + 1 };
       sends = sends_at names (accepted_of c older) f;
@@ -157,20 +158,21 @@ abbrev pub account_of_step : List (List ℕ) → List CoreStep → List Answer �
 account_of_step names older account (Event.Next c) reading o =
     account_of_next names c older (frame_in reading) account o
 account_of_step names older account (Event.Propose c t) reading o =
-    account_of_proposal (last_id c account) t o
+    account_of_proposal (last_of c older account) t o
 account_of_step names older account (Event.Decide c) reading o =
-    account_of_decision c (last_id c account) o
+    account_of_decision c (last_of c older account) o
 account_of_step names older account (Event.Take s) reading o = account_of_take s account o
 account_of_step names older account (Event.Withdraw c) reading o =
-    account_of_other (Event.Withdraw c) (last_id c account) o
+    account_of_other (Event.Withdraw c) (last_of c older account) o
 account_of_step names older account (Event.Cancel c t) reading o =
-    account_of_other (Event.Cancel c t) (last_id c account) o
+    account_of_other (Event.Cancel c t) (last_of c older account) o
 account_of_step names older account e reading o = account_of_other e (last_id 0 account) o
 
--- The account of a run over topics of these names, the newest answer first. Refused events and those without
+-- The account of a run that began with topics of these names, the newest answer first: each step's destinations
+-- are numbered by the names before it. Refused events and those without
 -- memory add nothing to it, nor does a frame that only its session needs.
 abbrev pub account_of : List (List ℕ) → List CoreStep → List Answer
 account_of names [] = []
 account_of names (step ∷ older) =
     let account = account_of names older in
-    account_of_step names older account step.event step.reading step.outcome ++ account
+    account_of_step (names_after names older) older account step.event step.reading step.outcome ++ account

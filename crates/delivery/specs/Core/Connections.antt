@@ -5,16 +5,19 @@ use Rattle.stomp_frame.specs.declared.command.Command.{Command}
 use Rattle.stomp_frame.specs.declared.raw_frame.RawFrame.{RawFrame}
 use Rattle.mcast_txn.specs.declared.id.Topic.{Topic}
 use Rattle.mcast_txn.specs.Checks.{first_refusal}
+use Rattle.stomp_session.specs.Answers.{action_by}
 use Rattle.stomp_session.specs.Frames.{id_of}
+use Rattle.stomp_session.specs.Open.{state_of}
 use Rattle.stomp_session.specs.Refusals.{session_fault}
 use Rattle.delivery.specs.declared.event.Event.{Event}
 use Rattle.delivery.specs.Topics.{TopicList}
+use Rattle.delivery.specs.Machine.Objections.{Objection}
 use Rattle.delivery.specs.Machine.World.{World, Subscription, is_reading, connection_at, subscription_at}
 use Rattle.delivery.specs.Machine.Moves.{Move, is_live, needs_idle, move_refusal}
 use Rattle.delivery.specs.Core.Steps.{CoreStep, accepted_of, number_by}
 use Rattle.delivery.specs.Core.Output.{text_out, sub_id_text}
-use Rattle.delivery.specs.Core.State.{Core, core_of, core_after, session_at, unread_at}
-use Rattle.delivery.specs.Core.Outcomes.{IsCoreRun}
+use Rattle.delivery.specs.Core.State.{Core, core_for, core_of, core_after, frame_move, session_at, unread_at}
+use Rattle.delivery.specs.Core.Outcomes.{IsCoreRun, claim_fault}
 
 -- The numbers of the connection's subscriptions that aren't closed, where the first has number i. So where
 -- connection 0 began 0 and 2, connection 1 began 1, and 0 was closed, those of 0 from 0 on are 2.
@@ -48,11 +51,13 @@ event_connection w (Event.Lost c) = Some c
 -- standing: its sender, and whether it is open, leaving or gone.
 -- unread: what its reader stands for.
 -- accepted: the frames that its session has accepted.
+-- session: what its session has open, though another connection's frame may make a topic.
 -- text: the octets that were written to it.
 pub record KeepsConnection (before after : Core) (c : ℕ) : Type 0 where
   pub standing : connection_at after.world c ≡ connection_at before.world c
   pub unread : unread_at c after.steps ≡ unread_at c before.steps
   pub accepted : accepted_of c after.steps ≡ accepted_of c before.steps
+  pub session : state_of (session_at after c) ≡ state_of (session_at before c)
   pub text : text_out after.names c after.steps ≡ text_out before.names c before.steps
 
 -- ---- of every run, over all topics with their opening clocks and all capacities
@@ -75,6 +80,18 @@ UnsubscribesFind =
     → let k = core_of topics capacity steps in first_refusal (needs_idle k.world c) ≡ None
     → session_fault (session_at k c) f ≡ None
     → move_refusal k.world (Move.Unsubscribes c (number_by c (id_of f) k.steps)) ≡ None
+
+-- Of a frame that its session and its claim let pass, the machine refuses nothing but a transaction of a
+-- sender whose numbers are used up.
+abbrev pub FramesPass : Type 0
+FramesPass =
+    (topics : TopicList) (capacity : ℕ) (steps : List CoreStep) → length topics.clocks ≡ length topics.names
+    → IsCoreRun topics capacity steps → (c : ℕ) (f : RawFrame) (move : Move) (why : Objection)
+    → let k = core_of topics capacity steps in let action = action_by f.command (session_at k c) f in
+    first_refusal (needs_idle k.world c) ≡ None
+    → session_fault (session_at k c) f ≡ None → claim_fault k action ≡ None
+    → frame_move k c action ≡ Some move → move_refusal (core_for k f).world move ≡ Some why
+    → why ≡ Objection.SeqFull
 
 -- A step changes no connection but its event's own.
 abbrev pub OtherConnectionsStay : Type 0

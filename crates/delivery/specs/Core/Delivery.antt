@@ -18,7 +18,7 @@ use Rattle.delivery.specs.Machine.Runs.{commits_of, delivered_items}
 use Rattle.delivery.specs.Theorem.Due.{log_row, due}
 use Rattle.delivery.specs.Theorem.Laws.{shared_marks}
 use Rattle.delivery.specs.Theorem.Settled.{IsSettled, SilentAfterClose}
-use Rattle.delivery.specs.Core.Steps.{CoreStep, kept_of, AreReadings}
+use Rattle.delivery.specs.Core.Steps.{CoreStep, kept_of, names_after, AreReadings}
 use Rattle.delivery.specs.Core.Account.{released_log, released_frontier, beginning_of, account_of}
 use Rattle.delivery.specs.Core.Output.{text_out}
 use Rattle.delivery.specs.Core.State.{core_of}
@@ -129,11 +129,12 @@ opened_in (step ∷ older) = opened_in older + opened_by step.outcome
 -- What was read and written, by the steps.
 -- are_read: what was read of each connection are the first frames of the octets that it was fed.
 -- output: each connection's octets out are those that the steps say.
--- counts: there is a log of each topic, and there are octets out of each connection that was opened.
+-- counts: there is a log of each topic, those that were made among them, and there are octets out of each
+-- connection that was opened.
 pub record IsReadAndWritten (names : List (List ℕ)) (steps : List CoreStep) (r : Report) : Type 0 where
   pub are_read : AreReadings steps
   pub output : (c : ℕ) → c < length r.outs → out_in r c ≡ text_out names c steps
-  pub counts : (length r.logs ≡ length names) × (length r.outs ≡ opened_in steps)
+  pub counts : (length r.logs ≡ length (names_after names steps)) × (length r.outs ≡ opened_in steps)
 
 -- The delivery of a run over these topics whose queues have this capacity, and its report: what its account
 -- says is delivered, what was read are the first frames of each connection's octets, and each connection's

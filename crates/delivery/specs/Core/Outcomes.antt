@@ -7,6 +7,8 @@ use Rattle.stomp_frame.specs.declared.raw_frame.RawFrame.{RawFrame}
 use Rattle.stomp_frame.specs.Cases.{case_fault}
 use Rattle.mcast_txn.specs.Lists.{In}
 use Rattle.mcast_txn.specs.Checks.{first_refusal}
+use Rattle.stomp_session.specs.declared.action.Action.{Action}
+use Rattle.stomp_session.specs.declared.action.Action.TheVariants as actions
 use Rattle.stomp_session.specs.declared.fault.SessionFault.{SessionFault}
 use Rattle.stomp_session.specs.Refusals.{session_fault}
 use Rattle.stomp_session.specs.Answers.{action_by, takes_memory}
@@ -16,11 +18,13 @@ use Rattle.delivery.specs.declared.refusal.Refusal.{Refusal}
 use Rattle.delivery.specs.declared.connection_fault.ConnectionFault.{ConnectionFault}
 use Rattle.delivery.specs.Topics.{TopicList}
 use Rattle.delivery.specs.Machine.Objections.{Objection, refusal_of}
+use Rattle.delivery.specs.Machine.World.{is_in_use}
 use Rattle.delivery.specs.Machine.Moves.{Move, Answer, needs_open, needs_idle, move_refusal, answer_to}
 use Rattle.delivery.specs.Core.Steps.{CoreStep, Reading}
+use Rattle.delivery.specs.Core.Claims.{claims_of, claimed_sender, is_one_too_many}
 use Rattle.delivery.specs.Core.Account.{account_of}
 use Rattle.delivery.specs.Core.Output.{next_replies, replies_to}
-use Rattle.delivery.specs.Core.State.{Core, IsReadBy, unread_at, session_at, frame_move, core_of}
+use Rattle.delivery.specs.Core.State.{Core, IsReadBy, unread_at, session_at, frame_move, core_for, core_of}
 
 -- ---- the machine's answers, as the core reports them
 
@@ -66,15 +70,26 @@ is_any (x ∷ xs) = true
 abbrev pub frame_no_memory : ConnectionFault
 frame_no_memory = ConnectionFault.Session SessionFault.NoMemory
 
--- Why the frame ends its connection, if it does: by the case table; by the session; by its topic or its
--- sender, reported as want of memory. In this order.
+-- Why the sender that an action claims can't be had, if it can't: another connection speaks for it; or the
+-- claim would keep one client-id too many, or begin one sender too many. In this order.
+abbrev pub claim_fault : Core → Action → Option ConnectionFault
+claim_fault k (actions.Connected client) =
+    let before = claims_of k.steps in
+    first_refusal
+    ((option_map_or (is_in_use k.world) (claimed_sender client before) false, ConnectionFault.SenderInUse)
+    ∷ (is_one_too_many client before, ConnectionFault.TooManyClients) ∷ [])
+claim_fault k action = None
+
+-- Why the frame ends its connection, if it does: by the case table; by the session; by its claim; by its
+-- topic, which is there once it is made, or its sender, reported as want of memory. In this order.
 abbrev pub frame_fault : Core → ℕ → RawFrame → Option ConnectionFault
 frame_fault k c f =
     option_or (option_map ConnectionFault.Frame (case_fault f))
     (option_or (option_map ConnectionFault.Session (session_fault (session_at k c) f))
+    (option_or (claim_fault k (action_by f.command (session_at k c) f))
     (option_map (λ why. frame_no_memory)
-    (option_and_then (λ move. move_refusal k.world move)
-    (frame_move k c (action_by f.command (session_at k c) f)))))
+    (option_and_then (λ move. move_refusal (core_for k f).world move)
+    (frame_move k c (action_by f.command (session_at k c) f))))))
 
 -- a fault's ERROR, or the same with its reply left out
 abbrev pub fault_outcomes : ConnectionFault → List Outcome
@@ -83,7 +98,7 @@ fault_outcomes fault = Outcome.Faulted fault false ∷ Outcome.Faulted fault tru
 -- what comes of a frame that is accepted, with memory
 abbrev pub frame_outcome : Core → ℕ → RawFrame → List Outcome
 frame_outcome k c f =
-    option_map_or (move_outcome k) (frame_move k c (action_by f.command (session_at k c) f))
+    option_map_or (move_outcome (core_for k f)) (frame_move k c (action_by f.command (session_at k c) f))
     (Outcome.Done ∷ [])
 
 -- An accepted frame wants memory: its session takes some for it, as for each frame that makes a subscription

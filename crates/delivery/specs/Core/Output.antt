@@ -20,7 +20,7 @@ use Rattle.delivery.specs.Faults.{connection_title}
 use Rattle.delivery.specs.Machine.Moves.{Answer}
 use Rattle.delivery.specs.Theorem.Settled.{closes}
 use Rattle.delivery.specs.Core.Steps.{CoreStep, Reading, frame_in, accepted_of, begun_by}
-use Rattle.delivery.specs.Core.Account.{last_id, beginning_of, next_item, account_of}
+use Rattle.delivery.specs.Core.Account.{last_of, beginning_of, next_item, account_of}
 
 -- connection c was closed: nothing is written to it any more but the RECEIPT of its DISCONNECT
 abbrev pub has_closed : ℕ → List Answer → Bool
@@ -104,7 +104,7 @@ replies_to c older account (Event.Decide d) reading (Outcome.Decided stamp cut) 
 replies_to c older account (Event.Withdraw d) reading (Outcome.Withdrawn cut) =
     if d == c && not (has_closed c account)
     then
-    error_frame (failed_title (last_id c account) account)
+    error_frame (failed_title (last_of c older account) account)
     (receipt_asked (commit_frame (accepted_of c older))) false
     ∷ []
     else []

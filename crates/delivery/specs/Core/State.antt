@@ -1,12 +1,15 @@
--- The core: its topics' names, the machine of topics and transactions, and the steps so far, from which all
+-- The core: its opening topics' names, the machine of topics and transactions, and the steps so far, from which all
 -- else of it is read.
-use Rattle.std.specs.Prelude.{ℕ, ◌==◌, Bool, true, false, not, ◌&&◌, List, [], ◌∷◌, length, Option, Some, None, Ok, Err, if◌then◌else◌}
+use Rattle.std.specs.Prelude.{ℕ, ◌==◌, Bool, true, false, not, ◌&&◌, List, [], ◌∷◌, Option, Some, None, Ok, Err, if◌then◌else◌, ◌++◌, codes}
 use Rattle.std.specs.Option.{option_to_list, option_map_or}
+use Rattle.stomp_frame.specs.declared.raw_frame.RawFrame.{RawFrame}
 use Rattle.stomp_frame.specs.Faults.{fault_of}
 use Rattle.stomp_frame.specs.Reader.{Unread, unread_of, with_piece, ReadsNext}
 use Rattle.mcast_group.specs.declared.fault.ProposeFault.{ProposeFault}
 use Rattle.stomp_session.specs.declared.action.Action.{Action}
 use Rattle.stomp_session.specs.declared.action.Action.TheVariants as actions
+use Rattle.stomp_session.specs.Names.{is_known}
+use Rattle.stomp_session.specs.Frames.{field, has_destination}
 use Rattle.stomp_session.specs.Open.{Held, held_after}
 use Rattle.stomp_session.specs.Answers.{action_by}
 use Rattle.delivery.specs.declared.event.Event.{Event}
@@ -15,10 +18,11 @@ use Rattle.delivery.specs.Topics.{TopicList}
 use Rattle.delivery.specs.Machine.World.{World, start}
 use Rattle.delivery.specs.Machine.Moves.{Move}
 use Rattle.delivery.specs.Machine.Runs.{run}
-use Rattle.delivery.specs.Core.Steps.{CoreStep, Reading, frame_in, has_effect, is_fed, accepted_of, number_by, reader_limits}
+use Rattle.delivery.specs.Core.Steps.{CoreStep, Reading, frame_in, has_effect, is_fed, accepted_of, names_after, number_by, reader_limits}
+use Rattle.delivery.specs.Core.Claims.{claims_of, claimed_sender}
 use Rattle.delivery.specs.Core.Output.{is_cut}
 
--- the names of the topics, the machine, and the steps, the newest first
+-- the names of the topics that it began with, the machine, and the steps, the newest first
 pub record Core : Type 0 where
   pub names : List (List ℕ)
   pub world : World
@@ -63,21 +67,37 @@ IsReadBy u (Reading.Fails k left) = ReadsNext u (Err (fault_of k)) left
 
 -- ---- what a connection's session holds
 
+-- the topics' names so far: the opening names, and behind them those of the topics that were made since
+abbrev pub names_at : Core → List (List ℕ)
+names_at k = names_after k.names k.steps
+
 -- what is open after the connection's accepted frames
 abbrev pub session_at : Core → ℕ → Held
-session_at k c = held_after k.names (accepted_of c k.steps)
+session_at k c = held_after (names_at k) (accepted_of c k.steps)
 
 -- ---- which moves of the machine an event is
 
--- what an accepted frame asks of the machine, if it does: an UNSUBSCRIBE the end of the subscription that its
--- id names
+-- what an accepted frame asks of the machine, if it does: a CONNECT that its connection speaks for the sender
+-- of its client-id, or a new one, an UNSUBSCRIBE the end of the subscription that its id names
 abbrev pub frame_move : Core → ℕ → Action → Option Move
-frame_move k c actions.Connected = None
+frame_move k c (actions.Connected client) =
+    Some (Move.Connects c (claimed_sender client (claims_of k.steps)))
 frame_move k c actions.Nothing = None
 frame_move k c (actions.Subscribe id t) = Some (Move.Subscribes c t)
 frame_move k c (actions.Unsubscribe id) = Some (Move.Unsubscribes c (number_by c id k.steps))
 frame_move k c (actions.Commit sends) = Some (Move.Commits c sends)
 frame_move k c actions.Disconnect = Some (Move.Disconnects c)
+
+-- the move that makes a frame's topic, where its destination is none's yet
+abbrev pub topic_moves : List (List ℕ) → RawFrame → List Move
+topic_moves names f =
+    if has_destination f.command && not (is_known (field (codes "destination") f) names)
+    then Move.AddsTopic 0 ∷ [] else []
+
+-- The core once a frame's destination has its topic, with clock 0 where the frame makes it. So a SEND to B,
+-- where A alone is there, makes topic 1.
+abbrev pub core_for : Core → RawFrame → Core
+core_for k f = record k { world = run (topic_moves (names_at k) f) k.world }
 
 -- an ERROR is answered, or was left out
 abbrev pub is_faulted : Outcome → Bool
@@ -94,22 +114,22 @@ abbrev pub is_no_memory : Outcome → Bool
 is_no_memory Outcome.NoMemory = true
 is_no_memory o = false
 
--- those of a Next: of an accepted frame its own; of an ERROR that the connection is leaving; otherwise none
+-- those of a Next: of an accepted frame the one that makes its topic, and its own; of an ERROR that the
+-- connection is leaving; otherwise none
 abbrev pub next_moves : Core → ℕ → Reading → Outcome → List Move
 next_moves k c reading o =
     if is_faulted o then Move.Errs c ∷ []
     else (if has_effect o
     then
-    option_map_or (λ f. option_to_list (frame_move k c (action_by f.command (session_at k c) f)))
+    option_map_or
+    (λ f. topic_moves (names_at k) f ++ option_to_list (frame_move k c (action_by f.command (session_at k c) f)))
     (frame_in reading) []
     else [])
 
--- The moves of the machine that an event of the core is, with what was read and what came of it. A connection
--- that is opened begins a sender. A Decide whose RECEIPT was left out is also the loss of its connection.
+-- The moves of the machine that an event of the core is, with what was read and what came of it. A Decide
+-- whose RECEIPT was left out is also the loss of its connection.
 abbrev pub moves : Core → Event → Reading → Outcome → List Move
-moves k Event.Open reading o =
-    if is_no_memory o then []
-    else Move.Opens ∷ Move.Connects (length k.world.connections) None ∷ []
+moves k Event.Open reading o = if is_no_memory o then [] else Move.Opens ∷ []
 moves k (Event.Piece c octets) reading o = []
 moves k (Event.Next c) reading o = next_moves k c reading o
 moves k (Event.Propose c t) reading o = Move.Proposes c t (not (is_out_of_memory o)) ∷ []

@@ -4,23 +4,25 @@ use Rattle.std.specs.Prelude.{length, slice_get, Bool, List, Option, Some, None}
 use Rattle.std.specs.Option.{option_and_then}
 use Rattle.mcast_txn.specs.declared.id.Topic.{Topic}
 use Rattle.mcast_txn.specs.declared.stamp.Stamp.{Stamp}
-use Rattle.mcast_txn.specs.Stamp.{greatest}
+use Rattle.mcast_txn.specs.Stamp.{greatest, zero_stamp}
 use Rattle.mcast_txn.specs.Transaction.{topics_of}
 use Rattle.mcast_txn.specs.TopicSet.{names}
 use Rattle.mcast_txn.specs.Lists.{In}
 use Rattle.mcast_txn.specs.Span.{Item}
+use Rattle.mcast_group.specs.Machine.{TopicState}
 use Rattle.stomp_session.specs.Answers.{action_by}
 use Rattle.delivery.specs.declared.event.Event.{Event}
 use Rattle.delivery.specs.declared.outcome.Outcome.{Outcome}
 use Rattle.delivery.specs.declared.refusal.Refusal.{Refusal}
 use Rattle.delivery.specs.Topics.{TopicList}
-use Rattle.delivery.specs.Machine.World.{World, topic_at, speaker, subscription_at}
+use Rattle.delivery.specs.Machine.World.{connection_at, World, topic_at, speaker, subscription_at}
 use Rattle.delivery.specs.Machine.Observed.{log_at, accepted_at, end_at}
 use Rattle.delivery.specs.Machine.Moves.{undecided_at, insert_ticket, oldest_live}
 use Rattle.delivery.specs.Theorem.Laws.{move_topic, live_topic}
 use Rattle.delivery.specs.Theorem.Spans.{EndsBeforeRow}
 use Rattle.delivery.specs.Core.Steps.{CoreStep, Reading, frame_in}
-use Rattle.delivery.specs.Core.State.{Core, core_of, core_after, session_at, frame_move}
+use Rattle.delivery.specs.Core.Claims.{begun_count, claims_of, sender_claimed}
+use Rattle.delivery.specs.Core.State.{Core, core_of, core_after, names_at, session_at, frame_move}
 use Rattle.delivery.specs.Core.Outcomes.{MayStep, IsCoreRun}
 
 -- ---- what an event is about
@@ -94,6 +96,11 @@ pub record LagsFull (before after : World) (e : Event) (s : ℕ) (end : Stamp) :
 
 -- ---- a step
 
+-- A topic at which nothing was proposed: its clock is 0, it has no part and no row, and a subscription that
+-- begins at it begins at 0.0.
+abbrev pub IsNewTopic : TopicState → Type 0
+IsNewTopic s = (s.clock ≡ 0) × (s.pending ≡ []) × (s.held ≡ []) × (s.frontier ≡ zero_stamp)
+
 -- What a step makes of a core.
 pub record HasStepped (before after : Core) (step : CoreStep) : Type 0 where
   -- the steps so far stay, and this one is added
@@ -104,6 +111,14 @@ pub record HasStepped (before after : Core) (step : CoreStep) : Type 0 where
   -- what is refused changes nothing else, nor does what is answered that there was no memory
   pub refused : (why : Refusal) → step.outcome ≡ Outcome.Refused why → after.world ≡ before.world
   pub no_memory : step.outcome ≡ Outcome.NoMemory → after.world ≡ before.world
+  -- a topic that is made has clock 0, no part, an empty log and a frontier that is 0.0, and there is one for
+  -- each name and no other
+  pub opened : (t : Topic) → length before.world.topics ≤ t.0 → t.0 < length after.world.topics
+      → IsNewTopic (topic_at after.world t)
+  pub as_many : length after.world.topics ≡ length (names_at after)
+  -- whom a connection speaks for is what its claim says, and as many senders have begun as the claims say
+  pub speaks : (c : ℕ) → (connection_at after.world c).sender ≡ sender_claimed c (claims_of after.steps)
+  pub begun : length after.world.senders ≡ begun_count (claims_of after.steps)
   -- an event at one topic changes no other
   pub others : (t : Topic) → t.0 < length before.world.topics
       → event_topic before step.event step.reading ≢ Some t

@@ -10,7 +10,7 @@ use Rattle.stomp_frame.specs.declared.raw_frame.RawFrame.{RawFrame}
 use Rattle.stomp_frame.specs.declared.fault.Check.{Check}
 use Rattle.stomp_frame.specs.Grammar.{BeginsWith}
 use Rattle.stomp_frame.specs.Reader.{Unread}
-use Rattle.stomp_session.specs.Frames.{id_of}
+use Rattle.stomp_session.specs.Frames.{id_of, with_destination}
 use Rattle.delivery.specs.declared.event.Event.{Event}
 use Rattle.delivery.specs.declared.outcome.Outcome.{Outcome}
 use Rattle.delivery.specs.declared.kept.Kept.{Kept}
@@ -87,6 +87,21 @@ accepted_of c [] = []
 accepted_of c (step ∷ older) =
     accepted_of c older ++ (if has_effect step.outcome then frame_from c step else [])
 
+-- the frame that was read, if it was accepted
+abbrev pub accepted_in : CoreStep → Option RawFrame
+accepted_in step = if has_effect step.outcome then frame_in step.reading else None
+
+-- the names, with the destination of the frame that the step accepted behind them where it is new
+abbrev pub names_with : CoreStep → List (List ℕ) → List (List ℕ)
+names_with step names = option_map_or (λ f. with_destination f names) (accepted_in step) names
+
+-- The topics' names after these steps: the opening names, and behind them each destination that was new in an
+-- accepted frame, in order. So where A was there and SENDs to B, to A and to C were accepted, and between them
+-- one to D was refused, they are A, B, C.
+abbrev pub names_after : List (List ℕ) → List CoreStep → List (List ℕ)
+names_after opening [] = opening
+names_after opening (step ∷ older) = names_with step (names_after opening older)
+
 -- the frame of connection c that was read has this subscription id
 abbrev pub has_id : ℕ → List ℕ → CoreStep → Bool
 has_id c id step =
@@ -113,6 +128,8 @@ abbrev pub has_frame : ConnectionFault → Bool
 has_frame (ConnectionFault.Stream k) = false
 has_frame (ConnectionFault.Frame k) = true
 has_frame (ConnectionFault.Session k) = true
+has_frame ConnectionFault.SenderInUse = true
+has_frame ConnectionFault.TooManyClients = true
 has_frame ConnectionFault.Lagged = false
 has_frame ConnectionFault.ReaderNoMemory = false
 

@@ -1,10 +1,12 @@
 -- Only serves proofs: what a net keeps.
 use Rattle.std.specs.Prelude.{◌≡◌, ◌≤◌, ℕ, List, map, length, reverse}
+use Rattle.sender_gate.specs.Senders.{SendersState}
 use Rattle.delivery.specs.declared.kept.Kept.{Kept}
 use Rattle.delivery.specs.Topics.{TopicList, max_topics}
 use Rattle.delivery.specs.Core.Steps.{CoreStep, kept_of}
 use Rattle.delivery.specs.Core.State.{core_of}
 use Rattle.delivery.specs.Core.Outcomes.{IsCoreRun}
+use Rattle.delivery.specs.Inner.Clients.{AreClients}
 use Rattle.delivery.specs.Inner.View.{View, view_of}
 
 -- The kept run is one of a core, and what is held is the view of that core.
@@ -18,3 +20,10 @@ pub record KeepsRun (topics : TopicList) (capacity : ℕ) (kept : List Kept) (he
   pub are_kept : kept ≡ reverse (map kept_of steps)
   pub is_run : IsCoreRun topics capacity steps
   pub view : held ≡ view_of (core_of topics capacity steps)
+
+-- so it is, and the senders beside it are those of that core
+pub record KeepsBoth
+    (topics : TopicList) (capacity : ℕ) (kept : List Kept) (held : View) (clients : SendersState)
+    : Type 0 where
+  pub run : KeepsRun topics capacity kept held
+  pub claimed : AreClients (core_of topics capacity run.steps) clients

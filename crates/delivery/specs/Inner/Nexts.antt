@@ -14,7 +14,8 @@ use Rattle.stomp_frame.specs.Writing.{spelling_of}
 use Rattle.stomp_session.specs.declared.action.Step.{Step}
 use Rattle.stomp_session.specs.declared.action.Action.{Action}
 use Rattle.stomp_session.specs.Answers.{Accepts, Refuses, action_by}
-use Rattle.stomp_session.specs.Open.{Held, StandsFor, held_after}
+use Rattle.stomp_session.specs.Open.{Held, StandsFor, held_after, state_of}
+use Rattle.stomp_session.specs.Frames.{with_destination}
 use Rattle.stomp_session.specs.Refusals.{session_fault}
 use Rattle.delivery.specs.declared.connection_fault.ConnectionFault.{ConnectionFault}
 use Rattle.delivery.specs.declared.open_endpoint.OpenEndpoint.{OpenEndpoint}
@@ -25,10 +26,10 @@ use Rattle.delivery.specs.Machine.Objections.{Objection}
 use Rattle.delivery.specs.Machine.Moves.{needs_idle}
 use Rattle.delivery.specs.Core.Steps.{Reading, accepted_of, frame_in}
 use Rattle.delivery.specs.Core.Output.{receipt_asked, says_version}
-use Rattle.delivery.specs.Core.State.{Core, IsReadBy, session_at, unread_at}
-use Rattle.delivery.specs.Core.Outcomes.{frame_fault, is_any, reading_outcomes, wants_memory}
+use Rattle.delivery.specs.Core.State.{Core, IsReadBy, names_at, session_at, unread_at}
+use Rattle.delivery.specs.Core.Outcomes.{accepted_outcomes, fault_outcomes, frame_fault, is_any, reading_outcomes, wants_memory}
 use Rattle.delivery.specs.Inner.Stands.{IsReached, endpoint_objection}
-use Rattle.delivery.specs.Inner.View.{View, EndpointView, SenderView, view_of, no_endpoint, number_among, is_undecided}
+use Rattle.delivery.specs.Inner.View.{View, EndpointView, SenderView, view_of, no_endpoint, number_among, is_undecided, named_view}
 
 -- ---- one endpoint
 
@@ -83,6 +84,8 @@ abbrev pub IsRefusedAs : Held → RawFrame → ConnectionFault → Type 0
 IsRefusedAs s f (ConnectionFault.Frame fault) = case_fault f ≡ Some fault
 IsRefusedAs s f (ConnectionFault.Session fault) = (case_fault f ≡ None) × Refuses s f fault
 IsRefusedAs s f (ConnectionFault.Stream check) = ⊥
+IsRefusedAs s f ConnectionFault.SenderInUse = ⊥
+IsRefusedAs s f ConnectionFault.TooManyClients = ⊥
 IsRefusedAs s f ConnectionFault.Lagged = ⊥
 IsRefusedAs s f ConnectionFault.ReaderNoMemory = ⊥
 
@@ -90,43 +93,47 @@ IsRefusedAs s f ConnectionFault.ReaderNoMemory = ⊥
 abbrev pub EndpointFault : Type 0
 EndpointFault = ConnectionFault × Option RawFrame
 
--- what an open endpoint, whose session accepted these frames, makes of what it reads
+-- what an open endpoint, whose session accepted these frames, makes of what it reads, and of the topics' names
 abbrev pub JudgesReading
-    : List RawFrame → OpenEndpoint → Reading → Result (Option Step) EndpointFault → OpenEndpoint → Type 0
-JudgesReading accepted old (Reading.Waits left) (Ok None) new = new ≡ record old { reader = left }
-JudgesReading accepted old (Reading.Finds f left) (Ok (Some step)) new =
-    IsAccepted (held_after old.session.names accepted) f step
-    × (new
-    ≡ record old { reader = left; session = held_after old.session.names (accepted ++ f ∷ []) })
-JudgesReading accepted old (Reading.Finds f left) (Err e) new =
-    (e.1 ≡ Some f) × IsRefusedAs (held_after old.session.names accepted) f e.0
-JudgesReading accepted old Reading.Nothing (Err e) new =
-    (e.1 ≡ None) × (e.0 ≡ ConnectionFault.ReaderNoMemory) × (is_any old.reader.text ≡ true)
-JudgesReading accepted old (Reading.Fails check left) (Err e) new =
-    (e.1 ≡ None) × (e.0 ≡ ConnectionFault.Stream check)
-JudgesReading accepted old reading result new = ⊥
+    : List RawFrame → List (List ℕ) → OpenEndpoint → Reading → Result (Option Step) EndpointFault → OpenEndpoint
+    → List (List ℕ) → Type 0
+JudgesReading accepted names old (Reading.Waits left) (Ok None) new later =
+    (new ≡ record old { reader = left }) × (later ≡ names)
+JudgesReading accepted names old (Reading.Finds f left) (Ok (Some step)) new later =
+    IsAccepted (held_after names accepted) f step
+    × (new ≡ record old { reader = left; session = state_of (held_after later (accepted ++ f ∷ [])) })
+    × (later ≡ with_destination f names)
+JudgesReading accepted names old (Reading.Finds f left) (Err e) new later =
+    (e.1 ≡ Some f) × IsRefusedAs (held_after names accepted) f e.0 × (later ≡ names)
+JudgesReading accepted names old Reading.Nothing (Err e) new later =
+    (e.1 ≡ None) × (e.0 ≡ ConnectionFault.ReaderNoMemory) × (is_any old.reader.text ≡ true) × (later ≡ names)
+JudgesReading accepted names old (Reading.Fails check left) (Err e) new later =
+    (e.1 ≡ None) × (e.0 ≡ ConnectionFault.Stream check) × (later ≡ names)
+JudgesReading accepted names old reading result new later = ⊥
 
 -- what its reader reads, and what the endpoint makes of it
 pub record Judgement
-    (accepted : List RawFrame) (old : OpenEndpoint) (result : Result (Option Step) EndpointFault)
-    (new : OpenEndpoint)
+    (accepted : List RawFrame) (names : List (List ℕ)) (old : OpenEndpoint)
+    (result : Result (Option Step) EndpointFault) (new : OpenEndpoint) (later : List (List ℕ))
     : Type 0 where
   pub reading : Reading
   pub read : IsReadBy old.reader reading
-  pub judged : JudgesReading accepted old reading result new
+  pub judged : JudgesReading accepted names old reading result new later
 
 -- so of each list of frames that its session stands for, while its reader returned no fault
-abbrev pub Judges : OpenEndpoint → Result (Option Step) EndpointFault → OpenEndpoint → Type 0
-Judges old result new =
-    (accepted : List RawFrame) → StandsFor old.session accepted → old.reader.answered ≡ None
-    → Judgement accepted old result new
+abbrev pub Judges
+    : List (List ℕ) → OpenEndpoint → Result (Option Step) EndpointFault → OpenEndpoint → List (List ℕ) → Type 0
+Judges names old result new later =
+    (accepted : List RawFrame) → StandsFor old.session names accepted → old.reader.answered ≡ None
+    → Judgement accepted names old result new later
 
 -- the same of an endpoint, if it is open
-abbrev pub JudgesAt : Stage → Result (Option Step) EndpointFault → Stage → Type 0
-JudgesAt (Stage.Open old) result new =
-    (after : OpenEndpoint) × (new ≡ Stage.Open after) × Judges old result after
-JudgesAt (Stage.Leaving parting) result new = Unit {0}
-JudgesAt Stage.Gone result new = Unit {0}
+abbrev pub JudgesAt
+    : List (List ℕ) → Stage → Result (Option Step) EndpointFault → Stage → List (List ℕ) → Type 0
+JudgesAt names (Stage.Open old) result new later =
+    (after : OpenEndpoint) × (new ≡ Stage.Open after) × Judges names old result after later
+JudgesAt names (Stage.Leaving parting) result new later = Unit {0}
+JudgesAt names Stage.Gone result new later = Unit {0}
 
 -- ---- replies
 
@@ -176,18 +183,25 @@ pub record HasFault
 abbrev pub MayLack : Core → ℕ → RawFrame → Type 0
 MayLack k c f = frame_fault k c f ≡ None → wants_memory k c f ≡ true
 
+-- the frame of connection c may end it by this fault
+abbrev pub MayEnd : Core → ℕ → RawFrame → ConnectionFault → Type 0
+MayEnd k c f fault =
+    (cut : Bool)
+    → In (Outcome.Faulted fault cut)
+    (option_map_or fault_outcomes (frame_fault k c f) (accepted_outcomes k c f))
+
 -- the stage of connection c once it accepted this frame too, and its reader stands for this
 abbrev pub accepted_stage : Core → ℕ → RawFrame → Unread → Stage
 accepted_stage k c f left = Stage.Open (record {
   reader = left;
-  session = held_after k.names (accepted_of c k.steps ++ f ∷ []);
+  session = state_of (held_after (with_destination f (names_at k)) (accepted_of c k.steps ++ f ∷ []));
   receipt = None;
 })
 
--- A Next of connection c read this frame, which its session accepted, and this is held then. It asks for this
--- action and this receipt.
-pub record Asks
-    (k : Core) (c : ℕ) (f : RawFrame) (left : Unread)
+-- A Next of connection c read this frame, which its session accepted, and this is held then, where this was
+-- before. It asks for this action and this receipt.
+pub record AsksOver
+    (base : View) (k : Core) (c : ℕ) (f : RawFrame) (left : Unread)
     (action : Action) (receipt : Option (List ℕ)) (held : View)
     : Type 0 where
   pub reached : IsReached k
@@ -197,4 +211,22 @@ pub record Asks
   pub free : session_fault (session_at k c) f ≡ None
   pub does : action_by f.command (session_at k c) f ≡ action
   pub wants : receipt_of f ≡ receipt
-  pub view : held ≡ changed_endpoint (staged_endpoint (accepted_stage k c f left)) c (view_of k)
+  pub view : held ≡ changed_endpoint (staged_endpoint (accepted_stage k c f left)) c base
+
+-- the action is another than a CONNECT's
+abbrev pub claims_none : Action → Bool
+claims_none (Action.Connected client) = false
+claims_none action = true
+
+-- the name of its destination is there, and its topic may not be yet
+abbrev pub AsksNamed : Core → ℕ → RawFrame → Unread → Action → Option (List ℕ) → View → Type 0
+AsksNamed k c f left action receipt held =
+    AsksOver (record (view_of k) { names = with_destination f (names_at k) }) k c f left action receipt held
+
+-- its destination has its topic
+abbrev pub Asks : Core → ℕ → RawFrame → Unread → Action → Option (List ℕ) → View → Type 0
+Asks k c f left action receipt held = AsksOver (named_view f (view_of k)) k c f left action receipt held
+
+-- the names and the topics are those of before
+abbrev pub AsksUnnamed : Core → ℕ → RawFrame → Unread → Action → Option (List ℕ) → View → Type 0
+AsksUnnamed k c f left action receipt held = AsksOver (view_of k) k c f left action receipt held

@@ -34,13 +34,13 @@ use Rattle.delivery.specs.Inner.View.{View, SenderView, EndpointView, sender_vie
 abbrev pub speaker_at : View → ℕ → ℕ
 speaker_at v c = number_among v.senders (get_or v.endpoints c no_endpoint)
 
--- what stands for a sender that there never was
-abbrev pub no_sender : SenderView
-no_sender = sender_view 0 new_sender
+-- what stands for the sender of this number where there is none yet: a new one
+abbrev pub no_sender : ℕ → SenderView
+no_sender s = sender_view s new_sender
 
 -- the sender of this number
 abbrev pub sender_in : View → ℕ → SenderView
-sender_in v s = get_or v.senders s no_sender
+sender_in v s = get_or v.senders s (no_sender s)
 
 -- what stands against any event of a connection of this stage
 abbrev pub gone_objection : Stage → Option Objection

@@ -2,7 +2,7 @@
 -- its steps). It isn't the core itself: rows of the commit list have no SENDs, an undecided transaction
 -- has lost the parts that were taken out, verdicts are found by sender and seq, and each connection has
 -- its endpoint.
-use Rattle.std.specs.Prelude.{ℕ, Bool, true, false, List, [], ◌∷◌, ◌++◌, map, length, get_or, Option, Some, None, if◌then◌else◌}
+use Rattle.std.specs.Prelude.{ℕ, Bool, true, false, not, ◌&&◌, List, [], ◌∷◌, ◌++◌, codes, map, length, nat_lt, get_or, Option, Some, None, if◌then◌else◌}
 use Rattle.std.specs.List.{find, range_with_len}
 use Rattle.std.specs.Option.{option_map, option_and_then, unwrap_or}
 use Rattle.stomp_frame.specs.declared.raw_frame.RawFrame.{RawFrame}
@@ -25,18 +25,19 @@ use Rattle.mcast_group.specs.declared.ended.Ended.{Ended}
 use Rattle.mcast_group.specs.declared.fault.ProposeFault.{ProposeFault}
 use Rattle.mcast_group.specs.Group.{GroupState}
 use Rattle.mcast_group.specs.Machine.{TopicState, EntryEnd, new_topic}
-use Rattle.stomp_session.specs.Open.{held_after}
-use Rattle.stomp_session.specs.Frames.{is_disconnect}
+use Rattle.stomp_session.specs.Open.{held_after, state_of}
+use Rattle.stomp_session.specs.Frames.{has_destination, field, is_disconnect}
+use Rattle.stomp_session.specs.Names.{is_known}
 use Rattle.delivery.specs.declared.sending.Sending.{Sending}
 use Rattle.delivery.specs.declared.stage.Stage.{Stage}
 use Rattle.delivery.specs.Theorem.Due.{log_row}
-use Rattle.delivery.specs.Machine.World.{World, Undecided, SenderState, Standing, new_sender, connection_at, sender_at, speaker, subscription_at}
+use Rattle.delivery.specs.Machine.World.{World, Undecided, SenderState, Standing, connection_at, sender_at, speaker, subscription_at}
 use Rattle.delivery.specs.Machine.Moves.{has_ticket, find_verdict}
 use Rattle.delivery.specs.Core.Connections.{live_numbers}
-use Rattle.delivery.specs.Core.Steps.{CoreStep, accepted_of, reader_limits}
+use Rattle.delivery.specs.Core.Steps.{CoreStep, accepted_of, names_after, reader_limits}
 use Rattle.delivery.specs.Core.Output.{receipt_asked, commit_frame, sub_id_text, text_out}
 use Rattle.delivery.specs.Core.Reports.{each_number}
-use Rattle.delivery.specs.Core.State.{Core, unread_at}
+use Rattle.delivery.specs.Core.State.{Core, log_limit, unread_at}
 
 -- ---- topics
 
@@ -125,7 +126,7 @@ parting_receipt accepted = option_and_then receipt_of (find (λ f. is_disconnect
 abbrev pub stage_view : List (List ℕ) → Standing → Option Undecided → List RawFrame → Unread → Stage
 stage_view names Standing.Open flight accepted unread = Stage.Open (record {
   reader = unread;
-  session = held_after names accepted;
+  session = state_of (held_after names accepted);
   receipt = pending_receipt accepted flight;
 })
 stage_view names Standing.Leaving flight accepted unread = Stage.Leaving (parting_receipt accepted)
@@ -227,38 +228,59 @@ view_with names w accepted unread text ids = record {
   commits = map log_row w.commits;
 }
 
--- what it holds after these steps
+-- what it holds after these steps, where it began with topics of these names
 abbrev pub view_after : List (List ℕ) → World → List CoreStep → View
-view_after names w steps =
-    view_with names w (λ c. accepted_of c steps) (λ c. unread_at c steps) (λ c. text_out names c steps)
-    (λ s. sub_id_text s steps)
+view_after opening w steps =
+    view_with (names_after opening steps) w (λ c. accepted_of c steps) (λ c. unread_at c steps)
+    (λ c. text_out opening c steps) (λ s. sub_id_text s steps)
 
 -- what it holds of this core
 abbrev pub view_of : Core → View
 view_of k = view_after k.names k.world k.steps
 
+-- ---- a new topic
+
+-- the group of a topic that is made where there are so many
+abbrev pub made_group : ℕ → GroupState
+made_group count = new_group (new_topic (record { 0 = count }) log_limit 0)
+
+-- with a group of the last name, where it has none yet
+abbrev pub grouped_view : View → View
+grouped_view v =
+    if nat_lt (length v.groups) (length v.names)
+    then record v { groups = v.groups ++ made_group (length v.groups) ∷ [] }
+    else v
+
+-- Once the destination of a frame has its topic, whose name stands behind the others: with a group for it, where
+-- there was none.
+abbrev pub named_view : RawFrame → View → View
+named_view f v =
+    if has_destination f.command && not (is_known (field (codes "destination") f) v.names)
+    then
+    record v {
+      names = v.names ++ field (codes "destination") f ∷ [];
+      groups = v.groups ++ made_group (length v.groups) ∷ [];
+    }
+    else v
+
 -- ---- a new connection, and octets that one is fed
 
--- the endpoint of a connection that has just been opened, which speaks for this sender
-abbrev pub new_endpoint : List (List ℕ) → ℕ → EndpointView
-new_endpoint names sender = record {
-  sender = Some sender;
+-- the endpoint of a connection that has just been opened: it speaks for no sender yet
+abbrev pub new_endpoint : EndpointView
+new_endpoint = record {
+  sender = None;
   stage = Stage.Open (record {
     reader = unread_of reader_limits;
-    session = held_after names [];
+    session = state_of (held_after [] []);
     receipt = None;
   });
   live = [];
   output = [];
 }
 
--- with one more sender and its connection
+-- with one more connection
 abbrev pub with_new_endpoint : View → View
-with_new_endpoint v = record v {
-  senders = v.senders ++ sender_view (length v.senders) new_sender ∷ [];
-  verdicts = v.verdicts ++ [] ∷ [];
-  endpoints = v.endpoints ++ new_endpoint v.names (length v.senders) ∷ [];
-}
+with_new_endpoint v = record v { endpoints = v.endpoints ++ new_endpoint ∷ [] }
 
 -- an open connection is fed these octets
 abbrev pub fed_stage : List ℕ → Stage → Stage

@@ -3,7 +3,8 @@
 ghost use Rattle.std.specs.Prelude.{◌≡◌, ◌<◌, length, get_or, slice_get, true, false, is_err, OnErr};
 ghost use Rattle.std.specs.Option.{option_map_or};
 ghost use Rattle.delivery.specs.Core.State.{Core};
-ghost use Rattle.delivery.specs.Inner.Stands.{IsReached, Makes, IsChecked};
+ghost use Rattle.delivery.specs.Inner.Clients.{AreClients, MakesBoth};
+ghost use Rattle.delivery.specs.Inner.Stands.{IsReached, IsChecked};
 ghost use Rattle.delivery.specs.Inner.View.{view_of, no_endpoint};
 ghost use Rattle.delivery.specs.Inner.Leaving.{is_busy, leave_objection, oldest_end, oldest_closed, has_parting, gone_view};
 ghost use Rattle.delivery.specs.declared.event.Event.{Event as Asked};
@@ -13,6 +14,7 @@ use crate::outcome::Outcome;
 use crate::refusal::Refusal;
 use crate::stage::Stage;
 use mcast_txn::Stamp;
+use sender_gate::Senders;
 use stomp_frame::NoMemory;
 
 impl NetState {
@@ -72,10 +74,11 @@ impl NetState {
 
     /// The next step of a connection's leaving: its oldest subscription is closed, or else it is gone. 80 where there
     /// is none, 87 where it is gone, 79 where it is open, 81 where all its subscriptions are closed and its sender
-    /// has an undecided transaction or tickets to cancel. It takes no memory but for a RECEIPT.
-    pub(crate) fn leave(&mut self, connection: u64) -> Outcome
-        ensures { (k : Core) → IsReached k → self.old ≡ view_of k
-            → Makes k (Asked.Leave connection) result self.new }
+    /// has an undecided transaction or tickets to cancel. As it is gone, its sender's gate is given back. It takes no
+    /// memory but for a RECEIPT.
+    pub(crate) fn leave(&mut self, connection: u64, clients: &mut Senders) -> Outcome
+        ensures { (k : Core) → IsReached k → self.old ≡ view_of k → AreClients k clients.old
+            → MakesBoth k (Asked.Leave connection) result self.new clients.new }
     {
         if let Err(refusal) = self.check_leaving(connection) {
             return Outcome::Refused(refusal);
@@ -83,6 +86,7 @@ impl NetState {
         if let Some((sub, to)) = self.close_oldest(connection) {
             return Outcome::Unsubscribed(sub, to);
         }
+        self.give_back(connection, clients);
         match self.depart(connection) {
             Ok(()) => Outcome::Gone { cut: false },
             Err(NoMemory) => Outcome::Gone { cut: true },

@@ -22,7 +22,7 @@ pub(super) enum PlainAnswer {
 /// What the connection has to do, with ids as letters and topics as numbers.
 #[derive(Debug, PartialEq, Eq, Drop)]
 pub(super) enum PlainAction {
-    Connected,
+    Connected(Option<u8>),
     Nothing,
     Subscribe(Option<u8>, Option<u32>),
     Unsubscribe(Option<u8>),
@@ -52,6 +52,14 @@ fn letter(text: &Octets) -> u8 {
     match text.as_slice() {
         [letter] => *letter,
         _ => b'?',
+    }
+}
+
+/// The one octet of a text, if there is a text.
+fn optional_letter(text: &Option<Octets>) -> Option<u8> {
+    match text {
+        Some(text) => Some(letter(text)),
+        None => None,
     }
 }
 
@@ -87,8 +95,8 @@ fn plain_txn(alloc: Global, txn: Txn) -> Result<PlainTxn, Fail> {
     let Ok(mut parts) = txn.split(alloc, &flight) else {
         return Err(Fail::new("the transaction wasn't split"));
     };
-    for topic in 0..2 {
-        if let Some(part) = parts.part(Topic(topic)) {
+    for topic in plain.topics.iter() {
+        if let Some(part) = parts.part(Topic(*topic)) {
             add_part(&part, &mut plain.parts)?;
         }
     }
@@ -97,7 +105,7 @@ fn plain_txn(alloc: Global, txn: Txn) -> Result<PlainTxn, Fail> {
 
 fn plain_action(alloc: Global, action: Action) -> Result<PlainAction, Fail> {
     match action {
-        Action::Connected => Ok(PlainAction::Connected),
+        Action::Connected(client) => Ok(PlainAction::Connected(optional_letter(&client))),
         Action::Nothing => Ok(PlainAction::Nothing),
         Action::Subscribe(id, topic) => {
             Ok(PlainAction::Subscribe(Some(letter(&id)), Some(topic.0)))
@@ -113,10 +121,7 @@ pub(super) fn plain_answer(alloc: Global, answer: Answer) -> Result<PlainAnswer,
     match answer {
         Err((_, fault)) => Ok(PlainAnswer::Refused(fault.number())),
         Ok(Step { action, receipt }) => {
-            let receipt = match receipt {
-                Some(receipt) => Some(letter(&receipt)),
-                None => None,
-            };
+            let receipt = optional_letter(&receipt);
             Ok(PlainAnswer::Accepted(plain_action(alloc, action)?, receipt))
         }
     }

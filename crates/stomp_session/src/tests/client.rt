@@ -4,9 +4,8 @@ ghost use Rattle.std.specs.Prelude.{◌≡◌, ◌&&◌, nat_le, IfOk};
 ghost use Rattle.std.specs.List.{list_all};
 ghost use Rattle.stomp_frame.specs.Headers.{IsText, IsPair};
 
-use crate::{Names, Session, SessionFault, Step};
+use crate::{MAX_TOPICS, Names, Session, SessionFault, Step};
 use std::alloc::Global;
-use std::sync::Arc;
 use std::test::Fail;
 use stomp_frame::{ClientFrame, Command, Headers, NoMemory, Octets, RawFrame, classify};
 
@@ -141,26 +140,62 @@ fn pairs_with_names<'a>(pairs: &'a [(&'a [u8], &'a [u8]); 2]) -> Pairs<'a> {
     pairs
 }
 
-/// A client of a server with the topics `A` and `B`.
+/// Adds a name, where there is room for one more topic.
+pub(super) fn add_name(names: &mut Names, name: &[u8]) -> Result<(), NoMemory> {
+    if names.len() < MAX_TOPICS {
+        names.add(name)?;
+    }
+    Ok(())
+}
+
+/// The names of as many topics, at most 1,024: each has two octets.
+pub(super) fn many_names(alloc: Global, count: usize) -> Result<Names, NoMemory> {
+    let mut names = Names::new(alloc);
+    for index in 0..count {
+        let (high, low) = ((index / 32 % 32) as u8, (index % 32) as u8);
+        add_name(
+            &mut names,
+            &[b'@'.wrapping_add(high), b'@'.wrapping_add(low)],
+        )?;
+    }
+    Ok(names)
+}
+
+/// A client of a server, with the names of its topics.
 #[derive(Drop)]
 pub(super) struct Client {
     alloc: Global,
+    names: Names,
     session: Session,
 }
 
 impl Client {
+    /// A client of a server with the topics `A` and `B`.
     pub(super) fn new(alloc: Global) -> Result<Client, NoMemory> {
         let mut names = Names::new(alloc);
-        for name in [b"A".as_slice(), b"B"] {
-            if names.len() < 2 {
-                names.add(name)?;
-            }
-        }
-        let names = Arc::new(alloc, names)?;
-        Ok(Client {
+        add_name(&mut names, b"A")?;
+        add_name(&mut names, b"B")?;
+        Ok(Client::of(alloc, names))
+    }
+
+    /// A client of a server with the topics of these names.
+    pub(super) fn of(alloc: Global, names: Names) -> Client {
+        Client {
             alloc,
-            session: Session::new(alloc, names),
-        })
+            names,
+            session: Session::new(alloc),
+        }
+    }
+
+    /// The names of the topics.
+    pub(super) fn names(&self) -> &Names {
+        &self.names
+    }
+
+    /// Another connection takes this one's place, at the same server.
+    pub(super) fn reconnect(&mut self) -> Result<u32, NoMemory> {
+        self.session = Session::new(self.alloc);
+        self.connect(b"1.2")
     }
 
     /// A client whose frames of this script were accepted; an error where one wasn't.
@@ -183,7 +218,7 @@ impl Client {
 
     /// What the session answers to a frame.
     pub(super) fn take(&mut self, frame: ClientFrame) -> Answer {
-        self.session.step(frame)
+        self.session.step(frame, &mut self.names)
     }
 
     pub(super) fn answer(&mut self, command: Command, pairs: Pairs) -> Result<Answer, NoMemory> {
@@ -204,7 +239,7 @@ impl Client {
         ensures { IfOk result (λ receipt. IsText receipt) }
     {
         let frame = frame(self.alloc, command, pairs)?;
-        let Ok(step) = self.session.step(frame) else {
+        let Ok(step) = self.session.step(frame, &mut self.names) else {
             return Err(Fail::new("the frame is refused"));
         };
         let Step { action: _, receipt } = step;

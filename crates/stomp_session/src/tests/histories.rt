@@ -1,17 +1,22 @@
-//! Made histories: what a session answers to each of their frames, and what the plain definition does.
+//! Made histories of two connections of one server: what their sessions answer to each of their frames, and what the
+//! plain definition does.
 
 use super::answers::{PlainAction, PlainAnswer, plain_answer};
-use super::client::Client;
+use super::client::{add_name, many_names};
 use super::made::{Draws, Made};
 use super::plain::Past;
+use crate::{Names, Session};
 use std::alloc::Global;
 use std::test::Fail;
 use stomp_frame::NoMemory;
 
 /// How many histories there are, and how many frames each has.
-const HISTORIES: u32 = 1_000;
+const HISTORIES: u32 = 500;
 
-const FRAMES: u8 = 32;
+const FRAMES: u8 = 48;
+
+/// How many topics there are before `A` in each eighth history, so that only three more are made.
+const MANY: u32 = 1_020;
 
 /// The next frame of a history. Fifteen times in sixteen one that would be refused is drawn again, up to eight times,
 /// so that histories get long.
@@ -30,11 +35,13 @@ fn next_frame(draws: &mut Draws, past: &Past, index: u8) -> Made {
 #[derive(Drop)]
 struct Seen {
     /// The refusals from 60 on.
-    refusals: [bool; 14],
+    refusals: [bool; 17],
     /// The actions in the order of `PlainAction`.
     actions: [bool; 6],
-    /// A transaction of four SENDs and more, at both topics.
-    at_both: bool,
+    /// A transaction of four SENDs and more, at three topics or more.
+    at_three: bool,
+    /// A history in which four topics were made.
+    made_four: bool,
 }
 
 impl Seen {
@@ -51,13 +58,13 @@ impl Seen {
 
     fn action(&mut self, action: &PlainAction) {
         let index = match action {
-            PlainAction::Connected => 0,
+            PlainAction::Connected(_) => 0,
             PlainAction::Nothing => 1,
             PlainAction::Subscribe(_, _) => 2,
             PlainAction::Unsubscribe(_) => 3,
             PlainAction::Commit(txn) => {
-                if txn.len >= 4 && txn.topics.len() == 2 {
-                    self.at_both = true;
+                if txn.len >= 4 && txn.topics.len() >= 3 {
+                    self.at_three = true;
                 }
                 4
             }
@@ -74,42 +81,56 @@ impl Seen {
     }
 }
 
-/// What the session answers to a made frame.
-fn session_answer(alloc: Global, client: &mut Client, made: &Made) -> Result<PlainAnswer, Fail> {
-    let frame = made.frame(alloc)?;
-    plain_answer(alloc, client.take(frame))
-}
-
-/// A history on its way: the client, the frames that were accepted, and the draws.
+/// A history on its way: the topics' names, the two sessions, the frames that were accepted, and the draws.
 #[derive(Drop)]
 struct History {
-    client: Client,
+    names: Names,
+    first: Session,
+    second: Session,
     past: Past,
     draws: Draws,
 }
 
 impl History {
+    /// Each eighth history begins with many topics before `A`.
     fn begin(alloc: Global, history: u32) -> Result<History, NoMemory> {
+        let before = if history % 8 == 0 { MANY } else { 0 };
+        let mut names = many_names(alloc, before as usize)?;
+        add_name(&mut names, b"A")?;
         Ok(History {
-            client: Client::new(alloc)?,
-            past: Past::new(alloc),
+            names,
+            first: Session::new(alloc),
+            second: Session::new(alloc),
+            past: Past::new(alloc, before)?,
             draws: Draws::of(history),
         })
     }
 
+    /// What its connection's session answers to a made frame.
+    fn answer(&mut self, alloc: Global, made: &Made) -> Result<PlainAnswer, Fail> {
+        let frame = made.frame(alloc)?;
+        let answer = if made.is_second {
+            self.second.step(frame, &mut self.names)
+        } else {
+            self.first.step(frame, &mut self.names)
+        };
+        plain_answer(alloc, answer)
+    }
+
     /// Whether the session answers this frame as the list of the frames before it says.
     fn agrees_on(&mut self, alloc: Global, made: &Made, seen: &mut Seen) -> Result<bool, Fail> {
-        let told = session_answer(alloc, &mut self.client, made)?;
+        let told = self.answer(alloc, made)?;
         seen.note(&told);
         Ok(self.past.is_answer(made, &told)?)
     }
 
-    /// Whether the session answers the next frame as the list of the frames before it says.
+    /// Whether the session answers the next frame as the list of the frames before it says, and there are as many
+    /// names as that list says.
     fn agrees(&mut self, alloc: Global, index: u8, seen: &mut Seen) -> Result<bool, Fail> {
         let made = next_frame(&mut self.draws, &self.past, index);
         let agrees = self.agrees_on(alloc, &made, seen)?;
         self.past.put(&made)?;
-        Ok(agrees)
+        Ok(agrees && self.names.len() == self.past.topics() as usize)
     }
 
     /// The index of the first frame that is answered otherwise; `FRAMES` if there is none.
@@ -118,6 +139,9 @@ impl History {
             if !self.agrees(alloc, index, seen)? {
                 return Ok(index);
             }
+        }
+        if self.past.topics() == 5 {
+            seen.made_four = true;
         }
         Ok(FRAMES)
     }
@@ -133,18 +157,20 @@ fn first_difference(alloc: Global, history: u32, seen: &mut Seen) -> Result<u8, 
 #[test]
 fn made_histories(rt: HostRuntime) -> Result<(), Fail> {
     let mut seen = Seen {
-        refusals: [false; 14],
+        refusals: [false; 17],
         actions: [false; 6],
-        at_both: false,
+        at_three: false,
+        made_four: false,
     };
     for history in 0..HISTORIES {
         let index = first_difference(rt.alloc(), history, &mut seen)?;
         assert!(rt; index == FRAMES, "history {history}, frame {index}");
     }
-    for number in [60, 61, 62, 63, 64, 65, 66, 67, 68, 73] {
+    for number in [60, 61, 62, 63, 64, 65, 66, 68, 73, 75, 76] {
         assert!(rt; seen.has_refusal(number), "no {number}");
     }
     assert!(rt; seen.actions.iter().all(|came| *came));
-    assert!(rt; seen.at_both);
+    assert!(rt; seen.at_three);
+    assert!(rt; seen.made_four);
     Ok(())
 }

@@ -19,9 +19,12 @@ const VERSIONS: [(&[u8], bool); 4] = [
 pub(super) struct Made {
     /// Its index in its history, from 0, which is the body of a SEND.
     pub index: u8,
+    /// Whether it comes from the second of the two connections.
+    pub is_second: bool,
     pub command: Command,
     /// The accept-version, and whether 1.2 is among its versions.
     pub versions: Option<(&'static [u8], bool)>,
+    pub client: Option<u8>,
     pub id: Option<u8>,
     pub destination: Option<u8>,
     pub ack: Option<&'static [u8]>,
@@ -49,6 +52,7 @@ impl Made {
         }
         for (name, letter) in [
             (b"id".as_slice(), self.id),
+            (b"client-id", self.client),
             (b"destination", self.destination),
             (b"transaction", self.transaction),
             (b"receipt", self.receipt),
@@ -100,6 +104,15 @@ impl Draws {
         letters[self.below(4) as usize]
     }
 
+    /// A destination: of eight, two can't be the name of a topic.
+    fn destination(&mut self) -> u8 {
+        if self.below(2) == 0 {
+            self.letter(b"AAbB")
+        } else {
+            self.letter(b"!~ \x7f")
+        }
+    }
+
     fn command(&mut self) -> Command {
         match self.below(64) {
             0 => Command::Connect,
@@ -123,11 +136,13 @@ impl Draws {
     }
 
     /// A frame of this command, with the headers that it requires, and some that it may have.
-    fn frame_of(&mut self, index: u8, command: Command) -> Made {
+    fn frame_of(&mut self, index: u8, is_second: bool, command: Command) -> Made {
         let mut made = Made {
             index,
+            is_second,
             command,
             versions: None,
+            client: None,
             id: None,
             destination: None,
             ack: None,
@@ -137,14 +152,17 @@ impl Draws {
         match command {
             Command::Connect | Command::Stomp => {
                 made.versions = Some(VERSIONS[self.below(4) as usize]);
+                if self.below(2) == 0 {
+                    made.client = Some(self.letter(b"pqpq"));
+                }
             }
             Command::Subscribe => {
                 made.id = Some(self.letter(b"abab"));
-                made.destination = Some(self.letter(b"ABAq"));
+                made.destination = Some(self.destination());
                 made.ack = self.ack();
             }
             Command::Unsubscribe => made.id = Some(self.letter(b"abab")),
-            Command::Send => made.destination = Some(self.letter(b"ABBq")),
+            Command::Send => made.destination = Some(self.destination()),
             Command::Begin | Command::Commit | Command::Abort => {
                 made.transaction = Some(self.letter(b"xyxy"));
             }
@@ -153,16 +171,18 @@ impl Draws {
         made
     }
 
-    /// A frame at this index of a history. Most histories begin with a CONNECT or a STOMP.
+    /// A frame at this index of a history. The first two are of the two connections, and most histories begin with a
+    /// CONNECT or a STOMP of each.
     pub(super) fn frame(&mut self, index: u8) -> Made {
-        let command = if index != 0 || self.below(8) == 0 {
+        let is_second = index == 1 || (index > 1 && self.below(2) == 1);
+        let command = if index > 1 || self.below(8) == 0 {
             self.command()
         } else if self.below(2) == 0 {
             Command::Connect
         } else {
             Command::Stomp
         };
-        let mut made = self.frame_of(index, command);
+        let mut made = self.frame_of(index, is_second, command);
         if command == Command::Send && self.below(4) != 0 {
             made.transaction = Some(self.letter(b"xyxy"));
         }

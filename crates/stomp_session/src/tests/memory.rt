@@ -12,6 +12,9 @@ use stomp_frame::{ClientFrame, Command, Headers, NoMemory};
 /// A text that doesn't fit in an `Octets` itself, so that its list takes memory.
 const LONG: &[u8] = b"a text that is rather long";
 
+/// The name of a topic that isn't there yet.
+const NAME: &[u8] = b"a/name/that/is/rather/long";
+
 /// A frame, and the script of the frames before it.
 #[derive(Clone, Copy)]
 struct Row {
@@ -63,8 +66,14 @@ fn is_closed(client: &mut Client) -> Result<bool, NoMemory> {
     Ok(client.letters(b'd', b' ', b' ')? == SessionFault::Closed.number())
 }
 
+/// Whether the names are those that the client began with.
+fn has_its_names(client: &Client) -> bool {
+    are_names(client.names(), &[b"A", b"B"])
+}
+
 /// Puts the row's frame to a new session: whether it is accepted. An error says that there was no memory for the frames
-/// before it. The answer to a refused frame is 72, it comes back as it was given, and the session is closed.
+/// before it. The answer to a refused frame is 72, it comes back as it was given, the session is closed, and it made no
+/// topic.
 fn is_accepted(rt: &impl Abort, alloc: Global, row: &Row) -> Result<bool, NoMemory> {
     let mut client = Client::after(alloc, row.script)?;
     let frame = frame_with(alloc, row.command, row.pairs, row.body)?;
@@ -74,6 +83,7 @@ fn is_accepted(rt: &impl Abort, alloc: Global, row: &Row) -> Result<bool, NoMemo
     }
     assert!(rt; is_out_of_memory(answer, row));
     assert!(rt; is_closed(&mut client)?);
+    assert!(rt; has_its_names(&client));
     Ok(false)
 }
 
@@ -92,6 +102,41 @@ fn a_subscribe_without_memory(rt: HostRuntime) {
         command: Command::Subscribe,
         pairs: &[(b"id", LONG), (b"destination", b"A"), (b"receipt", LONG)],
         body: b"",
+    };
+    is_refused_once(&rt, rt.alloc(), &row);
+}
+
+/// A SUBSCRIBE that makes its topic.
+#[test]
+fn a_subscribe_to_a_new_topic_without_memory(rt: HostRuntime) {
+    let row = Row {
+        script: b"c..",
+        command: Command::Subscribe,
+        pairs: &[(b"id", LONG), (b"destination", NAME), (b"receipt", LONG)],
+        body: b"",
+    };
+    is_refused_once(&rt, rt.alloc(), &row);
+}
+
+/// A SEND that makes its topic, outside a transaction and in one.
+#[test]
+fn a_send_to_a_new_topic_without_memory(rt: HostRuntime) {
+    let row = Row {
+        script: b"c..",
+        command: Command::Send,
+        pairs: &[(b"destination", NAME), (b"receipt", LONG)],
+        body: LONG,
+    };
+    is_refused_once(&rt, rt.alloc(), &row);
+    let row = Row {
+        script: b"c..,bx.",
+        command: Command::Send,
+        pairs: &[
+            (b"destination", NAME),
+            (b"transaction", b"x"),
+            (b"receipt", LONG),
+        ],
+        body: LONG,
     };
     is_refused_once(&rt, rt.alloc(), &row);
 }
@@ -160,7 +205,11 @@ fn a_connect_takes_none(rt: HostRuntime) {
     let row = Row {
         script: b"",
         command: Command::Connect,
-        pairs: &[(b"accept-version", b"1.0,1.2"), (b"host", b"h")],
+        pairs: &[
+            (b"accept-version", b"1.0,1.2"),
+            (b"host", b"h"),
+            (b"client-id", LONG),
+        ],
         body: b"",
     };
     assert!(rt; !is_refused_once(&rt, rt.alloc(), &row));

@@ -10,14 +10,17 @@ use std::test::Fail;
 use stomp_frame::{Command, NoMemory, Octets, ServerFrame, render, write_frame};
 
 /// Scripts, each with the number that its last frame is answered: 0 where it's accepted.
-const ROWS: [(&[u8], u32); 22] = [
+const ROWS: [(&[u8], u32); 26] = [
     (b"saA", 60),
     (b"c..,c..", 61),
     (b"c..,saA,saB", 63),
     (b"c..,saA,ua.,saB", 0),
     (b"c..,uq.", 64),
-    (b"c..,saq", 67),
-    (b"c..,saA,saq", 67),
+    (b"c..,saq", 0),
+    (b"c..,sa ", 76),
+    (b"c..,sa\x7f", 76),
+    (b"c..,saA,sa ", 76),
+    (b"c..,saA,saq", 63),
     (b"c..,bx.,bx.", 65),
     (b"c..,bx.,ex.,bx.", 0),
     (b"c..,bx.,ax.,bx.", 0),
@@ -26,8 +29,9 @@ const ROWS: [(&[u8], u32); 22] = [
     (b"c..,bx.,ex.,ex.", 66),
     (b"c..,bx.,ax.,ex.", 66),
     (b"c..,mAx", 66),
-    (b"c..,mqx", 67),
-    (b"c..,bx.,mqx", 67),
+    (b"c..,m x", 76),
+    (b"c..,mqx", 66),
+    (b"c..,bx.,mqx", 0),
     (b"c..,bx.,mAx,ex.", 0),
     (b"c..,bx.,mAy", 66),
     (b"c..,d..", 0),
@@ -65,10 +69,11 @@ fn versions(rt: HostRuntime) -> Result<(), Fail> {
 
 #[test]
 fn an_ack_is_auto(rt: HostRuntime) -> Result<(), Fail> {
-    let rows: [(&[u8], &[u8], u32); 3] = [
+    let rows: [(&[u8], &[u8], u32); 4] = [
         (b"auto", b"A", 0),
-        (b"client", b"q", 68),
-        (b"auto", b"q", 67),
+        (b"client", b"A B", 68),
+        (b"auto", b"A B", 76),
+        (b"auto", b"", 76),
     ];
     for (ack, destination, want) in rows {
         let mut client = Client::begun(rt.alloc())?;
@@ -172,7 +177,7 @@ fn a_stomp_has_none(rt: HostRuntime) -> Result<(), Fail> {
             (b"receipt", b"r"),
         ],
     )?;
-    assert!(rt; matches!(&action, Action::Connected));
+    assert!(rt; matches!(&action, Action::Connected(None)));
     assert!(rt; receipt.is_none());
     Ok(())
 }
@@ -216,17 +221,14 @@ fn faults_have_their_titles(rt: HostRuntime) -> Result<(), Fail> {
         (SessionFault::NoSuchSub, 64, b"64 NoSuchSub"),
         (SessionFault::TxnInUse, 65, b"65 TxnInUse"),
         (SessionFault::NoSuchTxn, 66, b"66 NoSuchTxn"),
-        (
-            SessionFault::UnknownDestination,
-            67,
-            b"67 UnknownDestination",
-        ),
         (SessionFault::AckMode, 68, b"68 AckMode"),
         (SessionFault::TooManySubs, 69, b"69 TooManySubs"),
         (SessionFault::TooManyTxns, 70, b"70 TooManyTxns"),
         (SessionFault::TooManySends, 71, b"71 TooManySends"),
         (SessionFault::NoMemory, 72, b"72 NoMemory"),
         (SessionFault::Closed, 73, b"73 Closed"),
+        (SessionFault::TooManyTopics, 75, b"75 TooManyTopics"),
+        (SessionFault::BadDestination, 76, b"76 BadDestination"),
     ] {
         let message = format!(in alloc; "{fault}")?;
         assert_eq!(rt; fault.number(), number);

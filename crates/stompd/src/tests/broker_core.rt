@@ -1,6 +1,7 @@
 //! The core: its events and reports, its topics, its faults and its traces.
 
 pub(crate) mod asks;
+mod broken_streams;
 mod draws;
 mod event_list;
 mod faults;

@@ -16,9 +16,8 @@ use Rattle.mcast_txn.specs.Lists.{In}
 use Rattle.mcast_txn.proofs.Members.{at_set_within}
 use Rattle.mcast_group.proofs.Parts.{none_some}
 use Rattle.stomp_session.specs.Answers.{action_by}
-use Rattle.stomp_session.specs.declared.action.Action.{Action}
 use Rattle.stomp_session.specs.declared.action.Action.TheVariants as actions
-use Rattle.stomp_session.specs.Frames.{is_disconnect}
+use Rattle.stomp_session.specs.Frames.{has_destination, is_disconnect}
 use Rattle.delivery.specs.Topics.{TopicList}
 use Rattle.delivery.specs.declared.event.Event.{Event}
 use Rattle.delivery.specs.declared.outcome.Outcome.{Outcome}
@@ -28,7 +27,8 @@ use Rattle.delivery.specs.Machine.Moves.{Move, move_effect, needs_idle}
 use Rattle.delivery.specs.Machine.Runs.{run}
 use Rattle.delivery.specs.Core.Steps.{CoreStep, Reading, frame_in, has_effect, frame_from, accepted_of}
 use Rattle.delivery.specs.Core.Output.{receipts_of}
-use Rattle.delivery.specs.Core.State.{Core, core_of, core_after, moves, frame_move, session_at, is_faulted}
+use Rattle.delivery.specs.Core.State.{Core, core_of, core_after, moves, frame_move, names_at, session_at, is_faulted, topic_moves}
+use Rattle.delivery.proofs.Core.FrameWorld.{no_topic}
 use Rattle.delivery.specs.Core.Outcomes.{IsCoreRun, outcomes, unless, reading_outcomes}
 use Rattle.delivery.specs.Inner.Stands.{IsReached}
 use Rattle.delivery.specs.Inner.View.{parting_receipt}
@@ -62,6 +62,11 @@ disconnects : (command : Command) (s : Rattle.stomp_session.specs.Open.Held) (f 
 disconnects commands.Disconnect s f e = refl
 disconnects _ s f e = absurd (false≢true e)
 
+-- it has no destination
+parts_nowhere : (command : Command) → is_disconnect command ≡ true → has_destination command ≡ false
+parts_nowhere commands.Disconnect e = refl
+parts_nowhere _ e = absurd (false≢true e)
+
 -- a connection that no test for a frame stands against is open
 idle_open : (w : World) (c : ℕ) → first_refusal (needs_idle w c) ≡ None → open_in w.connections c ≡ true
 idle_open w c n = false_not (open_in w.connections c) (or_parts _ _ (passes (needs_idle w c) n).1.1.0).0
@@ -86,9 +91,9 @@ found k c f left o n d e i true h = inr (record {
     asked : is_disconnect f.command ≡ true → moves k (Event.Next d) (Reading.Finds f left) o ≡ Move.Disconnects c ∷ []
     asked p =
         ap (λ m. moves k (Event.Next m) (Reading.Finds f left) o) i
-        ∙ (ap (λ b. cond b (Move.Errs c ∷ []) (cond (has_effect o) (option_to_list (frame_move k c (action_by f.command (session_at k c) f))) [])) (not_faulted o h)
-        ∙ (ap (λ b. cond b (option_to_list (frame_move k c (action_by f.command (session_at k c) f))) []) h
-        ∙ ap (λ (a : Action). option_to_list (frame_move k c a)) (disconnects f.command (session_at k c) f p)))
+        ∙ (ap (λ b. cond b (Move.Errs c ∷ []) (cond (has_effect o) (topic_moves (names_at k) f ++ option_to_list (frame_move k c (action_by f.command (session_at k c) f))) [])) (not_faulted o h)
+        ∙ (ap (λ b. cond b (topic_moves (names_at k) f ++ option_to_list (frame_move k c (action_by f.command (session_at k c) f))) []) h
+        ∙ (λ j. no_topic k f (parts_nowhere f.command p) j ++ option_to_list (frame_move k c (disconnects f.command (session_at k c) f p j)))))
 
 read_adds : (k : Core) (c : ℕ) (rd : Reading) (o : Outcome) → first_refusal (needs_idle k.world c) ≡ None → (d : ℕ) → (d == c) ≡ true → d ≡ c
     → (added_by c (record { event = Event.Next d; reading = rd; outcome = o }) ≡ []) ⊎ Adds k c (record { event = Event.Next d; reading = rd; outcome = o })

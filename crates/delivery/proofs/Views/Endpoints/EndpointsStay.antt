@@ -1,5 +1,5 @@
 -- Steps that leave endpoints as they are, but for what the machine says of them.
-use Rattle.std.proofs.Common.{◌≡◌, ℕ, Bool, true, false, ◌==◌, ◌&&◌, List, [], ◌∷◌, ◌++◌, cond, refl, ap, ◌∙◌}
+use Rattle.std.proofs.Common.{◌≡◌, ℕ, Bool, true, false, ◌==◌, ◌&&◌, List, [], ◌∷◌, ◌++◌, None, cond, refl, ap, ◌∙◌}
 use Rattle.std.proofs.lemmas.List.{append-nil}
 use Rattle.std.specs.List.{flat_map}
 use Rattle.stomp_frame.specs.declared.raw_frame.RawFrame.{RawFrame}
@@ -12,10 +12,12 @@ use Rattle.delivery.specs.declared.event.Event.{Event}
 use Rattle.delivery.specs.declared.outcome.Outcome.{Outcome}
 use Rattle.delivery.specs.declared.refusal.Refusal.{Refusal}
 use Rattle.delivery.specs.Machine.World.{World}
-use Rattle.delivery.specs.Core.Steps.{CoreStep, Reading, accepted_of, has_effect, frame_from}
+use Rattle.delivery.specs.Core.Steps.{CoreStep, Reading, accepted_of, has_effect, frame_from, names_after}
 use Rattle.delivery.specs.Core.Account.{account_of}
 use Rattle.delivery.specs.Core.Output.{text_out, sub_id_text, replies_to, is_cut}
 use Rattle.delivery.specs.Core.State.{unread_at, unread_after}
+use Rattle.std.specs.Option.{option_map_or}
+use Rattle.stomp_session.specs.Frames.{with_destination}
 use Rattle.delivery.specs.Inner.Stands.{step_of}
 use Rattle.delivery.specs.Inner.View.{view_with, view_after}
 
@@ -24,18 +26,24 @@ pub if_same : {X : Type 0} (b : Bool) (x : X) → cond b x x ≡ x
 if_same true x = refl
 if_same false x = refl
 
--- a step that adds no frame, no text and no id, and feeds no reader
+-- a step that adds no frame, no text, no id and no name, and feeds no reader
 pub record IsQuiet (names : List (List ℕ)) (step : CoreStep) (older : List CoreStep) : Type 0 where
   pub accepted : (c : ℕ) → accepted_of c (step ∷ older) ≡ accepted_of c older
   pub unread : (c : ℕ) → unread_at c (step ∷ older) ≡ unread_at c older
   pub text : (c : ℕ) → text_out names c (step ∷ older) ≡ text_out names c older
   pub ids : (s : ℕ) → sub_id_text s (step ∷ older) ≡ sub_id_text s older
+  pub named : names_after names (step ∷ older) ≡ names_after names older
 
 -- what is held after such a step is what the machine says, with the endpoints of before
 pub quiet_view : (names : List (List ℕ)) (step : CoreStep) (older : List CoreStep) (w : World)
     → IsQuiet names step older → view_after names w (step ∷ older) ≡ view_after names w older
 quiet_view names step older w quiet =
-    λ i. view_with names w (λ c. quiet.accepted c i) (λ c. quiet.unread c i) (λ c. quiet.text c i) (λ s. quiet.ids s i)
+    λ i. view_with (quiet.named i) w (λ c. quiet.accepted c i) (λ c. quiet.unread c i) (λ c. quiet.text c i) (λ s. quiet.ids s i)
+
+-- what reads nothing names nothing
+pub none_named : (names : List (List ℕ)) (b : Bool) → option_map_or (λ (f : RawFrame). with_destination f names) (cond b None None) names ≡ names
+none_named names true = refl
+none_named names false = refl
 
 -- a step of which nothing was read, that replies nothing
 quiet_from : (names : List (List ℕ)) (e : Event) (o : Outcome) (older : List CoreStep)
@@ -49,6 +57,7 @@ quiet_from names e o older frames unread text ids = record {
   unread = unread;
   text = λ c. ap (λ (octets : List ℕ). text_out names c older ++ octets) (text c) ∙ append-nil (text_out names c older);
   ids = ids;
+  named = none_named (names_after names older) (has_effect o);
 }
 
 -- the loss of a connection

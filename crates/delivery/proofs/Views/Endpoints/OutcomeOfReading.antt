@@ -12,7 +12,8 @@ use Rattle.stomp_frame.specs.Commands.{has_escapes}
 use Rattle.stomp_frame.specs.Reader.{Unread, ReadsNext, NextReturns}
 use Rattle.stomp_frame.proofs.Whole.{answers_none}
 use Rattle.stomp_session.specs.declared.action.Step.{Step}
-use Rattle.stomp_session.specs.Open.{Held, held_after}
+use Rattle.stomp_session.specs.Frames.{with_destination}
+use Rattle.stomp_session.specs.Open.{SessionState, held_after, state_of}
 use Rattle.delivery.specs.declared.connection_fault.ConnectionFault.{ConnectionFault}
 use Rattle.delivery.specs.declared.open_endpoint.OpenEndpoint.{OpenEndpoint}
 use Rattle.delivery.specs.Core.Outcomes.{is_any}
@@ -27,13 +28,13 @@ found : (u v : Unread) (r : Option RawFrame) → u.answered ≡ None → ((Ok r 
 found u v r unanswered h = reads u v (Ok r) unanswered (h (λ e. absurd (cc)))
 
 -- there is no whole frame yet
-pub judged_waits : (accepted : List RawFrame) (old : OpenEndpoint) (left : Unread) (r : Option RawFrame)
+pub judged_waits : (accepted : List RawFrame) (names : List (List ℕ)) (old : OpenEndpoint) (left : Unread) (r : Option RawFrame)
     → ((Ok r ≢ Err FrameFault.NoMemory) → NextReturns old.reader (Ok r) left) → r ≡ None → old.reader.answered ≡ None
-    → Judgement accepted old (Ok None) (record old { reader = left })
-judged_waits accepted old left r h is unanswered = record {
+    → Judgement accepted names old (Ok None) (record old { reader = left }) names
+judged_waits accepted names old left r h is unanswered = record {
   reading = Reading.Waits left;
   read = subst (λ (x : Option RawFrame). ReadsNext old.reader (Ok x) left) is (found old.reader left r unanswered h);
-  judged = refl;
+  judged = (refl, refl);
 }
 
 -- a text of no octets has no line, and so no frame and no fault
@@ -57,31 +58,32 @@ no_text_reads u none =
     subst (λ (t : List ℕ). ReadsNext u (Ok None) (record u { text = t })) (ap after_eols none ∙ sym none) (answers_none u at)
 
 -- nothing is unread
-pub judged_idle : (accepted : List RawFrame) (old : OpenEndpoint) → old.reader.text ≡ [] → Judgement accepted old (Ok None) old
-judged_idle accepted old none = record { reading = Reading.Waits old.reader; read = no_text_reads old.reader none; judged = refl }
+pub judged_idle : (accepted : List RawFrame) (names : List (List ℕ)) (old : OpenEndpoint) → old.reader.text ≡ [] → Judgement accepted names old (Ok None) old names
+judged_idle accepted names old none = record { reading = Reading.Waits old.reader; read = no_text_reads old.reader none; judged = (refl, refl) }
 
 -- the session accepts the frame
-pub judged_takes : (accepted : List RawFrame) (old new : OpenEndpoint) (left : Unread) (r : Option RawFrame) (f : RawFrame) (step : Step)
+pub judged_takes : (accepted : List RawFrame) (names later : List (List ℕ)) (old new : OpenEndpoint) (left : Unread) (r : Option RawFrame) (f : RawFrame) (step : Step)
     → ((Ok r ≢ Err FrameFault.NoMemory) → NextReturns old.reader (Ok r) left) → r ≡ Some f → old.reader.answered ≡ None
-    → IsAccepted (held_after old.session.names accepted) f step
-    → new.session ≡ held_after old.session.names (accepted ++ f ∷ [])
+    → IsAccepted (held_after names accepted) f step
+    → new.session ≡ state_of (held_after later (accepted ++ f ∷ []))
+    → later ≡ with_destination f names
     → new ≡ record old { reader = left; session = new.session }
-    → Judgement accepted old (Ok (Some step)) new
-judged_takes accepted old new left r f step h is unanswered taken session others = record {
+    → Judgement accepted names old (Ok (Some step)) new later
+judged_takes accepted names later old new left r f step h is unanswered taken session named others = record {
   reading = Reading.Finds f left;
   read = subst (λ (x : Option RawFrame). ReadsNext old.reader (Ok x) left) is (found old.reader left r unanswered h);
-  judged = (taken, others ∙ ap (λ (s : Held). record old { reader = left; session = s }) session);
+  judged = (taken, others ∙ ap (λ (s : SessionState). record old { reader = left; session = s }) session, named);
 }
 
 -- the frame is refused
-pub judged_refuses : (accepted : List RawFrame) (old new : OpenEndpoint) (left : Unread) (r : Option RawFrame) (f g : RawFrame) (fault : ConnectionFault)
+pub judged_refuses : (accepted : List RawFrame) (names later : List (List ℕ)) (old new : OpenEndpoint) (left : Unread) (r : Option RawFrame) (f g : RawFrame) (fault : ConnectionFault)
     → ((Ok r ≢ Err FrameFault.NoMemory) → NextReturns old.reader (Ok r) left) → r ≡ Some f → old.reader.answered ≡ None
-    → IsRefusedAs (held_after old.session.names accepted) f fault → g ≡ f
-    → Judgement accepted old (Err (fault, Some g)) new
-judged_refuses accepted old new left r f g fault h is unanswered refused same = record {
+    → IsRefusedAs (held_after names accepted) f fault → g ≡ f → later ≡ names
+    → Judgement accepted names old (Err (fault, Some g)) new later
+judged_refuses accepted names later old new left r f g fault h is unanswered refused same unnamed = record {
   reading = Reading.Finds f left;
   read = subst (λ (x : Option RawFrame). ReadsNext old.reader (Ok x) left) is (found old.reader left r unanswered h);
-  judged = (ap (λ (x : RawFrame). Some x) same, refused);
+  judged = (ap (λ (x : RawFrame). Some x) same, refused, unnamed);
 }
 
 -- where not all is read, some octets are unread
@@ -98,17 +100,17 @@ stream Check.BadCommand = refl
 stream _ = refl
 
 -- the reader returns a fault
-pub judged_fails : (accepted : List RawFrame) (old new : OpenEndpoint) (left : Unread) (fault : FrameFault)
+pub judged_fails : (accepted : List RawFrame) (names : List (List ℕ)) (old new : OpenEndpoint) (left : Unread) (fault : FrameFault)
     → ((◌≢◌ {A = Result (Option RawFrame) FrameFault} (Err fault) (Err FrameFault.NoMemory)) → NextReturns old.reader (Err fault) left) → old.reader.answered ≡ None
     → is_any old.reader.text ≡ true → (reported : ConnectionFault) → reported ≡ reader_fault fault
-    → Judgement accepted old (Err (reported, None)) new
-judged_fails accepted old new left fault h unanswered some reported is = elim (memory_or fault) [
-  | inl e ↦ record { reading = Reading.Nothing; read = tt; judged = (refl, is ∙ ap reader_fault e, some) }
+    → Judgement accepted names old (Err (reported, None)) new names
+judged_fails accepted names old new left fault h unanswered some reported is = elim (memory_or fault) [
+  | inl e ↦ record { reading = Reading.Nothing; read = tt; judged = (refl, is ∙ ap reader_fault e, some, refl) }
   | inr ne ↦ (let other : ◌≢◌ {A = Result (Option RawFrame) FrameFault} (Err fault) (Err FrameFault.NoMemory) = λ e. ne (cc) in
       let k = reads old.reader left (Err fault) unanswered (h other) in
       record {
         reading = Reading.Fails k.1 left;
         read = (k.0, k.1, k.2, k.3, refl, k.5);
-        judged = (refl, is ∙ (ap reader_fault k.4 ∙ stream k.1));
+        judged = (refl, is ∙ (ap reader_fault k.4 ∙ stream k.1), refl);
       })
 ]

@@ -1,7 +1,7 @@
 -- What every run makes of its connections: a step changes none but its event's own, and an accepted UNSUBSCRIBE names a live
 -- subscription.
 use Rattle.std.proofs.Common.{◌≡◌, ◌≢◌, ℕ, zero, suc, ◌==◌, Bool, true, false, cond, not, ◌&&◌, List, [], ◌∷◌, ◌++◌, length, set, get_or, Option, Some, None, refl, sym, ap, ◌∙◌, append-nil}
-use Rattle.std.specs.Prelude.{slice_get}
+use Rattle.std.specs.Prelude.{codes, slice_get}
 use Rattle.std.specs.List.{flat_map}
 use Rattle.std.specs.Option.{option_map_or, option_to_list}
 use Rattle.std.proofs.lemmas.List.{get_or-set_other}
@@ -18,22 +18,25 @@ use Rattle.mcast_group.specs.Machine.{Entry}
 use Rattle.stomp_session.specs.declared.action.Action.{Action}
 use Rattle.stomp_session.specs.declared.action.Action.TheVariants as actions
 use Rattle.stomp_session.specs.Answers.{action_by}
-use Rattle.stomp_session.specs.Frames.{id_of}
+use Rattle.stomp_session.specs.Frames.{field, has_destination, id_of}
+use Rattle.stomp_session.specs.Names.{is_known}
 use Rattle.delivery.specs.declared.event.Event.{Event}
 use Rattle.delivery.specs.declared.outcome.Outcome.{Outcome}
 use Rattle.delivery.specs.Machine.World.{World, Connection, Leftover, Standing, nobody, connection_at, subscription_at, speaker, entry_at}
 use Rattle.delivery.specs.Machine.Observed.{accepted_at}
 use Rattle.delivery.specs.Machine.Moves.{Move, Answer, world_after, move_effect, find_leftover, find_verdict, oldest_live, commit_effect, proposal_fault, propose_effect, cancel_effect, learn_effect, take_effect, leave_effect, close_effect_of}
-use Rattle.delivery.specs.Machine.Moves.Move.{Opens, Connects, Commits, Subscribes, Unsubscribes, Disconnects, Errs, Lost, Leaves, Proposes, Decides, Withdraws, Cancels, Learns, Releases, Turns, Takes}
+use Rattle.delivery.specs.Machine.Moves.Move.{AddsTopic, Opens, Connects, Commits, Subscribes, Unsubscribes, Disconnects, Errs, Lost, Leaves, Proposes, Decides, Withdraws, Cancels, Learns, Releases, Turns, Takes}
 use Rattle.delivery.specs.Machine.Runs.{run}
 use Rattle.delivery.specs.Core.Account.{account_of, beginning_of}
 use Rattle.delivery.specs.Core.Connections.{event_connection, OpenAreLive, UnsubscribesFind, OtherConnectionsStay}
 use Rattle.delivery.specs.Core.Output.{is_cut, next_replies, replies_to, text_out, take_replies}
-use Rattle.delivery.specs.Core.State.{Core, core_of, frame_move, is_faulted, is_no_memory, is_out_of_memory, left_by, moves, next_moves, session_at, unread_at, unread_after}
+use Rattle.delivery.specs.Core.State.{Core, core_of, frame_move, is_faulted, is_no_memory, is_out_of_memory, left_by, moves, names_at, next_moves, session_at, topic_moves, unread_at, unread_after}
+use Rattle.delivery.specs.Core.Claims.{claims_of, claimed_sender}
 use Rattle.delivery.specs.Core.Steps.{CoreStep, Reading, accepted_of, frame_in, has_effect, is_fed, is_next, number_by}
 use Rattle.delivery.specs.Inner.Stands.{IsReached}
 use Rattle.delivery.proofs.Machine.InvariantIsKept.{by_refusal}
 use Rattle.delivery.proofs.Core.AccountOfRun.{core_is}
+use Rattle.delivery.proofs.Core.NamesKnown.{other_open}
 use Rattle.delivery.proofs.Views.Events.NextStep.{idle_reads}
 use Rattle.delivery.proofs.Views.Endpoints.EndpointsStay.{if_same}
 use Rattle.delivery.proofs.Views.Subscriptions.OpenIsLive.{session_subs, names_live, unsubscribe_free}
@@ -121,24 +124,33 @@ move_stays w mv c n = by_refusal (λ v o. Stays w v c) w mv (λ why. refl) (λ k
 
 -- ---- the moves of an event
 
--- none of a Next, or one move of its connection
-framed : (k : Core) (d : ℕ) (action : Action) (c : ℕ) → d ≢ c → Stays k.world (run (option_to_list (frame_move k d action)) k.world) c
-framed k d actions.Connected c n = refl
-framed k d actions.Nothing c n = refl
-framed k d (actions.Subscribe id t) c n = move_stays k.world (Subscribes d t) c tt
-framed k d (actions.Unsubscribe id) c n = move_stays k.world (Unsubscribes d (number_by d id k.steps)) c tt
-framed k d (actions.Commit sends) c n = move_stays k.world (Commits d sends) c tt
-framed k d actions.Disconnect c n = move_stays k.world (Disconnects d) c n
+-- none of an accepted frame, or one move of its connection
+framed : (k : Core) (w : World) (d : ℕ) (action : Action) (c : ℕ) → d ≢ c → Stays w (run (option_to_list (frame_move k d action)) w) c
+framed k w d (actions.Connected client) c n = move_stays w (Connects d (claimed_sender client (claims_of k.steps))) c n
+framed k w d actions.Nothing c n = refl
+framed k w d (actions.Subscribe id t) c n = move_stays w (Subscribes d t) c tt
+framed k w d (actions.Unsubscribe id) c n = move_stays w (Unsubscribes d (number_by d id k.steps)) c tt
+framed k w d (actions.Commit sends) c n = move_stays w (Commits d sends) c tt
+framed k w d actions.Disconnect c n = move_stays w (Disconnects d) c n
+
+-- after the topic that it makes, if it does
+made : (k : Core) (d : ℕ) (f : RawFrame) (action : Action) (c : ℕ) → d ≢ c
+    → Stays k.world (run (topic_moves (names_at k) f ++ option_to_list (frame_move k d action)) k.world) c
+made k d f action c n = by (has_destination f.command && not (is_known (field (codes "destination") f) (names_at k)))
+  where
+    by : (first_use : Bool) → Stays k.world (run (cond first_use (AddsTopic 0 ∷ []) [] ++ option_to_list (frame_move k d action)) k.world) c
+    by true = framed k (world_after k.world (AddsTopic 0)) d action c n ∙ move_stays k.world (AddsTopic 0) c tt
+    by false = framed k k.world d action c n
 
 next_stays : (k : Core) (d : ℕ) (rd : Reading) (o : Outcome) (c : ℕ) → d ≢ c → Stays k.world (run (next_moves k d rd o) k.world) c
 next_stays k d rd o c n = by_outcome (is_faulted o) (has_effect o) (frame_in rd)
   where
     by_outcome : (faulted effect : Bool) (f : Option RawFrame)
-        → Stays k.world (run (cond faulted (Errs d ∷ []) (cond effect (option_map_or (λ g. option_to_list (frame_move k d (action_by g.command (session_at k d) g))) f []) [])) k.world) c
+        → Stays k.world (run (cond faulted (Errs d ∷ []) (cond effect (option_map_or (λ g. topic_moves (names_at k) g ++ option_to_list (frame_move k d (action_by g.command (session_at k d) g))) f []) [])) k.world) c
     by_outcome true effect f = move_stays k.world (Errs d) c n
     by_outcome false false f = refl
     by_outcome false true None = refl
-    by_outcome false true (Some f) = framed k d (action_by f.command (session_at k d) f) c n
+    by_outcome false true (Some f) = made k d f (action_by f.command (session_at k d) f) c n
 
 -- a number that is another's isn't this one's
 unlike : (d c : ℕ) → Some d ≢ Some c → d ≢ c
@@ -151,9 +163,9 @@ standing_stays k Event.Open rd o c n = by_memory (is_no_memory o)
     m : ℕ
     m = length k.world.connections
 
-    by_memory : (b : Bool) → Stays k.world (run (cond b [] (Opens ∷ Connects m None ∷ [])) k.world) c
+    by_memory : (b : Bool) → Stays k.world (run (cond b [] (Opens ∷ [])) k.world) c
     by_memory true = refl
-    by_memory false = move_stays (world_after k.world Opens) (Connects m None) c (unlike m c n) ∙ move_stays k.world Opens c (unlike m c n)
+    by_memory false = move_stays k.world Opens c (unlike m c n)
 standing_stays k (Event.Piece d octets) rd o c n = refl
 standing_stays k (Event.Next d) rd o c n = next_stays k d rd o c (unlike d c n)
 standing_stays k (Event.Propose d t) rd o c n = move_stays k.world (Proposes d t (not (is_out_of_memory o))) c tt
@@ -220,12 +232,15 @@ other_connections_stay topics capacity step older run c n =
     let named : k.names ≡ topics.names = ap (λ (z : Core). z.names) (core_is topics capacity older) in
     let there : k.steps ≡ older = ap (λ (z : Core). z.steps) (core_is topics capacity older) in
     let own : (s : ℕ) → (beginning_of s (account_of k.names k.steps)).connection ≡ (subscription_at w s).connection =
-    λ s. ap (λ (z : List Answer). (beginning_of s z).connection) (λ i. account_of (named i) (there i)) ∙ owned topics capacity older run.1 s in record {
+    λ s. ap (λ (z : List Answer). (beginning_of s z).connection) (λ i. account_of (named i) (there i)) ∙ owned topics capacity older run.1 s in
+    let same : accepted_of c (step ∷ k.steps) ≡ accepted_of c k.steps =
+    ap (λ (fs : List RawFrame). accepted_of c k.steps ++ fs)
+    (ap (λ (b : Bool). cond (has_effect step.outcome) (cond b (option_to_list (frame_in step.reading)) []) []) (unasked w c step.event n) ∙ if_same (has_effect step.outcome) [])
+    ∙ append-nil (accepted_of c k.steps) in record {
       standing = standing_stays k step.event step.reading step.outcome c n;
       unread = reader_stays w c (unread_at c k.steps) step.event step.reading step.outcome n;
-      accepted = ap (λ (fs : List RawFrame). accepted_of c k.steps ++ fs)
-          (ap (λ (b : Bool). cond (has_effect step.outcome) (cond b (option_to_list (frame_in step.reading)) []) []) (unasked w c step.event n) ∙ if_same (has_effect step.outcome) [])
-          ∙ append-nil (accepted_of c k.steps);
+      accepted = same;
+      session = other_open k.names step k.steps c same;
       text = ap (λ (fs : List RawFrame). text_out k.names c k.steps ++ cond (is_cut step.outcome) [] (flat_map spelling_of fs))
           (unreplied w c k.steps (account_of k.names k.steps) step.event step.reading step.outcome own n)
           ∙ (ap (λ (octets : List ℕ). text_out k.names c k.steps ++ octets) (if_same (is_cut step.outcome) []) ∙ append-nil (text_out k.names c k.steps));

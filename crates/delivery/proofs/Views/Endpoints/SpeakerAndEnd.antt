@@ -7,12 +7,8 @@ use Rattle.delivery.specs.Core.Output.{has_closed}
 use Rattle.delivery.specs.Core.State.{Core}
 use Rattle.delivery.specs.Inner.Stands.{IsReached}
 use Rattle.delivery.proofs.Core.Said.{has_closed_said}
-use Rattle.delivery.proofs.Views.Runs.ByRunOfCore.{by_account, claimed_of}
+use Rattle.delivery.proofs.Views.Runs.ByRunOfCore.{by_account}
 use Rattle.delivery.proofs.Views.Endpoints.StandingOfConnection.{closed_where_shut}
-
--- there are as many senders as connections
-pub as_many : (k : Core) → IsReached k → length k.world.senders ≡ length k.world.connections
-as_many k reached = (claimed_of k reached).same
 
 -- the account says that a connection was closed where it isn't open
 pub closed_is : (k : Core) (c : ℕ) → IsReached k → c < length k.world.connections

@@ -15,7 +15,7 @@ use Rattle.delivery.specs.Core.Reports.{each_number}
 use Rattle.delivery.specs.Inner.Senders.{speaker_at, sender_in, launched_sender, launched_id, launched_view, asked_endpoint, asked_view, gate_of}
 use Rattle.delivery.specs.Inner.Stands.{IsReached}
 use Rattle.delivery.specs.Inner.View.{EndpointView, SenderView, view_with, sender_view, sending_view, endpoint_view, stage_view, no_endpoint, verdict_list}
-use Rattle.delivery.proofs.Views.Senders.SenderChanges.{number_at, endpoint_in, speaker_is, sender_is, speaker_there, senders_with, lists_with, endpoints_with_sender, endpoint_with_sender, next_undecided}
+use Rattle.delivery.proofs.Views.Senders.SenderChanges.{IsSpeaking, number_at, endpoint_in, speaker_is, sender_is, speaker_there, senders_with, lists_with, endpoints_with_sender, endpoint_with_sender, next_undecided}
 
 -- the sender with its new transaction
 abbrev flown : World → ℕ → List SentMessage → SenderState
@@ -49,24 +49,24 @@ asked_stage names Standing.Gone flight f accepted unread endpoint reads = absurd
 
 -- what is held once the connection's sender has begun a transaction of these SENDs, and its endpoint has the receipt that
 -- the last accepted frame asked for
-pub begun_is : (k : Core) (c : ℕ) (first : SentMessage) (others : List SentMessage) → IsReached k → c < length k.world.connections
+pub begun_is : (names : List (List ℕ)) (k : Core) (c : ℕ) (first : SentMessage) (others : List SentMessage) → IsReached k → c < length k.world.connections → IsSpeaking k.world c
     → is_reading (connection_at k.world c).standing ≡ true → (speaker k.world c).flight ≡ None
     → (accepted : ℕ → List RawFrame) (unread : ℕ → Unread) (text ids : ℕ → List ℕ)
-    → asked_view (receipt_asked (commit_frame (accepted c))) c (launched_view (first ∷ others) c (view_with k.names k.world accepted unread text ids))
-    ≡ view_with k.names (commit_effect k.world c (first ∷ others)) accepted unread text ids
-begun_is k c first others reached there reads idle accepted unread text ids =
+    → asked_view (receipt_asked (commit_frame (accepted c))) c (launched_view (first ∷ others) c (view_with names k.world accepted unread text ids))
+    ≡ view_with names (commit_effect k.world c (first ∷ others)) accepted unread text ids
+begun_is names k c first others reached there speaking reads idle accepted unread text ids =
     let w = k.world in
     let sends = first ∷ others in
     let s = speaker_number w c in
     let x = flown w c sends in
-    let v = view_with k.names w accepted unread text ids in
-    let known = speaker_there k c reached there in
-    let at = speaker_is k.names w accepted unread text ids c there in
+    let v = view_with names w accepted unread text ids in
+    let known = speaker_there k c reached speaking in
+    let at = speaker_is names w accepted unread text ids c there in
     let list = verdict_list w.verdicts s (sender_at w s).seq in
     let found : get_or v.verdicts s [] ≡ list = number_at (λ n. verdict_list w.verdicts n (sender_at w n).seq) w.senders s [] known in
     let senders : set v.senders (speaker_at v c) (launched_sender sends (sender_in v (speaker_at v c))) ≡ each_number (λ n. sender_view n (sender_at (with_sender w s x) n)) 0 (set w.senders s x) =
     ap (λ n. set v.senders n (launched_sender sends (sender_in v n))) at
-    ∙ (ap (λ y. set v.senders s (launched_sender sends y)) (sender_is k.names w accepted unread text ids s known)
+    ∙ (ap (λ y. set v.senders s (launched_sender sends y)) (sender_is names w accepted unread text ids s known)
     ∙ (ap (λ y. set v.senders s y) (begun_is_flown w c sends idle)
     ∙ senders_with w s x known)) in
     let verdicts : set v.verdicts (speaker_at v c) (get_or v.verdicts (speaker_at v c) [] ++ None ∷ []) ≡ each_number (λ n. verdict_list w.verdicts n (sender_at (with_sender w s x) n).seq) 0 (set w.senders s x) =
@@ -74,23 +74,23 @@ begun_is k c first others reached there reads idle accepted unread text ids =
     ∙ (ap (λ y. set v.verdicts s (y ++ None ∷ [])) found
     ∙ (ap (λ y. set v.verdicts s y) (list_grown w.verdicts s (sender_at w s).seq (next_undecided k s reached known))
     ∙ lists_with w s x w.verdicts known (λ n differs. refl))) in
-    let endpoint : asked_endpoint (receipt_asked (commit_frame (accepted c))) (get_or v.endpoints c no_endpoint) ≡ endpoint_view k.names (with_sender w s x) c (accepted c) (unread c) (text c) =
-    ap (λ y. asked_endpoint (receipt_asked (commit_frame (accepted c))) y) (endpoint_in k.names w accepted unread text ids c no_endpoint there)
-    ∙ (asked_stage k.names (connection_at w c).standing (speaker w c).flight (record { txn = next_txn w c sends; given = []; mark = None }) (accepted c) (unread c)
-    (endpoint_view k.names w c (accepted c) (unread c) (text c)) reads
-    ∙ sym (endpoint_with_sender k c x (accepted c) (unread c) (text c) reached there)) in
-    let endpoints = ap (λ y. set v.endpoints c y) endpoint ∙ endpoints_with_sender k c x accepted unread text reached there in
+    let endpoint : asked_endpoint (receipt_asked (commit_frame (accepted c))) (get_or v.endpoints c no_endpoint) ≡ endpoint_view names (with_sender w s x) c (accepted c) (unread c) (text c) =
+    ap (λ y. asked_endpoint (receipt_asked (commit_frame (accepted c))) y) (endpoint_in names w accepted unread text ids c no_endpoint there)
+    ∙ (asked_stage names (connection_at w c).standing (speaker w c).flight (record { txn = next_txn w c sends; given = []; mark = None }) (accepted c) (unread c)
+    (endpoint_view names w c (accepted c) (unread c) (text c)) reads
+    ∙ sym (endpoint_with_sender names k c x (accepted c) (unread c) (text c) reached speaking)) in
+    let endpoints = ap (λ y. set v.endpoints c y) endpoint ∙ endpoints_with_sender names k c x accepted unread text reached there speaking in
     λ i. record v { senders = senders i; verdicts = verdicts i; endpoints = endpoints i }
 
 -- the id that is answered
-pub begun_id_is : (k : Core) (c : ℕ) (sends : List SentMessage) → IsReached k → c < length k.world.connections → (speaker k.world c).flight ≡ None
+pub begun_id_is : (names : List (List ℕ)) (k : Core) (c : ℕ) (sends : List SentMessage) → IsReached k → c < length k.world.connections → IsSpeaking k.world c → (speaker k.world c).flight ≡ None
     → (accepted : ℕ → List RawFrame) (unread : ℕ → Unread) (text ids : ℕ → List ℕ)
-    → launched_id (view_with k.names k.world accepted unread text ids) c ≡ (next_txn k.world c sends).id
-begun_id_is k c sends reached there idle accepted unread text ids =
-    let w = k.world in let s = speaker_number w c in
-    let v = view_with k.names w accepted unread text ids in
-    ap (λ n. Rattle.sender_gate.specs.Gate.next_id (gate_of (sender_in v n).sending)) (speaker_is k.names w accepted unread text ids c there)
-    ∙ (ap (λ (y : SenderView). Rattle.sender_gate.specs.Gate.next_id (gate_of y.sending)) (sender_is k.names w accepted unread text ids s (speaker_there k c reached there))
+    → launched_id (view_with names k.world accepted unread text ids) c ≡ (next_txn k.world c sends).id
+begun_id_is names k c sends reached there speaking idle accepted unread text ids =
+    let w = k.world in let s = (speaker_number w c) in
+    let v = view_with names w accepted unread text ids in
+    ap (λ n. Rattle.sender_gate.specs.Gate.next_id (gate_of (sender_in v n).sending)) (speaker_is names w accepted unread text ids c there)
+    ∙ (ap (λ (y : SenderView). Rattle.sender_gate.specs.Gate.next_id (gate_of y.sending)) (sender_is names w accepted unread text ids s (speaker_there k c reached speaking))
     ∙ ap (λ (o : Option Undecided). Rattle.sender_gate.specs.Gate.next_id (gate_of (sending_view s (speaker w c).seq (speaker w c).floor o))) idle)
 
 -- so a number was left

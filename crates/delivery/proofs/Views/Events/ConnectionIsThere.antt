@@ -3,7 +3,7 @@ use Rattle.std.proofs.Common.{◌≡◌, ℕ, ◌<◌, Bool, true, false, cond, 
 use Rattle.std.specs.Prelude.{slice_get}
 use Rattle.std.proofs.lemmas.Bool.{ltb-true, ltb-false}
 use Rattle.std.proofs.lemmas.Option.{slice_get-get_or, slice_get_past}
-use Rattle.std.specs.Option.{option_map, option_and_then, option_to_list}
+use Rattle.std.specs.Option.{is_some, option_map, option_and_then, option_to_list}
 use Rattle.mcast_txn.specs.Lists.{In}
 use Rattle.mcast_txn.specs.Checks.{first_refusal}
 use Rattle.stomp_frame.specs.declared.raw_frame.RawFrame.{RawFrame}
@@ -13,19 +13,22 @@ use Rattle.delivery.specs.declared.event.Event.{Event}
 use Rattle.delivery.specs.declared.outcome.Outcome.{Outcome}
 use Rattle.delivery.specs.declared.refusal.Refusal.{Refusal}
 use Rattle.delivery.specs.Machine.Objections.{Objection, refusal_of}
-use Rattle.delivery.specs.Machine.World.{World, Undecided, Standing, connection_at, speaker, is_gone}
+use Rattle.delivery.specs.Machine.World.{World, Undecided, Leftover, Standing, connection_at, speaker, speaker_number, is_gone}
 use Rattle.delivery.specs.Machine.Moves.{Move, Answer, move_refusal, answer_to, needs_connection}
 use Rattle.delivery.specs.Machine.Runs.{run}
 use Rattle.delivery.specs.Core.Account.{account_of}
 use Rattle.delivery.specs.Core.Output.{replies_to}
 use Rattle.delivery.specs.Core.Steps.{Reading, accepted_of}
-use Rattle.delivery.specs.Core.State.{Core, moves, unread_at}
+use Rattle.delivery.specs.Core.State.{Core, moves, unread_at, names_at}
 use Rattle.delivery.specs.Core.Outcomes.{outcomes, outcome_of, move_outcome, reply_outcomes, cut_of, is_any, IsReadAt}
 use Rattle.delivery.specs.Inner.Senders.{gone_objection, there_objection}
 use Rattle.delivery.specs.declared.stage.Stage.{Stage}
 use Rattle.delivery.specs.Inner.Stands.{Makes, step_of, stage_objection}
 use Rattle.delivery.specs.Inner.View.{EndpointView, view_of, view_after, stage_view}
 use Rattle.delivery.proofs.Views.Endpoints.EndpointsStay.{quiet_view, refused_is_quiet}
+use Rattle.delivery.proofs.Machine.Speakers.{cancelling_speaker}
+use Rattle.delivery.proofs.Theorem.SendersAreOwn.{flying_speaks, speaks}
+use Rattle.delivery.proofs.Views.Senders.SenderChanges.{IsSpeaking}
 use Rattle.delivery.proofs.Views.Events.OneMove.{bool_cases, endpoint_is, endpoint_read, no_endpoint, refused_answer, same_world}
 
 -- ---- the checks
@@ -44,7 +47,7 @@ there_checked k c =
     elim (bool_cases (nat_lt c (length k.world.connections))) [
       | inl t ↦
           ap there_objection (endpoint_is k c (ltb-true c (length k.world.connections) t))
-          ∙ (gone_is k.names x.standing (speaker k.world c).flight (accepted_of c k.steps) (unread_at c k.steps)
+          ∙ (gone_is (names_at k) x.standing (speaker k.world c).flight (accepted_of c k.steps) (unread_at c k.steps)
           ∙ ap checks (sym t))
       | inr f ↦ ap there_objection (no_endpoint k c (ltb-false c (length k.world.connections) f)) ∙ ap checks (sym f)
     ]
@@ -56,6 +59,27 @@ is_there k c free =
       | inl t ↦ ltb-true c (length k.world.connections) t
       | inr f ↦ none_some Objection.NoConn (sym (sym (ap there_objection (no_endpoint k c (ltb-false c (length k.world.connections) f))) ∙ free))
     ]
+
+second_none : (a b : Bool) → first_refusal ((a, Objection.NoConn) ∷ (b, Objection.Gone) ∷ []) ≡ None → b ≡ false
+second_none true b e = absurd (cc)
+second_none false true e = absurd (cc)
+second_none false false e = refl
+
+-- and it isn't gone
+pub still_there : (k : Core) (c : ℕ) → there_objection (slice_get (view_of k).endpoints c) ≡ None → is_gone (connection_at k.world c).standing ≡ false
+still_there k c free =
+    second_none (not (nat_lt c (length k.world.connections))) (is_gone (connection_at k.world c).standing) (sym (there_checked k c) ∙ free)
+
+-- so where its sender has a transaction, it speaks for it
+pub flying_speaking : (k : Core) (c : ℕ) (f : Undecided) → there_objection (slice_get (view_of k).endpoints c) ≡ None → (speaker k.world c).flight ≡ Some f
+    → IsSpeaking k.world c
+flying_speaking k c f free is = flying_speaks k.world c (still_there k c free) (ap (λ (o : Option Undecided). not (is_some o)) is)
+
+-- the same where its sender has a ticket to cancel
+pub cancelling_speaking : (k : Core) (c : ℕ) (left : Leftover) → there_objection (slice_get (view_of k).endpoints c) ≡ None → In left (speaker k.world c).leftovers
+    → IsSpeaking k.world c
+cancelling_speaking k c left free i =
+    speaks (speaker_number k.world c) (connection_at k.world c) (still_there k c free) (cancelling_speaker k.world c left i)
 
 -- nothing stands against reading a connection that is there and isn't leaving
 pub reads_open : (s : Stage) → gone_objection s ≡ None → ((parting : Option (List ℕ)) → s ≡ Stage.Leaving parting → Prim.⊥) → stage_objection s ≡ None

@@ -32,7 +32,7 @@ use Rattle.delivery.specs.Machine.Runs.{run}
 use Rattle.delivery.specs.Core.Account.{account_of}
 use Rattle.delivery.specs.Core.Output.{has_closed, receipts_of, receipt_asked, commit_frame, replies_to, text_out, sub_id_text}
 use Rattle.delivery.specs.Core.Steps.{Reading, accepted_of}
-use Rattle.delivery.specs.Core.State.{Core, unread_at}
+use Rattle.delivery.specs.Core.State.{Core, unread_at, names_at}
 use Rattle.delivery.specs.Core.Reports.{each_number}
 use Rattle.delivery.specs.Core.Outcomes.{move_outcome, is_any}
 use Rattle.delivery.specs.Inner.Senders.{there_objection, speaker_at, sender_in, decide_refusal, decision_of, decided_row, decided_sender, verdicts_with, decided_view, asked_stage, receipt_in, with_receipt, confirmed_endpoint, confirmed_view}
@@ -41,10 +41,10 @@ use Rattle.delivery.specs.Inner.View.{EndpointView, SenderView, view_of, view_wi
 use Rattle.delivery.proofs.Views.Runs.AccountOfTransactions.{flight_id}
 use Rattle.delivery.proofs.Views.Endpoints.SpeakerAndEnd.{closed_is}
 use Rattle.delivery.proofs.Views.Endpoints.DisconnectIsLast.{not_parting}
-use Rattle.delivery.proofs.Views.Senders.SenderChanges.{number_at, number_set, endpoint_of_flight, speaker_of, held_of, endpoint_of, sender_of_endpoint, speaker_there, senders_with, lists_with, endpoint_with_sender, flight_kept}
+use Rattle.delivery.proofs.Views.Senders.SenderChanges.{IsSpeaking, number_at, number_set, endpoint_of_stage, speaker_of, held_of, endpoint_of, sender_of_endpoint, speaker_there, senders_with, lists_with, endpoint_with_sender, stage_kept}
 use Rattle.delivery.proofs.Views.Endpoints.StandingOfConnection.{differ}
 use Rattle.delivery.proofs.Views.Events.OneMove.{made_world, made_answer, left_view}
-use Rattle.delivery.proofs.Views.Events.ConnectionIsThere.{there_checked, is_there, refusal_first, refusal_after, reported, refused_step, refused_outcome, answered_outcome, replied_in, cut_in}
+use Rattle.delivery.proofs.Views.Events.ConnectionIsThere.{there_checked, is_there, flying_speaking, refusal_first, refusal_after, reported, refused_step, refused_outcome, answered_outcome, replied_in, cut_in}
 use Rattle.delivery.proofs.Views.Senders.TicketsOfTopics.{tickets_are}
 use Rattle.delivery.proofs.Views.Verdicts.VerdictOfSender.{undecided_unvoted, undecided_seq, list_stays, list_filled}
 
@@ -234,6 +234,10 @@ pub record Decides (k : Core) (c : ℕ) : Type 0 where
   pub free : there_objection (slice_get (view_of k).endpoints c) ≡ None
   pub can : Decidable (speaker k.world c).flight
 
+-- the connection speaks for its sender
+decides_speaking : (k : Core) (c : ℕ) → Decides k c → IsSpeaking k.world c
+decides_speaking k c h = flying_speaking k c h.can.flight h.free h.can.is
+
 -- the move isn't refused
 decides_free : (k : Core) (c : ℕ) → Decides k c → move_refusal k.world (Move.Decides c) ≡ None
 decides_free k c h =
@@ -252,7 +256,7 @@ are_decided k c s is h =
     let w = k.world in
     let there = is_there k c h.free in
     let n = speaker_number w c in
-    let known = speaker_there k c h.reached there in
+    let known = speaker_there k c h.reached (decides_speaking k c h) in
     let f = h.can.flight in
     let flight : (sender_at w n).flight ≡ Some f = h.can.is in
     let same : s ≡ n = is ∙ speaker_of k c there in
@@ -311,29 +315,30 @@ decided_whole k c s stamp is h =
     let text = text_out k.names c k.steps in
     let x = decided_state (speaker w c) (undecided_at w c) in
     let standing = (connection_at w c).standing in
-    let old = λ (n : ℕ). endpoint_view k.names w n (accepted_of n k.steps) (unread_at n k.steps) (text_out k.names n k.steps) in
-    let new = λ (n : ℕ). endpoint_view k.names v n (accepted_of n k.steps) (unread_at n k.steps) (text_out k.names n (step ∷ k.steps)) in
+    let old = λ (n : ℕ). endpoint_view (names_at k) w n (accepted_of n k.steps) (unread_at n k.steps) (text_out k.names n k.steps) in
+    let new = λ (n : ℕ). endpoint_view (names_at k) v n (accepted_of n k.steps) (unread_at n k.steps) (text_out k.names n (step ∷ k.steps)) in
     let replies = option_map_or receipts_of (commit_frame accepted) [] in
     let texts : with_receipt text (receipt_in (old c).stage) ≡ text_out k.names c (step ∷ k.steps) =
-    ap (λ (o : Option Undecided). with_receipt text (receipt_in (stage_view k.names standing o accepted unread))) h.can.is
-    ∙ (confirmed_text k.names standing h.can.flight accepted unread text
+    ap (λ (o : Option Undecided). with_receipt text (receipt_in (stage_view (names_at k) standing o accepted unread))) h.can.is
+    ∙ (confirmed_text (names_at k) standing h.can.flight accepted unread text
     ∙ (ap (λ (b : Bool). text ++ flat_map spelling_of (cond (not b) replies [])) (sym (closed_is k c h.reached there))
     ∙ ap (λ (b : Bool). text ++ flat_map spelling_of (cond (b && not (has_closed c account)) replies [])) (sym (eq-eqb c c refl)))) in
     let stages : asked_stage None (old c).stage ≡ (new c).stage =
-    ap (λ (o : Option Undecided). asked_stage None (stage_view k.names standing o accepted unread)) h.can.is
-    ∙ (confirmed_stage k.names standing h.can.flight accepted unread
-    ∙ sym (ap (λ (l : EndpointView). l.stage) (endpoint_with_sender k c x accepted unread text h.reached there))) in
+    ap (λ (o : Option Undecided). asked_stage None (stage_view (names_at k) standing o accepted unread)) h.can.is
+    ∙ (confirmed_stage (names_at k) standing h.can.flight accepted unread
+    ∙ sym (ap (λ (l : EndpointView). l.stage) (endpoint_with_sender (names_at k) k c x accepted unread text h.reached (decides_speaking k c h)))) in
     let endpoint : confirmed_endpoint (get_or (view_of k).endpoints c no_endpoint) ≡ new c =
     ap confirmed_endpoint (endpoint_of k c no_endpoint there)
     ∙ (λ i. record (old c) { stage = stages i; output = texts i }) in
     let others : (n : ℕ) → n < length w.connections → n ≢ c → old n ≡ new n = λ n within other.
-    endpoint_of_flight k.names w v n (accepted_of n k.steps) (unread_at n k.steps) (text_out k.names n k.steps) refl refl (flight_kept k c n x h.reached there within other)
-    ∙ ap (λ (octets : List ℕ). endpoint_view k.names v n (accepted_of n k.steps) (unread_at n k.steps) octets) (decided_text k c n stamp other) in
+    endpoint_of_stage (names_at k) w v n (accepted_of n k.steps) (unread_at n k.steps) (text_out k.names n k.steps) refl refl
+    (stage_kept k c n x h.reached (decides_speaking k c h) other (names_at k) (accepted_of n k.steps) (unread_at n k.steps))
+    ∙ ap (λ (octets : List ℕ). endpoint_view (names_at k) v n (accepted_of n k.steps) (unread_at n k.steps) octets) (decided_text k c n stamp other) in
     let endpoints = ap (λ (l : EndpointView). set (view_of k).endpoints c l) endpoint
     ∙ (number_set old new w.connections c (connection_at w c) there others
     ∙ ap (λ (xs : List Connection). each_number new 0 xs) (set-get_or w.connections c nobody)) in
     (λ i. record (view_of k) { senders = are.senders i; verdicts = are.verdicts i; commits = are.commits i; endpoints = endpoints i })
-    ∙ (λ i. view_with k.names v (λ n. sym (append-nil (accepted_of n k.steps)) i) (λ n. unread_at n k.steps) (λ n. text_out k.names n (step ∷ k.steps)) (λ n. sub_id_text n k.steps))
+    ∙ (λ i. view_with (names_at k) v (λ n. sym (append-nil (accepted_of n k.steps)) i) (λ n. unread_at n k.steps) (λ n. text_out k.names n (step ∷ k.steps)) (λ n. sub_id_text n k.steps))
 
 -- ---- without memory for the RECEIPT
 
@@ -368,12 +373,13 @@ decided_cut k c s stamp is h reads =
     let there = is_there k c h.free in
     let are = are_decided k c s is h in
     let x = decided_state (speaker w c) (undecided_at w c) in
-    let old = λ (n : ℕ). endpoint_view k.names w n (accepted_of n k.steps) (unread_at n k.steps) (text_out k.names n k.steps) in
-    let new = λ (n : ℕ). endpoint_view k.names v n (accepted_of n (step ∷ k.steps)) (unread_at n k.steps) (text_out k.names n (step ∷ k.steps)) in
-    let plain = λ (n : ℕ). endpoint_view k.names v n (accepted_of n k.steps) (unread_at n k.steps) (text_out k.names n k.steps) in
-    let same : (n : ℕ) → plain n ≡ new n = λ n i. endpoint_view k.names v n (sym (append-nil (accepted_of n k.steps)) i) (unread_at n k.steps) (sym (append-nil (text_out k.names n k.steps)) i) in
+    let old = λ (n : ℕ). endpoint_view (names_at k) w n (accepted_of n k.steps) (unread_at n k.steps) (text_out k.names n k.steps) in
+    let new = λ (n : ℕ). endpoint_view (names_at k) v n (accepted_of n (step ∷ k.steps)) (unread_at n k.steps) (text_out k.names n (step ∷ k.steps)) in
+    let plain = λ (n : ℕ). endpoint_view (names_at k) v n (accepted_of n k.steps) (unread_at n k.steps) (text_out k.names n k.steps) in
+    let same : (n : ℕ) → plain n ≡ new n = λ n i. endpoint_view (names_at k) v n (sym (append-nil (accepted_of n k.steps)) i) (unread_at n k.steps) (sym (append-nil (text_out k.names n k.steps)) i) in
     let others : (n : ℕ) → n < length w.connections → n ≢ c → old n ≡ new n = λ n within other.
-    endpoint_of_flight k.names w v n (accepted_of n k.steps) (unread_at n k.steps) (text_out k.names n k.steps) refl refl (flight_kept k c n x h.reached there within other) ∙ same n in
+    endpoint_of_stage (names_at k) w v n (accepted_of n k.steps) (unread_at n k.steps) (text_out k.names n k.steps) refl refl
+    (stage_kept k c n x h.reached (decides_speaking k c h) other (names_at k) (accepted_of n k.steps) (unread_at n k.steps)) ∙ same n in
     let leaving : leaving_endpoint None (old c) ≡ leaving_endpoint None (new c) = ap (λ (l : EndpointView). leaving_endpoint None l) (same c) in
     let changed : set (each_number old 0 w.connections) c (new c) ≡ each_number new 0 w.connections =
     number_set old new w.connections c (connection_at w c) there others
@@ -443,11 +449,11 @@ decide_makes k c s stamp cut reached free is allowed kept asked = go cut asked
         let standing = (connection_at k.world c).standing in
         let accepted = accepted_of c k.steps in
         let account = account_of k.names k.steps in
-        let wants : is_some (receipt_in (stage_view k.names standing (speaker k.world c).flight accepted (unread_at c k.steps))) ≡ true =
+        let wants : is_some (receipt_in (stage_view (names_at k) standing (speaker k.world c).flight accepted (unread_at c k.steps))) ≡ true =
         ap (λ (l : EndpointView). is_some (receipt_in l.stage)) (sym (endpoint_of k c no_endpoint there)) ∙ asked refl in
-        let reads = asked_open k.names standing (speaker k.world c).flight accepted (unread_at c k.steps) wants in
-        let some = asked_reply k.names standing decides.can.flight accepted (unread_at c k.steps)
-        (ap (λ (o : Option Undecided). is_some (receipt_in (stage_view k.names standing o accepted (unread_at c k.steps)))) (sym decides.can.is) ∙ wants) in
+        let reads = asked_open (names_at k) standing (speaker k.world c).flight accepted (unread_at c k.steps) wants in
+        let some = asked_reply (names_at k) standing decides.can.flight accepted (unread_at c k.steps)
+        (ap (λ (o : Option Undecided). is_some (receipt_in (stage_view (names_at k) standing o accepted (unread_at c k.steps)))) (sym decides.can.is) ∙ wants) in
         let replies = option_map_or receipts_of (commit_frame accepted) [] in
         let any : is_any (replies_to c k.steps account (Event.Decide c) Reading.Nothing (Outcome.Decided stamp false)) ≡ true =
         ap (λ (b : Bool). is_any (cond (b && not (has_closed c account)) replies [])) (eq-eqb c c refl)

@@ -28,7 +28,7 @@ use Rattle.delivery.specs.Machine.Runs.{run}
 use Rattle.delivery.specs.Core.Steps.{Reading, accepted_of}
 use Rattle.delivery.specs.Core.Account.{account_of}
 use Rattle.delivery.specs.Core.Output.{text_out, sub_id_text, receipts_of, replies_to}
-use Rattle.delivery.specs.Core.State.{Core, unread_at}
+use Rattle.delivery.specs.Core.State.{Core, unread_at, names_at}
 use Rattle.delivery.specs.Core.Outcomes.{outcome_of, move_outcome, reply_outcomes, is_any}
 use Rattle.delivery.specs.Core.Reports.{each_number}
 use Rattle.delivery.specs.Inner.Stands.{IsReached, Makes, step_of}
@@ -111,7 +111,7 @@ pub leave_checked : (k : Core) (c : ℕ) → leave_objection (view_of k).senders
 leave_checked k c =
     let w = k.world in
     let x = connection_at w c in
-    let endpoint = endpoint_view k.names w c (accepted_of c k.steps) (unread_at c k.steps) (text_out k.names c k.steps) in
+    let endpoint = endpoint_view (names_at k) w c (accepted_of c k.steps) (unread_at c k.steps) (text_out k.names c k.steps) in
     let wait = not (is_some (oldest_live c 0 w.subscriptions)) && (is_some (speaker w c).flight || nat_lt 0 (length (speaker w c).leftovers)) in
     let checks = λ (b : Bool). first_refusal ((not b, Objection.NoConn) ∷ (is_gone x.standing, Objection.Gone) ∷ (is_reading x.standing, Objection.NotLeaving) ∷ (wait, Objection.Busy) ∷ []) in
     let busy : option_map_or is_busy (slice_get (view_of k).senders (number_among (view_of k).senders endpoint)) false ≡ (is_some (speaker w c).flight || nat_lt 0 (length (speaker w c).leftovers)) =
@@ -123,7 +123,7 @@ leave_checked k c =
       | inl t ↦
           ap (leave_objection (view_of k).senders) (endpoint_is k c (ltb-true c (length w.connections) t))
           ∙ (ap (leaving_objection endpoint.stage) waiting
-          ∙ (stage_leaving k.names x.standing (speaker w c).flight (accepted_of c k.steps) (unread_at c k.steps) wait
+          ∙ (stage_leaving (names_at k) x.standing (speaker w c).flight (accepted_of c k.steps) (unread_at c k.steps) wait
           ∙ ap checks (sym t)))
       | inr f ↦ ap (leave_objection (view_of k).senders) (no_endpoint_there k c (ltb-false c (length w.connections) f)) ∙ ap checks (sym f)
     ]
@@ -138,10 +138,10 @@ pub endpoint_leaves : (senders : List SenderView) (endpoints : List EndpointView
 endpoint_leaves senders endpoints c endpoint there is = ap (leave_objection senders) (endpoint_read endpoints c endpoint there is)
 
 -- where nothing stands against it, the connection is there and it is leaving
-record CanLeave (k : Core) (c : ℕ) : Type 0 where
-  there : c < length k.world.connections
-  leaving : (connection_at k.world c).standing ≡ Standing.Leaving
-  free : move_refusal k.world (Move.Leaves c) ≡ None
+pub record CanLeave (k : Core) (c : ℕ) : Type 0 where
+  pub there : c < length k.world.connections
+  pub leaving : (connection_at k.world c).standing ≡ Standing.Leaving
+  pub free : move_refusal k.world (Move.Leaves c) ≡ None
 
 stage_free : (standing : Standing) (busy : Bool) → first_refusal ((is_gone standing, Objection.Gone) ∷ (is_reading standing, Objection.NotLeaving) ∷ (busy, Objection.Busy) ∷ []) ≡ None
     → standing ≡ Standing.Leaving
@@ -149,7 +149,7 @@ stage_free Standing.Open busy e = absurd (cc)
 stage_free Standing.Leaving busy e = refl
 stage_free Standing.Gone busy e = absurd (cc)
 
-can_leave : (k : Core) (c : ℕ) → leave_objection (view_of k).senders (slice_get (view_of k).endpoints c) ≡ None → CanLeave k c
+pub can_leave : (k : Core) (c : ℕ) → leave_objection (view_of k).senders (slice_get (view_of k).endpoints c) ≡ None → CanLeave k c
 can_leave k c is = go (bool_cases (nat_lt c (length k.world.connections)))
   where
     clear : first_refusal (objections k.world (Move.Leaves c)) ≡ None
@@ -206,9 +206,9 @@ leave_refused k c why refusal is reported =
 -- ---- a subscription is closed
 
 -- the number that is first in its endpoint
-endpoint_oldest : (k : Core) (c : ℕ) → c < length k.world.connections → oldest_in (view_of k) c ≡ oldest_live c 0 k.world.subscriptions
+pub endpoint_oldest : (k : Core) (c : ℕ) → c < length k.world.connections → oldest_in (view_of k) c ≡ oldest_live c 0 k.world.subscriptions
 endpoint_oldest k c there =
-    let f = λ (n : ℕ). endpoint_view k.names k.world n (accepted_of n k.steps) (unread_at n k.steps) (text_out k.names n k.steps) in
+    let f = λ (n : ℕ). endpoint_view (names_at k) k.world n (accepted_of n k.steps) (unread_at n k.steps) (text_out k.names n k.steps) in
     ap (λ (l : EndpointView). slice_get l.live 0) (endpoint_at k c no_endpoint f there) ∙ oldest_is c 0 k.world.subscriptions
 
 abbrev end_pair : ℕ → Stamp → ℕ × Stamp
@@ -265,7 +265,7 @@ leave_closes k c s to reached is found = go (oldest_live c 0 k.world.subscriptio
 -- ---- the connection is gone
 
 -- there is none to close
-none_to_close : (k : Core) (c : ℕ) → IsReached k → c < length k.world.connections → oldest_end (view_of k) c ≡ None → oldest_live c 0 k.world.subscriptions ≡ None
+pub none_to_close : (k : Core) (c : ℕ) → IsReached k → c < length k.world.connections → oldest_end (view_of k) c ≡ None → oldest_live c 0 k.world.subscriptions ≡ None
 none_to_close k c reached there none = go (oldest_live c 0 k.world.subscriptions) refl
   where
     go : (o : Option ℕ) → oldest_live c 0 k.world.subscriptions ≡ o → oldest_live c 0 k.world.subscriptions ≡ None
@@ -324,24 +324,24 @@ leave_gone k c cut reached is none asked =
     let unread = λ (n : ℕ). unread_at n steps in
     let text = λ (n : ℕ). text_out k.names n steps in
     let later = λ (n : ℕ). text_out k.names n steps ++ written k c cut n in
-    let f = λ (n : ℕ). endpoint_view k.names w n (accepted n) (unread n) (text n) in
-    let g = λ (n : ℕ). endpoint_view k.names u n (accepted n) (unread n) (later n) in
+    let f = λ (n : ℕ). endpoint_view (names_at k) w n (accepted n) (unread n) (text n) in
+    let g = λ (n : ℕ). endpoint_view (names_at k) u n (accepted n) (unread n) (later n) in
     let now : connection_at u c ≡ x = get_or-set_same w.connections c x nobody can.there in
     let parting = parting_receipt (accepted c) in
-    let staged : (f c).stage ≡ Stage.Leaving parting = ap (λ (z : Standing). stage_view k.names z (speaker w c).flight (accepted c) (unread c)) can.leaving in
+    let staged : (f c).stage ≡ Stage.Leaving parting = ap (λ (z : Standing). stage_view (names_at k) z (speaker w c).flight (accepted c) (unread c)) can.leaving in
     let own : written k c cut c ≡ cond cut [] (parting_text (f c).stage) =
     written_own cut (c == c) _ (eq-eqb c c refl)
     ∙ ap (λ (z : List ℕ). cond cut [] z) (ap (λ (rs : List RawFrame). flat_map spelling_of rs) (parting_is k c reached) ∙ (text_of parting ∙ ap parting_text (sym staged))) in
     let endpoint : gone_endpoint cut (f c) ≡ g c = λ i. record {
       sender = (sym now i).sender;
-      stage = stage_view k.names (sym now i).standing (sender_at w (unwrap_or (sym now i).sender (length w.senders))).flight (accepted c) (unread c);
+      stage = stage_view (names_at k) (sym now i).standing (sender_at w (unwrap_or (sym now i).sender (length w.senders))).flight (accepted c) (unread c);
       live = live_numbers c 0 w.subscriptions;
       output = text c ++ sym own i;
     } in
     let first : c ≡ 0 + c = omega arith in
     let other : (n : ℕ) → n ≢ c → f n ≡ g n = λ n apart.
-    same_endpoint k.names w u n (accepted n) (unread n) (text n) (sym (get_or-set_other w.connections c n x nobody apart)) refl refl
-    ∙ ap (λ (z : List ℕ). endpoint_view k.names u n (accepted n) (unread n) z)
+    same_endpoint (names_at k) w u n (accepted n) (unread n) (text n) (sym (get_or-set_other w.connections c n x nobody apart)) refl refl
+    ∙ ap (λ (z : List ℕ). endpoint_view (names_at k) u n (accepted n) (unread n) z)
     (sym (append-nil (text n)) ∙ ap (λ (z : List ℕ). text n ++ z) (sym (written_none cut (c == n) _ (differ c n (λ e. apart (sym e)))))) in
     let endpoints : set (view_of k).endpoints c (gone_endpoint cut (get_or (view_of k).endpoints c no_endpoint)) ≡ each_number g 0 u.connections =
     ap (λ (l : EndpointView). set (view_of k).endpoints c (gone_endpoint cut l)) (endpoint_at k c no_endpoint f can.there)
@@ -354,15 +354,15 @@ leave_gone k c cut reached is none asked =
       reading = Reading.Nothing;
       may = record { reading = refl; outcome = rw (ap (reply_outcomes k c (Event.Leave c)) alone) (either cut (λ e. cut_outcome k c reached (asked_here (asked e) staged))) };
       view = ap (λ (ls : List EndpointView). record (view_of k) { endpoints = ls }) endpoints
-          ∙ ((λ i. view_with k.names u (λ n. sym (append-nil (accepted n)) i) unread later (λ s. sub_id_text s steps))
+          ∙ ((λ i. view_with (names_at k) u (λ n. sym (append-nil (accepted n)) i) unread later (λ s. sub_id_text s steps))
           ∙ ap (λ (v : World). view_after k.names v (step ∷ steps)) (sym world));
     }
   where
     asked_here : has_parting (get_or (view_of k).endpoints c no_endpoint).stage ≡ true
-        → (endpoint_view k.names k.world c (accepted_of c k.steps) (unread_at c k.steps) (text_out k.names c k.steps)).stage ≡ Stage.Leaving (parting_receipt (accepted_of c k.steps))
+        → (endpoint_view (names_at k) k.world c (accepted_of c k.steps) (unread_at c k.steps) (text_out k.names c k.steps)).stage ≡ Stage.Leaving (parting_receipt (accepted_of c k.steps))
         → has_parting (Stage.Leaving (parting_receipt (accepted_of c k.steps))) ≡ true
     asked_here h staged =
-        let f = λ (n : ℕ). endpoint_view k.names k.world n (accepted_of n k.steps) (unread_at n k.steps) (text_out k.names n k.steps) in
+        let f = λ (n : ℕ). endpoint_view (names_at k) k.world n (accepted_of n k.steps) (unread_at n k.steps) (text_out k.names n k.steps) in
         sym (ap has_parting staged) ∙ (sym (ap (λ (l : EndpointView). has_parting l.stage) (endpoint_at k c no_endpoint f (can_leave k c is).there)) ∙ h)
 
     either : (cut : Bool) → (cut ≡ true → is_any (replies_to c k.steps (account_of k.names k.steps) (Event.Leave c) Reading.Nothing (Outcome.Gone false)) ≡ true)

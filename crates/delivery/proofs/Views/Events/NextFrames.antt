@@ -1,5 +1,5 @@
 -- A Next whose frame is accepted, and asks for nothing of the machine but that its connection ends.
-use Rattle.std.proofs.Common.{◌≡◌, ℕ, Bool, true, false, cond, inl, List, [], ◌∷◌, ◌++◌, get_or, Option, Some, None, refl, sym, ap, subst, ◌∙◌, length}
+use Rattle.std.proofs.Common.{◌≡◌, ℕ, ◌<◌, Bool, true, false, cond, inl, List, [], ◌∷◌, ◌++◌, length, get_or, Option, Some, None, refl, sym, ap, subst, ◌∙◌}
 use Rattle.std.specs.Prelude.{codes}
 use Rattle.std.specs.List.{flat_map, find}
 use Rattle.std.specs.Option.{option_map, option_map_or, option_or, option_and_then, option_to_list, unwrap_or}
@@ -19,7 +19,7 @@ use Rattle.stomp_frame.specs.Writing.{spelling_of}
 use Rattle.stomp_session.specs.declared.action.Action.{Action}
 use Rattle.stomp_session.specs.declared.action.Action.TheVariants as actions
 use Rattle.stomp_session.specs.Answers.{action_by, commit}
-use Rattle.stomp_session.specs.Frames.{is_disconnect, send_of, transaction_of}
+use Rattle.stomp_session.specs.Frames.{with_destination, is_disconnect, send_of, transaction_of}
 use Rattle.stomp_session.specs.Open.{Held}
 use Rattle.stomp_session.specs.Refusals.{sends_in}
 use Rattle.delivery.specs.declared.connection_fault.ConnectionFault.{ConnectionFault}
@@ -28,138 +28,180 @@ use Rattle.delivery.specs.declared.outcome.Outcome.{Outcome}
 use Rattle.delivery.specs.declared.stage.Stage.{Stage}
 use Rattle.delivery.specs.Machine.Objections.{Objection}
 use Rattle.delivery.specs.Machine.World.{World, Connection, Standing, nobody, connection_at, sender_at, speaker}
-use Rattle.delivery.specs.Machine.Moves.{Move, move_refusal, move_effect, move_answer, with_leaving}
+use Rattle.delivery.specs.Machine.Moves.{Move, move_refusal, move_effect, move_answer, needs_idle, with_leaving}
 use Rattle.delivery.specs.Machine.Runs.{run}
 use Rattle.delivery.specs.Core.Steps.{Reading, has_effect, accepted_of}
 use Rattle.delivery.specs.Core.Output.{is_cut, receipts_of, text_out}
-use Rattle.delivery.specs.Core.State.{Core, frame_move, is_faulted, next_moves, session_at}
-use Rattle.delivery.specs.Core.Outcomes.{fault_outcomes, frame_fault, frame_no_memory, frame_outcome, move_outcome, outcome_of, reading_outcomes, accepted_outcomes, outcomes_without, wants_memory}
-use Rattle.delivery.specs.Inner.Nexts.{Asks, accepted_stage, error_text, failed_endpoint, receipt_text, staged_endpoint, MayLack}
+use Rattle.delivery.specs.Core.State.{Core, core_for, frame_move, is_faulted, next_moves, session_at, names_at, topic_moves}
+use Rattle.delivery.specs.Core.Outcomes.{MayStep, claim_fault, fault_outcomes, frame_fault, frame_no_memory, frame_outcome, move_outcome, outcome_of, reading_outcomes, accepted_outcomes, outcomes_without, wants_memory}
+use Rattle.delivery.specs.Inner.Nexts.{Asks, AsksUnnamed, accepted_stage, error_text, failed_endpoint, receipt_text, staged_endpoint, MayEnd}
 use Rattle.delivery.specs.Inner.Stands.{Makes}
 use Rattle.delivery.specs.Core.Connections.{live_numbers}
 use Rattle.delivery.specs.Inner.View.{View, EndpointView, view_of, view_after, stage_view, leaving_endpoint, no_endpoint, parting_receipt, written_endpoint}
 use Rattle.delivery.proofs.Views.Endpoints.EndpointChanges.{with_endpoint, endpoint_again}
-use Rattle.delivery.proofs.Views.Events.NextFaults.{asked_objection, fault_is, endpoint_of, endpoint_there, may_lack, next_ends, within_endpoints}
-use Rattle.delivery.proofs.Views.Events.NextStep.{held_still, next_of, next_endpoint, next_makes, next_still, next_written, text_added, frames_added, idle_there, idle_reads, idle_stage}
+use Rattle.delivery.proofs.Core.ByRun.{run_append}
+use Rattle.delivery.proofs.Core.FrameWorld.{idle_for}
+use Rattle.delivery.proofs.Views.Events.FrameTopic.{named_is}
+use Rattle.mcast_txn.specs.Checks.{first_refusal}
+use Rattle.delivery.proofs.Views.Events.NextFaults.{asked_objection, fault_is, endpoint_of, endpoint_there, next_ends, within_endpoints}
+use Rattle.delivery.proofs.Views.Events.NextStep.{view_by, held_still, next_of, next_endpoint, next_makes, next_may, next_still, next_written, text_added, frames_added, idle_there, idle_reads, idle_stage}
 use Rattle.delivery.proofs.Views.Endpoints.DisconnectIsLast.{not_parting}
 use Rattle.delivery.proofs.Views.Events.OneMove.{made_answer, made_world, in_outcome}
 
 -- ---- what is held
 
--- once the frame is accepted
+-- the names with those of the frame
+abbrev pub names_for : Core → RawFrame → List (List ℕ)
+names_for k f = with_destination f (names_at k)
+
+-- the connection is there once the frame's destination has its topic
+pub there_for : (k : Core) (f : RawFrame) (c : ℕ) → first_refusal (needs_idle k.world c) ≡ None → c < length (core_for k f).world.connections
+there_for k f c idle = idle_there (core_for k f).world c (idle_for k f c idle)
+
+-- once the frame is accepted, and its destination has its topic
 pub accepted_view : (k : Core) (c : ℕ) (f : RawFrame) (left : Unread) (action : Action) (receipt : Option (List ℕ)) (held : View)
-    → Asks k c f left action receipt held → held ≡ with_endpoint (view_of k) c (staged_endpoint (accepted_stage k c f left) (endpoint_of k c))
+    → Asks k c f left action receipt held
+    → held ≡ with_endpoint (view_by (names_for k f) (core_for k f)) c (staged_endpoint (accepted_stage k c f left) (endpoint_of (names_for k f) (core_for k f) c))
 accepted_view k c f left action receipt held asks =
-    asks.view ∙ ap (λ (l : EndpointView). with_endpoint (view_of k) c (staged_endpoint (accepted_stage k c f left) l)) (endpoint_there k c no_endpoint (idle_there k.world c asks.idle))
+    let names = names_for k f in let q = core_for k f in
+    asks.view
+    ∙ (ap (λ (v : View). with_endpoint v c (staged_endpoint (accepted_stage k c f left) (get_or v.endpoints c no_endpoint))) (named_is k f asks.reached)
+    ∙ ap (λ (l : EndpointView). with_endpoint (view_by names q) c (staged_endpoint (accepted_stage k c f left) l)) (endpoint_there names q c no_endpoint (there_for k f c asks.idle)))
 
 -- and its endpoint is changed so
 pub changed_view : (k : Core) (c : ℕ) (f : RawFrame) (left : Unread) (action : Action) (receipt : Option (List ℕ)) (held new : View) (change : EndpointView → EndpointView) (d : EndpointView)
     → Asks k c f left action receipt held → new ≡ with_endpoint held c (change (get_or held.endpoints c d))
-    → new ≡ with_endpoint (view_of k) c (change (staged_endpoint (accepted_stage k c f left) (endpoint_of k c)))
+    → new ≡ with_endpoint (view_by (names_for k f) (core_for k f)) c (change (staged_endpoint (accepted_stage k c f left) (endpoint_of (names_for k f) (core_for k f) c)))
 changed_view k c f left action receipt held new change d asks is =
+    let names = names_for k f in let q = core_for k f in
     is
     ∙ (ap (λ (v : View). with_endpoint v c (change (get_or v.endpoints c d))) (accepted_view k c f left action receipt held asks)
-    ∙ endpoint_again (view_of k) c (staged_endpoint (accepted_stage k c f left) (endpoint_of k c)) change d (within_endpoints k c (idle_there k.world c asks.idle)))
+    ∙ endpoint_again (view_by names q) c (staged_endpoint (accepted_stage k c f left) (endpoint_of names q c)) change d (within_endpoints names q c (there_for k f c asks.idle)))
 
--- with the reply of this outcome it is what is held of the world of before
+-- with the reply of this outcome it is what is held of the world in which its destination has its topic
 pub replied_view : (k : Core) (c : ℕ) (f : RawFrame) (left : Unread) (action : Action) (receipt : Option (List ℕ)) (held new : View) (o : Outcome) (text : List ℕ) (d : EndpointView)
     → Asks k c f left action receipt held → has_effect o ≡ true → text ≡ text_added (Reading.Finds f left) o
     → new ≡ with_endpoint held c (written_endpoint text (get_or held.endpoints c d))
-    → new ≡ held_still k k.world c (Reading.Finds f left) o
+    → new ≡ held_still (names_for k f) (core_for k f) (core_for k f).world c (Reading.Finds f left) o
 replied_view k c f left action receipt held new o text d asks effect text_is is =
+    let names = names_for k f in let q = core_for k f in let w = q.world in
     let reading = Reading.Finds f left in
     let accepted = accepted_of c k.steps in
     let frames : f ∷ [] ≡ frames_added reading o = ap (λ (b : Bool). cond b (f ∷ []) []) (sym effect) in
-    let endpoint : written_endpoint text (staged_endpoint (accepted_stage k c f left) (endpoint_of k c)) ≡ next_endpoint k k.world c reading o =
+    let endpoint : written_endpoint text (staged_endpoint (accepted_stage k c f left) (endpoint_of names q c)) ≡ next_endpoint names q w c reading o =
     λ i. record {
-      sender = (connection_at k.world c).sender;
-      stage = (sym (idle_stage k c (accepted ++ f ∷ []) left asks.idle)
-          ∙ ap (λ (fs : List RawFrame). stage_view k.names (connection_at k.world c).standing (speaker k.world c).flight (accepted ++ fs) left) frames) i;
-      live = live_numbers c 0 k.world.subscriptions;
+      sender = (connection_at w c).sender;
+      stage = (sym (idle_stage names q c (accepted ++ f ∷ []) left (idle_for k f c asks.idle))
+          ∙ ap (λ (fs : List RawFrame). stage_view names (connection_at w c).standing (speaker w c).flight (accepted ++ fs) left) frames) i;
+      live = live_numbers c 0 w.subscriptions;
       output = text_out k.names c k.steps ++ text_is i;
     } in
     changed_view k c f left action receipt held new (written_endpoint text) d asks is
-    ∙ (ap (λ (l : EndpointView). with_endpoint (view_of k) c l) endpoint
-    ∙ next_still k c reading o (idle_there k.world c asks.idle))
+    ∙ (ap (λ (l : EndpointView). with_endpoint (view_by names q) c l) endpoint
+    ∙ next_still names q c reading o (there_for k f c asks.idle))
 
--- ---- out of memory
+-- ---- it can't be done
 
--- the frame has no effect, and the connection ends by an ERROR
-pub next_lacks : (k : Core) (c : ℕ) (f : RawFrame) (left : Unread) (action : Action) (receipt said : Option (List ℕ)) (held new : View) (o : Outcome) (d : EndpointView)
-    → Asks k c f left action receipt held → MayLack k c f → said ≡ receipt → o ≡ Outcome.Faulted frame_no_memory (is_cut o)
-    → new ≡ with_endpoint held c (failed_endpoint (is_cut o) (error_text frame_no_memory said) (get_or held.endpoints c d))
+-- the frame has no effect, its destination has no topic, and the connection ends by an ERROR
+pub next_ends_with : (k : Core) (c : ℕ) (f : RawFrame) (left : Unread) (action : Action) (fault : ConnectionFault) (receipt said : Option (List ℕ)) (held new : View) (o : Outcome) (d : EndpointView)
+    → AsksUnnamed k c f left action receipt held → MayEnd k c f fault → said ≡ receipt → o ≡ Outcome.Faulted fault (is_cut o)
+    → new ≡ with_endpoint held c (failed_endpoint (is_cut o) (error_text fault said) (get_or held.endpoints c d))
     → Makes k (Event.Next c) o new
-next_lacks k c f left action receipt said held new o d asks wants same is view =
+next_ends_with k c f left action fault receipt said held new o d asks may same is view =
     subst (λ (p : Outcome). Makes k (Event.Next c) p new) (sym is)
-    (next_ends k c (Reading.Finds f left) frame_no_memory receipt (is_cut o) (accepted_stage k c f left) held new d
+    (next_ends k c (Reading.Finds f left) fault receipt (is_cut o) (accepted_stage k c f left) held new d
     (record {
       reached = asks.reached;
       idle = asks.idle;
       read = asks.read;
-      may = may_lack k c f left asks.cased asks.free wants;
+      may = may;
       asked = sym asks.wants;
-    }) (accepted_view k c f left action receipt held asks)
-    (view ∙ ap (λ (r : Option (List ℕ)). with_endpoint held c (failed_endpoint (is_cut o) (error_text frame_no_memory r) (get_or held.endpoints c d))) same))
+    })
+    (asks.view
+    ∙ ap (λ (l : EndpointView). with_endpoint (view_of k) c (staged_endpoint (accepted_stage k c f left) l)) (endpoint_there (names_at k) k c no_endpoint (idle_there k.world c asks.idle)))
+    (view ∙ ap (λ (r : Option (List ℕ)). with_endpoint held c (failed_endpoint (is_cut o) (error_text fault r) (get_or held.endpoints c d))) same))
 
 -- ---- what may come of it
 
 -- the machine has nothing against it
-unfaulted : (k : Core) (c : ℕ) (f : RawFrame) (left : Unread) (action : Action) (receipt : Option (List ℕ)) (held : View)
-    → Asks k c f left action receipt held → asked_objection k c f ≡ None → (o : Outcome) → In o (frame_outcome k c f)
+pub unfaulted : (k : Core) (c : ℕ) (f : RawFrame) (left : Unread) (action : Action) (receipt : Option (List ℕ)) (held : View)
+    → Asks k c f left action receipt held → claim_fault k action ≡ None → asked_objection k c f ≡ None → (o : Outcome) → In o (frame_outcome k c f)
     → In o (reading_outcomes k c (Reading.Finds f left))
-unfaulted k c f left action receipt held asks none o may =
+unfaulted k c f left action receipt held asks unclaimed none o may =
     let e : frame_fault k c f ≡ None =
-    fault_is k c f asks.cased asks.free ∙ ap (λ (why : Option Objection). option_map (λ (w : Objection). frame_no_memory) why) none in
+    fault_is k c f asks.cased asks.free (ap (claim_fault k) asks.does ∙ unclaimed) ∙ ap (λ (why : Option Objection). option_map (λ (w : Objection). frame_no_memory) why) none in
     subst (λ (x : Option ConnectionFault). In o (option_map_or fault_outcomes x (accepted_outcomes k c f))) (sym e)
     (In-append_left o (frame_outcome k c f) (outcomes_without (wants_memory k c f) frame_no_memory) may)
 
 -- a frame that asks for no move is done
 pub done_makes : (k : Core) (c : ℕ) (f : RawFrame) (left : Unread) (action : Action) (receipt : Option (List ℕ)) (held new : View) (text : List ℕ) (d : EndpointView)
-    → Asks k c f left action receipt held → frame_move k c action ≡ None → text ≡ text_added (Reading.Finds f left) Outcome.Done
+    → Asks k c f left action receipt held → claim_fault k action ≡ None → frame_move k c action ≡ None → text ≡ text_added (Reading.Finds f left) Outcome.Done
     → new ≡ with_endpoint held c (written_endpoint text (get_or held.endpoints c d))
     → Makes k (Event.Next c) Outcome.Done new
-done_makes k c f left action receipt held new text d asks none text_is is =
+done_makes k c f left action receipt held new text d asks unclaimed none text_is is =
+    let q = core_for k f in let ts = topic_moves (names_at k) f in
     let move : frame_move k c (action_by f.command (session_at k c) f) ≡ None = ap (frame_move k c) asks.does ∙ none in
     let may : In Outcome.Done (frame_outcome k c f) =
-    subst (λ (m : Option Move). In Outcome.Done (option_map_or (move_outcome k) m (Outcome.Done ∷ []))) (sym move) (inl refl) in
+    subst (λ (m : Option Move). In Outcome.Done (option_map_or (move_outcome q) m (Outcome.Done ∷ []))) (sym move) (inl refl) in
     let still = replied_view k c f left action receipt held new Outcome.Done text d asks refl text_is is in
     next_makes k c (Reading.Finds f left) Outcome.Done new asks.idle asks.read
-    (unfaulted k c f left action receipt held asks (ap (λ (m : Option Move). option_and_then (λ x. move_refusal k.world x) m) move) Outcome.Done may)
+    (unfaulted k c f left action receipt held asks unclaimed (ap (λ (m : Option Move). option_and_then (λ x. move_refusal q.world x) m) move) Outcome.Done may)
     (still
-    ∙ ap (λ (ms : List Move). view_after k.names (run ms k.world) (next_of c (Reading.Finds f left) Outcome.Done ∷ k.steps))
-    (ap (λ (m : Option Move). option_to_list m) (sym move)))
+    ∙ ap (λ (w : World). view_after k.names w (next_of c (Reading.Finds f left) Outcome.Done ∷ k.steps))
+    (sym (run_append ts [] k.world) ∙ ap (λ (m : Option Move). run (ts ++ option_to_list m) k.world) (sym move)))
+
+-- the world after such a move
+pub moved_world : (k : Core) (c : ℕ) (f : RawFrame) (left : Unread) (action : Action) (move : Move) (o : Outcome)
+    → action_by f.command (session_at k c) f ≡ action → frame_move k c action ≡ Some move → move_refusal (core_for k f).world move ≡ None
+    → has_effect o ≡ true → is_faulted o ≡ false
+    → run (next_moves k c (Reading.Finds f left) o) k.world ≡ move_effect (core_for k f).world move
+moved_world k c f left action move o does some free effect fine =
+    let q = core_for k f in let ts = topic_moves (names_at k) f in
+    let own = option_to_list (frame_move k c (action_by f.command (session_at k c) f)) in
+    let asked : frame_move k c (action_by f.command (session_at k c) f) ≡ Some move = ap (frame_move k c) does ∙ some in
+    let made : next_moves k c (Reading.Finds f left) o ≡ ts ++ move ∷ [] =
+    ap (λ (b : Bool). cond b (Move.Errs c ∷ []) (cond (has_effect o) (ts ++ own) [])) fine
+    ∙ (ap (λ (b : Bool). cond b (ts ++ own) []) effect
+    ∙ ap (λ (m : Option Move). ts ++ option_to_list m) asked) in
+    ap (λ (ms : List Move). run ms k.world) made ∙ (run_append ts (move ∷ []) k.world ∙ made_world q.world move free)
+
+-- the core may make such a step
+pub move_may : (k : Core) (c : ℕ) (f : RawFrame) (left : Unread) (action : Action) (receipt : Option (List ℕ)) (held : View) (move : Move) (o : Outcome)
+    → Asks k c f left action receipt held → claim_fault k action ≡ None → frame_move k c action ≡ Some move → move_refusal (core_for k f).world move ≡ None
+    → outcome_of (move_answer (core_for k f).world move) ≡ Some o → MayStep k (next_of c (Reading.Finds f left) o)
+move_may k c f left action receipt held move o asks unclaimed some free answer =
+    let q = core_for k f in
+    let asked : frame_move k c (action_by f.command (session_at k c) f) ≡ Some move = ap (frame_move k c) asks.does ∙ some in
+    let may : In o (frame_outcome k c f) =
+    subst (λ (m : Option Move). In o (option_map_or (move_outcome q) m (Outcome.Done ∷ []))) (sym asked)
+    (in_outcome q move o (move_answer q.world move) (made_answer q.world move free) answer) in
+    next_may k c (Reading.Finds f left) o asks.idle asks.read
+    (unfaulted k c f left action receipt held asks unclaimed (ap (λ (m : Option Move). option_and_then (λ x. move_refusal q.world x) m) asked ∙ free) o may)
 
 -- a frame that asks for a move which the machine makes
 pub move_makes : (k : Core) (c : ℕ) (f : RawFrame) (left : Unread) (action : Action) (receipt : Option (List ℕ)) (held new : View) (move : Move) (o : Outcome)
-    → Asks k c f left action receipt held → frame_move k c action ≡ Some move → move_refusal k.world move ≡ None
-    → outcome_of (move_answer k.world move) ≡ Some o → has_effect o ≡ true → is_faulted o ≡ false
-    → new ≡ view_after k.names (move_effect k.world move) (next_of c (Reading.Finds f left) o ∷ k.steps)
+    → Asks k c f left action receipt held → claim_fault k action ≡ None → frame_move k c action ≡ Some move → move_refusal (core_for k f).world move ≡ None
+    → outcome_of (move_answer (core_for k f).world move) ≡ Some o → has_effect o ≡ true → is_faulted o ≡ false
+    → new ≡ view_after k.names (move_effect (core_for k f).world move) (next_of c (Reading.Finds f left) o ∷ k.steps)
     → Makes k (Event.Next c) o new
-move_makes k c f left action receipt held new move o asks some free answer effect fine view =
-    let asked : frame_move k c (action_by f.command (session_at k c) f) ≡ Some move = ap (frame_move k c) asks.does ∙ some in
-    let may : In o (frame_outcome k c f) =
-    subst (λ (m : Option Move). In o (option_map_or (move_outcome k) m (Outcome.Done ∷ []))) (sym asked)
-    (in_outcome k move o (move_answer k.world move) (made_answer k.world move free) answer) in
-    let made : next_moves k c (Reading.Finds f left) o ≡ move ∷ [] =
-    ap (λ (b : Bool). cond b (Move.Errs c ∷ []) (cond (has_effect o) (option_to_list (frame_move k c (action_by f.command (session_at k c) f))) [])) fine
-    ∙ (ap (λ (b : Bool). cond b (option_to_list (frame_move k c (action_by f.command (session_at k c) f))) []) effect
-    ∙ ap (λ (m : Option Move). option_to_list m) asked) in
-    next_makes k c (Reading.Finds f left) o new asks.idle asks.read
-    (unfaulted k c f left action receipt held asks (ap (λ (m : Option Move). option_and_then (λ x. move_refusal k.world x) m) asked ∙ free) o may)
-    (view ∙ ap (λ (v : World). view_after k.names v (next_of c (Reading.Finds f left) o ∷ k.steps))
-    (sym (ap (λ (ms : List Move). run ms k.world) made ∙ made_world k.world move free)))
+move_makes k c f left action receipt held new move o asks unclaimed some free answer effect fine view = record {
+  reading = Reading.Finds f left;
+  may = move_may k c f left action receipt held move o asks unclaimed some free answer;
+  view = view ∙ ap (λ (v : World). view_after k.names v (next_of c (Reading.Finds f left) o ∷ k.steps))
+      (sym (moved_world k c f left action move o asks.does some free effect fine));
+}
 
 -- ---- which frames these are
 
-connects_sent : (s : Held) (f : RawFrame) (o : Option (List ℕ)) → option_map_or (λ transaction. actions.Nothing) o (commit (send_of s.names f ∷ [])) ≡ actions.Connected → is_connect f.command ≡ true
+connects_sent : {client : Option (List ℕ)} → (s : Held) (f : RawFrame) (o : Option (List ℕ)) → option_map_or (λ transaction. actions.Nothing) o (commit (send_of s.names f ∷ [])) ≡ actions.Connected client → is_connect f.command ≡ true
 connects_sent s f None e = absurd (cc)
 connects_sent s f (Some x) e = absurd (cc)
 
-connects_committed : (f : RawFrame) (sends : List SentMessage) → commit sends ≡ actions.Connected → is_connect f.command ≡ true
+connects_committed : {client : Option (List ℕ)} → (f : RawFrame) (sends : List SentMessage) → commit sends ≡ actions.Connected client → is_connect f.command ≡ true
 connects_committed f [] e = absurd (cc)
 connects_committed f (send ∷ sends) e = absurd (cc)
 
-pub connects : (command : Command) (s : Held) (f : RawFrame) → f.command ≡ command → action_by command s f ≡ actions.Connected → is_connect f.command ≡ true
+pub connects : {client : Option (List ℕ)} → (command : Command) (s : Held) (f : RawFrame) → f.command ≡ command → action_by command s f ≡ actions.Connected client → is_connect f.command ≡ true
 connects commands.Connect s f is e = ap is_connect is
 connects commands.Stomp s f is e = ap is_connect is
 connects commands.Send s f is e = connects_sent s f (first_of (codes "transaction") f.headers) e
@@ -185,19 +227,7 @@ parts commands.Send s f is e = parts_sent s f (first_of (codes "transaction") f.
 parts commands.Commit s f is e = parts_committed f (sends_in (transaction_of f) s.transactions) e
 parts _ s f is e = absurd (cc)
 
--- ---- CONNECT, and frames that need no more than their RECEIPT
-
--- a CONNECT is answered by CONNECTED
-pub next_connects : (k : Core) (c : ℕ) (f : RawFrame) (left : Unread) (receipt : Option (List ℕ)) (held new : View) (d : EndpointView)
-    → Asks k c f left actions.Connected receipt held
-    → new ≡ with_endpoint held c (written_endpoint (spelling_of connected_frame) (get_or held.endpoints c d))
-    → Makes k (Event.Next c) Outcome.Done new
-next_connects k c f left receipt held new d asks is =
-    let connect = connects f.command (session_at k c) f refl asks.does in
-    let text : spelling_of connected_frame ≡ text_added (Reading.Finds f left) Outcome.Done =
-    sym (append-nil (spelling_of connected_frame))
-    ∙ ap (λ (b : Bool). flat_map spelling_of (cond b (connected_frame ∷ []) (receipts_of f))) (sym connect) in
-    done_makes k c f left actions.Connected receipt held new (spelling_of connected_frame) d asks refl text is
+-- ---- frames that need no more than their RECEIPT
 
 one_receipt : (o : Option (List ℕ)) → receipt_text o ≡ flat_map spelling_of (option_map_or (λ id. receipt_frame id ∷ []) o [])
 one_receipt None = refl
@@ -218,7 +248,7 @@ next_acknowledges k c f left receipt held new d asks is =
     let text : receipt_text receipt ≡ text_added (Reading.Finds f left) Outcome.Done =
     receipt_is k c f left actions.Nothing receipt held asks
     ∙ ap (λ (b : Bool). flat_map spelling_of (cond b (connected_frame ∷ []) (receipts_of f))) (sym other) in
-    done_makes k c f left actions.Nothing receipt held new (receipt_text receipt) d asks refl text is
+    done_makes k c f left actions.Nothing receipt held new (receipt_text receipt) d asks refl refl text is
 
 -- ---- DISCONNECT
 
@@ -236,27 +266,29 @@ pub next_disconnects : (k : Core) (c : ℕ) (f : RawFrame) (left : Unread) (rece
     → new ≡ with_endpoint held c (leaving_endpoint receipt (get_or held.endpoints c d))
     → Makes k (Event.Next c) Outcome.Leaving new
 next_disconnects k c f left receipt held new d asks is =
+    let names = names_for k f in let q = core_for k f in let w = q.world in
     let o = Outcome.Leaving in
     let reading = Reading.Finds f left in
-    let there = idle_there k.world c asks.idle in
-    let x : Connection = record { sender = (connection_at k.world c).sender; standing = Standing.Leaving } in
-    let w = with_leaving k.world c in
-    let now : connection_at w c ≡ x = get_or-set_same k.world.connections c x nobody there in
+    let idle = idle_for k f c asks.idle in
+    let there = there_for k f c asks.idle in
+    let x : Connection = record { sender = (connection_at w c).sender; standing = Standing.Leaving } in
+    let v = with_leaving w c in
+    let now : connection_at v c ≡ x = get_or-set_same w.connections c x nobody there in
     let accepted = accepted_of c k.steps in
     let parted : parting_receipt (accepted ++ f ∷ []) ≡ receipt =
     ap (λ (g : Option RawFrame). option_and_then receipt_of g)
     (find_last (λ g. is_disconnect g.command) accepted f (not_parting k c asks.reached (idle_reads k.world c asks.idle)) (parts f.command (session_at k c) f refl asks.does))
     ∙ asks.wants in
-    let endpoint : leaving_endpoint receipt (staged_endpoint (accepted_stage k c f left) (endpoint_of k c)) ≡ next_endpoint k w c reading o =
+    let endpoint : leaving_endpoint receipt (staged_endpoint (accepted_stage k c f left) (endpoint_of names q c)) ≡ next_endpoint names q v c reading o =
     λ i. record {
       sender = (sym now i).sender;
       stage = (ap (λ (p : Option (List ℕ)). Stage.Leaving p) (sym parted)
-          ∙ ap (λ (y : Connection). stage_view k.names y.standing (sender_at k.world (unwrap_or y.sender (length k.world.senders))).flight (accepted ++ f ∷ []) left) (sym now)) i;
-      live = live_numbers c 0 k.world.subscriptions;
+          ∙ ap (λ (y : Connection). stage_view names y.standing (sender_at w (unwrap_or y.sender (length w.senders))).flight (accepted ++ f ∷ []) left) (sym now)) i;
+      live = live_numbers c 0 w.subscriptions;
       output = sym (append-nil (text_out k.names c k.steps)) i;
     } in
-    let free : move_refusal k.world (Move.Disconnects c) ≡ None = ap (λ (why : Option Objection). option_or why None) asks.idle in
-    move_makes k c f left actions.Disconnect receipt held new (Move.Disconnects c) o asks refl free refl refl refl
+    let free : move_refusal w (Move.Disconnects c) ≡ None = ap (λ (why : Option Objection). option_or why None) idle in
+    move_makes k c f left actions.Disconnect receipt held new (Move.Disconnects c) o asks refl refl free refl refl refl
     (changed_view k c f left actions.Disconnect receipt held new (leaving_endpoint receipt) d asks is
-    ∙ (ap (λ (l : EndpointView). with_endpoint (view_of k) c l) endpoint
-    ∙ next_written k c reading o x there))
+    ∙ (ap (λ (l : EndpointView). with_endpoint (view_by names q) c l) endpoint
+    ∙ next_written names q c reading o x there))

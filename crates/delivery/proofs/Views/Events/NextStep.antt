@@ -10,7 +10,7 @@ use Rattle.mcast_txn.specs.Lists.{In}
 use Rattle.stomp_frame.specs.declared.raw_frame.RawFrame.{RawFrame}
 use Rattle.stomp_frame.specs.Reader.{Unread}
 use Rattle.stomp_frame.specs.Writing.{spelling_of}
-use Rattle.stomp_session.specs.Open.{held_after}
+use Rattle.stomp_session.specs.Open.{held_after, state_of}
 use Rattle.delivery.specs.declared.event.Event.{Event}
 use Rattle.delivery.specs.declared.outcome.Outcome.{Outcome}
 use Rattle.delivery.specs.declared.stage.Stage.{Stage}
@@ -21,11 +21,11 @@ use Rattle.delivery.specs.Machine.Runs.{run}
 use Rattle.delivery.specs.Core.Steps.{CoreStep, Reading, frame_in, has_effect, accepted_of}
 use Rattle.delivery.specs.Core.Output.{is_cut, next_replies, sub_id_text, text_out}
 use Rattle.delivery.specs.Core.State.{Core, IsReadBy, left_by, next_moves, unread_at}
-use Rattle.delivery.specs.Core.Outcomes.{reading_outcomes, unless}
+use Rattle.delivery.specs.Core.Outcomes.{MayStep, reading_outcomes, unless}
 use Rattle.delivery.specs.Core.Reports.{each_number}
 use Rattle.delivery.specs.Inner.Stands.{Makes, step_of}
 use Rattle.delivery.specs.Core.Connections.{live_numbers}
-use Rattle.delivery.specs.Inner.View.{View, EndpointView, view_of, view_with, view_after, stage_view, endpoint_view}
+use Rattle.delivery.specs.Inner.View.{View, EndpointView, view_with, view_after, stage_view, endpoint_view}
 use Rattle.delivery.proofs.Machine.InvariantIsKept.{passes, false_not}
 use Rattle.delivery.proofs.Views.Endpoints.EndpointChanges.{with_endpoint}
 use Rattle.delivery.proofs.Views.Lists.ByNumber.{each_number-set}
@@ -87,46 +87,52 @@ other_text names c n reading o older other =
 
 -- ---- the endpoint
 
+-- what is held of a core by these names
+abbrev pub view_by : List (List ℕ) → Core → View
+view_by names k =
+    view_with names k.world (λ c. accepted_of c k.steps) (λ c. unread_at c k.steps) (λ c. text_out k.names c k.steps)
+    (λ s. sub_id_text s k.steps)
+
 -- the endpoint of connection c in this world after a Next
-abbrev pub next_endpoint : Core → World → ℕ → Reading → Outcome → EndpointView
-next_endpoint k w c reading o =
-    endpoint_view k.names w c (accepted_of c k.steps ++ frames_added reading o) (left_by (unread_at c k.steps) reading)
+abbrev pub next_endpoint : List (List ℕ) → Core → World → ℕ → Reading → Outcome → EndpointView
+next_endpoint names k w c reading o =
+    endpoint_view names w c (accepted_of c k.steps ++ frames_added reading o) (left_by (unread_at c k.steps) reading)
     (text_out k.names c k.steps ++ text_added reading o)
 
 -- what is held of the world of before after a Next, with the ids of before
-abbrev pub held_still : Core → World → ℕ → Reading → Outcome → View
-held_still k w c reading o =
+abbrev pub held_still : List (List ℕ) → Core → World → ℕ → Reading → Outcome → View
+held_still names k w c reading o =
     let steps = next_of c reading o ∷ k.steps in
-    view_with k.names w (λ n. accepted_of n steps) (λ n. unread_at n steps) (λ n. text_out k.names n steps)
+    view_with names w (λ n. accepted_of n steps) (λ n. unread_at n steps) (λ n. text_out k.names n steps)
     (λ s. sub_id_text s k.steps)
 
 -- with another standing of its connection, or the same, that is the view of before with another endpoint
-pub next_written : (k : Core) (c : ℕ) (reading : Reading) (o : Outcome) (x : Connection) → c < length k.world.connections
-    → with_endpoint (view_of k) c (next_endpoint k (with_connection k.world c x) c reading o)
-    ≡ held_still k (with_connection k.world c x) c reading o
-next_written k c reading o x there =
+pub next_written : (names : List (List ℕ)) (k : Core) (c : ℕ) (reading : Reading) (o : Outcome) (x : Connection) → c < length k.world.connections
+    → with_endpoint (view_by names k) c (next_endpoint names k (with_connection k.world c x) c reading o)
+    ≡ held_still names k (with_connection k.world c x) c reading o
+next_written names k c reading o x there =
     let w = with_connection k.world c x in
     let steps = next_of c reading o ∷ k.steps in
-    let f = λ (n : ℕ). endpoint_view k.names k.world n (accepted_of n k.steps) (unread_at n k.steps) (text_out k.names n k.steps) in
-    let g = λ (n : ℕ). endpoint_view k.names w n (accepted_of n steps) (unread_at n steps) (text_out k.names n steps) in
+    let f = λ (n : ℕ). endpoint_view names k.world n (accepted_of n k.steps) (unread_at n k.steps) (text_out k.names n k.steps) in
+    let g = λ (n : ℕ). endpoint_view names w n (accepted_of n steps) (unread_at n steps) (text_out k.names n steps) in
     let e : c ≡ 0 + c = omega arith in
-    let endpoint : next_endpoint k w c reading o ≡ g c =
-    λ i. endpoint_view k.names w c (sym (own_accepted c reading o k.steps) i) (sym (own_unread c reading o k.steps) i) (sym (own_text k.names c reading o k.steps) i) in
+    let endpoint : next_endpoint names k w c reading o ≡ g c =
+    λ i. endpoint_view names w c (sym (own_accepted c reading o k.steps) i) (sym (own_unread c reading o k.steps) i) (sym (own_text k.names c reading o k.steps) i) in
     let others : (n : ℕ) → n ≢ 0 + c → f n ≡ g n = λ n differ.
     (let other : n ≢ c = λ same. differ (same ∙ e) in
     let connection : connection_at k.world n ≡ connection_at w n = sym (get_or-set_other k.world.connections c n x nobody other) in
     λ i. record {
       sender = (connection i).sender;
-      stage = stage_view k.names (connection i).standing (sender_at k.world (unwrap_or (connection i).sender (length k.world.senders))).flight
+      stage = stage_view names (connection i).standing (sender_at k.world (unwrap_or (connection i).sender (length k.world.senders))).flight
           (sym (other_accepted c n reading o k.steps other) i) (sym (other_unread c n reading o k.steps other) i);
       live = live_numbers n 0 k.world.subscriptions;
       output = sym (other_text k.names c n reading o k.steps other) i;
     }) in
-    let endpoints : set (view_of k).endpoints c (next_endpoint k w c reading o) ≡ each_number g 0 w.connections =
-    ap (λ (l : EndpointView). set (view_of k).endpoints c l) endpoint
+    let endpoints : set (view_by names k).endpoints c (next_endpoint names k w c reading o) ≡ each_number g 0 w.connections =
+    ap (λ (l : EndpointView). set (view_by names k).endpoints c l) endpoint
     ∙ (ap (λ (n : ℕ). set (each_number f 0 k.world.connections) c (g n)) e
     ∙ each_number-set f g 0 k.world.connections c x there (λ n low high differ. others n differ)) in
-    ap (λ (ls : List EndpointView). record (view_of k) { endpoints = ls }) endpoints
+    ap (λ (ls : List EndpointView). record (view_by names k) { endpoints = ls }) endpoints
 
 -- ---- an idle connection
 
@@ -155,13 +161,13 @@ pub idle_flight : (w : World) (c : ℕ) → first_refusal (needs_idle w c) ≡ N
 idle_flight w c idle = is_none (speaker w c).flight (or_parts _ _ (passes (needs_idle w c) idle).1.1.0).1
 
 -- how far it is
-pub idle_stage : (k : Core) (c : ℕ) (accepted : List RawFrame) (unread : Unread) → first_refusal (needs_idle k.world c) ≡ None
-    → stage_view k.names (connection_at k.world c).standing (speaker k.world c).flight accepted unread
-    ≡ Stage.Open (record { reader = unread; session = held_after k.names accepted; receipt = None })
-idle_stage k c accepted unread idle =
+pub idle_stage : (names : List (List ℕ)) (k : Core) (c : ℕ) (accepted : List RawFrame) (unread : Unread) → first_refusal (needs_idle k.world c) ≡ None
+    → stage_view names (connection_at k.world c).standing (speaker k.world c).flight accepted unread
+    ≡ Stage.Open (record { reader = unread; session = state_of (held_after names accepted); receipt = None })
+idle_stage names k c accepted unread idle =
     let standing = idle_open k.world c idle in
     let flight = idle_flight k.world c idle in
-    λ i. stage_view k.names (standing i) (flight i) accepted unread
+    λ i. stage_view names (standing i) (flight i) accepted unread
 
 -- ---- worlds
 
@@ -170,11 +176,11 @@ same_connection : (w : World) (c : ℕ) → with_connection w c (connection_at w
 same_connection w c = ap (λ (cs : List Connection). record w { connections = cs }) (set-get_or w.connections c nobody)
 
 -- the same where the world is that of before
-pub next_still : (k : Core) (c : ℕ) (reading : Reading) (o : Outcome) → c < length k.world.connections
-    → with_endpoint (view_of k) c (next_endpoint k k.world c reading o) ≡ held_still k k.world c reading o
-next_still k c reading o there =
-    subst (λ (w : World). with_endpoint (view_of k) c (next_endpoint k w c reading o) ≡ held_still k w c reading o) (same_connection k.world c)
-    (next_written k c reading o (connection_at k.world c) there)
+pub next_still : (names : List (List ℕ)) (k : Core) (c : ℕ) (reading : Reading) (o : Outcome) → c < length k.world.connections
+    → with_endpoint (view_by names k) c (next_endpoint names k k.world c reading o) ≡ held_still names k k.world c reading o
+next_still names k c reading o there =
+    subst (λ (w : World). with_endpoint (view_by names k) c (next_endpoint names k w c reading o) ≡ held_still names k w c reading o) (same_connection k.world c)
+    (next_written names k c reading o (connection_at k.world c) there)
 
 -- ---- the step
 
@@ -183,15 +189,20 @@ abbrev pub ReadsUnless : Unread → Reading → Option Objection → Type 0
 ReadsUnless u reading why = elim why [ None ↦ IsReadBy u reading | Some o ↦ reading ≡ Reading.Nothing ]
 
 -- the core may make such a step
+pub next_may : (k : Core) (c : ℕ) (reading : Reading) (o : Outcome) → first_refusal (needs_idle k.world c) ≡ None
+    → IsReadBy (unread_at c k.steps) reading → In o (reading_outcomes k c reading) → MayStep k (next_of c reading o)
+next_may k c reading o idle read may = record {
+  reading = subst (ReadsUnless (unread_at c k.steps) reading) (sym idle) read;
+  outcome = subst (λ (why : Option Objection). In o (unless why (reading_outcomes k c reading))) (sym idle) may;
+}
+
+-- and this is held then
 pub next_makes : (k : Core) (c : ℕ) (reading : Reading) (o : Outcome) (held : View) → first_refusal (needs_idle k.world c) ≡ None
     → IsReadBy (unread_at c k.steps) reading → In o (reading_outcomes k c reading)
     → held ≡ view_after k.names (run (next_moves k c reading o) k.world) (next_of c reading o ∷ k.steps)
     → Makes k (Event.Next c) o held
 next_makes k c reading o held idle read may view = record {
   reading = reading;
-  may = record {
-    reading = subst (ReadsUnless (unread_at c k.steps) reading) (sym idle) read;
-    outcome = subst (λ (why : Option Objection). In o (unless why (reading_outcomes k c reading))) (sym idle) may;
-  };
+  may = next_may k c reading o idle read may;
   view = view;
 }

@@ -1,5 +1,5 @@
 -- A Next whose frame is a SUBSCRIBE or an UNSUBSCRIBE.
-use Rattle.std.proofs.Common.{◌≡◌, ℕ, ◌<◌, true, List, [], ◌∷◌, length, get_or, Option, Some, None, refl, sym, ap, subst, ◌∙◌, arith}
+use Rattle.std.proofs.Common.{◌≡◌, ℕ, ◌<◌, true, false, List, [], ◌∷◌, length, get_or, Option, Some, None, refl, sym, ap, subst, ◌∙◌, arith}
 use Rattle.std.specs.Prelude.{codes}
 use Rattle.std.specs.Option.{option_map, option_map_or}
 use Rattle.std.proofs.lemmas.List.{length-map}
@@ -14,24 +14,26 @@ use Rattle.stomp_frame.specs.Headers.{first_of}
 use Rattle.stomp_frame.specs.Reader.{Unread}
 use Rattle.stomp_session.specs.declared.action.Action.TheVariants as actions
 use Rattle.stomp_session.specs.Answers.{action_by, commit}
-use Rattle.stomp_session.specs.Frames.{id_of, send_of, transaction_of}
+use Rattle.stomp_session.proofs.Later.{with_destination-none}
+use Rattle.stomp_session.specs.Frames.{has_destination, id_of, send_of, transaction_of}
 use Rattle.stomp_session.specs.Open.{Held}
 use Rattle.stomp_session.specs.Refusals.{sends_in}
 use Rattle.delivery.specs.declared.event.Event.{Event}
 use Rattle.delivery.specs.declared.outcome.Outcome.{Outcome}
 use Rattle.delivery.specs.Machine.World.{subscription_at, topic_at}
-use Rattle.delivery.specs.Machine.Moves.{Move, end_now, is_live}
-use Rattle.delivery.specs.Core.Steps.{Reading, accepted_of, number_by}
+use Rattle.delivery.specs.Machine.Moves.{Move, end_now, is_live, move_effect, move_refusal}
+use Rattle.delivery.specs.Core.Steps.{Reading, accepted_of, has_effect, number_by}
 use Rattle.delivery.specs.Core.Output.{sub_id_text, text_out}
-use Rattle.delivery.specs.Core.State.{Core, session_at, unread_at}
+use Rattle.delivery.specs.Core.State.{Core, core_for, names_at, session_at, unread_at}
 use Rattle.delivery.specs.Inner.Nexts.{Asks, receipt_text}
 use Rattle.delivery.specs.Inner.Stands.{Makes}
 use Rattle.delivery.specs.Inner.Subscriptions.{closed_view, left_at, number_in, subscribed_view}
-use Rattle.delivery.specs.Inner.View.{View, EndpointView, LeftView, group_view, written_endpoint, group_in}
+use Rattle.delivery.specs.Inner.View.{View, EndpointView, LeftView, group_view, view_after, view_with, written_endpoint, group_in}
 use Rattle.delivery.proofs.Views.Subscriptions.ClosedIsDropped.{closed_is, closed_end}
 use Rattle.delivery.proofs.Views.Endpoints.EndpointChanges.{with_endpoint}
-use Rattle.delivery.proofs.Views.Events.NextFrames.{move_makes, receipt_is, replied_view}
-use Rattle.delivery.proofs.Views.Events.NextStep.{held_still, idle_reads, idle_there, next_of}
+use Rattle.delivery.proofs.Views.Events.NextFrames.{move_makes, names_for, receipt_is, replied_view, there_for}
+use Rattle.delivery.proofs.Core.FrameWorld.{framed_none, idle_for}
+use Rattle.delivery.proofs.Views.Events.NextStep.{held_still, idle_reads, idle_there, next_of, text_added}
 use Rattle.delivery.proofs.Views.Subscriptions.OpenIsLive.{names_live, subscribe_free, unsubscribe_free}
 use Rattle.delivery.proofs.Views.Subscriptions.NewSubscription.{begun_as, new_id, old_ids, subscribed_is}
 
@@ -78,29 +80,54 @@ pub next_subscribes : (k : Core) (c : ℕ) (f : RawFrame) (left : Unread) (id : 
     → new ≡ subscribed_view c id t mid
     → Makes k (Event.Next c) (Outcome.Subscribed s from) new
 next_subscribes k c f left id t receipt held mid new s from d asks written topic number begins_at is =
-    let w = k.world in
+    let names = names_for k f in let q = core_for k f in let w = q.world in
     let n = length w.subscriptions in
     let y = (topic_at w t).frontier in
     let o = Outcome.Subscribed n y in
     let reading = Reading.Finds f left in
     let steps = next_of c reading o ∷ k.steps in
-    let there = idle_there w c asks.idle in
-    let still : mid ≡ held_still k w c reading o =
+    let idle = idle_for k f c asks.idle in
+    let there = there_for k f c asks.idle in
+    let still : mid ≡ held_still names q w c reading o =
     replied_view k c f left (actions.Subscribe id t) receipt held mid o (receipt_text receipt) d asks refl
     (receipt_is k c f left (actions.Subscribe id t) receipt held asks) written in
     let groups : length mid.groups ≡ length w.topics = ap (λ (v : View). length v.groups) still ∙ length-map w.topics (group_view w) in
     let named : t.0 < length w.topics = omega (arith, topic, groups) in
-    let begun = begun_as k.names w t (λ m. accepted_of m steps) (λ m. unread_at m steps) (λ m. text_out k.names m steps) (λ m. sub_id_text m k.steps) named in
+    let begun = begun_as names w t (λ m. accepted_of m steps) (λ m. unread_at m steps) (λ m. text_out k.names m steps) (λ m. sub_id_text m k.steps) named in
     let same : n ≡ s = sym (number ∙ (ap (λ (v : View). length v.subs) still ∙ begun.0)) in
     let at : y ≡ from = sym (begins_at ∙ (ap (λ (v : View). (group_in v t).topic.frontier) still ∙ begun.1)) in
     let own = new_id c f left n y k.steps ∙ begins f.command (session_at k c) f id t asks.does in
-    let view = subscribed_is k.names w c id t (λ m. accepted_of m steps) (λ m. unread_at m steps) (λ m. text_out k.names m steps) (λ m. sub_id_text m k.steps) (λ m. sub_id_text m steps)
+    let view = subscribed_is names w c id t (λ m. accepted_of m steps) (λ m. unread_at m steps) (λ m. text_out k.names m steps) (λ m. sub_id_text m k.steps) (λ m. sub_id_text m steps)
     there named (old_ids c f left n y k.steps) own in
     subst (λ (p : Outcome). Makes k (Event.Next c) p new) (λ i. Outcome.Subscribed (same i) (at i))
-    (move_makes k c f left (actions.Subscribe id t) receipt held new (Move.Subscribes c t) o asks refl (subscribe_free w c t asks.idle named) refl refl refl
+    (move_makes k c f left (actions.Subscribe id t) receipt held new (Move.Subscribes c t) o asks refl refl (subscribe_free w c t idle named) refl refl refl
     (is ∙ (ap (λ (v : View). subscribed_view c id t v) still ∙ view)))
 
 -- ---- UNSUBSCRIBE
+
+ends_without : (command : Command) → command ≡ commands.Unsubscribe → has_destination command ≡ false
+ends_without command is = ap has_destination is
+
+-- an UNSUBSCRIBE makes no topic
+record EndsHere (k : Core) (f : RawFrame) : Type 0 where
+  names : names_for k f ≡ names_at k
+  core : core_for k f ≡ k
+
+ends_here : (k : Core) (c : ℕ) (f : RawFrame) (id : List ℕ) → action_by f.command (session_at k c) f ≡ actions.Unsubscribe id → EndsHere k f
+ends_here k c f id does =
+    let none = ends_without f.command (ends f.command (session_at k c) f id does).0 in
+    record { names = with_destination-none f (names_at k) none; core = framed_none k f none }
+
+-- its RECEIPT is written to what was held before
+ended_still : (k : Core) (c : ℕ) (f : RawFrame) (left : Unread) (id : List ℕ) (receipt : Option (List ℕ)) (held mid : View) (o : Outcome) (d : EndpointView)
+    → Asks k c f left (actions.Unsubscribe id) receipt held → has_effect o ≡ true
+    → receipt_text receipt ≡ text_added (Reading.Finds f left) o
+    → mid ≡ with_endpoint held c (written_endpoint (receipt_text receipt) (get_or held.endpoints c d))
+    → mid ≡ held_still (names_at k) k k.world c (Reading.Finds f left) o
+ended_still k c f left id receipt held mid o d asks effect text written =
+    let here = ends_here k c f id asks.does in
+    replied_view k c f left (actions.Unsubscribe id) receipt held mid o (receipt_text receipt) d asks effect text written
+    ∙ (λ i. held_still (here.names i) (here.core i) (here.core i).world c (Reading.Finds f left) o)
 
 -- the subscription that an accepted UNSUBSCRIBE names is found, over an endpoint with its RECEIPT
 pub next_finds : (k : Core) (c : ℕ) (f : RawFrame) (left : Unread) (id : List ℕ) (receipt : Option (List ℕ)) (held mid : View) (d : EndpointView)
@@ -112,13 +139,12 @@ next_finds k c f left id receipt held mid d asks written =
     let o = Outcome.Unsubscribed 0 (topic_at w (record { 0 = 0 })).frontier in
     let reading = Reading.Finds f left in
     let steps = next_of c reading o ∷ k.steps in
-    let still : mid ≡ held_still k w c reading o =
-    replied_view k c f left (actions.Unsubscribe id) receipt held mid o (receipt_text receipt) d asks refl
-    (receipt_is k c f left (actions.Unsubscribe id) receipt held asks) written in
+    let still : mid ≡ held_still (names_at k) k w c reading o =
+    ended_still k c f left id receipt held mid o d asks refl (receipt_is k c f left (actions.Unsubscribe id) receipt held asks) written in
     let ended = ends f.command (session_at k c) f id asks.does in
     let live = names_live k c f asks.reached (idle_reads w c asks.idle) ended.0 asks.free in
     ap (λ (v : View). number_in v c id) still
-    ∙ subst (λ (z : List ℕ). number_in (held_still k w c reading o) c z ≡ Some (number_by c z k.steps)) ended.1
+    ∙ subst (λ (z : List ℕ). number_in (held_still (names_at k) k w c reading o) c z ≡ Some (number_by c z k.steps)) ended.1
     (live.found (λ m. accepted_of m steps) (λ m. unread_at m steps) (λ m. text_out k.names m steps))
 
 -- where it ends
@@ -131,14 +157,13 @@ next_leaves k c f left id receipt held mid d asks written =
     let o = Outcome.Unsubscribed 0 (topic_at w (record { 0 = 0 })).frontier in
     let reading = Reading.Finds f left in
     let steps = next_of c reading o ∷ k.steps in
-    let still : mid ≡ held_still k w c reading o =
-    replied_view k c f left (actions.Unsubscribe id) receipt held mid o (receipt_text receipt) d asks refl
-    (receipt_is k c f left (actions.Unsubscribe id) receipt held asks) written in
+    let still : mid ≡ held_still (names_at k) k w c reading o =
+    ended_still k c f left id receipt held mid o d asks refl (receipt_is k c f left (actions.Unsubscribe id) receipt held asks) written in
     let ended = ends f.command (session_at k c) f id asks.does in
     let live = names_live k c f asks.reached (idle_reads w c asks.idle) ended.0 asks.free in
     let n = number_by c (id_of f) k.steps in
     ap (λ (v : View). option_map (λ (x : LeftView). x.to) (left_at (number_by c id k.steps) v)) still
-    ∙ subst (λ (z : List ℕ). option_map (λ (x : LeftView). x.to) (left_at (number_by c z k.steps) (held_still k w c reading o)) ≡ Some (end_now w (number_by c z k.steps))) ended.1
+    ∙ subst (λ (z : List ℕ). option_map (λ (x : LeftView). x.to) (left_at (number_by c z k.steps) (held_still (names_at k) k w c reading o)) ≡ Some (end_now w (number_by c z k.steps))) ended.1
     (closed_end k c n asks.reached live.there live.live (λ m. accepted_of m steps) (λ m. unread_at m steps) (λ m. text_out k.names m steps) (λ m. sub_id_text m k.steps))
 
 -- its RECEIPT is written, and the subscription ends
@@ -156,9 +181,9 @@ next_unsubscribes k c f left id receipt held mid new s to d asks written number 
     let reading = Reading.Finds f left in
     let steps = next_of c reading o ∷ k.steps in
     let there = idle_there w c asks.idle in
-    let still : mid ≡ held_still k w c reading o =
-    replied_view k c f left (actions.Unsubscribe id) receipt held mid o (receipt_text receipt) d asks refl
-    (receipt_is k c f left (actions.Unsubscribe id) receipt held asks) written in
+    let here = ends_here k c f id asks.does in
+    let still : mid ≡ held_still (names_at k) k w c reading o =
+    ended_still k c f left id receipt held mid o d asks refl (receipt_is k c f left (actions.Unsubscribe id) receipt held asks) written in
     let ended = ends f.command (session_at k c) f id asks.does in
     let live = names_live k c f asks.reached (idle_reads w c asks.idle) ended.0 asks.free in
     let same : n ≡ s = some_same _ _ (sym (number ∙ next_finds k c f left id receipt held mid d asks written)) in
@@ -168,6 +193,11 @@ next_unsubscribes k c f left id receipt held mid new s to d asks written number 
     let found : n < length w.subscriptions = subst (λ (z : List ℕ). number_by c z k.steps < length w.subscriptions) ended.1 live.there in
     let alive = subst (λ (z : List ℕ). is_live c (subscription_at w (number_by c z k.steps)) ≡ true) ended.1 live.live in
     let view = closed_is k c n asks.reached there found alive (λ m. accepted_of m steps) (λ m. unread_at m steps) (λ m. text_out k.names m steps) (λ m. sub_id_text m k.steps) in
+    let after : view_with (names_at k) (move_effect w (Move.Unsubscribes c n)) (λ m. accepted_of m steps) (λ m. unread_at m steps) (λ m. text_out k.names m steps) (λ m. sub_id_text m k.steps)
+    ≡ view_after k.names (move_effect (core_for k f).world (Move.Unsubscribes c n)) steps =
+    λ i. view_with (sym here.names i) (move_effect (sym here.core i).world (Move.Unsubscribes c n)) (λ m. accepted_of m steps) (λ m. unread_at m steps) (λ m. text_out k.names m steps) (λ m. sub_id_text m k.steps) in
     subst (λ (p : Outcome). Makes k (Event.Next c) p new) (λ i. Outcome.Unsubscribed (same i) (at i))
-    (move_makes k c f left (actions.Unsubscribe id) receipt held new (Move.Unsubscribes c n) o asks refl (unsubscribe_free w c n asks.idle found alive) refl refl refl
-    (is ∙ (ap (λ (m : ℕ). closed_view m mid) (sym same) ∙ (ap (λ (v : View). closed_view n v) still ∙ view))))
+    (move_makes k c f left (actions.Unsubscribe id) receipt held new (Move.Unsubscribes c n) o asks refl refl
+    (subst (λ (z : Core). move_refusal z.world (Move.Unsubscribes c n) ≡ None) (sym here.core) (unsubscribe_free w c n asks.idle found alive))
+    (ap (λ (z : Core). Some (Outcome.Unsubscribed n (end_now z.world n))) here.core) refl refl
+    (is ∙ (ap (λ (m : ℕ). closed_view m mid) (sym same) ∙ (ap (λ (v : View). closed_view n v) still ∙ (view ∙ after)))))

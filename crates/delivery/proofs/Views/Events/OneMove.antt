@@ -19,7 +19,7 @@ use Rattle.delivery.specs.Machine.Moves.{Move, Answer, move_refusal, move_effect
 use Rattle.delivery.specs.Machine.Runs.{run}
 use Rattle.delivery.specs.Core.Steps.{Reading, accepted_of}
 use Rattle.delivery.specs.Core.Output.{text_out, sub_id_text}
-use Rattle.delivery.specs.Core.State.{Core, moves, unread_at}
+use Rattle.delivery.specs.Core.State.{Core, moves, unread_at, names_at}
 use Rattle.delivery.specs.Core.Outcomes.{outcomes, outcome_of, move_outcome, IsReadAt}
 use Rattle.delivery.specs.Core.Reports.{each_number}
 use Rattle.delivery.specs.Inner.Stands.{Makes, step_of, stage_objection, endpoint_objection}
@@ -136,16 +136,16 @@ some_is_none e = absurd (cc)
 -- the endpoint of a connection that is there
 pub endpoint_is : (k : Core) (c : ℕ) → c < length k.world.connections
     → slice_get (view_of k).endpoints c
-    ≡ Some (endpoint_view k.names k.world c (accepted_of c k.steps) (unread_at c k.steps) (text_out k.names c k.steps))
+    ≡ Some (endpoint_view (names_at k) k.world c (accepted_of c k.steps) (unread_at c k.steps) (text_out k.names c k.steps))
 endpoint_is k c there =
-    let f = λ (n : ℕ). endpoint_view k.names k.world n (accepted_of n k.steps) (unread_at n k.steps) (text_out k.names n k.steps) in
+    let f = λ (n : ℕ). endpoint_view (names_at k) k.world n (accepted_of n k.steps) (unread_at n k.steps) (text_out k.names n k.steps) in
     let n : c < length (each_number f 0 k.world.connections) = omega (arith, there, length-each_number f 0 k.world.connections) in
     slice_get-get_or (each_number f 0 k.world.connections) c (f c) n ∙ ap (λ (x : EndpointView). Some x) (endpoint_at k c (f c) f there)
 
 -- there is none of one that isn't
 pub no_endpoint : (k : Core) (c : ℕ) → length k.world.connections ≤ c → slice_get (view_of k).endpoints c ≡ None
 no_endpoint k c none =
-    let f = λ (n : ℕ). endpoint_view k.names k.world n (accepted_of n k.steps) (unread_at n k.steps) (text_out k.names n k.steps) in
+    let f = λ (n : ℕ). endpoint_view (names_at k) k.world n (accepted_of n k.steps) (unread_at n k.steps) (text_out k.names n k.steps) in
     let n : length (each_number f 0 k.world.connections) ≤ c = omega (arith, none, length-each_number f 0 k.world.connections) in
     slice_get_past (each_number f 0 k.world.connections) c n
 
@@ -157,7 +157,7 @@ open_checked k c =
     elim (bool_cases (nat_lt c (length k.world.connections))) [
       | inl t ↦
           ap endpoint_objection (endpoint_is k c (ltb-true c (length k.world.connections) t))
-          ∙ (standing_objection k.names x.standing (speaker k.world c).flight (accepted_of c k.steps) (unread_at c k.steps)
+          ∙ (standing_objection (names_at k) x.standing (speaker k.world c).flight (accepted_of c k.steps) (unread_at c k.steps)
           ∙ ap checks (sym t))
       | inr f ↦ ap endpoint_objection (no_endpoint k c (ltb-false c (length k.world.connections) f)) ∙ ap checks (sym f)
     ]
@@ -181,7 +181,7 @@ pub checked_open : (k : Core) (c : ℕ) → endpoint_objection (slice_get (view_
 checked_open k c free =
     let x = connection_at k.world c in
     gone_or_busy x.standing
-    (sym (standing_objection k.names x.standing (speaker k.world c).flight (accepted_of c k.steps) (unread_at c k.steps))
+    (sym (standing_objection (names_at k) x.standing (speaker k.world c).flight (accepted_of c k.steps) (unread_at c k.steps))
     ∙ (sym (ap endpoint_objection (endpoint_is k c (checked_there k c free))) ∙ free))
 
 -- ---- endpoints of a list
@@ -228,7 +228,7 @@ pub left_view : (k : Core) (c : ℕ) (parting : Option (List ℕ)) (d : Endpoint
     → record (view_of k) { endpoints = set (view_of k).endpoints c (leaving_endpoint parting (get_or (view_of k).endpoints c d)) }
     ≡ view_after k.names (with_leaving k.world c) k.steps
 left_view k c parting d there is =
-    left_with k.names k.world (λ n. accepted_of n k.steps) (λ n. unread_at n k.steps) (λ n. text_out k.names n k.steps) (λ s. sub_id_text s k.steps) c parting d there is
+    left_with (names_at k) k.world (λ n. accepted_of n k.steps) (λ n. unread_at n k.steps) (λ n. text_out k.names n k.steps) (λ s. sub_id_text s k.steps) c parting d there is
 
 -- ---- text that is written to an endpoint
 

@@ -15,7 +15,7 @@ use Rattle.delivery.specs.Machine.World.{Undecided, Connection, Standing, nobody
 use Rattle.delivery.specs.Machine.Moves.{needs_open}
 use Rattle.delivery.specs.Core.Steps.{Reading, accepted_of}
 use Rattle.delivery.specs.Core.Output.{text_out}
-use Rattle.delivery.specs.Core.State.{Core, unread_at}
+use Rattle.delivery.specs.Core.State.{Core, unread_at, names_at}
 use Rattle.delivery.specs.Core.Outcomes.{unless}
 use Rattle.delivery.specs.Core.Reports.{each_number}
 use Rattle.delivery.specs.Inner.Stands.{Makes, step_of, endpoint_objection}
@@ -92,13 +92,13 @@ piece_makes k c octets d is =
     let unread = λ (n : ℕ). unread_at n k.steps in
     let text = λ (n : ℕ). text_out k.names n k.steps in
     let w = k.world in
-    let f = λ (n : ℕ). endpoint_view k.names w n (accepted n) (unread n) (text n) in
-    let g = λ (n : ℕ). endpoint_view k.names w n (accepted n) (fed_at unread c octets n) (text n) in
+    let f = λ (n : ℕ). endpoint_view (names_at k) w n (accepted n) (unread n) (text n) in
+    let g = λ (n : ℕ). endpoint_view (names_at k) w n (accepted n) (fed_at unread c octets n) (text n) in
     let there = checked_there k c is in
     let x = connection_at w c in
     let endpoint : fed_endpoint octets (f c) ≡ g c =
-    ap (λ (s : Rattle.delivery.specs.declared.stage.Stage.Stage). record (f c) { stage = s }) (fed_standing k.names x.standing (speaker w c).flight (accepted c) (unread c) octets (checked_open k c is))
-    ∙ ap (λ (u : Unread). endpoint_view k.names w c (accepted c) u (text c)) (sym (own unread c octets)) in
+    ap (λ (s : Rattle.delivery.specs.declared.stage.Stage.Stage). record (f c) { stage = s }) (fed_standing (names_at k) x.standing (speaker w c).flight (accepted c) (unread c) octets (checked_open k c is))
+    ∙ ap (λ (u : Unread). endpoint_view (names_at k) w c (accepted c) u (text c)) (sym (own unread c octets)) in
     let old : get_or (view_of k).endpoints c d ≡ f c = endpoint_at k c d f there in
     let e : c ≡ 0 + c = omega arith in
     let endpoints : set (view_of k).endpoints c (fed_endpoint octets (get_or (view_of k).endpoints c d)) ≡ each_number g 0 w.connections =
@@ -106,11 +106,11 @@ piece_makes k c octets d is =
     ∙ (ap (λ (l : EndpointView). set (view_of k).endpoints c l) endpoint
     ∙ (ap (λ (n : ℕ). set (each_number f 0 w.connections) c (g n)) e
     ∙ (each_number-set f g 0 w.connections c x there
-    (λ n low high differ. ap (λ (u : Unread). endpoint_view k.names w n (accepted n) u (text n)) (sym (other unread c octets n (λ same. differ (same ∙ e)))))
+    (λ n low high differ. ap (λ (u : Unread). endpoint_view (names_at k) w n (accepted n) u (text n)) (sym (other unread c octets n (λ same. differ (same ∙ e)))))
     ∙ ap (λ (xs : List Connection). each_number g 0 xs) (set-get_or w.connections c nobody)))) in
     record {
       reading = Reading.Nothing;
       may = record { reading = refl; outcome = rw (ap piece_outcomes (sym (open_checked k c) ∙ is)) (inl refl) };
       view = ap (λ (ls : List EndpointView). record (view_of k) { endpoints = ls }) endpoints
-          ∙ (λ i. view_with k.names w (λ n. sym (append-nil (accepted n)) i) (fed_at unread c octets) (λ n. sym (append-nil (text n)) i) (λ s. Rattle.delivery.specs.Core.Output.sub_id_text s k.steps));
+          ∙ (λ i. view_with (names_at k) w (λ n. sym (append-nil (accepted n)) i) (fed_at unread c octets) (λ n. sym (append-nil (text n)) i) (λ s. Rattle.delivery.specs.Core.Output.sub_id_text s k.steps));
     }

@@ -31,9 +31,9 @@ use Rattle.delivery.specs.declared.sending.Sending.{Sending}
 use Rattle.delivery.specs.Machine.Objections.{Objection, refusal_of}
 use Rattle.delivery.specs.Machine.World.{World, Undecided, SenderState, topic_at, sender_at, speaker, with_sender, with_topic, speaker_number}
 use Rattle.delivery.specs.Machine.Moves.{Move, Answer, move_refusal, needs_connection, is_topic, has_ticket, insert_ticket, undecided_or_none, undecided_at, next_ticket, proposal_fault, or_out_of_memory, propose_effect, propose_answer}
-use Rattle.delivery.specs.Core.Steps.{CoreStep, Reading, accepted_of}
+use Rattle.delivery.specs.Core.Steps.{CoreStep, Reading, accepted_of, has_effect, names_after}
 use Rattle.delivery.specs.Core.Output.{text_out, sub_id_text}
-use Rattle.delivery.specs.Core.State.{Core, unread_at, is_out_of_memory}
+use Rattle.delivery.specs.Core.State.{Core, names_at, unread_at, is_out_of_memory}
 use Rattle.delivery.specs.Core.Outcomes.{move_outcome, outcomes}
 use Rattle.delivery.specs.Inner.Senders.{there_objection, speaker_at, sender_in, gate_of, is_slot, flight_refusal, part_refusal, part_in, taken_sending, taken_sender, put_sender, failed_sender, is_group, propose_refusal_in, taken_view, floor_in, ticket_in, proposed_view, failed_view, IsProposed, no_sender}
 use Rattle.delivery.specs.Inner.Stands.{IsReached, Makes, step_of}
@@ -41,14 +41,14 @@ use Rattle.delivery.specs.Inner.View.{View, SenderView, view_of, view_after, sen
 use Rattle.delivery.proofs.Theorem.AcceptedIsDue.{reached}
 use Rattle.delivery.proofs.Views.Events.DecideStep.{flying_is}
 use Rattle.delivery.proofs.Views.Runs.ByRunOfCore.{by_world}
-use Rattle.delivery.proofs.Views.Endpoints.EndpointsStay.{IsQuiet, quiet_view}
+use Rattle.delivery.proofs.Views.Endpoints.EndpointsStay.{IsQuiet, none_named, quiet_view}
 use Rattle.delivery.proofs.Views.Events.ReleaseStep.{group_at}
 use Rattle.delivery.proofs.Views.Senders.SenderChanges.{speaker_of, sender_of_endpoint}
 use Rattle.delivery.proofs.Views.Senders.SameSeqAndReceipt.{sender_quiet, topic_quiet}
 use Rattle.delivery.proofs.Views.Senders.SlotsOfTopics.{slot_topics, slot_named, held_named, slot_written, ticket_inserted, row_other, row_own, row_none_given}
 use Rattle.delivery.proofs.Views.Endpoints.StandingOfConnection.{differ}
 use Rattle.delivery.proofs.Views.Events.OneMove.{bool_cases, made_world, made_answer}
-use Rattle.delivery.proofs.Views.Events.ConnectionIsThere.{there_checked, is_there, refusal_first, refusal_after, reported, refused_step, refused_outcome, answered_outcome}
+use Rattle.delivery.proofs.Views.Events.ConnectionIsThere.{flying_speaking, there_checked, is_there, refusal_first, refusal_after, reported, refused_step, refused_outcome, answered_outcome}
 use Rattle.delivery.proofs.Views.Senders.TicketsOfTopics.{tickets_are}
 
 -- ---- what stands against it
@@ -239,7 +239,7 @@ unchanged k c s t why was there is refused = go (is_group t (view_of k).groups) 
         let same : taken_sender t (sender_in (view_of k) s) ≡ sender_in (view_of k) s =
         ap (taken_sender t) held ∙ (ap (λ (z : Sending). record (sender_view n x) { sending = z }) kept ∙ sym held) in
         ap (λ (ys : List SenderView). record (view_of k) { senders = ys })
-        (ap (λ (y : SenderView). set (view_of k).senders s y) same ∙ set-get_or (view_of k).senders s no_sender)
+        (ap (λ (y : SenderView). set (view_of k).senders s y) same ∙ set-get_or (view_of k).senders s (no_sender s))
 
 -- one that is refused
 pub propose_refused : (k : Core) (c s : ℕ) (t : Topic) (why : Refusal) → IsReached k → there_objection (slice_get (view_of k).endpoints c) ≡ None → s ≡ speaker_at (view_of k) c
@@ -338,7 +338,8 @@ quiet_proposal : (names : List (List ℕ)) (c : ℕ) (t : Topic) (o : Outcome) (
     → ((d : ℕ) → text_out names d (step_of (Event.Propose c t) Reading.Nothing o ∷ older) ≡ text_out names d older)
     → ((s : ℕ) → sub_id_text s (step_of (Event.Propose c t) Reading.Nothing o ∷ older) ≡ sub_id_text s older)
     → IsQuiet names (step_of (Event.Propose c t) Reading.Nothing o) older
-quiet_proposal names c t o older accepted text ids = record { accepted = accepted; unread = λ d. refl; text = text; ids = ids }
+quiet_proposal names c t o older accepted text ids =
+    record { accepted = accepted; unread = λ d. refl; text = text; ids = ids; named = none_named (names_after names older) (has_effect o) }
 
 proposed_quiet : (names : List (List ℕ)) (c : ℕ) (t : Topic) (n : ℕ) (older : List CoreStep) → IsQuiet names (step_of (Event.Propose c t) Reading.Nothing (Outcome.Proposed n)) older
 proposed_quiet names c t n older =
@@ -392,7 +393,7 @@ with_flight_quiet : (k : Core) (c s : ℕ) (t : Topic) (h : Proposes k c s t) (f
     → record (view_of k) { senders = set (view_of k).senders (speaker_number k.world c) (sender_view (speaker_number k.world c) (with_flight (speaker k.world c) f)) }
     ≡ view_after k.names (with_sender k.world (speaker_number k.world c) (with_flight (speaker k.world c) f)) k.steps
 with_flight_quiet k c s t h f =
-    sender_quiet k c (with_flight (speaker k.world c) f) h.was (is_there k c h.free) refl (λ accepted. sym (ap (λ (o : Option Undecided). pending_receipt accepted o) h.can.is))
+    sender_quiet k c (with_flight (speaker k.world c) f) h.was (is_there k c h.free) (flying_speaking k c h.can.flight h.free h.can.is) refl (λ accepted. sym (ap (λ (o : Option Undecided). pending_receipt accepted o) h.can.is))
     (λ n. accepted_of n k.steps) (λ n. unread_at n k.steps) (λ n. text_out k.names n k.steps) (λ n. sub_id_text n k.steps)
 
 -- ---- a ticket
@@ -434,7 +435,7 @@ proposed_whole k c s t h =
     ∙ ap (λ (m : ℕ). set v.senders m (sender_view n new)) (h.own ∙ speaker_of k c there)))) in
     (λ i. record v { groups = groups i; senders = senders i })
     ∙ (ap (λ (u : View). record u { groups = set u.groups t.0 (group_view w z) }) (with_flight_quiet k c s t h (record f { given = insert_ticket (next_ticket w c t) f.given }))
-    ∙ topic_quiet k.names (with_sender w n new) t z (λ m. accepted_of m k.steps) (λ m. unread_at m k.steps) (λ m. text_out k.names m k.steps) (λ m. sub_id_text m k.steps))
+    ∙ topic_quiet (names_at k) (with_sender w n new) t z (λ m. accepted_of m k.steps) (λ m. unread_at m k.steps) (λ m. text_out k.names m k.steps) (λ m. sub_id_text m k.steps))
 
 -- what the topic answers is what it answers in the world
 fault_is : (k : Core) (c s : ℕ) (t : Topic) (h : Proposes k c s t)

@@ -16,7 +16,7 @@ use Rattle.delivery.specs.Machine.World.{Undecided, SenderState, Standing, conne
 use Rattle.delivery.specs.Machine.Moves.{needs_idle}
 use Rattle.delivery.specs.Core.Steps.{accepted_of}
 use Rattle.delivery.specs.Core.Output.{text_out}
-use Rattle.delivery.specs.Core.State.{Core, unread_at}
+use Rattle.delivery.specs.Core.State.{Core, unread_at, names_at}
 use Rattle.delivery.specs.Core.Reports.{each_number}
 use Rattle.delivery.specs.Inner.Nexts.{is_sending, sending_objection, idle_objection}
 use Rattle.delivery.specs.Inner.Stands.{stage_objection, endpoint_objection}
@@ -108,7 +108,7 @@ idle_checked k c =
     let w = k.world in
     let x = connection_at w c in
     let none = views.no_endpoint in
-    let f = λ (n : ℕ). endpoint_view k.names w n (accepted_of n k.steps) (unread_at n k.steps) (text_out k.names n k.steps) in
+    let f = λ (n : ℕ). endpoint_view (names_at k) w n (accepted_of n k.steps) (unread_at n k.steps) (text_out k.names n k.steps) in
     let flying = is_some (speaker w c).flight in
     let checks = λ (b : Bool). first_refusal ((not b, Objection.NoConn) ∷ (is_gone x.standing, Objection.Gone) ∷ (not (is_reading x.standing) || flying, Objection.Busy) ∷ []) in
     elim (bool_cases (nat_lt c (length w.connections))) [
@@ -117,7 +117,7 @@ idle_checked k c =
           ap (λ (o : Option EndpointView). option_or (endpoint_objection o) (sending_objection (view_of k).senders (number_among (view_of k).senders (get_or (view_of k).endpoints c none)))) (endpoint_is k c there)
           ∙ (ap (λ (l : EndpointView). option_or (stage_objection (f c).stage) (sending_objection (view_of k).senders (number_among (view_of k).senders l))) (endpoint_at k c none f there)
           ∙ (ap (λ (b : Bool). option_or (stage_objection (f c).stage) (cond b (Some Objection.Busy) None)) (ap (λ (n : ℕ). is_sending (slice_get (view_of k).senders (unwrap_or x.sender n))) (length-each_number (λ n. sender_view n (sender_at w n)) 0 w.senders) ∙ sending_is k (speaker_number w c))
-          ∙ (standing_idle k.names x.standing (speaker w c).flight (accepted_of c k.steps) (unread_at c k.steps) flying
+          ∙ (standing_idle (names_at k) x.standing (speaker w c).flight (accepted_of c k.steps) (unread_at c k.steps) flying
           ∙ ap checks (sym t)))))
       | inr n ↦
           ap (λ (o : Option EndpointView). option_or (endpoint_objection o) (sending_objection (view_of k).senders (number_among (view_of k).senders (get_or (view_of k).endpoints c none))))

@@ -29,7 +29,7 @@ use Rattle.delivery.specs.Machine.Observed.{accepted_at, end_at, entry_items, en
 use Rattle.delivery.specs.Core.Steps.{Reading, accepted_of}
 use Rattle.delivery.specs.Core.Account.{account_of, beginning_of, next_item, no_item}
 use Rattle.delivery.specs.Core.Output.{text_out, sub_id_text, item_messages}
-use Rattle.delivery.specs.Core.State.{Core, unread_at}
+use Rattle.delivery.specs.Core.State.{Core, unread_at, names_at}
 use Rattle.delivery.specs.Core.Outcomes.{unless, move_outcome}
 use Rattle.delivery.specs.Core.Reports.{each_number}
 use Rattle.delivery.specs.Inner.Stands.{IsReached, Makes, step_of, endpoint_objection}
@@ -342,7 +342,7 @@ written_other k s replies reached l n other =
 -- the view of the world after a take, with these texts
 abbrev taken_view : Core → ℕ → (ℕ → List ℕ) → View
 taken_view k s text =
-    view_with k.names (taken_world k.world s) (λ c. accepted_of c k.steps) (λ c. unread_at c k.steps) text (λ n. sub_id_text n k.steps)
+    view_with (names_at k) (taken_world k.world s) (λ c. accepted_of c k.steps) (λ c. unread_at c k.steps) text (λ n. sub_id_text n k.steps)
 
 -- what is held after it, where its MESSAGEs were written
 item_view : (k : Core) (s : ℕ) (item : Item) (text : ℕ → List ℕ) → IsReached k → (m : MayTake k s)
@@ -385,11 +385,11 @@ item_view k s item text reached m l own others =
     endpoints : set v.endpoints c (written_endpoint (flat_map spelling_of (item_messages x.id item)) (get_or v.endpoints c no_endpoint)) ≡ (taken_view k s text).endpoints
     endpoints =
         ap (λ (z : View). z.endpoints)
-        (written_with k.names w (λ n. accepted_of n k.steps) (λ n. unread_at n k.steps) (λ n. text_out k.names n k.steps) text (λ n. sub_id_text n k.steps)
+        (written_with (names_at k) w (λ n. accepted_of n k.steps) (λ n. unread_at n k.steps) (λ n. text_out k.names n k.steps) text (λ n. sub_id_text n k.steps)
         c (flat_map spelling_of (item_messages x.id item)) no_endpoint m.connection own others)
         ∙ (λ i. each_number (λ n. record {
           sender = (connection_at w n).sender;
-          stage = stage_view k.names (connection_at w n).standing (speaker w n).flight (accepted_of n k.steps) (unread_at n k.steps);
+          stage = stage_view (names_at k) (connection_at w n).standing (speaker w n).flight (accepted_of n k.steps) (unread_at n k.steps);
           live = taken_live w s n i;
           output = text n;
         }) 0 w.connections)
@@ -423,7 +423,7 @@ take_item k s item reached free due =
             (in_outcome k (Move.Takes s) (Outcome.Handed (length item.sends)) (Answer.Handed s item) answered refl));
       };
       view = item_view k s item text reached m l own (written_other k s replies reached m.queue.there)
-          ∙ ((λ i. view_with k.names (taken_world w s) (λ n. sym (append-nil (accepted_of n k.steps)) i) (λ n. unread_at n k.steps) text (λ n. sub_id_text n k.steps))
+          ∙ ((λ i. view_with (names_at k) (taken_world w s) (λ n. sym (append-nil (accepted_of n k.steps)) i) (λ n. unread_at n k.steps) text (λ n. sub_id_text n k.steps))
           ∙ ap (λ (z : World). view_after k.names z (step ∷ k.steps)) (sym (made_world w (Move.Takes s) unrefused ∙ ap (take_effect w s) first)));
     }
 
@@ -475,8 +475,8 @@ take_lags k s reached free none lagged =
     let own = written_own k s (lag_error ∷ []) reached m.queue.there
     ∙ ap (λ (t : List ℕ). text_out k.names c k.steps ++ t) (append-nil (spelling_of lag_error)) in
     let parting : parting_receipt (accepted c) ≡ None = ap (λ (f : Option RawFrame). option_and_then receipt_of f) (not_parting k c reached m.reads) in
-    let written : after_error (view_of k) c ≡ view_with k.names w accepted unread text ids =
-    written_with k.names w accepted unread (λ n. text_out k.names n k.steps) text ids c (spelling_of lag_error) no_endpoint m.connection own
+    let written : after_error (view_of k) c ≡ view_with (names_at k) w accepted unread text ids =
+    written_with (names_at k) w accepted unread (λ n. text_out k.names n k.steps) text ids c (spelling_of lag_error) no_endpoint m.connection own
     (written_other k s (lag_error ∷ []) reached m.queue.there) in
     let answered = made_answer w (Move.Takes s) unrefused ∙ ap (take_answer w s) last in
     record {
@@ -488,8 +488,8 @@ take_lags k s reached free none lagged =
       };
       view = ap (λ (x : SubView). after_lag (view_of k) x.connection) (sub_is k s m.queue.there)
           ∙ (ap (λ (v : View). record v { endpoints = set v.endpoints c (leaving_endpoint None (get_or v.endpoints c no_endpoint)) }) written
-          ∙ (left_with k.names w accepted unread text ids c None no_endpoint m.connection parting
-          ∙ ((λ i. view_with k.names (with_leaving w c) (λ n. sym (append-nil (accepted n)) i) unread text ids)
+          ∙ (left_with (names_at k) w accepted unread text ids c None no_endpoint m.connection parting
+          ∙ ((λ i. view_with (names_at k) (with_leaving w c) (λ n. sym (append-nil (accepted n)) i) unread text ids)
           ∙ ap (λ (z : World). view_after k.names z (step ∷ k.steps)) (sym (made_world w (Move.Takes s) unrefused ∙ ap (take_effect w s) last)))));
     }
 

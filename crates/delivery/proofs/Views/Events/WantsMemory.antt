@@ -25,21 +25,22 @@ use Rattle.delivery.specs.declared.connection_fault.ConnectionFault.{ConnectionF
 use Rattle.delivery.specs.declared.outcome.Outcome.{Outcome}
 use Rattle.delivery.specs.Machine.Objections.{Objection}
 use Rattle.delivery.specs.Machine.Moves.{Answer, Move, end_now, move_answer, move_refusal}
+use Rattle.delivery.specs.Core.Claims.{claims_of, claimed_sender}
 use Rattle.delivery.specs.Core.Steps.{Reading, number_by}
 use Rattle.delivery.specs.Core.Output.{next_replies, receipts_of}
-use Rattle.delivery.specs.Core.State.{Core, frame_move, session_at, unread_at}
-use Rattle.delivery.specs.Core.Outcomes.{accepted_outcomes, fault_outcomes, frame_fault, frame_no_memory, frame_outcome, is_any, move_outcome, outcome_of, outcomes_without, reading_outcomes, wants_memory}
+use Rattle.delivery.specs.Core.State.{Core, core_for, frame_move, session_at, unread_at}
+use Rattle.delivery.specs.Core.Outcomes.{accepted_outcomes, claim_fault, fault_outcomes, frame_fault, frame_no_memory, frame_outcome, is_any, move_outcome, outcome_of, outcomes_without, reading_outcomes, wants_memory}
 use Rattle.delivery.specs.Inner.Nexts.{Asks, MayLack}
 use Rattle.delivery.specs.Inner.View.{View}
-use Rattle.delivery.proofs.Core.ReadingsShown.{unrefused}
-use Rattle.delivery.proofs.Views.Events.NextFaults.{asked_objection, fault_is}
+use Rattle.delivery.proofs.Core.ClaimsStand.{unobjected}
+use Rattle.delivery.proofs.Views.Events.NextFaults.{asked_claim, asked_objection, fault_is}
 use Rattle.delivery.proofs.Views.Events.NextFrames.{connects}
 use Rattle.delivery.proofs.Views.Events.OneMove.{made_answer}
 
 -- ---- by its session, or by its reply
 
 -- its session takes memory for it
-by_session : (k : Core) (c : ℕ) (f : RawFrame) → takes_memory f.command (session_at k c) f ≡ true → MayLack k c f
+pub by_session : (k : Core) (c : ℕ) (f : RawFrame) → takes_memory f.command (session_at k c) f ≡ true → MayLack k c f
 by_session k c f e none = ap (λ (b : Bool). b || list_any (λ o. is_any (next_replies (Some f) o)) (frame_outcome k c f)) e
 
 or_late : (a b : Bool) → b ≡ true → (a || b) ≡ true
@@ -68,15 +69,28 @@ asked_receipt (Some id) asked e some = ap (λ (r : Option (List ℕ)). is_any (o
 is_done : (k : Core) (c : ℕ) (f : RawFrame) (action : Action) → action_by f.command (session_at k c) f ≡ action → frame_move k c action ≡ None
     → frame_outcome k c f ≡ Outcome.Done ∷ []
 is_done k c f action does none =
-    ap (λ (m : Option Move). option_map_or (move_outcome k) m (Outcome.Done ∷ [])) (ap (frame_move k c) does ∙ none)
+    ap (λ (m : Option Move). option_map_or (move_outcome (core_for k f)) m (Outcome.Done ∷ [])) (ap (frame_move k c) does ∙ none)
+
+-- the outcome of a move that isn't refused
+moved_outcome : (k : Core) (c : ℕ) (f : RawFrame) (m : Move) (o : Outcome) → frame_fault k c f ≡ None
+    → frame_move k c (action_by f.command (session_at k c) f) ≡ Some m → outcome_of (move_answer (core_for k f).world m) ≡ Some o
+    → frame_outcome k c f ≡ o ∷ []
+moved_outcome k c f m o none move answer =
+    let free : move_refusal (core_for k f).world m ≡ None =
+    sym (ap (λ (x : Option Move). option_and_then (λ y. move_refusal (core_for k f).world y) x) move)
+    ∙ (unobjected (case_fault f) (session_fault (session_at k c) f) (asked_claim k c f) (asked_objection k c f) none).1 in
+    ap (λ (x : Option Move). option_map_or (move_outcome (core_for k f)) x (Outcome.Done ∷ [])) move
+    ∙ (ap (λ (a : Answer). option_to_list (outcome_of a)) (made_answer (core_for k f).world m free)
+    ∙ ap (λ (x : Option Outcome). option_to_list x) answer)
 
 -- ---- each frame
 
 -- a CONNECT is answered by CONNECTED
-pub connect_wants : (k : Core) (c : ℕ) (f : RawFrame) (left : Unread) (receipt : Option (List ℕ)) (held : View)
-    → Asks k c f left actions.Connected receipt held → MayLack k c f
-connect_wants k c f left receipt held asks none =
-    by_reply k c f Outcome.Done (is_done k c f actions.Connected asks.does refl)
+pub connect_wants : (k : Core) (c : ℕ) (f : RawFrame) (left : Unread) (client receipt : Option (List ℕ)) (held : View)
+    → Asks k c f left (actions.Connected client) receipt held → MayLack k c f
+connect_wants k c f left client receipt held asks none =
+    by_reply k c f Outcome.Done
+    (moved_outcome k c f (Move.Connects c (claimed_sender client (claims_of k.steps))) Outcome.Done none (ap (frame_move k c) asks.does) refl)
     (ap (λ (b : Bool). is_any (cond b (connected_frame ∷ []) (receipts_of f))) (connects f.command (session_at k c) f refl asks.does))
 
 any_either : (b : Bool) (os : List RawFrame) → is_any os ≡ true → is_any (cond b (connected_frame ∷ []) os) ≡ true
@@ -137,13 +151,13 @@ end_wants k c f left id receipt held asks some none =
     let n = number_by c id k.steps in
     let m = Move.Unsubscribes c n in
     let move : frame_move k c (action_by f.command (session_at k c) f) ≡ Some m = ap (frame_move k c) asks.does in
-    let free : move_refusal k.world m ≡ None =
-    sym (ap (λ (x : Option Move). option_and_then (λ y. move_refusal k.world y) x) move)
-    ∙ unmapped (asked_objection k c f) (sym (fault_is k c f asks.cased asks.free) ∙ none) in
-    let outcome : frame_outcome k c f ≡ Outcome.Unsubscribed n (end_now k.world n) ∷ [] =
-    ap (λ (x : Option Move). option_map_or (move_outcome k) x (Outcome.Done ∷ [])) move
-    ∙ ap (λ (a : Answer). option_to_list (outcome_of a)) (made_answer k.world m free) in
-    by_reply k c f (Outcome.Unsubscribed n (end_now k.world n)) outcome (asked_receipt receipt (receipt_of f) asks.wants some)
+    let free : move_refusal (core_for k f).world m ≡ None =
+    sym (ap (λ (x : Option Move). option_and_then (λ y. move_refusal (core_for k f).world y) x) move)
+    ∙ unmapped (asked_objection k c f) (sym (fault_is k c f asks.cased asks.free (ap (claim_fault k) asks.does)) ∙ none) in
+    let outcome : frame_outcome k c f ≡ Outcome.Unsubscribed n (end_now (core_for k f).world n) ∷ [] =
+    ap (λ (x : Option Move). option_map_or (move_outcome (core_for k f)) x (Outcome.Done ∷ [])) move
+    ∙ ap (λ (a : Answer). option_to_list (outcome_of a)) (made_answer (core_for k f).world m free) in
+    by_reply k c f (Outcome.Unsubscribed n (end_now (core_for k f).world n)) outcome (asked_receipt receipt (receipt_of f) asks.wants some)
 
 -- ---- which never do: a core that answers 72 to one of these is refused by its contract
 
@@ -161,18 +175,6 @@ without_reply k c f o takes is none =
 
 no_receipt : (f : RawFrame) → receipt_of f ≡ None → is_any (receipts_of f) ≡ false
 no_receipt f e = ap (λ (r : Option (List ℕ)). is_any (option_map_or (λ id. receipt_frame id ∷ []) r [])) e
-
--- the outcome of a move that isn't refused
-moved_outcome : (k : Core) (c : ℕ) (f : RawFrame) (m : Move) (o : Outcome) → frame_fault k c f ≡ None
-    → frame_move k c (action_by f.command (session_at k c) f) ≡ Some m → outcome_of (move_answer k.world m) ≡ Some o
-    → frame_outcome k c f ≡ o ∷ []
-moved_outcome k c f m o none move answer =
-    let free : move_refusal k.world m ≡ None =
-    sym (ap (λ (x : Option Move). option_and_then (λ y. move_refusal k.world y) x) move)
-    ∙ unrefused (case_fault f) (session_fault (session_at k c) f) (asked_objection k c f) none in
-    ap (λ (x : Option Move). option_map_or (move_outcome k) x (Outcome.Done ∷ [])) move
-    ∙ (ap (λ (a : Answer). option_to_list (outcome_of a)) (made_answer k.world m free)
-    ∙ ap (λ (x : Option Outcome). option_to_list x) answer)
 
 -- a DISCONNECT
 pub disconnect_never : (k : Core) (c : ℕ) (f : RawFrame) → f.command ≡ commands.Disconnect → frame_fault k c f ≡ None
@@ -193,8 +195,8 @@ pub unsubscribe_never : (k : Core) (c : ℕ) (f : RawFrame) → f.command ≡ co
     → wants_memory k c f ≡ false
 unsubscribe_never k c f is unasked none =
     let n = number_by c (id_of f) k.steps in
-    without_reply k c f (Outcome.Unsubscribed n (end_now k.world n)) (ap (λ (x : Command). takes_memory x (session_at k c) f) is)
-    (moved_outcome k c f (Move.Unsubscribes c n) (Outcome.Unsubscribed n (end_now k.world n)) none
+    without_reply k c f (Outcome.Unsubscribed n (end_now (core_for k f).world n)) (ap (λ (x : Command). takes_memory x (session_at k c) f) is)
+    (moved_outcome k c f (Move.Unsubscribes c n) (Outcome.Unsubscribed n (end_now (core_for k f).world n)) none
     (ap (λ (x : Command). frame_move k c (action_by x (session_at k c) f)) is) refl)
     (no_receipt f unasked)
 

@@ -26,10 +26,10 @@ use Rattle.delivery.specs.declared.stage.Stage.{Stage}
 use Rattle.delivery.specs.Machine.Objections.{Objection, refusal_of}
 use Rattle.delivery.specs.Machine.World.{World, Undecided, SenderState, Connection, Standing, is_reading, is_gone, nobody, connection_at, sender_at, speaker, with_sender, speaker_number}
 use Rattle.delivery.specs.Machine.Moves.{Move, Answer, move_refusal, needs_connection, undecided_or_none, undecided_at, leftover, with_leaving}
-use Rattle.delivery.specs.Core.Account.{account_of, last_id}
+use Rattle.delivery.specs.Core.Account.{account_of, last_of}
 use Rattle.delivery.specs.Core.Output.{has_closed, receipt_asked, commit_frame, failed_title, replies_to, text_out}
 use Rattle.delivery.specs.Core.Steps.{Reading, accepted_of}
-use Rattle.delivery.specs.Core.State.{Core, unread_at}
+use Rattle.delivery.specs.Core.State.{Core, unread_at, names_at}
 use Rattle.delivery.specs.Core.Reports.{each_number}
 use Rattle.delivery.specs.Core.Outcomes.{move_outcome, is_any}
 use Rattle.delivery.specs.Inner.Senders.{gone_objection, there_objection, speaker_at, sender_in, withdraw_refusal, failure_of, withdrawn_sender, withdrawn_view, reads_frames, shut_stage, with_error, refused_endpoint, refused_view}
@@ -40,11 +40,11 @@ use Rattle.delivery.proofs.Views.Endpoints.SpeakerAndEnd.{closed_is}
 use Rattle.delivery.proofs.Views.Events.DecideStep.{set_twice}
 use Rattle.delivery.proofs.Views.Senders.LastFailure.{failed_is}
 use Rattle.delivery.proofs.Views.Endpoints.DisconnectIsLast.{not_parting}
-use Rattle.delivery.proofs.Views.Senders.SenderChanges.{number_set, endpoint_of_flight, flight_kept, speaker_of, endpoint_of, sender_of_endpoint, speaker_there, senders_with}
+use Rattle.delivery.proofs.Views.Senders.SenderChanges.{number_set, endpoint_of_stage, stage_kept, speaker_of, endpoint_of, sender_of_endpoint, speaker_there, senders_with}
 use Rattle.delivery.proofs.Views.Senders.SameSeqAndReceipt.{lists_kept}
 use Rattle.delivery.proofs.Views.Endpoints.StandingOfConnection.{differ}
 use Rattle.delivery.proofs.Views.Events.OneMove.{endpoint_is, made_world, made_answer, left_view}
-use Rattle.delivery.proofs.Views.Events.ConnectionIsThere.{there_checked, is_there, refusal_first, refusal_after, reported, refused_step, refused_outcome, answered_outcome, replied_in, cut_in}
+use Rattle.delivery.proofs.Views.Events.ConnectionIsThere.{flying_speaking, there_checked, is_there, refusal_first, refusal_after, reported, refused_step, refused_outcome, answered_outcome, replied_in, cut_in}
 
 -- ---- what stands against it
 
@@ -193,10 +193,10 @@ replies_are k c s cut h =
     let account = account_of k.names k.steps in
     let there = is_there k c h.free in
     let receipt = receipt_asked (commit_frame (accepted_of c k.steps)) in
-    let title : failed_title (last_id c account) account ≡ propose_title h.can.fault =
-    ap (λ (id : TxnId). failed_title id account) (last_is k c h.can.flight h.was there h.can.is) ∙ failed_is k c h.can.flight h.can.fault h.was h.can.is h.can.marked in
-    ap (λ (b : Bool). cond (b && not (has_closed c account)) (error_frame (failed_title (last_id c account) account) receipt false ∷ []) []) (eq-eqb c c refl)
-    ∙ (ap (λ (b : Bool). cond (not b) (error_frame (failed_title (last_id c account) account) receipt false ∷ []) []) (closed_is k c h.was there)
+    let title : failed_title (last_of c k.steps account) account ≡ propose_title h.can.fault =
+    ap (λ (id : TxnId). failed_title id account) (last_is k c h.can.flight h.was h.can.is) ∙ failed_is k c h.can.flight h.can.fault h.was h.can.is h.can.marked in
+    ap (λ (b : Bool). cond (b && not (has_closed c account)) (error_frame (failed_title (last_of c k.steps account) account) receipt false ∷ []) []) (eq-eqb c c refl)
+    ∙ (ap (λ (b : Bool). cond (not b) (error_frame (failed_title (last_of c k.steps account) account) receipt false ∷ []) []) (closed_is k c h.was there)
     ∙ ap (λ (m : List ℕ). cond (not (not (is_reading (connection_at k.world c).standing))) (error_frame m receipt false ∷ []) []) title)
 
 -- ---- what is held
@@ -216,11 +216,12 @@ withdrawn_whole k c s cut h =
     let step = step_of (Event.Withdraw c) Reading.Nothing (Outcome.Withdrawn cut) in
     let after : Core = record { names = k.names; world = u; steps = step ∷ k.steps } in
     let there = is_there k c h.free in
-    let known = speaker_there k c h.was there in
+    let speaking = flying_speaking k c f h.free h.can.is in
+    let known = speaker_there k c h.was speaking in
     let standing = (connection_at w c).standing in
     let account = account_of k.names k.steps in
-    let old = λ (m : ℕ). endpoint_view k.names w m (accepted_of m k.steps) (unread_at m k.steps) (text_out k.names m k.steps) in
-    let new = λ (m : ℕ). endpoint_view k.names u m (accepted_of m (step ∷ k.steps)) (unread_at m k.steps) (text_out k.names m (step ∷ k.steps)) in
+    let old = λ (m : ℕ). endpoint_view (names_at k) w m (accepted_of m k.steps) (unread_at m k.steps) (text_out k.names m k.steps) in
+    let new = λ (m : ℕ). endpoint_view (names_at k) u m (accepted_of m (step ∷ k.steps)) (unread_at m k.steps) (text_out k.names m (step ∷ k.steps)) in
     let accepted = accepted_of c k.steps in
     let unread = unread_at c k.steps in
     let text = text_out k.names c k.steps in
@@ -232,20 +233,21 @@ withdrawn_whole k c s cut h =
     ∙ senders_with w n x known)) in
     let texts : cond cut text (with_error message text (old c).stage) ≡ text_out k.names c (step ∷ k.steps) =
     error_or_none cut more (with_error message text (old c).stage) text
-    (ap (λ (o : Option Undecided). with_error message text (stage_view k.names standing o accepted unread)) h.can.is
-    ∙ (error_text k.names standing f accepted unread message text
+    (ap (λ (o : Option Undecided). with_error message text (stage_view (names_at k) standing o accepted unread)) h.can.is
+    ∙ (error_text (names_at k) standing f accepted unread message text
     ∙ ap (λ (fs : List RawFrame). text ++ flat_map spelling_of fs) (sym (replies_are k c s cut h)))) in
-    let gone : is_gone standing ≡ false = not_gone k.names standing (speaker w c).flight accepted unread
+    let gone : is_gone standing ≡ false = not_gone (names_at k) standing (speaker w c).flight accepted unread
     (sym (ap there_objection (endpoint_is k c there)) ∙ h.free) in
     let none : is_reading standing ≡ true → parting_receipt accepted ≡ None = λ reads. ap (λ (o : Option RawFrame). option_and_then receipt_of o) (not_parting k c h.was reads) in
     let parting = parting_receipt (accepted_of c (step ∷ k.steps)) in
     let stages : shut_stage (old c).stage ≡ Stage.Leaving parting =
-    shut_is k.names standing (speaker w c).flight accepted unread gone none
+    shut_is (names_at k) standing (speaker w c).flight accepted unread gone none
     ∙ ap (λ (fs : List RawFrame). Stage.Leaving (parting_receipt fs)) (sym (append-nil accepted)) in
     let endpoint : refused_endpoint cut message (old c) ≡ leaving_endpoint parting (new c) = λ i. record (old c) { stage = stages i; output = texts i } in
     let others : (m : ℕ) → m < length w.connections → m ≢ c → old m ≡ new m = λ m within other.
-    endpoint_of_flight k.names w u m (accepted_of m k.steps) (unread_at m k.steps) (text_out k.names m k.steps) refl refl (flight_kept k c m x h.was there within other)
-    ∙ (λ i. endpoint_view k.names u m (sym (append-nil (accepted_of m k.steps)) i) (unread_at m k.steps) (sym (silent m other) i)) in
+    endpoint_of_stage (names_at k) w u m (accepted_of m k.steps) (unread_at m k.steps) (text_out k.names m k.steps) refl refl
+    (stage_kept k c m x h.was speaking other (names_at k) (accepted_of m k.steps) (unread_at m k.steps))
+    ∙ (λ i. endpoint_view (names_at k) u m (sym (append-nil (accepted_of m k.steps)) i) (unread_at m k.steps) (sym (silent m other) i)) in
     let changed : set (each_number old 0 w.connections) c (new c) ≡ each_number new 0 w.connections =
     number_set old new w.connections c (connection_at w c) there others
     ∙ ap (λ (ys : List Connection). each_number new 0 ys) (set-get_or w.connections c nobody) in
@@ -255,7 +257,7 @@ withdrawn_whole k c s cut h =
     ∙ (sym (set_twice v.endpoints c (new c) (leaving_endpoint parting (new c)))
     ∙ (ap (λ (ls : List EndpointView). set ls c (leaving_endpoint parting (new c))) changed
     ∙ ap (λ (l : EndpointView). set (view_of after).endpoints c (leaving_endpoint parting l)) (sym (endpoint_of after c no_endpoint there))))) in
-    (λ i. record v { senders = senders i; verdicts = lists_kept k c x h.was there refl i; endpoints = endpoints i })
+    (λ i. record v { senders = senders i; verdicts = lists_kept k c x h.was speaking refl i; endpoints = endpoints i })
     ∙ left_view after c parting no_endpoint there refl
   where
     quiet_text : (b : Bool) (text : List ℕ) → text ++ cond b [] [] ≡ text
@@ -266,7 +268,7 @@ withdrawn_whole k c s cut h =
     silent m other =
         let account = account_of k.names k.steps in
         ap (λ (b : Bool). text_out k.names m k.steps ++ cond cut [] (flat_map spelling_of (cond (b && not (has_closed m account))
-        (error_frame (failed_title (last_id m account) account) (receipt_asked (commit_frame (accepted_of m k.steps))) false ∷ []) []))) (differ c m (λ z. other (sym z)))
+        (error_frame (failed_title (last_of m k.steps account) account) (receipt_asked (commit_frame (accepted_of m k.steps))) false ∷ []) []))) (differ c m (λ z. other (sym z)))
         ∙ quiet_text cut (text_out k.names m k.steps)
 
 -- ---- the event
@@ -304,7 +306,7 @@ withdraw_makes k c s fault cut was free own allowed kept asked =
     replied k c s false h outcome asked = replied_in k c (Event.Withdraw c) (Move.Withdraws c) (Outcome.Withdrawn false) outcome
     replied k c s true h outcome asked =
         let there = is_there k c h.free in
-        let reads = open_reads k.names (connection_at k.world c).standing (speaker k.world c).flight (accepted_of c k.steps) (unread_at c k.steps)
+        let reads = open_reads (names_at k) (connection_at k.world c).standing (speaker k.world c).flight (accepted_of c k.steps) (unread_at c k.steps)
         (ap (λ (l : EndpointView). reads_frames l.stage) (sym (endpoint_of k c no_endpoint there)) ∙ asked refl) in
         cut_in k c (Event.Withdraw c) (Move.Withdraws c) (Outcome.Withdrawn false) outcome
         (ap is_any (replies_are k c s false h) ∙ ap (λ (b : Bool). is_any (cond (not (not b)) (error_of k c h.can.fault ∷ []) [])) reads)

@@ -6,16 +6,17 @@ use Rattle.std.proofs.lemmas.Option.{slice_get-get_or}
 use Rattle.mcast_group.specs.declared.fault.NoSub.{NoSub}
 use Rattle.mcast_group.specs.Machine.{Entry}
 use Rattle.mcast_group.proofs.Parts.{none_some}
-use Rattle.delivery.specs.Machine.World.{Undecided, sender_at, speaker, subscription_at, entry_at, speaker_number}
+use Rattle.delivery.specs.Machine.World.{Undecided, sender_at, speaker, subscription_at, entry_at}
 use Rattle.delivery.specs.Machine.Moves.{undecided_or_none}
 use Rattle.delivery.specs.Machine.Observed.{accepted_at}
 use Rattle.delivery.specs.Theorem.Laws.{final_world}
-use Rattle.delivery.specs.Core.Account.{account_of, last_id, beginning_of, next_item, no_item}
+use Rattle.delivery.specs.Core.Account.{account_of, last_of, beginning_of, next_item, no_item}
 use Rattle.delivery.specs.Core.State.{Core}
 use Rattle.delivery.specs.Inner.Stands.{IsReached}
 use Rattle.delivery.proofs.Theorem.NeverRefused.{entries_are_there}
-use Rattle.delivery.proofs.Core.AccountOfRun.{spoken, undecided_is, next_item_is, connection_is}
-use Rattle.delivery.proofs.Views.Runs.ByRunOfCore.{by_world, by_account, own_sender}
+use Rattle.delivery.proofs.Core.AccountOfRun.{Own, spoken, undecided_is, next_item_is, connection_is}
+use Rattle.delivery.proofs.Views.Runs.ByRunOfCore.{by_world, by_account, stand_of}
+use Rattle.delivery.proofs.Core.ClaimsStand.{claims_own}
 
 -- the id of a sender's undecided transaction is its last
 pub flight_id : (k : Core) (s : ℕ) (f : Undecided) → IsReached k → (sender_at k.world s).flight ≡ Some f
@@ -25,14 +26,13 @@ flight_id k s f reached =
     (λ r. (spoken r).speaking.flying s f)
 
 -- so the account has it as its connection's last
-pub last_is : (k : Core) (c : ℕ) (f : Undecided) → IsReached k → c < length k.world.connections
-    → (speaker k.world c).flight ≡ Some f → last_id c (account_of k.names k.steps) ≡ f.txn.id
+pub last_is : (k : Core) (c : ℕ) (f : Undecided) → IsReached k → (speaker k.world c).flight ≡ Some f → last_of c k.steps (account_of k.names k.steps) ≡ f.txn.id
 last_is k c f reached =
     by_account
-    (λ account w. ((d : ℕ) → d < length w.connections → speaker_number w d ≡ d) → c < length w.connections → (speaker w c).flight ≡ Some f → last_id c account ≡ f.txn.id)
+    (λ account w. Own w k.steps → (speaker w c).flight ≡ Some f → last_of c k.steps account ≡ f.txn.id)
     k reached
-    (λ r whose l e. sym (undecided_is r c whose l (ap (λ (o : Option Undecided). not (is_some o)) e)) ∙ ap (λ (o : Option Undecided). (undecided_or_none o).txn.id) e)
-    (λ d. own_sender k d reached)
+    (λ r whose e. sym (undecided_is r k.steps c whose (ap (λ (o : Option Undecided). not (is_some o)) e)) ∙ ap (λ (o : Option Undecided). (undecided_or_none o).txn.id) e)
+    (claims_own k.steps (stand_of k reached))
 
 -- the account says whose a subscription is
 pub begins_as : (k : Core) (s : ℕ) → IsReached k → s < length k.world.subscriptions

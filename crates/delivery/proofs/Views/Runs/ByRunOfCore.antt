@@ -1,13 +1,15 @@
 -- What holds of each run of the machine holds of each core that a run leads to.
-use Rattle.std.proofs.Common.{◌≡◌, ℕ, ◌<◌, length, List, sym, subst, ap, ◌∙◌}
-use Rattle.delivery.specs.Machine.World.{World, speaker_number}
+use Rattle.std.proofs.Common.{◌≡◌, List, sym, subst, ap, ◌∙◌}
+use Rattle.delivery.specs.Machine.World.{World}
 use Rattle.delivery.specs.Machine.Moves.{Answer}
 use Rattle.delivery.specs.Theorem.Laws.{Run, answers_of, final_world}
 use Rattle.delivery.specs.Core.Account.{account_of}
 use Rattle.delivery.specs.Core.State.{Core}
 use Rattle.delivery.specs.Inner.Stands.{IsReached}
 use Rattle.delivery.proofs.Core.Said.{said}
-use Rattle.delivery.proofs.Core.Claimed.{Claimed, claimed, own_number}
+use Rattle.delivery.specs.Core.Claims.{claims_of}
+use Rattle.delivery.proofs.Theorem.SendersAreOwn.{Speaks, speak}
+use Rattle.delivery.proofs.Core.ClaimsStand.{Stand, core_stands}
 use Rattle.delivery.proofs.Core.AccountOfRun.{run_of, world_is, core_is, account_is}
 
 -- the run of the machine that a core's run is
@@ -34,10 +36,11 @@ by_account P k reached h =
     subst (λ w. P (account_of k.names k.steps) w) (sym (world_of k reached))
     (subst (λ z. P z (final_world (machine_run reached))) (sym (account_of_core k reached)) (h (machine_run reached)))
 
--- each connection of a core speaks for the sender of its number
-pub claimed_of : (k : Core) → IsReached k → Claimed k.world
-claimed_of k reached = subst (λ (z : Core). Claimed z.world) (sym reached.is) (claimed reached.topics reached.capacity reached.steps)
+-- whom each connection of a core speaks for, and how many senders there are, is as its claims say
+pub stand_of : (k : Core) → IsReached k → Stand k.world (claims_of k.steps)
+stand_of k reached =
+    subst (λ (z : Core). Stand z.world (claims_of z.steps)) (sym reached.is) (core_stands reached.topics reached.capacity reached.steps reached.run)
 
--- so the number of its sender is its own
-pub own_sender : (k : Core) (c : ℕ) → IsReached k → c < length k.world.connections → speaker_number k.world c ≡ c
-own_sender k c reached = own_number k.world c (claimed_of k reached)
+-- no two connections of it that aren't gone speak for one sender
+pub speaks_of : (k : Core) → IsReached k → Speaks k.world
+speaks_of k reached = by_world Speaks k reached (λ r. speak r)

@@ -1,33 +1,41 @@
 -- What a net keeps: it is delivered, and it grows by a step.
-use Rattle.std.proofs.Common.{◌≡◌, ℕ, ◌-◌, List, [], ◌∷◌, ◌++◌, map, reverse, refl, sym, ap, subst, ◌∙◌, append_assoc, append-nil}
+use Rattle.std.proofs.Common.{◌≡◌, ℕ, ◌-◌, ◌≤◌, List, [], ◌∷◌, ◌++◌, map, length, reverse, refl, sym, ap, subst, ◌∙◌, append_assoc, append-nil}
 use Rattle.std.proofs.lemmas.List.{map-append, reverse-append}
 use Rattle.std.proofs.lemmas.Grind.{reverse_onto}
 use Rattle.delivery.specs.declared.event.Event.{Event}
 use Rattle.delivery.specs.declared.outcome.Outcome.{Outcome}
 use Rattle.delivery.specs.declared.kept.Kept.{Kept}
+use Rattle.std.specs.Prelude.{take}
+use Rattle.stomp_session.specs.Names.{max_topics}
 use Rattle.delivery.specs.Topics.{TopicList}
 use Rattle.delivery.specs.Nets.{KeptRun, HasTaken, HasAnswered, IsDelivered, HasReport}
 use Rattle.delivery.specs.Machine.World.{World}
-use Rattle.delivery.specs.Core.Steps.{CoreStep, kept_of}
+use Rattle.delivery.specs.Core.Steps.{CoreStep, kept_of, names_after}
 use Rattle.delivery.specs.Inner.Readings.{reading_at, steps_of}
 use Rattle.delivery.specs.Core.Outcomes.{IsCoreRun}
-use Rattle.delivery.specs.Core.State.{Core, core_of}
+use Rattle.delivery.specs.Core.State.{Core, core_of, names_at, new_core}
 use Rattle.delivery.specs.Core.Reports.{Report, report_of}
 use Rattle.delivery.specs.Core.Delivery.{Delivery, kept_run}
-use Rattle.delivery.specs.Inner.NetInvariant.{KeepsRun}
-use Rattle.delivery.specs.Inner.Stands.{IsReached, Makes, step_of}
+use Rattle.delivery.specs.Inner.NetInvariant.{KeepsBoth, KeepsRun}
+use Rattle.delivery.specs.Inner.Clients.{AreClients, MakesBoth}
+use Rattle.sender_gate.specs.Senders.{SendersState}
+use Rattle.delivery.specs.Inner.Stands.{IsReached, step_of}
 use Rattle.delivery.specs.Inner.View.{View, view_of}
 use Rattle.delivery.specs.Inner.ViewReports.{report_in}
 use Rattle.delivery.proofs.Core.AccountOfRun.{run_of, world_is, core_is}
 use Rattle.delivery.proofs.Core.DeliveryOfRun.{delivery}
+use Rattle.delivery.proofs.Core.NamesKnown.{names_first}
 use Rattle.delivery.proofs.Core.StepsOfRun.{steps_turned}
 use Rattle.delivery.proofs.Theorem.SpansAsAnswered.{known}
 use Rattle.delivery.proofs.Views.Runs.ReportOfView.{reported}
 
--- what a net holds has the names and the capacity that it began with
-pub names_kept : (topics : TopicList) (capacity : ℕ) (kept : List Kept) (held : View) → KeepsRun topics capacity kept held → held.names ≡ topics.names
+-- what a net holds has the opening names first, and the capacity that it began with
+pub names_kept : (topics : TopicList) (capacity : ℕ) (kept : List Kept) (held : View) → KeepsRun topics capacity kept held
+    → take (length topics.clocks) held.names ≡ topics.names
 names_kept topics capacity kept held keeps =
-    ap (λ (v : View). v.names) keeps.view ∙ ap (λ (k : Core). k.names) (core_is topics capacity keeps.steps)
+    let names : held.names ≡ names_after topics.names keeps.steps =
+    ap (λ (v : View). v.names) keeps.view ∙ ap (λ (k : Core). names_at k) (core_is topics capacity keeps.steps) in
+    (λ i. take (keeps.as_many i) (names i)) ∙ names_first topics.names keeps.steps
 
 pub capacity_kept : (topics : TopicList) (capacity : ℕ) (kept : List Kept) (held : View) → KeepsRun topics capacity kept held → held.capacity ≡ capacity
 capacity_kept topics capacity kept held keeps =
@@ -88,53 +96,75 @@ has_answered old new held e o were are keeps topics capacity kept =
 
 -- ---- a step
 
--- what an event is answered and what is held then, of whatever core what was held is the view
-abbrev pub Answers : View → Event → Outcome → View → Type 0
-Answers held e o new = (k : Core) → IsReached k → held ≡ view_of k → Makes k e o new
+-- what an event is answered and what is held then, of whatever core what was held is the view, and whose the senders are
+abbrev pub Answers : View → SendersState → Event → Outcome → View → SendersState → Type 0
+Answers held clients e o new later = (k : Core) → IsReached k → held ≡ view_of k → AreClients k clients → MakesBoth k e o new later
 
 -- the kept run with the event and its outcome at its end is one of a core, and what is held then is its view
-grown : (topics : TopicList) (capacity : ℕ) (kept : List Kept) (held new : View) (e : Event) (o : Outcome)
-    → KeepsRun topics capacity kept held → Answers held e o new
-    → KeepsRun topics capacity (kept ++ record { event = e; outcome = o } ∷ []) new
-grown topics capacity kept held new e o keeps answers =
+grown : (topics : TopicList) (capacity : ℕ) (kept : List Kept) (held new : View) (clients later : SendersState) (e : Event) (o : Outcome)
+    → KeepsBoth topics capacity kept held clients → Answers held clients e o new later
+    → KeepsBoth topics capacity (kept ++ record { event = e; outcome = o } ∷ []) new later
+grown topics capacity kept held new clients later e o both answers =
+    let keeps = both.run in
     let k = core_of topics capacity keeps.steps in
-    let makes = answers k (record { topics = topics; capacity = capacity; steps = keeps.steps; as_many = keeps.as_many; is = refl; run = keeps.is_run }) keeps.view in
-    let step = step_of e makes.reading o in
-    record {
-      as_many = keeps.as_many;
-      few = keeps.few;
-      steps = step ∷ keeps.steps;
-      are_kept = ap (λ (older : List Kept). older ++ kept_of step ∷ []) keeps.are_kept
-          ∙ sym (reverse_onto (map kept_of keeps.steps) (kept_of step) []);
-      is_run = (makes.may, keeps.is_run);
-      view = makes.view;
+    let makes = answers k (record { topics = topics; capacity = capacity; steps = keeps.steps; as_many = keeps.as_many; is = refl; run = keeps.is_run }) keeps.view both.claimed in
+    let step = step_of e makes.reading o in record {
+      run = record {
+        as_many = keeps.as_many;
+        few = keeps.few;
+        steps = step ∷ keeps.steps;
+        are_kept = ap (λ (older : List Kept). older ++ kept_of step ∷ []) keeps.are_kept
+            ∙ sym (reverse_onto (map kept_of keeps.steps) (kept_of step) []);
+        is_run = (makes.may, keeps.is_run);
+        view = makes.view;
+      };
+      claimed = makes.claimed;
     }
 
+-- the topics that a net began with, where this is held
+abbrev pub opening_of : List ℕ → View → TopicList
+opening_of clocks held = record { names = take (length clocks) held.names; clocks = clocks }
+
 -- the same of the names and the capacity that are held then
-pub step_kept : (clocks : List ℕ) (kept : List Kept) (held new : View) (e : Event) (o : Outcome)
-    → KeepsRun (record { names = held.names; clocks = clocks }) held.capacity kept held → Answers held e o new
-    → KeepsRun (record { names = new.names; clocks = clocks }) new.capacity (kept ++ record { event = e; outcome = o } ∷ []) new
-step_kept clocks kept held new e o keeps answers =
-    let topics : TopicList = record { names = held.names; clocks = clocks } in
-    let later = grown topics held.capacity kept held new e o keeps answers in
+pub step_kept : (clocks : List ℕ) (kept : List Kept) (held new : View) (clients later : SendersState) (e : Event) (o : Outcome)
+    → KeepsBoth (opening_of clocks held) held.capacity kept held clients → Answers held clients e o new later
+    → KeepsBoth (opening_of clocks new) new.capacity (kept ++ record { event = e; outcome = o } ∷ []) new later
+step_kept clocks kept held new clients later e o keeps answers =
+    let topics : TopicList = opening_of clocks held in
+    let both = grown topics held.capacity kept held new clients later e o keeps answers in
     let run = kept ++ record { event = e; outcome = o } ∷ [] in
-    subst (λ (n : ℕ). KeepsRun (record { names = new.names; clocks = clocks }) n run new)
-    (sym (capacity_kept topics held.capacity run new later))
-    (subst (λ (names : List (List ℕ)). KeepsRun (record { names = names; clocks = clocks }) held.capacity run new)
-    (sym (names_kept topics held.capacity run new later)) later)
+    subst (λ (n : ℕ). KeepsBoth (opening_of clocks new) n run new later)
+    (sym (capacity_kept topics held.capacity run new both.run))
+    (subst (λ (names : List (List ℕ)). KeepsBoth (record { names = names; clocks = clocks }) held.capacity run new later)
+    (sym (names_kept topics held.capacity run new both.run)) both)
 
--- the names and the capacity stay
-pub names_stay : (clocks : List ℕ) (kept : List Kept) (held new : View) (e : Event) (o : Outcome)
-    → KeepsRun (record { names = held.names; clocks = clocks }) held.capacity kept held → Answers held e o new → new.names ≡ held.names
-names_stay clocks kept held new e o keeps answers =
-    let topics : TopicList = record { names = held.names; clocks = clocks } in
-    names_kept topics held.capacity (kept ++ record { event = e; outcome = o } ∷ []) new (grown topics held.capacity kept held new e o keeps answers)
+-- the opening names and the capacity stay
+pub names_stay : (clocks : List ℕ) (kept : List Kept) (held new : View) (clients later : SendersState) (e : Event) (o : Outcome)
+    → KeepsBoth (opening_of clocks held) held.capacity kept held clients → Answers held clients e o new later
+    → take (length clocks) new.names ≡ take (length clocks) held.names
+names_stay clocks kept held new clients later e o keeps answers =
+    let topics : TopicList = opening_of clocks held in
+    names_kept topics held.capacity (kept ++ record { event = e; outcome = o } ∷ []) new (grown topics held.capacity kept held new clients later e o keeps answers).run
 
-pub capacity_stays : (clocks : List ℕ) (kept : List Kept) (held new : View) (e : Event) (o : Outcome)
-    → KeepsRun (record { names = held.names; clocks = clocks }) held.capacity kept held → Answers held e o new → new.capacity ≡ held.capacity
-capacity_stays clocks kept held new e o keeps answers =
-    let topics : TopicList = record { names = held.names; clocks = clocks } in
-    capacity_kept topics held.capacity (kept ++ record { event = e; outcome = o } ∷ []) new (grown topics held.capacity kept held new e o keeps answers)
+pub capacity_stays : (clocks : List ℕ) (kept : List Kept) (held new : View) (clients later : SendersState) (e : Event) (o : Outcome)
+    → KeepsBoth (opening_of clocks held) held.capacity kept held clients → Answers held clients e o new later → new.capacity ≡ held.capacity
+capacity_stays clocks kept held new clients later e o keeps answers =
+    let topics : TopicList = opening_of clocks held in
+    capacity_kept topics held.capacity (kept ++ record { event = e; outcome = o } ∷ []) new (grown topics held.capacity kept held new clients later e o keeps answers).run
+
+-- a net before its first event keeps the run of no step
+pub new_kept : (topics : TopicList) (capacity : ℕ) (held : View) → length topics.clocks ≡ length topics.names → length topics.clocks ≤ max_topics
+    → held ≡ view_of (new_core topics capacity)
+    → (opening_of topics.clocks held ≡ topics) × KeepsBoth (opening_of topics.clocks held) held.capacity [] held (record { begun = 0; kept = [] })
+new_kept topics capacity held as_many few is =
+    let keeps : KeepsRun topics capacity [] held = record { as_many = as_many; few = few; steps = []; are_kept = refl; is_run = tt; view = is } in
+    let opening : opening_of topics.clocks held ≡ topics =
+    ap (λ (names : List (List ℕ)). record { names = names; clocks = topics.clocks }) (names_kept topics capacity [] held keeps) in (
+      opening,
+      subst (λ (n : ℕ). KeepsBoth (opening_of topics.clocks held) n [] held (record { begun = 0; kept = [] })) (sym (capacity_kept topics capacity [] held keeps))
+          (subst (λ (t : TopicList). KeepsBoth t capacity [] held (record { begun = 0; kept = [] })) (sym opening)
+          (record { run = keeps; claimed = record { begun = refl; count = refl; found = λ id. refl } })),
+    )
 
 -- ---- events in turn
 

@@ -19,7 +19,7 @@ use Rattle.delivery.specs.Machine.Observed.{entry_items, entry_to}
 use Rattle.delivery.specs.Core.Output.{text_out, sub_id_text}
 use Rattle.delivery.specs.Core.Reports.{QueueReport, queue_report, each_number, report_of}
 use Rattle.delivery.specs.Core.Steps.{accepted_of}
-use Rattle.delivery.specs.Core.State.{Core, unread_at}
+use Rattle.delivery.specs.Core.State.{Core, unread_at, names_at}
 use Rattle.delivery.specs.Inner.View.{View, SubView, EndpointView, view_of, group_view, queue_room, sub_view, left_view, endpoint_view}
 use Rattle.delivery.specs.Inner.ViewReports.{report_in, sub_report, open_report, closed_report, lag_of, lag_in, queue_shown, queued_items, handed_items}
 use Rattle.delivery.proofs.Theorem.SpansAsAnswered.{within}
@@ -164,7 +164,7 @@ pub reported : (k : Core) → report_in (view_of k) ≡ report_of k
 reported k =
     let w = k.world in
     let subs = λ (s : ℕ). sub_view w s (sub_id_text s k.steps) in
-    let endpoint = λ (c : ℕ). endpoint_view k.names w c (accepted_of c k.steps) (unread_at c k.steps) (text_out k.names c k.steps) in
+    let endpoint = λ (c : ℕ). endpoint_view (names_at k) w c (accepted_of c k.steps) (unread_at c k.steps) (text_out k.names c k.steps) in
     let logs : map (λ (g : GroupState). g.topic.held) (map (group_view w) w.topics) ≡ map (λ (x : TopicState). x.held) w.topics = logs_are w w.topics in
     let subscriptions : map (λ (p : ℕ × SubView). sub_report (map (group_view w) w.topics) p.0 p.1) (enumerate_from 0 (each_number subs 0 w.subscriptions))
     ≡ each_number (queue_report w) 0 w.subscriptions =

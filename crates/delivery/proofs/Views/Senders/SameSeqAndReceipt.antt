@@ -9,29 +9,29 @@ use Rattle.mcast_group.specs.Group.{GroupState}
 use Rattle.mcast_group.specs.Machine.{TopicState}
 use Rattle.delivery.specs.declared.stage.Stage.{Stage}
 use Rattle.delivery.specs.Machine.World.{World, Undecided, SenderState, Connection, Standing, nobody, connection_at, sender_at, speaker, with_sender, with_topic, speaker_number}
-use Rattle.delivery.specs.Core.State.{Core}
+use Rattle.delivery.specs.Core.State.{Core, names_at}
 use Rattle.delivery.specs.Core.Reports.{each_number}
 use Rattle.delivery.specs.Inner.Stands.{IsReached}
 use Rattle.delivery.specs.Inner.View.{EndpointView, view_with, sender_view, endpoint_view, stage_view, pending_receipt, verdict_list, group_view}
-use Rattle.delivery.proofs.Views.Senders.SenderChanges.{number_at, number_set, endpoint_of_flight, flight_kept, speaker_there, senders_with, lists_with, endpoint_with_sender}
+use Rattle.delivery.proofs.Views.Senders.SenderChanges.{IsSpeaking, number_at, number_set, endpoint_of_stage, stage_kept, speaker_there, senders_with, lists_with, endpoint_with_sender}
 
 -- a stage depends on the transaction by its receipt alone
 stage_of_receipt : (names : List (List ℕ)) (standing : Standing) (o p : Option Undecided) (accepted : List RawFrame) (unread : Unread)
     → pending_receipt accepted o ≡ pending_receipt accepted p → stage_view names standing o accepted unread ≡ stage_view names standing p accepted unread
 stage_of_receipt names Standing.Open o p accepted unread same =
-    ap (λ (r : Option (List ℕ)). Stage.Open (record { reader = unread; session = Rattle.stomp_session.specs.Open.held_after names accepted; receipt = r })) same
+    ap (λ (r : Option (List ℕ)). Stage.Open (record { reader = unread; session = Rattle.stomp_session.specs.Open.state_of (Rattle.stomp_session.specs.Open.held_after names accepted); receipt = r })) same
 stage_of_receipt names Standing.Leaving o p accepted unread same = refl
 stage_of_receipt names Standing.Gone o p accepted unread same = refl
 
 -- the verdicts stay where the sender's seq does
-pub lists_kept : (k : Core) (c : ℕ) (x : SenderState) → IsReached k → c < length k.world.connections → x.seq ≡ (speaker k.world c).seq
+pub lists_kept : (k : Core) (c : ℕ) (x : SenderState) → IsReached k → IsSpeaking k.world c → x.seq ≡ (speaker k.world c).seq
     → (let w = k.world in let s = speaker_number w c in
     each_number (λ n. verdict_list w.verdicts n (sender_at w n).seq) 0 w.senders
     ≡ each_number (λ n. verdict_list w.verdicts n (sender_at (with_sender w s x) n).seq) 0 (set w.senders s x))
-lists_kept k c x reached there seq =
+lists_kept k c x reached speaking seq =
     let w = k.world in
     let s = speaker_number w c in
-    let known = speaker_there k c reached there in
+    let known = speaker_there k c reached speaking in
     let lists = λ (n : ℕ). verdict_list w.verdicts n (sender_at w n).seq in
     let kept : set (each_number lists 0 w.senders) s (verdict_list w.verdicts s x.seq) ≡ each_number lists 0 w.senders =
     ap (λ (q : ℕ). set (each_number lists 0 w.senders) s (verdict_list w.verdicts s q)) seq
@@ -39,31 +39,31 @@ lists_kept k c x reached there seq =
     sym kept ∙ lists_with w s x w.verdicts known (λ n other. refl)
 
 -- the sender alone changes
-pub sender_quiet : (k : Core) (c : ℕ) (x : SenderState) → IsReached k → c < length k.world.connections → x.seq ≡ (speaker k.world c).seq
+pub sender_quiet : (k : Core) (c : ℕ) (x : SenderState) → IsReached k → c < length k.world.connections → IsSpeaking k.world c → x.seq ≡ (speaker k.world c).seq
     → ((accepted : List RawFrame) → pending_receipt accepted x.flight ≡ pending_receipt accepted (speaker k.world c).flight)
     → (accepted : ℕ → List RawFrame) (unread : ℕ → Unread) (text ids : ℕ → List ℕ)
-    → record (view_with k.names k.world accepted unread text ids) {
-      senders = set (view_with k.names k.world accepted unread text ids).senders (speaker_number k.world c) (sender_view (speaker_number k.world c) x);
+    → record (view_with (names_at k) k.world accepted unread text ids) {
+      senders = set (view_with (names_at k) k.world accepted unread text ids).senders (speaker_number k.world c) (sender_view (speaker_number k.world c) x);
     }
-    ≡ view_with k.names (with_sender k.world (speaker_number k.world c) x) accepted unread text ids
-sender_quiet k c x reached there seq receipts accepted unread text ids =
+    ≡ view_with (names_at k) (with_sender k.world (speaker_number k.world c) x) accepted unread text ids
+sender_quiet k c x reached there speaking seq receipts accepted unread text ids =
     let w = k.world in
     let s = speaker_number w c in
     let v = with_sender w s x in
-    let known = speaker_there k c reached there in
-    let verdicts = lists_kept k c x reached there seq in
-    let old = λ (n : ℕ). endpoint_view k.names w n (accepted n) (unread n) (text n) in
-    let new = λ (n : ℕ). endpoint_view k.names v n (accepted n) (unread n) (text n) in
-    let endpoint : new c ≡ old c = endpoint_with_sender k c x (accepted c) (unread c) (text c) reached there
-    ∙ ap (λ (z : Stage). record (old c) { stage = z }) (stage_of_receipt k.names (connection_at w c).standing x.flight (speaker w c).flight (accepted c) (unread c) (receipts (accepted c))) in
+    let known = speaker_there k c reached speaking in
+    let verdicts = lists_kept k c x reached speaking seq in
+    let old = λ (n : ℕ). endpoint_view (names_at k) w n (accepted n) (unread n) (text n) in
+    let new = λ (n : ℕ). endpoint_view (names_at k) v n (accepted n) (unread n) (text n) in
+    let endpoint : new c ≡ old c = endpoint_with_sender (names_at k) k c x (accepted c) (unread c) (text c) reached speaking
+    ∙ ap (λ (z : Stage). record (old c) { stage = z }) (stage_of_receipt (names_at k) (connection_at w c).standing x.flight (speaker w c).flight (accepted c) (unread c) (receipts (accepted c))) in
     let others : (n : ℕ) → n < length w.connections → n ≢ c → old n ≡ new n = λ n within other.
-    endpoint_of_flight k.names w v n (accepted n) (unread n) (text n) refl refl (flight_kept k c n x reached there within other) in
+    endpoint_of_stage (names_at k) w v n (accepted n) (unread n) (text n) refl refl (stage_kept k c n x reached speaking other (names_at k) (accepted n) (unread n)) in
     let same : set (each_number old 0 w.connections) c (new c) ≡ each_number old 0 w.connections =
     ap (λ (l : EndpointView). set (each_number old 0 w.connections) c l) (endpoint ∙ sym (number_at old w.connections c (old c) there))
     ∙ set-get_or (each_number old 0 w.connections) c (old c) in
     let endpoints = sym same ∙ (number_set old new w.connections c (connection_at w c) there others
     ∙ ap (λ (xs : List Connection). each_number new 0 xs) (set-get_or w.connections c nobody)) in
-    λ i. record (view_with k.names w accepted unread text ids) { senders = senders_with w s x known i; verdicts = verdicts i; endpoints = endpoints i }
+    λ i. record (view_with (names_at k) w accepted unread text ids) { senders = senders_with w s x known i; verdicts = verdicts i; endpoints = endpoints i }
 
 -- a topic alone changes
 pub topic_quiet : (names : List (List ℕ)) (w : World) (t : Topic) (y : TopicState)

@@ -1,28 +1,30 @@
--- A sender that becomes another: what is held of it, of its endpoint and of its verdicts. No other connection speaks for it.
-use Rattle.std.proofs.Common.{◌≡◌, ◌≢◌, ℕ, ◌+◌, ◌-◌, ◌<◌, Bool, cond, List, length, get_or, set, Option, None, refl, sym, ap, ◌∙◌, arith}
+-- A sender that becomes another: what is held of it, of its endpoint and of its verdicts. No other connection that is there speaks for it.
+use Rattle.std.proofs.Common.{◌≡◌, ◌≢◌, ℕ, ◌+◌, ◌-◌, ◌<◌, ◌≤◌, nat_lt, Bool, true, false, cond, List, length, get_or, set, Option, Some, None, refl, sym, ap, ◌∙◌, arith}
 use Rattle.std.specs.Prelude.{slice_get}
+use Rattle.std.proofs.lemmas.Bool.{ltb-true, ltb-false}
 use Rattle.std.proofs.lemmas.List.{get_or-set_same, get_or-set_other, set-get_or}
 use Rattle.std.specs.Option.{option_and_then, unwrap_or}
 use Rattle.stomp_frame.specs.declared.raw_frame.RawFrame.{RawFrame}
 use Rattle.stomp_frame.specs.Reader.{Unread}
 use Rattle.mcast_txn.specs.declared.id.TxnId.{TxnId}
 use Rattle.mcast_txn.specs.Ballot.{Decision}
-use Rattle.delivery.specs.Machine.World.{World, SenderState, Connection, new_sender, nobody, connection_at, sender_at, speaker, with_sender, speaker_number}
+use Rattle.delivery.specs.Machine.World.{World, SenderState, Connection, Standing, is_gone, new_sender, nobody, connection_at, sender_at, speaker, speaks_for, with_sender, speaker_number}
 use Rattle.delivery.specs.Machine.Moves.{find_verdict}
 use Rattle.delivery.specs.Core.Output.{text_out, sub_id_text}
-use Rattle.delivery.specs.Core.State.{Core, unread_at}
+use Rattle.delivery.specs.Core.State.{Core, unread_at, names_at}
 use Rattle.delivery.specs.Core.Steps.{accepted_of}
 use Rattle.delivery.specs.Core.Reports.{each_number}
 use Rattle.delivery.specs.Inner.Senders.{speaker_at, sender_in, no_sender}
 use Rattle.delivery.specs.Inner.Stands.{IsReached}
 use Rattle.delivery.specs.Core.Connections.{live_numbers}
 use Rattle.delivery.specs.Inner.View.{EndpointView, SenderView, view_of, view_with, sender_view, endpoint_view, stage_view, no_endpoint, verdict_list}
-use Rattle.delivery.proofs.Views.Endpoints.SpeakerAndEnd.{as_many}
 use Rattle.delivery.proofs.Views.Lists.ByNumber.{each_number-set, get_or-each_number, length-each_number}
 use Rattle.delivery.proofs.Views.Endpoints.StandingOfConnection.{differ}
 use Rattle.delivery.proofs.Views.Verdicts.FoundVerdict.{verdict_is, table, list_of, not_in_list}
-use Rattle.delivery.proofs.Views.Runs.ByRunOfCore.{own_sender}
+use Rattle.delivery.proofs.Views.Runs.ByRunOfCore.{speaks_of}
 use Rattle.delivery.proofs.Machine.Speakers.{kept_speaker}
+use Rattle.delivery.proofs.Machine.SubscriptionSteps.{beyond}
+use Rattle.delivery.proofs.Theorem.SendersAreOwn.{speaks, spoken_sender}
 
 -- ---- what is looked up
 
@@ -46,32 +48,59 @@ speaker_is names w accepted unread text ids c there =
 -- a sender that is there
 pub sender_is : (names : List (List ℕ)) (w : World) (accepted : ℕ → List RawFrame) (unread : ℕ → Unread) (text ids : ℕ → List ℕ) (s : ℕ)
     → s < length w.senders → sender_in (view_with names w accepted unread text ids) s ≡ sender_view s (sender_at w s)
-sender_is names w accepted unread text ids s there = number_at (λ n. sender_view n (sender_at w n)) w.senders s no_sender there
+sender_is names w accepted unread text ids s there = number_at (λ n. sender_view n (sender_at w n)) w.senders s (no_sender s) there
 
 -- the same in the view of a core
 pub speaker_of : (k : Core) (c : ℕ) → c < length k.world.connections → speaker_at (view_of k) c ≡ speaker_number k.world c
 speaker_of k c there =
-    speaker_is k.names k.world (λ n. accepted_of n k.steps) (λ n. unread_at n k.steps) (λ n. text_out k.names n k.steps) (λ n. sub_id_text n k.steps) c there
+    speaker_is (names_at k) k.world (λ n. accepted_of n k.steps) (λ n. unread_at n k.steps) (λ n. text_out k.names n k.steps) (λ n. sub_id_text n k.steps) c there
 
 pub held_of : (k : Core) (s : ℕ) → s < length k.world.senders → sender_in (view_of k) s ≡ sender_view s (sender_at k.world s)
 held_of k s there =
-    sender_is k.names k.world (λ n. accepted_of n k.steps) (λ n. unread_at n k.steps) (λ n. text_out k.names n k.steps) (λ n. sub_id_text n k.steps) s there
+    sender_is (names_at k) k.world (λ n. accepted_of n k.steps) (λ n. unread_at n k.steps) (λ n. text_out k.names n k.steps) (λ n. sub_id_text n k.steps) s there
 
 pub endpoint_of : (k : Core) (c : ℕ) (d : EndpointView) → c < length k.world.connections
-    → get_or (view_of k).endpoints c d ≡ endpoint_view k.names k.world c (accepted_of c k.steps) (unread_at c k.steps) (text_out k.names c k.steps)
+    → get_or (view_of k).endpoints c d ≡ endpoint_view (names_at k) k.world c (accepted_of c k.steps) (unread_at c k.steps) (text_out k.names c k.steps)
 endpoint_of k c d there =
-    endpoint_in k.names k.world (λ n. accepted_of n k.steps) (λ n. unread_at n k.steps) (λ n. text_out k.names n k.steps) (λ n. sub_id_text n k.steps) c d there
+    endpoint_in (names_at k) k.world (λ n. accepted_of n k.steps) (λ n. unread_at n k.steps) (λ n. text_out k.names n k.steps) (λ n. sub_id_text n k.steps) c d there
 
--- the sender of a connection is there
-pub speaker_there : (k : Core) (c : ℕ) → IsReached k → c < length k.world.connections → (speaker_number k.world c) < length k.world.senders
-speaker_there k c reached there =
-    let own = own_sender k c reached there in let many = as_many k reached in omega (arith, own, many, there)
+-- the connection speaks for a sender, and isn't gone
+abbrev pub IsSpeaking : World → ℕ → Type 0
+IsSpeaking w c = speaks_for (speaker_number w c) (connection_at w c) ≡ true
 
--- the sender of a connection that is there, by its endpoint
+-- its sender is there
+pub speaker_there : (k : Core) (c : ℕ) → IsReached k → IsSpeaking k.world c → (speaker_number k.world c) < length k.world.senders
+speaker_there k c reached speaks =
+    (speaks_of k reached).there c (speaker_number k.world c) (spoken_sender (speaker_number k.world c) (connection_at k.world c) speaks)
+
+-- the sender of a number, where it is there or it is the next one
+held_or_next : (k : Core) (s : ℕ) → s ≤ length k.world.senders → sender_in (view_of k) s ≡ sender_view s (sender_at k.world s)
+held_or_next k s within = by (nat_lt s (length w.senders)) refl
+  where
+    w : World
+    w = k.world
+
+    by : (b : Bool) → nat_lt s (length w.senders) ≡ b → sender_in (view_of k) s ≡ sender_view s (sender_at w s)
+    by true e = held_of k s (ltb-true s (length w.senders) e)
+    by false e =
+        let m = length-each_number (λ n. sender_view n (sender_at w n)) 0 w.senders in
+        let l = ltb-false s (length w.senders) e in
+        beyond (view_of k).senders s (no_sender s) (omega (arith, m, l))
+        ∙ ap (sender_view s) (sym (beyond w.senders s new_sender (omega (arith, l))))
+
+-- the number of a connection's sender is that of one that is there, or of the next one
+speaker_within : (k : Core) (c : ℕ) → IsReached k → speaker_number k.world c ≤ length k.world.senders
+speaker_within k c reached = by (connection_at k.world c).sender refl
+  where
+    by : (o : Option ℕ) → (connection_at k.world c).sender ≡ o → unwrap_or o (length k.world.senders) ≤ length k.world.senders
+    by None e = omega arith
+    by (Some s) e = let l = (speaks_of k reached).there c s e in omega (arith, l)
+
+-- its sender, by its endpoint
 pub sender_of_endpoint : (k : Core) (c s : ℕ) → IsReached k → c < length k.world.connections → s ≡ speaker_at (view_of k) c
     → sender_in (view_of k) s ≡ sender_view (speaker_number k.world c) (speaker k.world c)
 sender_of_endpoint k c s reached there is =
-    ap (λ (n : ℕ). sender_in (view_of k) n) (is ∙ speaker_of k c there) ∙ held_of k (speaker_number k.world c) (speaker_there k c reached there)
+    ap (λ (n : ℕ). sender_in (view_of k) n) (is ∙ speaker_of k c there) ∙ held_or_next k (speaker_number k.world c) (speaker_within k c reached)
 
 -- ---- what is held
 
@@ -105,53 +134,82 @@ lists_with w s x verdicts there same =
     (λ n low high other. same n (λ is. other (is ∙ e))
     ∙ ap (λ (y : SenderState). verdict_list verdicts n y.seq) (sym (get_or-set_other w.senders s n x new_sender (λ is. other (is ∙ e))))))
 
--- an endpoint is that of its connection and its sender's transaction
-pub endpoint_of_flight : (names : List (List ℕ)) (w v : World) (c : ℕ) (accepted : List RawFrame) (unread : Unread) (text : List ℕ)
-    → w.connections ≡ v.connections → w.subscriptions ≡ v.subscriptions → (speaker w c).flight ≡ (speaker v c).flight
+-- an endpoint is that of its connection and its stage
+pub endpoint_of_stage : (names : List (List ℕ)) (w v : World) (c : ℕ) (accepted : List RawFrame) (unread : Unread) (text : List ℕ)
+    → w.connections ≡ v.connections → w.subscriptions ≡ v.subscriptions
+    → stage_view names (connection_at w c).standing (speaker w c).flight accepted unread ≡ stage_view names (connection_at w c).standing (speaker v c).flight accepted unread
     → endpoint_view names w c accepted unread text ≡ endpoint_view names v c accepted unread text
-endpoint_of_flight names w v c accepted unread text connections subscriptions flight =
+endpoint_of_stage names w v c accepted unread text connections subscriptions stage =
     λ i. record {
       sender = (get_or (connections i) c nobody).sender;
-      stage = stage_view names (get_or (connections i) c nobody).standing (flight i) accepted unread;
+      stage = (stage ∙ ap (λ (xs : List Connection). stage_view names (get_or xs c nobody).standing (speaker v c).flight accepted unread) connections) i;
       live = live_numbers c 0 (subscriptions i);
       output = text;
     }
 
--- other connections speak for other senders
-pub others_differ : (k : Core) (c n : ℕ) → IsReached k → c < length k.world.connections → n < length k.world.connections → n ≢ c
+-- another connection that isn't gone speaks for another sender
+others_differ : (k : Core) (c n : ℕ) → IsReached k → IsSpeaking k.world c → n ≢ c → is_gone (connection_at k.world n).standing ≡ false
     → (speaker_number k.world n) ≢ (speaker_number k.world c)
-others_differ k c n reached there within other same =
-    other (sym (own_sender k n reached within) ∙ (same ∙ own_sender k c reached there))
+others_differ k c n reached speaking other there same = by (connection_at k.world n).sender refl
+  where
+    w : World
+    w = k.world
+
+    by : (o : Option ℕ) → (connection_at w n).sender ≡ o → Prim.⊥
+    by None e =
+        let m : speaker_number w n ≡ length w.senders = ap (λ (o : Option ℕ). unwrap_or o (length w.senders)) e in
+        let l = speaker_there k c reached speaking in absurd (omega (arith, m, l, same))
+    by (Some r) e =
+        let m : speaker_number w n ≡ r = ap (λ (o : Option ℕ). unwrap_or o (length w.senders)) e in
+        other ((speaks_of k reached).own n c (speaker_number w c) (speaks (speaker_number w c) (connection_at w n) there (e ∙ ap Some (sym m ∙ same))) speaking)
+
+-- another connection is at the stage of before: its sender's transaction stays, or the connection isn't open
+pub stage_kept : (k : Core) (c n : ℕ) (x : SenderState) → IsReached k → IsSpeaking k.world c → n ≢ c
+    → (names : List (List ℕ)) (accepted : List RawFrame) (unread : Unread)
+    → (let w = k.world in stage_view names (connection_at w n).standing (speaker w n).flight accepted unread
+    ≡ stage_view names (connection_at w n).standing (speaker (with_sender w (speaker_number w c) x) n).flight accepted unread)
+stage_kept k c n x reached speaking other names accepted unread = by (connection_at k.world n).standing refl
+  where
+    w : World
+    w = k.world
+
+    by : (z : Standing) → (connection_at w n).standing ≡ z
+        → stage_view names z (speaker w n).flight accepted unread ≡ stage_view names z (speaker (with_sender w (speaker_number w c) x) n).flight accepted unread
+    by Standing.Open e =
+        ap (λ (y : SenderState). stage_view names Standing.Open y.flight accepted unread)
+        (sym (kept_speaker w n (speaker_number w c) x
+        ∙ get_or-set_other w.senders (speaker_number w c) (speaker_number w n) x new_sender (others_differ k c n reached speaking other (ap is_gone e))))
+    by Standing.Leaving e = refl
+    by Standing.Gone e = refl
 
 -- the endpoint of the sender is another with it, and no other endpoint
-pub endpoints_with_sender : (k : Core) (c : ℕ) (x : SenderState) (accepted : ℕ → List RawFrame) (unread : ℕ → Unread) (text : ℕ → List ℕ)
-    → IsReached k → c < length k.world.connections
+pub endpoints_with_sender : (names : List (List ℕ)) (k : Core) (c : ℕ) (x : SenderState) (accepted : ℕ → List RawFrame) (unread : ℕ → Unread) (text : ℕ → List ℕ)
+    → IsReached k → c < length k.world.connections → IsSpeaking k.world c
     → (let w = k.world in let v = with_sender w (speaker_number w c) x in
-    set (each_number (λ n. endpoint_view k.names w n (accepted n) (unread n) (text n)) 0 w.connections) c (endpoint_view k.names v c (accepted c) (unread c) (text c))
-    ≡ each_number (λ n. endpoint_view k.names v n (accepted n) (unread n) (text n)) 0 w.connections)
-endpoints_with_sender k c x accepted unread text reached there =
+    set (each_number (λ n. endpoint_view names w n (accepted n) (unread n) (text n)) 0 w.connections) c (endpoint_view names v c (accepted c) (unread c) (text c))
+    ≡ each_number (λ n. endpoint_view names v n (accepted n) (unread n) (text n)) 0 w.connections)
+endpoints_with_sender names k c x accepted unread text reached there speaking =
     let w = k.world in
     let s = speaker_number w c in
     let v = with_sender w s x in
-    let f = λ (n : ℕ). endpoint_view k.names w n (accepted n) (unread n) (text n) in
-    let g = λ (n : ℕ). endpoint_view k.names v n (accepted n) (unread n) (text n) in
+    let f = λ (n : ℕ). endpoint_view names w n (accepted n) (unread n) (text n) in
+    let g = λ (n : ℕ). endpoint_view names v n (accepted n) (unread n) (text n) in
     let e : c ≡ 0 + c = omega arith in
     ap (λ (n : ℕ). set (each_number f 0 w.connections) c (g n)) e
     ∙ (each_number-set f g 0 w.connections c (connection_at w c) there
-    (λ n low high other. endpoint_of_flight k.names w v n (accepted n) (unread n) (text n) refl refl
-    (ap (λ (y : SenderState). y.flight)
-    (sym (kept_speaker w n s x ∙ get_or-set_other w.senders s (speaker_number w n) x new_sender (others_differ k c n reached there (omega (arith, high)) (λ is. other (is ∙ e)))))))
+    (λ n low high other. endpoint_of_stage names w v n (accepted n) (unread n) (text n) refl refl
+    (stage_kept k c n x reached speaking (λ is. other (is ∙ e)) names (accepted n) (unread n)))
     ∙ ap (λ (xs : List Connection). each_number g 0 xs) (set-get_or w.connections c nobody))
 
 -- the endpoint itself, where its sender has this transaction
-pub endpoint_with_sender : (k : Core) (c : ℕ) (x : SenderState) (accepted : List RawFrame) (unread : Unread) (text : List ℕ) → IsReached k → c < length k.world.connections
+pub endpoint_with_sender : (names : List (List ℕ)) (k : Core) (c : ℕ) (x : SenderState) (accepted : List RawFrame) (unread : Unread) (text : List ℕ) → IsReached k → IsSpeaking k.world c
     → (let w = k.world in
-    endpoint_view k.names (with_sender w (speaker_number w c) x) c accepted unread text
-    ≡ record (endpoint_view k.names w c accepted unread text) { stage = stage_view k.names (connection_at w c).standing x.flight accepted unread })
-endpoint_with_sender k c x accepted unread text reached there =
+    endpoint_view names (with_sender w (speaker_number w c) x) c accepted unread text
+    ≡ record (endpoint_view names w c accepted unread text) { stage = stage_view names (connection_at w c).standing x.flight accepted unread })
+endpoint_with_sender names k c x accepted unread text reached speaking =
     let w = k.world in
-    ap (λ (y : SenderState). record (endpoint_view k.names w c accepted unread text) { stage = stage_view k.names (connection_at w c).standing y.flight accepted unread })
-    (kept_speaker w c (speaker_number w c) x ∙ get_or-set_same w.senders (speaker_number w c) x new_sender (speaker_there k c reached there))
+    ap (λ (y : SenderState). record (endpoint_view names w c accepted unread text) { stage = stage_view names (connection_at w c).standing y.flight accepted unread })
+    (kept_speaker w c (speaker_number w c) x ∙ get_or-set_same w.senders (speaker_number w c) x new_sender (speaker_there k c reached speaking))
 
 -- one value is another, where the first has number 0
 pub number_set : {X Y : Type 0} (f g : ℕ → Y) (xs : List X) (c : ℕ) (x : X) → c < length xs → ((n : ℕ) → n < length xs → n ≢ c → f n ≡ g n)
@@ -160,14 +218,6 @@ number_set f g xs c x there same =
     let e : c ≡ 0 + c = omega arith in
     ap (λ (n : ℕ). set (each_number f 0 xs) c (g n)) e
     ∙ each_number-set f g 0 xs c x there (λ n low high other. same n (omega (arith, high)) (λ is. other (is ∙ e)))
-
--- the transaction of another connection's sender stays
-pub flight_kept : (k : Core) (c n : ℕ) (x : SenderState) → IsReached k → c < length k.world.connections → n < length k.world.connections → n ≢ c
-    → (let w = k.world in (speaker w n).flight ≡ (speaker (with_sender w (speaker_number w c) x) n).flight)
-flight_kept k c n x reached there within other =
-    let w = k.world in
-    ap (λ (y : SenderState). y.flight)
-    (sym (kept_speaker w n (speaker_number w c) x ∙ get_or-set_other w.senders (speaker_number w c) (speaker_number w n) x new_sender (others_differ k c n reached there within other)))
 
 -- ---- the next transaction
 

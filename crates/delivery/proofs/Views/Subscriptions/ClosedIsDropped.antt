@@ -21,7 +21,7 @@ use Rattle.mcast_group.proofs.Numbers.{numbers_differ}
 use Rattle.delivery.specs.Machine.World.{World, Connection, Subscription, no_subscription, nobody, topic_at, subscription_at, entry_at}
 use Rattle.delivery.specs.Machine.Moves.{is_live, end_now, close_effect, close_effect_of}
 use Rattle.delivery.specs.Theorem.Laws.{final_world}
-use Rattle.delivery.specs.Core.State.{Core}
+use Rattle.delivery.specs.Core.State.{Core, names_at}
 use Rattle.delivery.specs.Core.Reports.{each_number}
 use Rattle.delivery.specs.Inner.Stands.{IsReached}
 use Rattle.delivery.specs.Core.Connections.{live_numbers}
@@ -307,22 +307,22 @@ live_entry k c s reached there live = has k.world s (has_entry k s reached there
 pub closed_is : (k : Core) (c s : ℕ) → IsReached k → c < length k.world.connections → s < length k.world.subscriptions
     → is_live c (subscription_at k.world s) ≡ true
     → (accepted : ℕ → List RawFrame) (unread : ℕ → Unread) (text ids : ℕ → List ℕ)
-    → closed_view s (view_with k.names k.world accepted unread text ids) ≡ view_with k.names (close_effect k.world s) accepted unread text ids
+    → closed_view s (view_with (names_at k) k.world accepted unread text ids) ≡ view_with (names_at k) (close_effect k.world s) accepted unread text ids
 closed_is k c s reached spoken there live accepted unread text ids =
     let has = live_entry k c s reached there live in
     let numbers : NumbersDiffer (topic_at k.world (subscription_at k.world s).topic).subscriptions =
     by_world (λ w. NumbersDiffer (topic_at w (subscription_at w s).topic).subscriptions) k reached
     (λ r. numbers_differ _ (topics_are_sound r (subscription_at (final_world r) s).topic).0.numbers) in
-    closed_in k.names k.world c s has.entry accepted unread text ids spoken there live has.found numbers
-    ∙ ap (λ (o : Option Entry). view_with k.names (close_effect_of k.world s o) accepted unread text ids) (sym has.found)
+    closed_in (names_at k) k.world c s has.entry accepted unread text ids spoken there live has.found numbers
+    ∙ ap (λ (o : Option Entry). view_with (names_at k) (close_effect_of k.world s o) accepted unread text ids) (sym has.found)
 
 -- its span ends where the machine says
 pub closed_end : (k : Core) (c s : ℕ) → IsReached k → s < length k.world.subscriptions
     → is_live c (subscription_at k.world s) ≡ true
     → (accepted : ℕ → List RawFrame) (unread : ℕ → Unread) (text ids : ℕ → List ℕ)
-    → option_map (λ left. left.to) (left_at s (view_with k.names k.world accepted unread text ids)) ≡ Some (end_now k.world s)
+    → option_map (λ left. left.to) (left_at s (view_with (names_at k) k.world accepted unread text ids)) ≡ Some (end_now k.world s)
 closed_end k c s reached there live accepted unread text ids =
     let has = live_entry k c s reached there live in
     let w = k.world in
-    ap (λ (o : Option LeftView). option_map (λ (left : LeftView). left.to) o) (left_is k.names w s has.entry accepted unread text ids there has.found).1
+    ap (λ (o : Option LeftView). option_map (λ (left : LeftView). left.to) o) (left_is (names_at k) w s has.entry accepted unread text ids there has.found).1
     ∙ ap (λ (o : Option Entry). Some (elim o [ None ↦ zero_stamp | Some e ↦ (end_of (topic_at w (subscription_at w s).topic).frontier e).to ])) (sym has.found)

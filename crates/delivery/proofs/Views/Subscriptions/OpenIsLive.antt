@@ -35,7 +35,7 @@ use Rattle.delivery.specs.Machine.Moves.{Move, is_live, is_topic, needs_idle, mo
 use Rattle.delivery.specs.Theorem.Laws.{final_world}
 use Rattle.delivery.specs.Core.Steps.{CoreStep, frame_in, accepted_of, is_next, has_id, begun_by, number_by}
 use Rattle.delivery.specs.Core.Output.{sub_id_text}
-use Rattle.delivery.specs.Core.State.{Core, core_of, core_after, moves, session_at}
+use Rattle.delivery.specs.Core.State.{Core, core_of, core_after, moves, session_at, names_at}
 use Rattle.delivery.specs.Core.Outcomes.{IsCoreRun}
 use Rattle.delivery.specs.Core.Reports.{each_number}
 use Rattle.delivery.specs.Inner.Stands.{IsReached}
@@ -55,6 +55,7 @@ use Rattle.delivery.proofs.Views.Endpoints.DisconnectIsLast.{unheard, unparted, 
 use Rattle.delivery.proofs.Views.Endpoints.NothingBeforeOpen.{unsubscribed}
 use Rattle.delivery.proofs.Views.Subscriptions.SubsOfStep.{StepKeeps, Reads, StepBegins, StepEnds, StepChange, step_change, left_open, left_close}
 use Rattle.delivery.proofs.Core.FramesRead.{core_steps}
+use Rattle.delivery.proofs.Core.NamesKnown.{step_left}
 
 -- the live subscriptions of connection c
 abbrev pub live_at : Core → ℕ → List ℕ
@@ -62,7 +63,7 @@ live_at k c = live_numbers c 0 k.world.subscriptions
 
 -- what frames left open is what is live, and each id names its number
 record Agrees (k : Core) (c : ℕ) : Type 0 where
-  subs : subscriptions_left k.names (accepted_of c k.steps) ≡ map (live_sub k.world k.steps) (live_at k c)
+  subs : subscriptions_left (names_at k) (accepted_of c k.steps) ≡ map (live_sub k.world k.steps) (live_at k c)
   numbers : (s : ℕ) → In s (live_at k c) → number_by c (sub_id_text s k.steps) k.steps ≡ s
 
 -- ---- lists
@@ -196,7 +197,7 @@ tested s f command e none =
 
 -- an accepted SUBSCRIBE has an id that isn't open
 shut_id : (s : Held) (f : RawFrame) → f.command ≡ commands.Subscribe → session_fault s f ≡ None → is_open (id_of f) s.subscriptions ≡ false
-shut_id s f e none = (tested s f commands.Subscribe e none).1.1.1.1.0
+shut_id s f e none = (tested s f commands.Subscribe e none).1.1.1.1.1.0
 
 -- an accepted UNSUBSCRIBE has one that is
 open_id : (s : Held) (f : RawFrame) → f.command ≡ commands.Unsubscribe → session_fault s f ≡ None → is_open (id_of f) s.subscriptions ≡ true
@@ -207,19 +208,19 @@ open_id s f e none = by (is_open (id_of f) s.subscriptions) (tested s f commands
     by false e = sym e
 
 -- what a session has open before its end is what frames left open
-going_on : (k : Core) (c : ℕ) → is_ended (accepted_of c k.steps) ≡ false → (session_at k c).subscriptions ≡ subscriptions_left k.names (accepted_of c k.steps)
-going_on k c going = ap (λ (b : Bool). cond b [] (subscriptions_left k.names (accepted_of c k.steps))) going
+going_on : (k : Core) (c : ℕ) → is_ended (accepted_of c k.steps) ≡ false → (session_at k c).subscriptions ≡ subscriptions_left (names_at k) (accepted_of c k.steps)
+going_on k c going = ap (λ (b : Bool). cond b [] (subscriptions_left (names_at k) (accepted_of c k.steps))) going
 
 -- ---- a step
 
 keeps_agree : (k : Core) (c : ℕ) (step : CoreStep) → Agrees k c → StepKeeps k c step → Agrees (core_after k step) c
 keeps_agree k c step a h =
     let after = core_after k step in record {
-      subs = h.frames
+      subs = step_left k.names step k.steps c ∙ (h.frames
           ∙ (a.subs
           ∙ (map_alike (live_sub k.world k.steps) (live_sub after.world after.steps) (live_at k c)
           (λ s here. (let l = (live_there k.world c s here).there in λ i. (sym (h.ids s l) i, sym (h.topics s l) i)))
-          ∙ ap (map (live_sub after.world after.steps)) (sym h.live)));
+          ∙ ap (map (live_sub after.world after.steps)) (sym h.live))));
       numbers = λ s here. (let before : In s (live_at k c) = subst (λ ns. In s ns) h.live here in
           let l = (live_there k.world c s before).there in
           ap (λ id. number_by c id after.steps) (h.ids s l) ∙ (h.numbers (sub_id_text s k.steps) ∙ a.numbers s before));
@@ -244,9 +245,9 @@ begins_agree k c step going a h =
     let w = k.world in
     let f = h.frame in
     let n = length w.subscriptions in
-    let t = topic_of k.names f in
+    let t = topic_of (names_at k) f in
     let x : Subscription = record { connection = c; topic = t; from = h.from; taken = 0; closed = None } in
-    let old = subscriptions_left k.names (accepted_of c k.steps) in
+    let old = subscriptions_left (names_at k) (accepted_of c k.steps) in
     let shut : is_open (id_of f) old ≡ false = ap (is_open (id_of f)) (sym (going_on k c going)) ∙ shut_id (session_at k c) f h.command h.reads.accepted in
     let last : 0 + n ≡ n = omega arith in
     let live : live_at after c ≡ live_at k c ++ n ∷ [] =
@@ -268,14 +269,14 @@ begins_agree k c step going a h =
     let number : (id : List ℕ) → number_by c id after.steps ≡ cond (bytes_eq (id_of f) id) n (number_by c id k.steps) = λ id i.
     cond (read_id k c step f h.reads id i) (unwrap_or (begun_by (h.is i)) (number_by c id k.steps)) (number_by c id k.steps) in
     record {
-      subs = ap (subscriptions_left k.names) (read_last k c step f h.reads)
-          ∙ (left_open k.names (accepted_of c k.steps) f (ap is_subscribe h.command) shut
+      subs = step_left k.names step k.steps c ∙ (ap (subscriptions_left (names_at k)) (read_last k c step f h.reads)
+          ∙ (left_open (names_at k) (accepted_of c k.steps) f (ap is_subscribe h.command) shut
           ∙ ((λ i. a.subs i ++ (sym text_new i, sym topic_new i) ∷ [])
           ∙ (ap (λ (them : List (List ℕ × Topic)). them ++ live_sub after.world after.steps n ∷ [])
           (map_alike (live_sub w k.steps) (live_sub after.world after.steps) (live_at k c)
           (λ s here. (let l = (live_there w c s here).there in λ i. (sym (text_old s l) i, sym (topic_old s l) i))))
           ∙ (sym (map-append (live_sub after.world after.steps) (live_at k c) (n ∷ []))
-          ∙ ap (map (live_sub after.world after.steps)) (sym live)))));
+          ∙ ap (map (live_sub after.world after.steps)) (sym live))))));
       numbers = λ s here. elim (In-push_cases s n (live_at k c) (subst (λ ns. In s ns) live here)) [
         | inl before ↦ (let l = (live_there w c s before).there in
             let other : bytes_eq (id_of f) (sub_id_text s k.steps) ≡ false =
@@ -299,7 +300,7 @@ ends_agree k c step going a h =
     let f = h.frame in
     let id = id_of f in
     let s = h.number in
-    let old = subscriptions_left k.names (accepted_of c k.steps) in
+    let old = subscriptions_left (names_at k) (accepted_of c k.steps) in
     let opened : is_open id (map (live_sub w k.steps) (live_at k c)) ≡ true =
     ap (is_open id) (sym (going_on k c going ∙ a.subs)) ∙ open_id (session_at k c) f h.command h.reads.accepted in
     let one = open_number id (live_sub w k.steps) (live_at k c) opened in
@@ -325,12 +326,12 @@ ends_agree k c step going a h =
     (λ e. eq-eqb m s (sym (a.numbers m here) ∙ (ap (λ z. number_by c z k.steps) (sym ((bytes_eq-Decides id (sub_id_text m k.steps)).0 e)) ∙ sym h.named)))
     (λ e. (bytes_eq-Decides id (sub_id_text m k.steps)).1 (named ∙ ap (λ q. sub_id_text q k.steps) (sym (eqb-true m s e)))) in
     record {
-      subs = ap (subscriptions_left k.names) (read_last k c step f h.reads)
-          ∙ (left_close k.names (accepted_of c k.steps) f (ap is_subscribe h.command) (ap is_unsubscribe h.command)
+      subs = step_left k.names step k.steps c ∙ (ap (subscriptions_left (names_at k)) (read_last k c step f h.reads)
+          ∙ (left_close (names_at k) (accepted_of c k.steps) f (ap is_subscribe h.command) (ap is_unsubscribe h.command)
           ∙ (ap (entries_without id) a.subs
           ∙ (without_id id s (live_sub w k.steps) (live_at k c) tests
           ∙ (map_alike (live_sub w k.steps) (live_sub after.world after.steps) (without_number s (live_at k c)) (λ m here i. (sym (text m) i, sym (topic m) i))
-          ∙ ap (map (live_sub after.world after.steps)) (sym live)))));
+          ∙ ap (map (live_sub after.world after.steps)) (sym live))))));
       numbers = λ m here. (let before : In m (live_at k c) = still_in s m (live_at k c) (subst (λ ns. In m ns) live here) in
           ap (λ z. number_by c z after.steps) (text m) ∙ (number (sub_id_text m k.steps) ∙ a.numbers m before));
     }
@@ -375,7 +376,7 @@ absent topics capacity steps h c far none =
     (unsubscribed (run_of topics capacity steps) c) far in
     record {
       agrees = record {
-        subs = ap (subscriptions_left k.names) none ∙ ap (map (live_sub k.world k.steps)) (sym live);
+        subs = ap (subscriptions_left (names_at k)) none ∙ ap (map (live_sub k.world k.steps)) (sym live);
         numbers = λ s here. absurd (subst (λ ns. In s ns) live here);
       };
       going = ap is_ended none;
@@ -429,11 +430,11 @@ pub record NamesLive (k : Core) (c : ℕ) (id : List ℕ) : Type 0 where
   pub there : number_by c id k.steps < length k.world.subscriptions
   pub live : is_live c (subscription_at k.world (number_by c id k.steps)) ≡ true
   pub found : (accepted : ℕ → List RawFrame) (unread : ℕ → Unread) (text : ℕ → List ℕ)
-      → number_in (view_with k.names k.world accepted unread text (λ s. sub_id_text s k.steps)) c id ≡ Some (number_by c id k.steps)
+      → number_in (view_with (names_at k) k.world accepted unread text (λ s. sub_id_text s k.steps)) c id ≡ Some (number_by c id k.steps)
 
 -- the subscription of a number has an id by the view where it has it by the steps
 has_by_view : (k : Core) (accepted : ℕ → List RawFrame) (unread : ℕ → Unread) (text : ℕ → List ℕ) (id : List ℕ) (s : ℕ) → s < length k.world.subscriptions
-    → has_sub_id (view_with k.names k.world accepted unread text (λ n. sub_id_text n k.steps)).subs id s ≡ bytes_eq (sub_id_text s k.steps) id
+    → has_sub_id (view_with (names_at k) k.world accepted unread text (λ n. sub_id_text n k.steps)).subs id s ≡ bytes_eq (sub_id_text s k.steps) id
 has_by_view k accepted unread text id s there =
     let h : ℕ → SubView = λ n. sub_view k.world n (sub_id_text n k.steps) in
     let many : s < length (each_number h 0 k.world.subscriptions) = omega (arith, there, length-each_number h 0 k.world.subscriptions) in
@@ -458,8 +459,8 @@ names_live k c f reached reading command none =
     record {
       there = at.there;
       live = at.live;
-      found = λ accepted unread text. (let v = view_with k.names w accepted unread text (λ n. sub_id_text n k.steps) in
-          let g : ℕ → EndpointView = λ n. endpoint_view k.names w n (accepted n) (unread n) (text n) in
+      found = λ accepted unread text. (let v = view_with (names_at k) w accepted unread text (λ n. sub_id_text n k.steps) in
+          let g : ℕ → EndpointView = λ n. endpoint_view (names_at k) w n (accepted n) (unread n) (text n) in
           let first : 0 + c ≡ c = omega arith in
           let endpoint : get_or v.endpoints c no_endpoint ≡ g c = get_or-each_number g 0 w.connections c no_endpoint (open_there w.connections c reading) ∙ ap g first in
           ap (λ (l : EndpointView). find (has_sub_id v.subs id) l.live) endpoint

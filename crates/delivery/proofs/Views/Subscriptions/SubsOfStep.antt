@@ -17,7 +17,7 @@ use Rattle.stomp_session.specs.declared.action.Action.{Action}
 use Rattle.stomp_session.specs.declared.action.Action.TheVariants as actions
 use Rattle.stomp_session.specs.declared.fault.SessionFault.{SessionFault}
 use Rattle.stomp_session.specs.Answers.{action_by, commit}
-use Rattle.stomp_session.specs.Frames.{topic_of, id_of, transaction_of, send_of, is_subscribe, is_unsubscribe, names_subscription}
+use Rattle.stomp_session.specs.Frames.{field, has_destination, topic_of, id_of, transaction_of, send_of, is_subscribe, is_unsubscribe, names_subscription}
 use Rattle.stomp_session.specs.Inner.Effects.{entries_without}
 use Rattle.stomp_session.specs.Open.{Held, subscriptions_left}
 use Rattle.stomp_session.specs.Refusals.{is_open, session_fault, sends_in}
@@ -37,10 +37,14 @@ use Rattle.delivery.specs.Machine.Objections.{Objection, refusal_of}
 use Rattle.delivery.specs.Machine.World.{World, Subscription, no_subscription, topic_at, subscription_at, entry_at}
 use Rattle.delivery.specs.Machine.Moves.{Move, move_refusal, move_answer, needs_idle, is_live, commit_answer, close_effect_of, end_now}
 use Rattle.delivery.specs.Machine.Runs.{run}
+use Rattle.delivery.specs.Core.Claims.{claims_of, claimed_sender}
 use Rattle.delivery.specs.Core.Steps.{CoreStep, Reading, frame_in, has_effect, frame_from, accepted_of, has_id, begun_by, number_by}
 use Rattle.delivery.specs.Core.Output.{sub_id_text, is_cut}
-use Rattle.delivery.specs.Core.State.{Core, core_after, moves, frame_move, session_at, is_faulted, is_no_memory, unread_at}
-use Rattle.delivery.specs.Core.Outcomes.{outcome_of, move_outcome, unless, frame_no_memory, frame_fault, fault_outcomes, frame_outcome, reading_outcomes, outcomes, accepted_outcomes, is_any, wants_memory}
+use Rattle.delivery.specs.Core.State.{Core, core_after, moves, frame_move, session_at, is_faulted, is_no_memory, unread_at, core_for, names_at, topic_moves}
+use Rattle.delivery.proofs.Core.ByRun.{run_append}
+use Rattle.delivery.proofs.Core.FrameWorld.{framed_none, no_topic, subs_for}
+use Rattle.stomp_session.specs.Names.{is_known}
+use Rattle.delivery.specs.Core.Outcomes.{claim_fault, outcome_of, move_outcome, unless, frame_no_memory, frame_fault, fault_outcomes, frame_outcome, reading_outcomes, outcomes, accepted_outcomes, is_any, wants_memory}
 use Rattle.delivery.specs.Inner.Stands.{step_of}
 use Rattle.delivery.specs.Core.Connections.{live_numbers}
 use Rattle.delivery.proofs.Machine.InvariantIsKept.{checked, false_not}
@@ -99,7 +103,7 @@ left_close names frames f no_subscribe closes =
 pub record StepKeeps (k : Core) (c : ℕ) (step : CoreStep) : Type 0 where
   pub live : live_numbers c 0 (core_after k step).world.subscriptions ≡ live_numbers c 0 k.world.subscriptions
   pub topics : (s : ℕ) → s < length k.world.subscriptions → (subscription_at (core_after k step).world s).topic ≡ (subscription_at k.world s).topic
-  pub frames : subscriptions_left k.names (accepted_of c (step ∷ k.steps)) ≡ subscriptions_left k.names (accepted_of c k.steps)
+  pub frames : subscriptions_left (names_at k) (accepted_of c (step ∷ k.steps)) ≡ subscriptions_left (names_at k) (accepted_of c k.steps)
   pub numbers : (id : List ℕ) → number_by c id (step ∷ k.steps) ≡ number_by c id k.steps
   pub ids : (s : ℕ) → s < length k.world.subscriptions → sub_id_text s (step ∷ k.steps) ≡ sub_id_text s k.steps
 
@@ -118,7 +122,7 @@ pub record StepBegins (k : Core) (c : ℕ) (step : CoreStep) : Type 0 where
   pub command : frame.command ≡ commands.Subscribe
   pub is : step.outcome ≡ Outcome.Subscribed (length k.world.subscriptions) from
   pub new : (core_after k step).world.subscriptions
-      ≡ k.world.subscriptions ++ record { connection = c; topic = topic_of k.names frame; from = from; taken = 0; closed = None } ∷ []
+      ≡ k.world.subscriptions ++ record { connection = c; topic = topic_of (names_at k) frame; from = from; taken = 0; closed = None } ∷ []
 
 -- it ends one: the one that the frame's id names
 pub record StepEnds (k : Core) (c : ℕ) (step : CoreStep) : Type 0 where
@@ -145,7 +149,7 @@ StepChange k c step = StepKeeps k c step ⊎ (StepBegins k c step ⊎ StepEnds k
 
 -- its frame, if it has its effect, is neither a SUBSCRIBE nor an UNSUBSCRIBE
 abbrev AddsNone : Core → ℕ → CoreStep → Type 0
-AddsNone k c step = subscriptions_left k.names (accepted_of c (step ∷ k.steps)) ≡ subscriptions_left k.names (accepted_of c k.steps)
+AddsNone k c step = subscriptions_left (names_at k) (accepted_of c (step ∷ k.steps)) ≡ subscriptions_left (names_at k) (accepted_of c k.steps)
 
 plain_step : (k : Core) (c : ℕ) (e : Event) (rd : Reading) (o : Outcome) → ArePlain (moves k e rd o) → begun_by o ≡ None
     → open_in (core_after k (step_of e rd o)).world.connections c ≡ true → AddsNone k c (step_of e rd o) → StepKeeps k c (step_of e rd o)
@@ -165,7 +169,7 @@ plain_if true xs ys p q = p
 plain_if false xs ys p q = q
 
 plain_event : (k : Core) (e : Event) (rd : Reading) (o : Outcome) → IsOther e → ArePlain (moves k e rd o)
-plain_event k Event.Open rd o other = plain_if (is_no_memory o) [] (Move.Opens ∷ Move.Connects (length k.world.connections) None ∷ []) tt (tt, (tt, tt))
+plain_event k Event.Open rd o other = plain_if (is_no_memory o) [] (Move.Opens ∷ []) tt (tt, tt)
 plain_event k (Event.Piece c octets) rd o other = tt
 plain_event k (Event.Next c) rd o other = absurd other
 plain_event k (Event.Decide c) rd o other = (tt, plain_if (is_cut o) (Move.Lost c ∷ []) [] (tt, tt) tt)
@@ -175,8 +179,8 @@ plain_event k _ rd o other = (tt, tt)
 -- nothing is added
 adds_nil : (k : Core) (c : ℕ) (step : CoreStep) → cond (has_effect step.outcome) (frame_from c step) [] ≡ [] → AddsNone k c step
 adds_nil k c step e =
-    ap (λ (fs : List RawFrame). subscriptions_left k.names (accepted_of c k.steps ++ fs)) e
-    ∙ ap (subscriptions_left k.names) (append-nil (accepted_of c k.steps))
+    ap (λ (fs : List RawFrame). subscriptions_left (names_at k) (accepted_of c k.steps ++ fs)) e
+    ∙ ap (subscriptions_left (names_at k)) (append-nil (accepted_of c k.steps))
 
 other_adds : (k : Core) (c : ℕ) (e : Event) (rd : Reading) (o : Outcome) → IsOther e → AddsNone k c (step_of e rd o)
 other_adds k c (Event.Next d) rd o other = absurd other
@@ -196,9 +200,9 @@ record NextBegins (k : Core) (d : ℕ) (rd : Reading) (o : Outcome) : Type 0 whe
   read : frame_in rd ≡ Some frame
   accepted : session_fault (session_at k d) frame ≡ None
   command : frame.command ≡ commands.Subscribe
-  is : o ≡ Outcome.Subscribed (length k.world.subscriptions) (topic_at k.world (topic_of k.names frame)).frontier
-  move : moves k (Event.Next d) rd o ≡ Move.Subscribes d (topic_of k.names frame) ∷ []
-  free : move_refusal k.world (Move.Subscribes d (topic_of k.names frame)) ≡ None
+  is : o ≡ Outcome.Subscribed (length k.world.subscriptions) (topic_at (core_for k frame).world (topic_of (names_at k) frame)).frontier
+  move : moves k (Event.Next d) rd o ≡ topic_moves (names_at k) frame ++ Move.Subscribes d (topic_of (names_at k) frame) ∷ []
+  free : move_refusal (core_for k frame).world (Move.Subscribes d (topic_of (names_at k) frame)) ≡ None
 
 -- it accepts an UNSUBSCRIBE
 record NextEnds (k : Core) (d : ℕ) (rd : Reading) (o : Outcome) : Type 0 where
@@ -255,7 +259,7 @@ kind commands.Commit = inl (record { opens = refl; closes = refl; action = λ s 
 kind _ = inl (record { opens = refl; closes = refl; action = λ s f. tt })
 
 mild_moves : (k : Core) (d : ℕ) (action : Action) → IsMild action → ArePlain (option_to_list (frame_move k d action))
-mild_moves k d actions.Connected m = tt
+mild_moves k d (actions.Connected client) m = (tt, tt)
 mild_moves k d actions.Nothing m = tt
 mild_moves k d (actions.Subscribe id t) m = absurd m
 mild_moves k d (actions.Unsubscribe id) m = absurd m
@@ -270,91 +274,110 @@ done_silent : (o : Outcome) → In o (Outcome.Done ∷ []) → begun_by o ≡ No
 done_silent o (inl e) = ap begun_by (sym e)
 done_silent o (inr i) = absurd i
 
-mild_silent : (k : Core) (d : ℕ) (action : Action) (o : Outcome) → IsMild action → In o (option_map_or (move_outcome k) (frame_move k d action) (Outcome.Done ∷ [])) → begun_by o ≡ None
-mild_silent k d actions.Connected o m i = done_silent o i
-mild_silent k d actions.Nothing o m i = done_silent o i
-mild_silent k d (actions.Subscribe id t) o m i = absurd m
-mild_silent k d (actions.Unsubscribe id) o m i = absurd m
-mild_silent k d (actions.Commit sends) o m i =
-    by_answer (λ z. begun_by z ≡ None) k.world (Move.Commits d sends) o (λ why x a. refl) (λ n a z e. flown_silent k.world d sends z e) (in_option o _ i)
-mild_silent k d actions.Disconnect o m i =
-    by_answer (λ z. begun_by z ≡ None) k.world (Move.Disconnects d) o (λ why x a. refl) (λ n a z e. ap begun_by (sym (some_same Outcome.Leaving z e))) (in_option o _ i)
+mild_silent : (k : Core) (w : World) (d : ℕ) (action : Action) (o : Outcome) → IsMild action → In o (option_map_or (move_outcome (record k { world = w })) (frame_move k d action) (Outcome.Done ∷ [])) → begun_by o ≡ None
+mild_silent k w d (actions.Connected client) o m i =
+    by_answer (λ z. begun_by z ≡ None) w (Move.Connects d (claimed_sender client (claims_of k.steps))) o (λ why x a. refl)
+    (λ n a z e. ap begun_by (sym (some_same Outcome.Done z e))) (in_option o _ i)
+mild_silent k w d actions.Nothing o m i = done_silent o i
+mild_silent k w d (actions.Subscribe id t) o m i = absurd m
+mild_silent k w d (actions.Unsubscribe id) o m i = absurd m
+mild_silent k w d (actions.Commit sends) o m i =
+    by_answer (λ z. begun_by z ≡ None) w (Move.Commits d sends) o (λ why x a. refl) (λ n a z e. flown_silent w d sends z e) (in_option o _ i)
+mild_silent k w d actions.Disconnect o m i =
+    by_answer (λ z. begun_by z ≡ None) w (Move.Disconnects d) o (λ why x a. refl) (λ n a z e. ap begun_by (sym (some_same Outcome.Leaving z e))) (in_option o _ i)
 
 -- a frame that is neither adds nothing
 mild_adds : (k : Core) (d : ℕ) (f : RawFrame) (left : Unread) (o : Outcome) → is_subscribe f.command ≡ false → is_unsubscribe f.command ≡ false
     → (c : ℕ) → AddsNone k c (step_of (Event.Next d) (Reading.Finds f left) o)
 mild_adds k d f left o opens closes c = go (has_effect o) (d == c)
   where
-    go : (b e : Bool) → subscriptions_left k.names (accepted_of c k.steps ++ cond b (cond e (f ∷ []) []) []) ≡ subscriptions_left k.names (accepted_of c k.steps)
-    go true true = left_quiet k.names (accepted_of c k.steps) f opens closes
-    go true false = ap (subscriptions_left k.names) (append-nil (accepted_of c k.steps))
-    go false e = ap (subscriptions_left k.names) (append-nil (accepted_of c k.steps))
+    go : (b e : Bool) → subscriptions_left (names_at k) (accepted_of c k.steps ++ cond b (cond e (f ∷ []) []) []) ≡ subscriptions_left (names_at k) (accepted_of c k.steps)
+    go true true = left_quiet (names_at k) (accepted_of c k.steps) f opens closes
+    go true false = ap (subscriptions_left (names_at k)) (append-nil (accepted_of c k.steps))
+    go false e = ap (subscriptions_left (names_at k)) (append-nil (accepted_of c k.steps))
 
--- what an accepted frame's move is
+-- what an accepted frame's moves are
 asked : (k : Core) (d : ℕ) (f : RawFrame) (left : Unread) (o : Outcome) (action : Action) (m : Move) → is_faulted o ≡ false → has_effect o ≡ true
-    → action_by f.command (session_at k d) f ≡ action → frame_move k d action ≡ Some m → moves k (Event.Next d) (Reading.Finds f left) o ≡ m ∷ []
+    → action_by f.command (session_at k d) f ≡ action → frame_move k d action ≡ Some m → moves k (Event.Next d) (Reading.Finds f left) o ≡ topic_moves (names_at k) f ++ m ∷ []
 asked k d f left o action m fault effect is move =
-    (λ i. cond (fault i) (Move.Errs d ∷ []) (cond (effect i) (option_to_list (frame_move k d (is i))) []))
-    ∙ ap (λ (z : Option Move). option_to_list z) move
+    (λ i. cond (fault i) (Move.Errs d ∷ []) (cond (effect i) (topic_moves (names_at k) f ++ option_to_list (frame_move k d (is i))) []))
+    ∙ ap (λ (z : Option Move). topic_moves (names_at k) f ++ option_to_list z) move
 
 -- nothing stands against an accepted frame
 record NoFault (k : Core) (d : ℕ) (f : RawFrame) : Type 0 where
   session : session_fault (session_at k d) f ≡ None
-  machine : (m : Move) → frame_move k d (action_by f.command (session_at k d) f) ≡ Some m → move_refusal k.world m ≡ None
+  machine : (m : Move) → frame_move k d (action_by f.command (session_at k d) f) ≡ Some m → move_refusal (core_for k f).world m ≡ None
 
 no_fault : (k : Core) (d : ℕ) (f : RawFrame) → frame_fault k d f ≡ None → NoFault k d f
-no_fault k d f e = go (case_fault f) (session_fault (session_at k d) f) refl (option_and_then (λ m. move_refusal k.world m) (frame_move k d (action_by f.command (session_at k d) f))) refl e
+no_fault k d f e =
+    go (case_fault f) (session_fault (session_at k d) f) refl (claim_fault k (action_by f.command (session_at k d) f)) (option_and_then (λ m. move_refusal (core_for k f).world m) (frame_move k d (action_by f.command (session_at k d) f))) refl e
   where
     go : (a : Option Rattle.stomp_frame.specs.declared.case_fault.CaseFault.CaseFault) (b : Option SessionFault) → session_fault (session_at k d) f ≡ b
-        → (x : Option Objection) → option_and_then (λ m. move_refusal k.world m) (frame_move k d (action_by f.command (session_at k d) f)) ≡ x
-        → option_or (option_map ConnectionFault.Frame a) (option_or (option_map ConnectionFault.Session b) (option_map (λ why. frame_no_memory) x)) ≡ None → NoFault k d f
-    go (Some a) b s x m e = none_some _ (sym e)
-    go None (Some b) s x m e = none_some _ (sym e)
-    go None None s (Some x) m e = none_some _ (sym e)
-    go None None s None m e = record { session = s; machine = λ q is. ap (λ (z : Option Move). option_and_then (λ m. move_refusal k.world m) z) (sym is) ∙ m }
+        → (y : Option ConnectionFault) (x : Option Objection) → option_and_then (λ m. move_refusal (core_for k f).world m) (frame_move k d (action_by f.command (session_at k d) f)) ≡ x
+        → option_or (option_map ConnectionFault.Frame a) (option_or (option_map ConnectionFault.Session b) (option_or y (option_map (λ why. frame_no_memory) x))) ≡ None → NoFault k d f
+    go (Some a) b s y x m e = none_some _ (sym e)
+    go None (Some b) s y x m e = none_some _ (sym e)
+    go None None s (Some y) x m e = none_some _ (sym e)
+    go None None s None (Some x) m e = none_some _ (sym e)
+    go None None s None None m e = record { session = s; machine = λ q is. ap (λ (z : Option Move). option_and_then (λ m. move_refusal (core_for k f).world m) z) (sym is) ∙ m }
 
 -- an outcome of a move that isn't refused is that of its answer
 made_outcome : (k : Core) (m : Move) (o z : Outcome) → move_refusal k.world m ≡ None → outcome_of (move_answer k.world m) ≡ Some z → In o (move_outcome k m) → o ≡ z
 made_outcome k m o z free is i = sym (some_same z o (sym is ∙ (ap outcome_of (sym (made_answer k.world m free)) ∙ in_option o _ i)))
 
+-- a topic that is made changes no subscription
+plain_then : (b : Bool) (ms : List Move) → ArePlain ms → ArePlain (cond b (Move.AddsTopic 0 ∷ []) [] ++ ms)
+plain_then true ms h = (tt, h)
+plain_then false ms h = h
+
 accepted_kind : (k : Core) (d : ℕ) (f : RawFrame) (left : Unread) (o : Outcome) → NoFault k d f → In o (frame_outcome k d f)
     → Mild f.command ⊎ ((f.command ≡ commands.Subscribe) ⊎ (f.command ≡ commands.Unsubscribe)) → NextKind k d (Reading.Finds f left) o
-accepted_kind k d f left o free i (inl mild) = inl (record {
-  plain = plain_if (is_faulted o) (Move.Errs d ∷ []) _ (tt, tt)
-      (plain_if (has_effect o) (option_to_list (frame_move k d (action_by f.command (session_at k d) f))) [] (mild_moves k d (action_by f.command (session_at k d) f) (mild.action (session_at k d) f)) tt);
-  none = mild_silent k d (action_by f.command (session_at k d) f) o (mild.action (session_at k d) f) i;
-  adds = mild_adds k d f left o mild.opens mild.closes;
-})
+accepted_kind k d f left o free i (inl mild) =
+    let own = option_to_list (frame_move k d (action_by f.command (session_at k d) f)) in
+    inl (record {
+      plain = plain_if (is_faulted o) (Move.Errs d ∷ []) (cond (has_effect o) (topic_moves (names_at k) f ++ own) []) (tt, tt)
+          (plain_if (has_effect o) (topic_moves (names_at k) f ++ own) []
+          (plain_then (has_destination f.command && not (is_known (field (codes "destination") f) (names_at k))) own
+          (mild_moves k d (action_by f.command (session_at k d) f) (mild.action (session_at k d) f))) tt);
+      none = mild_silent k (core_for k f).world d (action_by f.command (session_at k d) f) o (mild.action (session_at k d) f) i;
+      adds = mild_adds k d f left o mild.opens mild.closes;
+    })
 accepted_kind k d f left o free i (inr (inl e)) =
-    let t = topic_of k.names f in
+    let q = core_for k f in
+    let t = topic_of (names_at k) f in
     let m = Move.Subscribes d t in
-    let z = Outcome.Subscribed (length k.world.subscriptions) (topic_at k.world t).frontier in
+    let z = Outcome.Subscribed (length q.world.subscriptions) (topic_at q.world t).frontier in
     let action : action_by f.command (session_at k d) f ≡ actions.Subscribe (id_of f) t = ap (λ (q : Command). action_by q (session_at k d) f) e in
     let clear = free.machine m (ap (frame_move k d) action) in
-    let is : o ≡ z = made_outcome k m o z clear refl (subst (λ (q : Action). In o (option_map_or (move_outcome k) (frame_move k d q) (Outcome.Done ∷ []))) action i) in
+    let is : o ≡ z = made_outcome q m o z clear refl (subst (λ (a : Action). In o (option_map_or (move_outcome q) (frame_move k d a) (Outcome.Done ∷ []))) action i) in
     inr (inl (record {
       frame = f;
       read = refl;
       accepted = free.session;
       command = e;
-      is = is;
+      is = is ∙ ap (λ (xs : List Subscription). Outcome.Subscribed (length xs) (topic_at q.world t).frontier) (subs_for k f);
       move = asked k d f left o (actions.Subscribe (id_of f) t) m (ap is_faulted is) (ap has_effect is) action refl;
       free = clear;
     }))
 accepted_kind k d f left o free i (inr (inr e)) =
+    let nowhere : has_destination f.command ≡ false = ap has_destination e in
+    let here : core_for k f ≡ k = framed_none k f nowhere in
     let s = number_by d (id_of f) k.steps in
     let m = Move.Unsubscribes d s in
     let z = Outcome.Unsubscribed s (end_now k.world s) in
     let action : action_by f.command (session_at k d) f ≡ actions.Unsubscribe (id_of f) = ap (λ (q : Command). action_by q (session_at k d) f) e in
-    let clear = free.machine m (ap (frame_move k d) action) in
-    let is : o ≡ z = made_outcome k m o z clear refl (subst (λ (q : Action). In o (option_map_or (move_outcome k) (frame_move k d q) (Outcome.Done ∷ []))) action i) in
+    let clear : move_refusal k.world m ≡ None = subst (λ (q : Core). move_refusal q.world m ≡ None) here (free.machine m (ap (frame_move k d) action)) in
+    let came : In o (move_outcome k m) =
+    subst (λ (q : Core). In o (move_outcome q m)) here (subst (λ (a : Action). In o (option_map_or (move_outcome (core_for k f)) (frame_move k d a) (Outcome.Done ∷ []))) action i) in
+    let is : o ≡ z = made_outcome k m o z clear refl came in
     inr (inr (record {
       frame = f;
       read = refl;
       accepted = free.session;
       command = e;
       is = is;
-      move = asked k d f left o (actions.Unsubscribe (id_of f)) m (ap is_faulted is) (ap has_effect is) action refl;
+      move = asked k d f left o (actions.Unsubscribe (id_of f)) m (ap is_faulted is) (ap has_effect is) action refl
+          ∙ ap (λ (ms : List Move). ms ++ m ∷ []) (no_topic k f nowhere);
       free = clear;
     }))
 
@@ -393,17 +416,19 @@ others_number k c d rd o e id =
 -- what a subscription's beginning leaves
 begun_world : (k : Core) (d : ℕ) (rd : Reading) (o : Outcome) → (h : NextBegins k d rd o)
     → (core_after k (step_of (Event.Next d) rd o)).world.subscriptions
-    ≡ k.world.subscriptions ++ record { connection = d; topic = topic_of k.names h.frame; from = (topic_at k.world (topic_of k.names h.frame)).frontier; taken = 0; closed = None } ∷ []
+    ≡ k.world.subscriptions ++ record { connection = d; topic = topic_of (names_at k) h.frame; from = (topic_at (core_for k h.frame).world (topic_of (names_at k) h.frame)).frontier; taken = 0; closed = None } ∷ []
 begun_world k d rd o h =
+    let t = topic_of (names_at k) h.frame in let q = core_for k h.frame in
     ap (λ (ms : List Move). (run ms k.world).subscriptions) h.move
-    ∙ ap (λ (w : World). w.subscriptions) (made_world k.world (Move.Subscribes d (topic_of k.names h.frame)) h.free)
+    ∙ (ap (λ (w : World). w.subscriptions) (run_append (topic_moves (names_at k) h.frame) (Move.Subscribes d t ∷ []) k.world ∙ made_world q.world (Move.Subscribes d t) h.free)
+    ∙ ap (λ (xs : List Subscription). xs ++ record { connection = d; topic = t; from = (topic_at q.world t).frontier; taken = 0; closed = None } ∷ []) (subs_for k h.frame))
 
 begun_change : (k : Core) (c d : ℕ) (rd : Reading) (o : Outcome) (b : Bool) → (d == c) ≡ b → NextBegins k d rd o → StepChange k c (step_of (Event.Next d) rd o)
 begun_change k c d rd o true e h =
     let same : d ≡ c = eqb-true d c e in
     inr (inl (record {
       frame = h.frame;
-      from = (topic_at k.world (topic_of k.names h.frame)).frontier;
+      from = (topic_at (core_for k h.frame).world (topic_of (names_at k) h.frame)).frontier;
       reads = record {
         event = ap Event.Next same;
         read = h.read;
@@ -413,12 +438,12 @@ begun_change k c d rd o true e h =
       command = h.command;
       is = h.is;
       new = begun_world k d rd o h
-          ∙ ap (λ (n : ℕ). k.world.subscriptions ++ record { connection = n; topic = topic_of k.names h.frame; from = (topic_at k.world (topic_of k.names h.frame)).frontier; taken = 0; closed = None } ∷ []) same;
+          ∙ ap (λ (n : ℕ). k.world.subscriptions ++ record { connection = n; topic = topic_of (names_at k) h.frame; from = (topic_at (core_for k h.frame).world (topic_of (names_at k) h.frame)).frontier; taken = 0; closed = None } ∷ []) same;
     }))
 begun_change k c d rd o false e h =
     let w = k.world in
     let n = length w.subscriptions in
-    let x : Subscription = record { connection = d; topic = topic_of k.names h.frame; from = (topic_at w (topic_of k.names h.frame)).frontier; taken = 0; closed = None } in
+    let x : Subscription = record { connection = d; topic = topic_of (names_at k) h.frame; from = (topic_at (core_for k h.frame).world (topic_of (names_at k) h.frame)).frontier; taken = 0; closed = None } in
     let new = begun_world k d rd o h in
     inl (record {
       live = ap (live_numbers c 0) new

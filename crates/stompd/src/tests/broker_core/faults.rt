@@ -59,17 +59,22 @@ const ENDS: &[(ConnectionFault, u32, &[u8])] = &[
         b"22 Missing id",
     ),
     (
-        ConnectionFault::Session(SessionFault::UnknownDestination),
-        67,
-        b"67 UnknownDestination",
-    ),
-    (
         ConnectionFault::Session(SessionFault::NoMemory),
         72,
         b"72 NoMemory",
     ),
     (ConnectionFault::ReaderNoMemory, 72, b"72 NoMemory"),
     (ConnectionFault::Lagged, 74, b"74 Lagged"),
+    (
+        ConnectionFault::Session(SessionFault::TooManyTopics),
+        75,
+        b"75 TooManyTopics",
+    ),
+    (
+        ConnectionFault::Session(SessionFault::BadDestination),
+        76,
+        b"76 BadDestination",
+    ),
 ];
 
 #[test]

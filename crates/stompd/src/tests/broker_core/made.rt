@@ -2,7 +2,7 @@
 
 use super::asks::{Ask, event, topics};
 use super::draws::Made;
-use super::past::{Flight, Past, Span};
+use super::past::{Past, Span};
 use super::replies::{Dues, Reply, out};
 use crate::tests::draws::Draws;
 use delivery::{CommitRow, Net, Outcome, QueueItem, QueueReport, Report, agreed, due};
@@ -17,12 +17,12 @@ const RUNS: u32 = 200;
 
 const DRAWS: u32 = 200;
 
-/// SENDs to these topics, with nothing in them.
-fn sends(alloc: Global, topics: &[u32]) -> Result<Vec<SentMessage>, NoMemory> {
+/// SENDs to the topics of these letters, with nothing in them.
+fn sends(alloc: Global, past: &Past, topics: &[u8]) -> Result<Vec<SentMessage>, NoMemory> {
     let mut sends = Vec::new(alloc);
-    for topic in topics {
+    for letter in topics {
         sends.push(SentMessage {
-            topic: Topic(*topic),
+            topic: Topic(past.number(*letter)),
             headers: Headers::new(alloc),
             body: Octets::new(alloc),
         })?;
@@ -31,12 +31,12 @@ fn sends(alloc: Global, topics: &[u32]) -> Result<Vec<SentMessage>, NoMemory> {
 }
 
 /// The committed transactions.
-fn rows(alloc: Global, commits: &[Flight]) -> Result<Vec<CommitRow>, NoMemory> {
+fn rows(alloc: Global, past: &Past) -> Result<Vec<CommitRow>, NoMemory> {
     let mut rows = Vec::new(alloc);
-    for commit in commits {
+    for commit in &past.commits {
         rows.push(CommitRow {
             id: commit.id,
-            sends: sends(alloc, commit.topics)?,
+            sends: sends(alloc, past, commit.topics)?,
             stamp: commit.stamp,
         })?;
     }
@@ -134,15 +134,6 @@ fn has_span(queue: &QueueReport<'_>, span: Span) -> bool {
         && queue.handed_len() <= queue.queued_len()
 }
 
-/// The letter of a topic.
-fn letter(topic: u32) -> char {
-    match topic {
-        0 => 'A',
-        1 => 'B',
-        _ => 'C',
-    }
-}
-
 /// What is due to the subscription.
 fn due_to(
     alloc: Global,
@@ -153,7 +144,7 @@ fn due_to(
 ) -> Result<Dues, NoMemory> {
     let items = due(
         alloc,
-        rows(alloc, &past.commits)?,
+        rows(alloc, past)?,
         Topic(span.topic),
         span.from,
         report.subscription(s).and_then(|queue| queue.to()),
@@ -161,7 +152,7 @@ fn due_to(
     )?;
     Ok(Dues {
         id: span.id,
-        topic: letter(span.topic),
+        topic: past.letter(span.topic),
         items,
     })
 }
@@ -220,11 +211,12 @@ fn have_outs(
 
 /// Whether the report is what the outcomes say.
 fn is_right(alloc: Global, report: &Report<'_>, past: &Past) -> Result<bool, NoMemory> {
-    let sorted = agreed(alloc, rows(alloc, &past.commits)?)?;
+    let sorted = agreed(alloc, rows(alloc, past)?)?;
     let dues = dues(alloc, report, past)?;
     Ok(
         has_commits(report, past)
             && rise(&sorted)
+            && report.topics_len() == past.names.len()
             && (0..report.topics_len()).all(|t| has_log(report, t, &sorted))
             && have_due(report, past, &dues)
             && have_outs(alloc, report, past, &dues)?,
@@ -283,7 +275,8 @@ fn read(
 fn connect(alloc: Global, net: &mut Net, past: &mut Past, c: u64) -> Result<bool, NoMemory> {
     let made = Made {
         octets: b"CONNECT\naccept-version:1.2\nhost:h\n\n\0SUBSCRIBE\nid:s\ndestination:A\n\n\0",
-        topics: &[0],
+        destinations: b" A",
+        topics: b"A",
         id: 's',
         asks: false,
     };
@@ -318,7 +311,7 @@ fn drawn(
     }
 }
 
-/// Which kinds of outcomes came.
+/// Which kinds of outcomes came, and in how many runs there are more than five topics.
 #[derive(Drop)]
 struct Seen {
     commits: usize,
@@ -327,6 +320,7 @@ struct Seen {
     ends: usize,
     receipts: usize,
     errors: usize,
+    topics: usize,
 }
 
 /// Whether the subscription's span ended by a lag.
@@ -339,6 +333,9 @@ fn is_lag(report: &Report<'_>, s: usize) -> bool {
 impl Seen {
     fn add(&mut self, report: &Report<'_>, past: &Past) {
         self.commits = self.commits.saturating_add(past.commits.len());
+        if past.names.len() > 5 {
+            self.topics = self.topics.saturating_add(1);
+        }
         for s in 0..past.spans.len() {
             self.handed = self.handed.saturating_add(past.spans[s].handed);
             if past.spans[s].to.is_some() {
@@ -362,6 +359,11 @@ impl Seen {
     }
 }
 
+/// The letters of the opening topics of a run: every third makes C where a frame names it.
+fn opening(run: u32) -> &'static [u8] {
+    if run % 3 == 0 { b"AB" } else { b"ABC" }
+}
+
 /// The core of a run: every eighth has a topic whose clock is nearly full.
 fn new_net(alloc: Global, run: u32) -> Result<Net, NoMemory> {
     let clock = if run % 8 == 0 { u64::MAX - 2 } else { 4 };
@@ -380,7 +382,7 @@ fn new_net(alloc: Global, run: u32) -> Result<Net, NoMemory> {
 /// Whether each outcome of the run may be, and what is reported at its end is right.
 fn holds(alloc: Global, run: u32, seen: &mut Seen) -> Result<bool, NoMemory> {
     let mut net = new_net(alloc, run)?;
-    let mut past = Past::new(alloc);
+    let mut past = Past::new(alloc, opening(run))?;
     let mut draws = Draws::of(run);
     if !connect_all(alloc, &mut net, &mut past)? {
         return Ok(false);
@@ -404,6 +406,7 @@ fn made_runs(rt: HostRuntime) -> Result<(), Fail> {
         ends: 0,
         receipts: 0,
         errors: 0,
+        topics: 0,
     };
     for run in 0..RUNS {
         assert!(rt; holds(rt.alloc(), run, &mut seen)?, "run {run}");
@@ -414,5 +417,6 @@ fn made_runs(rt: HostRuntime) -> Result<(), Fail> {
     assert!(rt; seen.ends > 0);
     assert!(rt; seen.receipts > 0);
     assert!(rt; seen.errors > 0);
+    assert!(rt; seen.topics > 0);
     Ok(())
 }

@@ -8,12 +8,12 @@ use mcast_txn::{Stamp, Topic, TxnId};
 use std::alloc::Global;
 use stomp_frame::NoMemory;
 
-/// A transaction that was undecided once: the topics of its SENDs, whether it asks for a RECEIPT, and the greatest of its
+/// A transaction that was undecided once: the letters of the topics of its SENDs, whether it asks for a RECEIPT, and the greatest of its
 /// tickets so far.
 #[derive(Clone, Copy, Drop)]
 pub(super) struct Flight {
     pub(super) id: TxnId,
-    pub(super) topics: &'static [u32],
+    pub(super) topics: &'static [u8],
     pub(super) asks: bool,
     pub(super) stamp: Stamp,
 }
@@ -21,8 +21,9 @@ pub(super) struct Flight {
 /// A connection.
 #[derive(Clone, Copy, Drop)]
 pub(super) struct Line {
-    /// What it was fed last, until it was read.
+    /// What it was fed last, until it was read, and how many frames of it were.
     pub(super) fed: Option<Made>,
+    pub(super) frames: usize,
     pub(super) flight: Option<Flight>,
     pub(super) is_open: bool,
     pub(super) is_connected: bool,
@@ -43,20 +44,73 @@ pub(super) struct Span {
 /// What the outcomes said so far.
 #[derive(Drop)]
 pub(super) struct Past {
+    /// The letters of the topics so far, in the order of their numbers.
+    pub(super) names: Vec<u8>,
     pub(super) lines: Vec<Line>,
     pub(super) commits: Vec<Flight>,
     pub(super) spans: Vec<Span>,
     pub(super) written: Vec<Written>,
 }
 
+/// Whether the event is a Next whose frame was accepted.
+fn is_accepted(ask: Ask, outcome: Outcome) -> bool {
+    match (ask, outcome) {
+        (Ask::Next(_), Outcome::Done | Outcome::Flying(_) | Outcome::Leaving) => true,
+        (Ask::Next(_), Outcome::Subscribed(..) | Outcome::Unsubscribed(..)) => true,
+        _ => false,
+    }
+}
+
 impl Past {
-    pub(super) fn new(alloc: Global) -> Past {
-        Past {
+    /// Nothing yet, but for the opening topics of these letters.
+    pub(super) fn new(alloc: Global, opening: &[u8]) -> Result<Past, NoMemory> {
+        Ok(Past {
+            names: Vec::from_slice(alloc, opening)?,
             lines: Vec::new(alloc),
             commits: Vec::new(alloc),
             spans: Vec::new(alloc),
             written: Vec::new(alloc),
+        })
+    }
+
+    /// The number of the topic of this letter; how many topics there are where it is none's.
+    pub(super) fn number(&self, letter: u8) -> u32 {
+        let index = self.names.iter().position(|name| *name == letter);
+        u32::try_from(index.unwrap_or(self.names.len())).unwrap_or(u32::MAX)
+    }
+
+    /// The letter of a topic.
+    pub(super) fn letter(&self, topic: u32) -> char {
+        match self.names.get(topic as usize) {
+            Some(letter) => char::from(*letter),
+            None => ' ',
         }
+    }
+
+    /// The letter of the destination of the frame that the connection is read next; a space where it has none.
+    fn destination(&self, c: u64) -> u8 {
+        let Some(line) = self.lines.get(c as usize) else {
+            return b' ';
+        };
+        let Some(made) = line.fed else {
+            return b' ';
+        };
+        match made.destinations.get(line.frames) {
+            Some(letter) => *letter,
+            None => b' ',
+        }
+    }
+
+    /// The connection's next frame was accepted: its destination has a topic.
+    fn accepted(&mut self, c: u64) -> Result<(), NoMemory> {
+        let letter = self.destination(c);
+        if let Some(line) = self.lines.get_mut(c as usize) {
+            line.frames = line.frames.saturating_add(1);
+        }
+        if letter != b' ' && self.number(letter) as usize == self.names.len() {
+            self.names.push(letter)?;
+        }
+        Ok(())
     }
 
     pub(super) fn fed(&self, c: u64) -> Option<Made> {
@@ -66,6 +120,7 @@ impl Past {
     pub(super) fn feed(&mut self, c: u64, fed: Option<Made>) {
         if let Some(line) = self.lines.get_mut(c as usize) {
             line.fed = fed;
+            line.frames = 0;
         }
     }
 
@@ -108,6 +163,7 @@ impl Past {
     pub(super) fn opened(&mut self) -> Result<bool, NoMemory> {
         self.lines.push(Line {
             fed: None,
+            frames: 0,
             flight: None,
             is_open: true,
             is_connected: false,
@@ -229,7 +285,7 @@ impl Past {
         let is_first = self.flight(c).is_none();
         let (topics, asks) = match self.fed(c) {
             Some(made) => (made.topics, made.asks),
-            None => ([].as_slice(), false),
+            None => (b"".as_slice(), false),
         };
         let stamp = Stamp::ZERO;
         self.fly(
@@ -271,7 +327,7 @@ impl Past {
             return Ok(false);
         };
         let topic = match made.topics {
-            [topic] => *topic,
+            [letter] => self.number(*letter),
             _ => return Ok(false),
         };
         self.spans.push(Span {
@@ -328,6 +384,9 @@ impl Past {
     pub(super) fn keep(&mut self, ask: Ask, outcome: Outcome) -> Result<bool, NoMemory> {
         self.keep_reply(ask, outcome)?;
         let c = self.connection(ask);
+        if is_accepted(ask, outcome) {
+            self.accepted(c)?;
+        }
         match outcome {
             Outcome::Opened(_) => self.opened(),
             Outcome::Flying(id) => Ok(self.began(c, id)),

@@ -38,8 +38,8 @@ pub(super) fn title(fault: ConnectionFault) -> &'static str {
     match fault.number() {
         63 => "63 SubIdInUse",
         64 => "64 NoSuchSub",
-        67 => "67 UnknownDestination",
         74 => "74 Lagged",
+        76 => "76 BadDestination",
         _ => "",
     }
 }

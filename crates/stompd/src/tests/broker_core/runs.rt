@@ -1,6 +1,8 @@
 //! Worked runs of the core: each event with what comes of it, and then the whole report.
 
+pub(crate) mod first_uses;
 pub(crate) mod frames;
+pub(crate) mod lasting;
 pub(crate) mod order;
 pub(crate) mod spans;
 
@@ -22,7 +24,7 @@ pub(crate) struct Run {
 }
 
 /// How many runs there are.
-pub(crate) const RUNS_LEN: usize = 18;
+pub(crate) const RUNS_LEN: usize = 25;
 
 /// The run of this number, from 0. Each run has a function of its own, and stands in no table: a proof writes a constant out
 /// wherever it is named.
@@ -46,6 +48,13 @@ pub(crate) fn run_at(i: usize) -> Option<&'static Run> {
         15 => spans::lagged(),
         16 => spans::last_leaves(),
         17 => spans::refusals(),
+        18 => first_uses::first_use(),
+        19 => first_uses::aborted(),
+        20 => first_uses::mixed(),
+        21 => lasting::lasting(),
+        22 => lasting::flying(),
+        23 => lasting::cancelling(),
+        24 => lasting::counted(),
         _ => return None,
     })
 }

@@ -107,6 +107,7 @@ fn with_reply(outcome: Outcome) -> Outcome {
 /// How much of each kind is reported.
 #[derive(Clone, Copy, PartialEq, Eq)]
 struct Sizes {
+    topics: usize,
     commits: usize,
     logged: usize,
     connections: usize,
@@ -151,6 +152,7 @@ fn written(report: &Report<'_>) -> usize {
 fn sizes_of(report: &Report<'_>) -> Sizes {
     let (queued, handed) = items(report);
     Sizes {
+        topics: report.topics_len(),
         commits: report.commits_len(),
         logged: logged(report),
         connections: report.connections_len(),
@@ -279,7 +281,8 @@ fn send(topics: usize) -> &'static [u8] {
     match topics {
         1 => b"SEND\ndestination:A\n\nm\0",
         2 => b"SEND\ndestination:B\n\nm\0",
-        _ => b"SEND\ndestination:C\n\nm\0",
+        3 => b"SEND\ndestination:C\n\nm\0",
+        _ => b"SEND\ndestination:D\n\nm\0",
     }
 }
 

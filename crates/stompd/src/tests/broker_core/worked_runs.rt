@@ -9,7 +9,7 @@ use std::test::Fail;
 use stomp_frame::NoMemory;
 
 /// The core of the run before its first event.
-fn made(alloc: Global, run: &Run) -> Result<Net, NoMemory> {
+pub(super) fn made(alloc: Global, run: &Run) -> Result<Net, NoMemory> {
     if run.capacity == 0 || run.capacity > MAX_CAPACITY {
         return Err(NoMemory);
     }

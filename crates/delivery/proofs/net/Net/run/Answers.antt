@@ -5,7 +5,7 @@ use Rattle.delivery.specs.declared.kept.Kept.{Kept}
 use Rattle.delivery.specs.Nets.{KeptRun, HasTaken}
 use Rattle.delivery.specs.Inner.Readings.{steps_of}
 use Rattle.std.specs.Prelude.{reverse}
-use Rattle.delivery.proofs.Views.Runs.KeptRuns.{has_report, taken_none, taken_more}
+use Rattle.delivery.proofs.Views.Runs.KeptRuns.{opening_of, has_report, taken_none, taken_more}
 use Rattle.delivery.proofs.net.Net.run.Goals as goal
 
 nothing_left : {X : Type 0} (l : List X) → length l ≡ 0 → l ≡ []
@@ -14,7 +14,7 @@ nothing_left (x ∷ xs) h = absurd (omega arith)
 
 pub returns-in_err-reserve-clause-delivered : goal.returns-in_err-reserve-clause-delivered
 returns-in_err-reserve-clause-delivered c =
-    has_report _ c.self.inside.state refl (rw c.in_err-reserve.ensures.items c.self.invariant)
+    has_report _ c.self.inside.state refl (rw c.in_err-reserve.ensures.items c.self.invariant.run)
 
 pub loop-event-init : goal.loop-event-init
 loop-event-init c =
@@ -26,7 +26,7 @@ loop-event-init c =
     let spare = vec_capacity c.reserve.new.self - vec_len c.reserve.new.self in
     let was = ap (λ (net : KeptRun). net.spare) c.self.view_is in
     let new : List Kept → KeptRun = λ kept. record {
-      topics = record { names = held.names; clocks = c.self.inside.clocks.items };
+      topics = opening_of c.self.inside.clocks.items held;
       capacity = held.capacity;
       kept = kept;
       steps = steps_of (reverse kept);
@@ -34,7 +34,7 @@ loop-event-init c =
     } in (
       items,
       taken_none c.args.self.now _ (ap new c.in_ok-reserve.ensures.items ∙ ap (λ (net : KeptRun). record net { spare = spare }) c.self.view_is),
-      has_report _ held refl (rw c.in_ok-reserve.ensures.items c.self.invariant),
+      has_report _ held refl (rw c.in_ok-reserve.ensures.items c.self.invariant.run),
       omega (arith, many, c.len.ensures, c.in_ok-reserve.ensures.ok, c.in_ok-reserve.ensures.len),
       omega (arith, was, c.in_ok-reserve.ensures.capacity, c.in_ok-reserve.ensures.len),
       c.into_iter-event-iterator.ensures.into_iter_gives.1 ∙ omega (arith, read, events.ok.0),

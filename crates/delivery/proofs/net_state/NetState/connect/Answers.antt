@@ -1,16 +1,63 @@
-use Rattle.std.proofs.Common.{sym, subst}
-use Rattle.stomp_session.specs.declared.action.Action.TheVariants as actions
-use Rattle.delivery.specs.Inner.Nexts.{Asks}
-use Rattle.delivery.specs.Inner.View.{View, no_endpoint}
-use Rattle.delivery.proofs.Views.Events.NextFrames.{next_connects}
-use Rattle.delivery.proofs.Views.Events.WantsMemory.{connect_wants}
+use Rattle.std.proofs.Common.{ℕ, length, get_or, refl, sym, ap, subst, ◌∙◌, arith}
+use Rattle.std.specs.Prelude.{List, Option, Result, Ok}
+use Rattle.stomp_escape.specs.declared.no_memory.NoMemory.{NoMemory}
+use Rattle.stomp_frame.specs.ServerFrames.{connected_frame}
+use Rattle.stomp_frame.specs.Writing.{spelling_of}
+use Rattle.sender_gate.specs.Senders.{after_claim, claim_refusal, claimed_gate}
+use Rattle.delivery.specs.declared.connection_fault.ConnectionFault.{ConnectionFault}
+use Rattle.delivery.specs.Inner.Clients.{with_sender_of}
+use Rattle.delivery.specs.Inner.Nexts.{MayEnd}
+use Rattle.delivery.specs.Inner.View.{View, no_endpoint, written_endpoint}
+use Rattle.delivery.proofs.Views.Endpoints.EndpointChanges.{changed_length, taken_back}
+use Rattle.delivery.proofs.Views.Events.ConnectStep.{claim_lacks, claim_refused, connect_both, sender_endpoints}
 use Rattle.delivery.proofs.net_state.NetState.connect.Goals as goal
 
-pub returns-in-Ok : goal.returns-in-Ok
-returns-in-Ok c k f left asks =
-    next_connects k c.args.connection f left c.args.receipt.now c.args.self.now c.write.new.self no_endpoint asks (c.in-Ok.ensures.ok no_endpoint)
+pub returns-in-Err-clause-fault : goal.returns-in-Err-clause-fault
+returns-in-Err-clause-fault c k f left receipt asks kept =
+    subst (λ (fault : ConnectionFault). MayEnd k c.args.connection f fault) (sym c.refused_claim.ensures)
+    (claim_refused k c.args.connection f left c.args.client.now receipt c.args.self.now c.args.clients.now asks kept c.in-Err.fault
+    (ap (λ (id : Option (List ℕ)). claim_refusal id c.args.clients.now) (sym c.id_of-id.ensures) ∙ sym c.in-Err.ensures))
 
-pub returns-in-Err : goal.returns-in-Err
-returns-in-Err c k f left asks =
-    c.lack.ensures k f left actions.Connected (subst (λ (v : View). Asks k c.args.connection f left actions.Connected c.args.receipt.now v) (sym c.in-Err.ensures.err) asks)
-    (connect_wants k c.args.connection f left c.args.receipt.now c.args.self.now asks)
+pub returns-in_default-write-clause-fault : goal.returns-in_default-write-clause-fault
+returns-in_default-write-clause-fault c k f left receipt asks kept =
+    claim_lacks k c.args.connection f left c.args.client.now receipt c.args.self.now c.args.clients.now asks kept
+    (ap (λ (id : Option (List ℕ)). claim_refusal id c.args.clients.now) (sym c.id_of-id.ensures) ∙ sym c.in_default.ensures)
+
+pub speak_for-requires : goal.speak_for-requires
+speak_for-requires c =
+    let v = c.args.self.now in
+    let n = changed_length v c.write.new.self c.args.connection (written_endpoint (spelling_of connected_frame) (get_or v.endpoints c.args.connection no_endpoint)) (c.in-Ok.ensures.ok no_endpoint) in
+    let m = ap (λ (x : View). length x.endpoints) c.in-Ok-claim.ensures.held ∙ sender_endpoints _ c.write.new.self in
+    omega (arith, n, m, c.requires)
+
+pub take_back-requires : goal.take_back-requires
+take_back-requires c =
+    let v = c.args.self.now in
+    let n = changed_length v c.write.new.self c.args.connection (written_endpoint (spelling_of connected_frame) (get_or v.endpoints c.args.connection no_endpoint)) (c.in-Ok.ensures.ok no_endpoint) in
+    let m = ap (λ (x : View). length x.endpoints) c.in-Err-claim.ensures.err in
+    omega (arith, n, m, c.requires)
+
+pub returns-in-Ok-claim-clause-ok : goal.returns-in-Ok-claim-clause-ok
+returns-in-Ok-claim-clause-ok c k f left receipt asks kept =
+    let h = c.in-Ok-claim.ensures in
+    let clients = c.args.clients.now in
+    let id = c.id_of-id.ensures in
+    connect_both k c.args.connection f left c.args.client.now receipt c.args.self.now clients asks kept
+    c.write.new.self c.claim.new.self c.speak_for.new.self c.in-Ok-claim.sender c.claim.new.clients no_endpoint
+    (ap (λ (o : Option (List ℕ)). claim_refusal o clients) (sym id) ∙ sym c.in_default.ensures)
+    (c.in-Ok.ensures.ok no_endpoint)
+    (ap (λ (o : Option (List ℕ)). (claimed_gate o clients).sender.0) (sym id) ∙ h.ok)
+    (h.held ∙ ap (λ (o : Option (List ℕ)). with_sender_of (claimed_gate o clients) c.write.new.self) id)
+    (c.speak_for.ensures no_endpoint)
+    (h.claimed ∙ ap (λ (o : Option (List ℕ)). after_claim o clients) id)
+
+pub returns-in-Err-claim-clause-fault : goal.returns-in-Err-claim-clause-fault
+returns-in-Err-claim-clause-fault c k f left receipt asks kept =
+    claim_lacks k c.args.connection f left c.args.client.now receipt c.args.self.now c.args.clients.now asks kept
+    (ap (λ (id : Option (List ℕ)). claim_refusal id c.args.clients.now) (sym c.id_of-id.ensures) ∙ sym c.in_default.ensures)
+
+pub returns-in-Err-claim-clause-err : goal.returns-in-Err-claim-clause-err
+returns-in-Err-claim-clause-err c =
+    let wrote : Result (Unit {0}) NoMemory = Ok tt in
+    taken_back c.args.self.now c.write.new.self c.claim.new.self c.take_back.new.self c.args.connection c.written-len.result (spelling_of connected_frame) wrote no_endpoint
+    c.requires (c.written-len.ensures no_endpoint) refl (c.in-Ok.ensures.ok, tt) c.in-Err-claim.ensures.err (c.take_back.ensures no_endpoint)

@@ -146,7 +146,7 @@ pub(crate) fn unconnected() -> &'static Run {
 }
 
 const FAULTS: &Run = &Run {
-    shows: "faults of the session and of a command",
+    shows: "a first use, and faults of the session and of a command",
     capacity: 64,
     topics: &[(b"A", 0)],
     rows: &[
@@ -156,7 +156,7 @@ const FAULTS: &Run = &Run {
         (Connect(3), "done"),
         (
             Frame(0, b"SEND\ndestination:Z\nreceipt:r\n\nm\0"),
-            "error 67",
+            "flight 0 1",
         ),
         (
             Frame(1, b"COMMIT\ntransaction:q\nreceipt:r\n\n\0"),
@@ -170,13 +170,16 @@ const FAULTS: &Run = &Run {
             "error 68",
         ),
         (Frame(3, b"ACK\nid:1\nreceipt:r\n\n\0"), "error 21"),
-        (Piece(0, b"x"), "refused 81"),
-        (Leave(0), "gone"),
-        (Next(0), "refused 87"),
+        (Piece(0, b"x"), "fed"),
+        (Leave(0), "refused 79"),
+        (Next(0), "refused 81"),
+        (Piece(3, b"x"), "refused 81"),
+        (Leave(3), "gone"),
+        (Next(3), "refused 87"),
     ],
-    report: "log 0\n",
+    report: "log 0\nlog 1\n",
     outs: &[
-        b"CONNECTED\nversion:1.2\nheart-beat:0,0\n\n\0ERROR\nmessage:67 UnknownDestination\nreceipt-id:r\ncontent-length:0\n\n\0",
+        b"CONNECTED\nversion:1.2\nheart-beat:0,0\n\n\0",
         b"CONNECTED\nversion:1.2\nheart-beat:0,0\n\n\0ERROR\nmessage:66 NoSuchTxn\nreceipt-id:r\ncontent-length:0\n\n\0",
         b"CONNECTED\nversion:1.2\nheart-beat:0,0\n\n\0ERROR\nmessage:68 AckMode\nreceipt-id:r\ncontent-length:0\n\n\0",
         b"CONNECTED\nversion:1.2\nheart-beat:0,0\n\n\0ERROR\nmessage:21 Unsupported\nreceipt-id:r\ncontent-length:0\n\n\0",

@@ -1,0 +1,330 @@
+-- Whom each connection of a core speaks for, and how many senders there are, is as the accepted CONNECTs say.
+use Rattle.std.proofs.Common.{◌≡◌, ℕ, ◌+◌, ◌<◌, ◌==◌, Bool, true, false, cond, not, ◌&&◌, List, [], ◌∷◌, ◌++◌, length, get_or, set, Option, Some, None, inl, inr, refl, sym, ap, subst, ◌∙◌, arith, true≢false}
+use Rattle.std.specs.Prelude.{codes}
+use Rattle.std.specs.List.{list_all}
+use Rattle.std.specs.Option.{option_map, option_map_or, option_and_then, option_to_list, option_or, unwrap_or}
+use Rattle.std.proofs.lemmas.Bool.{false≢true, and_parts, ltb-true, eqb-true, eq-eqb}
+use Rattle.stomp_frame.specs.declared.command.Command.{Command}
+use Rattle.stomp_frame.specs.declared.command.Command.TheVariants as commands
+use Rattle.stomp_frame.specs.declared.raw_frame.RawFrame.{RawFrame}
+use Rattle.stomp_frame.specs.declared.case_fault.CaseFault.{CaseFault}
+use Rattle.stomp_frame.specs.Cases.{is_connect, case_fault}
+use Rattle.stomp_frame.specs.Headers.{first_of}
+use Rattle.stomp_frame.specs.Reader.{Unread}
+use Rattle.mcast_txn.specs.Ballot.{Decision}
+use Rattle.mcast_txn.specs.Checks.{first_refusal}
+use Rattle.mcast_txn.specs.Lists.{In}
+use Rattle.mcast_txn.specs.declared.id.Topic.{Topic}
+use Rattle.mcast_txn.specs.declared.id.TxnId.{TxnId}
+use Rattle.mcast_txn.specs.declared.draft.sent_message.SentMessage.{SentMessage}
+use Rattle.mcast_txn.specs.Span.{Item}
+use Rattle.mcast_txn.proofs.Members.{at_set, at_set_within}
+use Rattle.mcast_group.specs.declared.fault.ProposeFault.{ProposeFault}
+use Rattle.mcast_group.specs.Machine.{Entry}
+use Rattle.mcast_group.proofs.Parts.{none_some, not_true}
+use Rattle.stomp_session.specs.declared.action.Action.{Action}
+use Rattle.stomp_session.specs.declared.action.Action.TheVariants as actions
+use Rattle.stomp_session.specs.declared.fault.SessionFault.{SessionFault}
+use Rattle.stomp_session.specs.Names.{is_known}
+use Rattle.stomp_session.specs.Frames.{field, transaction_of, send_of, client_of, has_destination}
+use Rattle.stomp_session.specs.Open.{Held}
+use Rattle.stomp_session.specs.Answers.{action_by, commit}
+use Rattle.stomp_session.specs.Refusals.{sends_in, session_fault}
+use Rattle.delivery.specs.declared.event.Event.{Event}
+use Rattle.delivery.specs.declared.outcome.Outcome.{Outcome}
+use Rattle.delivery.specs.declared.refusal.Refusal.{Refusal}
+use Rattle.delivery.specs.declared.connection_fault.ConnectionFault.{ConnectionFault}
+use Rattle.delivery.specs.Topics.{TopicList}
+use Rattle.delivery.specs.Machine.Objections.{Objection, refusal_of}
+use Rattle.delivery.specs.Machine.World.{World, Connection, Leftover, SenderState, nobody, new_sender, connection_at, speaker, speaker_number, subscription_at, entry_at}
+use Rattle.delivery.specs.Machine.Moves.{Move, world_after, move_refusal, move_effect, needs_idle, find_leftover, find_verdict, oldest_live, claimed_senders, connect_effect, commit_effect, proposal_fault, propose_effect, cancel_effect, learn_effect, take_effect, leave_effect, close_effect_of}
+use Rattle.delivery.specs.Machine.Moves.Move.{AddsTopic, Opens, Connects, Commits, Unsubscribes, Disconnects, Errs, Lost, Leaves, Proposes, Decides, Withdraws, Cancels, Learns, Takes}
+use Rattle.delivery.specs.Machine.Runs.{run}
+use Rattle.delivery.specs.Core.Steps.{CoreStep, Reading, frame_in, has_effect}
+use Rattle.delivery.specs.Core.Claims.{Claim, claim_of, claims_of, is_kept, begins, begun_count, claimed_sender, sender_claimed, sender_of}
+use Rattle.delivery.specs.Core.Output.{is_cut}
+use Rattle.delivery.specs.Core.State.{Core, core_for, core_of, names_at, moves, topic_moves, frame_move, session_at, is_no_memory}
+use Rattle.delivery.specs.Core.Outcomes.{unless, frame_no_memory, claim_fault, frame_fault, fault_outcomes, outcomes_without, reading_outcomes, outcomes, accepted_outcomes, IsCoreRun}
+use Rattle.delivery.proofs.Machine.SubscriptionSteps.{at_push, push_length, set_length}
+use Rattle.delivery.proofs.Machine.InvariantIsKept.{by_refusal, checked, false_not}
+
+-- there are as many senders as have begun, and each connection speaks for whom it claimed
+pub record Stand (w : World) (claims : List Claim) : Type 0 where
+  pub begun : length w.senders ≡ begun_count claims
+  pub spoken : (c : ℕ) → (connection_at w c).sender ≡ sender_claimed c claims
+
+-- ---- a move that claims none
+
+-- there are as many senders as before, and each connection speaks for whom it spoke
+record Keeps (w v : World) : Type 0 where
+  senders : length v.senders ≡ length w.senders
+  spoken : (c : ℕ) → (connection_at v c).sender ≡ (connection_at w c).sender
+
+abbrev is_quiet : Move → Bool
+is_quiet (Connects c claimed) = false
+is_quiet e = true
+
+alike : (w : World) → Keeps w w
+alike w = record { senders = refl; spoken = λ c. refl }
+
+-- a connection stands otherwise
+standing : (w : World) (c : ℕ) (x : Connection) → x.sender ≡ (connection_at w c).sender → (d : ℕ) → (get_or (set w.connections c x) d nobody).sender ≡ (connection_at w d).sender
+standing w c x e d =
+    at_set (λ (z : Connection). z.sender ≡ (connection_at w d).sender) w.connections c d x nobody (λ k. e ∙ ap (λ n. (connection_at w n).sender) (sym k)) refl
+
+flown : (w : World) (c : ℕ) (sends : List SentMessage) → Keeps w (commit_effect w c sends)
+flown w c [] = alike w
+flown w c (first ∷ others) = record { senders = set_length w.senders (speaker_number w c) _; spoken = λ d. refl }
+
+proposed : (w : World) (c : ℕ) (t : Topic) (o : Option ProposeFault) → Keeps w (propose_effect w c t o)
+proposed w c t None = record { senders = set_length w.senders (speaker_number w c) _; spoken = λ d. refl }
+proposed w c t (Some fault) = record { senders = set_length w.senders (speaker_number w c) _; spoken = λ d. refl }
+
+cancelled : (w : World) (c : ℕ) (t : Topic) (o : Option Leftover) → Keeps w (cancel_effect w c t o)
+cancelled w c t None = alike w
+cancelled w c t (Some k) = record { senders = set_length w.senders (speaker_number w c) _; spoken = λ d. refl }
+
+learned : (w : World) (t : Topic) (id : TxnId) (o : Option Decision) → Keeps w (learn_effect w t id o)
+learned w t id None = alike w
+learned w t id (Some v) = record { senders = refl; spoken = λ d. refl }
+
+closed : (w : World) (s : ℕ) (o : Option Entry) → Keeps w (close_effect_of w s o)
+closed w s None = alike w
+closed w s (Some e) = record { senders = refl; spoken = λ d. refl }
+
+left : (w : World) (c : ℕ) (o : Option ℕ) → Keeps w (leave_effect w c o)
+left w c None = record { senders = refl; spoken = standing w c _ refl }
+left w c (Some s) = closed w s (entry_at w s)
+
+handed : (w : World) (s : ℕ) (o : Option Item) → Keeps w (take_effect w s o)
+handed w s None = record { senders = refl; spoken = standing w (subscription_at w s).connection _ refl }
+handed w s (Some item) = record { senders = refl; spoken = λ d. refl }
+
+effect_keeps : (w : World) (e : Move) → is_quiet e ≡ true → Keeps w (move_effect w e)
+effect_keeps w (Connects c claimed) q = absurd (false≢true q)
+effect_keeps w Opens q = record {
+  senders = refl;
+  spoken = λ c. at_push (λ (z : Connection). z.sender ≡ (connection_at w c).sender) w.connections c _ nobody (λ k e. e) refl;
+}
+effect_keeps w (Commits c sends) q = flown w c sends
+effect_keeps w (Unsubscribes c s) q = closed w s (entry_at w s)
+effect_keeps w (Disconnects c) q = record { senders = refl; spoken = standing w c _ refl }
+effect_keeps w (Errs c) q = record { senders = refl; spoken = standing w c _ refl }
+effect_keeps w (Lost c) q = record { senders = refl; spoken = standing w c _ refl }
+effect_keeps w (Leaves c) q = left w c (oldest_live c 0 w.subscriptions)
+effect_keeps w (Proposes c t memory) q = proposed w c t (proposal_fault w c t memory)
+effect_keeps w (Decides c) q = record { senders = set_length w.senders (speaker_number w c) _; spoken = λ d. refl }
+effect_keeps w (Withdraws c) q = record { senders = set_length w.senders (speaker_number w c) _; spoken = standing w c _ refl }
+effect_keeps w (Cancels c t) q = cancelled w c t (find_leftover t (speaker w c).leftovers)
+effect_keeps w (Learns t id) q = learned w t id (find_verdict id w.verdicts)
+effect_keeps w (Takes s) q = handed w s _
+effect_keeps w _ q = record { senders = refl; spoken = λ d. refl }
+
+quiet_stand : (w : World) (e : Move) (claims : List Claim) → is_quiet e ≡ true → Stand w claims → Stand (world_after w e) claims
+quiet_stand w e claims q h =
+    let k = by_refusal (λ v o. Keeps w v) w e (λ why. alike w) (λ n. effect_keeps w e q) in
+    record { begun = k.senders ∙ h.begun; spoken = λ c. k.spoken c ∙ h.spoken c }
+
+run_stand : (ms : List Move) (w : World) (claims : List Claim) → list_all is_quiet ms ≡ true → Stand w claims → Stand (run ms w) claims
+run_stand [] w claims q h = h
+run_stand (e ∷ es) w claims q h =
+    let k = and_parts (is_quiet e) (list_all is_quiet es) q in run_stand es (world_after w e) claims k.1 (quiet_stand w e claims k.0 h)
+
+-- ---- a claim
+
+claim_counts : (client : Option (List ℕ)) (claims : List Claim) (senders : List SenderState) → length senders ≡ begun_count claims
+    → length (claimed_senders senders (claimed_sender client claims)) ≡ cond (begins client claims) (begun_count claims + 1) (begun_count claims)
+claim_counts None claims senders h = let m = push_length senders new_sender in omega (arith, m, h)
+claim_counts (Some id) claims senders h = by (is_kept id claims)
+  where
+    by : (b : Bool) → length (claimed_senders senders (cond b (Some (Rattle.delivery.specs.Core.Claims.kept_sender id claims)) None))
+        ≡ cond (not b) (begun_count claims + 1) (begun_count claims)
+    by true = h
+    by false = let m = push_length senders new_sender in omega (arith, m, h)
+
+claimed_stand : (w : World) (c : ℕ) (client : Option (List ℕ)) (claims : List Claim) → c < length w.connections → Stand w claims
+    → Stand (connect_effect w c (claimed_sender client claims)) (record { connection = c; client = client } ∷ claims)
+claimed_stand w c client claims l h = record {
+  begun = claim_counts client claims w.senders h.begun;
+  spoken = λ d. at_set_within (λ (z : Connection). z.sender ≡ cond (c == d) (Some (unwrap_or (claimed_sender client claims) (begun_count claims))) (sender_claimed d claims))
+      w.connections c d _ nobody l
+      (λ k. ap (λ (n : ℕ). Some (unwrap_or (claimed_sender client claims) n)) h.begun
+      ∙ sym (ap (λ (b : Bool). cond b (Some (unwrap_or (claimed_sender client claims) (begun_count claims))) (sender_claimed d claims)) (eq-eqb c d (sym k))))
+      (λ ne. h.spoken d
+      ∙ sym (ap (λ (b : Bool). cond b (Some (unwrap_or (claimed_sender client claims) (begun_count claims))) (sender_claimed d claims))
+      (not_true (c == d) refl (λ e. ne (sym (eqb-true c d e))))));
+}
+
+-- ---- an accepted frame
+
+sent_claims : (s : Held) (f : RawFrame) (o : Option (List ℕ)) (client : Option (List ℕ)) → option_map_or (λ transaction. actions.Nothing) o (commit (send_of s.names f ∷ [])) ≡ actions.Connected client → Prim.⊥
+sent_claims s f None client e = cc
+sent_claims s f (Some x) client e = cc
+
+committed_claims : (sends : List SentMessage) (client : Option (List ℕ)) → commit sends ≡ actions.Connected client → Prim.⊥
+committed_claims [] client e = cc
+committed_claims (x ∷ xs) client e = cc
+
+-- a frame that asks for a claim is a CONNECT, and the claim is of its client-id
+pub connect_of : (command : Command) (s : Held) (f : RawFrame) (client : Option (List ℕ)) → action_by command s f ≡ actions.Connected client
+    → (is_connect command ≡ true) × (client_of f ≡ client)
+connect_of commands.Send s f client e = absurd (sent_claims s f (first_of (codes "transaction") f.headers) client e)
+connect_of commands.Commit s f client e = absurd (committed_claims (sends_in (transaction_of f) s.transactions) client e)
+connect_of commands.Connect s f client e = (refl, cc)
+connect_of commands.Stomp s f client e = (refl, cc)
+connect_of _ s f client e = cc
+
+-- each CONNECT asks for it
+pub claims_asked : (command : Command) (s : Held) (f : RawFrame) → is_connect command ≡ true → action_by command s f ≡ actions.Connected (client_of f)
+claims_asked commands.Connect s f e = refl
+claims_asked commands.Stomp s f e = refl
+claims_asked _ s f e = absurd (false≢true e)
+
+pub connect_plain : (command : Command) → is_connect command ≡ true → has_destination command ≡ false
+connect_plain commands.Connect e = refl
+connect_plain commands.Stomp e = refl
+connect_plain _ e = absurd (false≢true e)
+
+-- where nothing is at fault with a frame, nothing stands against its move
+pub unobjected : (a : Option CaseFault) (b : Option SessionFault) (d : Option ConnectionFault) (c : Option Objection)
+    → option_or (option_map ConnectionFault.Frame a) (option_or (option_map ConnectionFault.Session b) (option_or d (option_map (λ why. frame_no_memory) c))) ≡ None
+    → (d ≡ None) × (c ≡ None)
+unobjected (Some x) b d c e = none_some _ (sym e)
+unobjected None (Some x) d c e = none_some _ (sym e)
+unobjected None None (Some x) c e = none_some _ (sym e)
+unobjected None None None (Some x) e = none_some _ (sym e)
+unobjected None None None None e = (refl, refl)
+
+-- no fault has an effect
+fault_silent : (fault : ConnectionFault) (o : Outcome) → In o (fault_outcomes fault) → has_effect o ≡ false
+fault_silent fault o (inl e) = ap has_effect (sym e)
+fault_silent fault o (inr (inl e)) = ap has_effect (sym e)
+fault_silent fault o (inr (inr i)) = absurd i
+
+refusal_silent : (r : Option Refusal) (o : Outcome) → In o (option_to_list (option_map Outcome.Refused r)) → has_effect o ≡ false
+refusal_silent None o i = absurd i
+refusal_silent (Some r) o (inl e) = ap has_effect (sym e)
+refusal_silent (Some r) o (inr i) = absurd i
+
+wanted_silent : (b : Bool) (fault : ConnectionFault) (o : Outcome) → In o (outcomes_without b fault) → has_effect o ≡ false
+wanted_silent true fault o i = fault_silent fault o i
+wanted_silent false fault o i = absurd i
+
+-- a frame that has had its effect had no fault
+faultless : (k : Core) (c : ℕ) (f : RawFrame) (left : Unread) (o : Outcome) → has_effect o ≡ true → In o (outcomes k (Event.Next c) (Reading.Finds f left)) → frame_fault k c f ≡ None
+faultless k c f left o effect i = by_idle (first_refusal (needs_idle k.world c)) i
+  where
+    by_fault : (why : Option ConnectionFault) → In o (option_map_or fault_outcomes why (accepted_outcomes k c f)) → why ≡ None
+    by_fault None j = refl
+    by_fault (Some fault) j = absurd (true≢false (sym effect ∙ fault_silent fault o j))
+
+    by_idle : (why : Option Objection) → In o (unless why (reading_outcomes k c (Reading.Finds f left))) → frame_fault k c f ≡ None
+    by_idle None j = by_fault (frame_fault k c f) j
+    by_idle (Some why) j = absurd (true≢false (sym effect ∙ refusal_silent (refusal_of why) o j))
+
+quiet_action : (k : Core) (c : ℕ) (action : Action) → ((client : Option (List ℕ)) → action ≡ actions.Connected client → Prim.⊥) → list_all is_quiet (option_to_list (frame_move k c action)) ≡ true
+quiet_action k c (actions.Connected client) n = absurd (n client refl)
+quiet_action k c _ n = refl
+
+quiet_topic : (b : Bool) (ms : List Move) → list_all is_quiet ms ≡ true → list_all is_quiet (cond b (AddsTopic 0 ∷ []) [] ++ ms) ≡ true
+quiet_topic true ms q = q
+quiet_topic false ms q = q
+
+-- the moves of an accepted frame, and its claim
+found_stand : (k : Core) (c : ℕ) (f : RawFrame) (left : Unread) (o : Outcome) → has_effect o ≡ true → In o (outcomes k (Event.Next c) (Reading.Finds f left)) → Stand k.world (claims_of k.steps)
+    → Stand (run (topic_moves (names_at k) f ++ option_to_list (frame_move k c (action_by f.command (session_at k c) f))) k.world) (claim_of (Event.Next c) (Some f) ++ claims_of k.steps)
+found_stand k c f left o effect i h = by_connect (is_connect f.command) refl
+  where
+    action : Action
+    action = action_by f.command (session_at k c) f
+
+    claims : List Claim
+    claims = claims_of k.steps
+
+    by_connect : (b : Bool) → is_connect f.command ≡ b
+        → Stand (run (topic_moves (names_at k) f ++ option_to_list (frame_move k c action)) k.world) (cond b (record { connection = c; client = client_of f } ∷ []) [] ++ claims)
+    by_connect false e =
+        run_stand (topic_moves (names_at k) f ++ option_to_list (frame_move k c action)) k.world claims
+        (quiet_topic (has_destination f.command && not (is_known (field (codes "destination") f) (names_at k))) (option_to_list (frame_move k c action))
+        (quiet_action k c action (λ client d. true≢false (sym (connect_of f.command (session_at k c) f client d).0 ∙ e)))) h
+    by_connect true e =
+        let asks = claims_asked f.command (session_at k c) f e in
+        let mv = Connects c (claimed_sender (client_of f) claims) in
+        let none : topic_moves (names_at k) f ≡ [] =
+        ap (λ (b : Bool). cond (b && not (is_known (field (codes "destination") f) (names_at k))) (AddsTopic 0 ∷ []) []) (connect_plain f.command e) in
+        let free : move_refusal k.world mv ≡ None =
+        ap (λ ms. move_refusal (run ms k.world) mv) (sym none)
+        ∙ (ap (λ (a : Action). option_and_then (λ m. move_refusal (core_for k f).world m) (frame_move k c a)) (sym asks)
+        ∙ (unobjected (case_fault f) (session_fault (session_at k c) f) (claim_fault k action) _ (faultless k c f left o effect i)).1) in
+        let world : run (topic_moves (names_at k) f ++ option_to_list (frame_move k c action)) k.world ≡ connect_effect k.world c (claimed_sender (client_of f) claims) =
+        ap (λ ms. run (ms ++ option_to_list (frame_move k c action)) k.world) none
+        ∙ (ap (λ (a : Action). run (option_to_list (frame_move k c a)) k.world) asks
+        ∙ ap (λ (why : Option Objection). elim why [ None ↦ move_effect k.world mv | Some x ↦ k.world ]) free) in
+        subst (λ w. Stand w (record { connection = c; client = client_of f } ∷ claims)) (sym world)
+        (claimed_stand k.world c (client_of f) claims (ltb-true c (length k.world.connections) (false_not _ (checked k.world mv free).0)) h)
+
+-- ---- a step
+
+read_stand : (k : Core) (c : ℕ) (rd : Reading) (o : Outcome) → has_effect o ≡ true → In o (outcomes k (Event.Next c) rd) → Stand k.world (claims_of k.steps)
+    → Stand (run (option_map_or (λ f. topic_moves (names_at k) f ++ option_to_list (frame_move k c (action_by f.command (session_at k c) f))) (frame_in rd) []) k.world)
+    (claim_of (Event.Next c) (frame_in rd) ++ claims_of k.steps)
+read_stand k c (Reading.Finds f left) o effect i h = found_stand k c f left o effect i h
+read_stand k c Reading.Nothing o effect i h = h
+read_stand k c (Reading.Waits left) o effect i h = h
+read_stand k c (Reading.Fails check left) o effect i h = h
+
+-- the moves of a Next, and its claim
+abbrev NextStands : Core → ℕ → Reading → Outcome → Type 0
+NextStands k c rd o =
+    Stand (run (moves k (Event.Next c) rd o) k.world) (claim_of (Event.Next c) (cond (has_effect o) (frame_in rd) None) ++ claims_of k.steps)
+
+next_stand : (k : Core) (c : ℕ) (rd : Reading) (o : Outcome) → In o (outcomes k (Event.Next c) rd) → Stand k.world (claims_of k.steps) → NextStands k c rd o
+next_stand k c rd (Outcome.Faulted fault cut) i h = quiet_stand k.world (Errs c) (claims_of k.steps) refl h
+next_stand k c rd Outcome.Done i h = read_stand k c rd Outcome.Done refl i h
+next_stand k c rd (Outcome.Subscribed s from) i h = read_stand k c rd (Outcome.Subscribed s from) refl i h
+next_stand k c rd (Outcome.Unsubscribed s to) i h = read_stand k c rd (Outcome.Unsubscribed s to) refl i h
+next_stand k c rd (Outcome.Flying id) i h = read_stand k c rd (Outcome.Flying id) refl i h
+next_stand k c rd Outcome.Leaving i h = read_stand k c rd Outcome.Leaving refl i h
+next_stand k c rd _ i h = h
+
+cut_quiet : (c : ℕ) (b : Bool) → list_all is_quiet (Decides c ∷ cond b (Lost c ∷ []) []) ≡ true
+cut_quiet c true = refl
+cut_quiet c false = refl
+
+take_quiet : (s : ℕ) (b : Bool) → list_all is_quiet (cond b [] (Takes s ∷ [])) ≡ true
+take_quiet s true = refl
+take_quiet s false = refl
+
+open_quiet : (b : Bool) → list_all is_quiet (cond b [] (Opens ∷ [])) ≡ true
+open_quiet true = refl
+open_quiet false = refl
+
+step_stand : (k : Core) (e : Event) (rd : Reading) (o : Outcome) → In o (outcomes k e rd) → Stand k.world (claims_of k.steps)
+    → Stand (run (moves k e rd o) k.world) (claim_of e (cond (has_effect o) (frame_in rd) None) ++ claims_of k.steps)
+step_stand k (Event.Next c) rd o i h = next_stand k c rd o i h
+step_stand k Event.Open rd o i h = run_stand (moves k Event.Open rd o) k.world (claims_of k.steps) (open_quiet (is_no_memory o)) h
+step_stand k (Event.Decide c) rd o i h = run_stand (moves k (Event.Decide c) rd o) k.world (claims_of k.steps) (cut_quiet c (is_cut o)) h
+step_stand k (Event.Take s) rd o i h = run_stand (moves k (Event.Take s) rd o) k.world (claims_of k.steps) (take_quiet s (is_no_memory o)) h
+step_stand k event rd o i h = run_stand (moves k event rd o) k.world (claims_of k.steps) refl h
+
+steps_are : (topics : TopicList) (capacity : ℕ) (steps : List CoreStep) → (core_of topics capacity steps).steps ≡ steps
+steps_are topics capacity [] = refl
+steps_are topics capacity (step ∷ older) = ap (λ (ss : List CoreStep). step ∷ ss) (steps_are topics capacity older)
+
+-- so it is in each run of the core
+pub claims_stand : (topics : TopicList) (capacity : ℕ) (steps : List CoreStep) → IsCoreRun topics capacity steps → Stand (core_of topics capacity steps).world (claims_of steps)
+claims_stand topics capacity [] r = record { begun = refl; spoken = λ c. refl }
+claims_stand topics capacity (step ∷ older) r =
+    let k = core_of topics capacity older in let is = steps_are topics capacity older in
+    subst (λ (ss : List CoreStep). Stand (run (moves k step.event step.reading step.outcome) k.world) (claim_of step.event (cond (has_effect step.outcome) (frame_in step.reading) None) ++ claims_of ss)) is
+    (step_stand k step.event step.reading step.outcome r.0.outcome (subst (λ (ss : List CoreStep). Stand k.world (claims_of ss)) (sym is) (claims_stand topics capacity older r.1)))
+
+-- the same by the core's own steps
+pub core_stands : (topics : TopicList) (capacity : ℕ) (steps : List CoreStep) → IsCoreRun topics capacity steps
+    → Stand (core_of topics capacity steps).world (claims_of (core_of topics capacity steps).steps)
+core_stands topics capacity steps r =
+    subst (λ (ss : List CoreStep). Stand (core_of topics capacity steps).world (claims_of ss)) (sym (steps_are topics capacity steps)) (claims_stand topics capacity steps r)
+
+-- whom a connection speaks for its claim says
+pub claims_own : {w : World} (older : List CoreStep) → Stand w (claims_of older) → (c s : ℕ) → (connection_at w c).sender ≡ Some s → s ≡ sender_of c (claims_of older)
+claims_own older h c s e = ap (λ (o : Option ℕ). unwrap_or o 0) (sym e ∙ h.spoken c)

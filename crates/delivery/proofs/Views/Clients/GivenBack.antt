@@ -1,0 +1,103 @@
+-- A connection is gone, whose sender is idle: no connection speaks for that sender then, and its gate is given back.
+use Rattle.std.proofs.Common.{◌≡◌, ◌≢◌, ℕ, suc, ◌<◌, ◌==◌, ◌||◌, ◌&&◌, Bool, true, false, cond, List, [], ◌∷◌, length, set, get_or, Option, Some, None, refl, sym, ap, ◌∙◌}
+use Rattle.std.specs.Prelude.{is_none}
+use Rattle.std.specs.List.{list_any}
+use Rattle.std.specs.Option.{option_map}
+use Rattle.std.specs.Str.{bytes_eq}
+use Rattle.std.proofs.lemmas.Bool.{true≢false, eqb-true, eq-eqb}
+use Rattle.std.proofs.lemmas.List.{length-map}
+use Rattle.mcast_txn.proofs.Members.{at_set_within}
+use Rattle.mcast_group.proofs.Parts.{some_same, not_true}
+use Rattle.sender_gate.specs.Gate.{GateState}
+use Rattle.sender_gate.specs.Senders.{KeptSender, SendersState, after_give_back, kept_with}
+use Rattle.delivery.specs.Machine.World.{World, Connection, Standing, nobody, connection_at, sender_at, speaks_for, is_in_use}
+use Rattle.delivery.specs.Core.Claims.{Claim, is_kept, kept_sender}
+use Rattle.delivery.specs.Inner.Clients.{AreClaimed, resting_gate}
+use Rattle.delivery.proofs.Theorem.SendersAreOwn.{Speaks, silent, spoken_sender}
+use Rattle.delivery.proofs.Views.Clients.Claiming.{find_mapped, resting_none, same_clients}
+use Rattle.delivery.proofs.Views.Clients.RestingStay.{any_set, any_at}
+
+-- of none of a list it is said
+none_any : {X : Type 0} (p : X → Bool) (xs : List X) (d : X) → ((i : ℕ) → p (get_or xs i d) ≡ false) → list_any p xs ≡ false
+none_any p [] d none = refl
+none_any p (x ∷ xs) d none = ap (λ (b : Bool). b || list_any p xs) (none 0) ∙ none_any p xs d (λ i. none (suc i))
+
+-- the world in which the connection is gone
+abbrev pub departed : World → ℕ → World
+departed w c = record w { connections = set w.connections c (record { sender = (connection_at w c).sender; standing = Standing.Gone }) }
+
+-- the gate of a sender between two transactions
+abbrev pub gate_by : World → ℕ → GateState
+gate_by w s = record { sender = record { 0 = s }; seq = (sender_at w s).seq; floor = (sender_at w s).floor }
+
+-- each other sender is as it was
+others_rest : (w : World) (c n : ℕ) → speaks_for n (connection_at w c) ≡ false → resting_gate (departed w c) n ≡ resting_gate w n
+others_rest w c n silent =
+    ap (λ (b : Bool). cond b None (Some (gate_by w n)))
+    (any_set (speaks_for n) w.connections c (record { sender = (connection_at w c).sender; standing = Standing.Gone }) nobody (sym silent))
+
+-- where it has no sender nothing is given back
+pub none_given : (w : World) (c : ℕ) (before : List Claim) (clients : SendersState) → (connection_at w c).sender ≡ None → AreClaimed w before clients
+    → AreClaimed (departed w c) before clients
+none_given w c before clients none h = same_clients w (departed w c) before clients (λ s l. others_rest w c s (silent s (connection_at w c) none)) h
+
+-- for its sender none speaks then
+now_unused : (w : World) (c s : ℕ) → Speaks w → c < length w.connections → speaks_for s (connection_at w c) ≡ true → is_in_use (departed w c) s ≡ false
+now_unused w c s own there speaks = none_any (speaks_for s) (departed w c).connections nobody each
+  where
+    each : (i : ℕ) → speaks_for s (get_or (departed w c).connections i nobody) ≡ false
+    each i =
+        at_set_within (λ (z : Connection). speaks_for s z ≡ false) w.connections c i _ nobody there (λ k. refl)
+        (λ ne. not_true (speaks_for s (connection_at w i)) refl (λ e. ne (own.own i c s e speaks)))
+
+module _ (w : World) (c s : ℕ) (before : List Claim) (clients : SendersState) (own : Speaks w) (there : c < length w.connections)
+    (speaks : speaks_for s (connection_at w c) ≡ true) (h : AreClaimed w before clients) where
+  abbrev v : World
+  v = departed w c
+
+  abbrev gate : GateState
+  gate = gate_by w s
+
+  used : is_in_use w s ≡ true
+  used = any_at (speaks_for s) w.connections c nobody refl speaks
+
+  client_stays : (k : KeptSender) (b : Bool) → (cond b (record k { gate = Some gate }) k).client ≡ k.client
+  client_stays k true = refl
+  client_stays k false = refl
+
+  other_silent : (n : ℕ) → n ≢ s → speaks_for n (connection_at w c) ≡ false
+  other_silent n ne =
+      not_true (speaks_for n (connection_at w c)) refl
+      (λ e. ne (some_same n s (sym (spoken_sender n (connection_at w c) e) ∙ spoken_sender s (connection_at w c) speaks)))
+
+  each : (id : List ℕ) (n : ℕ) (b : Bool) → (n == s) ≡ b
+      → kept_with gate (record { client = id; sender = record { 0 = n }; gate = resting_gate w n }) ≡ record { client = id; sender = record { 0 = n }; gate = resting_gate v n }
+  each id n true e =
+      let same = eqb-true n s e in
+      let k : KeptSender = record { client = id; sender = record { 0 = n }; gate = resting_gate w n } in
+      ap (λ (b : Bool). cond (b && is_none (resting_gate w n)) (record k { gate = Some gate }) k) e
+      ∙ (ap (λ (b : Bool). cond b (record k { gate = Some gate }) k) (resting_none w n ∙ (ap (is_in_use w) same ∙ used))
+      ∙ (λ i. record k {
+        gate = (ap (λ (m : ℕ). Some (gate_by w m)) (sym same)
+            ∙ sym (ap (λ (b : Bool). cond b None (Some (gate_by w n))) (ap (is_in_use v) same ∙ now_unused w c s own there speaks))) i;
+      }))
+  each id n false e =
+      let k : KeptSender = record { client = id; sender = record { 0 = n }; gate = resting_gate w n } in
+      ap (λ (b : Bool). cond (b && is_none (resting_gate w n)) (record k { gate = Some gate }) k) e
+      ∙ (λ i. record k { gate = sym (others_rest w c n (other_silent n (λ is. true≢false (sym (eq-eqb n s is) ∙ e)))) i })
+
+  -- it has its gate
+  pub given : AreClaimed v before (after_give_back gate clients)
+  given = record {
+    begun = h.begun;
+    count = length-map clients.kept (kept_with gate) ∙ h.count;
+    found = λ id. find_mapped (λ k. bytes_eq id k.client) (kept_with gate) clients.kept
+        (λ k. ap (λ (x : List ℕ). bytes_eq id x) (client_stays k ((k.sender.0 == gate.sender.0) && is_none k.gate)))
+        ∙ (ap (λ (o : Option KeptSender). option_map (kept_with gate) o) (h.found id) ∙ by id (is_kept id before));
+  }
+    where
+      by : (id : List ℕ) (b : Bool)
+          → option_map (kept_with gate) (cond b (Some (record { client = id; sender = record { 0 = kept_sender id before }; gate = resting_gate w (kept_sender id before) })) None)
+          ≡ cond {A = Option KeptSender} b (Some (record { client = id; sender = record { 0 = kept_sender id before }; gate = resting_gate v (kept_sender id before) })) None
+      by id true = ap (λ (k : KeptSender). Some k) (each id (kept_sender id before) (kept_sender id before == s) refl)
+      by id false = refl

@@ -1,0 +1,149 @@
+-- A sender for which no connection speaks is left as it is by each move but a claim and a connection's last.
+use Rattle.std.proofs.Common.{◌≡◌, ℕ, zero, suc, ◌==◌, ◌||◌, Bool, true, false, cond, not, ◌&&◌, List, [], ◌∷◌, ◌++◌, set, get_or, Option, Some, None, refl, sym, ap, subst, ◌∙◌}
+use Rattle.std.specs.List.{list_any, list_all}
+use Rattle.std.specs.Option.{option_map_or, option_to_list}
+use Rattle.std.proofs.lemmas.Bool.{true≢false, false≢true, and_parts, or_parts}
+use Rattle.std.proofs.lemmas.List.{get_or-set_other}
+use Rattle.mcast_txn.specs.Ballot.{Decision}
+use Rattle.mcast_txn.specs.declared.id.Topic.{Topic}
+use Rattle.mcast_txn.specs.declared.id.TxnId.{TxnId}
+use Rattle.mcast_txn.specs.declared.draft.sent_message.SentMessage.{SentMessage}
+use Rattle.mcast_txn.specs.Span.{Item}
+use Rattle.mcast_group.specs.declared.fault.ProposeFault.{ProposeFault}
+use Rattle.mcast_group.specs.Machine.{Entry}
+use Rattle.sender_gate.specs.Gate.{GateState}
+use Rattle.delivery.specs.Machine.World.{World, Leftover, SenderState, Standing, is_gone, nobody, new_sender, connection_at, sender_at, speaker, speaker_number, speaks_for, is_in_use, subscription_at, entry_at}
+use Rattle.delivery.specs.Machine.Moves.{Move, world_after, move_refusal, move_effect, find_leftover, find_verdict, commit_effect, proposal_fault, propose_effect, cancel_effect, learn_effect, take_effect, close_effect_of}
+use Rattle.delivery.specs.Machine.Moves.Move.{Opens, Connects, Commits, Unsubscribes, Disconnects, Errs, Lost, Leaves, Proposes, Decides, Withdraws, Cancels, Learns, Takes}
+use Rattle.delivery.specs.Machine.Runs.{run}
+use Rattle.delivery.specs.Inner.Clients.{resting_gate}
+use Rattle.delivery.proofs.Machine.InvariantIsKept.{by_refusal, checked, false_not}
+use Rattle.delivery.proofs.Machine.Speakers.{has_speaker, cancelling_speaker}
+use Rattle.delivery.proofs.Machine.SenderSteps.{leftover_found}
+use Rattle.delivery.proofs.Theorem.SendersAreOwn.{flying_speaks, speaks, reading_there}
+
+-- ---- lists
+
+-- one of a list is another, of which the same is said
+pub any_set : {X : Type 0} (p : X → Bool) (xs : List X) (i : ℕ) (x d : X) → p x ≡ p (get_or xs i d) → list_any p (set xs i x) ≡ list_any p xs
+any_set p [] i x d e = refl
+any_set p (y ∷ xs) zero x d e = ap (λ (b : Bool). b || list_any p xs) e
+any_set p (y ∷ xs) (suc i) x d e = ap (λ (b : Bool). p y || b) (any_set p xs i x d e)
+
+-- one more, of which it isn't said
+pub any_push : {X : Type 0} (p : X → Bool) (xs : List X) (x : X) → p x ≡ false → list_any p (xs ++ x ∷ []) ≡ list_any p xs
+any_push p [] x e = ap (λ (b : Bool). b || false) e
+any_push p (y ∷ xs) x e = ap (λ (b : Bool). p y || b) (any_push p xs x e)
+
+or_true : (b : Bool) → (b || true) ≡ true
+or_true true = refl
+or_true false = refl
+
+-- of a member it is said
+pub any_at : {X : Type 0} (p : X → Bool) (xs : List X) (i : ℕ) (d : X) → p d ≡ false → p (get_or xs i d) ≡ true → list_any p xs ≡ true
+any_at p [] i d none e = absurd (true≢false (sym e ∙ none))
+any_at p (x ∷ xs) zero d none e = ap (λ (b : Bool). b || list_any p xs) e
+any_at p (x ∷ xs) (suc i) d none e = ap (λ (b : Bool). p x || b) (any_at p xs i d none e) ∙ or_true (p x)
+
+-- ---- what is left as it is
+
+-- a sender for which none speaks is what it was, and for each one it is said as before whether one speaks for it
+abbrev pub Rests : World → World → Type 0
+Rests w v = (s : ℕ) → resting_gate v s ≡ resting_gate w s
+
+-- the gate of sender s in this state
+abbrev gate_by : ℕ → SenderState → GateState
+gate_by s x = record { sender = record { 0 = s }; seq = x.seq; floor = x.floor }
+
+-- a sender is written for which a connection speaks
+sender_rests : (w : World) (c : ℕ) (x : SenderState) → speaks_for (speaker_number w c) (connection_at w c) ≡ true
+    → (s : ℕ) → cond (is_in_use w s) None (Some (gate_by s (get_or (set w.senders (speaker_number w c) x) s new_sender))) ≡ resting_gate w s
+sender_rests w c x e s = by (is_in_use w s) refl
+  where
+    by : (b : Bool) → is_in_use w s ≡ b → cond b None (Some (gate_by s (get_or (set w.senders (speaker_number w c) x) s new_sender))) ≡ cond b None (Some (gate_by s (sender_at w s)))
+    by true u = refl
+    by false u =
+        ap (λ (y : SenderState). Some (gate_by s y))
+        (get_or-set_other w.senders (speaker_number w c) s x new_sender
+        (λ is. true≢false (sym (any_at (speaks_for s) w.connections c nobody refl (subst (λ n. speaks_for n (connection_at w c) ≡ true) (sym is) e)) ∙ u)))
+
+-- a connection that isn't gone stands otherwise
+standing_rests : (w : World) (c : ℕ) (standing : Standing) → is_gone standing ≡ false → is_gone (connection_at w c).standing ≡ false
+    → (s : ℕ) → cond (list_any (speaks_for s) (set w.connections c (record { sender = (connection_at w c).sender; standing = standing }))) None (Some (gate_by s (sender_at w s))) ≡ resting_gate w s
+standing_rests w c standing n o s =
+    ap (λ (b : Bool). cond b None (Some (gate_by s (sender_at w s))))
+    (any_set (speaks_for s) w.connections c (record { sender = (connection_at w c).sender; standing = standing }) nobody
+    (ap (λ (b : Bool). not b && option_map_or (λ m. m == s) (connection_at w c).sender false) (n ∙ sym o)))
+
+flown : (w : World) (c : ℕ) (sends : List SentMessage) → speaks_for (speaker_number w c) (connection_at w c) ≡ true → Rests w (commit_effect w c sends)
+flown w c [] e s = refl
+flown w c (first ∷ others) e s = sender_rests w c _ e s
+
+proposed : (w : World) (c : ℕ) (t : Topic) (o : Option ProposeFault) → speaks_for (speaker_number w c) (connection_at w c) ≡ true → Rests w (propose_effect w c t o)
+proposed w c t None e s = sender_rests w c _ e s
+proposed w c t (Some fault) e s = sender_rests w c _ e s
+
+cancelled : (w : World) (c : ℕ) (t : Topic) (o : Option Leftover) → ((k : Leftover) → o ≡ Some k → speaks_for (speaker_number w c) (connection_at w c) ≡ true) → Rests w (cancel_effect w c t o)
+cancelled w c t None e s = refl
+cancelled w c t (Some k) e s = sender_rests w c _ (e k refl) s
+
+learned : (w : World) (t : Topic) (id : TxnId) (o : Option Decision) → Rests w (learn_effect w t id o)
+learned w t id None s = refl
+learned w t id (Some v) s = refl
+
+pub closed_rests : (w : World) (n : ℕ) (o : Option Entry) → Rests w (close_effect_of w n o)
+closed_rests w n None s = refl
+closed_rests w n (Some e) s = refl
+
+handed : (w : World) (n : ℕ) (o : Option Item) → is_gone (connection_at w (subscription_at w n).connection).standing ≡ false → Rests w (take_effect w n o)
+handed w n None there s = standing_rests w (subscription_at w n).connection Standing.Leaving refl there s
+handed w n (Some item) there s = refl
+
+-- the move is none of a claim, and none of a connection that leaves
+abbrev pub is_still : Move → Bool
+is_still (Connects c claimed) = false
+is_still (Leaves c) = false
+is_still e = true
+
+effect_rests : (w : World) (e : Move) → is_still e ≡ true → move_refusal w e ≡ None → Rests w (move_effect w e)
+effect_rests w (Connects c claimed) q n = absurd (false≢true q)
+effect_rests w (Leaves c) q n = absurd (false≢true q)
+effect_rests w Opens q n = λ s.
+    ap (λ (b : Bool). cond b None (Some (gate_by s (sender_at w s)))) (any_push (speaks_for s) w.connections (record { sender = None; standing = Standing.Open }) refl)
+effect_rests w (Commits c sends) q n =
+    let p = checked w (Commits c sends) n in
+    flown w c sends (speaks (speaker_number w c) (connection_at w c) p.1.0 (has_speaker w c (false_not _ p.1.1.1.0)))
+effect_rests w (Unsubscribes c s) q n = closed_rests w s (entry_at w s)
+effect_rests w (Disconnects c) q n = standing_rests w c Standing.Leaving refl (checked w (Disconnects c) n).1.0
+effect_rests w (Errs c) q n = standing_rests w c Standing.Leaving refl (checked w (Errs c) n).1.0
+effect_rests w (Lost c) q n = standing_rests w c Standing.Leaving refl (checked w (Lost c) n).1.0
+effect_rests w (Proposes c t memory) q n =
+    let p = checked w (Proposes c t memory) n in proposed w c t (proposal_fault w c t memory) (flying_speaks w c p.1.0 p.1.1.0)
+effect_rests w (Decides c) q n =
+    let p = checked w (Decides c) n in sender_rests w c _ (flying_speaks w c p.1.0 p.1.1.0)
+effect_rests w (Withdraws c) q n = λ s.
+    let p = checked w (Withdraws c) n in
+    let v = move_effect w (Withdraws c) in
+    ap (λ (b : Bool). cond b None (Some (gate_by s (sender_at v s))))
+    (any_set (speaks_for s) w.connections c (record { sender = (connection_at w c).sender; standing = Standing.Leaving }) nobody
+    (ap (λ (b : Bool). not b && option_map_or (λ m. m == s) (connection_at w c).sender false) (sym p.1.0)))
+    ∙ sender_rests w c _ (flying_speaks w c p.1.0 p.1.1.0) s
+effect_rests w (Cancels c t) q n =
+    let p = checked w (Cancels c t) n in
+    cancelled w c t (find_leftover t (speaker w c).leftovers)
+    (λ k e. speaks (speaker_number w c) (connection_at w c) p.1.0 (cancelling_speaker w c k (leftover_found t (speaker w c).leftovers k e).stands))
+effect_rests w (Learns t id) q n = learned w t id (find_verdict id w.verdicts)
+effect_rests w (Takes r) q n =
+    let p = (checked w (Takes r) n).1.0 in
+    handed w r _ (reading_there (connection_at w (subscription_at w r).connection).standing (false_not _ (or_parts (Rattle.std.specs.Option.is_some (subscription_at w r).closed) _ p).1))
+effect_rests w _ q n = λ s. refl
+
+-- each such move leaves it
+pub move_rests : (w : World) (e : Move) → is_still e ≡ true → Rests w (world_after w e)
+move_rests w e q = by_refusal (λ v o. Rests w v) w e (λ why s. refl) (λ n. effect_rests w e q n)
+
+-- and each list of them
+pub run_rests : (es : List Move) (w : World) → list_all is_still es ≡ true → Rests w (run es w)
+run_rests [] w q s = refl
+run_rests (e ∷ es) w q s =
+    let p = and_parts (is_still e) (list_all is_still es) q in run_rests es (world_after w e) p.1 s ∙ move_rests w e p.0 s
