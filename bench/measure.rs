@@ -1,6 +1,6 @@
 //! Times a program and its baseline on each input of a benchmark and prints the table:
 //! `measure frames|pieces|transactions|topic|group|core|locks|script|audit PROGRAM BASELINE FOLDER`, or `measure relay` with the floor
-//! before the folder. It refuses outputs that differ, and judges no time.
+//! before the folder, or `measure held PROGRAM FOLDER`. It refuses outputs that differ, and judges no time.
 
 use std::env;
 use std::fs::{self, File};
@@ -41,7 +41,14 @@ const GROUP: Rate = Rate {
 
 /// The octets of a piece; at 0 all of the input is one piece.
 const PIECES: [&str; 5] = ["0", "1", "16", "4096", "65536"];
-const CORE_INPUTS: [&str; 4] = ["core-one", "core-subscribers", "core-connections", "core-undecided"];
+const CORE_INPUTS: [&str; 6] = [
+    "core-one",
+    "core-subscribers",
+    "core-connections",
+    "core-undecided",
+    "core-uses",
+    "core-claims",
+];
 const SCRIPT_INPUTS: [&str; 3] = ["script-transactions", "script-bodies", "script-connections"];
 /// Whether threads have topics of their own, how many topics a transaction has, how many threads commit, and how many
 /// transactions all of them commit. Each topic has two subscriptions.
@@ -49,6 +56,14 @@ const LOCKS_TOPICS: [&str; 2] = ["own", "same"];
 const LOCKS_COUNTS: [(&str, f64); 3] = [("1", 1.0), ("2", 2.0), ("4", 4.0)];
 const LOCKS_COMMITS: (&str, f64) = ("240000", 240_000.0);
 const LOCKS_SUBSCRIPTIONS: f64 = 2.0;
+/// How many subscriptions the topic of a held transaction has, and how many transactions are committed behind it, each with a
+/// turn of its topic.
+const LOCKS_HELD: [(&str, &str, f64); 4] = [
+    ("0", "1000", 1_000.0),
+    ("0", "10000", 10_000.0),
+    ("0", "40000", 40_000.0),
+    ("1", "10000", 10_000.0),
+];
 const AUDIT_INPUTS: [&str; 3] = ["one-topic", "subscriptions", "many-topics"];
 const RUNS: usize = 5;
 
@@ -340,6 +355,19 @@ fn print_locks(program: &str, baseline: &str, folder: &Path) -> io::Result<()> {
     Ok(())
 }
 
+/// What a commit and its turn take behind a transaction that is held at their topic, and what they take without.
+fn print_held(program: &str, folder: &Path) -> io::Result<()> {
+    println!("best of {RUNS} runs, by the clock; \u{b5}s is of one commit with a turn of its topic");
+    println!("subscriptions   commits | held, \u{b5}s  free, \u{b5}s | held over free");
+    for (subscriptions, commits, number) in LOCKS_HELD {
+        let [held, free] = ["held", "free"].map(|kind| [program, kind, subscriptions, commits]);
+        let costs = measure([&held[..], &free[..]], folder, "locks")?;
+        let [one, other] = costs.map(|cost| cost.time.as_secs_f64() * 1e6 / number);
+        println!("{subscriptions:>13} {commits:>9} | {one:8.2} {other:9.2} | {:14.2}", one / other);
+    }
+    Ok(())
+}
+
 /// The times of `stompd script`, over the plain program, with peak memory.
 fn print_script(program: &str, baseline: &str, folder: &Path) -> io::Result<()> {
     println!("best of {RUNS} runs, from file to file; ms is time, MiB is peak memory");
@@ -443,6 +471,7 @@ fn main() -> ExitCode {
         ),
         ["core", program, baseline, folder] => ("core", print_core(program, baseline, Path::new(folder))),
         ["locks", program, baseline, folder] => ("locks", print_locks(program, baseline, Path::new(folder))),
+        ["held", program, folder] => ("locks", print_held(program, Path::new(folder))),
         ["script", program, baseline, folder] => {
             ("script", print_script(program, baseline, Path::new(folder)))
         }

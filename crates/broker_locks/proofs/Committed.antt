@@ -1,6 +1,8 @@
 -- What a commit leaves, by what its steps leave.
-use Rattle.std.proofs.Common.{◌≡◌, ◌++◌, ℕ, true, List, map, length, Result, Ok, Err, IfOk, IfErr, append_assoc, refl, sym, ap, subst, ◌∙◌}
+use Rattle.std.proofs.Common.{◌≡◌, ◌++◌, ℕ, true, inl, inr, List, map, length, Result, Ok, Err, IfOk, IfErr, append_assoc, refl, sym, ap, subst, ◌∙◌}
+use Rattle.mcast_txn.specs.declared.id.Topic.{Topic}
 use Rattle.mcast_txn.specs.declared.stamp.Stamp.{Stamp}
+use Rattle.mcast_txn.specs.Transaction.{TopicPart}
 use Rattle.mcast_txn.specs.Ballot.{ticket_rows, slots_of_rows}
 use Rattle.mcast_txn.specs.Slots.{Slots}
 use Rattle.mcast_txn.specs.Stamp.{greatest, stamp_lt}
@@ -9,7 +11,7 @@ use Rattle.mcast_group.specs.declared.fault.ProposeFault.TheVariants as propose
 use Rattle.sender_gate.specs.Gate.{FlightState, GateState, gate_after}
 use Rattle.broker_locks.specs.declared.fault.CommitFault.{CommitFault}
 use Rattle.broker_locks.specs.declared.fault.CommitFault.TheVariants.{AlreadySet}
-use Rattle.broker_locks.specs.Commits.{IsCommitted, IsRefused, EnteredPart, cancelled, entered, parts_in, proposed_stamp, refused_floor}
+use Rattle.broker_locks.specs.Commits.{IsCommitted, IsRefused, EnteredPart, StopsAt, some_refusal, cancelled, entered, parts_in, proposed_stamp, refused_floor}
 use Rattle.broker_locks.specs.Faults.{commit_fault}
 use Rattle.broker_locks.specs.Inner.Cancelling.{IsDecidedGate, cancelled_at, topics_given}
 use Rattle.broker_locks.specs.Inner.Proposing.{HasProposed, IsWhole}
@@ -108,3 +110,16 @@ module _ (first now : FlightState) (ns : List ℕ) (old rows : List PlaceRow) (w
         ∙ ap (gate_after first) (so.floor ∙ sym (ap (λ (f : CommitFault). refused_floor f first.floor ps) e ∙ fault_floor fault first.floor ps)));
     decided = λ set. absurd (fault_other fault (sym e ∙ set));
   }
+
+-- ---- where a refused commit stopped
+
+-- where it stopped, said without the places that refused
+pub stops_somewhere : {P Q : Type 0} (may : P → Stamp → TopicPart → ProposeFault → Type 0) (told : Q → Topic → ℕ → Q → Type 0) (flight : FlightState) (old new : Q) (fault : CommitFault) → StopsAt may told flight old new fault → StopsAt some_refusal told flight old new fault
+stops_somewhere may told flight old new fault s = record {
+  tried = s.tried;
+  tells = s.tells;
+  why = elim s.why [
+    | inl p ↦ inl (record { places = tt; before = p.before; last = p.last; part = p.part; at = p.at; refusal = p.refusal; refused = tt; is = p.is })
+    | inr o ↦ inr o
+  ];
+}

@@ -119,6 +119,10 @@ pub record IsPlaceFault {P : Type 0} (may_refuse : P → Stamp → TopicPart →
   pub refused : may_refuse places flight.floor part refusal
   pub is : fault ≡ commit_fault refusal
 
+-- A place refuses a part by a fault. It stands where nothing is known of the places, since each is behind a lock.
+abbrev pub some_refusal : Unit {0} → Stamp → TopicPart → ProposeFault → Type 0
+some_refusal places floor part fault = Unit {0}
+
 -- all parts were tried, and the flight had another verdict
 abbrev pub IsSetBefore : FlightState → ℕ → CommitFault → Type 0
 IsSetBefore flight tried fault = (tried ≡ length (parts_in flight.parts)) × (fault ≡ commit.AlreadySet)

@@ -6,7 +6,7 @@ ghost use Rattle.delivery.specs.Topics.{max_topics};
 ghost use Rattle.mcast_group.specs.declared.fault.SubFault.TheVariants.{SubInUse};
 ghost use Rattle.sender_gate.specs.Senders.{MayRefuse, SendersState, claim_refusal, claimed_gate};
 ghost use Rattle.broker_locks.specs.declared.server_fault.ServerFault.TheVariants.{TooManyConns};
-ghost use Rattle.broker_locks.specs.Commits.{AreTold, IsCommitted, IsRefused, IsUntouched, KnowsStamp, topics_in};
+ghost use Rattle.broker_locks.specs.Commits.{AreTold, IsCommitted, IsRefused, IsUntouched, KnowsStamp, StopsAt, some_refusal, topics_in};
 ghost use Rattle.broker_locks.specs.Gathering.{IsTraceLeft, StopsGathering};
 ghost use Rattle.broker_locks.specs.Opening.{clock_at_start, opening_places};
 ghost use Rattle.broker_locks.specs.Rows.{PlaceRow};
@@ -15,6 +15,7 @@ use crate::commit::commit_on;
 use crate::fault::CommitFault;
 use crate::locked::Locked;
 use crate::locked_topic::LockedTopic;
+use crate::open_counts::OpenCounts;
 use crate::point::Point;
 use crate::server_fault::ServerFault;
 use crate::shares::Shares;
@@ -50,6 +51,7 @@ pub struct Broker<R: Wait, W: Side, T: Side> {
     senders: Mutex<Senders>,
     total: Mutex<Total<W, T>>,
     locks: Vec<TopicLock<R, T>>,
+    opens: OpenCounts,
     ghost some: { 0 < capacity },
     ghost one_each: { vec_len locks ≡ max_topics },
     ghost shared: { T.all ≡ max_topics },
@@ -65,11 +67,13 @@ impl<R: Wait, W: Side, T: Side> Drop for Broker<R, W, T> {
             senders,
             total,
             locks,
+            opens,
         } = self;
         drop(topics);
         drop(senders);
         drop(total);
         drop(locks);
+        drop(opens);
     }
 }
 
@@ -95,6 +99,7 @@ impl<R: Wait, W: Side, T: Side> Broker<R, W, T> {
         let (total, share) = opened::<W, T>(workers, tickets);
         let opening = opening_topics(alloc, &topics, keep_trace, share, MAX_TOPICS)?;
         let locks = locks_of(alloc, opening)?;
+        let opens = OpenCounts::new(alloc, MAX_TOPICS)?;
         Ok(Broker {
             alloc,
             topics,
@@ -102,6 +107,7 @@ impl<R: Wait, W: Side, T: Side> Broker<R, W, T> {
             senders: Mutex::new(Senders::new(alloc)),
             total: Mutex::new(total),
             locks,
+            opens,
         })
     }
 
@@ -154,6 +160,7 @@ impl<R: Wait, W: Side, T: Side> Broker<R, W, T> {
             senders,
             total,
             locks,
+            opens,
         } = self;
         let total = total.into_inner();
         if total.joined != shares.workers {
@@ -165,11 +172,13 @@ impl<R: Wait, W: Side, T: Side> Broker<R, W, T> {
                 senders,
                 total,
                 locks,
+                opens,
             };
             return Err((broker, shares));
         }
         drop(topics);
         drop(senders);
+        drop(opens);
         Ok(counted(total, shares, locks))
     }
 
@@ -204,7 +213,9 @@ impl<R: Wait, W: Side, T: Side> Broker<R, W, T> {
         let Ok((source, taker)) = ruled(self.alloc, self.capacity) else {
             return Err(SubFault::NoMemory);
         };
-        let (sub, start) = lock.lock(rt).subscribe(topic, source)?;
+        let mut locked = lock.lock(rt);
+        let (sub, start) = locked.subscribe(topic, source)?;
+        self.opens.note(topic, locked.open_len());
         Ok(Subscribed { sub, start, taker })
     }
 
@@ -213,10 +224,13 @@ impl<R: Wait, W: Side, T: Side> Broker<R, W, T> {
     pub fn unsubscribe(&self, rt: &R, topic: Topic, sub: u64) -> Result<Ended<Source<R>>, NoSub>
         ensures nowhere { max_topics ≤ topic.0 → IsErr result }
     {
-        match self.lock_of(topic) {
-            Some(lock) => lock.lock(rt).unsubscribe(sub),
-            None => Err(NoSub),
-        }
+        let Some(lock) = self.lock_of(topic) else {
+            return Err(NoSub);
+        };
+        let mut locked = lock.lock(rt);
+        let ended = locked.unsubscribe(sub)?;
+        self.opens.note(topic, locked.open_len());
+        Ok(ended)
     }
 
     /// Whether the topic's subscription of this number is open or has lagged, if there is one.
@@ -243,6 +257,8 @@ impl<R: Wait, W: Side, T: Side> Broker<R, W, T> {
             (worker.new.tickets ≡ worker.old.tickets + length (topics_in flying.state)) }
         ensures refused { IfErr result
             (λ refused. (old new : List PlaceRow) × IsRefused flying.state old new refused.0 refused.1) }
+        ensures stops { IfErr result
+            (λ refused. StopsAt some_refusal Q.told flying.state point.old point.new refused.1) }
         ensures no_less { OnErr result (worker.old.tickets ≤ worker.new.tickets) }
         ensures no_more { OnErr result
             (worker.new.tickets ≤ worker.old.tickets + length (topics_in flying.state)) }
@@ -272,6 +288,8 @@ impl<R: Wait, W: Side, T: Side> Broker<R, W, T> {
             (worker.new.tickets ≡ worker.old.tickets + length (topics_in flying.state)) }
         ensures refused { IfErr result
             (λ refused. (old new : List PlaceRow) × IsRefused flying.state old new refused.0 refused.1) }
+        ensures stops { IfErr result
+            (λ refused. StopsAt some_refusal Q.told flying.state point.old point.new refused.1) }
         ensures no_less { OnErr result (worker.old.tickets ≤ worker.new.tickets) }
         ensures no_more { OnErr result
             (worker.new.tickets ≤ worker.old.tickets + length (topics_in flying.state)) }
@@ -307,7 +325,12 @@ impl<R: Wait, W: Side, T: Side> Broker<R, W, T> {
             };
             return (nothing, Ok(()));
         };
-        let (turned, drained) = lock.lock(rt).head_turned(rt);
+        let mut locked = lock.lock(rt);
+        let (turned, drained) = locked.head_turned(rt);
+        if turned.lagged {
+            self.opens.note(topic, locked.open_len());
+        }
+        drop(locked);
         (turned, drained.map(drop))
     }
 
@@ -326,6 +349,7 @@ impl<R: Wait, W: Side, T: Side> Broker<R, W, T> {
             senders: _,
             total: _,
             locks,
+            opens: _,
         } = self;
         let mut trace = Trace::new(alloc);
         let mut number = 0;
@@ -346,6 +370,11 @@ impl<R: Wait, W: Side, T: Side> Broker<R, W, T> {
     {
         let lock = self.locks.get(topic.0 as usize)?;
         Some(lock)
+    }
+
+    /// How many subscriptions were open at the topic, as was noted last. It takes no lock.
+    pub(crate) fn open_at(&self, topic: Topic) -> usize {
+        self.opens.at(topic)
     }
 
     /// The lock of the total of tickets.

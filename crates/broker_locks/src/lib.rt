@@ -12,6 +12,7 @@ pub mod law;
 mod locked;
 mod locked_topic;
 mod log_section;
+mod open_counts;
 mod place;
 mod places;
 mod point;

@@ -1,13 +1,16 @@
 //! A broker's locks, as a commit sees them.
 
-ghost use Rattle.std.specs.Prelude.{◌≡◌, []};
+ghost use Rattle.std.specs.Prelude.{◌≡◌, [], IfOk};
+ghost use Rattle.std.specs.Arc.{arc_value};
+ghost use Rattle.broker_locks.specs.Place.{proposal_of};
 
 use crate::broker::Broker;
 use crate::done_rows::DoneRows;
 use crate::places::Places;
 use crate::side::Side;
 use mcast_group::{Proposal, ProposeFault};
-use mcast_txn::{Part, Stamp, Ticket, Topic, TxnId};
+use mcast_txn::{NoMemory, Part, Stamp, Ticket, Topic, TxnId};
+use std::alloc::Global;
 use std::snapshot::Snapshot;
 use std::sync::ledger::Share;
 use std::sync::{Arc, Wait};
@@ -65,8 +68,9 @@ impl<'a, R: Wait, W: Side, T: Side> Places for Locked<'a, R, W, T> {
 
     ghost may_refuse = { λ l floor part fault. Unit {0} };
 
-    /// Enters the part behind its topic's lock, before which it is moved to the heap. Refused as there, 49 also where
-    /// there is no such lock, 42 also where there is no memory to move it.
+    /// Enters the part behind its topic's lock, before which it is moved to the heap, with a copy for each subscription
+    /// that was open there. Refused as there, 49 also where there is no such lock, 42 also where there is no memory to
+    /// move it.
     fn propose(&mut self, floor: Stamp, part: Arc<Part>) -> Result<Ticket, ProposeFault> {
         let Some(lock) = self.broker.lock_of(part.topic) else {
             return Err(ProposeFault::Twice);
@@ -75,7 +79,8 @@ impl<'a, R: Wait, W: Side, T: Side> Places for Locked<'a, R, W, T> {
             return Err(ProposeFault::NoMemory);
         };
         let shown = Snapshot::of(&*part);
-        let Ok(proposal) = Proposal::new(self.broker.alloc(), part) else {
+        let many = self.broker.open_at(part.topic);
+        let Ok(proposal) = copied(self.broker.alloc(), part, many) else {
             return Err(ProposeFault::NoMemory);
         };
         let total = self.broker.total();
@@ -94,4 +99,13 @@ impl<'a, R: Wait, W: Side, T: Side> Places for Locked<'a, R, W, T> {
         }
         self.done.cancel(topic, id);
     }
+}
+
+/// A proposal of this part, with a copy for each of so many subscriptions.
+fn copied(alloc: Global, part: Arc<Part>, many: usize) -> Result<Proposal, NoMemory>
+    ensures { IfOk result (λ proposal. proposal ≡ proposal_of (arc_value part)) }
+{
+    let mut proposal = Proposal::new(alloc, part)?;
+    proposal.copy_for(alloc, many)?;
+    Ok(proposal)
 }

@@ -2,6 +2,7 @@
 
 ghost use Rattle.std.specs.Prelude.{◌≡◌, ◌≢◌, ◌⊎◌, ◌+◌, ◌*◌, ◌<◌, ℕ, [], None, Some, IfOk, IfErr, IfSome, OnOk, OnErr};
 ghost use Rattle.sub_queue.specs.Ends.{shown_of_source};
+ghost use Rattle.mcast_group.specs.CellGroup.{open_count};
 ghost use Rattle.mcast_group.specs.Group.{or_no_memory, result_of};
 ghost use Rattle.mcast_group.specs.declared.fault.ProposeFault.TheVariants.{ClockFull};
 ghost use Rattle.mcast_group.specs.Machine.{cancel_fault, next_number};
@@ -148,6 +149,13 @@ impl<R: Wait, T: Side> LockedTopic<R, T> {
         ensures err { OnErr result (self.new.place ≡ self.old.place) }
     {
         self.place.cancel(id)
+    }
+
+    /// How many of its subscriptions are open.
+    pub(crate) fn open_len(&self) -> usize
+        ensures { result ≡ open_count self.now.place.cells.group.topic.subscriptions }
+    {
+        self.place.group().open_len()
     }
 
     /// Turns the topic and drains its log, as the place does.

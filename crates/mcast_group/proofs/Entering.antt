@@ -13,6 +13,7 @@ use Rattle.sub_queue.specs.Shown.{Shown}
 use Rattle.mcast_group.specs.declared.subscription.Subscription.{Subscription}
 use Rattle.mcast_group.specs.Sound.{IsSound}
 use Rattle.mcast_group.specs.Machine.{TopicState, Entry, Pending, is_pending, key, next_number, propose_refusals, propose_fault, after_cancel, after_drain}
+use Rattle.mcast_group.specs.CellGroup.{open_count}
 use Rattle.mcast_group.specs.Group.{after_enter}
 use Rattle.mcast_group.specs.Inner.Copies.{HaveCopies}
 use Rattle.mcast_group.specs.Inner.GroupInvariant.{IsKept, entry_of}
@@ -45,11 +46,11 @@ kept_grown shown spare x capacity after copies old new h l e grown = record {
       let a : length x.pending ≤ spare (get_or old w.index s).outlet = h.spares (get_or old w.index s) (In-get_or old w.index s j) was in
       let b : spare (get_or old w.index s).outlet ≤ spare s.outlet = subst (λ (z : Subscription _). spare (get_or old w.index s).outlet ≤ spare z.outlet) (w.is s) (grown w.index s j) in
       omega arith;
-  copied = subst (λ (n : ℕ). HaveCopies n x.pending copies) (sym (same_many shown old new e)) h.copied;
+  copied = h.copied;
 }
 
 -- IsKept holds after a part has entered, with room, spares and copies for it
-pub kept_entered : {Q : Type 0} (shown : Q → Shown) (spare : Q → ℕ) (x y : TopicState) (capacity after n : ℕ) (copies more : List (List TopicPart)) (old new : List (Subscription Q)) (floor : Stamp) (part : TopicPart) → IsKept spare x capacity copies old → part.topic ≡ x.topic → n ≡ next_number floor x → propose_fault floor part x ≡ None → y ≡ after_enter n part x → length x.held + (length x.pending + 1) ≤ after → map (entry_of shown) new ≡ map (entry_of shown) old → ((k : ℕ) (d : Subscription Q) → k < length old → (get_or new k d).to ≡ None → length x.pending + 1 ≤ spare (get_or new k d).outlet) → HaveCopies (length old) y.pending more → IsKept spare y after more new
+pub kept_entered : {Q : Type 0} (shown : Q → Shown) (spare : Q → ℕ) (x y : TopicState) (capacity after n : ℕ) (copies more : List (List TopicPart)) (old new : List (Subscription Q)) (floor : Stamp) (part : TopicPart) → IsKept spare x capacity copies old → part.topic ≡ x.topic → n ≡ next_number floor x → propose_fault floor part x ≡ None → y ≡ after_enter n part x → length x.held + (length x.pending + 1) ≤ after → map (entry_of shown) new ≡ map (entry_of shown) old → ((k : ℕ) (d : Subscription Q) → k < length old → (get_or new k d).to ≡ None → length x.pending + 1 ≤ spare (get_or new k d).outlet) → HaveCopies (open_count x.subscriptions) y.pending more → IsKept spare y after more new
 kept_entered shown spare x y capacity after n copies more old new floor part h own next none e room same left copied =
     let grown : length y.pending ≡ suc (length x.pending) = ap (λ (z : TopicState). length z.pending) e ∙ insert_length _ x.pending in
     let many : length y.pending ≡ length x.pending + 1 = omega arith in
@@ -64,7 +65,7 @@ kept_entered shown spare x y capacity after n copies more old new floor part h o
           let j : w.index < length old = omega arith in
           let a : length x.pending + 1 ≤ spare s.outlet = subst (λ (z : Subscription _). z.to ≡ None → length x.pending + 1 ≤ spare z.outlet) (w.is s) (left w.index s j) o in
           omega arith;
-      copied = subst (λ (k : ℕ). HaveCopies k y.pending more) (sym (same_many shown old new same)) copied;
+      copied = subst (λ (es : List Entry). HaveCopies (open_count es) y.pending more) (sym (ap (λ (z : TopicState). z.subscriptions) e)) copied;
     }
 
 -- a part that is taken out
@@ -76,7 +77,7 @@ kept_cancelled spare x y capacity copies subs id i h e gone l =
       sound = subst IsSound (sym e) (keeps_sound.cancels id x h.sound);
       room = let r : length x.held + length x.pending ≤ capacity = h.room in omega arith;
       spares = λ s k n. let r : length x.pending ≤ spare s.outlet = h.spares s k n in omega arith;
-      copied = rw gone (copies_remove (length subs) x.pending copies i h.copied);
+      copied = subst (λ (es : List Entry). HaveCopies (open_count es) y.pending (remove copies i)) (sym (ap (λ (z : TopicState). z.subscriptions) e)) (rw gone (copies_remove (open_count x.subscriptions) x.pending copies i h.copied));
     }
 
 -- IsKept holds after the log was drained, with room for a row of each pending part

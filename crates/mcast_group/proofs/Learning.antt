@@ -16,6 +16,7 @@ use Rattle.mcast_group.specs.declared.subscription.Subscription.{Subscription}
 use Rattle.mcast_group.specs.Sound.{IsSound, RisesById}
 use Rattle.mcast_group.specs.Machine.{TopicState, Pending, Entry, decided_stamp, key, learn_fault, after_learn, with_stamp, after_try, after_tries, due_part, after_release, row_of}
 use Rattle.mcast_group.specs.Group.{AreFound, CanLearn, GroupState, Tries, TriesAll, Turns, group_after_releases, group_after_release, group_after_tries}
+use Rattle.mcast_group.specs.CellGroup.{open_count}
 use Rattle.mcast_group.specs.Inner.Copies.{HaveCopies}
 use Rattle.mcast_group.specs.Inner.GroupInvariant.{IsKept}
 use Rattle.mcast_group.proofs.Parts.{map_length, told_how, after_release_if}
@@ -40,7 +41,7 @@ kept_learned spare x y capacity copies subs id index stamp h can e =
       sound = subst (λ (s : Stamp). IsSound (after_learn id s x)) (sym can.is) (Sound-learned id can.verdict x h.sound (learns_is id can.verdict x can.allowed));
       room = let r : length x.held + length x.pending ≤ capacity = h.room in omega arith;
       spares = λ s k n. let r : length x.pending ≤ spare s.outlet = h.spares s k n in omega arith;
-      copied = copies_told id stamp (length subs) x.pending copies h.copied;
+      copied = copies_told id stamp (open_count x.subscriptions) x.pending copies h.copied;
     })
 
 -- the part that may learn a stamp: it isn't below its key, and is no other part's

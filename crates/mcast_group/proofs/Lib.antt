@@ -10,6 +10,7 @@ pub mod Giving
 pub mod Copying
 pub mod Releasing
 pub mod Learning
+pub mod Opens
 pub mod Subscribing
 pub mod Taking
 pub mod ByNumber

@@ -18,6 +18,7 @@ use Rattle.mcast_group.specs.Sound.{IsSound}
 use Rattle.mcast_group.specs.Machine.{TopicState, Entry, Pending, entry_after, due_part, item_of, key, least_part, after_release, after_release_of, row_of}
 use Rattle.mcast_group.specs.Group.{GroupState, OutletsAnswer, AnswersEach, ReleasesAll, group_after_releases, MayAnswer, Releases, entries_after, group_after_release}
 use Rattle.mcast_group.specs.Sound.{NumbersDiffer}
+use Rattle.mcast_group.specs.CellGroup.{open_count}
 use Rattle.mcast_group.specs.Inner.Copies.{AreOf, HaveCopies}
 use Rattle.mcast_group.specs.Inner.GroupInvariant.{Gave, IsKept, IsReady, MayGive, entry_of, room_of}
 use Rattle.mcast_group.proofs.Groups.{due_here, release_is, release_none}
@@ -173,8 +174,8 @@ module _ {Q : Type 0} (shown : Q → Shown) (spare : Q → ℕ) (x : TopicState)
       some_in q (r ∷ qs) m = omega arith
 
   -- the group after a release
-  pub kept_released : (takes : Entry → Bool) (p : Pending) (i : ℕ) (y : TopicState) (new : List (Subscription Q)) → due_part x ≡ Some p → i < length x.pending → y ≡ after_release_of takes p x → y.pending ≡ remove x.pending i → y.subscriptions ≡ map (entry_of shown) new → length new ≡ length old → ((k : ℕ) (d : Subscription Q) → k < length old → spare (get_or old k d).outlet ≤ spare (get_or new k d).outlet + 1) → IsKept spare y capacity (remove copies i) new
-  kept_released takes p i y new due l e gone are many left =
+  pub kept_released : (takes : Entry → Bool) (p : Pending) (i : ℕ) (y : TopicState) (new : List (Subscription Q)) (more : List (List TopicPart)) → due_part x ≡ Some p → i < length x.pending → y ≡ after_release_of takes p x → y.pending ≡ remove x.pending i → y.subscriptions ≡ map (entry_of shown) new → length new ≡ length old → ((k : ℕ) (d : Subscription Q) → k < length old → spare (get_or old k d).outlet ≤ spare (get_or new k d).outlet + 1) → HaveCopies (open_count y.subscriptions) y.pending more → IsKept spare y capacity more new
+  kept_released takes p i y new more due l e gone are many left copied =
       let fewer : length y.pending + 1 ≡ length x.pending = ap (λ (z : List Pending). length z + 1) gone ∙ length-remove x.pending i l in
       let subs : y.subscriptions ≡ map (entry_after takes x.frontier (item_of p)) x.subscriptions = ap (λ (z : TopicState). z.subscriptions) e in
       record {
@@ -197,7 +198,7 @@ module _ {Q : Type 0} (shown : Q → Shown) (spare : Q → ℕ) (x : TopicState)
             let before : length x.pending ≤ spare d.outlet = h.spares d (In-get_or old k s in_old) was in
             let after : spare d.outlet ≤ spare s.outlet + 1 = subst (λ (z : Subscription Q). spare d.outlet ≤ spare z.outlet + 1) (w.is s) (left k s in_old) in
             omega arith;
-        copied = rw (gone, many) (copies_remove (length old) x.pending copies i h.copied);
+        copied = copied;
       }
 
 -- ---- what is given is a release

@@ -1,10 +1,9 @@
 -- Subscriptions that begin and end.
-use Rattle.std.proofs.Common.{◌≡◌, ◌≢◌, ℕ, zero, suc, ◌+◌, ◌<◌, ◌≤◌, ◌==◌, Bool, true, false, cond, not, ◌||◌, inl, inr, ◌⊎◌, nat_lt, List, [], ◌∷◌, map, take, length, get_or, Some, None, refl, sym, ap, subst, ◌∙◌, arith}
+use Rattle.std.proofs.Common.{◌≡◌, ◌≢◌, ℕ, zero, suc, ◌+◌, ◌<◌, ◌≤◌, ◌==◌, Bool, true, false, cond, not, ◌||◌, inl, inr, ◌⊎◌, nat_lt, List, [], ◌∷◌, map, length, get_or, Some, None, refl, sym, ap, subst, ◌∙◌, arith}
 use Rattle.std.specs.List.{list_any, position, remove, filter}
 use Rattle.std.specs.Option.{is_some}
 use Rattle.std.proofs.lemmas.Bool.Decides.{nat_tests}
-use Rattle.std.proofs.lemmas.List.Edits.{length-remove}
-use Rattle.mcast_group.proofs.Copying.{copies_kept}
+use Rattle.mcast_group.proofs.Opens.{open_with}
 use Rattle.std.proofs.lemmas.List.Quantifiers.{position-Some}
 use Rattle.mcast_txn.specs.declared.stamp.Stamp.{Stamp}
 use Rattle.mcast_txn.specs.Lists.{In}
@@ -19,6 +18,7 @@ use Rattle.mcast_group.specs.declared.fault.SubFault.TheVariants.{SubInUse}
 use Rattle.mcast_group.specs.Machine.{TopicState, Entry, Pending, find_entry, insert_entry, subscribe_fault, after_subscribe, after_unsubscribe, unsubscribe_fault}
 use Rattle.mcast_group.specs.Group.{topic_state, room_at, rooms_with, rooms_without}
 use Rattle.mcast_group.specs.Sound.{NumbersDiffer}
+use Rattle.mcast_group.specs.CellGroup.{open_count}
 use Rattle.mcast_group.specs.Inner.Copies.{HaveCopies}
 use Rattle.mcast_group.specs.Inner.GroupInvariant.{IsKept, entry_of, room_of}
 use Rattle.mcast_group.specs.Inner.Subscriptions.{insert_sub}
@@ -62,17 +62,8 @@ In-sub_cases {Q = Q} z s (y ∷ ys) i = go (nat_lt s.number y.number) (In-sub_ca
     go false ih (inl e) = inl (inl e)
     go false ih (inr k) = elim (ih k) [ inl o ↦ inl (inr o) | inr e ↦ inr e ]
 
--- an insertion adds one to the number of subscriptions
-sub_length : {Q : Type 0} (s : Subscription Q) (subs : List (Subscription Q)) → length (insert_sub s subs) ≡ length subs + 1
-sub_length s [] = refl
-sub_length {Q = Q} s (y ∷ ys) = go (nat_lt s.number y.number) (sub_length s ys)
-  where
-    go : (b : Bool) → length (insert_sub s ys) ≡ length ys + 1 → length (cond b (s ∷ y ∷ ys) (y ∷ insert_sub s ys)) ≡ length (y ∷ ys) + 1
-    go true ih = omega arith
-    go false ih = omega arith
-
 -- IsKept holds after a subscription began, with spare and copies for it
-pub kept_subscribed : {Q : Type 0} (shown : Q → Shown) (spare : Q → ℕ) (x y : TopicState) (capacity : ℕ) (copies more : List (List TopicPart)) (subs : List (Subscription Q)) (s : Subscription Q) → IsKept spare x capacity copies subs → subscribe_fault s.number x ≡ None → y ≡ after_subscribe s.number x → (s.to ≡ None → length x.pending ≤ spare s.outlet) → HaveCopies (length subs + 1) x.pending more → IsKept spare y capacity more (insert_sub s subs)
+pub kept_subscribed : {Q : Type 0} (shown : Q → Shown) (spare : Q → ℕ) (x y : TopicState) (capacity : ℕ) (copies more : List (List TopicPart)) (subs : List (Subscription Q)) (s : Subscription Q) → IsKept spare x capacity copies subs → subscribe_fault s.number x ≡ None → y ≡ after_subscribe s.number x → (s.to ≡ None → length x.pending ≤ spare s.outlet) → HaveCopies (open_count x.subscriptions + 1) x.pending more → IsKept spare y capacity more (insert_sub s subs)
 kept_subscribed shown spare x y capacity copies more subs s h none e left copied =
     subst (λ (z : TopicState). IsKept spare z capacity more (insert_sub s subs)) (sym e) (record {
       sound = keeps_sound.subscribes s.number x h.sound none;
@@ -81,7 +72,7 @@ kept_subscribed shown spare x y capacity copies more subs s h none e left copied
         | inl o ↦ h.spares z o n
         | inr m ↦ subst (λ (w : Subscription _). length x.pending ≤ spare w.outlet) m (left (subst (λ (w : Subscription _). w.to ≡ None) (sym m) n))
       ];
-      copied = subst (λ (k : ℕ). HaveCopies k x.pending more) (sym (sub_length s subs)) copied;
+      copied = subst (λ (k : ℕ). HaveCopies k x.pending more) (sym (open_with _ x.subscriptions refl)) copied;
     })
 
 -- the entries after an insertion are the machine's
@@ -175,14 +166,13 @@ In-remove x (y ∷ xs) (suc i) (inl e) = inl e
 In-remove x (y ∷ xs) (suc i) (inr h) = inr (In-remove x xs i h)
 
 -- IsKept holds after a subscription ended
-pub kept_unsubscribed : {Q : Type 0} (shown : Q → Shown) (spare : Q → ℕ) (x y : TopicState) (capacity : ℕ) (copies : List (List TopicPart)) (subs : List (Subscription Q)) (n i : ℕ) → IsKept spare x capacity copies subs → y ≡ after_unsubscribe n x → i < length subs → IsKept spare y capacity (map (take (length (remove subs i))) copies) (remove subs i)
-kept_unsubscribed shown spare x y capacity copies subs n i h e l =
-    let m = length-remove subs i l in
-    subst (λ (z : TopicState). IsKept spare z capacity (map (take (length (remove subs i))) copies) (remove subs i)) (sym e) (record {
+pub kept_unsubscribed : {Q : Type 0} (shown : Q → Shown) (spare : Q → ℕ) (x y : TopicState) (capacity : ℕ) (copies more : List (List TopicPart)) (subs : List (Subscription Q)) (n i : ℕ) → IsKept spare x capacity copies subs → y ≡ after_unsubscribe n x → HaveCopies (open_count (after_unsubscribe n x).subscriptions) x.pending more → IsKept spare y capacity more (remove subs i)
+kept_unsubscribed shown spare x y capacity copies more subs n i h e copied =
+    subst (λ (z : TopicState). IsKept spare z capacity more (remove subs i)) (sym e) (record {
       sound = keeps_sound.unsubscribes n x h.sound;
       room = h.room;
       spares = λ s k o. h.spares s (In-remove s subs i k) o;
-      copied = copies_kept (length subs) (length (remove subs i)) x.pending copies (omega arith) h.copied;
+      copied = copied;
     })
 
 -- ending a subscription is refused where no index is found for its number

@@ -12,7 +12,6 @@ use Rattle.sub_queue.specs.declared.vec_outlet.VecOutlet.{VecOutlet}
 use Rattle.mcast_group.specs.declared.subscription.Subscription.{Subscription}
 use Rattle.mcast_group.specs.Machine.{TopicState}
 use Rattle.mcast_group.specs.Counted.{rooms_after_take}
-use Rattle.mcast_group.specs.Inner.Copies.{HaveCopies}
 use Rattle.mcast_group.specs.Inner.GroupInvariant.{IsKept, entry_of, room_of}
 use Rattle.mcast_group.proofs.Indices.{none_at}
 use Rattle.mcast_group.proofs.Subscribing.{flip_true, flip_false}
@@ -87,5 +86,5 @@ kept_taken {Q = Q} spare x y capacity copies subs i d new h e l t m =
         | inl a ↦ h.spares s a o
         | inr b ↦ subst (λ (w : Subscription Q). length x.pending ≤ spare w.outlet) b (subst (λ (w : ℕ). length x.pending ≤ w) (sym m) (h.spares (get_or subs i d) (In-get_or subs i d l) (sym t ∙ subst (λ (w : Subscription Q). w.to ≡ None) (sym b) o)))
       ];
-      copied = subst (λ (k : ℕ). HaveCopies k x.pending copies) (same_length subs i new) h.copied;
+      copied = h.copied;
     })

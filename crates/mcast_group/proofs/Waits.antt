@@ -1,5 +1,5 @@
 -- Parts that wait to learn their stamp, and what they learn from cells.
-use Rattle.std.proofs.Common.{◌≡◌, ℕ, zero, suc, ◌+◌, ◌<◌, ◌≤◌, Bool, true, false, cond, not, inl, inr, List, [], ◌∷◌, ◌++◌, filter, map, length, get_or, Option, Some, None, IfSome, refl, sym, ap, subst, ◌∙◌, arith}
+use Rattle.std.proofs.Common.{◌≡◌, ℕ, zero, suc, ◌+◌, ◌<◌, ◌≤◌, Bool, true, false, cond, inl, inr, List, [], ◌∷◌, ◌++◌, map, length, get_or, Option, Some, None, IfSome, refl, sym, ap, subst, ◌∙◌, arith}
 use Rattle.std.specs.List.{insert}
 use Rattle.std.specs.List.Sorted.{IsPartitionedBy}
 use Rattle.std.specs.Option.{is_some}
@@ -28,19 +28,6 @@ use Rattle.mcast_group.proofs.Allowed.{keeps_sound, passes}
 use Rattle.mcast_group.specs.Group.{group_after_release, group_after_releases}
 use Rattle.mcast_group.specs.Machine.{Entry, after_learn, after_release, decided_stamp, due_part, is_pending, propose_fault, propose_refusals}
 use Rattle.mcast_group.specs.Sound.{IsSound}
-use Rattle.mcast_group.specs.CellGroup.{open_count}
-use Rattle.mcast_group.specs.Inner.GroupInvariant.{entry_of}
-use Rattle.mcast_group.specs.declared.subscription.Subscription.{Subscription}
-use Rattle.sub_queue.specs.Shown.{Shown}
-
--- open subscriptions are open entries
-pub open_mapped : {Q : Type 0} (shown : Q → Shown) (subs : List (Subscription Q)) → length (filter (λ (s : Subscription Q). not (is_some s.to)) subs) ≡ open_count (map (entry_of shown) subs)
-open_mapped shown [] = refl
-open_mapped shown (s ∷ subs) = go (is_some s.to) refl (open_mapped shown subs)
-  where
-    go : (b : Bool) → is_some s.to ≡ b → length (filter (λ (z : Subscription _). not (is_some z.to)) subs) ≡ open_count (map (entry_of shown) subs) → length (filter (λ (z : Subscription _). not (is_some z.to)) (s ∷ subs)) ≡ open_count (map (entry_of shown) (s ∷ subs))
-    go true e ih = rw e ih
-    go false e ih = rw e (ap suc ih)
 
 -- the ids of parts that wait
 abbrev pub ids : List Waiting → List TxnId

@@ -1,4 +1,4 @@
-//! Copies of a pending part, one for each subscription.
+//! Copies of a pending part, one for each open subscription.
 
 ghost use Rattle.std.specs.Prelude.{◌≡◌, ℕ, ◌+◌, ◌≤◌, ◌<◌, List, [], ◌∷◌, ◌++◌, length, map, take, slice_index_or, IfSome, IfNone, OnOk, OnErr, IfOk};
 ghost use Rattle.std.specs.Arc.{arc_value};
@@ -7,6 +7,7 @@ ghost use Rattle.mcast_txn.specs.Lists.{In};
 ghost use Rattle.mcast_txn.specs.Part.{data_of};
 ghost use Rattle.mcast_txn.specs.Transaction.{TopicPart};
 ghost use Rattle.mcast_group.specs.Inner.Copies.{AreOf, HaveCopies};
+ghost use Rattle.mcast_group.specs.Machine.{Pending};
 
 use crate::pending::PendingPart;
 use crate::pending_parts::PendingParts;
@@ -16,7 +17,7 @@ use std::collections::VecDeque;
 use std::marker::Model;
 use std::sync::Arc;
 
-/// Copies of a pending part: shared once more for each subscription, so that a release takes no memory.
+/// Copies of a pending part: shared once more for each open subscription, so that a release takes no memory.
 #[derive(Drop)]
 pub(crate) struct Copies {
     parts: Vec<Arc<Part>>,
@@ -34,6 +35,13 @@ impl Model for Copies {
 }
 
 impl Copies {
+    /// How many there are.
+    pub(crate) fn len(&self) -> usize
+        ensures { result ≡ length self.now }
+    {
+        self.parts.len()
+    }
+
     /// Takes one out.
     pub(crate) fn take(&mut self) -> Option<Arc<Part>>
         ensures none { IfNone result (length self.old ≡ 0) }
@@ -99,6 +107,17 @@ pub(crate) fn keep_in_each(copies: &mut VecDeque<Copies>, most: usize)
 {
     for i in 0..copies.len() {
         copies[i].keep(most);
+    }
+}
+
+/// Keeps `most` copies of each part, which had `had`. Where it had no more, it looks at none.
+pub(crate) fn cut_copies(copies: &mut VecDeque<Copies>, had: usize, most: usize)
+    requires { most ≤ had }
+    ensures { (pending : List Pending) → HaveCopies had pending copies.old.items
+        → HaveCopies most pending copies.new.items }
+{
+    if most < had {
+        keep_in_each(copies, most);
     }
 }
 

@@ -19,7 +19,7 @@ ghost use Rattle.mcast_group.specs.Inner.GroupInvariant.{entry_of};
 ghost use Rattle.mcast_group.specs.Machine.{Pending, cancel_fault, after_cancel, after_drain, after_turn, decided_stamp, due_part, key, learn_fault, after_learn, new_topic, insert_pending, is_pending, next_number, propose_fault, after_propose, state_of, subscribe_fault, unsubscribe_fault};
 
 use crate::boxed_part::BoxedPart;
-use crate::copies::{Copies, add_to_each, keep_in_each, take_at};
+use crate::copies::{Copies, add_to_each, cut_copies, keep_in_each, take_at};
 use crate::departed::Departed;
 use crate::ended::Ended;
 use crate::fault::{CancelFault, LearnFault, NoSub, ProposeFault, SubFault};
@@ -49,7 +49,7 @@ pub struct Group<Q: Outlet + Drop> {
     clock: u64,
     log_limit: usize,
     pending: PendingParts,
-    /// For each pending part, in their order, a copy for each subscription.
+    /// For each pending part, in their order, a copy for each open subscription.
     copies: VecDeque<Copies>,
     /// The stamp of the last row that was drained.
     base: Stamp,
@@ -198,8 +198,10 @@ impl<Q: Outlet + Drop> Group<Q> {
         }
         let part = self.pending.remove(index);
         let mut copies = take_at(&mut self.copies, index);
+        let had = copies.len();
         self.subscriptions
             .give_all(needs, self.frontier, &part, &mut copies);
+        cut_copies(&mut self.copies, had, self.subscriptions.open_len());
         let (row, departed) = part.depart();
         self.rows.push(row);
         self.frontier = departed.stamp();
@@ -293,7 +295,7 @@ impl<Q: Outlet + Drop> Group<Q> {
         ensures same { self.new ≡ self.old }
         ensures kept { prepared.new ≡ prepared.old }
     {
-        prepared.copy_for(self.alloc, self.subscriptions.len())?;
+        prepared.copy_for(self.alloc, self.subscriptions.open_len())?;
         self.pending.reserve()?;
         self.copies.reserve(1)?;
         let Some(more) = self.pending.len().checked_add(1) else {
@@ -372,7 +374,7 @@ impl<Q: Outlet + Drop> Group<Q> {
     }
 
     /// How many subscriptions are open.
-    pub(crate) fn open_len(&self) -> usize
+    pub fn open_len(&self) -> usize
         ensures { result ≡ open_count self.now.topic.subscriptions }
     {
         self.subscriptions.open_len()
@@ -395,7 +397,7 @@ impl<Q: Outlet + Drop> Group<Q> {
             ≡ record self.old { topic = after_enter n prepared self.old.topic }) }
         ensures err { OnErr result (self.new ≡ self.old) }
     {
-        let (entry, made) = prepared.into_entry(self.alloc, n, self.subscriptions.len())?;
+        let (entry, made) = prepared.into_entry(self.alloc, n, self.subscriptions.open_len())?;
         self.rows.reserve(self.pending.len() + 1)?;
         self.subscriptions.reserve_each(self.pending.len() + 1)?;
         put(&mut self.pending, &mut self.copies, entry, made)?;
@@ -443,11 +445,11 @@ impl<Q: Outlet + Drop> Group<Q> {
             outlet,
         };
         let Ok(()) = make_room(&mut sub, &mut self.copies, &self.pending) else {
-            keep_in_each(&mut self.copies, self.subscriptions.len());
+            keep_in_each(&mut self.copies, self.subscriptions.open_len());
             return Err((SubFault::NoMemory, sub.outlet));
         };
         if let Err(sub) = self.subscriptions.insert(index, sub) {
-            keep_in_each(&mut self.copies, self.subscriptions.len());
+            keep_in_each(&mut self.copies, self.subscriptions.open_len());
             return Err((SubFault::NoMemory, sub.outlet));
         }
         Ok(self.frontier)
@@ -465,8 +467,9 @@ impl<Q: Outlet + Drop> Group<Q> {
         let Some(index) = self.subscriptions.index_of(number) else {
             return Err(NoSub);
         };
+        let had = self.subscriptions.open_len();
         let sub = self.subscriptions.remove(index);
-        keep_in_each(&mut self.copies, self.subscriptions.len());
+        cut_copies(&mut self.copies, had, self.subscriptions.open_len());
         Ok(sub.end(self.frontier))
     }
 

@@ -11,8 +11,8 @@ use std::alloc::Global;
 use std::marker::Model;
 use std::sync::Arc;
 
-/// A part that is to be entered, on the heap, with its topics and its flight shared once more. In contracts it is what the part says, and the name
-/// of its flight's cell.
+/// A part that is to be entered, on the heap, with its topics and its flight shared once more. In contracts it is what the
+/// part says, and the name of its flight's cell.
 #[derive(Drop)]
 pub struct Proposal {
     pub(crate) prepared: Prepared,
@@ -40,6 +40,14 @@ impl Proposal {
         let flight = part.flight.clone()?;
         let prepared = Prepared::new(alloc, part)?;
         Ok(Proposal { prepared, flight })
+    }
+
+    /// Makes a copy of the part for each of so many subscriptions, where it has fewer. Made before the topic's lock is taken,
+    /// `prepare` makes those alone that are missing then; `enter` lets go of those that are too many.
+    pub fn copy_for(&mut self, alloc: Global, many: usize) -> Result<(), NoMemory>
+        ensures { self.new ≡ self.old }
+    {
+        self.prepared.copy_for(alloc, many)
     }
 
     /// The transaction.

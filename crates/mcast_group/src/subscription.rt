@@ -1,6 +1,6 @@
 //! A subscription of a topic.
 
-ghost use Rattle.std.specs.Prelude.{◌≡◌, ◌+◌, ◌<◌, ◌≤◌, length, None, OnOk};
+ghost use Rattle.std.specs.Prelude.{◌≡◌, ◌+◌, ◌<◌, ◌≤◌, length, None, IfSome, OnOk};
 ghost use Rattle.mcast_txn.specs.Lists.{In};
 ghost use Rattle.mcast_txn.specs.Transaction.{TopicPart};
 ghost use Rattle.mcast_group.specs.Machine.{entry_after, end_of, item_of, key, state_of_entry};
@@ -82,7 +82,7 @@ impl<Q: Outlet + Drop> Subscription<Q> {
         copies: &mut Copies,
     ) -> bool
         requires ready { IsReady Q.shown Q.spare (key part.now) self.old }
-        requires some { 0 < length copies.old }
+        requires some { self.old.to ≡ None → 0 < length copies.old }
         requires copies { AreOf part.now.part copies.old }
         ensures entry { entry_of Q.shown self.new
             ≡ entry_after (λ _. result) frontier (item_of part.now) (entry_of Q.shown self.old) }
@@ -91,6 +91,7 @@ impl<Q: Outlet + Drop> Subscription<Q> {
         ensures spare { Q.spare self.old.outlet ≤ Q.spare self.new.outlet + 1 }
         ensures copies { AreOf part.now.part copies.new }
         ensures many { length copies.old ≤ length copies.new + 1 }
+        ensures lagged { IfSome self.old.to (λ _. copies.new ≡ copies.old) }
     {
         if self.to.is_some() {
             return false;

@@ -6,6 +6,7 @@ ghost use Rattle.std.specs.Option.{is_some};
 ghost use Rattle.mcast_txn.specs.Transaction.{TopicPart};
 ghost use Rattle.sub_queue.specs.Shown.{next_index};
 ghost use Rattle.sub_queue.specs.VecQueue.{after_take, shown_of};
+ghost use Rattle.mcast_group.specs.CellGroup.{open_count};
 ghost use Rattle.mcast_group.specs.Machine.{item_of, key};
 ghost use Rattle.mcast_group.specs.Inner.Copies.{AreOf};
 ghost use Rattle.mcast_group.specs.Inner.GroupInvariant.{Gave, IsReady, entry_of, room_of};
@@ -117,7 +118,7 @@ impl<Q: Outlet + Drop> Subscriptions<Q> {
         requires ready { (k : ℕ) (d : Subscription Q) → k < length self.old
             → IsReady Q.shown Q.spare (key part.now) (slice_index_or self.old k d) }
         requires copies { AreOf part.now.part copies.old }
-        requires many { length self.old ≤ length copies.old }
+        requires many { open_count (map (entry_of Q.shown) self.old) ≤ length copies.old }
         ensures gave { Gave Q.shown Q.may_accept frontier (item_of part.now) self.old self.new }
         ensures spare { (k : ℕ) (d : Subscription Q) → k < length self.old
             → Q.spare (slice_index_or self.old k d).outlet
@@ -130,6 +131,13 @@ impl<Q: Outlet + Drop> Subscriptions<Q> {
 
     /// How many are open.
     pub(crate) fn open_len(&self) -> usize
+        ensures { result ≡ open_count (map (entry_of Q.shown) self.now) }
+    {
+        self.endless_len()
+    }
+
+    /// How many have no end.
+    fn endless_len(&self) -> usize
         ensures { result ≡ length (filter (λ s. not (is_some s.to)) self.now) }
     {
         self.subs.iter().filter(|sub| sub.to.is_none()).count()

@@ -9,6 +9,7 @@ use Rattle.mcast_group.specs.declared.subscription.Subscription.{Subscription}
 use Rattle.mcast_group.specs.Sound.{IsSound}
 use Rattle.mcast_group.specs.Machine.{TopicState, Entry}
 use Rattle.mcast_group.specs.Group.{entries_after}
+use Rattle.mcast_group.specs.CellGroup.{open_count}
 use Rattle.mcast_group.specs.Inner.Copies.{HaveCopies}
 
 -- a subscription of the machine
@@ -24,13 +25,13 @@ room_of shown s = (shown s.outlet).room
 -- sound: the topic is sound; so its subscriptions' numbers differ.
 -- room: its log has room for a row of each pending part.
 -- spares: the outlet of each open subscription has spare for each pending part.
--- copied: each pending part has as many copies as there are subscriptions.
+-- copied: each pending part has as many copies as there are open subscriptions.
 pub record IsKept {Q : Type 0} (spare : Q → ℕ) (x : TopicState) (capacity : ℕ)
     (copies : List (List TopicPart)) (subs : List (Subscription Q)) : Type 0 where
   pub sound : IsSound x
   pub room : length x.held + length x.pending ≤ capacity
   pub spares : (s : Subscription Q) → In s subs → s.to ≡ None → length x.pending ≤ spare s.outlet
-  pub copied : HaveCopies (length subs) x.pending copies
+  pub copied : HaveCopies (open_count x.subscriptions) x.pending copies
 
 -- a subscription that is open has spare for an item of this stamp, which is above what it accepted
 pub record IsReady {Q : Type 0} (shown : Q → Shown) (spare : Q → ℕ) (stamp : Stamp)

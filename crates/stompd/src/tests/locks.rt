@@ -3,6 +3,7 @@
 mod audited;
 mod broker;
 mod commits;
+mod crowd;
 mod fake;
 mod faults;
 mod flights;

@@ -2,8 +2,8 @@
 
 ghost use Rattle.std.specs.Prelude.{◌≡◌};
 
-mod commits;
-mod logs;
+pub(super) mod commits;
+pub(super) mod logs;
 mod queues;
 
 use super::jobs::Opening;

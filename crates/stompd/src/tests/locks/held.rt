@@ -22,7 +22,7 @@ use trace_audit::Trace;
 const LOOKS: u64 = 1_000_000;
 
 /// Waits until the stage is reached; whether it was.
-fn reaches(stage: &AtomicU64, wanted: u64) -> bool {
+pub(super) fn reaches(stage: &AtomicU64, wanted: u64) -> bool {
     for _ in 0..LOOKS {
         if stage.load(Ordering::SeqCst) >= wanted {
             return true;

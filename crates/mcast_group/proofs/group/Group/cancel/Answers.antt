@@ -1,4 +1,4 @@
-use Rattle.std.proofs.Common.{◌≡◌, map, length, sym, ap, ◌∙◌, arith}
+use Rattle.std.proofs.Common.{◌≡◌, map, sym, ap, ◌∙◌, arith}
 use Rattle.mcast_group.specs.Group.{GroupState, result_of, topic_state}
 use Rattle.mcast_group.specs.Inner.GroupInvariant.{entry_of, room_of}
 use Rattle.mcast_group.specs.Machine.{TopicState, cancel_fault, cancel_fault_of, after_cancel}
@@ -28,7 +28,7 @@ take_at-requires g c =
     let s = c.self.inside in
     let at = c.index_of.ensures in
     let within = (part_at c.args.id s.pending c.in-Some.index c.remove.result (sym at ∙ c.in-Some.is)).in_range in
-    let many = copies_length (length s.subscriptions) s.pending s.copies.items c.self.invariant.copied in
+    let many = copies_length _ s.pending s.copies.items c.self.invariant.copied in
     let l = s.copies.ok.0 in
     omega arith
 

@@ -4,6 +4,7 @@ use Rattle.mcast_txn.specs.Stamp.{stamp_lt}
 use Rattle.mcast_group.specs.declared.subscription.Subscription.{Subscription}
 use Rattle.mcast_txn.specs.Transaction.{TopicPart}
 use Rattle.mcast_group.specs.Inner.Copies.{AreOf, HaveCopies}
+use Rattle.mcast_group.specs.CellGroup.{open_count}
 use Rattle.mcast_group.specs.Group.{GroupState, after_enter, topic_state}
 use Rattle.mcast_group.specs.Inner.GroupInvariant.{IsKept, entry_of}
 use Rattle.mcast_group.specs.Machine.{TopicState, Entry, Pending, insert_pending, is_pending, key, next_number, propose_fault}
@@ -36,7 +37,7 @@ put-requires g c =
     (may.1 ∙ ap (λ (z : GroupState). next_number may.0 z.topic) (sym c.self.view_is))
     (ap (λ (z : GroupState). propose_fault may.0 part z.topic) c.self.view_is ∙ may.2) in
     record {
-      same = sym (copies_length (length s.subscriptions) s.pending s.copies.items c.self.invariant.copied);
+      same = sym (copies_length _ s.pending s.copies.items c.self.invariant.copied);
       free = ap (λ (z : Pending). is_pending z.part.id s.pending) entry ∙ greatest.free;
       above = λ q k. ap (λ (z : Pending). stamp_lt (key q) (key z)) entry ∙ greatest.above q k;
     }
@@ -72,10 +73,10 @@ invariant_of-self-2 g c =
     let pending : c.put.new.pending ≡ insert_pending (record { part = part; number = c.args.n; learnt = None }) s.pending = c.in_ok-put.ensures.ok ∙ ap (λ (z : Pending). insert_pending z s.pending) entry in
     let y = topic_state s.topic c.args.n s.log_limit c.put.new.pending s.base c.reserve.new.self.items s.frontier (map (entry_of shown) news) in
     let is : y ≡ after_enter c.args.n part x = rw (pending, rows, entries) refl in
-    let left : (k : ℕ) (d : Subscription g.row.Q.Denot) → k < length olds → (get_or news k d).to ≡ None → length s.pending + 1 ≤ g.Q.Outlet.spare (get_or news k d).outlet = λ k d l o. (let all = c.in_ok-reserve_each.ensures.ok in let a = all k d l o in let e = c.len-3.ensures in omega arith) in
-    let copied : HaveCopies (length olds) c.put.new.pending c.put.new.copies.items = c.in_ok-put.ensures.copies (length olds) c.self.invariant.copied (let a = c.in_ok-entry.ensures.many in let e = c.len.ensures in omega arith) (subst (λ (z : TopicPart). AreOf z c.in_ok-entry.made) (sym (ap (λ (z : Pending). z.part) entry)) c.in_ok-entry.ensures.copies) in
+    let left : (k : ℕ) (d : Subscription g.row.Q.Denot) → k < length olds → (get_or news k d).to ≡ None → length s.pending + 1 ≤ g.Q.Outlet.spare (get_or news k d).outlet = λ k d l o. (let all = c.in_ok-reserve_each.ensures.ok in let a = all k d l o in let e = c.len-2.ensures in omega arith) in
+    let copied : HaveCopies (open_count (map (entry_of shown) olds)) c.put.new.pending c.put.new.copies.items = c.in_ok-put.ensures.copies (open_count (map (entry_of shown) olds)) c.self.invariant.copied (c.in_ok-entry.ensures.many ∙ c.open_len.ensures) (subst (λ (z : TopicPart). AreOf z c.in_ok-entry.made) (sym (ap (λ (z : Pending). z.part) entry)) c.in_ok-entry.ensures.copies) in
     kept_entered shown g.Q.Outlet.spare x y s.rows.capacity (c.reserve.new.self.capacity) c.args.n s.copies.items c.put.new.copies.items olds news may.0 part c.self.invariant
     (c.requires.own ∙ ap (λ (z : GroupState). z.topic.topic) (sym c.self.view_is))
     (may.1 ∙ ap (λ (z : GroupState). next_number may.0 z.topic) (sym c.self.view_is))
     (ap (λ (z : GroupState). propose_fault may.0 part z.topic) c.self.view_is ∙ may.2)
-    is (let a = c.in_ok-reserve.ensures.ok in let b = ap (λ (z : List LogRow). length z) c.in_ok-reserve.ensures.items in let f = c.len-2.ensures in omega arith) entries left copied
+    is (let a = c.in_ok-reserve.ensures.ok in let b = ap (λ (z : List LogRow). length z) c.in_ok-reserve.ensures.items in let f = c.len.ensures in omega arith) entries left copied

@@ -4,6 +4,8 @@ use Rattle.mcast_txn.specs.declared.stamp.Stamp.{Stamp}
 use Rattle.mcast_txn.specs.Span.{LogRow}
 use Rattle.mcast_txn.specs.Transaction.{TopicPart}
 use Rattle.mcast_group.specs.declared.subscription.Subscription.{Subscription}
+use Rattle.mcast_group.specs.CellGroup.{open_count}
+use Rattle.mcast_group.specs.Inner.Copies.{HaveCopies}
 use Rattle.mcast_group.specs.Group.{GroupState, Releases, topic_state}
 use Rattle.mcast_group.specs.Inner.GroupInvariant.{Gave, entry_of, room_of}
 use Rattle.mcast_group.specs.Machine.{Pending, due_part, item_of, key, after_release_of}
@@ -11,7 +13,8 @@ use Rattle.mcast_group.proofs.Indices.{without_at}
 use Rattle.mcast_group.proofs.Groups.{released_state}
 use Rattle.mcast_group.proofs.Numbers.{numbers_differ}
 use Rattle.mcast_group.proofs.Parts.{map_length}
-use Rattle.mcast_group.proofs.Releasing.{Taken, taken, copies_at, copies_length, due_found, kept_released, none_learnt, none_pending, none_released, ready, some_released}
+use Rattle.mcast_group.proofs.Releasing.{Taken, taken, copies_at, copies_length, copies_remove, due_found, kept_released, none_learnt, none_pending, none_released, ready, some_released}
+use Rattle.mcast_group.proofs.Opens.{left_open}
 use Rattle.mcast_group.proofs.group.Group.release_part.Given as given
 use Rattle.mcast_group.proofs.group.Group.release_part.Goals as goal
 
@@ -33,7 +36,7 @@ pub take_at-copies-requires : goal.take_at-copies-requires
 take_at-copies-requires g c =
     let s = c.self.inside in
     let within : c.in_ok-index.index < length s.pending = c.in_ok-index.ensures.0 in
-    let many = copies_length (length s.subscriptions) s.pending s.copies.items c.self.invariant.copied in
+    let many = copies_length _ s.pending s.copies.items c.self.invariant.copied in
     let l : s.copies.len ≡ length s.copies.items = s.copies.ok.0 in
     omega arith
 
@@ -49,13 +52,13 @@ pub give_all-requires-clause-copies : goal.give_all-requires-clause-copies
 give_all-requires-clause-copies g c =
     let s = c.self.inside in
     let within : c.in_ok-index.index < length s.pending = c.in_ok-index.ensures.0 in
-    (copies_at (length s.subscriptions) s.pending s.copies.items c.in_ok-index.index c.remove-part.result c.take_at-copies.result c.self.invariant.copied within c.remove-part.ensures.value c.take_at-copies.ensures.value).1
+    (copies_at _ s.pending s.copies.items c.in_ok-index.index c.remove-part.result c.take_at-copies.result c.self.invariant.copied within c.remove-part.ensures.value c.take_at-copies.ensures.value).1
 
 pub give_all-requires-clause-many : goal.give_all-requires-clause-many
 give_all-requires-clause-many g c =
     let s = c.self.inside in
     let within : c.in_ok-index.index < length s.pending = c.in_ok-index.ensures.0 in
-    let copies = (copies_at (length s.subscriptions) s.pending s.copies.items c.in_ok-index.index c.remove-part.result c.take_at-copies.result c.self.invariant.copied within c.remove-part.ensures.value c.take_at-copies.ensures.value).0 in
+    let copies = (copies_at _ s.pending s.copies.items c.in_ok-index.index c.remove-part.result c.take_at-copies.result c.self.invariant.copied within c.remove-part.ensures.value c.take_at-copies.ensures.value).0 in
     omega arith
 
 -- the part that was taken out was due
@@ -69,6 +72,18 @@ due g c =
 -- each subscription got its item, and nothing else changed
 gave : (g : given.Over) (c : goal.After-drop-copies-inside g) → Gave g.Q.Outlet.shown g.Q.Outlet.may_accept c.self.inside.frontier (item_of c.remove-part.result) c.self.inside.subscriptions c.give_all.new.self
 gave g c = c.give_all.ensures.gave
+
+-- no more are open than were
+pub cut_copies-requires : goal.cut_copies-requires
+cut_copies-requires g c =
+    let s = c.self.inside in
+    let shown = g.Q.Outlet.shown in
+    let within : c.in_ok-index.index < length s.pending = c.in_ok-index.ensures.0 in
+    let had = (copies_at _ s.pending s.copies.items c.in_ok-index.index c.remove-part.result c.take_at-copies.result c.self.invariant.copied within c.remove-part.ensures.value c.take_at-copies.ensures.value).0 in
+    let fewer = left_open shown g.Q.Outlet.may_accept s.frontier (item_of c.remove-part.result) s.subscriptions c.give_all.new.self (numbers_differ _ c.self.invariant.sound.numbers) c.give_all.ensures.gave in
+    let a = c.len-had.ensures in
+    let b = c.open_len.ensures in
+    omega arith
 
 many : (g : given.Over) (c : goal.After-drop-copies-inside g) → length c.give_all.new.self ≡ length c.self.inside.subscriptions
 many g c =
@@ -91,6 +106,16 @@ moved g c =
     (c.stamp-self-inside.ensures.stamp ∙ c.depart-row.ensures.stamp)
     (took g c).is
 
+-- each part has a copy for each subscription that is open then
+copied : (g : given.Over) (c : goal.After-drop-copies-inside g) → HaveCopies (open_count (map (entry_of g.Q.Outlet.shown) c.give_all.new.self)) c.remove-part.new.self c.cut_copies.new.copies.items
+copied g c =
+    let s = c.self.inside in
+    let within : c.in_ok-index.index < length s.pending = c.in_ok-index.ensures.0 in
+    let had = (copies_at _ s.pending s.copies.items c.in_ok-index.index c.remove-part.result c.take_at-copies.result c.self.invariant.copied within c.remove-part.ensures.value c.take_at-copies.ensures.value).0 in
+    let many : c.len-had.result ≡ open_count (map (entry_of g.Q.Outlet.shown) s.subscriptions) = c.len-had.ensures ∙ had in
+    let left : HaveCopies c.len-had.result c.remove-part.new.self c.take_at-copies.new.copies.items = rw (c.remove-part.ensures.items, c.take_at-copies.ensures.items, many) (copies_remove _ s.pending s.copies.items c.in_ok-index.index c.self.invariant.copied) in
+    subst (λ (n : ℕ). HaveCopies n c.remove-part.new.self c.cut_copies.new.copies.items) c.open_len.ensures (c.cut_copies.ensures c.remove-part.new.self left)
+
 pub invariant_of-self : goal.invariant_of-self
 invariant_of-self g c =
     let s = c.self.inside in
@@ -98,8 +123,8 @@ invariant_of-self g c =
     let y = λ (zs : List (Subscription g.row.Q.Denot)). topic_state s.topic s.clock s.log_limit c.remove-part.new.self s.base c.push.new.self.items c.stamp-self-inside.result (map (entry_of g.Q.Outlet.shown) zs) in
     let left : (k : ℕ) (d : Subscription g.row.Q.Denot) → k < length s.subscriptions → g.Q.Outlet.spare (get_or s.subscriptions k d).outlet ≤ g.Q.Outlet.spare (get_or c.give_all.new.self k d).outlet + 1 =
     c.give_all.ensures.spare in
-    let kept = kept_released g.Q.Outlet.shown g.Q.Outlet.spare x s.rows.capacity s.copies.items s.subscriptions c.self.invariant refl (took g c).takes c.remove-part.result c.in_ok-index.index (y c.give_all.new.self) c.give_all.new.self (due g c) (gone g c) (moved g c) c.remove-part.ensures.items refl (many g c) left in
-    rw (c.push.ensures.capacity, c.take_at-copies.ensures.items) kept
+    let kept = kept_released g.Q.Outlet.shown g.Q.Outlet.spare x s.rows.capacity s.copies.items s.subscriptions c.self.invariant refl (took g c).takes c.remove-part.result c.in_ok-index.index (y c.give_all.new.self) c.give_all.new.self c.cut_copies.new.copies.items (due g c) (gone g c) (moved g c) c.remove-part.ensures.items refl (many g c) left (copied g c) in
+    rw c.push.ensures.capacity kept
 
 pub returns-clause-due : goal.returns-clause-due
 returns-clause-due g c =

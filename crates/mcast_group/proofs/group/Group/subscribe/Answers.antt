@@ -1,4 +1,5 @@
 use Rattle.std.proofs.Common.{◌≡◌, ◌≤◌, ℕ, ◌+◌, [], List, map, length, None, refl, sym, ap, subst, ◌∙◌}
+use Rattle.mcast_group.specs.CellGroup.{open_count}
 use Rattle.mcast_group.specs.Group.{GroupState, group_after_subscribe, rooms_with, topic_state, sub_refusal}
 use Rattle.mcast_txn.specs.Span.{Item}
 use Rattle.sub_queue.specs.Shown.{Room, Shown}
@@ -21,7 +22,7 @@ returns-in_default-clause-fault g c =
 pub make_room-requires : goal.make_room-requires
 make_room-requires g c =
     let s = c.self.inside in
-    sym (copies_length (length s.subscriptions) s.pending s.copies.items c.self.invariant.copied)
+    sym (copies_length _ s.pending s.copies.items c.self.invariant.copied)
 
 pub returns-in_default-make_room-clause-fault : goal.returns-in_default-make_room-clause-fault
 returns-in_default-make_room-clause-fault g c =
@@ -65,7 +66,7 @@ invariant_of-self-2 g c =
     let none = not_in_use shown x c.args.number s.subscriptions refl c.in-Err.ensures.absent in
     let free : subscribe_fault new.number x ≡ None = subst (λ (n : ℕ). subscribe_fault n x ≡ None) (sym number) none in
     let is = begun g c ∙ ap (λ (n : ℕ). after_subscribe n x) (sym number) in
-    let copied : HaveCopies (length s.subscriptions + 1) s.pending c.make_room.new.copies.items = (c.in-Ok.ensures.more) (length s.subscriptions) c.self.invariant.copied in
+    let copied : HaveCopies (open_count (map (entry_of shown) s.subscriptions) + 1) s.pending c.make_room.new.copies.items = (c.in-Ok.ensures.more) (open_count (map (entry_of shown) s.subscriptions)) c.self.invariant.copied in
     let left : new.to ≡ None → length s.pending ≤ g.Q.Outlet.spare new.outlet = c.in-Ok.ensures.spare in
     let kept = kept_subscribed shown g.Q.Outlet.spare x _ s.rows.capacity s.copies.items c.make_room.new.copies.items s.subscriptions new c.self.invariant free is left copied in
     subst (λ (zs : List (Subscription g.row.Q.Denot)). IsKept g.Q.Outlet.spare (topic_state s.topic s.clock s.log_limit s.pending s.base s.rows.items s.frontier (map (entry_of shown) c.insert.new.self)) s.rows.capacity c.make_room.new.copies.items zs) (sym c.in_default-insert.ensures.ok) kept

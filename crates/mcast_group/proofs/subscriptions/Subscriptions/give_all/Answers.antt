@@ -5,6 +5,7 @@ use Rattle.mcast_group.specs.declared.subscription.Subscription.{Subscription}
 use Rattle.mcast_group.specs.Inner.GroupInvariant.{Gave, IsReady, entry_of, room_of}
 use Rattle.mcast_group.specs.Machine.{item_of, key}
 use Rattle.mcast_group.proofs.ByNumber.{number_of, rises_given}
+use Rattle.mcast_group.proofs.Opens.{left_after, open_at}
 use Rattle.mcast_group.proofs.Giving.{told_more, rooms_more, may_more, spare_more}
 use Rattle.mcast_group.proofs.subscriptions.Subscriptions.give_all.Goals as goal
 use Rattle.mcast_group.proofs.subscriptions.Subscriptions.give_all.Given as given
@@ -26,7 +27,7 @@ loop-sub-init g c =
       rest = λ k d l. ap (λ (zs : List (Subscription g.row.Q.Denot)). get_or zs k d) first;
       spare = λ k d l. subst (λ (zs : List (Subscription g.row.Q.Denot)). g.Q.Outlet.spare (get_or c.args.self.now k d).outlet ≤ g.Q.Outlet.spare (get_or zs k d).outlet + 1) (sym first) (omega arith);
       copies = c.requires.copies;
-      enough = let m = c.requires.many in omega arith;
+      enough = c.requires.many;
     }
 
 pub give-requires-clause-ready : goal.give-requires-clause-ready
@@ -41,7 +42,11 @@ pub give-requires-clause-some : goal.give-requires-clause-some
 give-requires-clause-some g c =
     let many : length c.deref_mut-sub-items.result.now ≡ length c.args.self.now = ap (λ (zs : List (Subscription g.row.Q.Denot)). length zs) (c.deref_mut-sub-items.ensures.value ∙ c.self.view_is) in
     let test = c.loop-sub-test.true in
+    let i = c.loop-sub.sub-index in
+    let d = c.sub-item.result in
     let enough = c.loop-sub.invariant.enough in
+    λ none.
+    let rest = open_at g.Q.Outlet.shown i c.args.self.now d (get_or c.loop-sub.sub-items i d) (omega arith) (c.loop-sub.invariant.rest i d (omega arith)) none in
     omega arith
 
 pub give-requires-clause-copies : goal.give-requires-clause-copies
@@ -69,7 +74,7 @@ loop-sub-preserved g c =
       rest = λ k e l. let ne : k ≢ i = omega arith in get_or-set_other subs i k new e ne ∙ inv.rest k e (omega arith);
       spare = spare_more (λ (z : Subscription g.row.Q.Denot). g.Q.Outlet.spare z.outlet) (length old) i subs old new d (omega arith) refl (sym (size ∙ many)) inv.spare (subst (λ (z : Subscription g.row.Q.Denot). g.Q.Outlet.spare z.outlet ≤ g.Q.Outlet.spare new.outlet + 1) same c.give.ensures.spare);
       copies = c.give.ensures.copies;
-      enough = let m = c.give.ensures.many in let e : length old ≤ length c.loop-sub.copies + i = inv.enough in omega arith;
+      enough = left_after shown i old d (get_or subs i d) (omega arith) same c.loop-sub.copies c.give.new.copies inv.enough c.give.ensures.many c.give.ensures.lagged;
     }
 
 -- after the loop each was given the part

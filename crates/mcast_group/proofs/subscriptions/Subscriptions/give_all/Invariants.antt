@@ -4,6 +4,7 @@ use Rattle.mcast_group.specs.Machine.{item_of}
 use Rattle.mcast_group.specs.Group.{entries_after}
 use Rattle.mcast_group.specs.Inner.Copies.{AreOf}
 use Rattle.mcast_group.specs.Inner.GroupInvariant.{MayGive, entry_of, room_of}
+use Rattle.mcast_group.proofs.Opens.{open_rest}
 use Rattle.mcast_group.proofs.subscriptions.Subscriptions.give_all.Given as goal
 
 abbrev pub invariant-loop-sub : goal.invariant-loop-sub
@@ -18,5 +19,5 @@ invariant-loop-sub g l =
       rest : (k : ℕ) (d : Subscription g.row.Q.Denot) → l.sub-index ≤ k → slice_index_or l.sub-items k d ≡ slice_index_or l.fn.self k d;
       spare : (k : ℕ) (d : Subscription g.row.Q.Denot) → k < length l.fn.self → g.Q.Outlet.spare (slice_index_or l.fn.self k d).outlet ≤ g.Q.Outlet.spare (slice_index_or l.sub-items k d).outlet + 1;
       copies : AreOf l.part.part l.copies;
-      enough : length l.fn.self ≤ length l.copies + l.sub-index;
+      enough : open_rest l.sub-index (map (entry_of shown) l.fn.self) ≤ length l.copies;
     }

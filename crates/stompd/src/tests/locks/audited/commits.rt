@@ -22,7 +22,7 @@ const NAMED: &[&[Topic]] = &[
 ];
 
 /// The topics of a worker's k-th transaction, from 1.
-pub(super) fn topics_of(k: u64) -> &'static [Topic] {
+pub(crate) fn topics_of(k: u64) -> &'static [Topic] {
     match NAMED.get((k % 7) as usize) {
         Some(topics) => topics,
         None => &[],
@@ -35,7 +35,7 @@ fn octet_of(n: u64) -> u8 {
 }
 
 /// The body of the SEND of a sender's k-th transaction to a topic.
-pub(super) fn body_of(id: TxnId, topic: Topic) -> [u8; 3] {
+pub(crate) fn body_of(id: TxnId, topic: Topic) -> [u8; 3] {
     [
         octet_of(id.sender.0),
         octet_of(id.seq),
@@ -55,13 +55,13 @@ fn txn_of(alloc: Global, id: TxnId) -> Option<Txn> {
 
 /// A worker that has made its commits, and the stamps that they answered, in their order.
 #[derive(Drop)]
-pub(super) struct Committed<W: Side> {
-    pub(super) worker: Worker<W>,
-    pub(super) stamps: Vec<Stamp>,
+pub(crate) struct Committed<W: Side> {
+    pub(crate) worker: Worker<W>,
+    pub(crate) stamps: Vec<Stamp>,
 }
 
 /// Makes all commits of a worker by this gate.
-pub(super) fn commit_all<R: Wait, W: Side, T: Side>(
+pub(crate) fn commit_all<R: Wait, W: Side, T: Side>(
     rt: &R,
     alloc: Global,
     broker: &Broker<R, W, T>,
@@ -82,23 +82,33 @@ pub(super) fn commit_all<R: Wait, W: Side, T: Side>(
 
 /// The stamps that the commits of senders 0 and 1 answered, in their order.
 #[derive(Drop)]
-pub(super) struct Answers {
+pub(crate) struct Answers {
     first: Vec<Stamp>,
     second: Vec<Stamp>,
 }
 
 impl Answers {
-    pub(super) fn new(first: Vec<Stamp>, second: Vec<Stamp>) -> Answers {
+    pub(crate) fn new(first: Vec<Stamp>, second: Vec<Stamp>) -> Answers {
         Answers { first, second }
     }
 
     /// How many there are.
-    pub(super) fn len(&self) -> usize {
+    pub(crate) fn len(&self) -> usize {
         self.first.len().saturating_add(self.second.len())
     }
 
+    /// How many commits name the topic whose stamps are above the one stamp, and not above the other.
+    pub(crate) fn rows_between(&self, topic: Topic, start: Stamp, to: Stamp) -> usize {
+        rows_among(&self.first, topic, start, to).saturating_add(rows_among(
+            &self.second,
+            topic,
+            start,
+            to,
+        ))
+    }
+
     /// The stamp that the commit of this transaction answered, if there is one.
-    pub(super) fn stamp_of(&self, id: TxnId) -> Option<Stamp> {
+    pub(crate) fn stamp_of(&self, id: TxnId) -> Option<Stamp> {
         let index = id.seq.checked_sub(1)? as usize;
         let stamps = match id.sender.0 {
             0 => &self.first,
@@ -107,4 +117,16 @@ impl Answers {
         };
         stamps.get(index).copied()
     }
+}
+
+/// The same of one sender's commits, by their stamps.
+fn rows_among(stamps: &Vec<Stamp>, topic: Topic, start: Stamp, to: Stamp) -> usize {
+    let mut count = 0usize;
+    for (index, &stamp) in stamps.iter().enumerate() {
+        let seq = (index as u64).saturating_add(1);
+        if topics_of(seq).contains(&topic) && start.is_before(stamp) && !to.is_before(stamp) {
+            count = count.saturating_add(1);
+        }
+    }
+    count
 }

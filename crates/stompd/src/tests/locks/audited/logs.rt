@@ -11,7 +11,7 @@ fn is_made(row: &LogRow, answers: &Answers) -> bool {
 
 /// Whether an audit agrees on just the commits that were made, each with its stamp, and finds the trace complete: so each
 /// log has the commits that name its topic, and no others.
-pub(super) fn are_logs(alloc: Global, trace: &Trace, answers: &Answers) -> bool {
+pub(crate) fn are_logs(alloc: Global, trace: &Trace, answers: &Answers) -> bool {
     match audit(alloc, trace) {
         Ok(agreed) => {
             agreed.complete

@@ -1,0 +1,346 @@
+//! Two heads turn three topics while two workers commit and subscriptions begin and end: each subscription takes just the
+//! rows of its topic between its beginning and its end, and the run's trace is audited.
+
+ghost use Rattle.std.specs.Prelude.{◌≡◌, ◌≤◌};
+
+mod spans;
+
+use super::audited::commits::{Answers, Committed, commit_all};
+use super::audited::logs::are_logs;
+use super::held::reaches;
+use super::jobs::Opening;
+use crate::tests::draws::Draws;
+use broker_locks::{Broker, Side, Worker};
+use mcast_group::Cause;
+use mcast_txn::{NoMemory, Stamp, Topic};
+use sender_gate::Gate;
+use spans::{Taken, taken_between};
+use std::alloc::Global;
+use std::marker::Brand;
+use std::sync::Wait;
+use std::sync::atomic::{AtomicU64, Ordering};
+use std::sync::ledger::Blank;
+use std::test::Fail;
+use std::thread;
+use std::thread::Threads;
+
+/// How many subscriptions a thread begins at most, one after another.
+const SPANS: u64 = 2_000;
+
+/// How often a head turns a topic at most.
+const TURNS: u64 = 100_000_000;
+
+/// What the threads share beside the broker: how many of those that subscribe have begun, and how many of the workers, and of
+/// those that subscribe, have ended.
+#[derive(Drop)]
+struct Stages {
+    begun: AtomicU64,
+    committed: AtomicU64,
+    ended: AtomicU64,
+}
+
+impl Stages {
+    fn new() -> Stages {
+        Stages {
+            begun: AtomicU64::new(0),
+            committed: AtomicU64::new(0),
+            ended: AtomicU64::new(0),
+        }
+    }
+
+    /// Whether both workers have ended.
+    fn are_committed(&self) -> bool {
+        self.committed.load(Ordering::SeqCst) >= 2
+    }
+
+    /// Whether all have ended but the heads.
+    fn are_ended(&self) -> bool {
+        self.are_committed() && self.ended.load(Ordering::SeqCst) >= 2
+    }
+}
+
+/// A worker: it commits once both threads that subscribe have begun.
+fn commit_watched<R: Wait, W: Side, T: Side>(
+    rt: &R,
+    alloc: Global,
+    broker: &Broker<R, W, T>,
+    worker: Worker<W>,
+    gate: Gate,
+    stages: &Stages,
+) -> Option<Committed<W>> {
+    let made = if reaches(&stages.begun, 2) {
+        commit_all(rt, alloc, broker, worker, gate)
+    } else {
+        None
+    };
+    stages.committed.fetch_add(1, Ordering::SeqCst);
+    made
+}
+
+/// A head: it turns topics in the order of a draw until the others have ended. Returns how many rows it released.
+fn turn_drawn<R: Wait, W: Side, T: Side>(
+    rt: &R,
+    broker: &Broker<R, W, T>,
+    run: u32,
+    stages: &Stages,
+) -> Option<u64> {
+    let mut draws = Draws::of(run);
+    let mut released = 0u64;
+    for _ in 0..TURNS {
+        if stages.are_ended() {
+            return Some(released);
+        }
+        let more = broker.head_turn(rt, Topic(draws.below(3))).ok()?;
+        released = released.saturating_add(more);
+        thread::yield_now();
+    }
+    None
+}
+
+/// Subscriptions one after another, each at a topic that is drawn, until the workers have ended.
+fn spans_drawn<R: Wait, W: Side, T: Side>(
+    rt: &R,
+    alloc: Global,
+    broker: &Broker<R, W, T>,
+    run: u32,
+    stages: &Stages,
+) -> Option<Vec<Taken>> {
+    let mut draws = Draws::of(run);
+    let mut all = Vec::new(alloc);
+    for _ in 0..SPANS {
+        if stages.are_committed() {
+            return Some(all);
+        }
+        let topic = Topic(draws.below(3));
+        let begun = broker.subscribe(rt, topic).ok()?;
+        if all.is_empty() {
+            stages.begun.fetch_add(1, Ordering::SeqCst);
+        }
+        let taken = taken_between(rt, alloc, broker, topic, begun, draws.below(20))?;
+        all.push(taken).ok()?;
+    }
+    Some(all)
+}
+
+/// A thread that subscribes.
+fn subscribe_drawn<R: Wait, W: Side, T: Side>(
+    rt: &R,
+    alloc: Global,
+    broker: &Broker<R, W, T>,
+    run: u32,
+    stages: &Stages,
+) -> Option<Vec<Taken>> {
+    let taken = spans_drawn(rt, alloc, broker, run, stages);
+    stages.ended.fetch_add(1, Ordering::SeqCst);
+    taken
+}
+
+/// What the threads of a run did: the stamps that the two workers' commits answered, how many rows the heads released, and
+/// what the subscriptions of the two others took.
+#[derive(Drop)]
+struct Ran {
+    first: Vec<Stamp>,
+    second: Vec<Stamp>,
+    released: u64,
+    left: Vec<Taken>,
+    right: Vec<Taken>,
+}
+
+/// The stamps that a worker's commits answered.
+fn stamps_of<W: Side>(committed: Committed<W>) -> Vec<Stamp> {
+    let Committed { worker: _, stamps } = committed;
+    stamps
+}
+
+/// Two workers, two heads, and two that subscribe, at once.
+fn run_six<R, W, T>(rt: &R, alloc: Global, broker: &Broker<R, W, T>, run: u32) -> Option<Ran>
+where
+    R: Threads + Wait + Send + Sync,
+    W: Side + Send + Sync + 'static,
+    T: Side + Send + Sync + 'static,
+{
+    let (one, two) = (broker.join(rt).ok()?, broker.join(rt).ok()?);
+    let (left, right) = (broker.claim(rt, None).ok()?, broker.claim(rt, None).ok()?);
+    let stages = Stages::new();
+    let shared = &stages;
+    let (commits, (released, spans)) = thread::join(
+        rt,
+        move || {
+            thread::join(
+                rt,
+                move || commit_watched(rt, alloc, broker, one, left, shared),
+                move || commit_watched(rt, alloc, broker, two, right, shared),
+            )
+        },
+        move || {
+            thread::join(
+                rt,
+                move || {
+                    thread::join(
+                        rt,
+                        move || turn_drawn(rt, broker, run, shared),
+                        move || turn_drawn(rt, broker, run.wrapping_add(1), shared),
+                    )
+                },
+                move || {
+                    thread::join(
+                        rt,
+                        move || subscribe_drawn(rt, alloc, broker, run.wrapping_add(2), shared),
+                        move || subscribe_drawn(rt, alloc, broker, run.wrapping_add(3), shared),
+                    )
+                },
+            )
+        },
+    );
+    let ((first, second), (one, two), (left, right)) = (commits, released, spans);
+    Some(Ran {
+        first: stamps_of(first?),
+        second: stamps_of(second?),
+        released: one?.saturating_add(two?),
+        left: left?,
+        right: right?,
+    })
+}
+
+/// What a run with six threads gives: how many rows were released, by the heads and by a last turn of each topic; how many
+/// items a subscription at topic 0 took that was there from the beginning and was read at the end alone, and why it ended;
+/// whether each subscription took just its rows; whether the trace has just the commits that were made.
+#[derive(Clone, Copy, Debug, PartialEq, Eq)]
+struct Found {
+    released: u64,
+    unread: (usize, Cause),
+    are_whole: bool,
+    are_logs: bool,
+}
+
+/// How many rows the last turn of each topic releases.
+fn last_turns<R: Wait, W: Side, T: Side>(rt: &R, broker: &Broker<R, W, T>) -> Option<u64> {
+    let mut released = 0u64;
+    for topic in 0..3 {
+        released = released.saturating_add(broker.head_turn(rt, Topic(topic)).ok()?);
+    }
+    Some(released)
+}
+
+/// Whether each of these took just its rows.
+fn are_whole(all: &Vec<Taken>, answers: &Answers) -> bool {
+    all.iter().all(|taken| taken.is_whole(answers))
+}
+
+/// What a run leaves at the broker: how many rows were released, what the subscription took that was read at the end, and
+/// whether it and all others took just their rows, with what the commits answered.
+#[derive(Drop)]
+struct Ended {
+    released: u64,
+    unread: (usize, Cause),
+    are_whole: bool,
+    answers: Answers,
+}
+
+/// A run of six threads, with a subscription at topic 0 that is read at its end alone.
+fn run_watched<R, W, T>(rt: &R, alloc: Global, broker: &Broker<R, W, T>, run: u32) -> Option<Ended>
+where
+    R: Threads + Wait + Send + Sync,
+    W: Side + Send + Sync + 'static,
+    T: Side + Send + Sync + 'static,
+{
+    let begun = broker.subscribe(rt, Topic(0)).ok()?;
+    let Ran {
+        first,
+        second,
+        released,
+        left,
+        right,
+    } = run_six(rt, alloc, broker, run)?;
+    let released = released.saturating_add(last_turns(rt, broker)?);
+    let unread = taken_between(rt, alloc, broker, Topic(0), begun, 0)?;
+    let answers = Answers::new(first, second);
+    let all_whole = unread.is_whole(&answers)
+        && are_whole(&left, &answers)
+        && are_whole(&right, &answers);
+    Some(Ended {
+        released,
+        unread: unread.ending(),
+        are_whole: all_whole,
+        answers,
+    })
+}
+
+/// A run whose trace is audited, with these ledgers.
+fn crowded_by<R, W, T>(
+    rt: &R,
+    alloc: Global,
+    opening: Opening,
+    run: u32,
+    workers: Blank,
+    tickets: Blank,
+) -> Option<Found>
+where
+    R: Threads + Wait + Send + Sync,
+    W: Side + Send + Sync + 'static,
+    T: Side + Send + Sync + 'static,
+    requires workers { (workers.name ≡ W.name) × (workers.parts ≡ W.parts) × (W.parts ≡ W.all) × (W.all ≡ 257) }
+    requires tickets { (tickets.name ≡ T.name) × (tickets.parts ≡ T.parts) × (T.parts ≡ T.all) × (T.all ≡ 1024) }
+{
+    let broker = opening.begin::<R, W, T>(alloc, workers, tickets).ok()?;
+    let Ended {
+        released,
+        unread,
+        are_whole,
+        answers,
+    } = run_watched(rt, alloc, &broker, run)?;
+    let trace = broker.into_trace().ok()?;
+    Some(Found {
+        released,
+        unread,
+        are_whole,
+        are_logs: are_logs(alloc, &trace, &answers),
+    })
+}
+
+/// The same, with ledgers of its own.
+fn crowded<R>(rt: &R, alloc: Global, opening: Opening, run: u32) -> Option<Found>
+where
+    R: Threads + Wait + Send + Sync,
+{
+    crowded_by::<R, Brand, Brand>(rt, alloc, opening, run, Blank::new(257), Blank::new(1_024))
+}
+
+/// Topics 0 to 2, whose queues have so many places.
+fn three_topics(alloc: Global, capacity: usize) -> Result<Opening, NoMemory>
+    requires { (1 ≤ capacity) × (capacity ≤ 4096) }
+{
+    Opening::new(alloc, &[0, 0, 0], capacity, true)
+}
+
+/// No queue is ever full: the one that is read at the end has all 240 rows of its topic.
+#[test]
+fn each_of_a_crowd_takes_its_rows(rt: HostRuntime) -> Result<(), Fail> {
+    let wanted = Found {
+        released: 720,
+        unread: (240, Cause::Asked),
+        are_whole: true,
+        are_logs: true,
+    };
+    for run in 0..8 {
+        let opening = three_topics(rt.alloc(), 512)?;
+        assert_eq!(rt; crowded(&rt, rt.alloc(), opening, run), Some(wanted));
+    }
+    Ok(())
+}
+
+/// Queues of two places: the one that is read at the end has the first two rows, and others lag where they will.
+#[test]
+fn those_of_a_crowd_that_lag_take_their_rows(rt: HostRuntime) -> Result<(), Fail> {
+    let wanted = Found {
+        released: 720,
+        unread: (2, Cause::Lag),
+        are_whole: true,
+        are_logs: true,
+    };
+    for run in 8..16 {
+        let opening = three_topics(rt.alloc(), 2)?;
+        assert_eq!(rt; crowded(&rt, rt.alloc(), opening, run), Some(wanted));
+    }
+    Ok(())
+}
