@@ -1,5 +1,7 @@
 -- Calls of the broker, one after the other.
-use Rattle.std.proofs.Common.{◌⊎◌, List, [], ◌∷◌, ◌++◌, Result, Ok, Err, OnOk, OnErr, refl, subst, inl, inr}
+use Rattle.std.proofs.Common.{◌≡◌, ◌⊎◌, ◌<◌, ℕ, zero, suc, Bool, false, List, [], ◌∷◌, ◌++◌, take, Result, Ok, Err, OnOk, OnErr, refl, subst, inl, inr, arith}
+use Rattle.std.specs.Prelude.{get_or}
+use Rattle.std.specs.List.{list_any}
 use Rattle.broker_server.specs.BrokerRows.{Asks, BrokerRow}
 
 -- these calls, and then those
@@ -15,3 +17,11 @@ asks_one called a b row one = (b, one, refl)
 pub on_either : {T E : Type 0} (r : Result T E) (A B : Type 0) → OnOk r A → OnErr r B → A ⊎ B
 on_either (Ok x) A B a b = inl a
 on_either (Err e) A B a b = inr b
+
+-- none of the first so many passes
+pub none_before : {X : Type 0} (p : X → Bool) (xs : List X) (i : ℕ) (d : X) → ((k : ℕ) → k < i → p (get_or xs k d) ≡ false) → list_any p (take i xs) ≡ false
+none_before p [] zero d none = refl
+none_before p [] (suc i) d none = refl
+none_before p (x ∷ xs) zero d none = refl
+none_before p (x ∷ xs) (suc i) d none =
+    let first : p x ≡ false = none zero (omega arith) in rw first (none_before p xs i d (λ k less. none (suc k) (omega arith)))

@@ -82,7 +82,7 @@ of_stream cut = refl
 of_frame : (cut : Bool) → outcome_text (outcome.Faulted (connection.Frame (case.Missing header.Destination)) cut) ≡ codes "error 22 Missing destination"
 of_frame cut = refl
 
-of_session : (cut : Bool) → outcome_text (outcome.Faulted (connection.Session session.UnknownDestination) cut) ≡ codes "error 67 UnknownDestination"
+of_session : (cut : Bool) → outcome_text (outcome.Faulted (connection.Session session.BadDestination) cut) ≡ codes "error 76 BadDestination"
 of_session cut = refl
 
 of_lag : (cut : Bool) → outcome_text (outcome.Faulted connection.Lagged cut) ≡ codes "error 74 Lagged"

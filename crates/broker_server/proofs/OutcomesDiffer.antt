@@ -57,10 +57,11 @@ faults =
     connection.Session session.AlreadyConnected ∷ connection.Session session.NoVersion ∷
     connection.Session session.SubIdInUse ∷ connection.Session session.NoSuchSub ∷
     connection.Session session.TxnInUse ∷ connection.Session session.NoSuchTxn ∷
-    connection.Session session.UnknownDestination ∷ connection.Session session.AckMode ∷
+    connection.Session session.AckMode ∷
     connection.Session session.TooManySubs ∷ connection.Session session.TooManyTxns ∷
     connection.Session session.TooManySends ∷ connection.Session session.NoMemory ∷
-    connection.Session session.Closed ∷ connection.Lagged ∷ []
+    connection.Session session.Closed ∷ connection.SenderInUse ∷ connection.TooManyClients ∷ connection.Lagged ∷
+    connection.Session session.TooManyTopics ∷ connection.Session session.BadDestination ∷ []
 
 propose_again : (why : ProposeFault) → titled propose_title proposals (propose_title why) ≡ Some why
 propose_again propose.Twice = refl
@@ -111,13 +112,16 @@ fault_again (connection.Session session.SubIdInUse) = refl
 fault_again (connection.Session session.NoSuchSub) = refl
 fault_again (connection.Session session.TxnInUse) = refl
 fault_again (connection.Session session.NoSuchTxn) = refl
-fault_again (connection.Session session.UnknownDestination) = refl
 fault_again (connection.Session session.AckMode) = refl
 fault_again (connection.Session session.TooManySubs) = refl
 fault_again (connection.Session session.TooManyTxns) = refl
 fault_again (connection.Session session.TooManySends) = refl
 fault_again (connection.Session session.NoMemory) = refl
 fault_again (connection.Session session.Closed) = refl
+fault_again (connection.Session session.TooManyTopics) = refl
+fault_again (connection.Session session.BadDestination) = refl
+fault_again connection.SenderInUse = refl
+fault_again connection.TooManyClients = refl
 fault_again connection.Lagged = refl
 fault_again connection.ReaderNoMemory = refl
 
@@ -232,6 +236,8 @@ lines_show (outcome.Handed count) = refl
 lines_show (outcome.Faulted (connection.Stream failed) left) = refl
 lines_show (outcome.Faulted (connection.Frame fault) left) = refl
 lines_show (outcome.Faulted (connection.Session fault) left) = refl
+lines_show (outcome.Faulted connection.SenderInUse left) = refl
+lines_show (outcome.Faulted connection.TooManyClients left) = refl
 lines_show (outcome.Faulted connection.Lagged left) = refl
 lines_show (outcome.Faulted connection.ReaderNoMemory left) = refl
 lines_show outcome.Leaving = refl

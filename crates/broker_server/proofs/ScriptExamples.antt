@@ -100,7 +100,7 @@ none_read = refl
 turn_00 : IsMisplaced (codes "turn 00") no_script
 turn_00 content s = absurd (let k = line_again (codes "turn 00") content s in let e = none_read in cc)
 
-third : IsFirstBadLine (codes "# two\n\nturn 00\nopen") 3
+pub third : IsFirstBadLine (codes "# two\n\nturn 00\nopen") 3
 third = record {
   front = codes "# two" ∷ [] ∷ [];
   line = codes "turn 00";

@@ -16,7 +16,7 @@ use Rattle.trace_audit.proofs.Cuts.{Without, cut_splits, cut_first, some_is}
 use Rattle.trace_audit.proofs.Spelling.{bound, passed, number_spelled, number_again, number_without}
 use Rattle.delivery.specs.declared.event.Event.{Event}
 use Rattle.delivery.specs.declared.event.Event.TheVariants as event
-use Rattle.broker_server.specs.Programs.{is_graphic, is_name}
+use Rattle.stomp_session.specs.Names.{is_graphic, is_name}
 use Rattle.broker_server.specs.Script.{SpellsEvent, ScriptLine, SaysNothing, NamesCapacity, NamesTopic, Asks, IsSkipped, SpellsLine}
 use Rattle.broker_server.specs.ScriptText.{SpellsText}
 use Rattle.broker_server.specs.Inner.ScriptReading.{text_read, topic_read, number_then, pair_read, id_read, learn_read, piece_read, name_read, asks, Reader, reader, settings, readers, read_by, words_read, line_read, HasName}

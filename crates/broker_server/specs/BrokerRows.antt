@@ -2,9 +2,10 @@
 use Rattle.std.specs.Prelude.{◌≡◌, ℕ, Bool, List, [], ◌∷◌, Option, Result}
 use Rattle.mcast_group.specs.declared.fault.SubFault.{SubFault}
 use Rattle.mcast_txn.specs.declared.id.Topic.{Topic}
+use Rattle.mcast_txn.specs.declared.stamp.Stamp.{Stamp}
 use Rattle.mcast_txn.specs.Span.{Item}
 use Rattle.sender_gate.specs.declared.fault.ClaimFault.{ClaimFault}
-use Rattle.sender_gate.specs.Gate.{FlightState, GateState}
+use Rattle.sender_gate.specs.Gate.{FlightState, GateState, gate_after}
 use Rattle.broker_locks.specs.declared.fault.CommitFault.{CommitFault}
 
 -- which subscription of the broker: its topic, and its number there
@@ -12,9 +13,11 @@ pub record SubName : Type 0 where
   pub topic : Topic
   pub number : ℕ
 
--- A call of the broker, with what it answered. So `Claims None (Ok gate)` is a CONNECT without client-id that got
--- the gate of a new sender.
+-- A call of the broker, with what it answered. So `Claims None (Ok gate)` is a CONNECT without client-id that
+-- got the gate of a new sender.
 pub data BrokerRow : Type 0 where
+  -- the names of all topics were looked up: those that the connection knew, and those that it knows then
+  LooksUp : List (List ℕ) → List (List ℕ) → BrokerRow
   -- the sender of this client-id, or a new one where there is none, was claimed
   Claims : Option (List ℕ) → Result GateState ClaimFault → BrokerRow
   -- the gate was given back
@@ -30,8 +33,13 @@ pub data BrokerRow : Type 0 where
   -- the flight was to be committed; the gate comes back, also where it was refused
   Commits : FlightState → Result GateState (GateState × CommitFault) → BrokerRow
 
--- These calls, in order, made the new broker of the old one; `called` is what one call makes of it. So by no call
--- it stays as it is.
+-- The gate is as this flight leaves it: of its sender, with its number as the last that was used, and with some
+-- floor. So after flight 7 of sender 2, it is the gate of sender 2, whose next number is 8.
+abbrev pub IsGateAfter : FlightState → GateState → Type 0
+IsGateAfter flight gate = (floor : Stamp) × (gate ≡ gate_after flight floor)
+
+-- These calls, in order, made the new broker of the old one; `called` is what one call makes of it. So by no
+-- call it stays as it is.
 abbrev pub Asks : {B : Type 0} → (B → BrokerRow → B → Type 0) → B → List BrokerRow → B → Type 0
 Asks called old [] new = new ≡ old
 Asks {B} called old (row ∷ rows) new = (between : B) × called old row between × Asks called between rows new

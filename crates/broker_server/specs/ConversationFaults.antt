@@ -13,7 +13,8 @@ use Rattle.delivery.specs.Core.Output.{says_version}
 use Rattle.broker_server.specs.declared.conversation.conversation_fault.ConversationFault.{ConversationFault}
 use Rattle.broker_server.specs.declared.conversation.conversation_fault.ConversationFault.TheVariants.{Connection, Claim, Commit, Lagged}
 
--- The message of its ERROR. What a client can't mend is told as want of memory: so 49 is told as 72, and so is 55.
+-- The message of its ERROR. What a client can't mend is told as want of memory: so 49 is told as 72, and so
+-- is 55.
 abbrev pub conversation_title : ConversationFault → List ℕ
 conversation_title (Connection fault) = connection_title fault
 conversation_title (Claim claim.SenderInUse) = codes "77 SenderInUse"

@@ -1,7 +1,8 @@
 -- What one connection of the server does.
 use Rattle.std.specs.Prelude.{◌≡◌, ◌⊎◌, ℕ, Bool, true, false, List, [], ◌∷◌, ◌++◌, map, codes, Option, Some, None, IsSome, Result, Ok, Err, if◌then◌else◌}
-use Rattle.std.specs.List.{flat_map}
+use Rattle.std.specs.List.{flat_map, list_any}
 use Rattle.std.specs.Option.{option_map_or}
+use Rattle.std.specs.Str.{bytes_eq}
 use Rattle.mcast_group.specs.declared.fault.SubFault.{SubFault}
 use Rattle.mcast_txn.specs.declared.id.Topic.{Topic}
 use Rattle.mcast_txn.specs.declared.draft.sent_message.SentMessage.{SentMessage}
@@ -11,36 +12,56 @@ use Rattle.broker_locks.specs.declared.fault.CommitFault.{CommitFault}
 use Rattle.stomp_frame.specs.declared.raw_frame.RawFrame.{RawFrame}
 use Rattle.stomp_frame.specs.Cases.{is_connect}
 use Rattle.stomp_frame.specs.Headers.{first_of}
-use Rattle.stomp_frame.specs.Reader.{Unread}
+use Rattle.stomp_frame.specs.Reader.{Unread, unread_of}
 use Rattle.stomp_frame.specs.ServerFrames.{connected_frame, receipt_frame}
 use Rattle.stomp_frame.specs.Writing.{spelling_of}
 use Rattle.stomp_session.specs.declared.action.Action.{Action}
 use Rattle.stomp_session.specs.declared.action.Action.TheVariants as actions
 use Rattle.stomp_session.specs.declared.action.Step.{Step}
-use Rattle.stomp_session.specs.Open.{Held, after_close}
+use Rattle.stomp_session.specs.Open.{SessionState, StandsFor, after_close}
+use Rattle.delivery.specs.Core.Outcomes.{is_any}
+use Rattle.delivery.specs.Core.Steps.{reader_limits}
 use Rattle.broker_server.specs.declared.conversation.conversation_fault.ConversationFault.{ConversationFault}
 use Rattle.broker_server.specs.declared.conversation.conversation_fault.ConversationFault.TheVariants as fault
 use Rattle.broker_server.specs.declared.conversation.exit.Exit.{Exit}
 use Rattle.broker_server.specs.declared.conversation.exit.Exit.TheVariants as exit
-use Rattle.broker_server.specs.BrokerRows.{BrokerRow, SubName, Claims, GivesBack, Subscribes, Unsubscribes, Commits}
+use Rattle.broker_server.specs.BrokerRows.{BrokerRow, IsGateAfter, SubName, Claims, GivesBack, Subscribes, Unsubscribes, Commits}
 use Rattle.broker_server.specs.ConversationFaults.{told_error}
 
--- an open subscription of a connection: the id that its SUBSCRIBE gave it, which one of the broker it is, and
--- whether the broker said that it has lagged
+-- an open subscription of a connection: the id that its SUBSCRIBE gave it, which one of the broker it is, how
+-- many more items are to be taken before it can have lagged, and whether the broker said that it has
 pub record OpenSubState : Type 0 where
   pub id : List ℕ
   pub sub : SubName
+  pub until_lag : ℕ
   pub lagged : Bool
 
--- a connection: what came and isn't read yet, its session, its sender's gate, its open subscriptions, the octets
--- that wait to be written to it, and why it leaves, once it does
+-- a connection: what came and isn't read yet, its session, the names of the topics that it knows, its
+-- sender's gate, its open subscriptions, the octets that wait to be written to it, why it leaves, once it
+-- does, whether items may be left in its queues since too many octets waited, and how many items each of them
+-- holds
 pub record ConversationState : Type 0 where
   pub reader : Unread
-  pub session : Held
+  pub session : SessionState
+  pub names : List (List ℕ)
   pub gate : Option GateState
   pub subs : List OpenSubState
   pub wire : List ℕ
   pub exit : Option Exit
+  pub more : Bool
+  pub capacity : ℕ
+
+-- a connection that has said nothing, of a broker whose queues hold so many items
+pub record IsNew (capacity : ℕ) (c : ConversationState) : Type 0 where
+  pub reader : c.reader ≡ unread_of reader_limits
+  pub session : (names : List (List ℕ)) → StandsFor c.session names []
+  pub names : c.names ≡ []
+  pub gate : c.gate ≡ None
+  pub subs : c.subs ≡ []
+  pub wire : c.wire ≡ []
+  pub exit : c.exit ≡ None
+  pub more : c.more ≡ false
+  pub capacity_is : c.capacity ≡ capacity
 
 -- ---- what is written
 
@@ -48,7 +69,8 @@ pub record ConversationState : Type 0 where
 abbrev pub Writes : List RawFrame → ConversationState → ConversationState → Type 0
 Writes frames old new = new ≡ record old { wire = old.wire ++ flat_map spelling_of frames }
 
--- The answer to a frame that was accepted: CONNECTED to a CONNECT, and to others the RECEIPT that they ask for.
+-- The answer to a frame that was accepted: CONNECTED to a CONNECT, and to others the RECEIPT that they ask
+-- for.
 abbrev pub replies : Bool → Option (List ℕ) → List RawFrame
 replies true receipt = connected_frame ∷ []
 replies false receipt = option_map_or (λ id. receipt_frame id ∷ []) receipt []
@@ -60,18 +82,26 @@ abbrev pub gate_rows : Option GateState → List BrokerRow
 gate_rows None = []
 gate_rows (Some gate) = GivesBack gate ∷ []
 
--- what it asks of the broker as it leaves: each subscription is ended, and then its gate is given back
+-- What it asks of the broker as it leaves: each subscription is ended, and then its gate is given back. So one
+-- with the subscriptions a and b, in this order, ends a, ends b, and gives its gate back.
 abbrev pub closing_rows : ConversationState → List BrokerRow
 closing_rows c = map (λ o. Unsubscribes o.sub) c.subs ++ gate_rows c.gate
 
 -- as it is then: it holds nothing of the broker, and its session is closed
 abbrev pub closed : Exit → ConversationState → ConversationState
-closed why c = record c { session = after_close c.session; gate = None; subs = []; exit = Some why }
+closed why c = record c {
+  session = after_close c.session;
+  gate = None;
+  subs = [];
+  exit = Some why;
+  more = false;
+}
 
 -- It leaves by this fault: the ERROR is the last that is written, or is left out for want of memory.
 abbrev pub Fails : ConversationFault → Option (List ℕ) → ConversationState → ConversationState → Type 0
 Fails why receipt old new =
-    Writes (told_error why receipt ∷ []) (closed (exit.Error why) old) new ⊎ (new ≡ closed (exit.Error why) old)
+    Writes (told_error why receipt ∷ []) (closed (exit.Error why) old) new
+    ⊎ (new ≡ closed (exit.Error why) old)
 
 -- ---- what a frame asks for
 
@@ -83,46 +113,61 @@ Done = Result (Unit {0}) ConversationFault
 abbrev pub LacksMemory : ConversationState → List BrokerRow → Done → ConversationState → Type 0
 LacksMemory old asked result new = (asked ≡ []) × (result ≡ Err fault.NoMemory) × (new ≡ old)
 
+-- the client-id of a frame, if it has one, where there was memory for it
+abbrev pub ClientRead : Type 0
+ClientRead = Result (Option (List ℕ)) ConversationFault
+
 -- A CONNECT claims the sender of its client-id, or a new one. Without memory for the client-id it is refused.
 abbrev pub Connects
-    : Result (Option (List ℕ)) ConversationFault → ConversationState → List BrokerRow → Done → ConversationState → Type 0
+    : ClientRead → ConversationState → List BrokerRow → Done → ConversationState → Type 0
 Connects (Err why) old asked result new = (asked ≡ []) × (result ≡ Err why) × (new ≡ old)
 Connects (Ok client) old asked result new =
     ((gate : GateState) × (asked ≡ Claims client (Ok gate) ∷ []) × (result ≡ Ok tt)
     × (new ≡ record old { gate = Some gate }))
-    ⊎ ((why : ClaimFault) × (asked ≡ Claims client (Err why) ∷ []) × (result ≡ Err (fault.Claim why)) × (new ≡ old))
+    ⊎ ((why : ClaimFault) × (asked ≡ Claims client (Err why) ∷ []) × (result ≡ Err (fault.Claim why))
+    × (new ≡ old))
+
+-- a subscription as it begins: as many items as its queue holds are to be taken before it can have lagged
+abbrev pub begun_sub : List ℕ → SubName → ℕ → OpenSubState
+begun_sub id sub capacity = record { id = id; sub = sub; until_lag = capacity; lagged = false }
 
 -- A SUBSCRIBE begins a subscription, which is then the last that is open.
 abbrev pub Begins
     : List ℕ → Topic → ConversationState → List BrokerRow → Done → ConversationState → Type 0
 Begins id topic old asked result new =
     ((sub : SubName) × (asked ≡ Subscribes topic (Ok sub) ∷ []) × (result ≡ Ok tt)
-    × (new ≡ record old { subs = old.subs ++ (record { id = id; sub = sub; lagged = false }) ∷ [] }))
+    × (new ≡ record old { subs = old.subs ++ begun_sub id sub old.capacity ∷ [] }))
     ⊎ ((why : SubFault) × (asked ≡ Subscribes topic (Err why) ∷ []) × (result ≡ Err (fault.Subscribe why))
     × (new ≡ old))
     ⊎ LacksMemory old asked result new
 
--- An UNSUBSCRIBE ends one subscription that is open, or asks nothing where none has its id. That the one it ends has its
--- id, and that the other case never comes, since the session refuses such a frame, isn't said here.
-abbrev pub Ends : ConversationState → List BrokerRow → Done → ConversationState → Type 0
-Ends old asked result new =
+-- whether the subscription has this id
+abbrev pub has_id : List ℕ → OpenSubState → Bool
+has_id id o = bytes_eq o.id id
+
+-- An UNSUBSCRIBE ends the first open subscription of its id. Where none has it, nothing is asked; the session
+-- refuses such a frame before. So of subscriptions a and b, UNSUBSCRIBE b ends b, and leaves a.
+abbrev pub EndsSub : List ℕ → ConversationState → List BrokerRow → Done → ConversationState → Type 0
+EndsSub id old asked result new =
     (result ≡ Ok tt)
     × (((front : List OpenSubState) × (back : List OpenSubState) × (o : OpenSubState)
-    × (old.subs ≡ front ++ o ∷ back) × (asked ≡ Unsubscribes o.sub ∷ [])
-    × (new ≡ record old { subs = front ++ back }))
-    ⊎ ((asked ≡ []) × (new ≡ old)))
+    × (old.subs ≡ front ++ o ∷ back) × (has_id id o ≡ true) × (list_any (has_id id) front ≡ false)
+    × (asked ≡ Unsubscribes o.sub ∷ []) × (new ≡ record old { subs = front ++ back }))
+    ⊎ ((list_any (has_id id) old.subs ≡ false) × (asked ≡ []) × (new ≡ old)))
 
--- A transaction is begun by the connection's gate, and committed; the gate comes back in each case.
+-- A transaction is begun by the connection's gate, and committed; the gate comes back in each case. Once it was
+-- begun, what comes back is the gate as that flight leaves it, and no other's.
 abbrev pub CommitsBy
     : GateState → List SentMessage → List BrokerRow → Done → GateState → Type 0
 CommitsBy gate sends asked result left =
     ((asked ≡ []) × (result ≡ Err (fault.Begin (begin_fault gate))) × (left ≡ gate))
-    ⊎ ((asked ≡ Commits (flight_of gate sends) (Ok left) ∷ []) × (result ≡ Ok tt))
+    ⊎ ((asked ≡ Commits (flight_of gate sends) (Ok left) ∷ []) × (result ≡ Ok tt)
+    × IsGateAfter (flight_of gate sends) left)
     ⊎ ((why : CommitFault) × (asked ≡ Commits (flight_of gate sends) (Err (left, why)) ∷ [])
-    × (result ≡ Err (fault.Commit why)))
+    × (result ≡ Err (fault.Commit why)) × IsGateAfter (flight_of gate sends) left)
 
--- So of a connection that has a gate. That one without never comes so far, since its session takes no frame before
--- its CONNECT, isn't said here.
+-- So of a connection that has a gate. That one without never comes so far, since its session takes no frame
+-- before its CONNECT, isn't said here.
 abbrev pub Sends
     : List SentMessage → ConversationState → List BrokerRow → Done → ConversationState → Type 0
 Sends sends old asked result new =
@@ -132,12 +177,11 @@ Sends sends old asked result new =
 
 -- What an accepted frame's action does. A DISCONNECT ends what is open at once.
 abbrev pub Performs
-    : Action → Result (Option (List ℕ)) ConversationFault → ConversationState → List BrokerRow → Done → ConversationState
-    → Type 0
-Performs actions.Connected client old asked result new = Connects client old asked result new
+    : Action → ClientRead → ConversationState → List BrokerRow → Done → ConversationState → Type 0
+Performs (actions.Connected id) client old asked result new = Connects client old asked result new
 Performs actions.Nothing client old asked result new = (asked ≡ []) × (result ≡ Ok tt) × (new ≡ old)
 Performs (actions.Subscribe id topic) client old asked result new = Begins id topic old asked result new
-Performs (actions.Unsubscribe id) client old asked result new = Ends old asked result new
+Performs (actions.Unsubscribe id) client old asked result new = EndsSub id old asked result new
 Performs (actions.Commit sends) client old asked result new = Sends sends old asked result new
 Performs actions.Disconnect client old asked result new =
     (asked ≡ closing_rows old) × (result ≡ Ok tt) × (new ≡ closed exit.Disconnect old)
@@ -146,18 +190,21 @@ Performs actions.Disconnect client old asked result new =
 
 -- whether it is the action of a CONNECT
 abbrev pub is_connected : Action → Bool
-is_connected actions.Connected = true
+is_connected (actions.Connected client) = true
 is_connected _ = false
 
--- What follows an action that went well: the frames that answer it are written. Where there is no memory for them,
--- a connection that is open yet leaves by that; of one that has left already they are left out.
+-- What follows an action that went well: the frames that answer it are written. Where there is no memory for
+-- them, a connection that is open yet leaves by that; of one that has left already they are left out. So an
+-- action that has no answer takes no memory for one.
 abbrev pub Answers : List RawFrame → ConversationState → List BrokerRow → ConversationState → Type 0
 Answers frames old asked new =
     ((asked ≡ []) × Writes frames old new)
-    ⊎ ((asked ≡ closing_rows old) × (old.exit ≡ None) × Fails fault.NoReply None old new)
+    ⊎ ((is_any frames ≡ true) × (asked ≡ closing_rows old) × (old.exit ≡ None)
+    × Fails fault.NoReply None old new)
     ⊎ ((asked ≡ []) × IsSome old.exit × (new ≡ old))
 
--- What follows an action: its answer, or the connection leaves by its fault, with the receipt that was asked for.
+-- What follows an action: its answer, or the connection leaves by its fault, with the receipt that was asked
+-- for.
 abbrev pub Concludes
     : Done → List RawFrame → Option (List ℕ) → ConversationState → List BrokerRow → ConversationState → Type 0
 Concludes (Ok u) frames receipt old asked new = Answers frames old asked new
@@ -165,7 +212,7 @@ Concludes (Err why) frames receipt old asked new = (asked ≡ closing_rows old) 
 
 -- An accepted frame's action is performed, and then answered.
 pub record Acts
-    (step : Step) (client : Result (Option (List ℕ)) ConversationFault) (old : ConversationState) (asked : List BrokerRow)
+    (step : Step) (client : ClientRead) (old : ConversationState) (asked : List BrokerRow)
     (new : ConversationState)
     : Type 0 where
   pub first : List BrokerRow
@@ -173,14 +220,16 @@ pub record Acts
   pub between : ConversationState
   pub result : Done
   pub performs : Performs step.action client old first result between
-  pub concludes : Concludes result (replies (is_connected step.action) step.receipt) step.receipt between rest new
+  pub concludes
+      : Concludes result (replies (is_connected step.action) step.receipt) step.receipt between rest new
   pub all : asked ≡ first ++ rest
 
 -- the client-id of a CONNECT or a STOMP: its first header of that name, if it has one
 abbrev pub client_id : RawFrame → Option (List ℕ)
 client_id f = if is_connect f.command then first_of (codes "client-id") f.headers else None
 
--- The connection is lost: what is open is ended, and nothing is written. One that leaves already does nothing.
+-- The connection is lost: what is open is ended, and nothing is written. One that leaves already does
+-- nothing.
 abbrev pub IsLost : ConversationState → List BrokerRow → ConversationState → Type 0
 IsLost old asked new =
     (IsSome old.exit × (asked ≡ []) × (new ≡ old))

@@ -1,8 +1,10 @@
--- How a program ends: its status, and the line that it writes to standard error (own).
-use Rattle.std.specs.Prelude.{◌≡◌, ◌≢◌, ℕ, List, codes, Some, None, Result, Ok, Err}
+-- How a program ends: its status, and the lines that it writes to standard error (own).
+use Rattle.std.specs.Prelude.{◌≡◌, ◌≢◌, ℕ, List, codes, Option, Some, None, Result, Ok, Err}
 use Rattle.std.specs.IoError.{error_kind}
 use Rattle.std.specs.declared.io.Error.{Error}
 use Rattle.std.specs.declared.io.ErrorKind.TheVariants.{OutOfMemory}
+use Rattle.broker_server.specs.declared.detail.Detail.{Detail}
+use Rattle.broker_server.specs.declared.detail.Detail.TheVariants as details
 use Rattle.broker_server.specs.declared.ending.Ending.{Ending}
 use Rattle.broker_server.specs.declared.message.Message.{Message}
 use Rattle.broker_server.specs.declared.message.Message.TheVariants as messages
@@ -18,12 +20,32 @@ message_text (messages.Fault Io) = codes "io fault"
 
 -- the ending after wrong words: the usage, and status 1
 abbrev pub usage_ending : Ending
-usage_ending = record { status = 1; message = Some messages.Usage }
+usage_ending = record { status = 1; message = Some messages.Usage; detail = None }
+
+-- the ending of a run that went on to this status, with this detail and no line before it
+abbrev pub done : ℕ → Option Detail → Ending
+done status detail = record { status = status; message = None; detail = detail }
 
 -- the ending of a program whose run returned this: its status and no line, or the fault's status and line
 abbrev pub ending_of : Result ℕ ProgramFault → Ending
-ending_of (Ok status) = record { status = status; message = None }
-ending_of (Err fault) = record { status = fault_status fault; message = Some (messages.Fault fault) }
+ending_of (Ok status) = done status None
+ending_of (Err fault) =
+    record { status = fault_status fault; message = Some (messages.Fault fault); detail = None }
+
+-- What is told of a fault of input or output, where reader and writer kept these failures: the writer's, or
+-- else the reader's, or else that the reader met no end.
+abbrev pub failure_told : Option Error → Option Error → Detail
+failure_told read (Some error) = details.Write error
+failure_told (Some error) None = details.Read error
+failure_told None None = details.NoEnd
+
+-- The ending of a program whose run returned this, and whose reader and writer kept these failures. So a run
+-- that returned `Io`, where the reader kept `error` and the writer nothing, ends with status 5, the line
+-- `io fault` and `Read error` (proofs/EndingExamples.antt, `a_read_is_told`).
+abbrev pub run_ending : Result Ending ProgramFault → Option Error → Option Error → Ending
+run_ending (Ok ending) read wrote = ending
+run_ending (Err NoMemory) read wrote = ending_of (Err NoMemory)
+run_ending (Err Io) read wrote = record (ending_of (Err Io)) { detail = Some (failure_told read wrote) }
 
 -- This is the ending after words that could not be read: that of NoMemory if memory ran out, and else that
 -- of wrong words.

@@ -5,24 +5,13 @@ use Rattle.broker_server.specs.declared.counting.Counting.{Counting}
 use Rattle.broker_server.specs.declared.program_fault.ProgramFault.{ProgramFault}
 use Rattle.broker_server.specs.declared.program_fault.ProgramFault.TheVariants.{Io}
 use Rattle.broker_server.specs.Counts.{plus, max_reads, Fails, FailsNot, RunsOut}
-use Rattle.broker_server.specs.Audit.{IsAudited}
-use Rattle.broker_server.specs.Programs.{Asked, ToRelay, ToScript, ToTrace, ToAudit}
-use Rattle.broker_server.specs.Relay.{IsRelayed}
-use Rattle.broker_server.specs.ScriptRuns.{IsScripted, IsScriptTraced}
 
--- Where the run returns a status and the reader's octets are known, it has written what this relation says of
--- all of them.
-abbrev pub Writes : (List ℕ → List ℕ → ℕ → Type 0) → Option (List ℕ) → Option (List ℕ) → Option (List ℕ)
-    → Result ℕ ProgramFault → Type 0
-Writes IsWritten unread old new answer = IfOk answer (λ status. IfSome unread (λ input.
-    (output : List ℕ) × Appends old new output × IsWritten input output status))
-
--- what a program writes of an input, and its status
-abbrev pub IsWrittenBy : Asked → List ℕ → List ℕ → ℕ → Type 0
-IsWrittenBy (ToRelay name) = IsRelayed name
-IsWrittenBy ToScript = IsScripted
-IsWrittenBy ToTrace = IsScriptTraced
-IsWrittenBy ToAudit = IsAudited
+-- Where the run returns a status, or an ending, and the reader's octets are known, it has written what this
+-- relation says of all of them.
+abbrev pub Writes : {A : Type 0} → (List ℕ → List ℕ → A → Type 0) → Option (List ℕ) → Option (List ℕ)
+    → Option (List ℕ) → Result A ProgramFault → Type 0
+Writes IsWritten unread old new answer = IfOk answer (λ end. IfSome unread (λ input.
+    (output : List ℕ) × Appends old new output × IsWritten input output end))
 
 -- A fault of input or output has a cause that was counted: the writer failed; or the writer wasn't called,
 -- and the reader failed or was called as often as it may be and met no end.
@@ -33,14 +22,14 @@ HasCause remaining reader read writer wrote =
     ⊎ ((wrote ≡ writer)
     × (Fails reader read ⊎ RunsOut reader read (remaining reader.inner) (remaining read.inner)))
 
--- A run of a program, which is known by what it writes of an input and by its status: `IsWritten`, as
--- `IsAudited` is the audit's. It finds its reader and writer as `reader` and `writer`, leaves them as `read`
--- and `wrote`, and returns this answer. `remaining` is what a reader has left, `contents` what a writer took.
--- So an audit that meets the end at once writes `complete`, and one whose first read fails writes nothing
--- (proofs/RunExamples.antt, `nothing_is_audited`, `a_read_failed`).
-pub record IsRun {R W : Type 0} (IsWritten : List ℕ → List ℕ → ℕ → Type 0)
+-- A run of a program, which is known by what it writes of an input and by how it ends, with a status or with
+-- an ending: `IsWritten`, as `IsAudited` is the audit's. It finds its reader and writer as `reader` and
+-- `writer`, leaves them as `read` and `wrote`, and returns this answer. `remaining` is what a reader has left,
+-- `contents` what a writer took. So an audit that meets the end at once writes `complete`, and one whose first
+-- read fails writes nothing (proofs/RunExamples.antt, `nothing_is_audited`, `a_read_failed`).
+pub record IsRun {A R W : Type 0} (IsWritten : List ℕ → List ℕ → A → Type 0)
     (remaining : R → Option (List ℕ)) (contents : W → Option (List ℕ))
-    (reader read : Counting R) (writer wrote : Counting W) (answer : Result ℕ ProgramFault) : Type 0 where
+    (reader read : Counting R) (writer wrote : Counting W) (answer : Result A ProgramFault) : Type 0 where
   -- with a status it has written what is to be written of all that the reader had
   pub written : Writes IsWritten (remaining reader.inner) (contents writer.inner) (contents wrote.inner)
       answer

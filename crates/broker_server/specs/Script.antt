@@ -8,7 +8,7 @@ use Rattle.trace_audit.specs.Text.{spaced_text, id_text, IsTopicInRange, IsIdInR
 use Rattle.delivery.specs.Topics.{TopicList, no_topics, max_topics}
 use Rattle.delivery.specs.declared.event.Event.{Event}
 use Rattle.delivery.specs.declared.event.Event.TheVariants as event
-use Rattle.broker_server.specs.Programs.{is_name}
+use Rattle.stomp_session.specs.Names.{is_name}
 use Rattle.broker_server.specs.ScriptText.{SpellsText}
 use Rattle.broker_server.specs.declared.script.script_fault.ScriptFault.{ScriptFault}
 use Rattle.broker_server.specs.declared.script.script_fault.ScriptFault.TheVariants as fault

@@ -1,16 +1,23 @@
 //! The program `audit`: the audit of a trace.
 
-ghost use Rattle.std.specs.Prelude.{◌≡◌, ◌⊎◌, ◌↔◌, false, List, ℕ, IfErr, IfOk, IsTrue, OnOk};
+ghost use Rattle.std.specs.Prelude.{◌≡◌, ◌⊎◌, ◌↔◌, false, List, ℕ, IfErr, IfOk, IfSome, IsTrue, OnOk, None, Some};
 ghost use Rattle.std.specs.Io.KnownBytes.{Appends};
 ghost use Rattle.trace_audit.specs.Answers.{IsRefusal, says_no_memory};
 ghost use Rattle.trace_audit.specs.AuditText.{refusal_text};
-ghost use Rattle.trace_audit.specs.Parsing.{lines_of, AddsLines, IsParseFault};
+ghost use Rattle.trace_audit.specs.Parsing.{lines_of, AddsLines, IsFirstBad};
 ghost use Rattle.trace_audit.specs.Trace.{no_trace_data};
-ghost use Rattle.broker_server.specs.Audit.{IsAudited, IsJudged, IsYes, IsNo};
+ghost use Rattle.broker_server.specs.declared.detail.Detail.TheVariants.{No};
+ghost use Rattle.broker_server.specs.Audit.{IsAudited, IsYes, IsNo};
+ghost use Rattle.broker_server.specs.Endings.{done};
+ghost use Rattle.broker_server.specs.Excerpts.{excerpt_of, line_at};
+ghost use Rattle.broker_server.specs.ProgramEndings.{IsAuditEnding, IsJudgedEnding};
 ghost use Rattle.broker_server.specs.Runs.{IsRun};
 ghost use Rattle.broker_server.specs.Inner.Steps.{Heard};
 
 use crate::counting::Counting;
+use crate::detail::Detail;
+use crate::ending::Ending;
+use crate::excerpt::Excerpt;
 use crate::input::gather;
 use crate::output::{end, refuse_length};
 use crate::program_fault::ProgramFault;
@@ -36,6 +43,21 @@ pub fn run_audit<R: Read, W: Write>(
     ensures { IsRun IsAudited R.remaining W.contents
         reader.old reader.new writer.old writer.new result }
 {
+    match audit_input(alloc, reader, writer) {
+        Ok(ending) => Ok(ending.status),
+        Err(fault) => Err(fault),
+    }
+}
+
+/// The same, with what is told beside the status.
+pub(crate) fn audit_input<R: Read, W: Write>(
+    alloc: Global,
+    reader: &mut Counting<R>,
+    writer: &mut Counting<W>,
+) -> Result<Ending, ProgramFault>
+    ensures { IsRun IsAuditEnding R.remaining W.contents
+        reader.old reader.new writer.old writer.new result }
+{
     let mut text = Octets::new(alloc);
     if gather(alloc, reader, &mut text)? {
         judge(alloc, text, writer)
@@ -49,26 +71,39 @@ fn judge<W: Write>(
     alloc: Global,
     text: Octets,
     writer: &mut Counting<W>,
-) -> Result<u8, ProgramFault>
-    ensures judged { IfOk result (λ status. (output : List ℕ)
+) -> Result<Ending, ProgramFault>
+    ensures judged { IfOk result (λ ending. (output : List ℕ)
         × Appends (W.contents writer.old.inner) (W.contents writer.new.inner) output
-        × IsJudged text output status) }
+        × IsJudgedEnding text output ending) }
     ensures flushed { OnOk result (IsTrue writer.new.flushed) }
     ensures heard { Heard result writer.old writer.new }
 {
     match read(alloc, text) {
         Ok(trace) => answer(alloc, trace, writer),
-        Err(ParseFault::NoMemory) => Err(ProgramFault::NoMemory),
-        Err(fault) => end(fault.print(alloc)?.as_slice(), 2, writer),
+        Err(None) => Err(ProgramFault::NoMemory),
+        Err(Some((line, shown))) => {
+            let bad = ParseFault::BadRow(line).print(alloc)?;
+            let status = end(bad.as_slice(), 2, writer)?;
+            Ok(Ending::done(status, Some(Detail::Row(line, shown))))
+        }
     }
 }
 
-/// The trace of a text, which is let go.
-fn read(alloc: Global, text: Octets) -> Result<Trace, ParseFault>
+/// The trace of a text, which is let go; or the number of its first wrong line with its beginning, or nothing where
+/// memory ran out.
+fn read(alloc: Global, text: Octets) -> Result<Trace, Option<(usize, Excerpt)>>
     ensures found { IfOk result (λ trace. AddsLines (lines_of text) no_trace_data trace) }
-    ensures fault { IfErr result (λ fault. IsParseFault text fault) }
+    ensures bad { IfErr result (λ bad. IfSome bad (λ bad. IsFirstBad (lines_of text) bad.0)) }
+    ensures shown { IfErr result (λ bad.
+        IfSome bad (λ bad. bad.1 ≡ excerpt_of (line_at bad.0 (lines_of text)))) }
 {
-    Trace::parse(alloc, text.as_slice())
+    match Trace::parse(alloc, text.as_slice()) {
+        Ok(trace) => Ok(trace),
+        Err(ParseFault::NoMemory) => Err(None),
+        Err(ParseFault::BadRow(line)) => {
+            Err(Some((line, Excerpt::of_line(line, text.as_slice()))))
+        }
+    }
 }
 
 /// Audits a trace, and writes the answer.
@@ -76,15 +111,19 @@ fn answer<W: Write>(
     alloc: Global,
     trace: Trace,
     writer: &mut Counting<W>,
-) -> Result<u8, ProgramFault>
-    ensures answered { IfOk result (λ status. (output : List ℕ)
+) -> Result<Ending, ProgramFault>
+    ensures answered { IfOk result (λ ending. (output : List ℕ)
         × Appends (W.contents writer.old.inner) (W.contents writer.new.inner) output
-        × (IsYes trace output status ⊎ IsNo trace output status)) }
+        × ((IsYes trace output ending.status × (ending ≡ done 0 None))
+        ⊎ ((no : IsNo trace output ending.status) × (ending ≡ done 3 (Some (No no.fault)))))) }
     ensures flushed { OnOk result (IsTrue writer.new.flushed) }
     ensures heard { Heard result writer.old writer.new }
 {
     match yes(alloc, trace) {
-        Ok(text) => end(text.as_slice(), 0, writer),
+        Ok(text) => {
+            let status = end(text.as_slice(), 0, writer)?;
+            Ok(Ending::done(status, None))
+        }
         Err(fault) => refuse(alloc, fault, writer),
     }
 }
@@ -108,16 +147,17 @@ fn refuse<W: Write>(
     alloc: Global,
     fault: AuditFault,
     writer: &mut Counting<W>,
-) -> Result<u8, ProgramFault>
+) -> Result<Ending, ProgramFault>
     ensures not_memory { OnOk result (says_no_memory fault ≡ false) }
     ensures written { OnOk result
         (Appends (W.contents writer.old.inner) (W.contents writer.new.inner) (refusal_text fault)) }
-    ensures status { IfOk result (λ status. status ≡ 3) }
+    ensures told { IfOk result (λ ending. ending ≡ done 3 (Some (No fault))) }
     ensures flushed { OnOk result (IsTrue writer.new.flushed) }
     ensures heard { Heard result writer.old writer.new }
 {
     if fault == AuditFault::NoMemory {
         return Err(ProgramFault::NoMemory);
     }
-    end(fault.print(alloc)?.as_slice(), 3, writer)
+    let status = end(fault.print(alloc)?.as_slice(), 3, writer)?;
+    Ok(Ending::done(status, Some(Detail::No(fault))))
 }

@@ -1,16 +1,25 @@
 //! What one connection of the server does, without its socket.
 
-ghost use Rattle.std.specs.Prelude.{◌≡◌, List, map, IfOk, IfErr, OnOk, OnErr};
-ghost use Rattle.std.specs.Option.{option_map};
+ghost use Rattle.std.specs.Prelude.{◌≡◌, ◌<◌, ◌-◌, ◌&&◌, true, false, List, [], ◌∷◌, map, length, nat_lt, slice_get, None, IfSome, IfOk, IfErr, OnOk, OnErr, if◌then◌else◌};
+ghost use Rattle.std.specs.List.{position};
+ghost use Rattle.std.specs.Option.{is_none, is_some, option_map};
+ghost use Rattle.stomp_frame.specs.declared.fault.FrameFault.{FrameFault};
+ghost use Rattle.stomp_frame.specs.declared.raw_frame.RawFrame.{RawFrame};
 ghost use Rattle.stomp_frame.specs.ClientFrames.{raw_of};
 ghost use Rattle.broker_server.specs.BrokerRows.{Asks, BrokerRow, Unsubscribes};
-ghost use Rattle.broker_server.specs.Conversations.{Writes, Fails, Performs, Connects, Begins, Ends, Sends, CommitsBy, Acts, Answers, IsLost};
-ghost use Rattle.broker_server.specs.Conversations.{client_id, closed, closing_rows, gate_rows, is_connected, replies};
+ghost use Rattle.broker_server.specs.Conversations.{Writes, Fails, Performs, Connects, Begins, EndsSub, Sends, CommitsBy, Acts, Answers, IsLost};
+ghost use Rattle.broker_server.specs.Delivering.{Delivers, Drains, DrainsAll, DrainsQueues, has_item};
+ghost use Rattle.delivery.specs.Core.Outcomes.{is_any};
+ghost use Rattle.stomp_session.specs.Open.{IsKnownTo};
+ghost use Rattle.broker_server.specs.Hearing.{AcceptsFrame, DeniesFrame, Hears, IsNewTo, Rests, TakesAll, TakesFrame, TakesFrames};
+ghost use Rattle.broker_server.specs.Wires.{GoesOut};
+ghost use Rattle.broker_server.specs.Conversations.{client_id, closed, IsNew, closing_rows, gate_rows, has_id, is_connected, replies};
 ghost use Rattle.broker_server.specs.declared.conversation.conversation_fault.ConversationFault.TheVariants as faults;
 ghost use Rattle.broker_server.specs.declared.conversation.exit.Exit.TheVariants as exits;
 
 mod broker_calls;
 mod conversation_fault;
+mod drained;
 mod exit;
 mod open_sub;
 
@@ -19,6 +28,7 @@ use crate::program_fault::ProgramFault;
 use crate::wire::Wire;
 pub use broker_calls::BrokerCalls;
 pub use conversation_fault::ConversationFault;
+use drained::{Drained, Taking};
 pub use exit::Exit;
 use mcast_txn::{Topic, Txn};
 use open_sub::OpenSub;
@@ -28,19 +38,26 @@ use std::io::Write;
 use std::marker::Model;
 use std::mem;
 use stomp_frame::{
-    ClientFrame, FrameReader, Limits, NoMemory, Octets, RawFrame, ServerFrame, classify,
+    ClientFrame, FrameFault, FrameReader, Limits, NoMemory, Octets, RawFrame, ServerFrame, classify,
 };
-use stomp_session::{Action, Session, Step};
+use stomp_session::{Action, Names, Session, Step};
 
 /// From as many octets that wait on, nothing more is read (our choice).
 const MOST: usize = 1_048_576;
 
+/// So many calls are made of one queue before it is another's turn, at most (our choice). An item writes an octet or
+/// more, so the wire is full before.
+const MOST_CALLS: usize = 65_536;
+
 /// One connection of the server, without its socket. In contracts it is what came and isn't read yet, its session, its
-/// sender's gate, its open subscriptions, the octets that wait to be written to it, and why it leaves, once it does.
+/// sender's gate, its open subscriptions, the octets that wait to be written to it, why it leaves, once it does,
+/// whether items may be left in its queues, and how many each of these holds.
 pub struct Conversation<C: BrokerCalls> {
     alloc: Global,
     reader: FrameReader,
     session: Session,
+    /// The names of the topics that it knows, the first of those of all.
+    names: Names,
     /// The gate of its sender, from its CONNECT to its end.
     gate: Option<Gate>,
     subs: Vec<OpenSub<C>>,
@@ -62,6 +79,7 @@ impl<C: BrokerCalls> Drop for Conversation<C> {
             alloc: _,
             reader,
             session,
+            names,
             gate,
             subs,
             wire,
@@ -72,6 +90,7 @@ impl<C: BrokerCalls> Drop for Conversation<C> {
         } = self;
         drop(reader);
         drop(session);
+        drop(names);
         drop(gate);
         drop(subs);
         drop(wire);
@@ -86,21 +105,26 @@ impl<C: BrokerCalls> Model for Conversation<C> {
     ghost view = { λ c. record {
       reader = c.reader;
       session = c.session;
+      names = c.names;
       gate = c.gate;
       subs = c.subs.items;
       wire = c.wire;
       exit = c.exit;
+      more = c.more;
+      capacity = c.capacity;
     } };
 }
 
 impl<C: BrokerCalls> Conversation<C> {
-    /// A connection that has said nothing yet, of a broker whose queues have this capacity.
-    pub fn new(alloc: Global, calls: &mut C, capacity: u64) -> Result<Conversation<C>, NoMemory> {
-        let names = calls.names()?;
-        Ok(Conversation {
+    /// A connection that has said nothing yet, of a broker whose queues have this capacity. It takes no memory yet.
+    pub fn new(alloc: Global, capacity: u64) -> Conversation<C>
+        ensures { IsNew capacity result }
+    {
+        Conversation {
             alloc,
             reader: FrameReader::new(alloc, Limits::standard()),
-            session: Session::new(alloc, names),
+            session: Session::new(alloc),
+            names: Names::new(alloc),
             gate: None,
             subs: Vec::new(alloc),
             wire: Wire::new(alloc),
@@ -108,7 +132,14 @@ impl<C: BrokerCalls> Conversation<C> {
             more: false,
             first: 0,
             capacity,
-        })
+        }
+    }
+
+    /// The name of a topic, where the connection knows it.
+    pub fn name(&self, topic: Topic) -> Option<&[u8]>
+        ensures { option_map (λ name. name.now) result ≡ slice_get self.now.names topic.0 }
+    {
+        self.names.name(topic)
     }
 
     /// What waits to be written.
@@ -119,7 +150,10 @@ impl<C: BrokerCalls> Conversation<C> {
     }
 
     /// Writes what waits, as `drain_wire` does, and returns how many octets went out.
-    pub fn drain<W: Write>(&mut self, writer: &mut W) -> Result<usize, ProgramFault> {
+    pub fn drain<W: Write>(&mut self, writer: &mut W) -> Result<usize, ProgramFault>
+        ensures out { GoesOut self.old.wire self.new.wire (W.contents writer.old) (W.contents writer.new) result }
+        ensures same { self.new ≡ record self.old { wire = self.new.wire } }
+    {
         drain_wire(&mut self.wire, writer)
     }
 
@@ -131,23 +165,32 @@ impl<C: BrokerCalls> Conversation<C> {
     }
 
     /// Whether it leaves.
-    pub fn is_leaving(&self) -> bool {
+    pub fn is_leaving(&self) -> bool
+        ensures { result ≡ is_some self.now.exit }
+    {
         self.exit.is_some()
     }
 
     /// Whether more may be read: it doesn't leave, and fewer than 1,048,576 octets wait to be written.
-    pub fn may_read(&self) -> bool {
+    pub fn may_read(&self) -> bool
+        ensures { result ≡ is_none self.now.exit && nat_lt (length self.now.wire) 1048576 }
+    {
         self.exit.is_none() && self.wire.len() < MOST
     }
 
     /// Whether items may be left in the queues of its subscriptions, since too many octets waited: `deliver` is to be
     /// called again once some were written.
-    pub fn has_more(&self) -> bool {
+    pub fn has_more(&self) -> bool
+        ensures { result ≡ self.now.more }
+    {
         self.more
     }
 
     /// Takes a piece that came, and does what each frame that it ends asks for. Once it leaves, the rest is dropped.
-    pub fn hear(&mut self, calls: &mut C, piece: &[u8]) {
+    pub fn hear(&mut self, calls: &mut C, piece: &[u8])
+        ensures { (asked : List BrokerRow) × Asks C.called calls.old asked calls.new
+            × Hears piece.now self.old asked self.new }
+    {
         if self.exit.is_some() {
             return;
         }
@@ -158,8 +201,11 @@ impl<C: BrokerCalls> Conversation<C> {
     }
 
     /// Takes the frames that its reader has, and does what they ask for, until it leaves.
-    fn hear_all(&mut self, calls: &mut C) {
-        for _turn in 0..u64::MAX {
+    fn hear_all(&mut self, calls: &mut C)
+        ensures { (asked : List BrokerRow) × Asks C.called calls.old asked calls.new
+            × TakesAll self.old asked self.new }
+    {
+        'frames: loop {
             if self.exit.is_some() {
                 return;
             }
@@ -170,7 +216,13 @@ impl<C: BrokerCalls> Conversation<C> {
     }
 
     /// Takes the next frame; whether there was one.
-    fn hear_next(&mut self, calls: &mut C) -> bool {
+    fn hear_next(&mut self, calls: &mut C) -> bool
+        requires { self.old.exit ≡ None }
+        ensures took { result ≡ true → (asked : List BrokerRow) × Asks C.called calls.old asked calls.new
+            × (f : RawFrame) × TakesFrames (f ∷ []) self.old asked self.new }
+        ensures rests { result ≡ false → (asked : List BrokerRow) × Asks C.called calls.old asked calls.new
+            × Rests self.old asked self.new }
+    {
         match self.reader.next(self.alloc) {
             Ok(Some(frame)) => {
                 self.take_frame(calls, frame);
@@ -178,14 +230,19 @@ impl<C: BrokerCalls> Conversation<C> {
             }
             Ok(None) => false,
             Err(fault) => {
-                self.fail(calls, ConversationFault::of_reader(fault), None);
+                if !is_idle(&self.reader, fault) {
+                    self.fail(calls, ConversationFault::of_reader(fault), None);
+                }
                 false
             }
         }
     }
 
     /// Takes a frame by the case table and the session, and does what it asks for.
-    fn take_frame(&mut self, calls: &mut C, frame: RawFrame) {
+    fn take_frame(&mut self, calls: &mut C, frame: RawFrame)
+        ensures { (asked : List BrokerRow) × Asks C.called calls.old asked calls.new
+            × TakesFrame frame self.old asked self.new }
+    {
         let frame = match classify(frame) {
             Ok(frame) => frame,
             Err((frame, fault)) => {
@@ -194,11 +251,33 @@ impl<C: BrokerCalls> Conversation<C> {
             }
         };
         let client = client_of(self.alloc, &frame);
-        match self.session.step(frame) {
+        match self.judge(calls, frame) {
             Ok(step) => self.act(calls, step, client),
-            Err((frame, fault)) => {
-                self.fail(calls, ConversationFault::from(fault), frame.receipt());
+            Err((frame, fault)) => self.fail(calls, fault, frame.receipt()),
+        }
+    }
+
+    /// Has the session take a frame: by the names that it knows, or, where its destination is none of them, by all.
+    fn judge(
+        &mut self,
+        calls: &mut C,
+        frame: ClientFrame,
+    ) -> Result<Step, (ClientFrame, ConversationFault)>
+        ensures back { IfErr result (λ e. e.0 ≡ frame) }
+        ensures accepted { IfOk result (λ step. (asked : List BrokerRow) × Asks C.called calls.old asked calls.new
+            × AcceptsFrame (raw_of frame) step self.old asked self.new) }
+        ensures refused { IfErr result (λ e. (asked : List BrokerRow) × Asks C.called calls.old asked calls.new
+            × DeniesFrame (raw_of frame) e.1 self.old asked self.new) }
+    {
+        if is_known(&self.names, &frame) {
+            match self.session.step(frame, &mut self.names) {
+                Ok(step) => return Ok(step),
+                Err((frame, fault)) => return Err((frame, ConversationFault::from(fault))),
             }
+        }
+        match calls.step(&mut self.session, frame, &mut self.names) {
+            Ok(step) => return Ok(step),
+            Err((frame, fault)) => return Err((frame, fault)),
         }
     }
 
@@ -233,7 +312,7 @@ impl<C: BrokerCalls> Conversation<C> {
             };
         }
         answers! {
-            Connected => connect(client);
+            Connected(_client) => connect(client);
             Nothing => nothing();
             Subscribe(id, topic) => subscribe(id, topic);
             Unsubscribe(id) => unsubscribe(id);
@@ -257,6 +336,7 @@ impl<C: BrokerCalls> Conversation<C> {
     fn write_answer(&mut self, connects: bool, receipt: &Option<Octets>) -> Result<(), NoMemory>
         ensures ok { OnOk result (Writes (replies connects receipt.now) self.old self.new) }
         ensures err { OnErr result (self.new ≡ self.old) }
+        ensures some { OnErr result (is_any (replies connects receipt.now) ≡ true) }
     {
         if connects {
             return self.wire.put_frame(&ServerFrame::Connected);
@@ -320,6 +400,7 @@ impl<C: BrokerCalls> Conversation<C> {
                     topic,
                     sub,
                     run: 0,
+                    until_lag: self.capacity,
                     lagged: false,
                 });
                 Ok(())
@@ -331,16 +412,13 @@ impl<C: BrokerCalls> Conversation<C> {
     /// An UNSUBSCRIBE: ends the subscription of this id.
     fn unsubscribe(&mut self, calls: &mut C, id: Octets) -> Result<(), ConversationFault>
         ensures { (asked : List BrokerRow) × Asks C.called calls.old asked calls.new
-            × Ends self.old asked result self.new }
+            × EndsSub id self.old asked result self.new }
     {
-        let place = self
-            .subs
-            .iter()
-            .position(|open| open.id.as_slice() == id.as_slice());
-        let Some(place) = place else {
+        let Some(index) = index_of(self.subs.as_slice(), id.as_slice()) else {
             return Ok(());
         };
-        let open = self.subs.remove(place);
+        let open = self.subs.remove(index);
+        self.first = turn_without(self.first, index);
         calls.unsubscribe(open.sub);
         Ok(())
     }
@@ -411,93 +489,153 @@ impl<C: BrokerCalls> Conversation<C> {
         self.fail(calls, fault, slice_in(receipt));
     }
 
-    /// Takes what is there of each queue and sends it, while few octets wait; whether something was taken. It begins
+    /// Takes what is there of each queue and sends it, while few octets wait; whether something came of it. It begins
     /// behind the subscription where it stopped last, so that none waits for another for ever. A subscription that has
     /// lagged ends the connection once all that it had accepted was taken.
-    pub fn deliver(&mut self, calls: &mut C) -> bool {
+    pub fn deliver(&mut self, calls: &mut C) -> bool
+        ensures { (asked : List BrokerRow) × Asks C.called calls.old asked calls.new
+            × Delivers self.old asked result self.new }
+    {
         if self.exit.is_some() {
             return false;
         }
-        let mut taken = false;
+        let queues = self.subs.as_mut_slice();
+        let (drained, next) = drain_queues(
+            calls,
+            queues,
+            self.first,
+            &mut self.wire,
+            self.capacity,
+        );
+        self.first = next;
         self.more = false;
-        let first = self.first;
-        for turn in 0..self.subs.len() {
-            let place = self.place_of(first, turn);
-            match self.deliver_of(calls, place) {
-                Ok(any) => taken = taken || any,
-                Err(fault) => {
-                    self.fail(calls, fault, None);
-                    return true;
-                }
+        match drained.end {
+            Taking::Emptied => drained.any,
+            Taking::Stopped => {
+                self.more = true;
+                drained.any
             }
-            if self.more {
-                self.first = place.saturating_add(1);
-                return taken;
+            Taking::Failed(fault) => {
+                self.fail(calls, fault, None);
+                true
             }
         }
-        taken
-    }
-
-    /// The place of the subscription whose turn it is, where that at `first` begins.
-    fn place_of(&self, first: usize, turn: usize) -> usize {
-        let place = first.saturating_add(turn);
-        match place.checked_rem(self.subs.len()) {
-            Some(place) => place,
-            None => 0,
-        }
-    }
-
-    /// Takes what is there of one queue, while few octets wait; whether something was taken.
-    fn deliver_of(&mut self, calls: &mut C, place: usize) -> Result<bool, ConversationFault> {
-        let Some(open) = self.subs.get_mut(place) else {
-            return Ok(false);
-        };
-        let taken = drain_queue(calls, open, &mut self.wire, self.capacity)?;
-        if !self.wire.may_take() {
-            self.more = true;
-        }
-        Ok(taken)
     }
 }
 
-/// Takes what is there of a subscription's queue and writes it, while few octets wait; whether something was taken. Where
-/// as many items were taken as a queue holds, the broker is asked whether it has lagged; then what is left is taken, and
-/// that is the fault.
+/// The index of the first of these subscriptions that has this id.
+fn index_of<C: BrokerCalls>(subs: &[OpenSub<C>], id: &[u8]) -> Option<usize>
+    ensures at { result ≡ position (has_id id.now) subs.now }
+    ensures there { IfSome result (λ index. index < length subs.now) }
+{
+    subs.iter().position(|open| open.id.as_slice() == id)
+}
+
+/// Whose turn it is once the subscription at this index has gone: the same one's, or that of the one behind it.
+fn turn_without(turn: usize, index: usize) -> usize
+    ensures { result ≡ if nat_lt index turn then turn - 1 else turn }
+{
+    if index < turn { turn - 1 } else { turn }
+}
+
+/// Takes what is there of each queue, from the one whose turn it is to the last, and then from the first to that one;
+/// and whose turn is next.
+fn drain_queues<C: BrokerCalls>(
+    calls: &mut C,
+    queues: &mut [OpenSub<C>],
+    turn: usize,
+    wire: &mut Wire,
+    capacity: u64,
+) -> (Drained, usize)
+    ensures { (asked : List BrokerRow) × Asks C.called calls.old asked calls.new
+        × DrainsQueues capacity asked queues.old wire.old result.0.end queues.new wire.new
+        × (result.0.any ≡ has_item asked) }
+{
+    let first = if turn < queues.len() { turn } else { 0 };
+    let (front, back) = queues.split_at_mut(first);
+    let (drained, over) = drain_all(calls, back, wire, capacity);
+    let Taking::Emptied = drained.end else {
+        return (drained, first.saturating_add(over));
+    };
+    let (others, over) = drain_all(calls, front, wire, capacity);
+    let any = drained.any || others.any;
+    let end = others.end;
+    (Drained { any, end }, over)
+}
+
+/// Takes what is there of these queues, one after the other, up to the first that isn't emptied; and how many they are.
+/// A connection has 64 of them at most.
+fn drain_all<C: BrokerCalls>(
+    calls: &mut C,
+    queues: &mut [OpenSub<C>],
+    wire: &mut Wire,
+    capacity: u64,
+) -> (Drained, usize)
+    ensures { (asked : List BrokerRow) × Asks C.called calls.old asked calls.new
+        × DrainsAll capacity asked queues.old wire.old result.0.end queues.new wire.new
+        × (result.0.any ≡ has_item asked) }
+{
+    let Some((queue, others)) = queues.split_first_mut() else {
+        let end = Taking::Emptied;
+        return (Drained { any: false, end }, 0);
+    };
+    let drained = drain_queue(calls, queue, wire, capacity);
+    let Taking::Emptied = drained.end else {
+        return (drained, 1);
+    };
+    let (rest, over) = drain_all(calls, others, wire, capacity);
+    let any = drained.any || rest.any;
+    let end = rest.end;
+    (Drained { any, end }, over.saturating_add(1))
+}
+
+/// Takes what is there of a subscription's queue and writes it, while few octets wait. Where as many items were taken
+/// as a queue holds, the broker is asked whether it has lagged; then what is left is taken, and that is the fault.
 fn drain_queue<C: BrokerCalls>(
     calls: &mut C,
     queue: &mut OpenSub<C>,
     wire: &mut Wire,
     capacity: u64,
-) -> Result<bool, ConversationFault> {
-    let mut taken = false;
-    for _turn in 0..u64::MAX {
+) -> Drained
+    ensures { (asked : List BrokerRow) × Asks C.called calls.old asked calls.new
+        × Drains capacity 0 asked queue.old wire.old result.end queue.new wire.new
+        × (result.any ≡ has_item asked) }
+{
+    let mut any = false;
+    for _call in 0..MOST_CALLS {
         if !wire.may_take() {
-            return Ok(taken);
+            break;
         }
         match calls.take(&mut queue.sub) {
             Some(item) => {
-                taken = true;
+                any = true;
                 queue.run = queue.run.saturating_add(1);
+                queue.until_lag = queue.until_lag.saturating_sub(1);
                 if wire.put_item(queue.id.as_slice(), &item).is_err() {
-                    return Err(ConversationFault::NoReply);
+                    let end = Taking::Failed(ConversationFault::NoReply);
+                    return Drained { any, end };
                 }
             }
             None if queue.lagged => {
-                return Err(ConversationFault::Lagged {
+                let end = Taking::Failed(ConversationFault::Lagged {
                     topic: queue.topic,
                     items: queue.run,
                 });
+                return Drained { any, end };
+            }
+            None if queue.until_lag == 0 && calls.has_lagged(&queue.sub) => {
+                queue.lagged = true;
             }
             None => {
-                if queue.run < capacity || !calls.has_lagged(&queue.sub) {
-                    queue.run = 0;
-                    return Ok(taken);
-                }
-                queue.lagged = true;
+                queue.run = 0;
+                queue.until_lag = capacity;
+                let end = Taking::Emptied;
+                return Drained { any, end };
             }
         }
     }
-    Ok(taken)
+    let end = Taking::Stopped;
+    Drained { any, end }
 }
 
 /// Ends these subscriptions, in order.
@@ -534,7 +672,15 @@ fn slice_in(octets: &Option<Octets>) -> Option<&[u8]>
 fn is_connected(action: &Action) -> bool
     ensures { result ≡ is_connected action.now }
 {
-    matches!(action, Action::Connected)
+    matches!(action, Action::Connected(_))
+}
+
+/// Whether this fault of the reader is none to its peer: there was no memory, but nothing is unread.
+fn is_idle(reader: &FrameReader, fault: FrameFault) -> bool
+    ensures idle { result ≡ true → (fault ≡ FrameFault.NoMemory) × (reader.now.text ≡ []) }
+    ensures due { result ≡ false → fault ≡ FrameFault.NoMemory → is_any reader.now.text ≡ true }
+{
+    matches!(fault, FrameFault::NoMemory) && reader.clean()
 }
 
 /// The client-id of a CONNECT, if it has one: its first.
@@ -548,6 +694,18 @@ fn client_of(alloc: Global, frame: &ClientFrame) -> Result<Option<Octets>, Conve
         }
     }
     Ok(None)
+}
+
+/// Whether the frame has no destination, or one of these names.
+fn is_known(names: &Names, frame: &ClientFrame) -> bool
+    ensures known { result ≡ true → IsKnownTo names.now (raw_of frame.now) }
+    ensures unknown { result ≡ false → IsNewTo names.now (raw_of frame.now) }
+{
+    match frame {
+        ClientFrame::Send(frame) => names.find(frame.destination()).is_some(),
+        ClientFrame::Subscribe(frame) => names.find(frame.destination()).is_some(),
+        _ => true,
+    }
 }
 
 /// Begins the transaction as this gate's sender's, and commits it; the gate comes back.

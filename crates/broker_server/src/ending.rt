@@ -1,19 +1,23 @@
 //! How a program ends.
 
-ghost use Rattle.std.specs.Prelude.{◌≡◌, Err};
+ghost use Rattle.std.specs.Prelude.{◌≡◌, Err, Option, Result};
 ghost use Rattle.broker_server.specs.declared.program_fault.ProgramFault.TheVariants.{NoMemory};
-ghost use Rattle.broker_server.specs.Endings.{usage_ending, ending_of};
+ghost use Rattle.broker_server.specs.Endings.{done, failure_told, usage_ending, ending_of, run_ending};
 
+use crate::detail::Detail;
 use crate::message::Message;
 use crate::program_fault::ProgramFault;
+use std::io;
 
 /// How a program ends.
-#[derive(Clone, Copy, Debug, PartialEq, Eq)]
+#[derive(Drop)]
 pub struct Ending {
     /// The status that it exits with.
     pub status: u8,
     /// The line that it writes to standard error, if there is one.
     pub message: Option<Message>,
+    /// The line that it writes there after that, if there is one.
+    pub detail: Option<Detail>,
 }
 
 impl Ending {
@@ -24,6 +28,7 @@ impl Ending {
         Ending {
             status: 1,
             message: Some(Message::Usage),
+            detail: None,
         }
     }
 
@@ -34,19 +39,58 @@ impl Ending {
         Ending::by(Err(ProgramFault::NoMemory))
     }
 
+    /// The ending of a run that went on to its status, with this detail.
+    pub(crate) fn done(status: u8, detail: Option<Detail>) -> Ending
+        ensures { result ≡ done status detail }
+    {
+        Ending {
+            status,
+            message: None,
+            detail,
+        }
+    }
+
     /// The ending of a program whose run returned this.
     pub(crate) fn by(answer: Result<u8, ProgramFault>) -> Ending
         ensures { result ≡ ending_of answer }
     {
         match answer {
-            Ok(status) => Ending {
-                status,
-                message: None,
-            },
+            Ok(status) => Ending::done(status, None),
             Err(fault) => Ending {
                 status: fault.status(),
                 message: Some(Message::Fault(fault)),
+                detail: None,
             },
         }
+    }
+
+    /// The ending of a program whose run returned this, and whose reader and writer have kept these failures.
+    pub(crate) fn of_run(
+        answer: Result<Ending, ProgramFault>,
+        read: Option<io::Error>,
+        wrote: Option<io::Error>,
+    ) -> Ending
+        ensures { result ≡ run_ending answer read wrote }
+    {
+        match answer {
+            Ok(ending) => ending,
+            Err(ProgramFault::NoMemory) => Ending::without_memory(),
+            Err(ProgramFault::Io) => Ending {
+                status: 5,
+                message: Some(Message::Fault(ProgramFault::Io)),
+                detail: Some(failure_told(read, wrote)),
+            },
+        }
+    }
+}
+
+/// What is told of a failure of the reader or of the writer, which each kept these.
+fn failure_told(read: Option<io::Error>, wrote: Option<io::Error>) -> Detail
+    ensures { result ≡ failure_told read wrote }
+{
+    match (read, wrote) {
+        (_, Some(error)) => Detail::Write(error),
+        (Some(error), None) => Detail::Read(error),
+        (None, None) => Detail::NoEnd,
     }
 }

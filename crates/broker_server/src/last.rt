@@ -3,8 +3,9 @@
 ghost use Rattle.std.specs.Prelude.{◌≡◌};
 ghost use Rattle.std.specs.Option.{option_map};
 ghost use Rattle.stomp_frame.specs.ServerFrames.{raw_of_server};
-ghost use Rattle.broker_server.specs.Inner.Steps.{last_error};
+ghost use Rattle.broker_server.specs.Inner.Steps.{last_error, last_detail};
 
+use crate::detail::Detail;
 use crate::relay_fault::RelayFault;
 use stomp_frame::{FrameFault, RawFrame, ServerFrame};
 
@@ -35,6 +36,17 @@ impl Last {
                 receipt: None,
                 version: false,
             }),
+            Last::Clean => None,
+        }
+    }
+
+    /// What is told of it, if it has an ERROR.
+    pub(crate) fn detail(&self) -> Option<Detail>
+        ensures { result ≡ last_detail self.now }
+    {
+        match self {
+            Last::Refused(fault, _) => Some(Detail::Frame(*fault)),
+            Last::Fault(fault) => Some(Detail::Stream(*fault)),
             Last::Clean => None,
         }
     }

@@ -1,14 +1,18 @@
 //! What is written, gathered into large writes.
 
-ghost use Rattle.std.specs.Prelude.{◌≡◌, ◌++◌, [], IfOk, OnOk, IsTrue};
+ghost use Rattle.std.specs.Prelude.{◌≡◌, ◌++◌, [], IfOk, OnOk, IsTrue, Some};
 ghost use Rattle.std.specs.Io.KnownBytes.{Appends};
 ghost use Rattle.std.specs.Option.{option_map, option_map_or};
 ghost use Rattle.stomp_frame.specs.Writing.{spelling_of};
 ghost use Rattle.stomp_frame.specs.ServerFrames.{raw_of_server};
+ghost use Rattle.broker_server.specs.declared.detail.Detail.TheVariants.{TooLong};
+ghost use Rattle.broker_server.specs.Endings.{done};
 ghost use Rattle.broker_server.specs.Input.{too_long};
 ghost use Rattle.broker_server.specs.Inner.Steps.{Heard, Sends};
 
 use crate::counting::Counting;
+use crate::detail::Detail;
+use crate::ending::Ending;
 use crate::program_fault::ProgramFault;
 use std::io::Write;
 use stomp_frame::{Octets, ServerFrame, write_server};
@@ -81,14 +85,15 @@ pub(crate) fn finish<W: Write>(
     end(waiting.as_slice(), status, writer)
 }
 
-/// Writes that the input is too long, flushes, and returns the status.
-pub(crate) fn refuse_length<W: Write>(writer: &mut Counting<W>) -> Result<u8, ProgramFault>
-    ensures written { IfOk result (λ status. (status ≡ 2)
+/// Writes that the input is too long, flushes, and returns how the program ends.
+pub(crate) fn refuse_length<W: Write>(writer: &mut Counting<W>) -> Result<Ending, ProgramFault>
+    ensures written { IfOk result (λ ending. (ending ≡ done 2 (Some TooLong))
         × Appends (W.contents writer.old.inner) (W.contents writer.new.inner) too_long) }
     ensures flushed { OnOk result (IsTrue writer.new.flushed) }
     ensures heard { Heard result writer.old writer.new }
 {
-    end(b"bad 112 TooLong\n", 2, writer)
+    let status = end(b"bad 112 TooLong\n", 2, writer)?;
+    Ok(Ending::done(status, Some(Detail::TooLong)))
 }
 
 /// Writes these octets, which are the last, flushes, and returns the status.

@@ -4,11 +4,13 @@ ghost use Rattle.std.specs.Prelude.{◌≡◌, ◌≤◌, List, ℕ, IfOk, IsTru
 ghost use Rattle.std.specs.Io.KnownBytes.{Appends};
 ghost use Rattle.stomp_frame.specs.ServerFrames.{raw_of_server};
 ghost use Rattle.broker_server.specs.Input.{input_limit};
-ghost use Rattle.broker_server.specs.Relay.{message, IsAnswered, IsRelayed};
+ghost use Rattle.broker_server.specs.Relay.{message, IsRelayed};
+ghost use Rattle.broker_server.specs.ProgramEndings.{IsAnsweredEnding, IsRelayEnding};
 ghost use Rattle.broker_server.specs.Runs.{IsRun};
 ghost use Rattle.broker_server.specs.Inner.Steps.{unread_text, Heard};
 
 use crate::counting::Counting;
+use crate::ending::Ending;
 use crate::input::gather;
 use crate::next::Next;
 use crate::output::{finish, put, refuse_length};
@@ -33,6 +35,22 @@ pub fn run_relay<R: Read, W: Write>(
     writer: &mut Counting<W>,
 ) -> Result<u8, ProgramFault>
     ensures { IsRun (IsRelayed name.now) R.remaining W.contents
+        reader.old reader.new writer.old writer.new result }
+{
+    match relay_input(alloc, name, reader, writer) {
+        Ok(ending) => Ok(ending.status),
+        Err(fault) => Err(fault),
+    }
+}
+
+/// The same, with what is told beside the status.
+pub(crate) fn relay_input<R: Read, W: Write>(
+    alloc: Global,
+    name: &[u8],
+    reader: &mut Counting<R>,
+    writer: &mut Counting<W>,
+) -> Result<Ending, ProgramFault>
+    ensures { IsRun (IsRelayEnding name.now) R.remaining W.contents
         reader.old reader.new writer.old writer.new result }
 {
     let mut frames = FrameReader::new(alloc, Limits::standard());
@@ -63,12 +81,12 @@ fn relay_frames<W: Write>(
     name: &[u8],
     frames: &mut FrameReader,
     writer: &mut Counting<W>,
-) -> Result<u8, ProgramFault>
+) -> Result<Ending, ProgramFault>
     requires fresh { frames.old ≡ unread_text frames.old.text }
     requires short { length frames.old.text ≤ input_limit }
-    ensures answered { IfOk result (λ status. (output : List ℕ)
+    ensures answered { IfOk result (λ ending. (output : List ℕ)
         × Appends (W.contents writer.old.inner) (W.contents writer.new.inner) output
-        × IsAnswered name.now frames.old.text output status) }
+        × IsAnsweredEnding name.now frames.old.text output ending) }
     ensures flushed { OnOk result (IsTrue writer.new.flushed) }
     ensures heard { Heard result writer.old writer.new }
 {
@@ -77,7 +95,10 @@ fn relay_frames<W: Write>(
     'frames: loop {
         match Next::read(alloc, name, frames)? {
             Next::Message(frame) => put(&message(n, &frame), &mut waiting, writer)?,
-            Next::End(last) => return finish(last.error(), &mut waiting, writer),
+            Next::End(last) => {
+                let status = finish(last.error(), &mut waiting, writer)?;
+                return Ok(Ending::done(status, last.detail()));
+            }
         }
         n += 1;
     }

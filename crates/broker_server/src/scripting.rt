@@ -6,15 +6,18 @@ ghost use Rattle.delivery.specs.Core.Reports.{Report};
 ghost use Rattle.delivery.specs.Nets.{IsDelivered};
 ghost use Rattle.broker_server.specs.ReportText.{report_text};
 ghost use Rattle.broker_server.specs.Runs.{IsRun};
-ghost use Rattle.broker_server.specs.ScriptRuns.{outcome_lines, IsScriptRun, IsRefusedScript, IsScripted};
+ghost use Rattle.broker_server.specs.Endings.{done};
+ghost use Rattle.broker_server.specs.ProgramEndings.{events_detail, without_memory, IsRanEnding, IsRefusalEnding, IsScriptEnding};
+ghost use Rattle.broker_server.specs.ScriptRuns.{outcome_lines, IsScripted};
 ghost use Rattle.broker_server.specs.Inner.Steps.{Heard, Sends};
 
 use crate::counting::Counting;
+use crate::ending::Ending;
 use crate::input::gather;
 use crate::output::{drain_full, end, refuse_length};
 use crate::print::{print_outcome, print_report};
 use crate::program_fault::ProgramFault;
-use crate::script_run::{refuse_script, run_text};
+use crate::script_run::{refuse_script, run_ending, run_text};
 use delivery::Net;
 use std::alloc::Global;
 use std::io::{Read, Write};
@@ -36,6 +39,21 @@ pub fn run_script<R: Read, W: Write>(
     ensures { IsRun IsScripted R.remaining W.contents
         reader.old reader.new writer.old writer.new result }
 {
+    match script_input(alloc, reader, writer) {
+        Ok(ending) => Ok(ending.status),
+        Err(fault) => Err(fault),
+    }
+}
+
+/// The same, with what is told beside the status.
+pub(crate) fn script_input<R: Read, W: Write>(
+    alloc: Global,
+    reader: &mut Counting<R>,
+    writer: &mut Counting<W>,
+) -> Result<Ending, ProgramFault>
+    ensures { IsRun IsScriptEnding R.remaining W.contents
+        reader.old reader.new writer.old writer.new result }
+{
     let mut text = Octets::new(alloc);
     if gather(alloc, reader, &mut text)? {
         perform(alloc, text, writer)
@@ -49,16 +67,16 @@ fn perform<W: Write>(
     alloc: Global,
     text: Octets,
     writer: &mut Counting<W>,
-) -> Result<u8, ProgramFault>
-    ensures written { IfOk result (λ status. (output : List ℕ)
+) -> Result<Ending, ProgramFault>
+    ensures written { IfOk result (λ ending. (output : List ℕ)
         × Appends (W.contents writer.old.inner) (W.contents writer.new.inner) output
-        × (IsScriptRun text output status ⊎ IsRefusedScript text output status)) }
+        × (IsRanEnding text output ending ⊎ IsRefusalEnding text output ending)) }
     ensures flushed { OnOk result (IsTrue writer.new.flushed) }
     ensures heard { Heard result writer.old writer.new }
 {
     match run_text(alloc, text) {
         Ok(net) => write_run(alloc, &net, writer),
-        Err(fault) => refuse_script(alloc, fault, writer),
+        Err(bad) => refuse_script(alloc, bad, writer),
     }
 }
 
@@ -67,18 +85,20 @@ fn write_run<W: Write>(
     alloc: Global,
     net: &Net,
     writer: &mut Counting<W>,
-) -> Result<u8, ProgramFault>
+) -> Result<Ending, ProgramFault>
     ensures written { OnOk result ((report : Report) × IsDelivered net.now report
         × Appends (W.contents writer.old.inner) (W.contents writer.new.inner)
         (outcome_lines net.now.kept ++ report_text report)) }
-    ensures status { IfOk result (λ status. status ≡ 0) }
+    ensures told { IfOk result (λ ending.
+        ending ≡ done 0 (events_detail (without_memory net.now.kept))) }
     ensures flushed { OnOk result (IsTrue writer.new.flushed) }
     ensures heard { Heard result writer.old writer.new }
 {
     let mut waiting = Octets::new(alloc);
     put_outcomes(net, &mut waiting, writer)?;
     print_report(&net.report(), &mut waiting)?;
-    end(waiting.as_slice(), 0, writer)
+    let status = end(waiting.as_slice(), 0, writer)?;
+    Ok(run_ending(status, net))
 }
 
 /// Puts the outcomes of a run after the octets that wait, and writes them whenever they are many.

@@ -4,14 +4,14 @@ ghost use Rattle.std.specs.Prelude.{◌≡◌, map, string_bytes, IfSome, IsNone
 ghost use Rattle.std.specs.List.{list_all, list_any};
 ghost use Rattle.std.specs.Str.{bytes_eq};
 ghost use Rattle.std.specs.declared.net.socket_addr.SocketAddr.{SocketAddr};
-ghost use Rattle.broker_server.specs.Programs.{is_name};
+ghost use Rattle.stomp_session.specs.Names.{is_name};
 ghost use Rattle.broker_server.specs.ServeWords.{AsksToServe, are_distinct, are_few, may_serve, stands_in};
 
-use crate::program::is_name;
 use delivery::MAX_TOPICS;
 use std::net::SocketAddr;
+use stomp_session::is_name;
 
-/// What `serve ADDR NAME..` asks for: the server of these topics, one or more and at most 1,024, at this address.
+/// What `serve ADDR NAME..` asks for: the server at this address, which begins with these topics, at most 1,024, or none.
 #[derive(Clone, Copy)]
 pub struct ServeWords<'a> {
     /// The address as it was given.
@@ -55,11 +55,11 @@ fn may_serve(names: &[String]) -> bool
     are_few(names) && are_names(names) && are_distinct(names)
 }
 
-/// Whether there is one name or more, and at most 1,024.
+/// Whether there are at most 1,024 names.
 fn are_few(names: &[String]) -> bool
     ensures { result ≡ are_few (map string_bytes names.now) }
 {
-    names.len() > 0 && names.len() <= MAX_TOPICS
+    names.len() <= MAX_TOPICS
 }
 
 /// Whether each of them is a name.

@@ -13,11 +13,11 @@ mod left;
 mod line;
 mod listening;
 mod marks;
+mod naming;
 mod peer;
 mod running;
 mod seldom;
 mod socket;
-mod spelled;
 mod topic_bells;
 mod trouble;
 

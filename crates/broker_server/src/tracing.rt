@@ -9,14 +9,16 @@ ghost use Rattle.trace_audit.specs.Trace.{TraceData};
 ghost use Rattle.trace_audit.specs.declared.row.TraceRow.{TraceRow};
 ghost use Rattle.delivery.specs.Traces.{IsTraced};
 ghost use Rattle.broker_server.specs.Runs.{IsRun};
-ghost use Rattle.broker_server.specs.ScriptRuns.{IsTracedRun, IsRefusedScript, IsScriptTraced};
+ghost use Rattle.broker_server.specs.ProgramEndings.{IsTracedEnding, IsRefusalEnding, IsTraceEnding};
+ghost use Rattle.broker_server.specs.ScriptRuns.{IsScriptTraced};
 ghost use Rattle.broker_server.specs.Inner.Steps.{Heard};
 
 use crate::counting::Counting;
+use crate::ending::Ending;
 use crate::input::gather;
 use crate::output::{end, refuse_length};
 use crate::program_fault::ProgramFault;
-use crate::script_run::{refuse_script, run_text};
+use crate::script_run::{refuse_script, run_ending, run_text};
 use delivery::Net;
 use std::alloc::Global;
 use std::io::{Read, Write};
@@ -38,6 +40,21 @@ pub fn run_trace<R: Read, W: Write>(
     ensures { IsRun IsScriptTraced R.remaining W.contents
         reader.old reader.new writer.old writer.new result }
 {
+    match trace_input(alloc, reader, writer) {
+        Ok(ending) => Ok(ending.status),
+        Err(fault) => Err(fault),
+    }
+}
+
+/// The same, with what is told beside the status.
+pub(crate) fn trace_input<R: Read, W: Write>(
+    alloc: Global,
+    reader: &mut Counting<R>,
+    writer: &mut Counting<W>,
+) -> Result<Ending, ProgramFault>
+    ensures { IsRun IsTraceEnding R.remaining W.contents
+        reader.old reader.new writer.old writer.new result }
+{
     let mut text = Octets::new(alloc);
     if gather(alloc, reader, &mut text)? {
         trace_script(alloc, text, writer)
@@ -51,16 +68,20 @@ fn trace_script<W: Write>(
     alloc: Global,
     text: Octets,
     writer: &mut Counting<W>,
-) -> Result<u8, ProgramFault>
-    ensures written { IfOk result (λ status. (output : List ℕ)
+) -> Result<Ending, ProgramFault>
+    ensures written { IfOk result (λ ending. (output : List ℕ)
         × Appends (W.contents writer.old.inner) (W.contents writer.new.inner) output
-        × (IsTracedRun text output status ⊎ IsRefusedScript text output status)) }
+        × (IsTracedEnding text output ending ⊎ IsRefusalEnding text output ending)) }
     ensures flushed { OnOk result (IsTrue writer.new.flushed) }
     ensures heard { Heard result writer.old writer.new }
 {
     match run_text(alloc, text) {
-        Ok(net) => end(trace_text(alloc, net)?.as_slice(), 0, writer),
-        Err(fault) => refuse_script(alloc, fault, writer),
+        Ok(net) => {
+            let ending = run_ending(0, &net);
+            end(trace_text(alloc, net)?.as_slice(), 0, writer)?;
+            Ok(ending)
+        }
+        Err(bad) => refuse_script(alloc, bad, writer),
     }
 }
 

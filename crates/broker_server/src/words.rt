@@ -1,18 +1,19 @@
 //! A program, from the words on its command line to its end.
 
-ghost use Rattle.std.specs.Prelude.{◌≡◌, ℕ, None, Result, IfErr, IfOk, IfSome, map, string_bytes};
-ghost use Rattle.broker_server.specs.Endings.{ending_of, usage_ending, IsUnreadEnding};
+ghost use Rattle.std.specs.Prelude.{◌≡◌, None, Result, IfErr, IfOk, IfSome, map, string_bytes};
+ghost use Rattle.broker_server.specs.Endings.{run_ending, usage_ending, IsUnreadEnding};
+ghost use Rattle.broker_server.specs.ProgramEndings.{IsEndedBy};
 ghost use Rattle.broker_server.specs.Programs.{asked_by};
-ghost use Rattle.broker_server.specs.Runs.{IsWrittenBy, IsRun};
+ghost use Rattle.broker_server.specs.Runs.{IsRun};
 
-use crate::audit::run_audit;
+use crate::audit::audit_input;
 use crate::counting::Counting;
 use crate::ending::Ending;
 use crate::program::Program;
 use crate::program_fault::ProgramFault;
-use crate::relay::run_relay;
-use crate::scripting::run_script;
-use crate::tracing::run_trace;
+use crate::relay::relay_input;
+use crate::scripting::script_input;
+use crate::tracing::trace_input;
 use std::alloc::Global;
 use std::io;
 use std::io::{ErrorKind, Read, Write};
@@ -32,11 +33,13 @@ pub fn run_words<R: Read, W: Write>(
         × (reader.new ≡ reader.old) × (writer.new ≡ writer.old)) }
     ensures usage { IfOk words (λ words. asked_by (map string_bytes words.items) ≡ None
         → (result ≡ usage_ending) × (reader.new ≡ reader.old) × (writer.new ≡ writer.old)) }
-    // The end is that of what a run of the program that is asked for returns.
+    // The end is that of what a run of the program that is asked for returns, and of the failures that reader and
+    // writer keep.
     ensures run { IfOk words (λ words.
         IfSome (asked_by (map string_bytes words.items)) (λ asked.
-        (answer : Result ℕ ProgramFault) × (result ≡ ending_of answer)
-        × IsRun (IsWrittenBy asked) R.remaining W.contents
+        (answer : Result Ending ProgramFault)
+        × (result ≡ run_ending answer reader.new.failure writer.new.failure)
+        × IsRun (IsEndedBy asked) R.remaining W.contents
         reader.old reader.new writer.old writer.new answer)) }
 {
     let words = match words {
@@ -46,11 +49,12 @@ pub fn run_words<R: Read, W: Write>(
         }
         Err(_) => return Ending::by_usage(),
     };
-    match Program::parse(words.as_slice()) {
-        Some(Program::Relay(name)) => Ending::by(run_relay(alloc, name, reader, writer)),
-        Some(Program::Script) => Ending::by(run_script(alloc, reader, writer)),
-        Some(Program::Trace) => Ending::by(run_trace(alloc, reader, writer)),
-        Some(Program::Audit) => Ending::by(run_audit(alloc, reader, writer)),
-        None => Ending::by_usage(),
-    }
+    let answer = match Program::parse(words.as_slice()) {
+        Some(Program::Relay(name)) => relay_input(alloc, name, reader, writer),
+        Some(Program::Script) => script_input(alloc, reader, writer),
+        Some(Program::Trace) => trace_input(alloc, reader, writer),
+        Some(Program::Audit) => audit_input(alloc, reader, writer),
+        None => return Ending::by_usage(),
+    };
+    Ending::of_run(answer, reader.failure, writer.failure)
 }

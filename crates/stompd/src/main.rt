@@ -29,10 +29,13 @@ fn main(rt: HostRuntime) -> ExitCode {
     end(&rt, ended)
 }
 
-/// Writes the line of this ending, if it has one, and gives its status.
+/// Writes the lines of this ending, if it has any, and gives its status.
 fn end(rt: &HostRuntime, ended: Ending) -> ExitCode {
     if let Some(message) = ended.message {
         let _ = eprintln!(rt; "{}", message.text());
+    }
+    if let Some(detail) = &ended.detail {
+        let _ = eprintln!(rt; "{detail}");
     }
     ExitCode::from(ended.status)
 }

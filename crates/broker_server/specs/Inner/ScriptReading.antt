@@ -9,7 +9,7 @@ use Rattle.trace_audit.specs.Inner.Reading.{◌>>=◌, spelled_number}
 use Rattle.trace_audit.specs.Parsing.{cut}
 use Rattle.delivery.specs.declared.event.Event.{Event}
 use Rattle.delivery.specs.declared.event.Event.TheVariants as event
-use Rattle.broker_server.specs.Programs.{is_name}
+use Rattle.stomp_session.specs.Names.{is_name}
 use Rattle.broker_server.specs.Script.{ScriptLine, SaysNothing, NamesCapacity, NamesTopic, Asks, ScriptData, is_in_place, with_line}
 use Rattle.broker_server.specs.declared.script.misread.Misread.{Misread}
 use Rattle.broker_server.specs.declared.script.misread.Misread.TheVariants as misread

@@ -11,6 +11,8 @@ use Rattle.stomp_frame.specs.Reader.{Unread}
 use Rattle.stomp_frame.specs.Receipts.{receipt_of}
 use Rattle.stomp_frame.specs.ServerFrames.{error_frame}
 use Rattle.broker_server.specs.declared.counting.Counting.{Counting}
+use Rattle.broker_server.specs.declared.detail.Detail.{Detail}
+use Rattle.broker_server.specs.declared.detail.Detail.TheVariants as details
 use Rattle.broker_server.specs.declared.last.Last.{Last}
 use Rattle.broker_server.specs.declared.last.Last.TheVariants.{Refused, Fault, Clean}
 use Rattle.broker_server.specs.declared.next.Next.{Next}
@@ -56,6 +58,12 @@ abbrev pub last_error : Last → Option RawFrame
 last_error (Refused fault f) = Some (error_frame (relay_fault_title fault) (receipt_of f) false)
 last_error (Fault fault) = Some (error_frame (title_of fault) None false)
 last_error Clean = None
+
+-- what is told of what comes last, if it has an ERROR
+abbrev pub last_detail : Last → Option Detail
+last_detail (Refused fault f) = Some (details.Frame fault)
+last_detail (Fault fault) = Some (details.Stream fault)
+last_detail Clean = None
 
 -- what comes next by a frame: the frame, or, where it is refused, the end
 abbrev pub IsNextOfFrame : List ℕ → RawFrame → Next → Type 0

@@ -1,21 +1,23 @@
 //! What a connection asks of the broker.
 
+use crate::conversation::conversation_fault::ConversationFault;
 use broker_locks::CommitFault;
 use mcast_group::SubFault;
 use mcast_txn::{Released, Topic};
 use sender_gate::{ClaimFault, Flying, Gate};
-use std::sync::Arc;
-use stomp_frame::NoMemory;
-use stomp_session::Names;
+use stomp_frame::ClientFrame;
+use stomp_session::{Names, Session, Step};
 
-/// What a connection asks of the broker: the running one, or one of a test. Each call may wait for other threads. What a
-/// call makes of it is the implementation's to say: where nothing need be said, `ghost called = { λ old row new. Unit
+/// What a connection asks of the broker: the running one, or one of a test. Each call may wait for other threads. What
+/// a call makes of it is the implementation's to say: where nothing need be said, `ghost called = { λ old row new. Unit
 /// {0} };`, and where the calls are kept, that the list of them has grown by this one.
 pub trait BrokerCalls {
-    ghost use Rattle.std.specs.Prelude.{◌≡◌, Ok, Err, IfOk, IfErr};
+    ghost use Rattle.std.specs.Prelude.{◌≡◌, ℕ, List, Ok, Err, IfOk, IfErr};
     ghost use Rattle.std.specs.Option.{option_map};
+    ghost use Rattle.stomp_frame.specs.ClientFrames.{raw_of};
     ghost use Rattle.broker_locks.specs.Commits.{IsUntouched};
-    ghost use Rattle.broker_server.specs.BrokerRows.{BrokerRow, SubName, Claims, GivesBack, Subscribes, Unsubscribes, AsksLag, Takes, Commits};
+    ghost use Rattle.broker_server.specs.Judging.{Grows, IsAccepted, IsRefused};
+    ghost use Rattle.broker_server.specs.BrokerRows.{BrokerRow, IsGateAfter, SubName, LooksUp, Claims, GivesBack, Subscribes, Unsubscribes, AsksLag, Takes, Commits};
 
     /// An open subscription: its topic, its number, and the end of its queue that takes.
     type Sub: Drop;
@@ -26,8 +28,21 @@ pub trait BrokerCalls {
     /// Which subscription it is.
     ghost name: { Self.Sub → SubName };
 
-    /// The names of the topics.
-    fn names(&mut self) -> Result<Arc<Names>, NoMemory>;
+    /// Has the session take a frame whose destination may be none of these names, which are the first of those of all
+    /// topics: the others are put behind them first. A name that the frame adds is then known to all connections.
+    /// Refused as the session refuses it, or for want of memory for a name: 72.
+    fn step(
+        &mut self,
+        session: &mut Session,
+        frame: ClientFrame,
+        names: &mut Names,
+    ) -> Result<Step, (ClientFrame, ConversationFault)>
+        ensures called { called self.old (LooksUp names.old names.new) self.new }
+        ensures accepted { IfOk result (λ step. (known : List (List ℕ)) × Grows names.old known
+            × IsAccepted (raw_of frame) step session.old known session.new names.new) }
+        ensures refused { IfErr result (λ e. (known : List (List ℕ)) × Grows names.old known
+            × IsRefused (raw_of frame) e.1 session.old known) }
+        ensures back { IfErr result (λ e. e.0 ≡ frame) };
 
     /// Claims the sender of this client-id, or a new one, and gives its gate.
     fn claim(&mut self, client: Option<&[u8]>) -> Result<Gate, ClaimFault>
@@ -58,9 +73,12 @@ pub trait BrokerCalls {
         ensures taken { called self.old (Takes (name sub.old) result) self.new }
         ensures same { name sub.new ≡ name sub.old };
 
-    /// Commits a transaction, and gives the gate of its sender again. The flight is as its gate began it.
+    /// Commits a transaction, and gives the gate of its sender again, which goes on behind it. The flight is as its
+    /// gate began it.
     fn commit(&mut self, flying: Flying) -> Result<Gate, (Gate, CommitFault)>
         requires { IsUntouched flying.state }
         ensures committed { IfOk result (λ gate. called self.old (Commits flying.state (Ok gate)) self.new) }
-        ensures refused { IfErr result (λ e. called self.old (Commits flying.state (Err e)) self.new) };
+        ensures refused { IfErr result (λ e. called self.old (Commits flying.state (Err e)) self.new) }
+        ensures left { IfOk result (λ gate. IsGateAfter flying.state gate) }
+        ensures left_too { IfErr result (λ e. IsGateAfter flying.state e.0) };
 }

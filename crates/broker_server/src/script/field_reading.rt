@@ -7,10 +7,10 @@ ghost use Rattle.broker_server.specs.Inner.ScriptReading.{GivesField, id_read, l
 
 use super::misread::Misread;
 use super::text_reading::octets;
-use crate::program::is_name;
 use mcast_txn::{Sender, Topic, TxnId};
 use std::alloc::Global;
 use stomp_frame::Octets;
+use stomp_session::is_name;
 use trace_audit::{read_number, split_at_first};
 
 /// The number that a text spells.

@@ -6,7 +6,7 @@ use crate::serving::hub::Hub;
 use crate::serving::left::{Left, Told};
 use crate::serving::line::Line;
 use crate::serving::socket::Came;
-use crate::serving::spelled::Spelled;
+use crate::spelled::Spelled;
 use broker_locks::Side;
 use log::{Log, info, warn};
 use std::alloc::Global;
@@ -43,14 +43,14 @@ enum Round {
 
 /// A connection that is there.
 #[derive(Drop)]
-struct Connection<'a, R: Wait, W: Side, T: Side> {
+struct Connection<'a, R: Wait + Log, W: Side, T: Side> {
     line: Line,
     hub: &'a Hub<R, W, T>,
     held: Held<'a, R, W, T>,
     talk: Conversation<Held<'a, R, W, T>>,
 }
 
-impl<'a, R: Wait, W: Side, T: Side> Connection<'a, R, W, T> {
+impl<'a, R: Wait + Log, W: Side, T: Side> Connection<'a, R, W, T> {
     /// One turn: takes what is there for it, writes, reads, and does what that asks for.
     fn round(&mut self) -> Round {
         if self.hub.is_closing() {
@@ -175,9 +175,20 @@ impl<'a, R: Wait, W: Side, T: Side> Connection<'a, R, W, T> {
         }
     }
 
+    /// Says that a subscription has lagged, if that is why the connection leaves.
+    fn tell_lag(&self) {
+        if let Some(Exit::Error(ConversationFault::Lagged { topic, items })) = self.talk.exit() {
+            let name = self.talk.name(topic).unwrap_or(&[]);
+            let peer = self.line.peer;
+            warn!(self.held.rt(); target: "serve",
+                "{peer} lagged at the topic {}: {items} items behind", Spelled(name));
+        }
+    }
+
     /// From its first octet to its last; why it left.
     fn run<S: Wait>(&mut self, rt: &S) -> Left {
         let ended = self.converse(rt);
+        self.tell_lag();
         self.talk.lose(&mut self.held);
         self.held.tell_heads();
         match (ended, self.talk.exit()) {
@@ -204,16 +215,12 @@ pub(crate) fn attend<'a, R: Wait + Log, W: Side, T: Side>(
     let peer = line.peer;
     info!(rt; target: "serve", "{peer} came");
     let left = talk_over(rt, alloc, hub, line);
-    if let Left::By(Exit::Error(ConversationFault::Lagged { topic, items }), _) = left {
-        let name = hub.running.name(topic);
-        warn!(rt; target: "serve", "{peer} lagged at the topic {}: {items} items behind", Spelled(name));
-    }
     info!(rt; target: "serve", "{peer} left: {left}");
     hub.free_place();
 }
 
 /// Talks over this line; why the connection left.
-fn talk_over<'a, R: Wait, W: Side, T: Side>(
+fn talk_over<'a, R: Wait + Log, W: Side, T: Side>(
     rt: &'a R,
     alloc: Global,
     hub: &'a Hub<R, W, T>,
@@ -251,7 +258,7 @@ fn talk_over<'a, R: Wait, W: Side, T: Side>(
 }
 
 /// What one connection asks the broker by, and what it does with what comes.
-fn connection_of<'a, R: Wait, W: Side, T: Side>(
+fn connection_of<'a, R: Wait + Log, W: Side, T: Side>(
     rt: &'a R,
     alloc: Global,
     hub: &'a Hub<R, W, T>,
@@ -261,12 +268,6 @@ fn connection_of<'a, R: Wait, W: Side, T: Side>(
     let Ok(worker) = hub.running.take_worker(rt) else {
         return Err(NoMemory);
     };
-    let mut held = Held::new(rt, alloc, hub, line.peer.number, bell, worker);
-    match Conversation::new(alloc, &mut held, hub.running.capacity()) {
-        Ok(talk) => Ok((held, talk)),
-        Err(NoMemory) => {
-            hub.running.put_worker(rt, held.into_worker());
-            Err(NoMemory)
-        }
-    }
+    let held = Held::new(rt, alloc, hub, line.peer.number, bell, worker);
+    Ok((held, Conversation::new(alloc, hub.running.capacity())))
 }

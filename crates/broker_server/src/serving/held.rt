@@ -1,17 +1,19 @@
 //! What one connection asks of the broker.
 
-use crate::conversation::BrokerCalls;
+use crate::conversation::{BrokerCalls, ConversationFault};
 use crate::serving::bell::Bell;
 use crate::serving::hub::Hub;
 use crate::serving::marks::Marks;
+use crate::spelled::Spelled;
 use broker_locks::{CommitFault, Side, Subscribed, Worker};
+use log::{Log, info};
 use mcast_group::{SubFault, SubState};
 use mcast_txn::{Released, Topic};
 use sender_gate::{ClaimFault, Flying, Gate};
 use std::alloc::Global;
 use std::sync::{Arc, Wait};
-use stomp_frame::NoMemory;
-use stomp_session::Names;
+use stomp_frame::ClientFrame;
+use stomp_session::{Names, Session, Step};
 
 /// An open subscription of a connection.
 #[derive(Drop)]
@@ -22,7 +24,7 @@ pub(crate) struct HeldSub {
 
 /// What one connection asks of the broker, and what it still has to tell the heads.
 #[derive(Drop)]
-pub(crate) struct Held<'a, R: Wait, W: Side, T: Side> {
+pub(crate) struct Held<'a, R: Wait + Log, W: Side, T: Side> {
     rt: &'a R,
     hub: &'a Hub<R, W, T>,
     connection: u64,
@@ -31,7 +33,7 @@ pub(crate) struct Held<'a, R: Wait, W: Side, T: Side> {
     worker: Worker<W>,
 }
 
-impl<'a, R: Wait, W: Side, T: Side> Held<'a, R, W, T> {
+impl<'a, R: Wait + Log, W: Side, T: Side> Held<'a, R, W, T> {
     /// The connection of this number has asked nothing yet.
     pub(crate) fn new(
         rt: &'a R,
@@ -51,6 +53,11 @@ impl<'a, R: Wait, W: Side, T: Side> Held<'a, R, W, T> {
         }
     }
 
+    /// The runtime.
+    pub(crate) fn rt(&self) -> &'a R {
+        self.rt
+    }
+
     /// Its worker, when it asks no more.
     pub(crate) fn into_worker(self) -> Worker<W> {
         let Held {
@@ -64,13 +71,24 @@ impl<'a, R: Wait, W: Side, T: Side> Held<'a, R, W, T> {
         worker
     }
 
+    /// Says that the last of these topics was made.
+    fn tell_made(&self, names: &Names) {
+        let last = names.len().saturating_sub(1);
+        if let Ok(last) = u32::try_from(last)
+            && let Some(name) = names.name(Topic(last))
+        {
+            let number = self.connection;
+            info!(self.rt; target: "serve", "connection {number} made the topic {}", Spelled(name));
+        }
+    }
+
     /// Tells the heads of what was committed, or refused, since they were told.
     pub(crate) fn tell_heads(&mut self) {
         self.hub.tell_heads(self.rt, &mut self.marks);
     }
 }
 
-impl<'a, R: Wait, W: Side, T: Side> BrokerCalls for Held<'a, R, W, T> {
+impl<'a, R: Wait + Log, W: Side, T: Side> BrokerCalls for Held<'a, R, W, T> {
     ghost use Rattle.broker_server.specs.BrokerRows.{SubName};
 
     type Sub = HeldSub;
@@ -80,8 +98,18 @@ impl<'a, R: Wait, W: Side, T: Side> BrokerCalls for Held<'a, R, W, T> {
 
     ghost name = { λ sub. record { topic = sub.topic; number = sub.begun.sub } };
 
-    fn names(&mut self) -> Result<Arc<Names>, NoMemory> {
-        Ok(self.hub.running.names.clone()?)
+    /// The lock of the names is held for this one frame, and no other is taken meanwhile.
+    fn step(
+        &mut self,
+        session: &mut Session,
+        frame: ClientFrame,
+        names: &mut Names,
+    ) -> Result<Step, (ClientFrame, ConversationFault)> {
+        let (stepped, made) = self.hub.running.step(self.rt, session, frame, names);
+        if made {
+            self.tell_made(names);
+        }
+        stepped
     }
 
     fn claim(&mut self, client: Option<&[u8]>) -> Result<Gate, ClaimFault> {

@@ -6,6 +6,7 @@ use crate::serving::marks::Marks;
 use crate::serving::running::Running;
 use crate::serving::topic_bells::TopicBells;
 use broker_locks::Side;
+use delivery::MAX_TOPICS;
 use mcast_txn::{NoMemory, Topic};
 use std::alloc::{AllocError, Global};
 use std::sync::atomic::{AtomicBool, AtomicU64, Ordering};
@@ -42,14 +43,13 @@ impl<R: Wait, W: Side, T: Side> Hub<R, W, T> {
         running: Running<R, W, T>,
         door: Bell,
     ) -> Result<Hub<R, W, T>, NoMemory> {
-        let count = running.topics();
         let mut heads = Vec::new(alloc);
         for _ in 0..HEADS {
-            heads.push(Head::new(alloc, count)?)?;
+            heads.push(Head::new(alloc, MAX_TOPICS)?)?;
         }
         Ok(Hub {
             running,
-            topics: bells_of(alloc, count)?,
+            topics: bells_of(alloc, MAX_TOPICS)?,
             heads,
             places: AtomicU64::new(0),
             connections: Mutex::new(Vec::with_capacity(alloc, MAX_CONNECTIONS as usize)?),

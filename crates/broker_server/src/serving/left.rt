@@ -1,7 +1,7 @@
 //! Why a connection left.
 
 use crate::conversation::Exit;
-use crate::serving::spelled::Spelled;
+use crate::spelled::Spelled;
 use std::fmt;
 use std::fmt::{Display, Formatter};
 

@@ -1,12 +1,19 @@
 //! The broker, as the server uses it: all that is asked of it stands here.
 
+ghost use Rattle.std.specs.Prelude.{◌≡◌, ℕ, List, IfOk, IfErr};
+ghost use Rattle.stomp_frame.specs.ClientFrames.{raw_of};
+ghost use Rattle.broker_server.specs.Judging.{Grows, IsAccepted, IsRefused};
+
+use crate::conversation::ConversationFault;
 use crate::serving::hub::MAX_CONNECTIONS;
+use crate::serving::naming::step_by_all;
 use broker_locks::{Broker, ServerFault, Side, Worker};
 use delivery::{MAX_TOPICS, Topics};
 use mcast_txn::{NoMemory, Topic};
 use std::alloc::Global;
-use std::sync::{Arc, Mutex, Wait};
-use stomp_session::Names;
+use std::sync::{Mutex, Wait};
+use stomp_frame::ClientFrame;
+use stomp_session::{Names, Session, Step};
 use trace_audit::Trace;
 
 /// The broker, the names of its topics, and the workers that no connection uses. No two of their locks are ever held at
@@ -14,7 +21,8 @@ use trace_audit::Trace;
 #[derive(Drop)]
 pub(crate) struct Running<R: Wait, W: Side, T: Side> {
     pub(crate) broker: Broker<R, W, T>,
-    pub(crate) names: Arc<Names>,
+    /// The names of the topics. Its lock is never held with another.
+    pub(crate) names: Mutex<Names>,
     /// The workers that no connection uses.
     workers: Mutex<Vec<Worker<W>>>,
 }
@@ -25,7 +33,7 @@ impl<R: Wait, W: Side, T: Side> Running<R, W, T> {
         alloc: Global,
         broker: Broker<R, W, T>,
     ) -> Result<Running<R, W, T>, NoMemory> {
-        let names = Arc::new(alloc, names_of(alloc, broker.topics())?)?;
+        let names = Mutex::new(names_of(alloc, broker.topics())?);
         Ok(Running {
             broker,
             names,
@@ -33,9 +41,23 @@ impl<R: Wait, W: Side, T: Side> Running<R, W, T> {
         })
     }
 
-    /// The name of a topic; empty where there is no such topic.
-    pub(crate) fn name(&self, topic: Topic) -> &[u8] {
-        self.names.name(topic).unwrap_or(&[])
+    /// Has the session take a frame by the names of all topics, as `step_by_all` does.
+    pub(crate) fn step(
+        &self,
+        rt: &R,
+        session: &mut Session,
+        frame: ClientFrame,
+        names: &mut Names,
+    ) -> (Result<Step, (ClientFrame, ConversationFault)>, bool)
+        ensures accepted { IfOk result.0 (λ step. (known : List (List ℕ)) × Grows names.old known
+            × IsAccepted (raw_of frame) step session.old known session.new names.new) }
+        ensures refused { IfErr result.0 (λ e. (known : List (List ℕ)) × Grows names.old known
+            × IsRefused (raw_of frame) e.1 session.old known) }
+        ensures back { IfErr result.0 (λ e. e.0 ≡ frame) }
+    {
+        let mut all = self.names.lock(rt);
+        let all = &mut *all;
+        step_by_all(all, session, frame, names)
     }
 
     /// How many items a queue holds at most.
@@ -57,17 +79,16 @@ impl<R: Wait, W: Side, T: Side> Running<R, W, T> {
         let _ = self.workers.lock(rt).push(worker);
     }
 
-    /// How many topics there are.
+    /// With how many topics it began.
     pub(crate) fn topics(&self) -> usize {
         self.broker.topics().len()
     }
 
-    /// Turns a topic. Whether somebody may find something now: an item, or that it has lagged.
+    /// Turns a topic. Whether somebody may find something now: an item, or that it has lagged. Rows that there was no
+    /// memory to drain stay in the topic's log until its next turn.
     pub(crate) fn turn(&self, rt: &R, topic: Topic) -> bool {
-        match self.broker.head_turn(rt, topic) {
-            Ok(released) => released > 0,
-            Err(NoMemory) => true,
-        }
+        let (turned, _drained) = self.broker.head_turned(rt, topic);
+        turned.released > 0 || turned.lagged
     }
 
     /// The trace of the run, or `None` out of memory.

@@ -1,6 +1,7 @@
 //! Worked examples of the programs, over readers and writers that do as little as they may, or fail.
 
 mod auditing;
+mod details;
 mod ending;
 mod failing;
 mod frame_limits;
@@ -13,4 +14,5 @@ mod script_events;
 mod script_rows;
 mod scripting;
 mod scripts;
+mod wires;
 mod words;

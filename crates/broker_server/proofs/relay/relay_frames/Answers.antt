@@ -1,10 +1,13 @@
-use Rattle.std.proofs.Common.{◌+◌, [], ◌++◌, subst, ◌∙◌}
+use Rattle.std.proofs.Common.{◌≡◌, ℕ, ◌+◌, Option, [], ◌++◌, ap, subst, ◌∙◌}
 use Rattle.std.specs.Option.{option_map_or}
 use Rattle.stomp_frame.specs.declared.raw_frame.RawFrame.{RawFrame}
 use Rattle.stomp_frame.specs.Writing.{spelling_of}
+use Rattle.broker_server.specs.declared.detail.Detail.{Detail}
 use Rattle.broker_server.specs.declared.next.Next.{Next}
-use Rattle.broker_server.specs.Inner.Steps.{Sends, IsNext, last_error}
-use Rattle.broker_server.proofs.SoFarLemmas.{answers, ended, goes_on, so_far_more}
+use Rattle.broker_server.specs.Endings.{done}
+use Rattle.broker_server.specs.Inner.Steps.{Sends, IsNext, last_error, last_detail}
+use Rattle.broker_server.proofs.EndingLemmas.{answers, told_last}
+use Rattle.broker_server.proofs.SoFarLemmas.{ended, goes_on, so_far_more}
 use Rattle.broker_server.proofs.relay.relay_frames.Goals as goal
 
 pub returns-in-End-clause-answered : goal.returns-in-End-clause-answered
@@ -12,12 +15,16 @@ returns-in-End-clause-answered g c =
     let contents = g.W.Write.contents in
     let name = c.args.name.now in
     let text = c.args.frames.now.text in
-    let error = last_error c.in-End.last in
+    let last = c.in-End.last in
+    let error = last_error last in
     let so_far = c.frames.invariant.so_far in
     let next = subst (λ (t : Next). IsNext name c.frames.frames t c.read.new.frames) c.in-End.is c.in_ok-frame.ensures in
     let end = ended name text c.frames.frames.text (so_far.0 ++ c.frames.waiting) c.frames.n error so_far.1 next in
-    answers (contents c.args.writer.now.inner) (contents c.frames.writer.inner) (contents c.finish.new.writer.inner) name text so_far.0 c.frames.waiting (option_map_or spelling_of error []) (option_map_or (λ (f : RawFrame). 2) error 0) c.finish.result
-    so_far.2 end (rw c.error.ensures at c.finish.ensures.written) (rw c.error.ensures at c.finish.ensures.status)
+    let by_status = rw c.error.ensures at c.in_ok-status-in-End.ensures.status in
+    let status = option_map_or (λ (f : RawFrame). 2) error 0 in
+    let told : c.done.result ≡ done status (last_detail last) = c.done.ensures ∙ ap (λ (s : ℕ). done s c.detail.result) by_status ∙ ap (λ (d : Option Detail). done status d) c.detail.ensures in
+    answers (contents c.args.writer.now.inner) (contents c.frames.writer.inner) (contents c.finish.new.writer.inner) name text so_far.0 c.frames.waiting (option_map_or spelling_of error []) status error (last_detail last) c.done.result
+    so_far.2 end (told_last last) (rw c.error.ensures at c.in_ok-status-in-End.ensures.written) told
 
 pub frames-preserved : goal.frames-preserved
 frames-preserved g c =

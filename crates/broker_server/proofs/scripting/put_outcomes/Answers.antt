@@ -1,20 +1,10 @@
-use Rattle.std.proofs.Common.{◌≡◌, ℕ, ◌<◌, ◌≤◌, ◌∷◌, [], ◌++◌, List, Some, None, inl, inr, sym, subst, ◌∙◌, arith, length}
-use Rattle.std.specs.List.{slice_get}
-use Rattle.std.proofs.lemmas.Option.{slice_get_cases}
-use Rattle.delivery.specs.declared.kept.Kept.{Kept}
+use Rattle.std.proofs.Common.{ℕ, ◌<◌, ◌∷◌, [], ◌++◌, List, sym, subst, ◌∙◌, arith, length}
 use Rattle.broker_server.specs.Inner.Steps.{Sends}
 use Rattle.broker_server.specs.OutcomeText.{outcome_text}
-use Rattle.broker_server.proofs.OutcomeLemmas.{lines_more}
+use Rattle.broker_server.proofs.OutcomeLemmas.{is_there, lines_more}
 use Rattle.broker_server.proofs.WriteLemmas.{sends_then}
 use Rattle.broker_server.proofs.scripting.put_outcomes.Goals.{in-Some+in_ok-print_outcome+in_ok-drain_full, in_default}
 use Rattle.broker_server.proofs.scripting.put_outcomes.Goals as goal
-
--- an event below their number was kept
-is_there : (kept : List Kept) (i : ℕ) → i < length kept → None ≡ slice_get kept i → Prim.⊥
-is_there kept i within none = elim (slice_get_cases kept i).1 [
-  | inl some ↦ let e = none ∙ some.2 in cc
-  | inr past ↦ let h : length kept ≤ i = past.0 in omega arith
-]
 
 pub loop-i-preserved : goal.loop-i-preserved
 loop-i-preserved g c =

@@ -1,6 +1,6 @@
 use Rattle.std.proofs.Common.{◌∙◌, sym, string_bytes}
 use Rattle.std.proofs.lemmas.List.Folds.{list_all-map}
-use Rattle.broker_server.specs.Programs.{is_name}
+use Rattle.stomp_session.specs.Names.{is_name}
 use Rattle.broker_server.proofs.serve_words.are_names.Goals as goal
 
 pub returns : goal.returns

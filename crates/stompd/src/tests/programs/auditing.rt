@@ -145,6 +145,17 @@ fn each_write_fails(rt: HostRuntime) -> Result<(), Fail> {
     Ok(())
 }
 
+#[test]
+fn a_write_takes_nothing(rt: HostRuntime) -> Result<(), Fail> {
+    let mut reader = Counting::new(Source::of(CROSSING));
+    let mut writer = Counting::new(Target::with_room(rt.alloc(), 64)?);
+    writer.inner.at_once = 0;
+    let ended = run_audit(rt.alloc(), &mut reader, &mut writer);
+    assert_eq!(rt; ended, Err(ProgramFault::Io));
+    assert_eq!(rt; writer.failures, 1);
+    Ok(())
+}
+
 /// A reader without end is refused alone.
 #[test]
 fn too_long(rt: HostRuntime) -> Result<(), Fail> {

@@ -1,7 +1,7 @@
-//! Programs, from their words to their status and their line on standard error.
+//! Programs, from their words to their status and their first line on standard error.
 
 use super::peers::{Source, Target};
-use broker_server::{Counting, Ending, Message, ProgramFault, run_words};
+use broker_server::{Counting, Message, ProgramFault, run_words};
 use std::alloc::{AllocError, Global};
 use std::io;
 use std::io::ErrorKind;
@@ -32,13 +32,16 @@ enum Fails {
     Flush,
 }
 
+/// A status, and a line on standard error.
+type Ended = (u8, Option<Message>);
+
 /// How `stompd relay NAME` ends over a SEND to B, and whether it wrote this.
 fn relay(
     alloc: Global,
     name: &str,
     fails: Fails,
     output: &[u8],
-) -> Result<(Ending, bool), AllocError> {
+) -> Result<(Ended, bool), AllocError> {
     let mut words = Vec::new(alloc);
     words.push(String::from_str(alloc, "relay")?)?;
     words.push(String::from_str(alloc, name)?)?;
@@ -51,7 +54,7 @@ fn audited(
     text: &[u8],
     fails: Fails,
     output: &[u8],
-) -> Result<(Ending, bool), AllocError> {
+) -> Result<(Ended, bool), AllocError> {
     let mut words = Vec::new(alloc);
     words.push(String::from_str(alloc, "audit")?)?;
     run(alloc, words, text, fails, output)
@@ -64,7 +67,7 @@ fn run(
     input: &[u8],
     fails: Fails,
     output: &[u8],
-) -> Result<(Ending, bool), AllocError> {
+) -> Result<(Ended, bool), AllocError> {
     let mut reader = Counting::new(Source::of(input));
     let mut writer = Counting::new(Target::with_room(alloc, 1024)?);
     match fails {
@@ -73,11 +76,12 @@ fn run(
         Fails::Flush => writer.inner.fails_flush = true,
     }
     let ended = run_words(alloc, Ok(words), &mut reader, &mut writer);
-    Ok((ended, writer.inner.taken.as_slice() == output))
+    let told = (ended.status, ended.message);
+    Ok((told, writer.inner.taken.as_slice() == output))
 }
 
 /// How words that aren't these of a program end, where nothing is read or written.
-fn refused(alloc: Global, words: io::Result<Vec<String>>) -> Result<Option<Ending>, AllocError> {
+fn refused(alloc: Global, words: io::Result<Vec<String>>) -> Result<Option<Ended>, AllocError> {
     let mut reader = Counting::new(Source::of(SEND));
     let mut writer = Counting::new(Target::with_room(alloc, 1024)?);
     let ended = run_words(alloc, words, &mut reader, &mut writer);
@@ -86,41 +90,28 @@ fn refused(alloc: Global, words: io::Result<Vec<String>>) -> Result<Option<Endin
         writer.inner.writes,
         writer.inner.flushes,
     ) == (0, 0, 0);
-    Ok(if untouched { Some(ended) } else { None })
+    let alone = untouched && ended.detail.is_none();
+    Ok(if alone {
+        Some((ended.status, ended.message))
+    } else {
+        None
+    })
 }
 
-const IO_FAULT: Ending = Ending {
-    status: 5,
-    message: Some(Message::Fault(ProgramFault::Io)),
-};
+const IO_FAULT: Ended = (5, Some(Message::Fault(ProgramFault::Io)));
 
-const NO_MEMORY: Ending = Ending {
-    status: 4,
-    message: Some(Message::Fault(ProgramFault::NoMemory)),
-};
+const NO_MEMORY: Ended = (4, Some(Message::Fault(ProgramFault::NoMemory)));
 
-const WELL: Ending = Ending {
-    status: 0,
-    message: None,
-};
+const WELL: Ended = (0, None);
 
-const USAGE: Ending = Ending {
-    status: 1,
-    message: Some(Message::Usage),
-};
+const USAGE: Ended = (1, Some(Message::Usage));
 
-const BAD_INPUT: Ending = Ending {
-    status: 2,
-    message: None,
-};
+const BAD_INPUT: Ended = (2, None);
 
-const REFUSED: Ending = Ending {
-    status: 3,
-    message: None,
-};
+const REFUSED: Ended = (3, None);
 
 /// A name or a text, what fails, what is written, and how the run ends.
-type Row<T> = (T, Fails, &'static [u8], Ending);
+type Row<T> = (T, Fails, &'static [u8], Ended);
 
 const RELAYED: &[Row<&str>] = &[
     ("B", Fails::Nothing, MESSAGE, WELL),
@@ -156,7 +147,7 @@ fn audits_its_input(rt: HostRuntime) -> Result<(), Fail> {
 }
 
 /// Whether a run is right; `None` where it ended without memory, with its status and its line, or had none to begin with.
-fn is_right(run: Result<(Ending, bool), AllocError>) -> Option<bool> {
+fn is_right(run: Result<(Ended, bool), AllocError>) -> Option<bool> {
     match run {
         Ok((ended, _)) if ended == NO_MEMORY => None,
         Ok((ended, written)) => Some(ended == WELL && written),

@@ -1,7 +1,7 @@
 //! Inputs at the limit and past it.
 
 use super::peers::{Interrupted, LineFeeds, Target};
-use broker_server::{Counting, ProgramFault, run_relay};
+use broker_server::{Counting, run_relay, run_words};
 use std::test::Fail;
 
 const LIMIT: usize = 16_777_216;
@@ -44,14 +44,23 @@ fn at_the_limit(rt: HostRuntime) -> Result<(), Fail> {
     Ok(())
 }
 
-/// A reader that gives nothing and doesn't end is given up.
+/// A reader that gives nothing and doesn't end is given up, and this is told.
 #[test]
 fn out_of_reads(rt: HostRuntime) -> Result<(), Fail> {
     let alloc = rt.alloc();
+    let mut words = Vec::new(alloc);
+    words.push(String::from_str(alloc, "audit")?)?;
     let mut reader = Counting::new(Interrupted);
     let mut writer = Counting::new(Target::with_room(alloc, 64)?);
-    let ended = run_relay(alloc, b"A", &mut reader, &mut writer);
-    assert_eq!(rt; ended, Err(ProgramFault::Io));
+    let ended = run_words(alloc, Ok(words), &mut reader, &mut writer);
+    assert_eq!(rt; ended.status, 5);
+    let detail = ended.detail;
+    assert!(rt; detail.is_some());
+    if let Some(detail) = &detail {
+        let text = format!(in alloc; "{detail}")?;
+        let line = "reading: no end of the input after 16,777,218 reads";
+        assert_eq!(rt; text.as_str(), line);
+    }
     assert_eq!(rt; reader.calls, 16_777_218);
     assert_eq!(rt; reader.interruptions, 16_777_218);
     assert_eq!(rt; reader.failures, 0);

@@ -3,11 +3,15 @@
 
 mod frames;
 mod order;
+mod senders;
 mod spans;
+mod uses;
 
 pub(crate) use frames::FRAMES;
 pub(crate) use order::{CROSSING, FOUR_TICKETS, ORDER};
+pub(crate) use senders::SENDERS;
 pub(crate) use spans::SPANS;
+pub(crate) use uses::USES;
 
 /// A script, and what it gives.
 #[derive(Clone, Copy, Drop)]

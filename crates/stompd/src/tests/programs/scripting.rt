@@ -1,7 +1,7 @@
 //! Scripts as their readers and writers see them: those of `examples/scripts`, and refusals.
 
 use super::peers::{LineFeeds, Source, Target};
-use super::script_rows::{CROSSING, FOUR_TICKETS, FRAMES, ORDER, Row, SPANS};
+use super::script_rows::{CROSSING, FOUR_TICKETS, FRAMES, ORDER, Row, SENDERS, SPANS, USES};
 use broker_server::{Counting, ProgramFault, run_audit, run_script, run_trace};
 use std::alloc::Global;
 use std::test::Fail;
@@ -65,7 +65,7 @@ fn first_wrong(alloc: Global, rows: &[&Row]) -> Result<usize, ProgramFault> {
 
 #[test]
 fn examples(rt: HostRuntime) {
-    for rows in [ORDER, SPANS, FRAMES] {
+    for rows in [ORDER, SPANS, FRAMES, USES, SENDERS] {
         assert_eq!(rt; first_wrong(rt.alloc(), rows), Ok(rows.len()));
     }
 }
@@ -157,34 +157,45 @@ fn each_read_fails(rt: HostRuntime) -> Result<(), Fail> {
     Ok(())
 }
 
-/// How SHORT ends with a writer that takes so many octets at once, and of which the write of this number fails; and how many
-/// octets it took.
+/// How a program ends over an input with a writer that takes so many octets at once, and of which the write of this number
+/// fails, or the flush where none has it; and how many octets it took.
 fn fails_to_write(
     alloc: Global,
+    asked: Asked,
+    input: &[u8],
     at_once: usize,
     fails_at: usize,
 ) -> Result<(Result<u8, ProgramFault>, usize), ProgramFault> {
-    let mut reader = Counting::new(Source::of(SHORT));
-    let mut writer = Counting::new(Target::with_room(alloc, 64)?);
+    let mut reader = Counting::new(Source::of(input));
+    let mut writer = Counting::new(Target::with_room(alloc, 4096)?);
     writer.inner.at_once = at_once;
     writer.inner.fails_at = fails_at;
-    writer.inner.fails_flush = fails_at > SHORT_OUTPUT.len();
-    let ended = run_script(alloc, &mut reader, &mut writer);
+    writer.inner.fails_flush = true;
+    let ended = run(alloc, asked, &mut reader, &mut writer);
     Ok((ended, writer.inner.taken.len()))
 }
 
-/// Whichever write fails, or the flush, or where a write takes nothing, the status is 5.
+/// Whether the status is 5 whichever write of this output fails, or the flush, or where a write takes nothing.
+fn each_fails(
+    alloc: Global,
+    asked: Asked,
+    input: &[u8],
+    output: &[u8],
+) -> Result<bool, ProgramFault> {
+    for count in 0..=output.len() {
+        let told = fails_to_write(alloc, asked, input, 1, count.saturating_add(1))?;
+        if told != (Err(ProgramFault::Io), count) {
+            return Ok(false);
+        }
+    }
+    let told = fails_to_write(alloc, asked, input, 0, 0)?;
+    Ok(told == (Err(ProgramFault::Io), 0) && writes(alloc, asked, input, output, 0)?)
+}
+
 #[test]
 fn each_write_fails(rt: HostRuntime) -> Result<(), Fail> {
-    for fails_at in 1..=SHORT_OUTPUT.len() + 1 {
-        let told = fails_to_write(rt.alloc(), 1, fails_at)?;
-        assert_eq!(rt; told, (Err(ProgramFault::Io), fails_at - 1));
-    }
-    assert_eq!(rt;
-        fails_to_write(rt.alloc(), 0, 0)?,
-        (Err(ProgramFault::Io), 0)
-    );
-    assert!(rt; writes(rt.alloc(), Asked::Script, SHORT, SHORT_OUTPUT, 0) == Ok(true));
+    assert!(rt; each_fails(rt.alloc(), Asked::Script, SHORT, SHORT_OUTPUT)?);
+    assert!(rt; each_fails(rt.alloc(), Asked::Trace, CROSSING.script, CROSSING.trace)?);
     Ok(())
 }
 

@@ -17,10 +17,13 @@ returns-clause-fails g c =
     let with : List ℕ → ConversationState = λ wire. record {
       reader = held.reader;
       session = held.session;
+      names = held.names;
       gate = held.gate;
       subs = held.subs.items;
       wire = wire;
       exit = held.exit;
+      more = held.more;
+      capacity = held.capacity;
     } in
     let was = c.self.view_is ∙ c.close.ensures.closed in
     let told = ap (λ (t : List ℕ). held.wire ++ spelling_of (error_frame t receipt c.says_version.result)) c.title.ensures

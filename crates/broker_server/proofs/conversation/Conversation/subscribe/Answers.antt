@@ -1,4 +1,4 @@
-use Rattle.std.proofs.Common.{List, [], ◌∷◌, ◌++◌, false, Ok, Err, refl, ap, ◌∙◌, inl, inr}
+use Rattle.std.proofs.Common.{ℕ, List, [], ◌∷◌, ◌++◌, false, Ok, Err, refl, ap, ◌∙◌, inl, inr}
 use Rattle.broker_server.specs.BrokerRows.{Subscribes}
 use Rattle.broker_server.specs.Conversations.{ConversationState, OpenSubState}
 use Rattle.broker_server.proofs.ConversationLemmas.{asks_one}
@@ -9,15 +9,18 @@ returns-in-Ok g c =
     let called = g.C.BrokerCalls.called in
     let name = g.C.BrokerCalls.name c.in-Ok.sub in
     let row = Subscribes c.args.topic (Ok name) in
-    let sub : OpenSubState = record { id = c.args.id; sub = name; lagged = false } in
+    let sub : ℕ → OpenSubState = λ capacity. record { id = c.args.id; sub = name; until_lag = capacity; lagged = false } in
     let held = c.self.inside in
     let with : List OpenSubState → ConversationState = λ subs. record {
       reader = held.reader;
       session = held.session;
+      names = held.names;
       gate = held.gate;
       subs = subs;
       wire = held.wire;
       exit = held.exit;
+      more = held.more;
+      capacity = held.capacity;
     } in (
       row ∷ [],
       asks_one called c.args.calls.now c.subscribe.new.self row c.in-Ok.ensures.begun,
@@ -25,8 +28,8 @@ returns-in-Ok g c =
         name,
         refl,
         refl,
-        ap with (c.push_reserved.ensures.items ∙ ap (λ (subs : List OpenSubState). subs ++ sub ∷ []) c.reserve.ensures.items)
-            ∙ ap (λ (s : ConversationState). record s { subs = s.subs ++ sub ∷ [] }) c.self.view_is,
+        ap with (c.push_reserved.ensures.items ∙ ap (λ (subs : List OpenSubState). subs ++ sub held.capacity ∷ []) c.reserve.ensures.items)
+            ∙ ap (λ (s : ConversationState). record s { subs = s.subs ++ sub s.capacity ∷ [] }) c.self.view_is,
       ),
     )
 
@@ -38,10 +41,13 @@ returns-in-Err g c =
     let with : List OpenSubState → ConversationState = λ subs. record {
       reader = held.reader;
       session = held.session;
+      names = held.names;
       gate = held.gate;
       subs = subs;
       wire = held.wire;
       exit = held.exit;
+      more = held.more;
+      capacity = held.capacity;
     } in (
       row ∷ [],
       asks_one called c.args.calls.now c.subscribe.new.self row c.in-Err.ensures.refused,

@@ -1,26 +1,37 @@
-use Rattle.std.proofs.Common.{ℕ, suc, ◌+◌, ◌<◌, ◌≡◌, rules, List, [], ◌∷◌, ◌++◌, length, take, drop, refl, sym, ap, subst, ◌∙◌, arith, inl, inr}
+use Rattle.std.proofs.Common.{ℕ, suc, ◌+◌, ◌<◌, ◌≡◌, false, Some, None, List, [], ◌∷◌, ◌++◌, length, take, drop, refl, sym, ap, subst, ◌∙◌, arith, inl, inr}
 use Rattle.std.specs.Prelude.{get_or}
 use Rattle.std.proofs.Math.Seq.{split_at}
+use Rattle.std.specs.List.{list_any, position}
+use Rattle.std.proofs.lemmas.List.Quantifiers.{position-Some}
+use Rattle.mcast_group.proofs.Indices.{none_at}
 use Rattle.broker_server.specs.BrokerRows.{SubName, Unsubscribes}
-use Rattle.broker_server.specs.Conversations.{ConversationState, OpenSubState}
-use Rattle.broker_server.proofs.ConversationLemmas.{asks_one}
+use Rattle.broker_server.specs.Conversations.{ConversationState, OpenSubState, has_id}
+use Rattle.broker_server.proofs.ConversationLemmas.{asks_one, none_before}
 use Rattle.broker_server.proofs.conversation.Conversation.unsubscribe.Goals as goal
 
 pub returns-in_default : goal.returns-in_default
-returns-in_default g c = ([], refl, (refl, inr (refl, refl)))
+returns-in_default g c =
+    let id = c.args.id in
+    let held = c.self.inside in
+    let at : position (has_id id) held.subs.items ≡ None = sym (ap (position (has_id id)) c.as_slice.ensures.value) ∙ (sym (ap (λ (t : List ℕ). position (has_id t) c.as_slice.result.now) c.as_slice-2.ensures) ∙ (sym c.index_of.ensures.at ∙ c.in_default.is)) in
+    let none = subst (λ (s : ConversationState). list_any (has_id id) s.subs ≡ false) c.self.view_is (none_at (has_id id) held.subs.items at) in
+    ([], refl, (refl, inr (none, refl, refl)))
 
 pub returns : goal.returns
 returns g c =
     let called = g.C.BrokerCalls.called in
     let held = c.self.inside in
     let subs = held.subs.items in
-    let i = c.in-Some.place in
+    let i = c.in-Some.index in
     let it = c.remove-open.result in
     let front = take i subs in
     let back = drop (i + 1) subs in
     let name = ap (λ (o : OpenSubState). o.sub) c.open.view_is in
     let one = subst (λ (n : SubName). called c.args.calls.now (Unsubscribes n) c.unsubscribe.new.self) name c.unsubscribe.ensures in
-    let there : i < length subs = search rules in
+    let id = c.args.id in
+    let at : position (has_id id) subs ≡ Some i = sym (ap (position (has_id id)) c.as_slice.ensures.value) ∙ (sym (ap (λ (t : List ℕ). position (has_id t) c.as_slice.result.now) c.as_slice-2.ensures) ∙ (sym c.index_of.ensures.at ∙ c.in-Some.is)) in
+    let found = position-Some (has_id id) subs i it at in
+    let there : i < length subs = found.0 in
     let next : suc i ≡ i + 1 = omega arith in
     let cut : subs ≡ front ++ it ∷ back = split_at subs i it there
     ∙ ap (λ (n : ℕ). front ++ get_or subs i it ∷ drop n subs) next
@@ -28,10 +39,13 @@ returns g c =
     let with : List OpenSubState → ConversationState = λ xs. record {
       reader = held.reader;
       session = held.session;
+      names = held.names;
       gate = held.gate;
       subs = xs;
       wire = held.wire;
       exit = held.exit;
+      more = held.more;
+      capacity = held.capacity;
     } in (
       Unsubscribes it.sub ∷ [],
       asks_one called c.args.calls.now c.unsubscribe.new.self (Unsubscribes it.sub) one,
@@ -42,6 +56,8 @@ returns g c =
           back,
           it,
           sym (ap (λ (s : ConversationState). s.subs) c.self.view_is) ∙ cut,
+          ap (has_id id) c.remove-open.ensures.value ∙ found.1,
+          none_before (has_id id) subs i it found.2,
           refl,
           ap with c.remove-open.ensures.by_index.2 ∙ ap (λ (s : ConversationState). record s { subs = front ++ back }) c.self.view_is,
         ),

@@ -13,12 +13,12 @@ const BEFORE: &[u8] = b"fed\n";
 
 /// An outcome whose line outgrows a list's own room.
 const LONG: Outcome = Outcome::Faulted {
-    fault: ConnectionFault::Session(stomp_session::SessionFault::UnknownDestination),
+    fault: ConnectionFault::Session(stomp_session::SessionFault::BadDestination),
     cut: false,
 };
 
 /// What is there after the line was appended.
-const AFTER: &[u8] = b"fed\nerror 67 UnknownDestination\n";
+const AFTER: &[u8] = b"fed\nerror 76 BadDestination\n";
 
 /// Whether the octets are these.
 fn are(out: &Octets, octets: &[u8]) -> bool {

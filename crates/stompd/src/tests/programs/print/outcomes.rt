@@ -72,10 +72,10 @@ const LINES: &[(Outcome, &[u8])] = &[
     ),
     (
         Outcome::Faulted {
-            fault: ConnectionFault::Session(SessionFault::UnknownDestination),
+            fault: ConnectionFault::Session(SessionFault::BadDestination),
             cut: false,
         },
-        b"error 67 UnknownDestination\n",
+        b"error 76 BadDestination\n",
     ),
     (
         Outcome::Faulted {

@@ -121,7 +121,7 @@ out 0 CONNECTED\nversion:1.2\nheart-beat:0,0\n\n\0RECEIPT\nreceipt-id:r\n\n\0
 };
 
 const FRAME_FAULTS: &Row = &Row {
-    script: br"# Four frames that are refused, each with its receipt in the ERROR; then the connection is busy with leaving, and gone.
+    script: br"# A SEND that makes its topic, and three frames that are refused, each with its receipt in the ERROR; then the first connection waits for its transaction, and the last is busy with leaving, and gone.
 topic A 0
 open
 piece 0 CONNECT\naccept-version:1.2\nhost:h\n\n\0
@@ -146,12 +146,15 @@ next 3
 piece 0 SEND\ndestination:A\n\n\0
 leave 0
 next 0
+piece 3 SEND\ndestination:A\n\n\0
+leave 3
+next 3
 ",
     output: br"conn 0
 fed
 done
 fed
-error 67 UnknownDestination
+flight 0 1
 conn 1
 fed
 done
@@ -167,10 +170,13 @@ fed
 done
 fed
 error 21 Unsupported
+fed
+refused 79 NotLeaving
+refused 81 Busy
 refused 81 Busy
 gone
 refused 87 Gone
-out 0 CONNECTED\nversion:1.2\nheart-beat:0,0\n\n\0ERROR\nmessage:67 UnknownDestination\nreceipt-id:r\ncontent-length:0\n\n\0
+out 0 CONNECTED\nversion:1.2\nheart-beat:0,0\n\n\0
 out 1 CONNECTED\nversion:1.2\nheart-beat:0,0\n\n\0ERROR\nmessage:66 NoSuchTxn\nreceipt-id:r\ncontent-length:0\n\n\0
 out 2 CONNECTED\nversion:1.2\nheart-beat:0,0\n\n\0ERROR\nmessage:68 AckMode\nreceipt-id:r\ncontent-length:0\n\n\0
 out 3 CONNECTED\nversion:1.2\nheart-beat:0,0\n\n\0ERROR\nmessage:21 Unsupported\nreceipt-id:r\ncontent-length:0\n\n\0

@@ -1,0 +1,71 @@
+-- Worked examples of what a connection asks of the broker, and what it takes of its queues.
+use Rattle.std.proofs.Common.{◌≡◌, ℕ, ◌≤◌, true, List, [], ◌∷◌, ◌++◌, length, map, codes, Option, Some, None, Ok, inl, inr, refl, ap, ◌∙◌, arith}
+use Rattle.mcast_txn.specs.declared.stamp.Stamp.{Stamp}
+use Rattle.sender_gate.specs.Gate.{FlightState, GateState, gate_after}
+use Rattle.broker_server.specs.declared.conversation.conversation_fault.ConversationFault.{ConversationFault}
+use Rattle.broker_server.specs.declared.conversation.drained.Taking.TheVariants.{Emptied, Stopped, Failed}
+use Rattle.broker_server.specs.BrokerRows.{AsksLag, BrokerRow, GivesBack, IsGateAfter, SubName, Takes, Unsubscribes}
+use Rattle.broker_server.specs.Conversations.{ConversationState, EndsSub, OpenSubState, begun_sub, closing_rows, gate_rows}
+use Rattle.broker_server.specs.Delivering.{Drains, DrainsAll, DrainsQueues, IsLag, full_wire}
+use Rattle.broker_server.specs.Judging.{Grows}
+
+-- the subscription of this number at topic 0
+abbrev named : ℕ → SubName
+named n = record { topic = record { 0 = 0 }; number = n }
+
+-- three subscriptions, whose queues hold two items
+abbrev a : OpenSubState
+a = begun_sub (codes "a") (named 0) 2
+
+abbrev b : OpenSubState
+b = begun_sub (codes "b") (named 1) 2
+
+abbrev c : OpenSubState
+c = begun_sub (codes "c") (named 2) 2
+
+-- ---- names, subscriptions, gates
+
+-- A and B grow to A, B and C
+pub a_third_name : Grows (codes "A" ∷ codes "B" ∷ []) (codes "A" ∷ codes "B" ∷ codes "C" ∷ [])
+a_third_name = (codes "C" ∷ [], refl)
+
+-- UNSUBSCRIBE b ends the second of two
+pub second_ends : (s : ConversationState) → s.subs ≡ a ∷ b ∷ [] → EndsSub (codes "b") s (Unsubscribes (named 1) ∷ []) (Ok tt) (record s { subs = a ∷ [] })
+second_ends s two = (refl, inl (a ∷ [], [], b, two, refl, refl, refl, refl))
+
+-- what a connection with two subscriptions and a gate asks as it leaves
+pub leaves : (s : ConversationState) (gate : GateState) → s.subs ≡ a ∷ b ∷ [] → s.gate ≡ Some gate → closing_rows s ≡ Unsubscribes (named 0) ∷ Unsubscribes (named 1) ∷ GivesBack gate ∷ []
+leaves s gate two has =
+    ap (λ (os : List OpenSubState). map (λ (o : OpenSubState). Unsubscribes o.sub) os ++ gate_rows s.gate) two
+    ∙ ap (λ (g : Option GateState). Unsubscribes (named 0) ∷ Unsubscribes (named 1) ∷ gate_rows g) has
+
+-- the gate that a flight leaves, whatever floor it comes to
+pub flight_leaves : (flight : FlightState) (floor : Stamp) → IsGateAfter flight (gate_after flight floor)
+flight_leaves flight floor = (floor, refl)
+
+-- ---- queues
+
+-- nothing is left of a queue that is found empty, and it can't have lagged
+empty_queue : (n : ℕ) (id : List ℕ) → Drains 2 0 (Takes (named n) None ∷ []) (begun_sub id (named n) 2) [] Emptied (begun_sub id (named n) 2) []
+empty_queue n id = (omega arith, refl, inr (refl, omega arith, refl, refl), refl)
+
+-- of three queues, from the second on, the first is the last that is looked at
+pub second_first : DrainsQueues 2 (Takes (named 1) None ∷ Takes (named 2) None ∷ Takes (named 0) None ∷ []) (a ∷ b ∷ c ∷ []) [] Emptied (a ∷ b ∷ c ∷ []) []
+second_first =
+    let last : DrainsAll 2 (Takes (named 2) None ∷ []) (c ∷ []) [] Emptied (c ∷ []) [] =
+    (Takes (named 2) None ∷ [], [], refl, Emptied, c, [], [], empty_queue 2 (codes "c"), refl, (refl, refl, refl, refl)) in
+    let back : DrainsAll 2 (Takes (named 1) None ∷ Takes (named 2) None ∷ []) (b ∷ c ∷ []) [] Emptied (b ∷ c ∷ []) [] =
+    (Takes (named 1) None ∷ [], Takes (named 2) None ∷ [], refl, Emptied, b, c ∷ [], [], empty_queue 1 (codes "b"), refl, last) in
+    let front : DrainsAll 2 (Takes (named 0) None ∷ []) (a ∷ []) [] Emptied (a ∷ []) [] =
+    (Takes (named 0) None ∷ [], [], refl, Emptied, a, [], [], empty_queue 0 (codes "a"), refl, (refl, refl, refl, refl)) in
+    (a ∷ [], b ∷ c ∷ [], refl, Takes (named 1) None ∷ Takes (named 2) None ∷ [], Takes (named 0) None ∷ [], refl, Emptied, b ∷ c ∷ [], a ∷ [], [], back, refl, front)
+
+-- A queue of two that gave two items is found empty, and has lagged: it is taken until it is empty again, and then 74 is
+-- told.
+pub lag_is_told : (why : ConversationFault) → IsLag why → Drains 2 0 (Takes (named 0) None ∷ AsksLag (named 0) true ∷ Takes (named 0) None ∷ []) (record a { until_lag = 0 }) [] (Failed why) (record a { until_lag = 0; lagged = true }) []
+lag_is_told why lag =
+    (omega arith, refl, refl, refl, refl, (omega arith, refl, inl (refl, why, lag, refl, refl), refl))
+
+-- where 65,536 octets wait, nothing is taken
+pub wire_is_full : (wire : List ℕ) → full_wire ≤ length wire → Drains 2 0 [] a wire Stopped a wire
+wire_is_full wire full = (inl full, refl, refl, refl)

@@ -1,0 +1,102 @@
+-- What is taken of one queue, call by call.
+use Rattle.std.proofs.Common.{◌≡◌, ◌⊎◌, inl, inr, ℕ, zero, suc, ◌+◌, ◌<◌, ◌≤◌, Bool, true, false, List, [], ◌∷◌, ◌++◌, length, Result, Ok, Err, OnOk, OnErr, IsTrue, is_err, Some, None, refl, sym, ap, subst, ◌∙◌, append_assoc, append-nil, arith}
+use Rattle.std.specs.Prelude.{◌||◌}
+use Rattle.std.proofs.lemmas.Bool.{cases_lt, false≢true, true≢false}
+use Rattle.std.proofs.lemmas.List.Folds.{list_any-append}
+use Rattle.mcast_txn.specs.Span.{Item}
+use Rattle.broker_server.specs.declared.conversation.drained.Taking.{Taking}
+use Rattle.broker_server.specs.declared.conversation.drained.Taking.TheVariants.{Emptied, Stopped, Failed}
+use Rattle.broker_server.specs.BrokerRows.{AsksLag, BrokerRow, SubName, Takes}
+use Rattle.broker_server.specs.Conversations.{OpenSubState}
+use Rattle.broker_server.specs.Delivering.{Drains, DrainsAll, DrainsQueues, IfEmptied, after_item, full_wire, has_item, is_item, with_item}
+
+-- what was asked, and then more
+pub drains_behind : (capacity : ℕ) (asked more rows : List BrokerRow) (o : OpenSubState) (wire : List ℕ) (end : Taking) (new : OpenSubState) (after : List ℕ) → Drains capacity 0 (asked ++ (more ++ rows)) o wire end new after → Drains capacity 0 ((asked ++ more) ++ rows) o wire end new after
+drains_behind capacity asked more rows o wire end new after drains =
+    subst (λ (all : List BrokerRow). Drains capacity 0 all o wire end new after) (sym (append_assoc asked more rows)) drains
+
+-- an item is taken and written
+pub drains_item : (capacity calls : ℕ) (o next : OpenSubState) (wire more : List ℕ) (item : Item) (sub : SubName) → length wire < full_wire → sub ≡ o.sub → next ≡ after_item o → more ≡ with_item o item wire → (rows : List BrokerRow) (end : Taking) (new : OpenSubState) (after : List ℕ) → Drains capacity (calls + 1) rows next more end new after → Drains capacity calls (Takes sub (Some item) ∷ rows) o wire end new after
+drains_item capacity calls o next wire more item sub room same next_is more_is rows end new after drains =
+    (room, same, inl (subst (λ (w : List ℕ). Drains capacity (calls + 1) rows (after_item o) w end new after) more_is (subst (λ (q : OpenSubState). Drains capacity (calls + 1) rows q more end new after) next_is drains)))
+
+-- the queue was empty, and the broker says that it has lagged
+pub drains_lag : (capacity calls : ℕ) (o next : OpenSubState) (wire : List ℕ) (sub lagging : SubName) → length wire < full_wire → sub ≡ o.sub → lagging ≡ o.sub → o.lagged ≡ false → o.until_lag ≡ 0 → next ≡ record o { lagged = true } → (rows : List BrokerRow) (end : Taking) (new : OpenSubState) (after : List ℕ) → Drains capacity (calls + 1) rows next wire end new after → Drains capacity calls (Takes sub None ∷ AsksLag lagging true ∷ rows) o wire end new after
+drains_lag capacity calls o next wire sub lagging room same asked unlagged due next_is rows end new after drains =
+    (room, same, asked, unlagged, due, subst (λ (q : OpenSubState). Drains capacity (calls + 1) rows q wire end new after) next_is drains)
+
+-- ---- what a turn of one queue comes to
+
+-- where there is room
+pub room_of : (n : ℕ) → (IsTrue true → n < full_wire) → n < full_wire
+room_of n some = some refl
+
+-- where there is none
+pub full_of : (n : ℕ) → (n < full_wire → IsTrue false) → full_wire ≤ n
+full_of n none = by (cases_lt n full_wire)
+  where
+    by : (n < full_wire) ⊎ (full_wire ≤ n) → full_wire ≤ n
+    by (inl less) = absurd (false≢true (none less))
+    by (inr more) = more
+
+pub on_err : {T E : Type 0} (r : Result T E) (A : Type 0) → true ≡ is_err r → OnErr r A → A
+on_err (Ok x) A e a = absurd (true≢false e)
+on_err (Err x) A e a = a
+
+pub on_ok : {T E : Type 0} (r : Result T E) (A : Type 0) → false ≡ is_err r → OnOk r A → A
+on_ok (Ok x) A e a = a
+on_ok (Err x) A e a = absurd (false≢true e)
+
+-- no item was taken by these further calls
+pub no_item : (asked rows : List BrokerRow) (any : Bool) → has_item rows ≡ false → any ≡ has_item asked → any ≡ has_item (asked ++ rows)
+no_item asked rows any none before =
+    before ∙ sym (list_any-append is_item asked rows ∙ ap (λ (b : Bool). has_item asked || b) none ∙ by (has_item asked))
+  where
+    by : (b : Bool) → (b || false) ≡ b
+    by true = refl
+    by false = refl
+
+-- an item was
+pub some_item : (asked rows : List BrokerRow) → has_item rows ≡ true → true ≡ has_item (asked ++ rows)
+some_item asked rows one = sym (list_any-append is_item asked rows ∙ ap (λ (b : Bool). has_item asked || b) one ∙ by (has_item asked))
+  where
+    by : (b : Bool) → (b || true) ≡ true
+    by true = refl
+    by false = refl
+
+-- what isn't zero
+pub some_left : (n : ℕ) → (n ≡ 0 → ⊥) → 0 < n
+some_left zero none = absurd (none refl)
+some_left (suc n) none = omega arith
+
+-- an item of these, or of those
+pub either_item : (asked later : List BrokerRow) (any more : Bool) → any ≡ has_item asked → more ≡ has_item later → (any || more) ≡ has_item (asked ++ later)
+either_item asked later any more first second =
+    ap (λ (b : Bool). b || more) first ∙ ap (λ (b : Bool). has_item asked || b) second ∙ sym (list_any-append is_item asked later)
+
+-- ---- queue after queue
+
+-- a queue that isn't emptied stops the others
+pub if_stopped : (t : Taking) (A B : Type 0) → (t ≡ Emptied → ⊥) → B → IfEmptied t A B
+if_stopped Emptied A B never b = absurd (never refl)
+if_stopped Stopped A B never b = b
+if_stopped (Failed why) A B never b = b
+
+-- one that is goes on
+pub if_emptied : (t : Taking) (A B : Type 0) → t ≡ Emptied → A → IfEmptied t A B
+if_emptied t A B e a = subst (λ (s : Taking). IfEmptied s A B) (sym e) a
+
+-- the back ones are emptied, and then the front ones are taken
+pub drains_both : (capacity : ℕ) (queues front back : List OpenSubState) → queues ≡ front ++ back → (first rest : List BrokerRow) (wire : List ℕ) (one end : Taking) (changed others : List OpenSubState) (between after : List ℕ) → one ≡ Emptied → DrainsAll capacity first back wire one changed between → DrainsAll capacity rest front between end others after → DrainsQueues capacity (first ++ rest) queues wire end (others ++ changed) after
+drains_both capacity queues front back cut first rest wire one end changed others between after emptied did then =
+    (front, back, cut, first, rest, refl, one, changed, others, between, did, refl, if_emptied one (DrainsAll capacity rest front between end others after) _ emptied then)
+
+-- the back ones aren't all emptied, and the front ones stay
+pub drains_back : (capacity : ℕ) (queues front back : List OpenSubState) → queues ≡ front ++ back → (asked : List BrokerRow) (wire : List ℕ) (end : Taking) (changed : List OpenSubState) (after : List ℕ) → (end ≡ Emptied → ⊥) → DrainsAll capacity asked back wire end changed after → DrainsQueues capacity asked queues wire end (front ++ changed) after
+drains_back capacity queues front back cut asked wire end changed after never did =
+    (front, back, cut, asked, [], sym (append-nil asked), end, changed, front, after, did, refl, if_stopped end (DrainsAll capacity [] front after end front after) _ never (refl, refl, refl, refl))
+
+-- what is said of the queues as they were lent, said of the connection's own
+pub drains_whole : (held capacity : ℕ) (asked : List BrokerRow) (lent queues : List OpenSubState) (before wire : List ℕ) (end : Taking) (new : List OpenSubState) (after : List ℕ) → held ≡ capacity → lent ≡ queues → before ≡ wire → DrainsQueues held asked lent before end new after → DrainsQueues capacity asked queues wire end new after
+drains_whole held capacity asked lent queues before wire end new after c q w drains =
+    subst (λ (n : ℕ). DrainsQueues n asked queues wire end new after) c (subst (λ (os : List OpenSubState). DrainsQueues held asked os wire end new after) q (subst (λ (t : List ℕ). DrainsQueues held asked lent t end new after) w drains))

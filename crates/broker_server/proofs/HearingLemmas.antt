@@ -1,0 +1,171 @@
+-- What stays, and what shrinks, where a connection takes frames.
+use Rattle.std.proofs.Common.{◌≡◌, ◌≢◌, inl, inr, IfOk, IfErr, IfSome, true, ℕ, ◌<◌, List, [], ◌∷◌, ◌++◌, length, Option, Some, None, Result, Ok, Err, refl, sym, ap, subst, ◌∙◌, append_assoc}
+use Rattle.std.specs.Prelude.{MatchOption}
+use Rattle.stomp_frame.specs.declared.case_fault.CaseFault.{CaseFault}
+use Rattle.stomp_frame.specs.declared.fault.Check.{Check}
+use Rattle.stomp_frame.specs.declared.fault.FrameFault.{FrameFault}
+use Rattle.stomp_frame.specs.declared.raw_frame.RawFrame.{RawFrame}
+use Rattle.stomp_frame.specs.Cases.{case_fault}
+use Rattle.stomp_frame.specs.Faults.{fault_of}
+use Rattle.stomp_frame.specs.Reader.{Unread, NextReturns, ReadsNext}
+use Rattle.stomp_frame.specs.Receipts.{receipt_of}
+use Rattle.stomp_frame.proofs.Whole.{shorter}
+use Rattle.stomp_session.specs.declared.action.Action.{Action}
+use Rattle.stomp_session.specs.declared.action.Action.TheVariants as actions
+use Rattle.stomp_session.specs.declared.action.Step.{Step}
+use Rattle.stomp_session.specs.Open.{SessionState}
+use Rattle.delivery.specs.Core.Outcomes.{is_any}
+use Rattle.delivery.specs.declared.open_endpoint.OpenEndpoint.{OpenEndpoint}
+use Rattle.delivery.specs.Core.State.{IsReadBy}
+use Rattle.delivery.specs.Core.Steps.{Reading}
+use Rattle.delivery.specs.Inner.Nexts.{JudgesReading}
+use Rattle.delivery.proofs.Views.Endpoints.OutcomeOfReading.{judged_idle}
+use Rattle.delivery.specs.declared.connection_fault.ConnectionFault.{ConnectionFault}
+use Rattle.delivery.specs.declared.connection_fault.ConnectionFault.TheVariants as connection
+use Rattle.broker_server.specs.declared.conversation.conversation_fault.ConversationFault.{ConversationFault}
+use Rattle.broker_server.specs.declared.conversation.conversation_fault.ConversationFault.TheVariants as fault
+use Rattle.broker_server.specs.BrokerRows.{BrokerRow}
+use Rattle.broker_server.specs.Conversations.{Acts, Answers, Concludes, ConversationState, Done, Fails, Performs, client_id}
+use Rattle.broker_server.specs.Hearing.{IsClientOf, Judges, ReadingFails, RefusesFrame, TakesFrame, TakesFrames}
+
+-- ---- what came and isn't read yet stays as a frame has its effect
+
+fails_reader : (why : ConversationFault) (receipt : Option (List ℕ)) (old new : ConversationState) → Fails why receipt old new → new.reader ≡ old.reader
+fails_reader why receipt old new (inl e) = ap (λ (s : ConversationState). s.reader) e
+fails_reader why receipt old new (inr e) = ap (λ (s : ConversationState). s.reader) e
+
+performs_reader : (action : Action) (client : Result (Option (List ℕ)) ConversationFault) (old : ConversationState) (asked : List BrokerRow) (result : Done) (new : ConversationState) → Performs action client old asked result new → new.reader ≡ old.reader
+performs_reader (actions.Connected id) (Err why) old asked result new (a, r, e) = ap (λ (s : ConversationState). s.reader) e
+performs_reader (actions.Connected id) (Ok client) old asked result new (inl (gate, a, r, e)) = ap (λ (s : ConversationState). s.reader) e
+performs_reader (actions.Connected id) (Ok client) old asked result new (inr (why, a, r, e)) = ap (λ (s : ConversationState). s.reader) e
+performs_reader actions.Nothing client old asked result new (a, r, e) = ap (λ (s : ConversationState). s.reader) e
+performs_reader (actions.Subscribe id topic) client old asked result new (inl (sub, a, r, e)) = ap (λ (s : ConversationState). s.reader) e
+performs_reader (actions.Subscribe id topic) client old asked result new (inr (inl (why, a, r, e))) = ap (λ (s : ConversationState). s.reader) e
+performs_reader (actions.Subscribe id topic) client old asked result new (inr (inr (a, r, e))) = ap (λ (s : ConversationState). s.reader) e
+performs_reader (actions.Unsubscribe id) client old asked result new (r, inl (front, back, o, cut, named, none, a, e)) = ap (λ (s : ConversationState). s.reader) e
+performs_reader (actions.Unsubscribe id) client old asked result new (r, inr (none, a, e)) = ap (λ (s : ConversationState). s.reader) e
+performs_reader (actions.Commit sends) client old asked result new (inl (gate, left, g, commits, e)) = ap (λ (s : ConversationState). s.reader) e
+performs_reader (actions.Commit sends) client old asked result new (inr (g, (a, r, e))) = ap (λ (s : ConversationState). s.reader) e
+performs_reader actions.Disconnect client old asked result new (a, r, e) = ap (λ (s : ConversationState). s.reader) e
+
+answers_reader : (frames : List RawFrame) (old : ConversationState) (asked : List BrokerRow) (new : ConversationState) → Answers frames old asked new → new.reader ≡ old.reader
+answers_reader frames old asked new (inl (a, e)) = ap (λ (s : ConversationState). s.reader) e
+answers_reader frames old asked new (inr (inl (any, a, none_yet, fails))) = fails_reader fault.NoReply None old new fails
+answers_reader frames old asked new (inr (inr (a, left, e))) = ap (λ (s : ConversationState). s.reader) e
+
+concludes_reader : (done : Done) (frames : List RawFrame) (receipt : Option (List ℕ)) (old : ConversationState) (asked : List BrokerRow) (new : ConversationState) → Concludes done frames receipt old asked new → new.reader ≡ old.reader
+concludes_reader (Ok u) frames receipt old asked new answers = answers_reader frames old asked new answers
+concludes_reader (Err why) frames receipt old asked new (a, fails) = fails_reader why receipt old new fails
+
+acts_reader : (step : Step) (client : Result (Option (List ℕ)) ConversationFault) (old : ConversationState) (asked : List BrokerRow) (new : ConversationState) → Acts step client old asked new → new.reader ≡ old.reader
+acts_reader step client old asked new a = concludes_reader a.result _ step.receipt a.between a.rest new a.concludes ∙ performs_reader step.action client old a.first a.result a.between a.performs
+
+judged_reader : (f : RawFrame) (o : Option CaseFault) (old : ConversationState) (asked : List BrokerRow) (new : ConversationState) → MatchOption o (Judges f old asked new) (λ why. RefusesFrame (fault.Connection (connection.Frame why)) f old asked new) → new.reader ≡ old.reader
+judged_reader f None old asked new (first, rest, cut, between, inl (step, client, accepts, is_client, acts)) = acts_reader step client between rest new acts ∙ ap (λ (s : ConversationState). s.reader) accepts.same
+judged_reader f None old asked new (first, rest, cut, between, inr (why, denies, (a, fails))) = fails_reader _ _ between new fails ∙ ap (λ (s : ConversationState). s.reader) denies.same
+judged_reader f (Some why) old asked new (a, fails) = fails_reader _ _ old new fails
+
+pub takes_reader : (f : RawFrame) (old : ConversationState) (asked : List BrokerRow) (new : ConversationState) → TakesFrame f old asked new → new.reader ≡ old.reader
+takes_reader f old asked new takes = judged_reader f (case_fault f) old asked new takes
+
+-- ---- a frame that is read makes what isn't read shorter
+
+shorter_by : (r left : Unread) (f : RawFrame) (answered : Option Check) → MatchOption answered (ReadsNext r (Ok (Some f)) left) (λ k. (Ok (Some f) ≡ Err (fault_of k)) × (left ≡ r)) → length left.text < length r.text
+shorter_by r left f None (others, begins, e) =
+    subst (λ (u : Unread). length u.text < length r.text) (sym e) (shorter r.limits r.text f others begins)
+shorter_by r left f (Some k) (e, same) = absurd cc
+
+pub one_shorter : (f : RawFrame) (old : ConversationState) (asked : List BrokerRow) (new : ConversationState) → TakesFrames (f ∷ []) old asked new → length new.reader.text < length old.reader.text
+one_shorter f old asked new (none_yet, left, reads, between, first, rest, cut, takes, (none, e)) =
+    let same : new.reader ≡ left = ap (λ (s : ConversationState). s.reader) e ∙ takes_reader f (record old { reader = left }) first between takes in
+    subst (λ (u : Unread). length u.text < length old.reader.text) (sym same) (shorter_by old.reader left f old.reader.answered reads)
+
+-- ---- frames, one after the other
+
+-- these frames, and then those
+pub takes_on : (frames more : List RawFrame) (old : ConversationState) (asked : List BrokerRow) (mid : ConversationState) (later : List BrokerRow) (new : ConversationState) → TakesFrames frames old asked mid → TakesFrames more mid later new → TakesFrames (frames ++ more) old (asked ++ later) new
+takes_on [] more old asked mid later new (none, e) next =
+    subst (λ (rows : List BrokerRow). TakesFrames more old (rows ++ later) new) (sym none) (subst (λ (s : ConversationState). TakesFrames more s later new) e next)
+takes_on (f ∷ frames) more old asked mid later new (none_yet, left, reads, between, first, rest, cut, takes, then) next =
+    (none_yet, left, reads, between, first, rest ++ later, ap (λ (rows : List BrokerRow). rows ++ later) cut ∙ append_assoc first rest later, takes, takes_on frames more between rest mid later new then next)
+
+-- ---- what is said of a frame, said of the same one as it came
+
+pub client_as : (f g : RawFrame) → g ≡ f → (r : Result (Option (List ℕ)) ConversationFault) → IfOk r (λ id. id ≡ client_id g) → IfErr r (λ why. why ≡ fault.NoMemory) → IsClientOf f r
+client_as f g same (Ok client) ok err = ok ∙ ap client_id same
+client_as f g same (Err why) ok err = err
+
+pub refused_as : (f g : RawFrame) → g ≡ f → (r : Option (List ℕ)) → r ≡ receipt_of g → (why : ConversationFault) (old new : ConversationState) → Fails why r old new → Fails why (receipt_of f) old new
+refused_as f g same r asks why old new fails = subst (λ (o : Option (List ℕ)). Fails why o old new) (asks ∙ ap receipt_of same) fails
+
+-- a client's frame is taken as the session judges it
+pub takes_judged : (f : RawFrame) (old : ConversationState) (asked : List BrokerRow) (new : ConversationState) → case_fault f ≡ None → Judges f old asked new → TakesFrame f old asked new
+takes_judged f old asked new none judges =
+    subst (λ (o : Option CaseFault). MatchOption o (Judges f old asked new) (λ why. RefusesFrame (fault.Connection (connection.Frame why)) f old asked new)) (sym none) judges
+
+-- what is left of a reader that failed
+pub reading_fails : (why : FrameFault) (old left : Unread) → (why ≢ FrameFault.NoMemory → NextReturns old (Err why) left) → (why ≡ FrameFault.NoMemory → (left ≡ old) × (is_any old.text ≡ true)) → ReadingFails why old left
+reading_fails FrameFault.NoMemory old left answer same = same refl
+reading_fails FrameFault.BadCommand old left answer same = answer (λ e. cc)
+reading_fails FrameFault.BadLine old left answer same = answer (λ e. cc)
+reading_fails FrameFault.BadHeader old left answer same = answer (λ e. cc)
+reading_fails FrameFault.BadEscape old left answer same = answer (λ e. cc)
+reading_fails FrameFault.BadText old left answer same = answer (λ e. cc)
+reading_fails FrameFault.BadLength old left answer same = answer (λ e. cc)
+reading_fails FrameFault.BadEnd old left answer same = answer (λ e. cc)
+reading_fails FrameFault.LineTooLong old left answer same = answer (λ e. cc)
+reading_fails FrameFault.TooManyHeaders old left answer same = answer (λ e. cc)
+reading_fails FrameFault.BodyTooLong old left answer same = answer (λ e. cc)
+
+-- ---- what isn't so
+
+pub not_lacking : (why : ConnectionFault) → fault.Connection why ≡ fault.NoMemory → ⊥
+not_lacking why e = cc
+
+pub not_asked : (row : BrokerRow) → row ∷ [] ≡ [] → ⊥
+not_asked row e = cc
+
+-- ---- nothing is unread
+
+no_such_fault : (k : Check) → FrameFault.NoMemory ≡ fault_of k → ⊥
+no_such_fault Check.BadCommand e = cc
+no_such_fault Check.BadLine e = cc
+no_such_fault Check.BadHeader e = cc
+no_such_fault Check.BadEscape e = cc
+no_such_fault Check.BadText e = cc
+no_such_fault Check.BadLength e = cc
+no_such_fault Check.BadEnd e = cc
+no_such_fault Check.LineTooLong e = cc
+no_such_fault Check.TooManyHeaders e = cc
+no_such_fault Check.BodyTooLong e = cc
+
+-- an endpoint that waits, and is as before, has a reader that found no frame
+waits_still : (old : OpenEndpoint) (reading : Reading) → IsReadBy old.reader reading → JudgesReading [] [] old reading (Ok None) old [] → ReadsNext old.reader (Ok None) old.reader
+waits_still old (Reading.Waits left) read (same, names) =
+    subst (λ (u : Unread). ReadsNext old.reader (Ok None) u) (sym (ap (λ (o : OpenEndpoint). o.reader) same)) read
+waits_still old Reading.Nothing read judged = absurd judged
+waits_still old (Reading.Finds f left) read judged = absurd judged
+waits_still old (Reading.Fails k left) read judged = absurd judged
+
+-- what `next` returns where the reader returned this fault before, or none
+answers_by : Unread → Result (Option RawFrame) FrameFault → Unread → Option Check → Type 0
+answers_by old result new before = MatchOption before (ReadsNext old result new) (λ k. (result ≡ Err (fault_of k)) × (new ≡ old))
+
+-- a reader of no text that found no memory would have found no frame
+pub nothing_read : (s : SessionState) (r left : Unread) (result : Result (Option RawFrame) FrameFault) → result ≡ Err FrameFault.NoMemory → IfSome r.answered (λ k. NextReturns r result left) → left ≡ r → r.text ≡ [] → NextReturns r (Ok None) left
+unfolding answers_by
+nothing_read s r left result lacks again same none = subst (λ (u : Unread). NextReturns r (Ok None) u) (sym same) (by r.answered refl again)
+  where
+    by : (o : Option Check) → r.answered ≡ o → IfSome o (λ k. NextReturns r result left) → NextReturns r (Ok None) r
+    by None at told =
+        let old : OpenEndpoint = record { reader = r; session = s; receipt = None } in
+        let idle = judged_idle [] [] old none in
+        subst (answers_by r (Ok None) r) (sym at) (waits_still old idle.reading idle.read idle.judged)
+    by (Some k) at told =
+        let answer : (result ≡ Err (fault_of k)) × (left ≡ r) =
+        subst (answers_by r result left) at told in
+        absurd (no_such_fault k (let e = sym lacks ∙ answer.0 in cc))
+
+-- some text is unread where it isn't none
+pub some_unread : (r left : Unread) → is_any left.text ≡ true → left ≡ r → is_any r.text ≡ true
+some_unread r left some same = subst (λ (u : Unread). is_any u.text ≡ true) same some

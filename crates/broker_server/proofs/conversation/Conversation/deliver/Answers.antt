@@ -1,0 +1,105 @@
+use Rattle.std.proofs.Common.{◌≡◌, rules, List, true, false, [], ◌++◌, None, refl, sym, ap, subst, ◌∙◌, inr, append-nil}
+use Rattle.std.proofs.lemmas.List.{places, with_items_is}
+use Rattle.std.specs.Vec.{with_items}
+use Rattle.broker_server.specs.declared.conversation.drained.Taking.{Taking}
+use Rattle.broker_server.specs.BrokerRows.{Asks}
+use Rattle.broker_server.specs.Conversations.{ConversationState, Fails, OpenSubState, closing_rows}
+use Rattle.broker_server.specs.Delivering.{Settles, has_item}
+use Rattle.broker_server.proofs.ConversationLemmas.{asks_on}
+use Rattle.broker_server.proofs.DeliveringLemmas.{drains_whole}
+use Rattle.broker_server.proofs.conversation.Conversation.deliver.Goals as goal
+
+pub returns-in-Emptied : goal.returns-in-Emptied
+returns-in-Emptied g c =
+    let held = c.self.inside in
+    let did = c.drain_queues-next.ensures in
+    let new = c.drain_queues-next.new in
+    let end = c.drain_queues-next.result.0.end in
+    let with : List OpenSubState → ConversationState = λ subs. record {
+      reader = held.reader;
+      session = held.session;
+      names = held.names;
+      gate = held.gate;
+      subs = subs;
+      wire = new.wire;
+      exit = held.exit;
+      more = false;
+      capacity = held.capacity;
+    } in
+    let old = c.args.self.now in
+    let after : ConversationState = record old { subs = new.queues; wire = new.wire } in
+    let left = with (with_items held.subs new.queues).items in
+    let changed : left ≡ record after { more = false } =
+    ap with (with_items_is held.subs new.queues (search (rules, places)))
+    ∙ ap (λ (s : ConversationState). record s { subs = new.queues; wire = new.wire; more = false }) c.self.view_is in
+    let drains = drains_whole held.capacity old.capacity did.0 c.as_mut_slice-queues.result.now old.subs held.wire old.wire end new.queues new.wire
+    (ap (λ (s : ConversationState). s.capacity) c.self.view_is) (c.as_mut_slice-queues.ensures.value ∙ ap (λ (s : ConversationState). s.subs) c.self.view_is) (ap (λ (s : ConversationState). s.wire) c.self.view_is) did.2 in
+    let any = c.drain_queues-next.result.0.any in
+    let settles = subst (λ (t : Taking). Settles t (has_item did.0) after [] any left) (sym c.in-Emptied.is) (refl, did.3, changed) in
+    (did.0, did.1, inr (search rules, did.0, [], sym (append-nil did.0), end, new.queues, new.wire, drains, settles))
+
+pub returns-in-Stopped : goal.returns-in-Stopped
+returns-in-Stopped g c =
+    let held = c.self.inside in
+    let did = c.drain_queues-next.ensures in
+    let new = c.drain_queues-next.new in
+    let end = c.drain_queues-next.result.0.end in
+    let with : List OpenSubState → ConversationState = λ subs. record {
+      reader = held.reader;
+      session = held.session;
+      names = held.names;
+      gate = held.gate;
+      subs = subs;
+      wire = new.wire;
+      exit = held.exit;
+      more = true;
+      capacity = held.capacity;
+    } in
+    let old = c.args.self.now in
+    let after : ConversationState = record old { subs = new.queues; wire = new.wire } in
+    let left = with (with_items held.subs new.queues).items in
+    let changed : left ≡ record after { more = true } =
+    ap with (with_items_is held.subs new.queues (search (rules, places)))
+    ∙ ap (λ (s : ConversationState). record s { subs = new.queues; wire = new.wire; more = true }) c.self.view_is in
+    let drains = drains_whole held.capacity old.capacity did.0 c.as_mut_slice-queues.result.now old.subs held.wire old.wire end new.queues new.wire
+    (ap (λ (s : ConversationState). s.capacity) c.self.view_is) (c.as_mut_slice-queues.ensures.value ∙ ap (λ (s : ConversationState). s.subs) c.self.view_is) (ap (λ (s : ConversationState). s.wire) c.self.view_is) did.2 in
+    let any = c.drain_queues-next.result.0.any in
+    let settles = subst (λ (t : Taking). Settles t (has_item did.0) after [] any left) (sym c.in-Stopped.is) (refl, did.3, changed) in
+    (did.0, did.1, inr (search rules, did.0, [], sym (append-nil did.0), end, new.queues, new.wire, drains, settles))
+
+pub returns-in-Failed : goal.returns-in-Failed
+returns-in-Failed g c =
+    let called = g.C.BrokerCalls.called in
+    let held = c.self.inside in
+    let did = c.drain_queues-next.ensures in
+    let new = c.drain_queues-next.new in
+    let end = c.drain_queues-next.result.0.end in
+    let with : List OpenSubState → ConversationState = λ subs. record {
+      reader = held.reader;
+      session = held.session;
+      names = held.names;
+      gate = held.gate;
+      subs = subs;
+      wire = new.wire;
+      exit = held.exit;
+      more = false;
+      capacity = held.capacity;
+    } in
+    let old = c.args.self.now in
+    let after : ConversationState = record old { subs = new.queues; wire = new.wire } in
+    let left = with (with_items held.subs new.queues).items in
+    let changed : left ≡ record after { more = false } =
+    ap with (with_items_is held.subs new.queues (search (rules, places)))
+    ∙ ap (λ (s : ConversationState). record s { subs = new.queues; wire = new.wire; more = false }) c.self.view_is in
+    let drains = drains_whole held.capacity old.capacity did.0 c.as_mut_slice-queues.result.now old.subs held.wire old.wire end new.queues new.wire
+    (ap (λ (s : ConversationState). s.capacity) c.self.view_is) (c.as_mut_slice-queues.ensures.value ∙ ap (λ (s : ConversationState). s.subs) c.self.view_is) (ap (λ (s : ConversationState). s.wire) c.self.view_is) did.2 in
+    let why = c.in-Failed.fault in
+    let last = c.fail.new in
+    let rest = closing_rows after in
+    let rows = subst (λ (s : ConversationState). Asks called new.calls (closing_rows s) last.calls) changed c.fail.ensures.rows in
+    let fails = subst (λ (s : ConversationState). Fails why None s last.self) changed c.fail.ensures.fails in
+    let settles = subst (λ (t : Taking). Settles t (has_item did.0) after rest true last.self) (sym c.in-Failed.is) (refl, refl, fails) in (
+      did.0 ++ rest,
+      asks_on called c.args.calls.now new.calls last.calls did.0 rest did.1 rows,
+      inr (search rules, did.0, rest, refl, end, new.queues, new.wire, drains, settles),
+    )

@@ -1,0 +1,49 @@
+use Rattle.std.proofs.Common.{◌++◌, refl, inl, inr, ap, ◌∙◌, subst}
+use Rattle.stomp_frame.specs.declared.client_frame.ClientFrame.{ClientFrame}
+use Rattle.stomp_frame.specs.declared.raw_frame.RawFrame.{RawFrame}
+use Rattle.stomp_frame.specs.ClientFrames.{raw_of}
+use Rattle.stomp_frame.specs.Receipts.{receipt_of}
+use Rattle.broker_server.specs.Conversations.{closing_rows}
+use Rattle.broker_server.specs.Hearing.{AcceptsFrame, DeniesFrame}
+use Rattle.broker_server.proofs.ConversationLemmas.{asks_on}
+use Rattle.broker_server.proofs.HearingLemmas.{client_as, refused_as, takes_judged}
+use Rattle.broker_server.proofs.conversation.Conversation.take_frame.Goals as goal
+
+pub returns-in-Ok-judge : goal.returns-in-Ok-judge
+returns-in-Ok-judge g c =
+    let called = g.C.BrokerCalls.called in
+    let f = c.args.frame in
+    let came = c.in-Ok.frame in
+    let same = c.in-Ok.ensures.accepted.0 in
+    let old = c.args.self.now in
+    let judged = c.in-Ok-judge.ensures.accepted in
+    let between = c.judge.new.self in
+    let did = c.act.ensures in
+    let step = c.in-Ok-judge.step in
+    let accepts = subst (λ (h : RawFrame). AcceptsFrame h step old judged.0 between) same judged.2 in
+    let client = client_as f (raw_of came) same c.client_of-client.result c.client_of-client.ensures.value c.client_of-client.ensures.fault in (
+      judged.0 ++ did.0,
+      asks_on called c.args.calls.now c.judge.new.calls c.act.new.calls judged.0 did.0 judged.1 did.1,
+      takes_judged f old (judged.0 ++ did.0) c.act.new.self c.in-Ok.ensures.accepted.1
+          (judged.0, did.0, refl, between, inl (step, c.client_of-client.result, accepts, client, did.2)),
+    )
+
+pub returns-in-Err-judge : goal.returns-in-Err-judge
+returns-in-Err-judge g c =
+    let called = g.C.BrokerCalls.called in
+    let f = c.args.frame in
+    let came = c.in-Ok.frame in
+    let same = c.in-Ok.ensures.accepted.0 in
+    let old = c.args.self.now in
+    let e = c.in-Err-judge in
+    let judged = e.ensures.refused in
+    let between = c.judge.new.self in
+    let new = c.fail-in-Err-judge.new in
+    let rest = closing_rows between in
+    let asks = c.receipt-in-Err-judge.ensures.value ∙ ap (λ (frame : ClientFrame). receipt_of (raw_of frame)) e.ensures.back in
+    let denies = subst (λ (h : RawFrame). DeniesFrame h e.fault old judged.0 between) same judged.2 in (
+      judged.0 ++ rest,
+      asks_on called c.args.calls.now c.judge.new.calls new.calls judged.0 rest judged.1 c.fail-in-Err-judge.ensures.rows,
+      takes_judged f old (judged.0 ++ rest) new.self c.in-Ok.ensures.accepted.1
+          (judged.0, rest, refl, between, inr (e.fault, denies, (refl, refused_as f (raw_of came) same _ asks e.fault between new.self c.fail-in-Err-judge.ensures.fails))),
+    )

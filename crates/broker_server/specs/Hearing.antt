@@ -1,0 +1,125 @@
+-- What one connection of the server does with what comes.
+use Rattle.std.specs.Prelude.{◌≡◌, ◌⊎◌, ℕ, true, false, List, [], ◌∷◌, ◌++◌, codes, Some, None, IsSome, MatchOption, Ok, Err}
+use Rattle.stomp_frame.specs.declared.fault.FrameFault.{FrameFault}
+use Rattle.stomp_frame.specs.declared.raw_frame.RawFrame.{RawFrame}
+use Rattle.stomp_frame.specs.Cases.{case_fault}
+use Rattle.stomp_frame.specs.Reader.{Unread, NextReturns, with_piece}
+use Rattle.stomp_frame.specs.Receipts.{receipt_of}
+use Rattle.stomp_session.specs.declared.action.Step.{Step}
+use Rattle.stomp_session.specs.Frames.{field, has_destination}
+use Rattle.stomp_session.specs.Names.{is_known}
+use Rattle.stomp_session.specs.Open.{IsKnownTo}
+use Rattle.delivery.specs.declared.connection_fault.ConnectionFault.TheVariants as connection
+use Rattle.delivery.specs.Core.Outcomes.{is_any}
+use Rattle.broker_server.specs.declared.conversation.conversation_fault.ConversationFault.{ConversationFault}
+use Rattle.broker_server.specs.declared.conversation.conversation_fault.ConversationFault.TheVariants as fault
+use Rattle.broker_server.specs.BrokerRows.{BrokerRow, LooksUp}
+use Rattle.broker_server.specs.ConversationFaults.{reader_fault}
+use Rattle.broker_server.specs.Conversations.{Acts, ClientRead, ConversationState, Fails, client_id, closing_rows}
+use Rattle.broker_server.specs.Judging.{Grows, IsAccepted, IsRefused}
+
+-- ---- one frame
+
+-- The connection leaves by a fault of this frame, with the receipt that the frame asks for.
+abbrev pub RefusesFrame
+    : ConversationFault → RawFrame → ConversationState → List BrokerRow → ConversationState → Type 0
+RefusesFrame why f old asked new = (asked ≡ closing_rows old) × Fails why (receipt_of f) old new
+
+-- the client-id of the frame, where there was memory for it
+abbrev pub IsClientOf : RawFrame → ClientRead → Type 0
+IsClientOf f (Ok client) = client ≡ client_id f
+IsClientOf f (Err why) = why ≡ fault.NoMemory
+
+-- its destination is none of these names
+abbrev pub IsNewTo : List (List ℕ) → RawFrame → Type 0
+IsNewTo names f =
+    (has_destination f.command ≡ true) × (is_known (field (codes "destination") f) names ≡ false)
+
+-- By which names a frame is judged. Where the connection knows its destination, by those that it knows, and
+-- nothing is asked; else all are looked up first. So one that knows A asks nothing at a SEND to A, and looks
+-- up at a SEND to B.
+abbrev pub Looks
+    : RawFrame → ConversationState → List BrokerRow → List (List ℕ) → List (List ℕ) → Type 0
+Looks f old asked known names =
+    (IsKnownTo old.names f × (asked ≡ []) × (known ≡ old.names))
+    ⊎ (IsNewTo old.names f × (asked ≡ LooksUp old.names names ∷ []) × Grows old.names known)
+
+-- The session accepts the frame, by the names that the connection knows or that are looked up.
+pub record AcceptsFrame
+    (f : RawFrame) (step : Step) (old : ConversationState) (asked : List BrokerRow) (new : ConversationState)
+    : Type 0 where
+  pub known : List (List ℕ)
+  pub looks : Looks f old asked known new.names
+  pub accepted : IsAccepted f step old.session known new.session new.names
+  pub same : new ≡ record old { session = new.session; names = new.names }
+
+-- The session refuses the frame by this, by those names; or there was no memory for a name, where all were
+-- looked up. Where none was looked up, they stay.
+pub record DeniesFrame
+    (f : RawFrame) (why : ConversationFault) (old : ConversationState) (asked : List BrokerRow)
+    (new : ConversationState)
+    : Type 0 where
+  pub known : List (List ℕ)
+  pub looks : Looks f old asked known new.names
+  pub refused : IsRefused f why old.session known
+  pub lacks : why ≡ fault.NoMemory → IsNewTo old.names f
+  pub stay : asked ≡ [] → new.names ≡ old.names
+  pub same : new ≡ record old { session = new.session; names = new.names }
+
+-- What the session makes of a client's frame: it is accepted, and what it asks for is done and answered; or
+-- it is refused, and the connection leaves.
+abbrev pub Judges : RawFrame → ConversationState → List BrokerRow → ConversationState → Type 0
+Judges f old asked new =
+    (first rest : List BrokerRow) × (asked ≡ first ++ rest) × (between : ConversationState)
+    × (((step : Step) × (client : ClientRead)
+    × AcceptsFrame f step old first between × IsClientOf f client × Acts step client between rest new)
+    ⊎ ((why : ConversationFault) × DeniesFrame f why old first between × RefusesFrame why f between rest new))
+
+-- A frame is taken: the case table refuses it, or the session judges it. So an ACK is answered by an ERROR
+-- `21 Unsupported`, whatever the session is, and the connection leaves.
+abbrev pub TakesFrame : RawFrame → ConversationState → List BrokerRow → ConversationState → Type 0
+TakesFrame f old asked new =
+    MatchOption (case_fault f) (Judges f old asked new)
+    (λ why. RefusesFrame (fault.Connection (connection.Frame why)) f old asked new)
+
+-- ---- the frames of a stream
+
+-- These frames are taken, one after the other: each is the next of the stream, and the connection doesn't
+-- leave before it is read.
+abbrev pub TakesFrames : List RawFrame → ConversationState → List BrokerRow → ConversationState → Type 0
+TakesFrames [] old asked new = (asked ≡ []) × (new ≡ old)
+TakesFrames (f ∷ fs) old asked new =
+    (old.exit ≡ None) × (left : Unread) × NextReturns old.reader (Ok (Some f)) left
+    × (between : ConversationState) × (first rest : List BrokerRow) × (asked ≡ first ++ rest)
+    × TakesFrame f (record old { reader = left }) first between × TakesFrames fs between rest new
+
+-- what is left of a reader that fails; there is no want of memory where nothing is unread
+abbrev pub ReadingFails : FrameFault → Unread → Unread → Type 0
+ReadingFails FrameFault.NoMemory old left = (left ≡ old) × (is_any old.text ≡ true)
+ReadingFails why old left = NextReturns old (Err why) left
+
+-- Nothing more is taken: the connection leaves; or no frame of the stream is whole, so that a half of a SEND
+-- waits for its other half; or what follows is none, and the connection leaves by that.
+abbrev pub Rests : ConversationState → List BrokerRow → ConversationState → Type 0
+Rests old asked new =
+    (IsSome old.exit × (asked ≡ []) × (new ≡ old))
+    ⊎ ((old.exit ≡ None) × (left : Unread) × NextReturns old.reader (Ok None) left
+    × (asked ≡ []) × (new ≡ record old { reader = left }))
+    ⊎ ((old.exit ≡ None) × (why : FrameFault) × (left : Unread) × ReadingFails why old.reader left
+    × (asked ≡ closing_rows old) × Fails (reader_fault why) None (record old { reader = left }) new)
+
+-- the frames of the stream are taken until nothing more is
+abbrev pub TakesAll : ConversationState → List BrokerRow → ConversationState → Type 0
+TakesAll old asked new =
+    (frames : List RawFrame) × (between : ConversationState) × (first rest : List BrokerRow)
+    × (asked ≡ first ++ rest) × TakesFrames frames old first between × Rests between rest new
+
+-- A piece comes. One that leaves drops it; without memory for it the connection leaves; else it is put to the
+-- stream, and the frames that are whole then are taken. So where `SEND`, a frame that the session refuses,
+-- and a second `SEND` come at once, one flight is committed, an ERROR is the last that is written, and the
+-- second isn't read.
+abbrev pub Hears : List ℕ → ConversationState → List BrokerRow → ConversationState → Type 0
+Hears piece old asked new =
+    (IsSome old.exit × (asked ≡ []) × (new ≡ old))
+    ⊎ ((old.exit ≡ None) × (asked ≡ closing_rows old) × Fails fault.NoMemory None old new)
+    ⊎ ((old.exit ≡ None) × TakesAll (record old { reader = with_piece old.reader piece }) asked new)

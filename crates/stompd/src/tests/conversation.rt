@@ -1,0 +1,8 @@
+//! One connection of the server without its socket, over a broker of one thread that keeps what it is asked.
+
+mod ends;
+mod fake;
+mod faults;
+mod items;
+mod pieces;
+mod talk;

@@ -1,0 +1,233 @@
+//! A broker of one thread, which keeps what it is asked.
+
+ghost use Rattle.std.specs.Prelude.{◌≡◌};
+
+use broker_locks::CommitFault;
+use broker_server::{BrokerCalls, ConversationFault};
+use delivery::ConnectionFault;
+use mcast_group::SubFault;
+use mcast_txn::{Part, Released, Sender, Stamp, Ticket, Topic};
+use sender_gate::{ClaimFault, Flying, Gate};
+use std::alloc::Global;
+use std::sync::Arc;
+use stomp_frame::ClientFrame;
+use stomp_session::{Names, Session, Step};
+
+/// A call, and what it was answered.
+#[derive(Clone, Copy, Debug, PartialEq, Eq)]
+pub(super) enum Row {
+    /// A sender was to be claimed; whether it was.
+    Claims(bool),
+    GivesBack,
+    /// A subscription was to begin at this topic; whether it did.
+    Subscribes(u32, bool),
+    Unsubscribes(u64),
+    /// Whether this subscription has lagged.
+    AsksLag(u64, bool),
+    /// Whether an item of this subscription was there.
+    Takes(u64, bool),
+    /// A transaction was to be committed; whether it was.
+    Commits(bool),
+}
+
+/// What the broker refuses, and when it says that a subscription has lagged.
+#[derive(Clone, Copy, Drop)]
+pub(super) struct Plan {
+    pub(super) claim: Option<ClaimFault>,
+    pub(super) subscribe: Option<SubFault>,
+    pub(super) commit: Option<CommitFault>,
+    /// The number of the sender's last transaction.
+    pub(super) seq: u64,
+    /// Whether it says of each subscription that it has lagged.
+    pub(super) lags: bool,
+    /// So many items are there before a lag is asked for; the others come then.
+    pub(super) early: u64,
+}
+
+/// Nothing is refused.
+pub(super) const WILLING: Plan = Plan {
+    claim: None,
+    subscribe: None,
+    commit: None,
+    seq: 0,
+    lags: false,
+    early: u64::MAX,
+};
+
+/// A subscription of the fake broker.
+#[derive(Drop)]
+pub(super) struct FakeSub {
+    topic: Topic,
+    number: u64,
+}
+
+/// A broker of one connection, which commits to the first two topics that it names.
+#[derive(Drop)]
+pub(super) struct Fake {
+    alloc: Global,
+    plan: Plan,
+    pub(super) rows: Vec<Row>,
+    /// The open subscriptions: the topic of each, and its number.
+    open: Vec<(u32, u64)>,
+    /// What wasn't taken: the subscription of each item.
+    items: Vec<(u64, Released)>,
+    subs: u64,
+    clock: u64,
+    taken: u64,
+    asked: bool,
+}
+
+impl Fake {
+    pub(super) fn new(alloc: Global, plan: Plan) -> Fake {
+        Fake {
+            alloc,
+            plan,
+            rows: Vec::new(alloc),
+            open: Vec::new(alloc),
+            items: Vec::new(alloc),
+            subs: 0,
+            clock: 0,
+            taken: 0,
+            asked: false,
+        }
+    }
+
+    /// Keeps a row. One that is lost for want of memory is found missing.
+    fn note(&mut self, row: Row) {
+        let _ = self.rows.push(row);
+    }
+
+    /// Queues a part for each subscription at its topic.
+    fn release(&mut self, part: &Arc<Part>, stamp: Stamp) {
+        for &(topic, number) in self.open.as_slice() {
+            if topic == part.topic.0
+                && let Ok(part) = part.clone()
+            {
+                let _ = self.items.push((number, Released { part, stamp }));
+            }
+        }
+    }
+
+    /// The ticket of this topic, with the part that was taken out for it.
+    fn enter(&mut self, flying: &mut Flying, parts: &mut Vec<Arc<Part>>, topic: Topic)
+        ensures { flying.new.state.id ≡ flying.old.state.id }
+    {
+        if let Some(part) = flying.part(topic) {
+            let (id, n) = (part.id, self.clock.saturating_add(1));
+            self.clock = n;
+            let _ = flying.put(Ticket { id, topic, n });
+            let _ = parts.push(part);
+        }
+    }
+
+    /// The place of the next item of a subscription that may be taken now.
+    fn next(&self, number: u64) -> Option<usize> {
+        if self.taken >= self.plan.early && !self.asked {
+            return None;
+        }
+        self.items.iter().position(|item| item.0 == number)
+    }
+}
+
+impl BrokerCalls for Fake {
+    ghost use Rattle.broker_server.specs.BrokerRows.{SubName};
+
+    type Sub = FakeSub;
+
+    // The rows are compared as they run.
+    ghost called = { λ old row new. Unit {0} };
+
+    ghost name = { λ sub. record { topic = sub.topic; number = sub.number } };
+
+    fn step(
+        &mut self,
+        session: &mut Session,
+        frame: ClientFrame,
+        names: &mut Names,
+    ) -> Result<Step, (ClientFrame, ConversationFault)> {
+        match session.step(frame, names) {
+            Ok(step) => Ok(step),
+            Err((frame, fault)) => {
+                let fault = ConversationFault::Connection(ConnectionFault::Session(fault));
+                Err((frame, fault))
+            }
+        }
+    }
+
+    fn claim(&mut self, _client: Option<&[u8]>) -> Result<Gate, ClaimFault> {
+        let refusal = self.plan.claim;
+        self.note(Row::Claims(refusal.is_none()));
+        match refusal {
+            Some(fault) => Err(fault),
+            None => Ok(Gate::resume(Sender(0), self.plan.seq, Stamp::ZERO)),
+        }
+    }
+
+    fn give_back(&mut self, gate: Gate) {
+        drop(gate);
+        self.note(Row::GivesBack);
+    }
+
+    fn subscribe(&mut self, topic: Topic) -> Result<FakeSub, SubFault> {
+        let refusal = self.plan.subscribe;
+        self.note(Row::Subscribes(topic.0, refusal.is_none()));
+        if let Some(fault) = refusal {
+            return Err(fault);
+        }
+        let number = self.subs;
+        self.subs = number.saturating_add(1);
+        if self.open.push((topic.0, number)).is_err() {
+            return Err(SubFault::NoMemory);
+        }
+        Ok(FakeSub { topic, number })
+    }
+
+    fn unsubscribe(&mut self, sub: FakeSub) {
+        self.note(Row::Unsubscribes(sub.number));
+        let found = self.open.iter().position(|open| open.1 == sub.number);
+        if let Some(at) = found
+            && at < self.open.len()
+        {
+            self.open.remove(at);
+        }
+    }
+
+    fn has_lagged(&mut self, sub: &FakeSub) -> bool {
+        self.note(Row::AsksLag(sub.number, self.plan.lags));
+        self.asked = true;
+        self.plan.lags
+    }
+
+    fn take(&mut self, sub: &mut FakeSub) -> Option<Released> {
+        let next = self.next(sub.number);
+        self.note(Row::Takes(sub.number, next.is_some()));
+        let at = next?;
+        if at >= self.items.len() {
+            return None;
+        }
+        self.taken = self.taken.saturating_add(1);
+        Some(self.items.remove(at).1)
+    }
+
+    fn commit(&mut self, flying: Flying) -> Result<Gate, (Gate, CommitFault)> {
+        let refusal = self.plan.commit;
+        self.note(Row::Commits(refusal.is_none()));
+        if let Some(fault) = refusal {
+            return Err((flying.withdraw().0, fault));
+        }
+        let mut flying = flying;
+        let mut parts = Vec::new(self.alloc);
+        self.enter(&mut flying, &mut parts, Topic(0));
+        self.enter(&mut flying, &mut parts, Topic(1));
+        match flying.decide() {
+            Ok((gate, verdict)) => {
+                let stamp = verdict.stamp();
+                for part in parts.as_slice() {
+                    self.release(part, stamp);
+                }
+                Ok(gate)
+            }
+            Err((flying, _)) => Err((flying.withdraw().0, CommitFault::NoMemory)),
+        }
+    }
+}

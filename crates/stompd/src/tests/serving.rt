@@ -1,0 +1,16 @@
+//! The server on loopback, each test with a port that the system chooses.
+
+mod client;
+mod drawn;
+mod ending;
+mod errors;
+mod lines;
+mod logged;
+mod made;
+mod many;
+mod memory;
+mod orders;
+mod peers;
+mod served;
+mod sizes;
+mod slow;

@@ -1,0 +1,173 @@
+//! Topics that are made on first use.
+
+use super::client::Client;
+use super::lines::Lines;
+use super::served::{Peers, quiet, serves};
+use std::alloc::Global;
+
+/// How many topics are there when a server begins.
+const OPENING: u32 = 3;
+
+/// How many topics two connections name at once.
+const NAMES: u32 = 1_000;
+
+/// How many topics there are at most.
+const MOST: u32 = 1_024;
+
+/// A SEND to the topic of this name, if it finds memory, that asks for a receipt.
+fn send_to(alloc: Global, name: u32) -> Option<String> {
+    format!(in alloc; "SEND\ndestination:new.{name}\nreceipt:r\n\nhi\0").ok()
+}
+
+/// A SUBSCRIBE to it.
+fn subscribe_to(alloc: Global, name: u32) -> Option<String> {
+    format!(in alloc; "SUBSCRIBE\nid:s\ndestination:new.{name}\nreceipt:s\n\n\0").ok()
+}
+
+/// The MESSAGE of its first or its second SEND there, where its sender sent twice to each topic before: the topics were
+/// made in their order, and a sender's stamps grow over all of them.
+fn message_of(alloc: Global, name: u32, of_second: bool) -> Option<String> {
+    let topic = OPENING.checked_add(name)?;
+    let number = name
+        .checked_mul(2)?
+        .checked_add(if of_second { 2 } else { 1 })?;
+    format!(in alloc;
+        "MESSAGE\nsubscription:s\nmessage-id:{number}.{topic}.0\ndestination:new.{name}\ncontent-length:2\n\nhi"
+    ).ok()
+}
+
+/// The RECEIPT of a SEND, and that of a SUBSCRIBE.
+const SENT: &str = "RECEIPT\nreceipt-id:r\n\n\0";
+
+const SUBSCRIBED: &str = "RECEIPT\nreceipt-id:s\n\n\0";
+
+/// An UNSUBSCRIBE, which asks for the receipt of a SEND.
+const UNSUBSCRIBE: &str = "UNSUBSCRIBE\nid:s\nreceipt:r\n\n\0";
+
+/// Whether the MESSAGE of the second SEND is the next that comes, or the one behind that of the first.
+fn hears_last(client: &mut Client, alloc: Global, name: u32) -> Option<bool> {
+    let first = message_of(alloc, name, false)?;
+    let last = message_of(alloc, name, true)?;
+    let came = client.frame()?;
+    if came.as_slice() == last.as_bytes() {
+        return Some(true);
+    }
+    if came.as_slice() != first.as_bytes() {
+        return Some(false);
+    }
+    Some(client.frame()?.as_slice() == last.as_bytes())
+}
+
+/// One subscribes to a topic and another sends to it, both at once: it is one topic, so what the other sends then comes.
+fn meet_at(reader: &mut Client, sender: &mut Client, alloc: Global, name: u32) -> Option<bool> {
+    let subscribe = subscribe_to(alloc, name)?;
+    let send = send_to(alloc, name)?;
+    let sent = reader.sends(subscribe.as_str()) && sender.asks(send.as_str(), SENT);
+    if !sent || !reader.hears(SUBSCRIBED) || !sender.asks(send.as_str(), SENT) {
+        return Some(false);
+    }
+    let heard = hears_last(reader, alloc, name)?;
+    Some(heard && reader.asks(UNSUBSCRIBE, SENT))
+}
+
+/// Two connections name a thousand topics, each at once.
+#[derive(Drop)]
+struct AtOnce;
+
+impl Peers for AtOnce {
+    fn count(&self) -> u64 {
+        2
+    }
+
+    fn meet(&self, alloc: Global, lines: &mut Lines) -> bool {
+        let Some(mut reader) = Client::connected(alloc, lines) else {
+            return false;
+        };
+        let Some(mut sender) = Client::connected(alloc, lines) else {
+            return false;
+        };
+        for name in 0..NAMES {
+            if meet_at(&mut reader, &mut sender, alloc, name) != Some(true) {
+                return false;
+            }
+        }
+        true
+    }
+}
+
+#[test]
+fn two_that_name_one_new_topic_at_once_get_one(rt: HostRuntime) {
+    assert!(rt; serves(&quiet(rt), rt.alloc(), &AtOnce, 2_000));
+}
+
+/// Whether one sends to each of these topics, and reads its RECEIPT.
+fn sends_to_all(client: &mut Client, alloc: Global, names: u32) -> bool {
+    for name in 0..names {
+        let Some(text) = send_to(alloc, name) else {
+            return false;
+        };
+        if !client.asks(text.as_str(), SENT) {
+            return false;
+        }
+    }
+    true
+}
+
+/// What is refused where 1,024 topics are there, and what it is told.
+const REFUSED: &[(&str, &str)] = &[
+    (
+        "SEND\ndestination:one.more\nreceipt:r\n\nhi\0",
+        "ERROR\nmessage:75 TooManyTopics\nreceipt-id:r\ncontent-length:0\n\n\0",
+    ),
+    (
+        "SUBSCRIBE\nid:s\ndestination:one.more\n\n\0",
+        "ERROR\nmessage:75 TooManyTopics\ncontent-length:0\n\n\0",
+    ),
+    (
+        "SEND\ndestination:two words\n\nhi\0",
+        "ERROR\nmessage:76 BadDestination\ncontent-length:0\n\n\0",
+    ),
+];
+
+/// Whether a new client that sends this is told that, and nothing more.
+fn is_refused(alloc: Global, lines: &mut Lines, text: &str, told: &str) -> bool {
+    match Client::connected(alloc, lines) {
+        Some(mut client) => client.ends_with(text, told),
+        None => false,
+    }
+}
+
+/// Whether a new client is refused each of these.
+fn all_are_refused(alloc: Global, lines: &mut Lines) -> bool {
+    for &(text, told) in REFUSED {
+        if !is_refused(alloc, lines, text, told) {
+            return false;
+        }
+    }
+    true
+}
+
+/// One makes topics until 1,024 are there; three are refused another; and the one sends to all of them again.
+#[derive(Drop)]
+struct Full;
+
+impl Peers for Full {
+    fn count(&self) -> u64 {
+        4
+    }
+
+    fn meet(&self, alloc: Global, lines: &mut Lines) -> bool {
+        let Some(mut client) = Client::connected(alloc, lines) else {
+            return false;
+        };
+        let names = MOST.saturating_sub(OPENING);
+        sends_to_all(&mut client, alloc, names)
+            && all_are_refused(alloc, lines)
+            && sends_to_all(&mut client, alloc, names)
+    }
+}
+
+#[test]
+fn the_1025th_topic_is_refused_and_those_that_are_there_go_on(rt: HostRuntime) {
+    assert!(rt; serves(&quiet(rt), rt.alloc(), &Full, 2_042));
+}

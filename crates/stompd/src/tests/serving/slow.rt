@@ -1,0 +1,224 @@
+//! A peer that doesn't read.
+
+use super::client::Client;
+use super::lines::Lines;
+use super::served::{Peers, quiet, serves};
+use std::alloc::Global;
+
+/// How many SENDs.
+const SENDS: u64 = 1_000;
+
+/// How many octets each has in its body.
+const BODY: usize = 100_000;
+
+/// What stands before the body of a SEND to A.
+const HEAD: &str = "SEND\ndestination:A\n\n";
+
+/// A SEND to A of so many octets.
+fn send_of(alloc: Global, count: usize) -> Option<String> {
+    let mut text = String::from_str(alloc, HEAD).ok()?;
+    for _ in 0..count {
+        text.push('x').ok()?;
+    }
+    text.push('\0').ok()?;
+    Some(text)
+}
+
+/// Whether the MESSAGE of this number comes next, with this body and the NULL behind it.
+fn hears_number(client: &mut Client, alloc: Global, number: u64, body: &[u8]) -> bool {
+    let head = format!(in alloc;
+        "MESSAGE\nsubscription:s\nmessage-id:{number}.0.0\ndestination:A\ncontent-length:{BODY}\n\n"
+    );
+    match head {
+        Ok(head) => {
+            client.hears(head.as_str())
+                && client
+                    .next(body.len())
+                    .is_some_and(|came| came.as_slice() == body)
+        }
+        Err(_) => false,
+    }
+}
+
+/// Whether each SEND is read before the next.
+fn goes_on(sender: &mut Client, reader: &mut Client, alloc: Global) -> bool {
+    let Some(text) = send_of(alloc, BODY) else {
+        return false;
+    };
+    let Some(body) = text.as_bytes().get(HEAD.len()..) else {
+        return false;
+    };
+    for number in 1..=SENDS {
+        if !sender.sends(text.as_str()) || !hears_number(reader, alloc, number, body) {
+            return false;
+        }
+    }
+    true
+}
+
+/// The last words to one that lagged.
+const LAGGED: &[u8] = b"ERROR\nmessage:74 Lagged\ncontent-length:0\n\n\0";
+
+/// Whether all that comes ends with 74, behind fewer MESSAGEs than were sent.
+fn ends_lagged(client: &mut Client) -> bool {
+    match client.rest() {
+        Some(came) => {
+            came.len() < BODY.saturating_mul(1_000) && came.as_slice().ends_with(LAGGED)
+        }
+        None => false,
+    }
+}
+
+/// One subscribes and reads only after the last SEND; another reads each before the next.
+#[derive(Drop)]
+struct Slow;
+
+impl Peers for Slow {
+    fn count(&self) -> u64 {
+        3
+    }
+
+    fn meet(&self, alloc: Global, lines: &mut Lines) -> bool {
+        let Some(mut slow) = Client::subscribed(alloc, lines) else {
+            return false;
+        };
+        let Some(mut reader) = Client::subscribed(alloc, lines) else {
+            return false;
+        };
+        let Some(mut sender) = Client::connected(alloc, lines) else {
+            return false;
+        };
+        goes_on(&mut sender, &mut reader, alloc) && ends_lagged(&mut slow)
+    }
+}
+
+#[test]
+fn one_that_does_not_read_lags_alone(rt: HostRuntime) {
+    assert!(rt; serves(&quiet(rt), rt.alloc(), &Slow, 1_000));
+}
+
+/// A subscription `t` to B that asks for a receipt, and its RECEIPT.
+const TO_B: (&str, &str) = (
+    "SUBSCRIBE\nid:t\ndestination:B\nreceipt:t\n\n\0",
+    "RECEIPT\nreceipt-id:t\n\n\0",
+);
+
+/// A SEND to B that asks for a receipt, its RECEIPT, and its MESSAGE to the subscription `t`.
+const AT_B: (&str, &str) = (
+    "SEND\ndestination:B\nreceipt:r\n\nhi\0",
+    "RECEIPT\nreceipt-id:r\n\n\0",
+);
+
+const FROM_B: &[u8] =
+    b"MESSAGE\nsubscription:t\nmessage-id:1.1.0\ndestination:B\ncontent-length:2\n\nhi\0";
+
+/// How often this stands in those octets.
+fn times(octets: &[u8], text: &[u8]) -> usize {
+    octets
+        .windows(text.len().max(1))
+        .filter(|window| *window == text)
+        .count()
+}
+
+/// Whether so many SENDs to A go out.
+fn bursts(sender: &mut Client, alloc: Global) -> bool {
+    let Some(text) = send_of(alloc, BODY) else {
+        return false;
+    };
+    for _ in 0..BURST {
+        if !sender.sends(text.as_str()) {
+            return false;
+        }
+    }
+    true
+}
+
+/// How many SENDs are more than the systems on the way and a queue take.
+const BURST: u64 = 400;
+
+/// Whether what comes has the MESSAGE from B once, and 74 at its end alone.
+fn ends_lagged_at_a(client: &mut Client) -> bool {
+    match client.rest() {
+        Some(came) => {
+            times(came.as_slice(), FROM_B) == 1
+                && times(came.as_slice(), LAGGED) == 1
+                && came.as_slice().ends_with(LAGGED)
+        }
+        None => false,
+    }
+}
+
+/// One subscribes to A and B, and reads only after a burst to A behind a SEND to B.
+#[derive(Drop)]
+struct OneOfTwo;
+
+impl Peers for OneOfTwo {
+    fn count(&self) -> u64 {
+        2
+    }
+
+    fn meet(&self, alloc: Global, lines: &mut Lines) -> bool {
+        let Some(mut slow) = Client::subscribed(alloc, lines) else {
+            return false;
+        };
+        let Some(mut sender) = Client::connected(alloc, lines) else {
+            return false;
+        };
+        slow.asks(TO_B.0, TO_B.1)
+            && sender.asks(AT_B.0, AT_B.1)
+            && bursts(&mut sender, alloc)
+            && ends_lagged_at_a(&mut slow)
+    }
+}
+
+#[test]
+fn a_burst_lags_one_of_two_subscriptions(rt: HostRuntime) {
+    assert!(rt; serves(&quiet(rt), rt.alloc(), &OneOfTwo, 401));
+}
+
+/// What leaves no row, and its RECEIPTs.
+const IDLE: (&str, &str) = (
+    "BEGIN\ntransaction:x\nreceipt:b\n\n\0ABORT\ntransaction:x\nreceipt:a\n\n\0",
+    "RECEIPT\nreceipt-id:b\n\n\0RECEIPT\nreceipt-id:a\n\n\0",
+);
+
+/// How often another asks for that, at most.
+const ASKS: u32 = 4_000_000;
+
+/// Whether the server closes the connection of one that doesn't read, and answers another meanwhile.
+fn is_given_up(slow: &mut Client, other: &mut Client) -> bool {
+    for ask in 0..ASKS {
+        if ask % 1_000 == 0 && !slow.sends("\n") {
+            return true;
+        }
+        if !other.asks(IDLE.0, IDLE.1) {
+            return false;
+        }
+    }
+    false
+}
+
+/// One subscribes, has more waiting than it can be told, and is refused a frame; it never reads its ERROR.
+#[derive(Drop)]
+struct Silent;
+
+impl Peers for Silent {
+    fn count(&self) -> u64 {
+        2
+    }
+
+    fn meet(&self, alloc: Global, lines: &mut Lines) -> bool {
+        let Some(mut slow) = Client::subscribed(alloc, lines) else {
+            return false;
+        };
+        let Some(mut sender) = Client::connected(alloc, lines) else {
+            return false;
+        };
+        bursts(&mut sender, alloc) && slow.sends("ACK\n\n\0") && is_given_up(&mut slow, &mut sender)
+    }
+}
+
+#[test]
+fn one_that_never_reads_its_error_is_closed(rt: HostRuntime) {
+    assert!(rt; serves(&quiet(rt), rt.alloc(), &Silent, 400));
+}
