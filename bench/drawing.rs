@@ -40,6 +40,12 @@ const CLOCKS: [&str; 16] = [
 
 const CONNECT: &str = "CONNECT\naccept-version:1.2\nhost:h\n\n\0";
 
+/// One that claims a sender, in which `#` stands for a small id.
+const CLAIM: &str = "CONNECT\naccept-version:1.2\nhost:h\nclient-id:#\n\n\0";
+
+/// Destinations that no opening topic has; the last two can't be a topic's name.
+const NEW: [&str; 6] = ["Z", "Y", "a", "new/topic~", "A B", ""];
+
 /// First frames that are refused, or are taken all the same.
 const CONNECTS: [&str; 6] = [
     "STOMP\naccept-version:1.0, 1.2\nhost:a\\b\n\n\0",
@@ -104,8 +110,13 @@ impl Lines<'_> {
         self.number(self.connections)
     }
 
+    /// One of the topics, of which a few may be made by first use.
     fn topic(&mut self) -> String {
-        self.number(self.topics)
+        self.number(self.seen())
+    }
+
+    fn seen(&self) -> usize {
+        self.topics + 2
     }
 
     fn settings(&mut self) {
@@ -117,6 +128,12 @@ impl Lines<'_> {
             let clock = self.streams.pick(&CLOCKS);
             let name = ["A", "B", "C", "D"][topic];
             self.put(&format!("topic {name} {clock}"));
+        }
+        if self.streams.one_in(100) {
+            let few = self.streams.below(3);
+            for more in self.topics..1_024 - few {
+                self.put(&format!("topic more{more} 0"));
+            }
         }
     }
 
@@ -138,7 +155,10 @@ impl Lines<'_> {
         let mut text = Vec::new();
         for octet in FRAMES[kind.unwrap_or(0)].bytes() {
             match octet {
-                b'@' if self.streams.one_in(80) => text.push(b'Z'),
+                b'@' if self.streams.one_in(12) || self.topics == 0 => {
+                    let weight = if self.streams.one_in(12) { 6 } else { 4 };
+                    text.extend(NEW[self.streams.below(weight)].bytes())
+                }
                 b'@' => text.push(b'A' + self.streams.below(self.topics.max(1)) as u8),
                 b'#' => text.push(b'p' + self.streams.below(3) as u8),
                 b'?' if self.streams.one_in(3) => text.extend(b"receipt:r\\c1\n"),
@@ -191,10 +211,10 @@ impl Lines<'_> {
         self.put("open");
         let c = self.connections.to_string();
         self.connections += 1;
-        let connect = if self.streams.one_in(25) {
-            self.streams.pick(&CONNECTS)
-        } else {
-            CONNECT
+        let connect = match self.streams.below(25) {
+            0 => self.streams.pick(&CONNECTS).to_string(),
+            1..=8 => CLAIM.replace('#', self.streams.pick(&["p", "p", "q", ""])),
+            _ => CONNECT.to_string(),
         };
         self.feed(&c, connect.as_bytes());
         self.put(&format!("next {c}"));
@@ -239,10 +259,11 @@ impl Lines<'_> {
 
     /// Proposes a connection's transaction at some or all topics, and mostly decides it.
     fn commit(&mut self, c: &str) {
-        let first = self.streams.below(self.topics.max(1));
-        for topic in 0..self.topics {
+        let seen = self.seen();
+        let first = self.streams.below(seen);
+        for topic in 0..seen {
             if !self.streams.one_in(10) {
-                let topic = (topic + first) % self.topics;
+                let topic = (topic + first) % seen;
                 self.put(&format!("propose {c} {topic}"));
             }
         }
@@ -255,7 +276,7 @@ impl Lines<'_> {
     fn withdraw(&mut self) {
         let c = self.connection();
         self.put(&format!("withdraw {c}"));
-        for topic in 0..self.topics {
+        for topic in 0..self.seen() {
             if !self.streams.one_in(3) {
                 self.put(&format!("cancel {c} {topic}"));
             }
@@ -288,7 +309,9 @@ impl Lines<'_> {
             35 => self.withdraw(),
             36 => {
                 let c = self.connection();
-                self.put(&format!("leave {c}"));
+                for _ in 0..=self.streams.below(3) {
+                    self.put(&format!("leave {c}"));
+                }
             }
             37 if self.streams.one_in(20) => self.many(),
             37 => {
@@ -306,7 +329,7 @@ impl Lines<'_> {
 
 /// A script that is run but for, seldom, a number that is no number.
 pub fn script(streams: &mut Streams) -> Vec<u8> {
-    let topics = streams.below(5).max(1);
+    let topics = streams.below(5);
     let (connections, steps) = (1 + streams.below(3), streams.below(40));
     let mut lines = Lines {
         streams,

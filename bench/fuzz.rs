@@ -1,6 +1,7 @@
 //! Gives `stompd` and the plain programs of this folder streams, scripts and traces, and compares what they
 //! answer: `fuzz STOMPD FOLDER SECONDS SEED THREADS`. The inputs are the examples, changed, and what is drawn,
-//! changed or not. Each input whose output or status differs is kept in the folder, and then the status is 1.
+//! changed or not. `fuzz STOMPD FOLDER each THREADS` draws nothing: each octet of each piece of the scripts among the
+//! examples is replaced in turn. Each input whose output or status differs is kept in the folder, and then the status is 1.
 
 mod cases;
 mod doing;
@@ -32,6 +33,37 @@ use streams::Streams;
 const KEPT_LIMIT: usize = 100;
 
 const JOBS: [Job; 4] = [Job::Relay, Job::Script, Job::Trace, Job::Audit];
+
+/// By what each octet of a piece is replaced, as a script spells it: NULL, CR, LF, colon, backslash, and 255.
+const OCTETS: [&[u8]; 6] = [b"\\0", b"\\r", b"\\n", b":", b"\\\\", b"\\xff"];
+
+/// Where the text of a line's piece begins: at its end where it has none.
+fn text_at(line: &[u8]) -> usize {
+    let mut words = line.splitn(3, |octet| *octet == b' ');
+    match (words.next(), words.next(), words.next()) {
+        (Some(b"piece"), Some(_), Some(text)) => line.len() - text.len(),
+        _ => line.len(),
+    }
+}
+
+/// The script with each octet of each of its pieces replaced by each of OCTETS.
+fn with_each(script: &[u8]) -> Vec<Vec<u8>> {
+    let (mut found, mut begin) = (Vec::new(), 0);
+    for line in script.split(|octet| *octet == b'\n') {
+        let (mut at, end) = (begin + text_at(line), begin + line.len());
+        while at < end {
+            let size = match &script[at..] {
+                [b'\\', b'x', ..] => 4,
+                [b'\\', ..] => 2,
+                _ => 1,
+            };
+            found.extend(OCTETS.map(|octet| [&script[..at], octet, &script[at + size..]].concat()));
+            at += size;
+        }
+        begin = end + 1;
+    }
+    found
+}
 
 /// What all threads share.
 struct Fuzz {
@@ -70,6 +102,14 @@ fn kind(job: Job, output: &[u8], status: u8) -> String {
     let count = if told.starts_with("bad") { 3 } else { usize::MAX };
     let words: Vec<&str> = told.split(' ').take(count).collect();
     format!("{}: status {status} {}", words_of(job)[0], words.join(" "))
+}
+
+/// Whether this may be told on standard error beside a status: nothing beside 0, and else one line of octets from 32 to 126.
+fn is_told(status: u8, told: &[u8]) -> bool {
+    match told.split_last() {
+        None => status == 0,
+        Some((end, line)) => status != 0 && *end == b'\n' && line.iter().all(|octet| (32..127).contains(octet)),
+    }
 }
 
 /// The words of the program that does the job.
@@ -136,7 +176,9 @@ impl Fuzz {
             .output()?;
         let (output, status) = answer(job, b"A", text);
         Fuzz::count(job, &output, status, seen);
-        Ok(ran.status.code() == Some(status.into()) && ran.stdout == output && ran.stderr.is_empty())
+        Ok(ran.status.code() == Some(status.into())
+            && ran.stdout == output
+            && is_told(status, &ran.stderr))
     }
 
     /// Keeps the input of a difference.
@@ -152,6 +194,26 @@ impl Fuzz {
             );
         }
         Ok(())
+    }
+
+    /// Has each changed script run, and its trace audited, which has to be a yes.
+    fn work_each(&self, thread: usize, threads: usize) -> io::Result<(usize, Seen)> {
+        let place = self.folder.join(format!("now-{thread}"));
+        let (mut count, mut seen) = (0, Seen::new());
+        let scripts = self.examples[1].iter().flat_map(|script| with_each(script));
+        for (number, text) in scripts.enumerate().skip(thread).step_by(threads) {
+            let (trace, _) = answer(Job::Trace, b"", &text);
+            let (_, audited) = answer(Job::Audit, b"", &trace);
+            let is_well = audited == 0
+                && self.compare(Job::Trace, &text, &place, &mut seen)?
+                && self.compare(Job::Audit, &trace, &place, &mut seen)?;
+            if !is_well {
+                self.keep(Job::Trace, &text, number)?;
+            }
+            count += 1;
+        }
+        fs::remove_file(place)?;
+        Ok((count, seen))
     }
 
     /// Draws inputs until the end. The one of a number is the same in each run of this seed.
@@ -181,14 +243,20 @@ impl Fuzz {
 }
 
 fn run(words: &[String]) -> io::Result<bool> {
-    let [stompd, folder, seconds, seed, threads] = words else {
-        return Err(io::Error::other("usage: fuzz STOMPD FOLDER SECONDS SEED THREADS"));
+    let (stompd, folder, drawn, threads) = match words {
+        [stompd, folder, each, threads] if each == "each" => (stompd, folder, None, threads),
+        [stompd, folder, seconds, seed, threads] => (stompd, folder, Some((seconds, seed)), threads),
+        _ => return Err(io::Error::other("usage: fuzz STOMPD FOLDER (SECONDS SEED | each) THREADS")),
     };
     let number = |word: &String| {
         word.parse::<u64>()
             .map_err(|_| io::Error::other(format!("{word} is no number")))
     };
-    let (seconds, seed, threads) = (number(seconds)?, number(seed)?, number(threads)? as usize);
+    let threads = number(threads)? as usize;
+    let (seconds, seed) = match drawn {
+        Some((seconds, seed)) => (number(seconds)?, number(seed)?),
+        None => (0, 0),
+    };
     let fuzz = Fuzz {
         stompd: stompd.clone(),
         folder: PathBuf::from(folder),
@@ -206,7 +274,10 @@ fn run(words: &[String]) -> io::Result<bool> {
             .map(|thread| {
                 scope.spawn({
                     let fuzz = &fuzz;
-                    move || fuzz.work(thread, threads)
+                    move || match drawn {
+                        Some(_) => fuzz.work(thread, threads),
+                        None => fuzz.work_each(thread, threads),
+                    }
                 })
             })
             .collect();
@@ -227,7 +298,10 @@ fn run(words: &[String]) -> io::Result<bool> {
         println!("{times:9} {kind}");
     }
     let kept = fuzz.kept.load(Ordering::SeqCst);
-    println!("{count} inputs of the seed {seed} in {seconds} s; {kept} of them differ");
+    match drawn {
+        Some(_) => println!("{count} inputs of the seed {seed} in {seconds} s; {kept} of them differ"),
+        None => println!("{count} scripts of which one octet is another; {kept} of them differ"),
+    }
     Ok(kept == 0)
 }
 

@@ -19,6 +19,7 @@ MOST_LINE = 4096
 MOST_HEADERS = 64
 MOST_BODY = 1 << 20
 MOST_IDS = 65536
+MOST_TOPICS = 1024
 
 TOPICS = [b"/topic/T%d" % at for at in range(64)]
 MINE = b"/topic/own0"
@@ -286,7 +287,36 @@ def claim(trial, name):
         return None if b"receipt-id:bye" in came else error_of(came)
 
 
+def named_topics(trial):
+    """One connection sends to topics that nobody named before, until 1,024 are there. They are kept as long as the server runs."""
+    before, begun = trial.server.memory(), time.monotonic()
+    names = [b"/topic/new%d" % at for at in range(trial.part(MOST_TOPICS - len(NAMES)))]
+    with Client(trial.address) as it:
+        it.connect()
+        for name in names:
+            it.send(send_frame(name, b"x", b"receipt:r\n"))
+            it.wait_for(b"receipt-id:r\n\n\0")
+    memory, took = trial.server.memory() - before, time.monotonic() - begun
+    if len(names) + len(NAMES) == MOST_TOPICS:
+        expect_no_more_topics(trial)
+    trial.expect(exchange(trial.address, names[-1]) < trial.at_once, "the last topic isn't served")
+    return f"{len(names)} in {took:.1f} s; {memory / len(names):.1f} KiB of memory each, which stay"
+
+
+def expect_no_more_topics(trial):
+    """A new name is answered by 75, what can't be a name by 76, and to a topic that is there may be sent."""
+    one_more = b"/topic/one-more"
+    for text, number in (
+        (send_frame(one_more, b"x"), 75),
+        (subscribe(one_more), 75),
+        (b"BEGIN\ntransaction:t\n\n\0" + send_frame(one_more, b"x", b"transaction:t\n"), 75),
+        (send_frame(b"two words", b"x"), 76),
+    ):
+        found = answer_to(trial, text)
+        trial.expect(found == number, f"{text!r} was answered by {found} and not {number}")
+
+
 # The rows that one server has, one after another; and those that have one of their own: how many descriptors it may have, and
 # whether what they leave stays.
 ROWS = [plain_use, one_octet_a_second, never_read, opened_and_reset, begins, every_limit, half_closed]
-OF_THEIR_OWN = [(few_descriptors, 64, False), (claimed_ids, None, True)]
+OF_THEIR_OWN = [(few_descriptors, 64, False), (named_topics, None, True), (claimed_ids, None, True)]
