@@ -82,9 +82,13 @@ static void note_places(void)
     extern void *__libc_stack_end;
     struct code code = {0};
     dl_iterate_phdr(find_code, &code);
+    /* The C library puts what is a thread's own at the end of the stack that it maps for it. */
     uintptr_t *word = __builtin_frame_address(0), *end = (uintptr_t *)__libc_stack_end;
+    uintptr_t *own = __builtin_thread_pointer();
     if (word > end || end - word > CALLS_OFF / 8)
         end = word + CALLS_OFF / 8;
+    if (own > word && own < end)
+        end = own;
     for (; word < end && tally->places < PLACES; word++)
         if (*word >= code.from + 5 && *word < code.to && ((const uint8_t *)*word)[-5] == 0xe8)
             tally->place[tally->places++] = *word - code.start;
