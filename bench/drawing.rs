@@ -1,4 +1,4 @@
-//! Draws scripts and traces, and changes texts, for `fuzz.rs`.
+//! Draws scripts, traces and what clients send, and changes texts, for `fuzz.rs` and `fuzz_serve.rs`.
 
 use crate::streams::Streams;
 
@@ -152,8 +152,13 @@ impl Lines<'_> {
                 false
             }
         });
+        self.frame_of(kind.unwrap_or(0))
+    }
+
+    /// The frame, or frames, of this kind.
+    fn frame_of(&mut self, kind: usize) -> Vec<u8> {
         let mut text = Vec::new();
-        for octet in FRAMES[kind.unwrap_or(0)].bytes() {
+        for octet in FRAMES[kind].bytes() {
             match octet {
                 b'@' if self.streams.one_in(12) || self.topics == 0 => {
                     let weight = if self.streams.one_in(12) { 6 } else { 4 };
@@ -167,6 +172,17 @@ impl Lines<'_> {
             }
         }
         text
+    }
+
+    /// A frame that is mostly accepted, of which the connection has had so many.
+    fn good_frame(&mut self, earlier: usize) -> Vec<u8> {
+        match self.streams.below(4) {
+            0 => format!("SUBSCRIBE\nid:s{earlier}\ndestination:{}\n\n\0", self.streams.pick(&["A", "B", "C", "D"])).into_bytes(),
+            _ => {
+                let kind = self.streams.pick(&[0, 1, 2, 12, 13, 14]);
+                self.frame_of(kind)
+            }
+        }
     }
 
     /// Feeds octets in one or more pieces, with some of the `next` in between.
@@ -207,15 +223,20 @@ impl Lines<'_> {
         }
     }
 
+    /// A first frame.
+    fn connect(&mut self) -> String {
+        match self.streams.below(25) {
+            0 => self.streams.pick(&CONNECTS).to_string(),
+            1..=8 => CLAIM.replace('#', self.streams.pick(&["p", "p", "q", ""])),
+            _ => CONNECT.to_string(),
+        }
+    }
+
     fn open(&mut self) {
         self.put("open");
         let c = self.connections.to_string();
         self.connections += 1;
-        let connect = match self.streams.below(25) {
-            0 => self.streams.pick(&CONNECTS).to_string(),
-            1..=8 => CLAIM.replace('#', self.streams.pick(&["p", "p", "q", ""])),
-            _ => CONNECT.to_string(),
-        };
+        let connect = self.connect();
         self.feed(&c, connect.as_bytes());
         self.put(&format!("next {c}"));
     }
@@ -239,6 +260,14 @@ impl Lines<'_> {
     /// As many subscriptions or transactions as a connection may have open, or SENDs as a transaction may have, and two more.
     fn many(&mut self) {
         let c = self.connection();
+        let octets = self.many_frames();
+        self.feed(&c, &octets);
+        for _ in 0..67 {
+            self.put(&format!("next {c}"));
+        }
+    }
+
+    fn many_frames(&mut self) -> Vec<u8> {
         let kind = self.streams.below(3);
         let mut octets = match kind {
             0 => b"BEGIN\ntransaction:many\n\n\0".to_vec(),
@@ -251,10 +280,7 @@ impl Lines<'_> {
                 _ => format!("SUBSCRIBE\nid:many{i}\ndestination:A\n\n\0").into_bytes(),
             });
         }
-        self.feed(&c, &octets);
-        for _ in 0..67 {
-            self.put(&format!("next {c}"));
-        }
+        octets
     }
 
     /// Proposes a connection's transaction at some or all topics, and mostly decides it.
@@ -345,6 +371,29 @@ pub fn script(streams: &mut Streams) -> Vec<u8> {
         lines.step();
     }
     lines.text
+}
+
+/// What a client of a server with the topics A to D sends: a CONNECT and frames.
+#[allow(dead_code)] // Only `fuzz_serve.rs` has a server.
+pub fn client(streams: &mut Streams) -> Vec<u8> {
+    let mut lines = Lines {
+        streams,
+        text: Vec::new(),
+        topics: 4,
+        connections: 0,
+    };
+    let mut text = lines.connect().into_bytes();
+    let is_good = lines.streams.one_in(2);
+    for earlier in 0..lines.streams.below(30) {
+        text.extend(match is_good {
+            true => lines.good_frame(earlier),
+            false => lines.frame(),
+        });
+    }
+    if lines.streams.one_in(20) {
+        text.extend(lines.many_frames());
+    }
+    text
 }
 
 /// A trace of a few rows, whose numbers are small.

@@ -122,7 +122,7 @@ impl Topic {
 /// A subscription and its queue.
 pub struct Queue {
     connection: usize,
-    id: Vec<u8>,
+    pub id: Vec<u8>,
     pub topic: usize,
     pub from: Stamp,
     pub to: Option<Stamp>,
@@ -276,6 +276,12 @@ impl Core {
             begun: 0,
             kept: HashMap::new(),
         }
+    }
+
+    /// The topics' names.
+    #[allow(dead_code)] // Who has a server asks for them.
+    pub fn names(&self) -> impl Iterator<Item = &[u8]> {
+        self.topics.iter().map(|topic| &topic.name[..])
     }
 
     /// The logs, by topic.

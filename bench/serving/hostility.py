@@ -113,7 +113,7 @@ def never_read(trial, seconds=20):
     trial.expect(loss <= 0.2, f"another connection lost {loss:.0%} of its rate")
     return (
         f"{sent:,} SENDs of 1 KiB; another connection's rate {before:,.0f}/s before, {during:,.0f}/s while they were sent, "
-        f"{with_them:,.0f}/s behind ({loss:.0%} lost); {memory:,} KiB then"
+        f"{with_them:,.0f}/s behind ({loss:.0%} lost); {memory:,} KiB then, {trial.server.most_memory():,} at most"
     )
 
 

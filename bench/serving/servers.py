@@ -63,6 +63,11 @@ class Process:
         with open(f"/proc/{self.number}/smaps_rollup", encoding="ascii") as lines:
             return next(int(it.split()[1]) for it in lines if it.startswith("Rss:"))
 
+    def most_memory(self):
+        """The most that it had in use so far, in KiB."""
+        with open(f"/proc/{self.number}/status", encoding="ascii") as lines:
+            return next(int(it.split()[1]) for it in lines if it.startswith("VmHWM:"))
+
     def threads(self):
         return len(os.listdir(f"/proc/{self.number}/task"))
 
@@ -88,15 +93,18 @@ def link_of(path):
 
 
 class Server(Process):
-    """A server that is running: these words, and the topics' names behind them."""
+    """A server that is running: these words, and the topics' names behind them. It may have few descriptors, more in its
+    environment, and keep descriptors of ours."""
 
-    def __init__(self, words, topics, most_descriptors=None):
+    def __init__(self, words, topics, most_descriptors=None, environment=None, kept=()):
         self.log = open(os.path.join(OUT, "server.log"), "ab")
         self.child = subprocess.Popen(
             [*words, *topics],
             stdin=subprocess.DEVNULL,
             stdout=subprocess.PIPE,
             stderr=self.log,
+            env={**os.environ, **(environment or {})},
+            pass_fds=kept,
             preexec_fn=lambda: limit_descriptors(most_descriptors),
         )
         super().__init__(self.child.pid)
