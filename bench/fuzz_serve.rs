@@ -70,11 +70,19 @@ struct Seen {
 fn examples() -> io::Result<Vec<Vec<u8>>> {
     let mut found = Vec::new();
     for folder in ["examples", "examples/scripts"] {
-        let mut paths: Vec<PathBuf> = fs::read_dir(folder)?.map(|it| it.map(|it| it.path())).collect::<Result<_, _>>()?;
+        let mut paths: Vec<PathBuf> = fs::read_dir(folder)?
+            .map(|it| it.map(|it| it.path()))
+            .collect::<Result<_, _>>()?;
         paths.sort();
         for path in paths {
             match path.extension().and_then(|it| it.to_str()) {
-                Some("stomp") => found.push([&b"CONNECT\naccept-version:1.2\nhost:h\n\n\0"[..], &fs::read(path)?].concat()),
+                Some("stomp") => found.push(
+                    [
+                        &b"CONNECT\naccept-version:1.2\nhost:h\n\n\0"[..],
+                        &fs::read(path)?,
+                    ]
+                    .concat(),
+                ),
                 Some("script") => found.extend(streams_of(&fs::read(path)?)),
                 _ => {}
             }
@@ -147,7 +155,10 @@ impl Server {
         let mut found = Vec::new();
         // One more may be there for a client that comes while it is looked at.
         if self.threads()? > threads + 1 {
-            found.push(format!("{} threads are there, and there were {threads}", self.threads()?));
+            found.push(format!(
+                "{} threads are there, and there were {threads}",
+                self.threads()?
+            ));
         }
         for line in fs::read(&self.log)?.split_inclusive(|octet| *octet == b'\n') {
             if !is_log_line(line) {
@@ -183,7 +194,8 @@ fn is_right(came: &Told, wanted: &Wanted, way: Way, text: &[u8]) -> bool {
         let count = came.replies.len() - 1;
         return wanted.told.replies.starts_with(&came.replies[..count]);
     }
-    let is_cut = wanted.ends || matches!(way, Way::Shuts) || text.windows(11).any(|word| word == b"UNSUBSCRIBE");
+    let is_cut =
+        wanted.ends || matches!(way, Way::Shuts) || text.windows(11).any(|word| word == b"UNSUBSCRIBE");
     came.replies == wanted.told.replies && (is_cut || wanted.is_all_of(came))
 }
 
@@ -192,7 +204,11 @@ impl Fuzz {
     fn stream(&self, streams: &mut Streams) -> Vec<u8> {
         let mut text = match streams.below(8) {
             0..=1 => self.examples[streams.below(self.examples.len())].clone(),
-            2 => [&b"CONNECT\naccept-version:1.2\nhost:h\n\n\0"[..], &drawing::stream(streams)].concat(),
+            2 => [
+                &b"CONNECT\naccept-version:1.2\nhost:h\n\n\0"[..],
+                &drawing::stream(streams),
+            ]
+            .concat(),
             _ => drawing::client(streams),
         };
         if streams.one_in(2) {
@@ -202,7 +218,13 @@ impl Fuzz {
     }
 
     /// Has a server have one stream; whether what came is right.
-    fn try_stream(&self, server: &Server, threads: usize, streams: &mut Streams, seen: &mut Seen) -> io::Result<Option<Vec<u8>>> {
+    fn try_stream(
+        &self,
+        server: &Server,
+        threads: usize,
+        streams: &mut Streams,
+        seen: &mut Seen,
+    ) -> io::Result<Option<Vec<u8>>> {
         let text = self.stream(streams);
         let topics: Vec<(Vec<u8>, u64)> = NAMES.iter().map(|name| (name.as_bytes().to_vec(), 0)).collect();
         let wanted = wanted(&text, &topics);
@@ -222,13 +244,25 @@ impl Fuzz {
         }
         let came = told_when_free(server.address, &pieces, way)?;
         server.wait_for_threads(threads)?;
-        let names: Vec<Vec<u8>> = wanted.names.iter().filter(|name| name[..] != *OWN.as_bytes()).cloned().collect();
+        let names: Vec<Vec<u8>> = wanted
+            .names
+            .iter()
+            .filter(|name| name[..] != *OWN.as_bytes())
+            .cloned()
+            .collect();
         settle(server.address, &names)?;
         let kind = match way {
             Way::Closes => "it closes at once".to_string(),
             Way::Shuts => "it shuts its side at once".to_string(),
             _ if wanted.ends => format!("ends by {}", came.last()),
-            _ => format!("{} behind it", if came.messages.is_empty() { "no MESSAGE" } else { "MESSAGEs" }),
+            _ => format!(
+                "{} behind it",
+                if came.messages.is_empty() {
+                    "no MESSAGE"
+                } else {
+                    "MESSAGEs"
+                }
+            ),
         };
         *seen.kinds.entry(kind).or_default() += 1;
         let is_right = matches!(way, Way::Closes) || is_right(&came, &wanted, way, &text);
@@ -260,7 +294,10 @@ impl Fuzz {
         let log = self.folder.join(format!("log-{thread}"));
         let mut server = Server::new(&self.stompd, &log)?;
         let address = server.address;
-        let (both, is_over) = ([Served::new(address)?, Served::new(address)?], AtomicBool::new(false));
+        let (both, is_over) = (
+            [Served::new(address)?, Served::new(address)?],
+            AtomicBool::new(false),
+        );
         let before = server.threads()?;
         seen.servers += 1;
         thread::scope(|scope| {
@@ -276,7 +313,11 @@ impl Fuzz {
                     seen.served += count;
                     seen.longest = seen.longest.max(longest);
                 }
-                Err(error) => self.keep(&format!("a client wasn't served: {error}"), &fs::read(&log)?, seen.streams)?,
+                Err(error) => self.keep(
+                    &format!("a client wasn't served: {error}"),
+                    &fs::read(&log)?,
+                    seen.streams,
+                )?,
             }
             for fault in left? {
                 self.keep(&fault, &fs::read(&log)?, seen.streams)?;
@@ -286,7 +327,8 @@ impl Fuzz {
     }
 
     fn one(&self, server: &Server, threads: usize, number: usize, seen: &mut Seen) -> io::Result<()> {
-        let mixed = self.seed.wrapping_mul(0x9E37_79B9_7F4A_7C15) ^ (number as u64).wrapping_mul(0xD134_2543_DE82_EF95);
+        let mixed = self.seed.wrapping_mul(0x9E37_79B9_7F4A_7C15)
+            ^ (number as u64).wrapping_mul(0xD134_2543_DE82_EF95);
         let mut streams = Streams {
             numbers: Numbers::new(mixed),
         };
@@ -327,7 +369,10 @@ fn serve_on(address: SocketAddr, both: [Served; 2], is_over: &AtomicBool) -> io:
         sender.expect(format!("RECEIPT\nreceipt-id:{count}\n\n\0").as_bytes())?;
         let message = receiver.frame()?;
         if !message.ends_with(format!("\n\n{count}\0").as_bytes()) {
-            return Err(io::Error::other(format!("not message {count}: {:?}", String::from_utf8_lossy(&message))));
+            return Err(io::Error::other(format!(
+                "not message {count}: {:?}",
+                String::from_utf8_lossy(&message)
+            )));
         }
         if count % 20 == 0 {
             Served::new(address)?;
@@ -341,9 +386,14 @@ fn serve_on(address: SocketAddr, both: [Served; 2], is_over: &AtomicBool) -> io:
 
 fn run(words: &[String]) -> io::Result<bool> {
     let [stompd, folder, seconds, seed, threads] = words else {
-        return Err(io::Error::other("usage: fuzz_serve STOMPD FOLDER SECONDS SEED THREADS"));
+        return Err(io::Error::other(
+            "usage: fuzz_serve STOMPD FOLDER SECONDS SEED THREADS",
+        ));
     };
-    let number = |word: &String| word.parse::<u64>().map_err(|_| io::Error::other(format!("{word} is no number")));
+    let number = |word: &String| {
+        word.parse::<u64>()
+            .map_err(|_| io::Error::other(format!("{word} is no number")))
+    };
     let (seconds, seed, threads) = (number(seconds)?, number(seed)?, number(threads)? as usize);
     let fuzz = Fuzz {
         stompd: stompd.clone(),
@@ -355,22 +405,37 @@ fn run(words: &[String]) -> io::Result<bool> {
     };
     let works: Vec<io::Result<Seen>> = thread::scope(|scope| {
         let fuzz = &fuzz;
-        let started: Vec<_> = (0..threads).map(|thread| scope.spawn(move || fuzz.work(thread, threads))).collect();
-        started.into_iter().map(|work| work.join().expect("a thread that ends")).collect()
+        let started: Vec<_> = (0..threads)
+            .map(|thread| scope.spawn(move || fuzz.work(thread, threads)))
+            .collect();
+        started
+            .into_iter()
+            .map(|work| work.join().expect("a thread that ends"))
+            .collect()
     });
     let mut all = Seen::default();
     for work in works {
         let seen = work?;
-        seen.kinds.into_iter().for_each(|(kind, times)| *all.kinds.entry(kind).or_default() += times);
+        seen.kinds
+            .into_iter()
+            .for_each(|(kind, times)| *all.kinds.entry(kind).or_default() += times);
         all.streams += seen.streams;
         all.servers += seen.servers;
         all.served += seen.served;
         all.longest = all.longest.max(seen.longest);
     }
-    all.kinds.iter().for_each(|(kind, times)| println!("{times:9} {kind}"));
+    all.kinds
+        .iter()
+        .for_each(|(kind, times)| println!("{times:9} {kind}"));
     let (kept, longest) = (fuzz.kept.load(Ordering::SeqCst), all.longest.as_millis());
-    println!("{} messages of those that have to be served; the slowest took {longest} ms", all.served);
-    println!("{} streams of the seed {seed} to {} servers in {seconds} s; {kept} things were otherwise", all.streams, all.servers);
+    println!(
+        "{} messages of those that have to be served; the slowest took {longest} ms",
+        all.served
+    );
+    println!(
+        "{} streams of the seed {seed} to {} servers in {seconds} s; {kept} things were otherwise",
+        all.streams, all.servers
+    );
     Ok(kept == 0)
 }
 

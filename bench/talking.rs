@@ -71,14 +71,19 @@ impl Told {
         let text = String::from_utf8_lossy(last).into_owned();
         let mut lines = text.lines();
         match lines.next() {
-            Some("ERROR") => format!("ERROR {}", lines.next().unwrap_or("").trim_start_matches("message:")),
+            Some("ERROR") => format!(
+                "ERROR {}",
+                lines.next().unwrap_or("").trim_start_matches("message:")
+            ),
             word => word.unwrap_or("").to_string(),
         }
     }
 
     pub fn is_error(&self, number: &str) -> bool {
         let begin = format!("ERROR\nmessage:{number} ");
-        self.replies.last().is_some_and(|reply| reply.starts_with(begin.as_bytes()))
+        self.replies
+            .last()
+            .is_some_and(|reply| reply.starts_with(begin.as_bytes()))
     }
 }
 
@@ -109,13 +114,18 @@ impl Play {
     fn watch(&mut self) {
         let names: Vec<Vec<u8>> = self.core.names().skip(self.watched).map(<[u8]>::to_vec).collect();
         for name in names {
-            let destination = String::from_utf8_lossy(&name).replace('\\', "\\\\").replace(':', "\\c");
+            let destination = String::from_utf8_lossy(&name)
+                .replace('\\', "\\\\")
+                .replace(':', "\\c");
             let frame = format!("SUBSCRIBE\nid:{}\ndestination:{destination}\n\n\0", self.watched);
             // Of a second such connection, where the first has as many as it may.
             let at = 1 + self.watched as u64 / 64;
             if self.watched % 64 == 0 {
                 self.step(Event::Open);
-                self.step(Event::Piece(at, b"CONNECT\naccept-version:1.2\nhost:h\n\n\0".to_vec()));
+                self.step(Event::Piece(
+                    at,
+                    b"CONNECT\naccept-version:1.2\nhost:h\n\n\0".to_vec(),
+                ));
                 self.step(Event::Next(at));
             }
             self.step(Event::Piece(at, frame.into_bytes()));
@@ -167,11 +177,22 @@ pub fn wanted(text: &[u8], topics: &[(Vec<u8>, u64)]) -> Wanted {
     let ends = play.play(text);
     let (first, others) = play.core.connections.split_first().expect("it was opened");
     let mut sent: BTreeMap<Vec<u8>, Vec<Vec<u8>>> = BTreeMap::new();
-    for list in others.iter().flat_map(|it| Told::of(&it.out).messages.into_values()) {
-        list.into_iter().for_each(|message| sent.entry(destination_of(&message).to_vec()).or_default().push(message));
+    for list in others
+        .iter()
+        .flat_map(|it| Told::of(&it.out).messages.into_values())
+    {
+        list.into_iter().for_each(|message| {
+            sent.entry(destination_of(&message).to_vec())
+                .or_default()
+                .push(message)
+        });
     }
     let names: Vec<&[u8]> = play.core.names().collect();
-    let subscriptions = play.core.queues.iter().map(|queue| (queue.id.clone(), names[queue.topic].to_vec()));
+    let subscriptions = play
+        .core
+        .queues
+        .iter()
+        .map(|queue| (queue.id.clone(), names[queue.topic].to_vec()));
     Wanted {
         told: Told::of(&first.out),
         ends,
@@ -189,14 +210,19 @@ fn destination_of(message: &[u8]) -> &[u8] {
 
 /// A value with its escapes.
 fn escaped(name: &[u8]) -> Vec<u8> {
-    String::from_utf8_lossy(name).replace('\\', "\\\\").replace(':', "\\c").into_bytes()
+    String::from_utf8_lossy(name)
+        .replace('\\', "\\\\")
+        .replace(':', "\\c")
+        .into_bytes()
 }
 
 impl Wanted {
     /// Whether all that is due came. What was sent before a subscription may come to it, too: its topic may have released
     /// that later.
     pub fn is_all_of(&self, came: &Told) -> bool {
-        let has = |(id, due): (&Vec<u8>, &Vec<Vec<u8>>)| came.messages.get(id).is_some_and(|list| list.ends_with(due));
+        let has = |(id, due): (&Vec<u8>, &Vec<Vec<u8>>)| {
+            came.messages.get(id).is_some_and(|list| list.ends_with(due))
+        };
         came.replies.len() >= self.told.replies.len() && self.told.messages.iter().all(has)
     }
 
@@ -205,14 +231,17 @@ impl Wanted {
         came.messages.iter().all(|(line, list)| {
             let id = line.strip_prefix(b"subscription:").unwrap_or(b"");
             let is_its = |message: &Vec<u8>| {
-                let named = |row: &(Vec<u8>, Vec<u8>)| escaped(&row.0) == id && escaped(&row.1) == destination_of(message);
+                let named = |row: &(Vec<u8>, Vec<u8>)| {
+                    escaped(&row.0) == id && escaped(&row.1) == destination_of(message)
+                };
                 self.subscriptions.iter().any(named)
             };
-            list.iter().all(is_its) && self.sent.iter().all(|(topic, sent)| {
-                let mut rest = sent.iter();
-                let mut of_it = list.iter().filter(|message| destination_of(message) == topic);
-                of_it.all(|message| rest.any(|other| other == message))
-            })
+            list.iter().all(is_its)
+                && self.sent.iter().all(|(topic, sent)| {
+                    let mut rest = sent.iter();
+                    let mut of_it = list.iter().filter(|message| destination_of(message) == topic);
+                    of_it.all(|message| rest.any(|other| other == message))
+                })
         })
     }
 
@@ -283,14 +312,28 @@ pub fn settle(address: SocketAddr, names: &[Vec<u8>]) -> io::Result<()> {
         let mut client = Served::new(address)?;
         for (id, name) in some.iter().enumerate() {
             let line = [b"destination:", &escaped(name)[..], b"\n"].concat();
-            client.send(&[format!("SUBSCRIBE\nid:{id}\n").as_bytes(), &line, b"\n\0SEND\n", &line, b"\nsettled\0"].concat())?;
+            client.send(
+                &[
+                    format!("SUBSCRIBE\nid:{id}\n").as_bytes(),
+                    &line,
+                    b"\n\0SEND\n",
+                    &line,
+                    b"\nsettled\0",
+                ]
+                .concat(),
+            )?;
         }
         let mut left = some.len();
         while left > 0 {
             let frame = client.frame()?;
             match frame.starts_with(b"MESSAGE\n") {
                 true => left -= usize::from(frame.ends_with(b"\n\nsettled\0")),
-                false => return Err(io::Error::other(format!("{:?} came", String::from_utf8_lossy(&frame)))),
+                false => {
+                    return Err(io::Error::other(format!(
+                        "{:?} came",
+                        String::from_utf8_lossy(&frame)
+                    )))
+                }
             }
         }
     }
@@ -328,7 +371,11 @@ impl Served {
         let show = |octets: &[u8]| String::from_utf8_lossy(octets).into_owned();
         match frame == wanted {
             true => Ok(()),
-            false => Err(io::Error::other(format!("{:?} came and not {:?}", show(&frame), show(wanted)))),
+            false => Err(io::Error::other(format!(
+                "{:?} came and not {:?}",
+                show(&frame),
+                show(wanted)
+            ))),
         }
     }
 

@@ -1,4 +1,5 @@
-"""What `bench/refuse serve` does: clients work at a running `stompd serve`, one of whose growths is refused, for each in turn."""
+"""What `bench/refuse serve` does: clients work at a running `stompd serve`, one of whose growths is refused, for each in
+turn."""
 
 import collections
 import os
@@ -83,7 +84,8 @@ class Worker:
         body = self.name.encode() + b" alone"
         self.ask(send_frame(b"A", body, b"receipt:o\n"), b"o")
         self.committed.append(body)
-        self.ask(b"BEGIN\ntransaction:t\n\n\0" + send_frame(b"B", b"no", b"transaction:t\n") + b"ABORT\ntransaction:t\nreceipt:a\n\n\0", b"a")
+        aborted = b"BEGIN\ntransaction:t\n\n\0" + send_frame(b"B", b"no", b"transaction:t\n")
+        self.ask(aborted + b"ABORT\ntransaction:t\nreceipt:a\n\n\0", b"a")
         self.ask(b"UNSUBSCRIBE\nid:1\nreceipt:u\n\n\0", b"u")
 
     def read_until(self, word):
@@ -206,7 +208,7 @@ class Sweep:
             number += 1
 
     def round(self, number, alone):
-        """The workers' round with this growth of it refused; then all is as it was for those that go on, and who comes is served."""
+        """The workers' round with this growth of it refused; then who goes on has all that is due, and who comes is served."""
         topic = f"new{self.rounds % MOST_NEW}"
         workers = [Worker(self.server.address, f"w{at}", topic) for at in range(WORKERS)]
         met, before = self.tally.told()
