@@ -22,6 +22,7 @@ returns-clause-fails g c =
       subs = held.subs.items;
       wire = wire;
       exit = held.exit;
+      cut = held.cut;
       more = held.more;
       capacity = held.capacity;
     } in
