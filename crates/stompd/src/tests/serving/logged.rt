@@ -56,7 +56,10 @@ const LEAVING: &[(&str, &str, &str)] = &[
 ];
 
 /// What the log says of the topic that the last of them makes.
-const MADE: (&str, &str) = ("[INFO  serve] connection 2 of 127.0.0.1:", " made the topic new");
+const MADE: (&str, &str) = (
+    "[INFO  serve] connection 2 of 127.0.0.1:",
+    " made the topic new",
+);
 
 /// They come and leave.
 #[derive(Drop)]
