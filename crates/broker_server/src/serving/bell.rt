@@ -35,6 +35,11 @@ impl Bell {
         }
     }
 
+    /// Whether the thread was told since it looked last.
+    pub(crate) fn is_told(&self) -> bool {
+        self.state.load(Ordering::SeqCst) == TOLD
+    }
+
     /// Whether the thread was told, or has waited. It looks for what there is after this.
     pub(crate) fn hears(&self) -> bool {
         self.state.load(Ordering::SeqCst) != AWAKE

@@ -14,6 +14,9 @@ use std::sync::Wait;
 use std::time::Duration;
 use stomp_frame::NoMemory;
 
+/// So many reads are heard in a row, at most, before what is there for the connection is looked for again (our choice).
+const MAX_READS: u32 = 16;
+
 /// A connection that leaves is closed after so many polls that brought nothing out (our choice).
 const MAX_POLLS: u32 = 100;
 
@@ -73,26 +76,40 @@ impl<'a, R: Wait + Log, W: Side, T: Side> Connection<'a, R, W, T> {
         }
     }
 
-    /// Reads once, if not too much waits, and does what that asks for. The heads are told of what was committed before
-    /// anything else is done.
+    /// Reads while a read may give something, and does what each asks for; 16 times at most, and no longer than until the
+    /// bell rings. Then the heads are told of what was committed, before anything else is done.
     fn hear(&mut self) -> Round {
-        if !self.talk.may_read() {
-            return Round::Idle;
-        }
-        match self.line.socket.read(self.line.room.as_mut_slice()) {
-            Came::Octets(n) => {
-                if let Some(piece) = self.line.room.as_slice().get(..n) {
-                    self.talk.hear(&mut self.held, piece);
+        let mut round = Round::Idle;
+        for _ in 0..MAX_READS {
+            match self.read() {
+                Came::Octets(n) => {
+                    if let Some(piece) = self.line.room.as_slice().get(..n) {
+                        self.talk.hear(&mut self.held, piece);
+                    }
+                    round = Round::Busy;
                 }
-                self.held.tell_heads();
-                Round::Busy
+                Came::Again => round = Round::Busy,
+                Came::Nothing => break,
+                Came::End => {
+                    self.held.tell_heads();
+                    self.talk.lose(&mut self.held);
+                    return Round::Leaving;
+                }
             }
-            Came::Again => Round::Busy,
-            Came::Nothing => Round::Idle,
-            Came::End => {
-                self.talk.lose(&mut self.held);
-                Round::Leaving
+            if self.line.bell.is_told() {
+                break;
             }
+        }
+        self.held.tell_heads();
+        round
+    }
+
+    /// Reads once, unless the connection leaves or too much waits for it.
+    fn read(&mut self) -> Came {
+        if self.talk.may_read() {
+            self.line.socket.read(self.line.room.as_mut_slice())
+        } else {
+            Came::Nothing
         }
     }
 

@@ -1,5 +1,8 @@
 //! What one connection asks of the broker.
 
+ghost use Rattle.std.specs.Prelude.{◌≡◌, ◌<◌, ◌⊎◌};
+ghost use Rattle.broker_server.specs.MarkedTopics.{unmarked};
+
 use crate::conversation::{BrokerCalls, ConversationFault};
 use crate::serving::bell::Bell;
 use crate::serving::hub::Hub;
@@ -31,6 +34,10 @@ pub(crate) struct Held<'a, R: Wait + Log, W: Side, T: Side> {
     peer: Peer,
     bell: Arc<Bell>,
     marks: Marks,
+    /// How many transactions were committed, or refused, since the heads were told.
+    untold: u64,
+    /// The heads are told at once when they are so many: half of what a queue holds.
+    most: u64,
     worker: Worker<W>,
 }
 
@@ -50,6 +57,8 @@ impl<'a, R: Wait + Log, W: Side, T: Side> Held<'a, R, W, T> {
             peer,
             bell,
             marks: Marks::new(alloc),
+            untold: 0,
+            most: hub.running.capacity() / 2,
             worker,
         }
     }
@@ -60,13 +69,17 @@ impl<'a, R: Wait + Log, W: Side, T: Side> Held<'a, R, W, T> {
     }
 
     /// Its worker, when it asks no more.
-    pub(crate) fn into_worker(self) -> Worker<W> {
+    pub(crate) fn into_worker(self) -> Worker<W>
+        ensures { result ≡ self.worker }
+    {
         let Held {
             rt: _,
             hub: _,
             peer: _,
             bell: _,
             marks: _,
+            untold: _,
+            most: _,
             worker,
         } = self;
         worker
@@ -84,8 +97,24 @@ impl<'a, R: Wait + Log, W: Side, T: Side> Held<'a, R, W, T> {
     }
 
     /// Tells the heads of what was committed, or refused, since they were told.
-    pub(crate) fn tell_heads(&mut self) {
+    pub(crate) fn tell_heads(&mut self)
+        ensures { self.new ≡ record self.old { marks = unmarked; untold = 0 } }
+    {
         self.hub.tell_heads(self.rt, &mut self.marks);
+        self.untold = 0;
+    }
+
+    /// A transaction was committed, or refused. The heads are told once these are half as many as a queue holds, so that a
+    /// burst of one connection comes to a queue in more than one turn.
+    fn count_commit(&mut self)
+        ensures few { (self.new.untold ≡ 0) ⊎ (self.new.untold < self.new.most) }
+        ensures told { self.new.untold ≡ 0 → self.new.marks ≡ unmarked }
+        ensures most { self.new.most ≡ self.old.most }
+    {
+        self.untold = self.untold.saturating_add(1);
+        if self.untold >= self.most {
+            self.tell_heads();
+        }
     }
 }
 
@@ -164,12 +193,13 @@ impl<'a, R: Wait + Log, W: Side, T: Side> BrokerCalls for Held<'a, R, W, T> {
     }
 
     fn commit(&mut self, flying: Flying) -> Result<Gate, (Gate, CommitFault)> {
-        match self
+        let done = self
             .hub
             .running
             .broker
-            .commit(self.rt, &mut self.worker, flying, &mut self.marks)
-        {
+            .commit(self.rt, &mut self.worker, flying, &mut self.marks);
+        self.count_commit();
+        match done {
             Ok((gate, _stamp)) => Ok(gate),
             Err(refused) => Err(refused),
         }

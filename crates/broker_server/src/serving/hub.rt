@@ -1,5 +1,8 @@
 //! What the server's threads share.
 
+ghost use Rattle.std.specs.Prelude.{◌≡◌};
+ghost use Rattle.broker_server.specs.MarkedTopics.{unmarked};
+
 use crate::serving::bell::Bell;
 use crate::serving::head::Head;
 use crate::serving::marks::Marks;
@@ -60,12 +63,16 @@ impl<R: Wait, W: Side, T: Side> Hub<R, W, T> {
     }
 
     /// The heads.
-    pub(crate) fn heads(&self) -> &[Head] {
+    pub(crate) fn heads(&self) -> &[Head]
+        ensures { result.now ≡ self.now.heads.items }
+    {
         self.heads.as_slice()
     }
 
     /// Tells the heads of the topics that were marked, and clears the marks. What they are marked for was done before.
-    pub(crate) fn tell_heads(&self, rt: &R, marks: &mut Marks) {
+    pub(crate) fn tell_heads(&self, rt: &R, marks: &mut Marks)
+        ensures { marks.new ≡ unmarked }
+    {
         if marks.is_empty() {
             return;
         }
@@ -198,12 +205,16 @@ impl<R: Wait, W: Side, T: Side> Hub<R, W, T> {
     }
 
     /// The bell of the accepting thread.
-    pub(crate) fn door(&self) -> &Bell {
+    pub(crate) fn door(&self) -> &Bell
+        ensures { result.now ≡ self.now.door }
+    {
         &self.door
     }
 
     /// The broker, once nobody else uses it.
-    pub(crate) fn into_running(self) -> Running<R, W, T> {
+    pub(crate) fn into_running(self) -> Running<R, W, T>
+        ensures { result ≡ self.running }
+    {
         let Hub {
             running,
             topics: _,

@@ -1,6 +1,6 @@
 //! The broker, as the server uses it: all that is asked of it stands here.
 
-ghost use Rattle.std.specs.Prelude.{◌≡◌, ℕ, List, IfOk, IfErr};
+ghost use Rattle.std.specs.Prelude.{◌≡◌, ℕ, List, length, IfOk, IfErr};
 ghost use Rattle.stomp_frame.specs.ClientFrames.{raw_of};
 ghost use Rattle.broker_server.specs.Judging.{Grows, IsAccepted, IsRefused};
 
@@ -61,7 +61,9 @@ impl<R: Wait, W: Side, T: Side> Running<R, W, T> {
     }
 
     /// How many items a queue holds at most.
-    pub(crate) fn capacity(&self) -> u64 {
+    pub(crate) fn capacity(&self) -> u64
+        ensures { result ≡ self.now.broker.capacity }
+    {
         self.broker.capacity() as u64
     }
 
@@ -80,7 +82,9 @@ impl<R: Wait, W: Side, T: Side> Running<R, W, T> {
     }
 
     /// With how many topics it began.
-    pub(crate) fn topics(&self) -> usize {
+    pub(crate) fn topics(&self) -> usize
+        ensures { result ≡ length self.now.broker.topics.names }
+    {
         self.broker.topics().len()
     }
 
