@@ -29,4 +29,4 @@ abbrev pub Marks : MarkedTopics → Topic → MarkedTopics → Type 0
 Marks old topic new =
     ((is_marked topic old.topics ≡ true) × (new ≡ old))
     ⊎ ((is_marked topic old.topics ≡ false)
-        × ((new ≡ record old { topics = old.topics ++ topic ∷ [] }) ⊎ (new ≡ record old { any = true })))
+    × ((new ≡ record old { topics = old.topics ++ topic ∷ [] }) ⊎ (new ≡ record old { any = true })))

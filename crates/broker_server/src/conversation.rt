@@ -491,13 +491,14 @@ impl<C: BrokerCalls> Conversation<C> {
         ensures rows { Asks C.called calls.old (closing_rows self.old) calls.new }
     {
         self.close(calls, Exit::Error(fault));
-        let told = self.wire.put_frame(&ServerFrame::Error {
+        let error = ServerFrame::Error {
             message: fault.title(),
             receipt,
             version: fault.says_version(),
-        });
-        if told.is_err() {
-            self.cut = true;
+        };
+        match self.wire.put_frame(&error) {
+            Ok(()) => {}
+            Err(NoMemory) => self.cut = true,
         }
     }
 

@@ -70,7 +70,7 @@ impl<'a, R: Wait + Log, W: Side, T: Side> Held<'a, R, W, T> {
 
     /// Its worker, when it asks no more.
     pub(crate) fn into_worker(self) -> Worker<W>
-        ensures { result ≡ self.worker }
+        ensures { result ≡ self.entry.worker }
     {
         let Held {
             rt: _,
