@@ -18,6 +18,14 @@ pub on_either : {T E : Type 0} (r : Result T E) (A B : Type 0) → OnOk r A → 
 on_either (Ok x) A B a b = inl a
 on_either (Err e) A B a b = inr b
 
+-- what is so where a call went well, of one that did
+pub on_ok : {T E : Type 0} (r : Result T E) (x : T) (A : Type 0) → r ≡ Ok x → OnOk r A → A
+on_ok r x A is a = subst (λ q. OnOk q A) is a
+
+-- what is so where a call failed, of one that did
+pub on_err : {T E : Type 0} (r : Result T E) (e : E) (A : Type 0) → r ≡ Err e → OnErr r A → A
+on_err r e A is a = subst (λ q. OnErr q A) is a
+
 -- none of the first so many passes
 pub none_before : {X : Type 0} (p : X → Bool) (xs : List X) (i : ℕ) (d : X) → ((k : ℕ) → k < i → p (get_or xs k d) ≡ false) → list_any p (take i xs) ≡ false
 none_before p [] zero d none = refl

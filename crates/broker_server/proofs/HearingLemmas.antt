@@ -51,7 +51,7 @@ performs_reader actions.Disconnect client old asked result new (a, r, e) = ap (�
 answers_reader : (frames : List RawFrame) (old : ConversationState) (asked : List BrokerRow) (new : ConversationState) → Answers frames old asked new → new.reader ≡ old.reader
 answers_reader frames old asked new (inl (a, e)) = ap (λ (s : ConversationState). s.reader) e
 answers_reader frames old asked new (inr (inl (any, a, none_yet, fails))) = fails_reader fault.NoReply None old new fails
-answers_reader frames old asked new (inr (inr (a, left, e))) = ap (λ (s : ConversationState). s.reader) e
+answers_reader frames old asked new (inr (inr (any, a, left, e))) = ap (λ (s : ConversationState). s.reader) e
 
 concludes_reader : (done : Done) (frames : List RawFrame) (receipt : Option (List ℕ)) (old : ConversationState) (asked : List BrokerRow) (new : ConversationState) → Concludes done frames receipt old asked new → new.reader ≡ old.reader
 concludes_reader (Ok u) frames receipt old asked new answers = answers_reader frames old asked new answers

@@ -38,8 +38,8 @@ pub record OpenSubState : Type 0 where
 
 -- a connection: what came and isn't read yet, its session, the names of the topics that it knows, its
 -- sender's gate, its open subscriptions, the octets that wait to be written to it, why it leaves, once it
--- does, whether items may be left in its queues since too many octets waited, and how many items each of them
--- holds
+-- does, whether a reply was left out since there was no memory for it, whether items may be left in its queues
+-- since too many octets waited, and how many items each of them holds
 pub record ConversationState : Type 0 where
   pub reader : Unread
   pub session : SessionState
@@ -48,6 +48,7 @@ pub record ConversationState : Type 0 where
   pub subs : List OpenSubState
   pub wire : List ℕ
   pub exit : Option Exit
+  pub cut : Bool
   pub more : Bool
   pub capacity : ℕ
 
@@ -60,6 +61,7 @@ pub record IsNew (capacity : ℕ) (c : ConversationState) : Type 0 where
   pub subs : c.subs ≡ []
   pub wire : c.wire ≡ []
   pub exit : c.exit ≡ None
+  pub cut : c.cut ≡ false
   pub more : c.more ≡ false
   pub capacity_is : c.capacity ≡ capacity
 
@@ -97,11 +99,16 @@ closed why c = record c {
   more = false;
 }
 
+-- Out of memory, a reply to a connection that leaves is left out, which it says from then on. So where the
+-- RECEIPT of a DISCONNECT is neither written nor said to be cut, this isn't so.
+abbrev pub LeavesOut : ConversationState → ConversationState → Type 0
+LeavesOut old new = new ≡ record old { cut = true }
+
 -- It leaves by this fault: the ERROR is the last that is written, or is left out for want of memory.
 abbrev pub Fails : ConversationFault → Option (List ℕ) → ConversationState → ConversationState → Type 0
 Fails why receipt old new =
     Writes (told_error why receipt ∷ []) (closed (exit.Error why) old) new
-    ⊎ (new ≡ closed (exit.Error why) old)
+    ⊎ LeavesOut (closed (exit.Error why) old) new
 
 -- ---- what a frame asks for
 
@@ -194,14 +201,14 @@ is_connected (actions.Connected client) = true
 is_connected _ = false
 
 -- What follows an action that went well: the frames that answer it are written. Where there is no memory for
--- them, a connection that is open yet leaves by that; of one that has left already they are left out. So an
--- action that has no answer takes no memory for one.
+-- them, a connection that is open yet leaves by that; of one that leaves already, by a DISCONNECT, they are left
+-- out. So an action that has no answer takes no memory for one.
 abbrev pub Answers : List RawFrame → ConversationState → List BrokerRow → ConversationState → Type 0
 Answers frames old asked new =
     ((asked ≡ []) × Writes frames old new)
     ⊎ ((is_any frames ≡ true) × (asked ≡ closing_rows old) × (old.exit ≡ None)
     × Fails fault.NoReply None old new)
-    ⊎ ((asked ≡ []) × IsSome old.exit × (new ≡ old))
+    ⊎ ((is_any frames ≡ true) × (asked ≡ []) × IsSome old.exit × LeavesOut old new)
 
 -- What follows an action: its answer, or the connection leaves by its fault, with the receipt that was asked
 -- for.

@@ -51,7 +51,7 @@ const MOST_CALLS: usize = 65_536;
 
 /// One connection of the server, without its socket. In contracts it is what came and isn't read yet, its session, its
 /// sender's gate, its open subscriptions, the octets that wait to be written to it, why it leaves, once it does,
-/// whether items may be left in its queues, and how many each of these holds.
+/// whether a reply was left out, whether items may be left in its queues, and how many each of these holds.
 pub struct Conversation<C: BrokerCalls> {
     alloc: Global,
     reader: FrameReader,
@@ -64,6 +64,8 @@ pub struct Conversation<C: BrokerCalls> {
     wire: Wire,
     /// Why it leaves, once it does.
     exit: Option<Exit>,
+    /// Whether a reply was left out, since there was no memory for it.
+    cut: bool,
     /// Whether items may be left in the queues.
     more: bool,
     /// The place of the subscription whose queue is looked at first.
@@ -84,6 +86,7 @@ impl<C: BrokerCalls> Drop for Conversation<C> {
             subs,
             wire,
             exit: _,
+            cut: _,
             more: _,
             first: _,
             capacity: _,
@@ -110,6 +113,7 @@ impl<C: BrokerCalls> Model for Conversation<C> {
       subs = c.subs.items;
       wire = c.wire;
       exit = c.exit;
+      cut = c.cut;
       more = c.more;
       capacity = c.capacity;
     } };
@@ -129,6 +133,7 @@ impl<C: BrokerCalls> Conversation<C> {
             subs: Vec::new(alloc),
             wire: Wire::new(alloc),
             exit: None,
+            cut: false,
             more: false,
             first: 0,
             capacity,
@@ -169,6 +174,14 @@ impl<C: BrokerCalls> Conversation<C> {
         ensures { result ≡ is_some self.now.exit }
     {
         self.exit.is_some()
+    }
+
+    /// Whether a reply was left out, since there was no memory for it: the ERROR by which it leaves, or the RECEIPT of
+    /// its DISCONNECT.
+    pub fn is_cut(&self) -> bool
+        ensures { result ≡ self.now.cut }
+    {
+        self.cut
     }
 
     /// Whether more may be read: it doesn't leave, and fewer than 1,048,576 octets wait to be written.
@@ -321,14 +334,18 @@ impl<C: BrokerCalls> Conversation<C> {
         }
     }
 
-    /// Sends the answer to a frame that was accepted. Where there is no memory for it, the connection ends.
+    /// Sends the answer to a frame that was accepted. Where there is no memory for it, the connection ends; the RECEIPT
+    /// of a DISCONNECT is then left out.
     fn answer(&mut self, calls: &mut C, connects: bool, receipt: &Option<Octets>)
         ensures { (asked : List BrokerRow) × Asks C.called calls.old asked calls.new
             × Answers (replies connects receipt.now) self.old asked self.new }
     {
-        let answered = self.write_answer(connects, receipt);
-        if answered.is_err() && self.exit.is_none() {
-            self.fail(calls, ConversationFault::NoReply, None);
+        match self.write_answer(connects, receipt) {
+            Ok(()) => {}
+            Err(NoMemory) if self.exit.is_none() => {
+                self.fail(calls, ConversationFault::NoReply, None);
+            }
+            Err(NoMemory) => self.cut = true,
         }
     }
 
@@ -474,11 +491,15 @@ impl<C: BrokerCalls> Conversation<C> {
         ensures rows { Asks C.called calls.old (closing_rows self.old) calls.new }
     {
         self.close(calls, Exit::Error(fault));
-        let _ = self.wire.put_frame(&ServerFrame::Error {
+        let error = ServerFrame::Error {
             message: fault.title(),
             receipt,
             version: fault.says_version(),
-        });
+        };
+        match self.wire.put_frame(&error) {
+            Ok(()) => {}
+            Err(NoMemory) => self.cut = true,
+        }
     }
 
     /// Fails by what an accepted frame asked for; the ERROR has the receipt that it asked for.

@@ -88,7 +88,7 @@ where
     T: Side + Send + Sync + 'static,
     'a: 's,
 {
-    let line = match Line::new(rt, alloc, peer, Socket::new(stream)) {
+    let mut line = match Line::new(rt, alloc, peer, Socket::new(stream)) {
         Ok(line) => line,
         Err((mut socket, error)) => {
             if error.kind() == ErrorKind::OutOfMemory {
@@ -99,9 +99,13 @@ where
             return;
         }
     };
-    if hub.enter(rt, peer.number, &line.bell).is_err()
-        || scope.spawn(move || attend(rt, alloc, hub, line)).is_err()
-    {
+    if hub.enter(rt, peer.number, &line.bell).is_err() {
+        line.socket.say_no_memory();
+        warn!(rt; target: "serve", "{peer} is closed: no memory for its bell");
+        hub.free_place();
+        return;
+    }
+    if scope.spawn(move || attend(rt, alloc, hub, line)).is_err() {
         warn!(rt; target: "serve", "{peer} is closed: no memory for its thread");
         hub.leave(rt, peer.number);
         hub.free_place();

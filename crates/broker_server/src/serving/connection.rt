@@ -154,7 +154,11 @@ impl<'a, R: Wait + Log, W: Side, T: Side> Connection<'a, R, W, T> {
                 Err(_) => return Told::WriteFailed,
             }
             if self.talk.wire().is_empty() {
-                return Told::All;
+                return if self.talk.is_cut() {
+                    Told::Cut
+                } else {
+                    Told::All
+                };
             }
             if polls >= MAX_POLLS {
                 return Told::Stuck;
@@ -211,7 +215,7 @@ impl<'a, R: Wait + Log, W: Side, T: Side> Connection<'a, R, W, T> {
         match (ended, self.talk.exit()) {
             (Ok(()), Some(exit)) => {
                 let told = self.tell_last(rt);
-                if let Told::All = told {
+                if let Told::All | Told::Cut = told {
                     self.hear_out();
                 }
                 Left::By(exit, told)
@@ -285,6 +289,6 @@ fn connection_of<'a, R: Wait + Log, W: Side, T: Side>(
     let Ok(worker) = hub.running.take_worker(rt) else {
         return Err(NoMemory);
     };
-    let held = Held::new(rt, alloc, hub, line.peer.number, bell, worker);
+    let held = Held::new(rt, alloc, hub, line.peer, bell, worker);
     Ok((held, Conversation::new(alloc, hub.running.capacity())))
 }

@@ -7,6 +7,7 @@ use crate::conversation::{BrokerCalls, ConversationFault};
 use crate::serving::bell::Bell;
 use crate::serving::hub::Hub;
 use crate::serving::marks::Marks;
+use crate::serving::peer::Peer;
 use crate::spelled::Spelled;
 use broker_locks::{CommitFault, Side, Subscribed, Worker};
 use log::{Log, info};
@@ -30,7 +31,7 @@ pub(crate) struct HeldSub {
 pub(crate) struct Held<'a, R: Wait + Log, W: Side, T: Side> {
     rt: &'a R,
     hub: &'a Hub<R, W, T>,
-    connection: u64,
+    peer: Peer,
     bell: Arc<Bell>,
     marks: Marks,
     /// How many transactions were committed, or refused, since the heads were told.
@@ -41,19 +42,19 @@ pub(crate) struct Held<'a, R: Wait + Log, W: Side, T: Side> {
 }
 
 impl<'a, R: Wait + Log, W: Side, T: Side> Held<'a, R, W, T> {
-    /// The connection of this number has asked nothing yet.
+    /// This peer's connection has asked nothing yet.
     pub(crate) fn new(
         rt: &'a R,
         alloc: Global,
         hub: &'a Hub<R, W, T>,
-        connection: u64,
+        peer: Peer,
         bell: Arc<Bell>,
         worker: Worker<W>,
     ) -> Held<'a, R, W, T> {
         Held {
             rt,
             hub,
-            connection,
+            peer,
             bell,
             marks: Marks::new(alloc),
             untold: 0,
@@ -69,12 +70,12 @@ impl<'a, R: Wait + Log, W: Side, T: Side> Held<'a, R, W, T> {
 
     /// Its worker, when it asks no more.
     pub(crate) fn into_worker(self) -> Worker<W>
-        ensures { result ≡ self.worker }
+        ensures { result ≡ self.entry.worker }
     {
         let Held {
             rt: _,
             hub: _,
-            connection: _,
+            peer: _,
             bell: _,
             marks: _,
             untold: _,
@@ -90,8 +91,8 @@ impl<'a, R: Wait + Log, W: Side, T: Side> Held<'a, R, W, T> {
         if let Ok(last) = u32::try_from(last)
             && let Some(name) = names.name(Topic(last))
         {
-            let number = self.connection;
-            info!(self.rt; target: "serve", "connection {number} made the topic {}", Spelled(name));
+            let peer = self.peer;
+            info!(self.rt; target: "serve", "{peer} made the topic {}", Spelled(name));
         }
     }
 
@@ -153,7 +154,7 @@ impl<'a, R: Wait + Log, W: Side, T: Side> BrokerCalls for Held<'a, R, W, T> {
     fn subscribe(&mut self, topic: Topic) -> Result<HeldSub, SubFault> {
         if self
             .hub
-            .listen(self.rt, topic, self.connection, &self.bell)
+            .listen(self.rt, topic, self.peer.number, &self.bell)
             .is_err()
         {
             return Err(SubFault::NoMemory);
@@ -161,7 +162,7 @@ impl<'a, R: Wait + Log, W: Side, T: Side> BrokerCalls for Held<'a, R, W, T> {
         match self.hub.running.broker.subscribe(self.rt, topic) {
             Ok(begun) => Ok(HeldSub { topic, begun }),
             Err(fault) => {
-                self.hub.unlisten(self.rt, topic, self.connection);
+                self.hub.unlisten(self.rt, topic, self.peer.number);
                 Err(fault)
             }
         }
@@ -169,7 +170,7 @@ impl<'a, R: Wait + Log, W: Side, T: Side> BrokerCalls for Held<'a, R, W, T> {
 
     fn unsubscribe(&mut self, sub: HeldSub) {
         let HeldSub { topic, begun } = sub;
-        self.hub.unlisten(self.rt, topic, self.connection);
+        self.hub.unlisten(self.rt, topic, self.peer.number);
         let _ = self
             .hub
             .running

@@ -10,6 +10,8 @@ use std::fmt::{Display, Formatter};
 pub(crate) enum Told {
     /// All of them.
     All,
+    /// All but the last, for which there was no memory.
+    Cut,
     /// Not all: a write failed.
     WriteFailed,
     /// Not all: 100 polls brought nothing out.
@@ -37,6 +39,7 @@ impl Display for Told {
     fn fmt<W: fmt::Write>(&self, f: &mut Formatter<W>) -> fmt::Result {
         match self {
             Told::All => Ok(()),
+            Told::Cut => f.write_str(", which it wasn't told: there was no memory for that"),
             Told::WriteFailed => f.write_str(", and a write failed before all was told"),
             Told::Stuck => f.write_str(", closed after 100 polls that brought nothing out"),
             Told::Closing => f.write_str(", and the server ended before all was told"),

@@ -78,3 +78,22 @@ fn is_lost_at_once(alloc: Global) -> bool {
 fn a_loss_before_a_connect(rt: HostRuntime) {
     assert!(rt; is_lost_at_once(rt.alloc()));
 }
+
+/// Whether a DISCONNECT is told its RECEIPT or, where there was no memory for that, says that it was left out; or there
+/// was no memory before.
+fn is_told_or_cut(alloc: Global) -> bool {
+    let Some(mut talk) = Talk::new(alloc, WILLING, 64) else {
+        return false;
+    };
+    talk.hear(CONNECT);
+    talk.hear("DISCONNECT\nreceipt:bye\n\n\0");
+    if !talk.leaves_by(Exit::Disconnect) {
+        return !talk.leaves_by(Exit::Lost);
+    }
+    talk.wrote(&[CONNECTED, "RECEIPT\nreceipt-id:bye\n\n\0"]) || talk.was_cut_behind(&[CONNECTED])
+}
+
+#[test]
+fn a_receipt_or_nothing(rt: HostRuntime) {
+    assert!(rt; is_told_or_cut(rt.alloc()));
+}

@@ -46,8 +46,18 @@ impl Talk {
         self.talk.lose(&mut self.fake);
     }
 
-    /// Whether these texts were written, one after the other, and nothing else.
+    /// Whether these texts were written, one after the other, and nothing else, and no reply was left out.
     pub(super) fn wrote(&self, texts: &[&str]) -> bool {
+        self.has_written(texts) && !self.talk.is_cut()
+    }
+
+    /// Whether these texts were written, and nothing else, since a reply was left out.
+    pub(super) fn was_cut_behind(&self, texts: &[&str]) -> bool {
+        self.has_written(texts) && self.talk.is_cut()
+    }
+
+    /// Whether these texts were written, one after the other, and nothing else.
+    fn has_written(&self, texts: &[&str]) -> bool {
         let mut rest = self.talk.wire().pending();
         for text in texts {
             match rest.strip_prefix(text.as_bytes()) {

@@ -56,7 +56,10 @@ const LEAVING: &[(&str, &str, &str)] = &[
 ];
 
 /// What the log says of the topic that the last of them makes.
-const MADE: &str = "[INFO  serve] connection 2 made the topic new";
+const MADE: (&str, &str) = (
+    "[INFO  serve] connection 2 of 127.0.0.1:",
+    " made the topic new",
+);
 
 /// They come and leave.
 #[derive(Drop)]
@@ -109,7 +112,7 @@ fn tell_all(alloc: Global, lines: &[String]) -> bool {
         }
     }
     is_said_once(lines, topics, topics)
-        && is_said_once(lines, MADE, MADE)
+        && is_said_once(lines, MADE.0, MADE.1)
         && lines.len() == LEAVING.len().saturating_mul(2).saturating_add(2)
 }
 

@@ -23,6 +23,7 @@ returns-in-Emptied g c =
       subs = subs;
       wire = new.wire;
       exit = held.exit;
+      cut = held.cut;
       more = false;
       capacity = held.capacity;
     } in
@@ -52,6 +53,7 @@ returns-in-Stopped g c =
       subs = subs;
       wire = new.wire;
       exit = held.exit;
+      cut = held.cut;
       more = true;
       capacity = held.capacity;
     } in
@@ -82,6 +84,7 @@ returns-in-Failed g c =
       subs = subs;
       wire = new.wire;
       exit = held.exit;
+      cut = held.cut;
       more = false;
       capacity = held.capacity;
     } in

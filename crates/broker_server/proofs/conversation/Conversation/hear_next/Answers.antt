@@ -36,6 +36,7 @@ returns-in-Ok-None-clause-rests g c =
       subs = held.subs.items;
       wire = held.wire;
       exit = held.exit;
+      cut = held.cut;
       more = held.more;
       capacity = held.capacity;
     } in
@@ -62,6 +63,7 @@ returns-then-not-is_idle-clause-rests g c =
       subs = held.subs.items;
       wire = held.wire;
       exit = held.exit;
+      cut = held.cut;
       more = held.more;
       capacity = held.capacity;
     } in
@@ -86,6 +88,7 @@ returns-else-not-is_idle-clause-rests g c =
       subs = held.subs.items;
       wire = held.wire;
       exit = held.exit;
+      cut = held.cut;
       more = held.more;
       capacity = held.capacity;
     } in

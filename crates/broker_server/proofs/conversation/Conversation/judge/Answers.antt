@@ -21,6 +21,7 @@ returns-in-Ok-clause-accepted g c =
       subs = held.subs.items;
       wire = held.wire;
       exit = held.exit;
+      cut = held.cut;
       more = held.more;
       capacity = held.capacity;
     } in (
@@ -46,6 +47,7 @@ returns-in-Err-clause-refused g c =
       subs = held.subs.items;
       wire = held.wire;
       exit = held.exit;
+      cut = held.cut;
       more = held.more;
       capacity = held.capacity;
     } in (
@@ -75,6 +77,7 @@ returns-in-Ok-step-clause-accepted g c =
       subs = held.subs.items;
       wire = held.wire;
       exit = held.exit;
+      cut = held.cut;
       more = held.more;
       capacity = held.capacity;
     } in (
@@ -102,6 +105,7 @@ returns-in-Err-step-clause-refused g c =
       subs = held.subs.items;
       wire = held.wire;
       exit = held.exit;
+      cut = held.cut;
       more = held.more;
       capacity = held.capacity;
     } in (

@@ -19,6 +19,7 @@ returns-in-Ok g c =
       subs = subs;
       wire = held.wire;
       exit = held.exit;
+      cut = held.cut;
       more = held.more;
       capacity = held.capacity;
     } in (
@@ -46,6 +47,7 @@ returns-in-Err g c =
       subs = subs;
       wire = held.wire;
       exit = held.exit;
+      cut = held.cut;
       more = held.more;
       capacity = held.capacity;
     } in (

@@ -44,6 +44,7 @@ returns g c =
       subs = xs;
       wire = held.wire;
       exit = held.exit;
+      cut = held.cut;
       more = held.more;
       capacity = held.capacity;
     } in (
