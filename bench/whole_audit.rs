@@ -59,10 +59,11 @@ impl Trace {
     /// The trace, or the number of its first bad line.
     fn parse(text: &[u8]) -> Result<Trace, usize> {
         let mut trace = Trace::default();
-        let text = text.strip_suffix(b"\n").unwrap_or_else(|| text);
         if text.is_empty() {
             return Ok(trace);
         }
+        // The last line may lack its end. A text of one end alone is an empty line.
+        let text = text.strip_suffix(b"\n").unwrap_or_else(|| text);
         for (place, line) in text.split(|octet| *octet == b'\n').enumerate() {
             trace.add(line).ok_or(place + 1)?;
         }

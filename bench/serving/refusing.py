@@ -229,6 +229,10 @@ class Sweep:
 
     def judge(self, workers, refused, alone):
         """At most one connection ended for one refusal; the others got all that was committed, in one order."""
+        with Client(self.server.address, PATIENCE) as last:
+            last.connect(send_frame(b"A", b"the last"))
+            for it in workers:
+                it.do(lambda: it.read_until(b"the last"))
         ended = [it for it in workers if it.ended is not None]
         if len(ended) > (refused if alone else WORKERS):
             raise Fault(f"{len(ended)} connections ended, of {refused} refused growths: {[it.ended for it in ended]}")
@@ -236,10 +240,6 @@ class Sweep:
             self.came[it.ended] += 1
         self.came["nobody ended"] += not ended
         going = [it for it in workers if it.ended is None]
-        with Client(self.server.address, PATIENCE) as last:
-            last.connect(send_frame(b"A", b"the last"))
-            for it in going:
-                it.read_until(b"the last")
         committed = {body for it in workers for body in it.committed}
         for it in going:
             if it.bodies() != going[0].bodies():
