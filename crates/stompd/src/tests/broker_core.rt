@@ -2,16 +2,19 @@
 
 pub(crate) mod asks;
 mod broken_streams;
+mod claimed;
 mod draws;
 mod event_list;
 mod faults;
 mod made;
+mod many_topics;
 mod net;
 mod past;
 mod plain;
 mod printing;
 mod replies;
 mod runs;
+mod speakers;
 mod subscriptions;
 pub(crate) mod topics;
 mod tracing;

@@ -16,4 +16,5 @@ mod senders;
 mod spans;
 mod topics;
 mod tracing;
+mod turns;
 mod workers;

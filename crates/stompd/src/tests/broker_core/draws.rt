@@ -171,7 +171,7 @@ impl Draws {
     }
 
     /// A topic: seldom one of those that are made on first use.
-    fn any_topic(&mut self) -> u32 {
+    pub(super) fn any_topic(&mut self) -> u32 {
         if self.below(4) == 0 {
             2 + self.below(5)
         } else {

@@ -210,7 +210,7 @@ fn have_outs(
 }
 
 /// Whether the report is what the outcomes say.
-fn is_right(alloc: Global, report: &Report<'_>, past: &Past) -> Result<bool, NoMemory> {
+pub(super) fn is_right(alloc: Global, report: &Report<'_>, past: &Past) -> Result<bool, NoMemory> {
     let sorted = agreed(alloc, rows(alloc, past)?)?;
     let dues = dues(alloc, report, past)?;
     Ok(
@@ -224,7 +224,7 @@ fn is_right(alloc: Global, report: &Report<'_>, past: &Past) -> Result<bool, NoM
 }
 
 /// Takes the event and keeps its outcome. Whether the outcome may be, and what it is.
-fn told(
+pub(super) fn told(
     alloc: Global,
     net: &mut Net,
     past: &mut Past,
@@ -237,7 +237,7 @@ fn told(
 }
 
 /// Feeds the connection, if all that it was fed was read. Whether the outcome may be.
-fn feed(
+pub(super) fn feed(
     alloc: Global,
     net: &mut Net,
     past: &mut Past,
@@ -255,7 +255,7 @@ fn feed(
 }
 
 /// Reads at most so many frames, until one isn't only done. Whether each outcome may be.
-fn read(
+pub(super) fn read(
     alloc: Global,
     net: &mut Net,
     past: &mut Past,
@@ -360,12 +360,12 @@ impl Seen {
 }
 
 /// The letters of the opening topics of a run: every third makes C where a frame names it.
-fn opening(run: u32) -> &'static [u8] {
+pub(super) fn opening(run: u32) -> &'static [u8] {
     if run % 3 == 0 { b"AB" } else { b"ABC" }
 }
 
 /// The core of a run: every eighth has a topic whose clock is nearly full.
-fn new_net(alloc: Global, run: u32) -> Result<Net, NoMemory> {
+pub(super) fn new_net(alloc: Global, run: u32) -> Result<Net, NoMemory> {
     let clock = if run % 8 == 0 { u64::MAX - 2 } else { 4 };
     let names = if run % 3 == 0 {
         topics(alloc, &[(b"A".as_slice(), 0), (b"B", clock)])?

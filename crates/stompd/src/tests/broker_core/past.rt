@@ -3,6 +3,7 @@
 use super::asks::Ask;
 use super::draws::Made;
 use super::replies::{Reply, Written, title};
+use super::speakers::Speakers;
 use delivery::{Outcome, Refusal};
 use mcast_txn::{Stamp, Topic, TxnId};
 use std::alloc::Global;
@@ -50,6 +51,7 @@ pub(super) struct Past {
     pub(super) commits: Vec<Flight>,
     pub(super) spans: Vec<Span>,
     pub(super) written: Vec<Written>,
+    pub(super) speakers: Speakers,
 }
 
 /// Whether the event is a Next whose frame was accepted.
@@ -70,6 +72,7 @@ impl Past {
             commits: Vec::new(alloc),
             spans: Vec::new(alloc),
             written: Vec::new(alloc),
+            speakers: Speakers::new(alloc),
         })
     }
 
@@ -178,6 +181,35 @@ impl Past {
         Ok(())
     }
 
+    /// Whether the connection's CONNECT was done.
+    pub(super) fn is_connected(&self, c: u64) -> bool {
+        match self.lines.get(c as usize) {
+            Some(line) => line.is_connected,
+            None => false,
+        }
+    }
+
+    /// Whether its CONNECT is what an open connection is read next.
+    pub(super) fn may_connect(&self, c: u64) -> bool {
+        match self.lines.get(c as usize) {
+            Some(line) => line.is_open && !line.is_connected && line.fed.is_some(),
+            None => false,
+        }
+    }
+
+    /// Keeps whom a connection speaks for. A CONNECT is done, or refused by 77 where another connection has its client-id;
+    /// no other frame is refused so.
+    fn keep_claim(&mut self, ask: Ask, outcome: Outcome) -> Result<bool, NoMemory> {
+        let is_77 = matches!(outcome, Outcome::Faulted { fault, .. } if fault.number() == 77);
+        match ask {
+            Ask::Next(c) if self.may_connect(c) => match outcome {
+                Outcome::Done => Ok(self.speakers.claim(c)?),
+                _ => Ok(is_77 && self.speakers.is_in_use(c)),
+            },
+            _ => Ok(!is_77),
+        }
+    }
+
     /// Whether it is the connection's first frame that was done: its CONNECT.
     pub(super) fn connects(&mut self, c: u64) -> bool {
         match self.lines.get_mut(c as usize) {
@@ -280,9 +312,10 @@ impl Past {
         self.write(c, Reply::Item(s, handed))
     }
 
-    /// The connection's transaction is undecided: it had none.
-    pub(super) fn began(&mut self, c: u64, id: TxnId) -> bool {
+    /// The connection's transaction is undecided: it had none. It is the next of its sender.
+    pub(super) fn began(&mut self, c: u64, id: TxnId) -> Result<bool, NoMemory> {
         let is_first = self.flight(c).is_none();
+        let is_next = self.speakers.begin(c, id)?;
         let (topics, asks) = match self.fed(c) {
             Some(made) => (made.topics, made.asks),
             None => (b"".as_slice(), false),
@@ -298,7 +331,7 @@ impl Past {
             }),
         );
         self.feed(c, None);
-        is_first
+        Ok(is_first && is_next)
     }
 
     pub(super) fn proposed(&mut self, c: u64, ticket: Stamp) -> bool {
@@ -382,6 +415,12 @@ impl Past {
 
     /// Keeps what the outcome says. Whether it may be after what was said before.
     pub(super) fn keep(&mut self, ask: Ask, outcome: Outcome) -> Result<bool, NoMemory> {
+        let may_claim = self.keep_claim(ask, outcome)?;
+        Ok(self.keep_rest(ask, outcome)? && may_claim)
+    }
+
+    /// Keeps all that it says but for whom a connection speaks for.
+    fn keep_rest(&mut self, ask: Ask, outcome: Outcome) -> Result<bool, NoMemory> {
         self.keep_reply(ask, outcome)?;
         let c = self.connection(ask);
         if is_accepted(ask, outcome) {
@@ -389,13 +428,17 @@ impl Past {
         }
         match outcome {
             Outcome::Opened(_) => self.opened(),
-            Outcome::Flying(id) => Ok(self.began(c, id)),
+            Outcome::Flying(id) => self.began(c, id),
             Outcome::Decided { stamp, .. } => self.decided(c, stamp),
             Outcome::Subscribed(s, from) => self.subscribed(c, s, from),
             Outcome::Unsubscribed(s, to) => Ok(self.unsubscribed(s, to)),
             Outcome::Withdrawn { .. } => Ok(self.ended(c, true)),
             Outcome::Faulted { .. } | Outcome::Leaving => Ok(self.ended(c, false)),
             Outcome::Refused(Refusal::NoFrame) => Ok(self.read(c)),
+            Outcome::Gone { .. } => {
+                self.speakers.leave(c)?;
+                Ok(true)
+            }
             _ => Ok(self.keep_number(c, ask, outcome)),
         }
     }

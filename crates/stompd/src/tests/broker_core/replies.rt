@@ -38,8 +38,11 @@ pub(super) fn title(fault: ConnectionFault) -> &'static str {
     match fault.number() {
         63 => "63 SubIdInUse",
         64 => "64 NoSuchSub",
+        65 => "65 TxnInUse",
+        66 => "66 NoSuchTxn",
         74 => "74 Lagged",
         76 => "76 BadDestination",
+        77 => "77 SenderInUse",
         _ => "",
     }
 }

@@ -32,11 +32,12 @@ pub(super) fn reaches(stage: &AtomicU64, wanted: u64) -> bool {
     false
 }
 
-/// Before the second proposal it waits until the other worker has committed.
+/// Before the second proposal it waits until the second stage is reached.
 #[derive(Drop)]
-struct Held<'a> {
-    stage: &'a AtomicU64,
-    met: bool,
+pub(super) struct Held<'a> {
+    pub(super) stage: &'a AtomicU64,
+    /// Whether it was.
+    pub(super) met: bool,
 }
 
 impl<'a> Point for Held<'a> {

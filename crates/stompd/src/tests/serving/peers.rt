@@ -147,3 +147,45 @@ impl Peers for Reset {
 fn one_that_resets_ends_alone(rt: HostRuntime) {
     assert!(rt; serves(&quiet(rt), rt.alloc(), &Reset, 3));
 }
+
+/// A SEND to A and a DISCONNECT, which come together.
+const SEND_AND_GO: &str = "SEND\ndestination:A\n\nhi\0DISCONNECT\nreceipt:bye\n\n\0";
+
+/// The RECEIPT of that DISCONNECT.
+const GONE: &str = "RECEIPT\nreceipt-id:bye\n\n\0";
+
+/// Whether a new client has subscribed, sends to itself and leaves at once, and gets nothing but its RECEIPT: its item isn't
+/// taken.
+fn one_leaves(alloc: Global, lines: &mut Lines) -> bool {
+    match Client::subscribed(alloc, lines) {
+        Some(mut client) => client.ends_with(SEND_AND_GO, GONE),
+        None => false,
+    }
+}
+
+/// One subscribes; another sends to both, and leaves before it has taken what it sent; then one sends.
+#[derive(Drop)]
+struct Leaving;
+
+impl Peers for Leaving {
+    fn count(&self) -> u64 {
+        3
+    }
+
+    fn meet(&self, alloc: Global, lines: &mut Lines) -> bool {
+        match Client::subscribed(alloc, lines) {
+            Some(mut client) => {
+                one_leaves(alloc, lines)
+                    && client.hears(FIRST)
+                    && one_sends(alloc, lines)
+                    && client.hears(SECOND)
+            }
+            None => false,
+        }
+    }
+}
+
+#[test]
+fn one_that_disconnects_leaves_an_item_that_it_did_not_take(rt: HostRuntime) {
+    assert!(rt; serves(&quiet(rt), rt.alloc(), &Leaving, 2));
+}

@@ -1,0 +1,108 @@
+//! As many topics as a core has, made on first use, and one more.
+
+use super::asks::{Ask, answer};
+use delivery::{Event, Net, Outcome, Topics};
+use itoa::Buffer;
+use std::alloc::Global;
+use std::test::Fail;
+use stomp_frame::{NoMemory, Octets};
+
+/// How many SENDs a transaction has at most, and how many transactions name all topics.
+const SENDS: u64 = 64;
+
+const TRANSACTIONS: u64 = 16;
+
+/// A SEND within the transaction `x` to the topic of this number.
+fn send_to(alloc: Global, number: u64) -> Result<Octets, NoMemory> {
+    let mut octets = Octets::from_slice(alloc, b"SEND\ntransaction:x\ndestination:new.")?;
+    octets.extend(Buffer::new().format(number).as_bytes())?;
+    octets.extend(b"\n\nm\0")?;
+    Ok(octets)
+}
+
+/// Whether connection 0 sends to the topic of this number.
+fn sends(alloc: Global, net: &mut Net, number: u64) -> Result<bool, NoMemory> {
+    let octets = send_to(alloc, number)?;
+    net.reserve(2)?;
+    net.step(Event::Piece(0, octets));
+    Ok(net.step(Event::Next(0)) == Outcome::Done)
+}
+
+/// Whether this comes of the frame of a connection.
+fn comes(
+    alloc: Global,
+    net: &mut Net,
+    c: u64,
+    octets: &'static [u8],
+    wanted: &str,
+) -> Result<bool, NoMemory> {
+    Ok(answer(alloc, net, Ask::Frame(c, octets))?.as_str() == wanted)
+}
+
+/// Whether a transaction that is aborted names the next topics, as many as it has SENDs.
+fn names_more(alloc: Global, net: &mut Net, first: u64) -> Result<bool, NoMemory> {
+    if !comes(alloc, net, 0, b"BEGIN\ntransaction:x\n\n\0", "done")? {
+        return Ok(false);
+    }
+    for number in first..first.saturating_add(SENDS) {
+        if !sends(alloc, net, number)? {
+            return Ok(false);
+        }
+    }
+    comes(alloc, net, 0, b"ABORT\ntransaction:x\n\n\0", "done")
+}
+
+/// Whether connection 0 names 1,024 topics in transactions that it aborts, one after the other.
+fn fills(alloc: Global, net: &mut Net) -> Result<bool, NoMemory> {
+    for transaction in 0..TRANSACTIONS {
+        if !names_more(alloc, net, transaction.saturating_mul(SENDS))? {
+            return Ok(false);
+        }
+    }
+    Ok(net.report().topics_len() == 1_024)
+}
+
+/// What each further connection sends where 1,024 topics are there, and what comes of it.
+const SENT: &[(&[u8], &str)] = &[
+    (b"SEND\ndestination:new.1024\n\nm\0", "error 75"),
+    (b"SUBSCRIBE\nid:s\ndestination:new.1024\n\n\0", "error 75"),
+    (
+        b"SEND\ndestination:new.1024\ntransaction:q\n\nm\0",
+        "error 75",
+    ),
+    (b"SEND\ndestination:A B\n\nm\0", "error 76"),
+    (
+        b"SUBSCRIBE\nid:s\nack:client\ndestination:new.1024\n\n\0",
+        "error 68",
+    ),
+    (
+        b"SEND\ndestination:new.1023\ntransaction:q\n\nm\0",
+        "error 66",
+    ),
+    (b"SUBSCRIBE\nid:s\ndestination:new.1023\n\n\0", "sub 0 0 0"),
+    (b"SEND\ndestination:new.1023\n\nm\0", "flight 8 1"),
+];
+
+/// Whether that comes of them, each sent by the next connection.
+fn is_full(alloc: Global, net: &mut Net) -> Result<bool, NoMemory> {
+    let mut c = 0u64;
+    for &(octets, wanted) in SENT {
+        c = c.saturating_add(1);
+        answer(alloc, net, Ask::Connect(c))?;
+        if !comes(alloc, net, c, octets, wanted)? {
+            return Ok(false);
+        }
+    }
+    Ok(net.report().topics_len() == 1_024)
+}
+
+#[test]
+fn the_1025th_topic_is_made_by_none(rt: HostRuntime) -> Result<(), Fail> {
+    let mut net = Net::new(rt.alloc(), Topics::new(rt.alloc()), 1)?;
+    answer(rt.alloc(), &mut net, Ask::Connect(0))?;
+    assert!(rt; fills(rt.alloc(), &mut net)?);
+    assert!(rt; is_full(rt.alloc(), &mut net)?);
+    let told = answer(rt.alloc(), &mut net, Ask::Propose(8, 1_023))?;
+    assert_eq!(rt; told.as_str(), "ticket 1");
+    Ok(())
+}

@@ -1,0 +1,77 @@
+//! What a commit and a turn of a running broker tell beside their answers.
+
+ghost use Rattle.std.specs.Prelude.{◌≡◌};
+
+use super::flights::{Quiet, begun, stamp};
+use super::jobs::{Job, Opening, with_broker};
+use broker_locks::{Broker, Side};
+use mcast_group::Turned;
+use mcast_txn::{NoMemory, Sender, Stamp, Topic};
+use sender_gate::Gate;
+use std::alloc::Global;
+use std::sync::Wait;
+use std::sync::ledger::Blank;
+use std::test::Fail;
+
+/// The stamp of the sender's first transaction, to topic 0, and what the turn of the topic tells after it.
+fn committed<R: Wait, W: Side, T: Side>(
+    rt: &R,
+    alloc: Global,
+    broker: &Broker<R, W, T>,
+    sender: u64,
+) -> Option<(Stamp, Turned)> {
+    let mut worker = broker.join(rt).ok()?;
+    let flying = begun(alloc, Gate::new(Sender(sender)), &[0])?;
+    let (_gate, stamp, _seen) = broker
+        .commit_seen(rt, &mut worker, flying, &mut Quiet)
+        .ok()?;
+    let (turned, drained) = broker.head_turned(rt, Topic(0));
+    drained.ok()?;
+    Some((stamp, turned))
+}
+
+/// Three transactions where a queue has one place.
+#[derive(Drop)]
+struct Three;
+
+impl<R: Wait> Job<R> for Three {
+    type Answer = [Option<(Stamp, Turned)>; 3];
+
+    fn run<W: Side, T: Side>(
+        self,
+        rt: &R,
+        alloc: Global,
+        opening: Opening,
+        workers: Blank,
+        tickets: Blank,
+    ) -> Result<[Option<(Stamp, Turned)>; 3], NoMemory>
+        requires workers { (workers.name ≡ W.name) × (workers.parts ≡ W.parts) × (W.parts ≡ W.all) × (W.all ≡ 257) }
+        requires tickets { (tickets.name ≡ T.name) × (tickets.parts ≡ T.parts) × (T.parts ≡ T.all) × (T.all ≡ 1024) }
+    {
+        let broker = opening.begin::<R, W, T>(alloc, workers, tickets)?;
+        let _begun = broker.subscribe(rt, Topic(0)).ok();
+        Ok([
+            committed(rt, alloc, &broker, 0),
+            committed(rt, alloc, &broker, 1),
+            committed(rt, alloc, &broker, 2),
+        ])
+    }
+}
+
+/// What a commit with this number at topic 0 tells, and the turn after it.
+fn told(n: u64, lagged: bool) -> Option<(Stamp, Turned)> {
+    let turned = Turned {
+        released: 1,
+        lagged,
+    };
+    Some((stamp(n, 0), turned))
+}
+
+/// The second row finds the queue full, and so the subscription lags; it lags once.
+#[test]
+fn a_turn_says_that_a_subscription_lagged(rt: HostRuntime) -> Result<(), Fail> {
+    let opening = Opening::new(rt.alloc(), &[0], 1, false)?;
+    let found = with_broker(&rt, rt.alloc(), opening, Three)?;
+    assert!(rt; found == [told(1, false), told(2, true), told(3, false)]);
+    Ok(())
+}
