@@ -1,23 +1,29 @@
 -- The subscriptions of a trace's spans.
-use Rattle.std.proofs.Common.{◌≡◌, ℕ, ◌==◌, false, ◌||◌, List, [], ◌∷◌, ◌++◌, map, refl, sym, ap, ◌∙◌, arith}
+use Rattle.std.proofs.Common.{◌≡◌, ℕ, Bool, true, false, ◌==◌, ◌||◌, cond, [], ◌∷◌, ◌++◌, List, refl, sym, ap, ◌∙◌, arith}
 use Rattle.std.specs.List.{list_any}
+use Rattle.std.specs.Ordering.{nat_cmp}
+use Rattle.std.specs.BTreeMap.{is_at}
+use Rattle.std.specs.BTreeSet.{BTreeSet, contains, Updates}
 use Rattle.std.proofs.lemmas.Bool.Decides.{nat_tests}
-use Rattle.std.proofs.lemmas.List.{map-append}
-use Rattle.indexmap.specs.IndexSet.{insert_key}
+use Rattle.std.proofs.lemmas.List.Folds.{list_any-append}
 use Rattle.trace_audit.specs.declared.row.SpanRow.{SpanRow}
 use Rattle.trace_audit.specs.Trace.{has_span}
 
-turned : (a b : ℕ) → (a == b) ≡ (b == a)
-turned a b = grind (arith, nat_tests)
+-- numbers are equal exactly where their order says so
+at_equal : (a b : ℕ) → is_at (nat_cmp a) b ≡ (a == b)
+at_equal a b = grind (arith, nat_tests)
 
--- a subscription has a span exactly where it is among those of the spans
-pub has_key : (sub : ℕ) (spans : List SpanRow) → list_any (λ k. sub == k) (map (λ line. line.sub) spans) ≡ has_span sub spans
-has_key sub [] = refl
-has_key sub (x ∷ xs) =
-    ap (λ z. z || list_any (λ k. sub == k) (map (λ line. line.sub) xs)) (turned sub x.sub) ∙ ap (λ z. x.sub == sub || z) (has_key sub xs)
+either_way : (is there : Bool) → cond is true there ≡ there || (is || false)
+either_way true true = refl
+either_way true false = refl
+either_way false true = refl
+either_way false false = refl
 
 -- one more
-pub with_key : (row : SpanRow) (spans : List SpanRow) (keys : List ℕ) → keys ≡ map (λ line. line.sub) spans → has_span row.sub spans ≡ false → insert_key (λ a b. a == b) keys row.sub ≡ map (λ line. line.sub) (spans ++ row ∷ [])
-with_key row spans keys e h =
-    let none : list_any (λ k. row.sub == k) keys ≡ false = ap (list_any (λ k. row.sub == k)) e ∙ (has_key row.sub spans ∙ h) in
-    rw none (ap (λ z. z ++ row.sub ∷ []) e ∙ sym (map-append (λ (line : SpanRow). line.sub) spans (row ∷ [])))
+pub with_key : (row : SpanRow) (spans : List SpanRow) (old now : BTreeSet ℕ) → Updates nat_cmp old now row.sub true → ((sub : ℕ) → contains nat_cmp old sub ≡ has_span sub spans) → (sub : ℕ) → contains nat_cmp now sub ≡ has_span sub (spans ++ row ∷ [])
+with_key row spans old now updates known sub =
+    updates.0 sub
+    ∙ (ap (λ z. cond z true (contains nat_cmp old sub)) (at_equal row.sub sub)
+    ∙ (either_way (row.sub == sub) (contains nat_cmp old sub)
+    ∙ (ap (λ z. z || (row.sub == sub || false)) (known sub)
+    ∙ sym (list_any-append (λ (line : SpanRow). line.sub == sub) spans (row ∷ [])))))

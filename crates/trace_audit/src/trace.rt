@@ -7,9 +7,9 @@ ghost use Rattle.trace_audit.specs.Trace.{no_trace_data, rise_after, fits, has_s
 
 use crate::fault::AddFault;
 use crate::row::{LogRow, QueueRow, SpanRow, TraceRow};
-use indexmap::IndexSet;
 use mcast_txn::Topic;
 use std::alloc::Global;
+use std::collections::BTreeSet;
 use std::marker::Model;
 
 /// What a run left: the rows of its topics' logs, and its subscriptions' spans and queues. In contracts it is these
@@ -19,21 +19,24 @@ pub struct Trace {
     pub(crate) logs: Vec<LogRow>,
     pub(crate) spans: Vec<SpanRow>,
     pub(crate) queues: Vec<QueueRow>,
-    // The spans' subscriptions, in the spans' order.
-    subs: IndexSet<u64>,
+    // The spans' subscriptions. (Ordered: whoever wrote the trace chose the numbers, and could choose them so that a fixed
+    // hash sends all of them to one place.)
+    subs: BTreeSet<u64>,
 }
 
 impl Model for Trace {
-    ghost use Rattle.std.specs.Prelude.{◌≡◌, true, map};
+    ghost use Rattle.std.specs.Prelude.{◌≡◌, ℕ, true};
+    ghost use Rattle.std.specs.Ordering.{nat_cmp};
     ghost use Rattle.std.specs.List.{list_all};
-    ghost use Rattle.trace_audit.specs.Trace.{TraceData, fits};
+    ghost use Rattle.std.specs.BTreeSet.{contains};
+    ghost use Rattle.trace_audit.specs.Trace.{TraceData, fits, has_span};
 
     ghost Value = { TraceData };
 
     ghost view = { λ t. record { logs = t.logs.items; spans = t.spans.items; queues = t.queues.items } };
 
     ghost invariant = { λ t. (list_all (λ line. fits line) t.logs.items ≡ true)
-        × (t.subs.keys ≡ map (λ line. line.sub) t.spans.items) };
+        × ((sub : ℕ) → contains nat_cmp t.subs sub ≡ has_span sub t.spans.items) };
 }
 
 impl Trace {
@@ -48,7 +51,7 @@ impl Trace {
             logs: Vec::new(alloc),
             spans: Vec::new(alloc),
             queues: Vec::new(alloc),
-            subs: IndexSet::new(alloc),
+            subs: BTreeSet::new(alloc),
         }
     }
 
