@@ -1,6 +1,6 @@
 //! Reading a stream.
 
-ghost use Rattle.std.specs.Prelude.{◌≡◌, ◌≢◌, ◌⊎◌, ◌↔◌, [], Option, Some, Result, Ok, Err, IsTrue, IsErrOf, IsSome, IsOk, OnOk, OnErr, IfSome};
+ghost use Rattle.std.specs.Prelude.{◌≡◌, ◌≢◌, ◌⊎◌, ◌↔◌, ◌≤◌, [], drop, vec_len, Option, Some, Result, Ok, Err, IsTrue, IsErrOf, IsSome, IsOk, OnOk, OnErr, IfSome};
 ghost use Rattle.stomp_frame.specs.declared.raw_frame.RawFrame.{RawFrame};
 ghost use Rattle.stomp_frame.specs.declared.fault.FrameFault.{FrameFault};
 ghost use Rattle.stomp_frame.specs.Reader.{Unread, ReadsNext, NextReturns, with_piece, unread_of};
@@ -27,6 +27,16 @@ pub struct FrameReader {
     front: usize,
     partial: PartialFrame,
     answered: Option<Check>,
+}
+
+/// Drops the octets before this index. Only those that are kept are moved.
+fn keep_from(text: &mut Vec<u8>, start: usize)
+    requires { start ≤ vec_len text.old }
+    ensures { text.new.items ≡ drop start text.old.items }
+{
+    let left = text.len() - start;
+    text.copy_within(start.., 0);
+    text.truncate(left);
 }
 
 impl Drop for FrameReader {
@@ -96,7 +106,7 @@ impl FrameReader {
             return;
         }
         let held = self.text.len();
-        self.text.drain(..self.start);
+        keep_from(&mut self.text, self.start);
         self.front -= self.start;
         self.start = 0;
         if self.text.capacity() / 4 > held.max(KEPT_ROOM) {
