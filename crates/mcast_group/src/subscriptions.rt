@@ -98,13 +98,15 @@ impl<Q: Outlet + Drop> Subscriptions<Q> {
         }
     }
 
-    /// Takes out the subscription at an index.
+    /// Takes out the subscription at an index; with the last one the room of all goes, too.
     pub(crate) fn remove(&mut self, index: usize) -> Subscription<Q>
         requires { index < length self.old }
         ensures value { result ≡ slice_index_or self.old index result }
         ensures items { self.new ≡ remove self.old index }
     {
-        self.subs.remove(index)
+        let sub = self.subs.remove(index);
+        free_empty(&mut self.subs);
+        sub
     }
 
     /// Gives each open subscription a copy of the part.
@@ -169,5 +171,14 @@ impl Subscriptions<VecOutlet> {
             self.new ≡ slice_set self.old index (record sub { outlet = after_take sub.outlet }) }
     {
         self.subs[index].outlet.take()
+    }
+}
+
+/// Gives the room of a list without items back.
+fn free_empty<T: Drop>(list: &mut Vec<T>)
+    ensures { list.new.items ≡ list.old.items }
+{
+    if list.is_empty() {
+        *list = Vec::new(*list.allocator());
     }
 }
