@@ -194,8 +194,8 @@ pub fn tied()
     ensures senders { SendersAreFloored }
 {}
 
-/// Six worked examples: transactions that cross, a withdrawal, a loss, a DISCONNECT before an item is delivered, a lag,
-/// and a sender that outlives its connection. What comes of each event, what logs and queues hold, and how each span ends, is computed.
+/// Seven worked examples: transactions that cross, a withdrawal, a loss, a DISCONNECT before an item is delivered, a lag,
+/// a sender that outlives its connection, and one that does so after a withdrawal. What comes of each event, what logs and queues hold, and how each span ends, is computed.
 pub fn examples()
     ensures { WorkedRows }
 {}

@@ -1,6 +1,6 @@
 //! Senders of the core.
 
-ghost use Rattle.std.specs.Prelude.{◌≡◌, ◌≤◌, ◌+◌, ◌++◌, ◌<◌, ◌==◌, true, false, [], length, Some, IfOk, IfSome, OnOk, OnErr, vec_len, vec_capacity};
+ghost use Rattle.std.specs.Prelude.{◌≡◌, ◌≤◌, ◌+◌, ◌++◌, ◌<◌, ◌==◌, true, false, [], length, Some, IfNone, IfOk, IfSome, OnOk, OnErr, OnSome, vec_len, vec_capacity};
 ghost use Rattle.std.specs.Arc.{arc_value};
 ghost use Rattle.std.specs.List.{position, remove};
 ghost use Rattle.std.specs.Option.{option_map};
@@ -14,36 +14,37 @@ ghost use Rattle.delivery.specs.Inner.Senders.{gate_of, launched_sender, decide_
 ghost use Rattle.delivery.specs.Inner.Clients.{idle_gate};
 ghost use Rattle.delivery.specs.declared.sending.Sending.TheVariants as sendings;
 ghost use Rattle.delivery.specs.Inner.Leaving.{is_busy};
+ghost use Rattle.delivery.specs.Inner.View.{is_undecided};
 
 use crate::in_flight::InFlight;
 use crate::not_started::NotStarted;
 use crate::refusal::Refusal;
 use crate::sending::Sending;
 use mcast_group::{ProposeFault, Row};
-use mcast_txn::{Part, Sender, Stamp, Ticket, Tickets, Topic, Txn, TxnId, Verdict};
+use mcast_txn::{Part, Stamp, Ticket, Tickets, Topic, Txn, TxnId, Verdict};
 use sender_gate::Gate;
 use std::alloc::Global;
 use std::marker::Model;
-use std::mem;
 use std::sync::Arc;
 
-/// A sender: its transaction, if one is undecided, and the tickets that it has to cancel.
+/// A sender: its transaction, if one is undecided, and the tickets that it has to cancel. What it does with its
+/// transaction is taken out while a call changes it, and is there again as the call ends.
 #[derive(Drop)]
 pub(crate) struct SenderState {
-    pub(crate) sending: Sending,
-    pub(crate) leftovers: Vec<Ticket>,
+    sending: Option<Sending>,
+    leftovers: Vec<Ticket>,
 }
 
 impl Model for SenderState {
     ghost use Rattle.std.specs.Prelude.{vec_len, vec_capacity};
-    ghost use Rattle.delivery.specs.Inner.Rooms.{KeepsRoom};
+    ghost use Rattle.delivery.specs.Inner.Returned.{IsReturned, returned_sending};
     ghost use Rattle.delivery.specs.Inner.View.{SenderView};
 
     ghost Value = { SenderView };
 
-    ghost view = { λ state. record { sending = state.sending; leftovers = state.leftovers.items } };
+    ghost view = { λ state. record { sending = returned_sending state.sending; leftovers = state.leftovers.items } };
 
-    ghost invariant = { λ state. KeepsRoom state.sending (vec_len state.leftovers) (vec_capacity state.leftovers) };
+    ghost invariant = { λ state. IsReturned state.sending (vec_len state.leftovers) (vec_capacity state.leftovers) };
 }
 
 impl SenderState {
@@ -52,7 +53,7 @@ impl SenderState {
         ensures { result ≡ record { sending = sendings.Idle gate; leftovers = [] } }
     {
         SenderState {
-            sending: Sending::Idle(gate),
+            sending: Some(Sending::Idle(gate)),
             leftovers: Vec::new(alloc),
         }
     }
@@ -62,8 +63,11 @@ impl SenderState {
         ensures { result ≡ idle_gate self.now }
     {
         match &self.sending {
-            Sending::Idle(gate) => Some(Gate::resume(gate.sender(), gate.seq(), gate.floor())),
-            _ => None,
+            Some(Sending::Idle(gate)) => {
+                Some(Gate::resume(gate.sender(), gate.seq(), gate.floor()))
+            }
+            Some(_) => None,
+            None => unreachable!(),
         }
     }
 
@@ -77,31 +81,42 @@ impl SenderState {
         ensures ok { OnOk result (self.new ≡ launched_sender txn self.old) }
         ensures err { OnErr result (self.new ≡ self.old) }
     {
-        let Sending::Idle(gate) = &self.sending else {
-            return Err(NotStarted::InUse);
-        };
-        let gate = Gate::resume(gate.sender(), gate.seq(), gate.floor());
         let topics = txn.share_topics()?;
         self.leftovers.reserve(topics.len())?;
-        let Ok(flying) = gate.begin(alloc, txn) else {
-            return Err(NotStarted::NoMemory);
+        let Some(gate) = take_gate(&mut self.sending) else {
+            return Err(NotStarted::InUse);
         };
-        let flying = InFlight::new(flying);
-        let id = flying.id();
-        let row = Row {
-            id,
-            topics,
-            stamp: Stamp::ZERO,
-        };
-        self.sending = Sending::Flying(flying, row);
-        Ok(id)
+        match gate.begin(alloc, txn) {
+            Ok(flying) => {
+                let flying = InFlight::new(flying);
+                let id = flying.id();
+                let row = Row {
+                    id,
+                    topics,
+                    stamp: Stamp::ZERO,
+                };
+                self.sending = Some(Sending::Flying(flying, row));
+                Ok(id)
+            }
+            Err((gate, _txn, _fault)) => {
+                self.sending = Some(Sending::Idle(gate));
+                Err(NotStarted::NoMemory)
+            }
+        }
+    }
+
+    /// Whether it has an undecided transaction.
+    pub(crate) fn is_undecided(&self) -> bool
+        ensures { result ≡ is_undecided self.now.sending }
+    {
+        !matches!(self.sending, Some(Sending::Idle(_)))
     }
 
     /// Whether it has an undecided transaction, or tickets to cancel.
     pub(crate) fn is_busy(&self) -> bool
         ensures { result ≡ is_busy self.now }
     {
-        !matches!(self.sending, Sending::Idle(_)) || !self.leftovers.is_empty()
+        self.is_undecided() || !self.leftovers.is_empty()
     }
 
     /// Decides its transaction: the verdict, and the row of the commit list. It takes no memory. Refused where none is
@@ -116,8 +131,8 @@ impl SenderState {
         ensures ok { OnOk result (self.new ≡ decided_sender self.old) }
         ensures err { OnErr result (self.new ≡ self.old) }
     {
-        match mem::replace(&mut self.sending, Sending::Idle(Gate::new(Sender(0)))) {
-            Sending::Flying(flying, row) => match flying.decide() {
+        match self.sending.take() {
+            Some(Sending::Flying(flying, row)) => match flying.decide() {
                 Ok((gate, verdict)) => {
                     let Row {
                         id,
@@ -125,21 +140,21 @@ impl SenderState {
                         stamp: _,
                     } = row;
                     let stamp = verdict.stamp();
-                    self.sending = Sending::Idle(gate);
+                    self.sending = Some(Sending::Idle(gate));
                     Ok((verdict, Row { id, topics, stamp }))
                 }
                 Err(flying) => {
-                    self.sending = Sending::Flying(flying, row);
+                    self.sending = Some(Sending::Flying(flying, row));
                     Err(Refusal::Incomplete)
                 }
             },
-            Sending::Idle(gate) => {
-                self.sending = Sending::Idle(gate);
-                Err(Refusal::NoFlight)
-            }
-            Sending::Marked(gate, tickets, fault) => {
-                self.sending = Sending::Marked(gate, tickets, fault);
+            Some(Sending::Marked(gate, tickets, fault)) => {
+                self.sending = Some(Sending::Marked(gate, tickets, fault));
                 Err(Refusal::Marked)
+            }
+            idle => {
+                self.sending = idle;
+                Err(Refusal::NoFlight)
             }
         }
     }
@@ -149,9 +164,9 @@ impl SenderState {
         ensures { result_err result ≡ flight_refusal self.now.sending }
     {
         match &self.sending {
-            Sending::Idle(_) => Err(Refusal::NoFlight),
-            Sending::Flying(_, _) => Ok(()),
-            Sending::Marked(_, _, _) => Err(Refusal::Marked),
+            Some(Sending::Flying(_, _)) => Ok(()),
+            Some(Sending::Marked(_, _, _)) => Err(Refusal::Marked),
+            _ => Err(Refusal::NoFlight),
         }
     }
 
@@ -169,9 +184,7 @@ impl SenderState {
         ensures new { self.new ≡ taken_sender topic self.old }
     {
         match &mut self.sending {
-            Sending::Idle(_) => Err(Refusal::NoFlight),
-            Sending::Marked(_, _, _) => Err(Refusal::Marked),
-            Sending::Flying(flying, _) => {
+            Some(Sending::Flying(flying, _)) => {
                 if !has_topic(flying.topics().as_slice(), topic) {
                     return Err(Refusal::NotNamed);
                 }
@@ -180,6 +193,9 @@ impl SenderState {
                     None => Err(Refusal::Twice),
                 }
             }
+            Some(Sending::Marked(_, _, _)) => Err(Refusal::Marked),
+            Some(Sending::Idle(_)) => Err(Refusal::NoFlight),
+            None => Err(Refusal::NoFlight),
         }
     }
 
@@ -188,7 +204,7 @@ impl SenderState {
         ensures flying { is_flying self.new.sending ≡ is_flying self.old.sending }
         ensures new { self.new ≡ put_sender ticket self.old }
     {
-        if let Sending::Flying(flying, _) = &mut self.sending {
+        if let Some(Sending::Flying(flying, _)) = &mut self.sending {
             let _ = flying.put(ticket);
         }
     }
@@ -198,10 +214,10 @@ impl SenderState {
         ensures ended { is_flying self.new.sending ≡ false }
         ensures new { self.new ≡ failed_sender fault self.old }
     {
-        match mem::replace(&mut self.sending, Sending::Idle(Gate::new(Sender(0)))) {
-            Sending::Flying(flying, _) => {
+        match self.sending.take() {
+            Some(Sending::Flying(flying, _)) => {
                 let (gate, tickets) = flying.withdraw();
-                self.sending = Sending::Marked(gate, tickets, fault);
+                self.sending = Some(Sending::Marked(gate, tickets, fault));
             }
             other => self.sending = other,
         }
@@ -216,18 +232,18 @@ impl SenderState {
         ensures err { OnErr result (self.new ≡ self.old) }
         ensures new { self.new ≡ withdrawn_sender self.old }
     {
-        match mem::replace(&mut self.sending, Sending::Idle(Gate::new(Sender(0)))) {
-            Sending::Marked(gate, tickets, fault) => {
+        match self.sending.take() {
+            Some(Sending::Marked(gate, tickets, fault)) => {
                 keep_tickets(&mut self.leftovers, &tickets);
-                self.sending = Sending::Idle(gate);
+                self.sending = Some(Sending::Idle(gate));
                 Ok(fault)
             }
-            Sending::Flying(flying, row) => {
-                self.sending = Sending::Flying(flying, row);
+            Some(Sending::Flying(flying, row)) => {
+                self.sending = Some(Sending::Flying(flying, row));
                 Err(Refusal::NotMarked)
             }
-            Sending::Idle(gate) => {
-                self.sending = Sending::Idle(gate);
+            idle => {
+                self.sending = idle;
                 Err(Refusal::NoFlight)
             }
         }
@@ -249,6 +265,21 @@ impl SenderState {
         ensures { self.new ≡ record self.old { leftovers = remove self.old.leftovers index } }
     {
         self.leftovers.remove(index);
+    }
+}
+
+/// Takes the gate out, if it is there and no transaction is undecided.
+fn take_gate(sending: &mut Option<Sending>) -> Option<Gate>
+    ensures idle { IfSome result (λ gate. sending.old ≡ Some (sendings.Idle gate)) }
+    ensures taken { OnSome result (sending.new ≡ None) }
+    ensures none { IfNone result (sending.new ≡ sending.old) }
+{
+    match sending.take()? {
+        Sending::Idle(gate) => Some(gate),
+        busy => {
+            *sending = Some(busy);
+            None
+        }
     }
 }
 

@@ -28,7 +28,7 @@ use Rattle.stomp_frame.specs.declared.command.Command.TheVariants as commands
 use Rattle.stomp_frame.specs.Headers.{first_of}
 use Rattle.stomp_frame.specs.Reader.{Unread}
 use Rattle.stomp_session.specs.Answers.{action_by, commit}
-use Rattle.stomp_session.specs.Open.{Held}
+use Rattle.stomp_session.specs.Open.{Held, held_after, is_ended, transactions_left}
 use Rattle.stomp_session.specs.Refusals.{sends_in}
 use Rattle.stomp_session.specs.Names.{is_known}
 use Rattle.stomp_session.specs.Frames.{has_destination, field, topic_of, id_of, transaction_of, send_of}
@@ -45,8 +45,8 @@ use Rattle.delivery.specs.Machine.World.{World, Leftover, topic_at, connection_a
 use Rattle.delivery.specs.Machine.Moves.{Move, Answer, world_after, answer_to, move_refusal, move_effect, move_answer, needs_open, needs_idle, undecided_at, find_leftover, oldest_live, or_out_of_memory, commit_answer, proposal_fault, propose_answer, cancel_answer, release_answer, take_answer, leave_answer, next_ticket, end_now, next_txn}
 use Rattle.delivery.specs.Machine.Moves.Move.{Commits, Subscribes, Unsubscribes, Disconnects, Errs, Lost, Leaves, Proposes, Decides, Withdraws, Cancels, Learns, Releases, Turns, Takes, Connects, AddsTopic}
 use Rattle.delivery.specs.Machine.Runs.{run, answers_from, commits_of, delivered_items}
-use Rattle.delivery.specs.Core.Steps.{CoreStep, Reading, frame_in, has_effect, names_after, number_by}
-use Rattle.delivery.specs.Core.Account.{Beginning, no_item, beginning_of, due_to, next_item, released_frontier, committed_by, account_of, account_of_frame, account_of_next, account_of_step, last_of}
+use Rattle.delivery.specs.Core.Steps.{CoreStep, Reading, frame_in, has_effect, accepted_of, names_after, number_by}
+use Rattle.delivery.specs.Core.Account.{Beginning, no_item, beginning_of, due_to, next_item, released_frontier, sends_by, account_of, account_of_step, last_of}
 use Rattle.delivery.specs.Core.Output.{has_closed, replies_to}
 use Rattle.delivery.specs.Core.State.{Core, core_of, moves, session_at, frame_move, topic_moves, is_faulted, is_out_of_memory, unread_at}
 use Rattle.delivery.specs.Core.Outcomes.{outcome_of, move_outcome, unless, frame_no_memory, frame_fault, fault_outcomes, frame_outcome, reading_outcomes, cut_of, is_any, reply_outcomes, outcomes, IsCoreRun, accepted_outcomes, outcomes_without, wants_memory}
@@ -142,7 +142,7 @@ by_answer P w e o h g d = by_case (move_refusal w e) refl
 -- the account says after these moves what the machine answered to them
 abbrev Says : List (List ℕ) → Run → List CoreStep → Event → Reading → Outcome → Type 0
 Says names r older e rd o =
-    account_of_step (names_after names older) older (said (answers_of r)) e rd o ++ said (answers_of r)
+    account_of_step (names_after names older) older (said (answers_of r)) e (frame_in rd) o ++ said (answers_of r)
     ≡ said (answers_from (moves (core_at names r older) e rd o) (final_world r) (answers_of r))
 
 -- a refused answer says nothing
@@ -221,12 +221,12 @@ proposed_case : (names : List (List ℕ)) (r : Run) (older : List CoreStep) (rd 
     → Says names r older (Event.Propose c t) rd z
 proposed_case names r older rd c t m None z id e a d =
     let w = final_world r in let past = answers_of r in
-    ap (λ q. account_of_step (names_after names older) older (said past) (Event.Propose c t) rd q ++ said past) (sym (some_same _ z d))
+    ap (λ q. account_of_step (names_after names older) older (said past) (Event.Propose c t) (frame_in rd) q ++ said past) (sym (some_same _ z d))
     ∙ (ap (λ q. Answer.Ticket q (next_ticket w c t) ∷ said past) (sym id)
     ∙ (ap (λ b. said (b ∷ past)) (sym a) ∙ ap (λ q. said (answer_to w (Proposes c t q) ∷ past)) e))
 proposed_case names r older rd c t m (Some fault) z id e a d =
     let w = final_world r in let past = answers_of r in
-    ap (λ q. account_of_step (names_after names older) older (said past) (Event.Propose c t) rd q ++ said past) (sym (some_same _ z d))
+    ap (λ q. account_of_step (names_after names older) older (said past) (Event.Propose c t) (frame_in rd) q ++ said past) (sym (some_same _ z d))
     ∙ (ap (λ q. Answer.Failed q fault ∷ said past) (sym id)
     ∙ (ap (λ b. said (b ∷ past)) (sym a) ∙ ap (λ q. said (answer_to w (Proposes c t q) ∷ past)) e))
 
@@ -572,7 +572,7 @@ own_moves names r older c f action = option_to_list (frame_move (core_at names r
 abbrev SaysMove : List (List ℕ) → Run → List CoreStep → ℕ → RawFrame → Outcome → Type 0
 SaysMove names r older c f o =
     let q = for_frame names r older f in
-    account_of_frame (names_after names older) c older f (said (answers_of q)) o ++ said (answers_of q)
+    account_of_step (names_after names older) older (said (answers_of q)) (Event.Next c) (Some f) o ++ said (answers_of q)
     ≡ said (answers_from (own_moves names r older c f (action_by f.command (session_at (core_at names r older) c) f)) (final_world q) (answers_of q))
 
 -- so the account says it of both
@@ -584,7 +584,7 @@ says_both names r older c f left z effect sound h =
     let w = final_world r in let past = answers_of r in let s = start r.capacity r.log_limit r.clocks in
     let moves_are : cond (is_faulted z) (Errs c ∷ []) (cond (has_effect z) (ts ++ ms) []) ≡ ts ++ ms =
     ap (λ (b : Bool). cond b (Errs c ∷ []) (cond (has_effect z) (ts ++ ms) [])) sound ∙ ap (λ (b : Bool). cond b (ts ++ ms) []) effect in
-    ap (λ (p : List Answer). account_of_frame (names_after names older) c older f p z ++ p) (sym (framed_said names r older f))
+    ap (λ (p : List Answer). account_of_step (names_after names older) older p (Event.Next c) (Some f) z ++ p) (sym (framed_said names r older f))
     ∙ (h
     ∙ (ap (λ (v : World). said (answers_from ms v (answers_of (for_frame names r older f)))) (run_append r.events ts s)
     ∙ (ap (λ (p : List Answer). said (answers_from ms (run ts w) p)) (answers_append r.events ts s [])
@@ -600,6 +600,40 @@ framed_owns : (names : List (List ℕ)) (r : Run) (older : List CoreStep) (f : R
 framed_owns names r older f h =
     subst (λ w. Own w older) (sym (framed_world names r older f))
     (topic_owns (has_destination f.command && not (is_known (field (codes "destination") f) (names_after names older))) (final_world r) older h)
+
+-- the SENDs that an action commits
+abbrev committed_by : Action → List SentMessage
+committed_by (actions.Commit sends) = sends
+committed_by action = []
+
+committed : (sends : List SentMessage) → sends ≡ committed_by (commit sends)
+committed [] = refl
+committed (send ∷ sends) = refl
+
+-- whether there is any
+abbrev has_any : {A : Type 0} → List A → Bool
+has_any [] = false
+has_any (x ∷ xs) = true
+
+cons_none : {A : Type 0} {x : A} {xs : List A} → [] ≡ x ∷ xs → Prim.⊥
+cons_none e = absurd (false≢true (ap has_any e))
+
+-- those that a frame commits are those of what it asks for, if it asks for a transaction
+sends_committed : (command : Command) (names : List (List ℕ)) (accepted : List RawFrame) (f : RawFrame) (first : SentMessage) (others : List SentMessage)
+    → action_by command (held_after names accepted) f ≡ actions.Commit (first ∷ others) → sends_by command names accepted f ≡ first ∷ others
+sends_committed commands.Commit names accepted f first others e = by_case (is_ended accepted) e
+  where
+    by_case : (b : Bool) → commit (sends_in (transaction_of f) (cond b [] (transactions_left names accepted))) ≡ actions.Commit (first ∷ others)
+        → sends_in (transaction_of f) (transactions_left names accepted) ≡ first ∷ others
+    by_case true d = absurd (cons_none (ap committed_by d))
+    by_case false d = committed (sends_in (transaction_of f) (transactions_left names accepted)) ∙ ap committed_by d
+sends_committed commands.Send names accepted f first others e = by_case (first_of (codes "transaction") f.headers) e
+  where
+    by_case : (o : Option (List ℕ)) → option_map_or (λ transaction. actions.Nothing) o (commit (send_of names f ∷ [])) ≡ actions.Commit (first ∷ others)
+        → option_map_or (λ x. []) o (send_of names f ∷ []) ≡ first ∷ others
+    by_case None d = ap committed_by d
+    by_case (Some x) d = ap committed_by d
+sends_committed command names accepted f first others e = ap committed_by e
 
 flown_case : (names : List (List ℕ)) (r : Run) (older : List CoreStep) (whose : Own (final_world r) older) (c : ℕ) (f : RawFrame) (left : Unread) (sends : List SentMessage) (z : Outcome)
     → (connection_at (final_world (for_frame names r older f)) c).sender ≡ Some (speaker_number (final_world (for_frame names r older f)) c) → action_by f.command (session_at (core_at names r older) c) f ≡ actions.Commit sends
@@ -617,7 +651,8 @@ flown_case names r older whose c f left (first ∷ others) z l e a d =
     let past = answers_of q in let last = last_of c older (said past) in
     subst (Says names r older (Event.Next c) (Reading.Finds f left)) (some_same _ z d)
     (says_both names r older c f left (Outcome.Flying (next_txn (final_world q) c (first ∷ others)).id) refl refl
-    (ap (λ b. Answer.Begun (record { id = record last { seq = last.seq + 1 }; sends = committed_by b }) ∷ said past) e
+    (ap (λ ss. Answer.Begun (record { id = record last { seq = last.seq + 1 }; sends = ss }) ∷ said past)
+    (sends_committed f.command (names_after names older) (accepted_of c older) f first others e)
     ∙ (ap (λ (b : TxnId). Answer.Begun (record { id = record b { seq = b.seq + 1 }; sends = first ∷ others }) ∷ said past) (sym (last_is q older c (framed_owns names r older f whose) l))
     ∙ (ap (λ b. said (b ∷ past)) (sym a)
     ∙ ap (λ b. said (answers_from (own_moves names r older c f b) (final_world q) past)) (sym e)))))
@@ -681,12 +716,12 @@ accepted_says names r older whose c f left o actions.Disconnect e i =
 
 -- what an ERROR adds, whatever was read
 fault_account : (names : List (List ℕ)) (older : List CoreStep) (past : List Answer) (c : ℕ) (read : Option RawFrame) (fault : ConnectionFault) (cut : Bool)
-    → account_of_next names c older read past (Outcome.Faulted fault cut) ≡ Answer.Error c ∷ []
+    → account_of_step names older past (Event.Next c) read (Outcome.Faulted fault cut) ≡ Answer.Error c ∷ []
 fault_account names older past c None fault cut = refl
 fault_account names older past c (Some f) fault cut = refl
 
 refused_account : (names : List (List ℕ)) (older : List CoreStep) (past : List Answer) (c : ℕ) (read : Option RawFrame) (why : Refusal)
-    → account_of_next names c older read past (Outcome.Refused why) ≡ []
+    → account_of_step names older past (Event.Next c) read (Outcome.Refused why) ≡ []
 refused_account names older past c None why = refl
 refused_account names older past c (Some f) why = refl
 
@@ -786,7 +821,7 @@ account_is topics capacity (step ∷ older) run =
     let i : In step.outcome (outcomes (core_at topics.names r older) step.event step.reading) =
     subst (λ z. In step.outcome (outcomes z step.event step.reading)) c run.0.outcome in
     let ms = moves k step.event step.reading step.outcome in
-    ap (λ z. account_of_step (names_after topics.names older) older z step.event step.reading step.outcome ++ z) acc
+    ap (λ z. account_of_step (names_after topics.names older) older z step.event (frame_in step.reading) step.outcome ++ z) acc
     ∙ (event_says topics.names r older whose step.event step.reading step.outcome acc i
     ∙ (ap (λ z. said (answers_from (moves z step.event step.reading step.outcome) (final_world r) (answers_of r))) (sym c)
     ∙ ap said (sym (answers_append (all_moves topics capacity older) ms (start capacity 65536 topics.clocks) []))))

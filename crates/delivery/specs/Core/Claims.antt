@@ -15,15 +15,10 @@ pub record Claim : Type 0 where
   pub connection : ℕ
   pub client : Option (List ℕ)
 
--- the claim that a Next of connection c makes, where this frame was accepted
-abbrev pub claim_by : ℕ → Option RawFrame → List Claim
-claim_by c None = []
-claim_by c (Some f) =
-    if is_connect f.command then record { connection = c; client = client_of f } ∷ [] else []
-
--- the claim that an event makes
+-- the claim that an event makes, where this frame was accepted
 abbrev pub claim_of : Event → Option RawFrame → List Claim
-claim_of (Event.Next c) accepted = claim_by c accepted
+claim_of (Event.Next c) (Some f) =
+    if is_connect f.command then record { connection = c; client = client_of f } ∷ [] else []
 claim_of e accepted = []
 
 -- the claims of a run, the newest first

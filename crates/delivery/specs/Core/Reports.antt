@@ -68,14 +68,8 @@ report_of k = record {
 
 -- what stands for a subscription that isn't reported
 abbrev pub no_queue : QueueReport
-no_queue = record {
-  topic = record { 0 = 0 };
-  from = zero_stamp;
-  to = None;
-  cause = None;
-  queued = [];
-  handed = [];
-}
+no_queue =
+    record { topic = record { 0 = 0 }; from = zero_stamp; to = None; cause = None; queued = []; handed = [] }
 
 -- the subscription of this number
 abbrev pub queue_in : Report → ℕ → QueueReport

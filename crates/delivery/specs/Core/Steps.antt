@@ -36,10 +36,8 @@ kept_of step = record { event = step.event; outcome = step.outcome }
 
 -- the frame that was read
 abbrev pub frame_in : Reading → Option RawFrame
-frame_in Reading.Nothing = None
-frame_in (Reading.Waits left) = None
 frame_in (Reading.Finds f left) = Some f
-frame_in (Reading.Fails k left) = None
+frame_in reading = None
 
 -- the event asks for a frame of connection c
 abbrev pub is_next : ℕ → Event → Bool

@@ -1,4 +1,4 @@
--- Worked examples: six runs, and what each of them comes to. Each equation holds by computation alone.
+-- Worked examples: seven runs, and what each of them comes to. Each equation holds by computation alone.
 use Rattle.std.specs.Prelude.{◌≡◌, ℕ, true, List, [], ◌∷◌, map, reverse, Option, Some, None}
 use Rattle.mcast_txn.specs.declared.id.Topic.{Topic}
 use Rattle.mcast_txn.specs.declared.id.TxnId.{TxnId}
@@ -215,6 +215,20 @@ abbrev pub lasting_at_b : List Item
 lasting_at_b = item (id 1 1) (stamp 2 1) (part 0 3 ∷ []) ∷ item (id 0 1) (stamp 10 0) (part 1 1 ∷ [])
     ∷ item (id 0 2) (stamp 11 1) (part 0 2 ∷ []) ∷ []
 
+-- ---- resuming
+
+-- topics A at clock 4, B at 9, C at its end, and D. Connection 0 begins a sender and commits to A, and then sends to
+-- B and C. C refuses that transaction: it is withdrawn, and its ticket (10, B) is cancelled. Connection 1 goes on as
+-- the sender and sends to D. The sender's floor is still (5, A): so its ticket at D is 6, and neither above the
+-- cancelled one nor 1.
+abbrev pub resuming : Run
+resuming = run_of (4 ∷ 9 ∷ 18446744073709551615 ∷ 0 ∷ []) (
+    Opens ∷ Connects 0 None ∷ Commits 0 (send 0 1 ∷ []) ∷ Proposes 0 (topic 0) true ∷ Decides 0
+    ∷ Commits 0 to_b_and_c ∷ Proposes 0 (topic 1) true ∷ Proposes 0 (topic 2) true
+    ∷ Withdraws 0 ∷ Cancels 0 (topic 1) ∷ Leaves 0
+    ∷ Opens ∷ Connects 1 (Some 0) ∷ Commits 1 (send 3 3 ∷ []) ∷ Proposes 1 (topic 3) true ∷ Decides 1
+    ∷ Turns (topic 0) ∷ Turns (topic 1) ∷ Turns (topic 3) ∷ [])
+
 -- ---- what they come to
 
 -- of each run the outcomes, the stamps of each topic's log, and of each subscription what its queue has
@@ -324,3 +338,15 @@ pub record WorkedRows : Type 0 where
   pub lasting_floors : floors lasting ≡ stamp 11 1 ∷ stamp 2 1 ∷ []
   pub lasting_queue : queue lasting 0 ≡ lasting_at_b
   pub lasting_delivered : delivered_items 0 (answers_of lasting) ≡ lasting_at_b
+  -- a withdrawal and its cancelling leave the sender's floor as it was, also for its next connection
+  pub resuming_answers : answers_in_order resuming
+      ≡ Opened 0 ∷ Done ∷ Begun (transaction (id 0 1) (send 0 1 ∷ [])) ∷ Ticket (id 0 1) (stamp 5 0)
+      ∷ Decided (id 0 1) (stamp 5 0)
+      ∷ Begun (transaction (id 0 2) to_b_and_c) ∷ Ticket (id 0 2) (stamp 10 1)
+      ∷ Failed (id 0 2) ProposeFault.ClockFull ∷ Withdrawn (id 0 2) 0 ∷ Cancelled (id 0 2) (topic 1) ∷ Gone 0
+      ∷ Opened 1 ∷ Done ∷ Begun (transaction (id 0 3) (send 3 3 ∷ [])) ∷ Ticket (id 0 3) (stamp 6 3)
+      ∷ Decided (id 0 3) (stamp 6 3)
+      ∷ Turned (topic 0) 1 ∷ Turned (topic 1) 0 ∷ Turned (topic 3) 1 ∷ []
+  pub resuming_logs : log_stamps resuming 0 ∷ log_stamps resuming 1 ∷ log_stamps resuming 2 ∷ log_stamps resuming 3 ∷ []
+      ≡ (stamp 5 0 ∷ []) ∷ [] ∷ [] ∷ (stamp 6 3 ∷ []) ∷ []
+  pub resuming_floors : floors resuming ≡ stamp 6 3 ∷ []

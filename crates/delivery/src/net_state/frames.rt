@@ -15,14 +15,13 @@ ghost use Rattle.delivery.specs.Inner.Clients.{AreClients, MakesBoth};
 ghost use Rattle.delivery.specs.Inner.Nexts.{Asks, AsksNamed, AsksUnnamed, JudgesAt, MayEnd, MayLack, claims_none, idle_objection, is_sending, staged_endpoint, failed_endpoint, shortened_endpoint, error_text, receipt_text, HasFault};
 ghost use Rattle.delivery.specs.Inner.Senders.{asked_view};
 ghost use Rattle.delivery.specs.Inner.Stands.{IsReached, IsChecked, IsHeld, Makes};
-ghost use Rattle.delivery.specs.Inner.View.{EndpointView, view_of, written_endpoint, is_undecided, grouped_view};
+ghost use Rattle.delivery.specs.Inner.View.{EndpointView, view_of, written_endpoint, grouped_view};
 
 use super::{LOG_LIMIT, NetState};
 use crate::connection_fault::ConnectionFault;
 use crate::not_started::NotStarted;
 use crate::outcome::Outcome;
 use crate::refusal::Refusal;
-use crate::sending::Sending;
 use mcast_group::Group;
 use mcast_txn::{Topic, Txn};
 use sender_gate::Senders;
@@ -34,20 +33,13 @@ pub(super) const FRAME_NO_MEMORY: ConnectionFault = ConnectionFault::Session(
     SessionFault::NoMemory,
 );
 
-/// Whether a transaction is undecided.
-fn is_undecided(sending: &Sending) -> bool
-    ensures { result ≡ is_undecided sending.now }
-{
-    !matches!(sending, Sending::Idle(_))
-}
-
 impl NetState {
     /// Whether the sender has an undecided transaction; one that isn't there has none.
     fn is_sending(&self, sender: u64) -> bool
         ensures { result ≡ is_sending (slice_get self.now.senders sender) }
     {
         match self.senders.get(sender as usize) {
-            Some(state) => is_undecided(&state.sending),
+            Some(state) => state.is_undecided(),
             None => false,
         }
     }

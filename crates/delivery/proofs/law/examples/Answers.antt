@@ -38,4 +38,7 @@ returns c = record {
   lasting_floors = refl;
   lasting_queue = refl;
   lasting_delivered = refl;
+  resuming_answers = refl;
+  resuming_logs = refl;
+  resuming_floors = refl;
 }
