@@ -43,7 +43,8 @@ impl TopicBells {
         Ok(())
     }
 
-    /// Takes the bell of this connection out once.
+    /// Takes the bell of this connection out once. Room for more than twice as many as are left is given back where three
+    /// quarters of the room are free, so that a topic to which many had subscribed keeps nothing for them.
     pub(crate) fn remove<R: Wait>(&self, rt: &R, connection: u64) {
         let mut bells = self.bells.lock(rt);
         let bells = &mut *bells;
@@ -52,6 +53,9 @@ impl TopicBells {
             && at < bells.len()
         {
             bells.swap_remove(at);
+            if bells.capacity() / 4 > bells.len() {
+                bells.shrink_to(bells.len().saturating_mul(2));
+            }
         }
     }
 
