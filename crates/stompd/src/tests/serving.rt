@@ -11,6 +11,7 @@ mod many;
 mod memory;
 mod orders;
 mod peers;
+mod queued;
 mod served;
 mod sizes;
 mod slow;

@@ -3,7 +3,7 @@
 use super::Row;
 
 /// All of them.
-pub(crate) const SENDERS: &[&Row] = &[LASTING_SENDER, SENDER_IN_USE];
+pub(crate) const SENDERS: &[&Row] = &[LASTING_SENDER, SENDER_IN_USE, WITHDRAWN_SENDER];
 
 const LASTING_SENDER: &Row = &Row {
     script: br"# The sender p outlives its connection: it goes on with its count and its floor, and nobody else may have it before.
@@ -152,5 +152,76 @@ out 4 CONNECTED\nversion:1.2\nheart-beat:0,0\n\n\0
 ",
     trace: br"",
     answer: br"complete
+",
+};
+
+const WITHDRAWN_SENDER: &Row = &Row {
+    script: br"# A withdrawn transaction leaves its sender's floor as it was: the next ticket is above the last stamp, 5 at A, and not above the cancelled ticket, 10 at B.
+topic A 4
+topic B 9
+topic C 18446744073709551615
+topic D 0
+open
+piece 0 CONNECT\naccept-version:1.2\nhost:h\nclient-id:p\n\n\0SEND\ndestination:A\n\n1\0BEGIN\ntransaction:x\n\n\0SEND\ndestination:B\ntransaction:x\n\n2\0SEND\ndestination:C\ntransaction:x\n\n2\0COMMIT\ntransaction:x\n\n\0
+next 0
+next 0
+propose 0 0
+decide 0
+next 0
+next 0
+next 0
+next 0
+propose 0 1
+propose 0 2
+withdraw 0
+cancel 0 1
+leave 0
+open
+piece 1 CONNECT\naccept-version:1.2\nhost:h\nclient-id:p\n\n\0SEND\ndestination:D\n\n3\0
+next 1
+next 1
+propose 1 3
+decide 1
+turn 0
+turn 1
+turn 3
+",
+    output: br"conn 0
+fed
+done
+flight 0 1
+ticket 5
+stamp 5.0
+done
+done
+done
+flight 0 2
+ticket 10
+failed 40 ClockFull
+withdrawn
+cancelled
+gone
+conn 1
+fed
+done
+flight 0 3
+ticket 6
+stamp 6.3
+turned 1
+turned 0
+turned 1
+commit 0 1 5.0 0
+commit 0 3 6.3 3
+log 0 0 1 5.0 0
+log 3 0 3 6.3 3
+out 0 CONNECTED\nversion:1.2\nheart-beat:0,0\n\n\0ERROR\nmessage:40 ClockFull\ncontent-length:0\n\n\0
+out 1 CONNECTED\nversion:1.2\nheart-beat:0,0\n\n\0
+",
+    trace: br"log 0 0 1 5.0 0
+log 3 0 3 6.3 3
+",
+    answer: br"agreed 0 1 5.0 0
+agreed 0 3 6.3 3
+complete
 ",
 };

@@ -1,0 +1,393 @@
+//! The scripts of `examples/scripts`, of which one piece is cut, or one octet of a piece is another.
+
+use super::script_rows::{FRAMES, ORDER, Row, SENDERS, SPANS, USES};
+use broker_server::{Script, ScriptFault};
+use delivery::{Event, EventList, MAX_CAPACITY, Net, Outcome, Refusal, Topics};
+use std::alloc::Global;
+use stomp_frame::{NoMemory, Octets};
+use trace_audit::audit;
+
+/// At most so many frames are read of a piece, and so many subscriptions closed.
+const MOST: u32 = 100;
+
+// ---- runs
+
+/// An event like this one.
+fn copied(alloc: Global, event: &Event) -> Result<Event, NoMemory> {
+    Ok(match event {
+        Event::Open => Event::Open,
+        Event::Piece(c, octets) => {
+            Event::Piece(*c, Octets::from_slice(alloc, octets.as_slice())?)
+        }
+        Event::Next(c) => Event::Next(*c),
+        Event::Propose(c, t) => Event::Propose(*c, *t),
+        Event::Decide(c) => Event::Decide(*c),
+        Event::Withdraw(c) => Event::Withdraw(*c),
+        Event::Cancel(c, t) => Event::Cancel(*c, *t),
+        Event::Learn(t, id) => Event::Learn(*t, *id),
+        Event::Release(t) => Event::Release(*t),
+        Event::Turn(t) => Event::Turn(*t),
+        Event::Take(s) => Event::Take(*s),
+        Event::Leave(c) => Event::Leave(*c),
+        Event::Lost(c) => Event::Lost(*c),
+    })
+}
+
+/// What comes of an event.
+fn step(net: &mut Net, event: Event) -> Result<Outcome, NoMemory> {
+    net.reserve(1)?;
+    Ok(net.step(event))
+}
+
+/// Takes these events from one index to another.
+fn take(
+    alloc: Global,
+    net: &mut Net,
+    events: &EventList,
+    from: usize,
+    to: usize,
+) -> Result<(), NoMemory> {
+    for i in from..to {
+        if let Some(event) = events.get(i) {
+            let event = copied(alloc, event)?;
+            step(net, event)?;
+        }
+    }
+    Ok(())
+}
+
+/// A script, as it is parsed.
+#[derive(Drop)]
+struct Parsed {
+    capacity: usize,
+    topics: Topics,
+    events: EventList,
+}
+
+/// The script of this text, if it is one.
+fn script_of(alloc: Global, text: &[u8]) -> Result<Option<Parsed>, NoMemory> {
+    match Script::parse(alloc, text) {
+        Ok(script) => {
+            let (capacity, topics, events) = script.into_parts();
+            Ok(Some(Parsed {
+                capacity,
+                topics,
+                events,
+            }))
+        }
+        Err(ScriptFault::BadLine(_)) => Ok(None),
+        Err(ScriptFault::NoMemory) => Err(NoMemory),
+    }
+}
+
+/// Topics like these.
+fn copied_topics(alloc: Global, topics: &Topics) -> Result<Topics, NoMemory> {
+    let mut copy = Topics::new(alloc);
+    for i in 0..topics.len() {
+        let name = topics.name(i);
+        if copy.may_add(name) {
+            copy.add(name, topics.clock(i))?;
+        }
+    }
+    Ok(copy)
+}
+
+/// A script's core that has taken the events before this index.
+fn before(alloc: Global, script: &Parsed, index: usize) -> Result<Net, NoMemory> {
+    let capacity = script.capacity;
+    if capacity == 0 || capacity > MAX_CAPACITY {
+        return Err(NoMemory);
+    }
+    let mut net = Net::new(alloc, copied_topics(alloc, &script.topics)?, capacity)?;
+    net.reserve(script.events.len())?;
+    take(alloc, &mut net, &script.events, 0, index)?;
+    Ok(net)
+}
+
+/// A piece of a script: its index among the events, its connection and its octets.
+#[derive(Clone, Copy, Drop)]
+struct Piece<'a> {
+    index: usize,
+    c: u64,
+    octets: &'a [u8],
+}
+
+/// The piece at this index, if it is one.
+fn piece_at(script: &Parsed, index: usize) -> Option<Piece<'_>> {
+    match script.events.get(index) {
+        Some(Event::Piece(c, octets)) => Some(Piece {
+            index,
+            c: *c,
+            octets: octets.as_slice(),
+        }),
+        _ => None,
+    }
+}
+
+/// Whether the audit of the core's trace is a yes.
+fn is_yes(alloc: Global, net: &Net) -> Result<bool, NoMemory> {
+    Ok(audit(alloc, &net.trace()?).is_ok())
+}
+
+// ---- pieces that are cut
+
+/// What comes of the connection's frames, until it is refused one.
+fn read(alloc: Global, net: &mut Net, c: u64) -> Result<Vec<Outcome>, NoMemory> {
+    let mut outcomes = Vec::new(alloc);
+    for _ in 0..MOST {
+        let outcome = step(net, Event::Next(c))?;
+        if matches!(outcome, Outcome::Refused(_)) {
+            return Ok(outcomes);
+        }
+        outcomes.push(outcome)?;
+    }
+    Ok(outcomes)
+}
+
+/// Whether the connection is lost, and then gone; or not, since its transaction isn't decided, or its tickets aren't
+/// cancelled.
+fn is_lost(net: &mut Net, c: u64) -> Result<bool, NoMemory> {
+    step(net, Event::Lost(c))?;
+    for _ in 0..MOST {
+        match step(net, Event::Leave(c))? {
+            Outcome::Unsubscribed(_, _) => {}
+            Outcome::Gone { cut: false } => return Ok(true),
+            Outcome::Refused(why) => return Ok(why == Refusal::Busy || why == Refusal::Gone),
+            _ => return Ok(false),
+        }
+    }
+    Ok(false)
+}
+
+/// What comes of the frames of the front of a piece before this octet, where its connection is lost behind them; `None` where
+/// it isn't gone then, a row was committed, or the audit of the trace is no yes.
+fn cut(
+    alloc: Global,
+    script: &Parsed,
+    piece: Piece<'_>,
+    at: usize,
+) -> Result<Option<Vec<Outcome>>, NoMemory> {
+    let Some(front) = piece.octets.get(..at) else {
+        return Ok(None);
+    };
+    let mut net = before(alloc, script, piece.index)?;
+    let commits = net.report().commits_len();
+    step(
+        &mut net,
+        Event::Piece(piece.c, Octets::from_slice(alloc, front)?),
+    )?;
+    let outcomes = read(alloc, &mut net, piece.c)?;
+    let is_right = is_lost(&mut net, piece.c)?
+        && net.report().commits_len() == commits
+        && is_yes(alloc, &net)?;
+    Ok(if is_right { Some(outcomes) } else { None })
+}
+
+/// Whether the frames of each front of the piece come to what the first frames of all of it do: a cut makes no fault.
+fn may_be_cut(alloc: Global, script: &Parsed, piece: Piece<'_>) -> Result<bool, NoMemory> {
+    let len = piece.octets.len();
+    let Some(whole) = cut(alloc, script, piece, len)? else {
+        return Ok(false);
+    };
+    for at in 0..len {
+        match cut(alloc, script, piece, at)? {
+            Some(front) if whole.as_slice().starts_with(front.as_slice()) => {}
+            _ => return Ok(false),
+        }
+    }
+    Ok(true)
+}
+
+// ---- pieces that are changed
+
+/// What each octet is replaced by: what means something to a reader of frames, and what is no UTF-8.
+const OCTETS: [u8; 6] = [0, b'\r', b'\n', b':', b'\\', 255];
+
+/// These octets, with this one at this place.
+fn changed(alloc: Global, octets: &[u8], at: usize, octet: u8) -> Result<Octets, NoMemory> {
+    let mut changed = Octets::new(alloc);
+    if let Some(front) = octets.get(..at) {
+        changed.extend(front)?;
+    }
+    changed.push(octet)?;
+    if let Some(behind) = octets.get(at.saturating_add(1)..) {
+        changed.extend(behind)?;
+    }
+    Ok(changed)
+}
+
+/// Whether the rest of the script's events can be taken behind a piece of which one octet is this, and the audit of the trace
+/// is a yes.
+fn audits_to_yes(
+    alloc: Global,
+    script: &Parsed,
+    piece: Piece<'_>,
+    at: usize,
+    octet: u8,
+) -> Result<bool, NoMemory> {
+    let mut net = before(alloc, script, piece.index)?;
+    let octets = changed(alloc, piece.octets, at, octet)?;
+    step(&mut net, Event::Piece(piece.c, octets))?;
+    let behind = piece.index.saturating_add(1);
+    take(alloc, &mut net, &script.events, behind, script.events.len())?;
+    is_yes(alloc, &net)
+}
+
+/// Whether it is so with each of OCTETS at this place.
+fn audits_with_each(
+    alloc: Global,
+    script: &Parsed,
+    piece: Piece<'_>,
+    at: usize,
+) -> Result<bool, NoMemory> {
+    for octet in OCTETS {
+        if !audits_to_yes(alloc, script, piece, at, octet)? {
+            return Ok(false);
+        }
+    }
+    Ok(true)
+}
+
+/// Whether it is so at each place of the piece.
+fn may_be_changed(alloc: Global, script: &Parsed, piece: Piece<'_>) -> Result<bool, NoMemory> {
+    for at in 0..piece.octets.len() {
+        if !audits_with_each(alloc, script, piece, at)? {
+            return Ok(false);
+        }
+    }
+    Ok(true)
+}
+
+// ---- all pieces
+
+/// What is done to a piece.
+#[derive(Clone, Copy)]
+enum Done {
+    Cut,
+    Changed,
+}
+
+/// Whether it may be done to the event of this index, and how many octets it has; an event that is no piece has none.
+fn holds_at(
+    alloc: Global,
+    done: Done,
+    script: &Parsed,
+    index: usize,
+) -> Result<(bool, usize), NoMemory> {
+    let Some(piece) = piece_at(script, index) else {
+        return Ok((true, 0));
+    };
+    let may_be = match done {
+        Done::Cut => may_be_cut(alloc, script, piece)?,
+        Done::Changed => may_be_changed(alloc, script, piece)?,
+    };
+    Ok((may_be, piece.octets.len()))
+}
+
+/// How many octets the pieces of a script have, where it may be done to each; else `None`.
+fn held(alloc: Global, done: Done, text: &[u8]) -> Result<Option<usize>, NoMemory> {
+    let Some(script) = script_of(alloc, text)? else {
+        return Ok(Some(0));
+    };
+    let mut octets = 0usize;
+    for index in 0..script.events.len() {
+        let (may_be, len) = holds_at(alloc, done, &script, index)?;
+        if !may_be {
+            return Ok(None);
+        }
+        octets = octets.saturating_add(len);
+    }
+    Ok(Some(octets))
+}
+
+/// Whether it may be done to each piece of the scripts of these that stand from one index to before another. These pieces
+/// have more than 100 octets.
+fn is_held(
+    alloc: Global,
+    done: Done,
+    rows: &[&Row],
+    from: usize,
+    to: usize,
+) -> Result<bool, NoMemory> {
+    let mut octets = 0usize;
+    for (i, row) in rows.iter().enumerate() {
+        if i < from || i >= to {
+            continue;
+        }
+        let Some(len) = held(alloc, done, row.script)? else {
+            return Ok(false);
+        };
+        octets = octets.saturating_add(len);
+    }
+    Ok(octets > 100)
+}
+
+#[test]
+fn pieces_of_order_may_be_cut(rt: HostRuntime) {
+    assert!(rt; is_held(rt.alloc(), Done::Cut, ORDER, 0, 6) == Ok(true));
+}
+
+#[test]
+fn pieces_of_spans_may_be_cut(rt: HostRuntime) {
+    assert!(rt; is_held(rt.alloc(), Done::Cut, SPANS, 0, 4) == Ok(true));
+}
+
+#[test]
+fn pieces_of_frames_may_be_cut(rt: HostRuntime) {
+    assert!(rt; is_held(rt.alloc(), Done::Cut, FRAMES, 0, 8) == Ok(true));
+}
+
+#[test]
+fn pieces_of_uses_may_be_cut(rt: HostRuntime) {
+    assert!(rt; is_held(rt.alloc(), Done::Cut, USES, 0, 2) == Ok(true));
+}
+
+#[test]
+fn pieces_of_senders_may_be_cut(rt: HostRuntime) {
+    assert!(rt; is_held(rt.alloc(), Done::Cut, SENDERS, 0, 2) == Ok(true));
+}
+
+#[test]
+fn pieces_of_crossing_transactions_may_be_changed(rt: HostRuntime) {
+    assert!(rt; is_held(rt.alloc(), Done::Changed, ORDER, 0, 3) == Ok(true));
+}
+
+#[test]
+fn pieces_of_other_orders_may_be_changed(rt: HostRuntime) {
+    assert!(rt; is_held(rt.alloc(), Done::Changed, ORDER, 3, 6) == Ok(true));
+}
+
+#[test]
+fn pieces_of_ended_spans_may_be_changed(rt: HostRuntime) {
+    assert!(rt; is_held(rt.alloc(), Done::Changed, SPANS, 0, 2) == Ok(true));
+}
+
+#[test]
+fn pieces_of_lags_may_be_changed(rt: HostRuntime) {
+    assert!(rt; is_held(rt.alloc(), Done::Changed, SPANS, 2, 4) == Ok(true));
+}
+
+#[test]
+fn pieces_of_frames_may_be_changed(rt: HostRuntime) {
+    assert!(rt; is_held(rt.alloc(), Done::Changed, FRAMES, 0, 5) == Ok(true));
+}
+
+#[test]
+fn pieces_of_faults_may_be_changed(rt: HostRuntime) {
+    assert!(rt; is_held(rt.alloc(), Done::Changed, FRAMES, 5, 8) == Ok(true));
+}
+
+#[test]
+fn pieces_of_uses_may_be_changed(rt: HostRuntime) {
+    assert!(rt; is_held(rt.alloc(), Done::Changed, USES, 0, 2) == Ok(true));
+}
+
+#[test]
+fn pieces_of_a_lasting_sender_may_be_changed(rt: HostRuntime) {
+    assert!(rt; is_held(rt.alloc(), Done::Changed, SENDERS, 0, 1) == Ok(true));
+}
+
+#[test]
+fn pieces_of_a_sender_in_use_may_be_changed(rt: HostRuntime) {
+    assert!(rt; is_held(rt.alloc(), Done::Changed, SENDERS, 1, 2) == Ok(true));
+}
