@@ -1,6 +1,7 @@
 //! Times a program and its baseline on each input of a benchmark and prints the table:
 //! `measure frames|pieces|transactions|topic|group|core|locks|script|audit PROGRAM BASELINE FOLDER`, or `measure relay` with the floor
-//! before the folder, or `measure held PROGRAM FOLDER`. It refuses outputs that differ, and judges no time.
+//! before the folder, or `measure held PROGRAM FOLDER`. It refuses outputs that differ, and judges no time. `measure once INPUT WORDS`
+//! runs one command once.
 
 use std::env;
 use std::fs::{self, File};
@@ -210,6 +211,13 @@ fn measure<const N: usize>(
 /// The length of an input, in octets.
 fn length(folder: &Path, name: &str) -> io::Result<f64> {
     Ok(fs::metadata(folder.join(name).with_extension("stomp"))?.len() as f64)
+}
+
+/// What one run took: its processor time in microseconds, and its peak in octets.
+fn print_once(words: &[&str], input: &Path) -> io::Result<()> {
+    let cost = run(words, input, Path::new("/dev/null"))?;
+    println!("{} {}", cost.processor.as_micros(), cost.peak);
+    Ok(())
 }
 
 fn print_relay(programs: [&str; 3], folder: &Path) -> io::Result<()> {
@@ -472,6 +480,7 @@ fn main() -> ExitCode {
         ["core", program, baseline, folder] => ("core", print_core(program, baseline, Path::new(folder))),
         ["locks", program, baseline, folder] => ("locks", print_locks(program, baseline, Path::new(folder))),
         ["held", program, folder] => ("locks", print_held(program, Path::new(folder))),
+        ["once", input, ..] => ("growth", print_once(&words[2..], Path::new(input))),
         ["script", program, baseline, folder] => {
             ("script", print_script(program, baseline, Path::new(folder)))
         }

@@ -11,7 +11,7 @@ import time
 
 from servers import Process, Stop
 
-START_SECONDS = 90
+START_SECONDS = 240
 STOP_SECONDS = 20
 
 RABBITMQ = "/usr/lib/rabbitmq/bin/rabbitmq-server"

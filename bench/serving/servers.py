@@ -9,7 +9,7 @@ import time
 HERE = os.path.dirname(os.path.abspath(__file__))
 ROOT = os.path.dirname(os.path.dirname(HERE))
 OUT = os.path.join(ROOT, "bench", "out")
-STOMPD = os.path.join(ROOT, "crates", "stompd", "out", "stompd")
+STOMPD = os.environ.get("STOMPD", os.path.join(ROOT, "crates", "stompd", "out", "stompd"))
 
 # How long a server may take until it listens, and until it has ended, in seconds.
 START_SECONDS = 30
