@@ -2,11 +2,12 @@
 
 pub(crate) mod asks;
 mod broken_streams;
-mod claimed;
+pub(crate) mod claimed;
 mod draws;
 mod event_list;
 mod faults;
-mod made;
+mod kept_ids;
+pub(crate) mod made;
 mod many_topics;
 mod net;
 mod past;

@@ -13,7 +13,7 @@ use std::test::Fail;
 use stomp_frame::NoMemory;
 
 /// How many runs there are, how many draws each has, and how many connections at most.
-const RUNS: u32 = 150;
+pub(crate) const RUNS: u32 = 150;
 
 const DRAWS: u32 = 320;
 
@@ -225,7 +225,7 @@ fn drawn(
 
 /// What came in all runs.
 #[derive(Clone, Copy, Debug, PartialEq, Eq)]
-struct Seen {
+pub(crate) struct Seen {
     commits: usize,
     handed: usize,
     /// Transactions of a sender that an earlier connection had claimed.
@@ -246,6 +246,19 @@ fn more(count: usize, is_so: bool) -> usize {
 }
 
 impl Seen {
+    /// Nothing yet.
+    pub(crate) fn new() -> Seen {
+        Seen {
+            commits: 0,
+            handed: 0,
+            went_on: 0,
+            in_use: 0,
+            withdrawn: 0,
+            unknown: 0,
+            topics: [0; 4],
+        }
+    }
+
     fn add_error(&mut self, title: &str) {
         self.in_use = more(self.in_use, title == "77 SenderInUse");
         self.withdrawn = more(self.withdrawn, title == "40 ClockFull");
@@ -271,7 +284,7 @@ impl Seen {
     }
 
     /// Whether all came often, but no topic H.
-    fn is_enough(&self) -> bool {
+    pub(crate) fn is_enough(&self) -> bool {
         let [aborted, withdrawn, open, refused] = self.topics;
         [self.commits, self.handed, self.went_on, self.in_use]
             .iter()
@@ -283,42 +296,55 @@ impl Seen {
     }
 }
 
-/// Whether each outcome of the run may be, and what is reported at its end is right. In every other run the clock of B is
-/// nearly full.
-fn holds(alloc: Global, run: u32, seen: &mut Seen) -> Result<bool, NoMemory> {
-    let kind = if run % 2 == 0 {
+/// Which opening topics the run of this number has: in every other the clock of B is nearly full.
+pub(crate) fn kind_of(run: u32) -> u32 {
+    if run % 2 == 0 {
         run.wrapping_mul(4)
     } else {
         run
-    };
-    let mut net = new_net(alloc, kind)?;
-    let mut past = Past::new(alloc, opening(kind))?;
-    let mut draws = Draws::of(run.wrapping_add(1_000));
-    if !begin(alloc, &mut net, &mut past, &mut draws)? {
-        return Ok(false);
     }
+}
+
+/// Whether each of so many outcomes that are drawn may be.
+fn are_right(
+    alloc: Global,
+    net: &mut Net,
+    past: &mut Past,
+    draws: &mut Draws,
+) -> Result<bool, NoMemory> {
     for _ in 0..DRAWS {
-        if !drawn(alloc, &mut net, &mut past, &mut draws)? {
+        if !drawn(alloc, net, past, draws)? {
             return Ok(false);
         }
     }
+    Ok(true)
+}
+
+/// The core that has taken a run; and whether each outcome of it may be, and what is reported at its end is right.
+pub(crate) fn judged(
+    alloc: Global,
+    run: u32,
+    seen: &mut Seen,
+) -> Result<(Net, bool), NoMemory> {
+    let kind = kind_of(run);
+    let mut net = new_net(alloc, kind)?;
+    let mut past = Past::new(alloc, opening(kind))?;
+    let mut draws = Draws::of(run.wrapping_add(1_000));
+    if !begin(alloc, &mut net, &mut past, &mut draws)?
+        || !are_right(alloc, &mut net, &mut past, &mut draws)?
+    {
+        return Ok((net, false));
+    }
     seen.add(&past);
-    is_right(alloc, &net.report(), &past)
+    let is_right = is_right(alloc, &net.report(), &past)?;
+    Ok((net, is_right))
 }
 
 #[test]
 fn made_runs_with_client_ids(rt: HostRuntime) -> Result<(), Fail> {
-    let mut seen = Seen {
-        commits: 0,
-        handed: 0,
-        went_on: 0,
-        in_use: 0,
-        withdrawn: 0,
-        unknown: 0,
-        topics: [0; 4],
-    };
+    let mut seen = Seen::new();
     for run in 0..RUNS {
-        assert!(rt; holds(rt.alloc(), run, &mut seen)?, "run {run}");
+        assert!(rt; judged(rt.alloc(), run, &mut seen)?.1, "run {run}");
     }
     assert!(rt; seen.is_enough(), "{seen:?}");
     Ok(())

@@ -1,11 +1,11 @@
 //! Made runs, judged by a plain, slow program: it sorts and filters what the outcomes say, and holds no clock.
 
-use super::asks::{Ask, event, topics};
+use super::asks::{Ask, event};
 use super::draws::Made;
 use super::past::{Past, Span};
 use super::replies::{Dues, Reply, out};
 use crate::tests::draws::Draws;
-use delivery::{CommitRow, Net, Outcome, QueueItem, QueueReport, Report, agreed, due};
+use delivery::{CommitRow, Net, Outcome, QueueItem, QueueReport, Report, Topics, agreed, due};
 use mcast_group::Row;
 use mcast_txn::{Released, SentMessage, Stamp, Topic, TxnId};
 use std::alloc::Global;
@@ -360,22 +360,39 @@ impl Seen {
 }
 
 /// The letters of the opening topics of a run: every third makes C where a frame names it.
-pub(super) fn opening(run: u32) -> &'static [u8] {
+pub(crate) fn opening(run: u32) -> &'static [u8] {
     if run % 3 == 0 { b"AB" } else { b"ABC" }
 }
 
-/// The core of a run: every eighth has a topic whose clock is nearly full.
+/// The opening clock of the topic of this letter: every eighth run has one that is nearly full.
+pub(crate) fn clock(run: u32, letter: u8) -> u64 {
+    match letter {
+        b'A' => 0,
+        b'B' if run % 8 == 0 => u64::MAX - 2,
+        b'B' => 4,
+        _ => 2,
+    }
+}
+
+/// The opening topics of a run.
+fn opening_topics(alloc: Global, run: u32) -> Result<Topics, NoMemory> {
+    let mut topics = Topics::new(alloc);
+    for letter in opening(run) {
+        let name = [*letter];
+        if topics.may_add(&name) {
+            topics.add(&name, clock(run, *letter))?;
+        }
+    }
+    Ok(topics)
+}
+
+/// The core of a run. In every other run a queue has room for one item.
 pub(super) fn new_net(alloc: Global, run: u32) -> Result<Net, NoMemory> {
-    let clock = if run % 8 == 0 { u64::MAX - 2 } else { 4 };
-    let names = if run % 3 == 0 {
-        topics(alloc, &[(b"A".as_slice(), 0), (b"B", clock)])?
-    } else {
-        topics(alloc, &[(b"A".as_slice(), 0), (b"B", clock), (b"C", 2)])?
-    };
+    let topics = opening_topics(alloc, run)?;
     if run % 2 == 0 {
-        Net::new(alloc, names, 1)
+        Net::new(alloc, topics, 1)
     } else {
-        Net::new(alloc, names, 8)
+        Net::new(alloc, topics, 8)
     }
 }
 

@@ -1,8 +1,11 @@
-//! Scripts made of runs that are drawn: each gives the run that it was made of.
+//! Scripts made of runs that are drawn: each gives the run that it was made of. Three connections connect in their order, or
+//! up to 14 come and go with client-ids, two of which are opened before the second connects first.
 
 use super::print::reports::outcomes_of;
 use super::script_events::shown;
 use super::scripting::{Asked, writes, written};
+use crate::tests::broker_core::claimed::{self, judged, kind_of};
+use crate::tests::broker_core::made::{clock, opening};
 use crate::tests::draws::Draws;
 use broker_server::{ProgramFault, print_report};
 use delivery::{Event, Net, Outcome, Topics};
@@ -283,5 +286,50 @@ fn drawn_runs_are_given_again(rt: HostRuntime) -> Result<(), Fail> {
     assert!(rt; seen.handed > RUNS as usize, "{} handed", seen.handed);
     assert!(rt; seen.lags > 0);
     assert!(rt; seen.closed > 0);
+    Ok(())
+}
+
+// ---- runs with client-ids
+
+/// Puts the settings of a run with client-ids.
+fn put_settings(kind: u32, script: &mut Octets) -> Result<(), NoMemory> {
+    for letter in opening(kind) {
+        put_setting(&[b't', b'o', b'p', b'i', b'c', b' ', *letter], clock(kind, *letter), script)?;
+    }
+    let capacity = if kind % 2 == 0 { 1 } else { 8 };
+    put_setting(b"capacity", capacity, script)
+}
+
+/// Puts the lines of the events that a core has taken.
+fn put_taken(net: &Net, script: &mut Octets) -> Result<(), NoMemory> {
+    for i in 0..net.kept_len() {
+        if let Some(kept) = net.kept(i) {
+            put_event(&kept.event, script)?;
+        }
+    }
+    Ok(())
+}
+
+/// Whether a run with client-ids is one that the plain program finds right, and its script gives it.
+fn is_given_with_ids(
+    alloc: Global,
+    run: u32,
+    seen: &mut claimed::Seen,
+) -> Result<bool, ProgramFault> {
+    let (net, is_right) = judged(alloc, run, seen)?;
+    let mut script = Octets::new(alloc);
+    put_settings(kind_of(run), &mut script)?;
+    put_taken(&net, &mut script)?;
+    Ok(is_right && gives(alloc, script.as_slice(), &net)?)
+}
+
+/// The expected values are those of a core whose outcomes and report the plain program has judged.
+#[test]
+fn drawn_runs_with_client_ids_are_given_again(rt: HostRuntime) -> Result<(), Fail> {
+    let mut seen = claimed::Seen::new();
+    for run in 0..claimed::RUNS {
+        assert!(rt; is_given_with_ids(rt.alloc(), run, &mut seen)?, "run {run}");
+    }
+    assert!(rt; seen.is_enough(), "{seen:?}");
     Ok(())
 }
