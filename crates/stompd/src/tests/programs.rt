@@ -1,6 +1,7 @@
 //! Worked examples of the programs, over readers and writers that do as little as they may, or fail.
 
 mod auditing;
+mod broken_scripts;
 mod details;
 mod ending;
 mod failing;

@@ -20,7 +20,7 @@ fn words(alloc: Global, port: u16) -> Result<Vec<String>, AllocError> {
 }
 
 /// How the server ends, and how much it writes, at an address where another listens.
-fn at_a_used_address<R>(rt: &R, alloc: Global) -> Option<(u8, Option<Message>, usize)>
+pub(super) fn at_a_used_address<R>(rt: &R, alloc: Global) -> Option<(u8, Option<Message>, usize)>
 where
     R: Threads + Wait + Net + Clock + Log + Send + Sync,
 {

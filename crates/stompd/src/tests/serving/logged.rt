@@ -12,10 +12,10 @@ use std::sync::{Mutex, Wait};
 
 /// A log that keeps its lines.
 #[derive(Clone, Copy)]
-struct Kept<'a, R: Wait> {
-    rt: &'a R,
-    alloc: Global,
-    lines: &'a Mutex<Vec<String>>,
+pub(super) struct Kept<'a, R: Wait> {
+    pub(super) rt: &'a R,
+    pub(super) alloc: Global,
+    pub(super) lines: &'a Mutex<Vec<String>>,
 }
 
 impl<'a, R: Wait> Log for Kept<'a, R> {

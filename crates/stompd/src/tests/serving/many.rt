@@ -38,7 +38,7 @@ fn one_is_closed(alloc: Global, lines: &mut Lines) -> bool {
 
 /// 256 connect, one more comes, and then the 256 send.
 #[derive(Drop)]
-struct Many;
+pub(super) struct Many;
 
 impl Peers for Many {
     fn count(&self) -> u64 {

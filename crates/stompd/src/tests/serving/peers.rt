@@ -123,7 +123,7 @@ fn one_resets(alloc: Global, lines: &mut Lines) -> bool {
 
 /// One subscribes; another resets its connection; then one sends.
 #[derive(Drop)]
-struct Reset;
+pub(super) struct Reset;
 
 impl Peers for Reset {
     fn count(&self) -> u64 {

@@ -150,7 +150,7 @@ fn ends_lagged_at_a(client: &mut Client) -> bool {
 
 /// One subscribes to A and B, and reads only after a burst to A behind a SEND to B.
 #[derive(Drop)]
-struct OneOfTwo;
+pub(super) struct OneOfTwo;
 
 impl Peers for OneOfTwo {
     fn count(&self) -> u64 {
@@ -200,7 +200,7 @@ fn is_given_up(slow: &mut Client, other: &mut Client) -> bool {
 
 /// One subscribes, has more waiting than it can be told, and is refused a frame; it never reads its ERROR.
 #[derive(Drop)]
-struct Silent;
+pub(super) struct Silent;
 
 impl Peers for Silent {
     fn count(&self) -> u64 {

@@ -98,6 +98,20 @@ const LINES: &[(Outcome, &[u8])] = &[
         },
         b"error 74 Lagged\n",
     ),
+    (
+        Outcome::Faulted {
+            fault: ConnectionFault::SenderInUse,
+            cut: false,
+        },
+        b"error 77 SenderInUse\n",
+    ),
+    (
+        Outcome::Faulted {
+            fault: ConnectionFault::TooManyClients,
+            cut: false,
+        },
+        b"error 78 TooManyClients\n",
+    ),
     (Outcome::Leaving, b"leaving\n"),
     (Outcome::Gone { cut: false }, b"gone\n"),
     (Outcome::Gone { cut: true }, b"gone\n"),
