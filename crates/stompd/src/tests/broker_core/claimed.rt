@@ -321,11 +321,7 @@ fn are_right(
 }
 
 /// The core that has taken a run; and whether each outcome of it may be, and what is reported at its end is right.
-pub(crate) fn judged(
-    alloc: Global,
-    run: u32,
-    seen: &mut Seen,
-) -> Result<(Net, bool), NoMemory> {
+pub(crate) fn judged(alloc: Global, run: u32, seen: &mut Seen) -> Result<(Net, bool), NoMemory> {
     let kind = kind_of(run);
     let mut net = new_net(alloc, kind)?;
     let mut past = Past::new(alloc, opening(kind))?;

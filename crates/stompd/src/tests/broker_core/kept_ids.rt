@@ -12,10 +12,7 @@ const IDS: u64 = 65_536;
 
 /// A CONNECT whose client-id is this number.
 fn connect_of(alloc: Global, id: u64) -> Result<Octets, NoMemory> {
-    let mut octets = Octets::from_slice(
-        alloc,
-        b"CONNECT\naccept-version:1.2\nhost:h\nclient-id:",
-    )?;
+    let mut octets = Octets::from_slice(alloc, b"CONNECT\naccept-version:1.2\nhost:h\nclient-id:")?;
     octets.extend(Buffer::new().format(id).as_bytes())?;
     octets.extend(b"\n\n\0")?;
     Ok(octets)

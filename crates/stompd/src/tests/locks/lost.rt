@@ -14,15 +14,14 @@ use mcast_group::{SubFault, SubState};
 use mcast_txn::{Released, Stamp, Topic};
 use sender_gate::{ClaimFault, Flying, Gate};
 use std::alloc::Global;
-use std::io;
 use std::io::{ErrorKind, Write};
 use std::marker::Brand;
 use std::sync::Wait;
 use std::sync::atomic::{AtomicU64, Ordering};
 use std::sync::ledger::Blank;
 use std::test::Fail;
-use std::thread;
 use std::thread::Threads;
+use std::{io, thread};
 use stomp_frame::ClientFrame;
 use stomp_session::{Names, Session, Step};
 use trace_audit::Trace;
@@ -30,7 +29,8 @@ use trace_audit::Trace;
 /// What the connection is fed: first its CONNECT, and then its transaction.
 const CONNECT: &[u8] = b"CONNECT\naccept-version:1.2\nhost:h\nclient-id:c\n\n\0";
 
-const COMMIT: &[u8] = b"BEGIN\ntransaction:x\n\n\0SEND\ndestination:A\ntransaction:x\n\nm\0SEND\ndestination:B\ntransaction:x\n\nm\0COMMIT\ntransaction:x\nreceipt:r\n\n\0";
+const COMMIT: &[u8] =
+    b"BEGIN\ntransaction:x\n\n\0SEND\ndestination:A\ntransaction:x\n\nm\0SEND\ndestination:B\ntransaction:x\n\nm\0COMMIT\ntransaction:x\nreceipt:r\n\n\0";
 
 /// All that its peer reads.
 const CONNECTED: &[u8] = b"CONNECTED\nversion:1.2\nheart-beat:0,0\n\n\0";
@@ -111,7 +111,9 @@ impl<'a, R: Wait, W: Side, T: Side> BrokerCalls for Calls<'a, R, W, T> {
             stage: self.stage,
             met: false,
         };
-        let done = self.broker.commit(self.rt, &mut self.worker, flying, &mut point);
+        let done = self
+            .broker
+            .commit(self.rt, &mut self.worker, flying, &mut point);
         match done {
             Ok((gate, stamp)) => {
                 if point.met {
@@ -234,9 +236,7 @@ fn goes_on<R: Wait, W: Side, T: Side>(
     let (sender, seq, floor) = (gate.sender().0, gate.seq(), gate.floor());
     let mut worker = broker.join(rt).ok()?;
     let flying = begun(alloc, gate, &[0])?;
-    let (gate, stamp) = broker
-        .commit(rt, &mut worker, flying, &mut Quiet)
-        .ok()?;
+    let (gate, stamp) = broker.commit(rt, &mut worker, flying, &mut Quiet).ok()?;
     broker.give_back(rt, gate);
     Some((sender, seq, floor, stamp))
 }

@@ -2,9 +2,8 @@
 
 use super::script_rows::{FRAMES, ORDER, Row, SENDERS, SPANS, USES};
 use broker_server::{Script, ScriptFault};
-use delivery::{Event, EventList, Net, Outcome, Refusal};
+use delivery::{Event, EventList, MAX_CAPACITY, Net, Outcome, Refusal, Topics};
 use std::alloc::Global;
-use std::test::Fail;
 use stomp_frame::{NoMemory, Octets};
 use trace_audit::audit;
 
@@ -57,37 +56,70 @@ fn take(
     Ok(())
 }
 
-/// A script's core before its first event, and its events; `None` where a line is bad.
-fn begun(alloc: Global, script: &[u8]) -> Result<Option<(Net, EventList)>, NoMemory> {
-    let script = match Script::parse(alloc, script) {
-        Ok(script) => script,
-        Err(ScriptFault::BadLine(_)) => return Ok(None),
-        Err(ScriptFault::NoMemory) => return Err(NoMemory),
-    };
-    let (capacity, topics, events) = script.into_parts();
-    Ok(Some((Net::new(alloc, topics, capacity)?, events)))
+/// A script, as it is parsed.
+#[derive(Drop)]
+struct Parsed {
+    capacity: usize,
+    topics: Topics,
+    events: EventList,
 }
 
-/// A piece of a script: its index among the events.
+/// The script of this text, if it is one.
+fn parsed(alloc: Global, text: &[u8]) -> Result<Option<Parsed>, NoMemory> {
+    match Script::parse(alloc, text) {
+        Ok(script) => {
+            let (capacity, topics, events) = script.into_parts();
+            Ok(Some(Parsed {
+                capacity,
+                topics,
+                events,
+            }))
+        }
+        Err(ScriptFault::BadLine(_)) => Ok(None),
+        Err(ScriptFault::NoMemory) => Err(NoMemory),
+    }
+}
+
+/// Topics like these.
+fn copied_topics(alloc: Global, topics: &Topics) -> Result<Topics, NoMemory> {
+    let mut copy = Topics::new(alloc);
+    for i in 0..topics.len() {
+        let name = topics.name(i);
+        if copy.may_add(name) {
+            copy.add(name, topics.clock(i))?;
+        }
+    }
+    Ok(copy)
+}
+
+/// A script's core that has taken the events before this index.
+fn before(alloc: Global, script: &Parsed, index: usize) -> Result<Net, NoMemory> {
+    let capacity = script.capacity;
+    if capacity == 0 || capacity > MAX_CAPACITY {
+        return Err(NoMemory);
+    }
+    let mut net = Net::new(alloc, copied_topics(alloc, &script.topics)?, capacity)?;
+    net.reserve(script.events.len())?;
+    take(alloc, &mut net, &script.events, 0, index)?;
+    Ok(net)
+}
+
+/// A piece of a script: its index among the events, its connection and its octets.
 #[derive(Clone, Copy, Drop)]
-struct Place<'a> {
-    script: &'a [u8],
+struct Piece<'a> {
     index: usize,
+    c: u64,
+    octets: &'a [u8],
 }
 
-/// A core that has taken the events before the piece.
-fn before(alloc: Global, place: Place<'_>) -> Result<Option<(Net, EventList)>, NoMemory> {
-    let Some((mut net, events)) = begun(alloc, place.script)? else {
-        return Ok(None);
-    };
-    take(alloc, &mut net, &events, 0, place.index)?;
-    Ok(Some((net, events)))
-}
-
-/// The connection and the octets of a piece.
-fn piece_at(events: &EventList, index: usize) -> Option<(u64, &[u8])> {
-    match events.get(index) {
-        Some(Event::Piece(c, octets)) => Some((*c, octets.as_slice())),
+/// The piece at this index, if it is one.
+fn piece_at(script: &Parsed, index: usize) -> Option<Piece<'_>> {
+    match script.events.get(index) {
+        Some(Event::Piece(c, octets)) => Some(Piece {
+            index,
+            c: *c,
+            octets: octets.as_slice(),
+        }),
         _ => None,
     }
 }
@@ -129,32 +161,36 @@ fn is_lost(net: &mut Net, c: u64) -> Result<bool, NoMemory> {
 
 /// What comes of the frames of the front of a piece before this octet, where its connection is lost behind them; `None` where
 /// it isn't gone then, a row was committed, or the audit of the trace is no yes.
-fn cut(alloc: Global, place: Place<'_>, at: usize) -> Result<Option<Vec<Outcome>>, NoMemory> {
-    let Some((mut net, events)) = before(alloc, place)? else {
+fn cut(
+    alloc: Global,
+    script: &Parsed,
+    piece: Piece<'_>,
+    at: usize,
+) -> Result<Option<Vec<Outcome>>, NoMemory> {
+    let Some(front) = piece.octets.get(..at) else {
         return Ok(None);
     };
-    let Some((c, octets)) = piece_at(&events, place.index) else {
-        return Ok(None);
-    };
-    let Some(front) = octets.get(..at) else {
-        return Ok(None);
-    };
+    let mut net = before(alloc, script, piece.index)?;
     let commits = net.report().commits_len();
-    step(&mut net, Event::Piece(c, Octets::from_slice(alloc, front)?))?;
-    let outcomes = read(alloc, &mut net, c)?;
-    let is_right = is_lost(&mut net, c)?
+    step(
+        &mut net,
+        Event::Piece(piece.c, Octets::from_slice(alloc, front)?),
+    )?;
+    let outcomes = read(alloc, &mut net, piece.c)?;
+    let is_right = is_lost(&mut net, piece.c)?
         && net.report().commits_len() == commits
         && is_yes(alloc, &net)?;
     Ok(if is_right { Some(outcomes) } else { None })
 }
 
 /// Whether the frames of each front of the piece come to what the first frames of all of it do: a cut makes no fault.
-fn may_be_cut(alloc: Global, place: Place<'_>, len: usize) -> Result<bool, NoMemory> {
-    let Some(whole) = cut(alloc, place, len)? else {
+fn may_be_cut(alloc: Global, script: &Parsed, piece: Piece<'_>) -> Result<bool, NoMemory> {
+    let len = piece.octets.len();
+    let Some(whole) = cut(alloc, script, piece, len)? else {
         return Ok(false);
     };
     for at in 0..len {
-        match cut(alloc, place, at)? {
+        match cut(alloc, script, piece, at)? {
             Some(front) if whole.as_slice().starts_with(front.as_slice()) => {}
             _ => return Ok(false),
         }
@@ -184,26 +220,28 @@ fn changed(alloc: Global, octets: &[u8], at: usize, octet: u8) -> Result<Octets,
 /// is a yes.
 fn audits_to_yes(
     alloc: Global,
-    place: Place<'_>,
+    script: &Parsed,
+    piece: Piece<'_>,
     at: usize,
     octet: u8,
 ) -> Result<bool, NoMemory> {
-    let Some((mut net, events)) = before(alloc, place)? else {
-        return Ok(false);
-    };
-    let Some((c, octets)) = piece_at(&events, place.index) else {
-        return Ok(false);
-    };
-    let piece = changed(alloc, octets, at, octet)?;
-    step(&mut net, Event::Piece(c, piece))?;
-    take(alloc, &mut net, &events, place.index.saturating_add(1), events.len())?;
+    let mut net = before(alloc, script, piece.index)?;
+    let octets = changed(alloc, piece.octets, at, octet)?;
+    step(&mut net, Event::Piece(piece.c, octets))?;
+    let behind = piece.index.saturating_add(1);
+    take(alloc, &mut net, &script.events, behind, script.events.len())?;
     is_yes(alloc, &net)
 }
 
 /// Whether it is so with each of OCTETS at this place.
-fn audits_with_each(alloc: Global, place: Place<'_>, at: usize) -> Result<bool, NoMemory> {
+fn audits_with_each(
+    alloc: Global,
+    script: &Parsed,
+    piece: Piece<'_>,
+    at: usize,
+) -> Result<bool, NoMemory> {
     for octet in OCTETS {
-        if !audits_to_yes(alloc, place, at, octet)? {
+        if !audits_to_yes(alloc, script, piece, at, octet)? {
             return Ok(false);
         }
     }
@@ -211,9 +249,9 @@ fn audits_with_each(alloc: Global, place: Place<'_>, at: usize) -> Result<bool, 
 }
 
 /// Whether it is so at each place of the piece.
-fn may_be_changed(alloc: Global, place: Place<'_>, len: usize) -> Result<bool, NoMemory> {
-    for at in 0..len {
-        if !audits_with_each(alloc, place, at)? {
+fn may_be_changed(alloc: Global, script: &Parsed, piece: Piece<'_>) -> Result<bool, NoMemory> {
+    for at in 0..piece.octets.len() {
+        if !audits_with_each(alloc, script, piece, at)? {
             return Ok(false);
         }
     }
@@ -233,28 +271,27 @@ enum Done {
 fn holds_at(
     alloc: Global,
     done: Done,
-    events: &EventList,
-    place: Place<'_>,
+    script: &Parsed,
+    index: usize,
 ) -> Result<(bool, usize), NoMemory> {
-    let Some((_, octets)) = piece_at(events, place.index) else {
+    let Some(piece) = piece_at(script, index) else {
         return Ok((true, 0));
     };
-    let len = octets.len();
     let may_be = match done {
-        Done::Cut => may_be_cut(alloc, place, len)?,
-        Done::Changed => may_be_changed(alloc, place, len)?,
+        Done::Cut => may_be_cut(alloc, script, piece)?,
+        Done::Changed => may_be_changed(alloc, script, piece)?,
     };
-    Ok((may_be, len))
+    Ok((may_be, piece.octets.len()))
 }
 
 /// How many octets the pieces of a script have, where it may be done to each; else `None`.
-fn held(alloc: Global, done: Done, script: &[u8]) -> Result<Option<usize>, NoMemory> {
-    let Some((_, events)) = begun(alloc, script)? else {
+fn held(alloc: Global, done: Done, text: &[u8]) -> Result<Option<usize>, NoMemory> {
+    let Some(script) = parsed(alloc, text)? else {
         return Ok(Some(0));
     };
     let mut octets = 0usize;
-    for index in 0..events.len() {
-        let (may_be, len) = holds_at(alloc, done, &events, Place { script, index })?;
+    for index in 0..script.events.len() {
+        let (may_be, len) = holds_at(alloc, done, &script, index)?;
         if !may_be {
             return Ok(None);
         }
@@ -275,31 +312,85 @@ fn all_held(alloc: Global, done: Done, rows: &[&Row]) -> Result<Option<usize>, N
     Ok(Some(octets))
 }
 
-/// The scripts. Their pieces have more than 100 octets in each of these lists.
-fn all_rows() -> [(&'static str, &'static [&'static Row]); 5] {
-    [
-        ("order", ORDER),
-        ("spans", SPANS),
-        ("frames", FRAMES),
-        ("uses", USES),
-        ("senders", SENDERS),
-    ]
+/// Whether it may be done to each piece of those scripts of these that stand from one index to before another. The pieces have
+/// more than 100 octets.
+fn is_held(
+    alloc: Global,
+    done: Done,
+    rows: &'static [&'static Row],
+    from: usize,
+    to: usize,
+) -> Result<bool, NoMemory> {
+    let rows = rows.get(from..to).unwrap_or(&[]);
+    Ok(all_held(alloc, done, rows)? > Some(100))
 }
 
 #[test]
-fn each_piece_may_be_cut(rt: HostRuntime) -> Result<(), Fail> {
-    for (name, rows) in all_rows() {
-        let octets = all_held(rt.alloc(), Done::Cut, rows)?;
-        assert!(rt; octets > Some(100), "{name}: {octets:?}");
-    }
-    Ok(())
+fn pieces_of_order_may_be_cut(rt: HostRuntime) {
+    assert!(rt; is_held(rt.alloc(), Done::Cut, ORDER, 0, 6) == Ok(true));
 }
 
 #[test]
-fn each_octet_may_be_another(rt: HostRuntime) -> Result<(), Fail> {
-    for (name, rows) in all_rows() {
-        let octets = all_held(rt.alloc(), Done::Changed, rows)?;
-        assert!(rt; octets > Some(100), "{name}: {octets:?}");
-    }
-    Ok(())
+fn pieces_of_spans_may_be_cut(rt: HostRuntime) {
+    assert!(rt; is_held(rt.alloc(), Done::Cut, SPANS, 0, 4) == Ok(true));
+}
+
+#[test]
+fn pieces_of_frames_may_be_cut(rt: HostRuntime) {
+    assert!(rt; is_held(rt.alloc(), Done::Cut, FRAMES, 0, 8) == Ok(true));
+}
+
+#[test]
+fn pieces_of_uses_may_be_cut(rt: HostRuntime) {
+    assert!(rt; is_held(rt.alloc(), Done::Cut, USES, 0, 2) == Ok(true));
+}
+
+#[test]
+fn pieces_of_senders_may_be_cut(rt: HostRuntime) {
+    assert!(rt; is_held(rt.alloc(), Done::Cut, SENDERS, 0, 2) == Ok(true));
+}
+
+#[test]
+fn pieces_of_crossing_transactions_may_be_changed(rt: HostRuntime) {
+    assert!(rt; is_held(rt.alloc(), Done::Changed, ORDER, 0, 3) == Ok(true));
+}
+
+#[test]
+fn pieces_of_other_orders_may_be_changed(rt: HostRuntime) {
+    assert!(rt; is_held(rt.alloc(), Done::Changed, ORDER, 3, 6) == Ok(true));
+}
+
+#[test]
+fn pieces_of_ended_spans_may_be_changed(rt: HostRuntime) {
+    assert!(rt; is_held(rt.alloc(), Done::Changed, SPANS, 0, 2) == Ok(true));
+}
+
+#[test]
+fn pieces_of_lags_may_be_changed(rt: HostRuntime) {
+    assert!(rt; is_held(rt.alloc(), Done::Changed, SPANS, 2, 4) == Ok(true));
+}
+
+#[test]
+fn pieces_of_frames_may_be_changed(rt: HostRuntime) {
+    assert!(rt; is_held(rt.alloc(), Done::Changed, FRAMES, 0, 5) == Ok(true));
+}
+
+#[test]
+fn pieces_of_faults_may_be_changed(rt: HostRuntime) {
+    assert!(rt; is_held(rt.alloc(), Done::Changed, FRAMES, 5, 8) == Ok(true));
+}
+
+#[test]
+fn pieces_of_uses_may_be_changed(rt: HostRuntime) {
+    assert!(rt; is_held(rt.alloc(), Done::Changed, USES, 0, 2) == Ok(true));
+}
+
+#[test]
+fn pieces_of_a_lasting_sender_may_be_changed(rt: HostRuntime) {
+    assert!(rt; is_held(rt.alloc(), Done::Changed, SENDERS, 0, 1) == Ok(true));
+}
+
+#[test]
+fn pieces_of_a_sender_in_use_may_be_changed(rt: HostRuntime) {
+    assert!(rt; is_held(rt.alloc(), Done::Changed, SENDERS, 1, 2) == Ok(true));
 }

@@ -294,7 +294,11 @@ fn drawn_runs_are_given_again(rt: HostRuntime) -> Result<(), Fail> {
 /// Puts the settings of a run with client-ids.
 fn put_settings(kind: u32, script: &mut Octets) -> Result<(), NoMemory> {
     for letter in opening(kind) {
-        put_setting(&[b't', b'o', b'p', b'i', b'c', b' ', *letter], clock(kind, *letter), script)?;
+        put_setting(
+            &[b't', b'o', b'p', b'i', b'c', b' ', *letter],
+            clock(kind, *letter),
+            script,
+        )?;
     }
     let capacity = if kind % 2 == 0 { 1 } else { 8 };
     put_setting(b"capacity", capacity, script)

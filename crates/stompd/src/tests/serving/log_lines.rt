@@ -8,19 +8,27 @@ use super::peers::Reset;
 use super::served::{Peers, serves};
 use super::slow::{OneOfTwo, Silent};
 use log::{LevelFilter, Logged};
-use std::sync::Mutex;
+use std::alloc::Global;
+use std::net::Net;
+use std::sync::{Mutex, Wait};
+use std::thread::Threads;
+use std::time::Clock;
 
 /// The lines that a server logs while these peers talk to it, where it answers them as it should, and leaves so many
 /// transactions.
-fn said<P: Peers + Send + Sync>(rt: HostRuntime, peers: &P, rows: usize) -> Option<Vec<String>> {
-    let lines = Mutex::new(Vec::new(rt.alloc()));
+fn said<R, P>(rt: R, alloc: Global, peers: &P, rows: usize) -> Option<Vec<String>>
+where
+    R: Threads + Wait + Net + Clock + Copy + Send + Sync,
+    P: Peers + Send + Sync,
+{
+    let lines = Mutex::new(Vec::new(alloc));
     let kept = Kept {
         rt: &rt,
-        alloc: rt.alloc(),
+        alloc,
         lines: &lines,
     };
     let logged = Logged::new(rt, LevelFilter::Info, kept);
-    if !serves(&logged, rt.alloc(), peers, rows) {
+    if !serves(&logged, alloc, peers, rows) {
         return None;
     }
     let said = lines.lock(&rt);
@@ -57,15 +65,22 @@ fn lagged_behind(lines: &[String]) -> Option<u64> {
     let front = "[WARN  serve] connection 0 of 127.0.0.1:";
     let middle = between(lines, front, " items behind")?;
     let (port, number) = middle.split_once(" lagged at the topic A: ")?;
-    if is_port(port) { number.parse::<u64>().ok() } else { None }
+    if is_port(port) {
+        number.parse::<u64>().ok()
+    } else {
+        None
+    }
 }
 
 /// The first subscribes to A and B, and doesn't read while 400 items come to A, and one to B. A queue holds 64 of them.
 #[test]
 fn the_log_says_who_lagged(rt: HostRuntime) {
-    let lines = said(rt, &OneOfTwo, 401).expect(&rt, "a server");
+    let lines = said(rt, rt.alloc(), &OneOfTwo, 401).expect(&rt, "a server");
     let behind = lagged_behind(lines.as_slice());
-    assert!(rt; behind.is_some_and(|items| items >= 64 && items < 400), "{behind:?}");
+    assert!(rt;
+        behind.is_some_and(|items| items >= 64 && items < 400),
+        "{behind:?}"
+    );
     assert!(rt; says_of_first(lines.as_slice(), " left: ERROR 74 Lagged"));
     assert_eq!(rt; lines.len(), 6);
 }
@@ -73,7 +88,7 @@ fn the_log_says_who_lagged(rt: HostRuntime) {
 /// The first is sent more than it reads, is refused a frame, and doesn't read its ERROR.
 #[test]
 fn the_log_says_who_never_read_its_error(rt: HostRuntime) {
-    let lines = said(rt, &Silent, 400).expect(&rt, "a server");
+    let lines = said(rt, rt.alloc(), &Silent, 400).expect(&rt, "a server");
     let left = " left: ERROR 21 Unsupported, closed after 100 polls that brought nothing out";
     assert!(rt; says_of_first(lines.as_slice(), left));
     assert_eq!(rt; lines.len(), 5);
@@ -82,7 +97,7 @@ fn the_log_says_who_never_read_its_error(rt: HostRuntime) {
 /// The second resets its connection, which a read or a write finds.
 #[test]
 fn the_log_says_who_is_gone(rt: HostRuntime) {
-    let lines = said(rt, &Reset, 3).expect(&rt, "a server");
+    let lines = said(rt, rt.alloc(), &Reset, 3).expect(&rt, "a server");
     let front = "[INFO  serve] connection 1 of 127.0.0.1:";
     let by_read = between(lines.as_slice(), front, " left: its peer closed it");
     let by_write = between(lines.as_slice(), front, " left: a write failed");
@@ -94,7 +109,7 @@ fn the_log_says_who_is_gone(rt: HostRuntime) {
 /// 256 are there, and one more comes.
 #[test]
 fn the_log_says_how_many_were_refused(rt: HostRuntime) {
-    let lines = said(rt, &Many, 256).expect(&rt, "a server");
+    let lines = said(rt, rt.alloc(), &Many, 256).expect(&rt, "a server");
     let refused = "[WARN  serve] refused 1 connections: 256 are there";
     assert!(rt; between(lines.as_slice(), refused, "").is_some());
     assert_eq!(rt; lines.len(), 514);
@@ -112,7 +127,11 @@ fn the_log_says_where_it_cannot_listen(rt: HostRuntime) {
     let logged = Logged::new(rt, LevelFilter::Info, kept);
     assert!(rt; at_a_used_address(&logged, rt.alloc()).is_some());
     let said = lines.lock(&rt);
-    let rest = between(said.as_slice(), "[ERROR serve] can't listen at 127.0.0.1:", "");
+    let rest = between(
+        said.as_slice(),
+        "[ERROR serve] can't listen at 127.0.0.1:",
+        "",
+    );
     let parted = rest.and_then(|rest| rest.split_once(": "));
     assert!(rt; parted.is_some_and(|(port, reason)| is_port(port) && !reason.is_empty()));
     assert_eq!(rt; said.len(), 1);

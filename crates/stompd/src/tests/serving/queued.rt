@@ -12,6 +12,7 @@ use std::test::Fail;
 const ROOM: u64 = 1_024;
 
 /// A runtime whose standard error is a list of lines.
+#[derive(Drop)]
 struct Heard<'a, R: Wait> {
     rt: &'a R,
     alloc: Global,
@@ -33,8 +34,8 @@ impl<R: Wait> Eprint for Heard<'_, R> {
 }
 
 /// A queue with so many lines.
-fn filled(rt: HostRuntime, lines: u64) -> Result<LogQueue, AllocError> {
-    let queue = LogQueue::new(rt.alloc())?;
+fn filled<R: Wait + Copy>(rt: R, alloc: Global, lines: u64) -> Result<LogQueue, AllocError> {
+    let queue = LogQueue::new(alloc)?;
     let logged = Logged::new(rt, LevelFilter::Info, Queued::new(&rt, &queue));
     for line in 0..lines {
         info!(logged; target: "serve", "line {line}");
@@ -43,16 +44,16 @@ fn filled(rt: HostRuntime, lines: u64) -> Result<LogQueue, AllocError> {
 }
 
 /// What is written of it, once it is closed.
-fn written(rt: HostRuntime, queue: &LogQueue) -> Result<Vec<String>, AllocError> {
-    let lines = Mutex::new(Vec::new(rt.alloc()));
+fn written<R: Wait>(rt: &R, alloc: Global, queue: &LogQueue) -> Result<Vec<String>, AllocError> {
+    let lines = Mutex::new(Vec::new(alloc));
     let heard = Heard {
-        rt: &rt,
-        alloc: rt.alloc(),
+        rt,
+        alloc,
         lines: &lines,
     };
-    queue.close(&rt);
+    queue.close(rt);
     queue.write_out(&heard);
-    let written = lines.lock(&rt);
+    let written = lines.lock(rt);
     written.clone()
 }
 
@@ -70,8 +71,8 @@ fn are_first(alloc: Global, lines: &[String], count: u64) -> Result<bool, AllocE
 /// All lines are written for which there is room, and it is said before them how many were lost.
 #[test]
 fn lines_that_find_no_room_are_lost(rt: HostRuntime) -> Result<(), Fail> {
-    let queue = filled(rt, ROOM + 6)?;
-    let lines = written(rt, &queue)?;
+    let queue = filled(rt, rt.alloc(), ROOM + 6)?;
+    let lines = written(&rt, rt.alloc(), &queue)?;
     let lost = lines.first().map(|line| line.as_str());
     assert!(rt; lost == Some("[WARN  serve] 6 lines of this log were lost"));
     assert!(rt; are_first(rt.alloc(), &lines[1..], ROOM)?);
@@ -82,8 +83,8 @@ fn lines_that_find_no_room_are_lost(rt: HostRuntime) -> Result<(), Fail> {
 #[test]
 fn lines_are_written_in_their_order(rt: HostRuntime) -> Result<(), Fail> {
     for count in [0, 1, ROOM] {
-        let queue = filled(rt, count)?;
-        let lines = written(rt, &queue)?;
+        let queue = filled(rt, rt.alloc(), count)?;
+        let lines = written(&rt, rt.alloc(), &queue)?;
         assert!(rt; are_first(rt.alloc(), &lines, count)?);
     }
     Ok(())

@@ -49,11 +49,7 @@ fn is_72(outcome: Outcome) -> bool {
 /// What comes of the last of these frames of a connection, or, where one finds no memory, of those of the next. There has to
 /// be nothing then of what they ask for. Where it was the CONNECT, the client-id is free at once; else as soon as the first
 /// connection is gone.
-fn used(
-    alloc: Global,
-    net: &mut Net,
-    octets: &'static [u8],
-) -> Result<Option<Outcome>, NoMemory> {
+fn used(alloc: Global, net: &mut Net, octets: &'static [u8]) -> Result<Option<Outcome>, NoMemory> {
     let topics = net.report().topics_len();
     let c = fed(alloc, net, octets)?;
     let (done, outcome) = read(alloc, net, c)?;
@@ -174,9 +170,7 @@ fn is_refused(alloc: Global) -> Result<Option<bool>, NoMemory> {
     let Some(outcome) = used(alloc, &mut net, SENDS_B)? else {
         return Ok(Some(false));
     };
-    Ok(Some(
-        (is_77 || is_72(refused)) && has_text(alloc, outcome, "flight 0 1")?,
-    ))
+    Ok(Some((is_77 || is_72(refused)) && has_text(alloc, outcome, "flight 0 1")?))
 }
 
 #[test]
