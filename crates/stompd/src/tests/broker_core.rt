@@ -6,6 +6,7 @@ mod claimed;
 mod draws;
 mod event_list;
 mod faults;
+mod kept_ids;
 mod made;
 mod many_topics;
 mod net;

@@ -1,0 +1,108 @@
+//! As many client-ids as a core keeps, and one more.
+
+use super::asks::{Ask, answer};
+use delivery::{Event, Net, Outcome, Topics};
+use itoa::Buffer;
+use std::alloc::Global;
+use std::test::Fail;
+use stomp_frame::{NoMemory, Octets};
+
+/// How many client-ids are kept at most.
+const IDS: u64 = 65_536;
+
+/// A CONNECT whose client-id is this number.
+fn connect_of(alloc: Global, id: u64) -> Result<Octets, NoMemory> {
+    let mut octets = Octets::from_slice(alloc, b"CONNECT\naccept-version:1.2\nhost:h\nclient-id:")?;
+    octets.extend(Buffer::new().format(id).as_bytes())?;
+    octets.extend(b"\n\n\0")?;
+    Ok(octets)
+}
+
+/// What comes of the CONNECT of the next connection, which has this client-id.
+fn claimed(alloc: Global, net: &mut Net, c: u64, id: u64) -> Result<Outcome, NoMemory> {
+    let octets = connect_of(alloc, id)?;
+    net.reserve(3)?;
+    net.step(Event::Open);
+    net.step(Event::Piece(c, octets));
+    Ok(net.step(Event::Next(c)))
+}
+
+/// Whether the next connection claims the client-id of its own number, and is gone then.
+fn is_kept(alloc: Global, net: &mut Net, c: u64) -> Result<bool, NoMemory> {
+    if claimed(alloc, net, c, c)? != Outcome::Done {
+        return Ok(false);
+    }
+    net.reserve(2)?;
+    net.step(Event::Lost(c));
+    Ok(net.step(Event::Leave(c)) == (Outcome::Gone { cut: false }))
+}
+
+/// Whether 65,536 connections do, one after the other.
+fn fills(alloc: Global, net: &mut Net) -> Result<bool, NoMemory> {
+    for c in 0..IDS {
+        if !is_kept(alloc, net, c)? {
+            return Ok(false);
+        }
+    }
+    Ok(true)
+}
+
+/// The client-ids of the next connections, and the numbers of the faults that their CONNECTs end by; 0 where they are
+/// accepted.
+const CLAIMED: &[(u64, u32)] = &[
+    (65_536, 78),
+    (7, 0),
+    (7, 77),
+    (70_000, 78),
+    (65_535, 0),
+    (65_536, 78),
+    (0, 0),
+];
+
+/// The number of the fault that a connection ended by, or 0.
+fn number_of(outcome: Outcome) -> u32 {
+    match outcome {
+        Outcome::Done => 0,
+        Outcome::Faulted { fault, cut: false } => fault.number(),
+        _ => 1,
+    }
+}
+
+/// Whether that comes of them.
+fn is_full(alloc: Global, net: &mut Net) -> Result<bool, NoMemory> {
+    let mut c = IDS;
+    for &(id, wanted) in CLAIMED {
+        if number_of(claimed(alloc, net, c, id)?) != wanted {
+            return Ok(false);
+        }
+        c = c.saturating_add(1);
+    }
+    Ok(true)
+}
+
+/// What comes of the first SEND of a kept sender, and of one whose connection has no client-id.
+const SENT: &[(u64, &str)] = &[(65_537, "flight 7 1"), (65_543, "flight 65536 1")];
+
+/// Whether that comes of them.
+fn sends(alloc: Global, net: &mut Net) -> Result<bool, NoMemory> {
+    for &(c, wanted) in SENT {
+        let told = answer(alloc, net, Ask::Frame(c, b"SEND\ndestination:A\n\nm\0"))?;
+        if told.as_str() != wanted {
+            return Ok(false);
+        }
+    }
+    Ok(true)
+}
+
+#[test]
+fn the_65537th_client_id_is_kept_by_none(rt: HostRuntime) -> Result<(), Fail> {
+    let mut net = Net::new(rt.alloc(), Topics::new(rt.alloc()), 1)?;
+    assert!(rt; fills(rt.alloc(), &mut net)?);
+    assert!(rt; is_full(rt.alloc(), &mut net)?);
+    let told = answer(rt.alloc(), &mut net, Ask::Connect(65_543))?;
+    assert_eq!(rt; told.as_str(), "done");
+    assert!(rt; sends(rt.alloc(), &mut net)?);
+    let refused = b"ERROR\nmessage:78 TooManyClients\ncontent-length:0\n\n\0".as_slice();
+    assert!(rt; net.report().out(65_536) == Some(refused));
+    Ok(())
+}
