@@ -75,6 +75,8 @@ const ENDS: &[(ConnectionFault, u32, &[u8])] = &[
         76,
         b"76 BadDestination",
     ),
+    (ConnectionFault::SenderInUse, 77, b"77 SenderInUse"),
+    (ConnectionFault::TooManyClients, 78, b"78 TooManyClients"),
 ];
 
 #[test]

@@ -1,6 +1,8 @@
 //! What each event does that finds no memory. The test holds whichever one allocation fails
 //! (`rt try --test --fail-alloc N`): all that it makes for itself is made again where there was no memory.
 
+mod uses;
+
 use super::asks::Ask::{
     self, Cancel, Connect, Decide, Frame, Leave, Next, Open, Piece, Propose, Take, Turn, Withdraw,
 };

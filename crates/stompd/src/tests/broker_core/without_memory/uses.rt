@@ -1,0 +1,184 @@
+//! First uses of a topic, and claims of a client-id, that find no memory: nothing is made and nothing claimed, and the same
+//! frames of the next connection then have their effect. The tests hold whichever one allocation fails.
+
+use super::{Run, goes, has_text, new_net, prepared, step};
+use crate::tests::broker_core::asks::Ask::{Decide, Frame, Leave, Lost, Next, Open, Propose};
+use crate::tests::broker_core::runs::lasting::CONNECT_P;
+use delivery::{Net, Outcome};
+use mcast_group::ProposeFault;
+use std::alloc::Global;
+use std::test::Fail;
+use stomp_frame::NoMemory;
+
+/// Two topics, of which A's clock begins at 9.
+const TWO_TOPICS: &Run = &Run {
+    shows: "two topics before the first event",
+    capacity: 64,
+    topics: &[(b"A", 9), (b"B", 0)],
+    rows: &[],
+    report: "",
+    outs: &[],
+};
+
+/// Opens a connection that is fed this: its number. Both are done again where they find no memory.
+fn fed(alloc: Global, net: &mut Net, octets: &'static [u8]) -> Result<u64, NoMemory> {
+    let c = net.report().connections_len() as u64;
+    if step(alloc, net, Open)? == Outcome::NoMemory {
+        step(alloc, net, Open)?;
+    }
+    prepared(alloc, net, Frame(c, octets))?;
+    Ok(c)
+}
+
+/// How many frames of the connection are done, up to three, and what came of the last that was read.
+fn read(alloc: Global, net: &mut Net, c: u64) -> Result<(u8, Outcome), NoMemory> {
+    for done in 0..3u8 {
+        let outcome = step(alloc, net, Next(c))?;
+        if outcome != Outcome::Done {
+            return Ok((done, outcome));
+        }
+    }
+    Ok((3, Outcome::Done))
+}
+
+/// Whether a frame found no memory.
+fn is_72(outcome: Outcome) -> bool {
+    matches!(outcome, Outcome::Faulted { fault, .. } if fault.number() == 72)
+}
+
+/// What comes of the last of these frames of a connection, or, where one finds no memory, of those of the next. There has to
+/// be nothing then of what they ask for. Where it was the CONNECT, the client-id is free at once; else as soon as the first
+/// connection is gone.
+fn used(alloc: Global, net: &mut Net, octets: &'static [u8]) -> Result<Option<Outcome>, NoMemory> {
+    let topics = net.report().topics_len();
+    let c = fed(alloc, net, octets)?;
+    let (done, outcome) = read(alloc, net, c)?;
+    if !is_72(outcome) {
+        return Ok(Some(outcome));
+    }
+    let is_there = net.report().topics_len() != topics || net.report().subscriptions_len() != 0;
+    if is_there || (done > 0 && !goes(alloc, net, c)?) {
+        return Ok(None);
+    }
+    let next = fed(alloc, net, octets)?;
+    Ok(Some(read(alloc, net, next)?.1))
+}
+
+/// First uses of a topic N by a connection with a client-id, and what comes of them. Each begins the transaction `x` before.
+const USES: &[(&[u8], &str)] = &[
+    (
+        b"CONNECT\naccept-version:1.2\nhost:h\nclient-id:p\n\n\0BEGIN\ntransaction:x\n\n\0SUBSCRIBE\nid:s\ndestination:N\n\n\0",
+        "sub 0 0 0",
+    ),
+    (
+        b"CONNECT\naccept-version:1.2\nhost:h\nclient-id:p\n\n\0BEGIN\ntransaction:x\n\n\0SEND\ndestination:N\n\nm\0",
+        "flight 0 1",
+    ),
+    (
+        b"CONNECT\naccept-version:1.2\nhost:h\nclient-id:p\n\n\0BEGIN\ntransaction:x\n\n\0SEND\ndestination:N\ntransaction:x\n\nm\0",
+        "done",
+    ),
+];
+
+/// Whether that comes of it, and N is there then, behind A and B.
+fn is_made(alloc: Global, octets: &'static [u8], want: &str) -> Result<bool, NoMemory> {
+    let mut net = new_net(alloc, TWO_TOPICS)?;
+    let Some(outcome) = used(alloc, &mut net, octets)? else {
+        return Ok(false);
+    };
+    Ok(has_text(alloc, outcome, want)? && net.report().topics_len() == 3)
+}
+
+#[test]
+fn first_uses(rt: HostRuntime) -> Result<(), Fail> {
+    for &(octets, want) in USES {
+        assert!(rt; is_made(rt.alloc(), octets, want)?, "{want}");
+    }
+    Ok(())
+}
+
+/// A CONNECT with the client-id `p`, and a SEND to A, or to B.
+const SENDS_A: &[u8] =
+    b"CONNECT\naccept-version:1.2\nhost:h\nclient-id:p\n\n\0SEND\ndestination:A\n\nm\0";
+
+const SENDS_B: &[u8] =
+    b"CONNECT\naccept-version:1.2\nhost:h\nclient-id:p\n\n\0SEND\ndestination:B\n\nm\0";
+
+/// Whether the first connection commits with stamp (10, 0), and is gone. Whether it found memory for that.
+fn commits(alloc: Global, net: &mut Net) -> Result<bool, NoMemory> {
+    let c = fed(alloc, net, SENDS_A)?;
+    read(alloc, net, c)?;
+    step(alloc, net, Propose(c, 0))?;
+    let decided = step(alloc, net, Decide(c))?;
+    step(alloc, net, Lost(c))?;
+    let left = step(alloc, net, Leave(c))?;
+    Ok(
+        matches!(decided, Outcome::Decided { cut: false, .. })
+            && left == (Outcome::Gone { cut: false }),
+    )
+}
+
+/// Whether the next connection with its client-id goes on with its number and its floor; or the one behind that, where a
+/// frame finds no memory.
+fn goes_on(alloc: Global, net: &mut Net) -> Result<bool, NoMemory> {
+    let Some(outcome) = used(alloc, net, SENDS_B)? else {
+        return Ok(false);
+    };
+    let c = net.report().connections_len().saturating_sub(1) as u64;
+    let proposed = step(alloc, net, Propose(c, 1))?;
+    Ok(
+        has_text(alloc, outcome, "flight 0 2")?
+            && matches!(
+                proposed,
+                Outcome::Proposed(11) | Outcome::Failed(ProposeFault::NoMemory)
+            ),
+    )
+}
+
+/// Whether it does, where the first connection finds memory.
+fn lasts(alloc: Global) -> Result<Option<bool>, NoMemory> {
+    let mut net = new_net(alloc, TWO_TOPICS)?;
+    if !commits(alloc, &mut net)? {
+        return Ok(None);
+    }
+    Ok(Some(goes_on(alloc, &mut net)?))
+}
+
+#[test]
+fn a_kept_sender(rt: HostRuntime) -> Result<(), Fail> {
+    let lasted = match lasts(rt.alloc())? {
+        Some(lasted) => Some(lasted),
+        None => lasts(rt.alloc())?,
+    };
+    assert_eq!(rt; lasted, Some(true));
+    Ok(())
+}
+
+/// Whether the claim of a client-id in use is refused, and for want of memory if not by 77; and whether its sender is claimed
+/// once the first connection is gone.
+fn is_refused(alloc: Global) -> Result<Option<bool>, NoMemory> {
+    let mut net = new_net(alloc, TWO_TOPICS)?;
+    let first = fed(alloc, &mut net, CONNECT_P)?;
+    if step(alloc, &mut net, Next(first))? != Outcome::Done {
+        return Ok(None);
+    }
+    let second = fed(alloc, &mut net, CONNECT_P)?;
+    let refused = step(alloc, &mut net, Next(second))?;
+    let is_77 = matches!(refused, Outcome::Faulted { fault, .. } if fault.number() == 77);
+    step(alloc, &mut net, Lost(first))?;
+    step(alloc, &mut net, Leave(first))?;
+    let Some(outcome) = used(alloc, &mut net, SENDS_B)? else {
+        return Ok(Some(false));
+    };
+    Ok(Some((is_77 || is_72(refused)) && has_text(alloc, outcome, "flight 0 1")?))
+}
+
+#[test]
+fn a_sender_in_use(rt: HostRuntime) -> Result<(), Fail> {
+    let refused = match is_refused(rt.alloc())? {
+        Some(refused) => Some(refused),
+        None => is_refused(rt.alloc())?,
+    };
+    assert_eq!(rt; refused, Some(true));
+    Ok(())
+}
