@@ -55,9 +55,12 @@ fn is_port(text: &str) -> bool {
     text.parse::<u16>().is_ok()
 }
 
-/// Whether these lines say once, of the connection of this number, that it left so.
+/// Whether these lines say once, of the first connection, that it left so.
 fn says_of_first(lines: &[String], left: &str) -> bool {
-    between(lines, "[INFO  serve] connection 0 of 127.0.0.1:", left).is_some_and(is_port)
+    match between(lines, "[INFO  serve] connection 0 of 127.0.0.1:", left) {
+        Some(port) => is_port(port),
+        None => false,
+    }
 }
 
 /// How many items behind the first connection lagged at A, where these lines say it once.
@@ -101,7 +104,7 @@ fn the_log_says_who_is_gone(rt: HostRuntime) {
     let front = "[INFO  serve] connection 1 of 127.0.0.1:";
     let by_read = between(lines.as_slice(), front, " left: its peer closed it");
     let by_write = between(lines.as_slice(), front, " left: a write failed");
-    assert!(rt; by_read.or(by_write).is_some_and(is_port));
+    assert!(rt; by_read.or(by_write).is_some_and(|port| is_port(port)));
     assert!(rt; by_read.is_none() || by_write.is_none());
     assert_eq!(rt; lines.len(), 9);
 }

@@ -73,9 +73,14 @@ fn are_first(alloc: Global, lines: &[String], count: u64) -> Result<bool, AllocE
 fn lines_that_find_no_room_are_lost(rt: HostRuntime) -> Result<(), Fail> {
     let queue = filled(rt, rt.alloc(), ROOM + 6)?;
     let lines = written(&rt, rt.alloc(), &queue)?;
-    let lost = lines.first().map(|line| line.as_str());
-    assert!(rt; lost == Some("[WARN  serve] 6 lines of this log were lost"));
-    assert!(rt; are_first(rt.alloc(), &lines[1..], ROOM)?);
+    let Some((lost, kept)) = lines.as_slice().split_first() else {
+        return Err(Fail::new("no line"));
+    };
+    assert_eq!(rt;
+        lost.as_str(),
+        "[WARN  serve] 6 lines of this log were lost"
+    );
+    assert!(rt; are_first(rt.alloc(), kept, ROOM)?);
     Ok(())
 }
 
