@@ -65,7 +65,7 @@ struct Parsed {
 }
 
 /// The script of this text, if it is one.
-fn parsed(alloc: Global, text: &[u8]) -> Result<Option<Parsed>, NoMemory> {
+fn script_of(alloc: Global, text: &[u8]) -> Result<Option<Parsed>, NoMemory> {
     match Script::parse(alloc, text) {
         Ok(script) => {
             let (capacity, topics, events) = script.into_parts();
@@ -286,7 +286,7 @@ fn holds_at(
 
 /// How many octets the pieces of a script have, where it may be done to each; else `None`.
 fn held(alloc: Global, done: Done, text: &[u8]) -> Result<Option<usize>, NoMemory> {
-    let Some(script) = parsed(alloc, text)? else {
+    let Some(script) = script_of(alloc, text)? else {
         return Ok(Some(0));
     };
     let mut octets = 0usize;
@@ -300,29 +300,26 @@ fn held(alloc: Global, done: Done, text: &[u8]) -> Result<Option<usize>, NoMemor
     Ok(Some(octets))
 }
 
-/// How many octets the pieces of these scripts have, where it may be done to each; else `None`.
-fn all_held(alloc: Global, done: Done, rows: &[&Row]) -> Result<Option<usize>, NoMemory> {
-    let mut octets = 0usize;
-    for row in rows {
-        let Some(len) = held(alloc, done, row.script)? else {
-            return Ok(None);
-        };
-        octets = octets.saturating_add(len);
-    }
-    Ok(Some(octets))
-}
-
-/// Whether it may be done to each piece of those scripts of these that stand from one index to before another. The pieces have
-/// more than 100 octets.
+/// Whether it may be done to each piece of the scripts of these that stand from one index to before another. These pieces
+/// have more than 100 octets.
 fn is_held(
     alloc: Global,
     done: Done,
-    rows: &'static [&'static Row],
+    rows: &[&Row],
     from: usize,
     to: usize,
 ) -> Result<bool, NoMemory> {
-    let rows = rows.get(from..to).unwrap_or(&[]);
-    Ok(all_held(alloc, done, rows)? > Some(100))
+    let mut octets = 0usize;
+    for (i, row) in rows.iter().enumerate() {
+        if i < from || i >= to {
+            continue;
+        }
+        let Some(len) = held(alloc, done, row.script)? else {
+            return Ok(false);
+        };
+        octets = octets.saturating_add(len);
+    }
+    Ok(octets > 100)
 }
 
 #[test]
