@@ -10,6 +10,7 @@ mod flights;
 mod full_topic;
 mod held;
 mod jobs;
+mod lost;
 mod memory;
 mod places;
 mod senders;

@@ -1,0 +1,315 @@
+//! A connection that is lost while its COMMIT is held between two proposals: the commit goes through, and its sender goes on.
+
+ghost use Rattle.std.specs.Prelude.{◌≡◌};
+
+use super::broker::heads;
+use super::flights::{Quiet, begun, stamp};
+use super::held::{Held, reaches};
+use super::jobs::Opening;
+use super::tracing::{has_text, is_complete};
+use broker_locks::{Broker, CommitFault, Side, Subscribed, Worker};
+use broker_server::{BrokerCalls, Conversation, ConversationFault, Exit, ProgramFault};
+use delivery::ConnectionFault;
+use mcast_group::{SubFault, SubState};
+use mcast_txn::{Released, Stamp, Topic};
+use sender_gate::{ClaimFault, Flying, Gate};
+use std::alloc::Global;
+use std::io::{ErrorKind, Write};
+use std::marker::Brand;
+use std::sync::Wait;
+use std::sync::atomic::{AtomicU64, Ordering};
+use std::sync::ledger::Blank;
+use std::test::Fail;
+use std::thread::Threads;
+use std::{io, thread};
+use stomp_frame::ClientFrame;
+use stomp_session::{Names, Session, Step};
+use trace_audit::Trace;
+
+/// What the connection is fed: first its CONNECT, and then its transaction.
+const CONNECT: &[u8] = b"CONNECT\naccept-version:1.2\nhost:h\nclient-id:c\n\n\0";
+
+const COMMIT: &[u8] =
+    b"BEGIN\ntransaction:x\n\n\0SEND\ndestination:A\ntransaction:x\n\nm\0SEND\ndestination:B\ntransaction:x\n\nm\0COMMIT\ntransaction:x\nreceipt:r\n\n\0";
+
+/// All that its peer reads.
+const CONNECTED: &[u8] = b"CONNECTED\nversion:1.2\nheart-beat:0,0\n\n\0";
+
+/// An open subscription of the connection.
+#[derive(Drop)]
+struct Sub {
+    topic: Topic,
+    begun: Subscribed,
+}
+
+/// What the connection asks of a broker. Its COMMIT is held between its two proposals until its peer has closed.
+#[derive(Drop)]
+struct Calls<'a, R: Wait, W: Side, T: Side> {
+    rt: &'a R,
+    broker: &'a Broker<R, W, T>,
+    worker: Worker<W>,
+    stage: &'a AtomicU64,
+    /// The stamp of a commit that was held so.
+    stamp: Option<Stamp>,
+}
+
+impl<'a, R: Wait, W: Side, T: Side> BrokerCalls for Calls<'a, R, W, T> {
+    ghost use Rattle.broker_server.specs.BrokerRows.{SubName};
+
+    type Sub = Sub;
+
+    // Nothing is said of what other threads find.
+    ghost called = { λ old row new. Unit {0} };
+
+    ghost name = { λ sub. record { topic = sub.topic; number = sub.begun.sub } };
+
+    fn step(
+        &mut self,
+        session: &mut Session,
+        frame: ClientFrame,
+        names: &mut Names,
+    ) -> Result<Step, (ClientFrame, ConversationFault)> {
+        match session.step(frame, names) {
+            Ok(step) => Ok(step),
+            Err((frame, fault)) => {
+                let fault = ConversationFault::Connection(ConnectionFault::Session(fault));
+                Err((frame, fault))
+            }
+        }
+    }
+
+    fn claim(&mut self, client: Option<&[u8]>) -> Result<Gate, ClaimFault> {
+        self.broker.claim(self.rt, client)
+    }
+
+    fn give_back(&mut self, gate: Gate) {
+        self.broker.give_back(self.rt, gate);
+    }
+
+    fn subscribe(&mut self, topic: Topic) -> Result<Sub, SubFault> {
+        let begun = self.broker.subscribe(self.rt, topic)?;
+        Ok(Sub { topic, begun })
+    }
+
+    fn unsubscribe(&mut self, sub: Sub) {
+        let Sub { topic, begun } = sub;
+        let _ = self.broker.unsubscribe(self.rt, topic, begun.sub);
+        drop(begun);
+    }
+
+    fn has_lagged(&mut self, sub: &Sub) -> bool {
+        let state = self.broker.state(self.rt, sub.topic, sub.begun.sub);
+        matches!(state, Some(SubState::Lag(_)))
+    }
+
+    fn take(&mut self, sub: &mut Sub) -> Option<Released> {
+        sub.begun.taker.take(self.rt)
+    }
+
+    fn commit(&mut self, flying: Flying) -> Result<Gate, (Gate, CommitFault)> {
+        let mut point = Held {
+            stage: self.stage,
+            met: false,
+        };
+        let done = self
+            .broker
+            .commit(self.rt, &mut self.worker, flying, &mut point);
+        match done {
+            Ok((gate, stamp)) => {
+                if point.met {
+                    self.stamp = Some(stamp);
+                }
+                Ok(gate)
+            }
+            Err(refused) => Err(refused),
+        }
+    }
+}
+
+/// What the connection writes to: it fails once the peer has closed.
+#[derive(Drop)]
+struct Line<'a> {
+    stage: &'a AtomicU64,
+    /// What the peer has read.
+    taken: Vec<u8>,
+}
+
+impl Write for Line<'_> {
+    fn write(&mut self, buf: &[u8]) -> io::Result<usize> {
+        if self.stage.load(Ordering::SeqCst) >= 2 {
+            return Err(io::Error::from(ErrorKind::BrokenPipe));
+        }
+        self.taken.extend_from_slice(buf)?;
+        Ok(buf.len())
+    }
+
+    fn flush(&mut self) -> io::Result<()> {
+        Ok(())
+    }
+}
+
+/// How a connection left: the stamp of its held commit, what its last write came to, why it left, and whether its peer has
+/// read its CONNECTED alone.
+#[derive(Clone, Copy, Debug, PartialEq, Eq)]
+struct Left {
+    stamp: Option<Stamp>,
+    wrote: Result<usize, ProgramFault>,
+    exit: Option<Exit>,
+    is_connected: bool,
+}
+
+/// The connection: its peer sends its transaction and closes, which is found at the next write.
+fn converse<R: Wait, W: Side, T: Side>(
+    rt: &R,
+    alloc: Global,
+    broker: &Broker<R, W, T>,
+    stage: &AtomicU64,
+) -> Option<Left> {
+    let worker = broker.join(rt).ok()?;
+    let mut calls = Calls {
+        rt,
+        broker,
+        worker,
+        stage,
+        stamp: None,
+    };
+    let mut line = Line {
+        stage,
+        taken: Vec::new(alloc),
+    };
+    let mut talk = Conversation::new(alloc, 4);
+    talk.hear(&mut calls, CONNECT);
+    talk.drain(&mut line).ok()?;
+    talk.hear(&mut calls, COMMIT);
+    let wrote = talk.drain(&mut line);
+    talk.lose(&mut calls);
+    Some(Left {
+        stamp: calls.stamp,
+        wrote,
+        exit: talk.exit(),
+        is_connected: line.taken.as_slice() == CONNECTED,
+    })
+}
+
+/// The peer: once the COMMIT is held, another connection's claim of its client-id is refused by this number; then it closes.
+fn close<R: Wait, W: Side, T: Side>(
+    rt: &R,
+    broker: &Broker<R, W, T>,
+    stage: &AtomicU64,
+) -> Option<u32> {
+    if !reaches(stage, 1) {
+        return None;
+    }
+    let refused = broker.claim(rt, Some(b"c")).err();
+    stage.store(2, Ordering::SeqCst);
+    Some(refused?.number())
+}
+
+/// What the connection and its peer find.
+fn converse_and_close<R, W, T>(
+    rt: &R,
+    alloc: Global,
+    broker: &Broker<R, W, T>,
+) -> (Option<Left>, Option<u32>)
+where
+    R: Threads + Wait + Send + Sync,
+    W: Side + Send + Sync + 'static,
+    T: Side + Send + Sync + 'static,
+{
+    let stage = AtomicU64::new(0);
+    let stage_of_both = &stage;
+    thread::join(
+        rt,
+        move || converse(rt, alloc, broker, stage_of_both),
+        move || close(rt, broker, stage_of_both),
+    )
+}
+
+/// The next connection of the client-id: its sender, the number of its last transaction and its floor, and the stamp of its
+/// next one, at A.
+fn goes_on<R: Wait, W: Side, T: Side>(
+    rt: &R,
+    alloc: Global,
+    broker: &Broker<R, W, T>,
+) -> Option<(u64, u64, Stamp, Stamp)> {
+    let gate = broker.claim(rt, Some(b"c")).ok()?;
+    let (sender, seq, floor) = (gate.sender().0, gate.seq(), gate.floor());
+    let mut worker = broker.join(rt).ok()?;
+    let flying = begun(alloc, gate, &[0])?;
+    let (gate, stamp) = broker.commit(rt, &mut worker, flying, &mut Quiet).ok()?;
+    broker.give_back(rt, gate);
+    Some((sender, seq, floor, stamp))
+}
+
+/// What is found in all: by the connection, by its peer, by the heads of A and B before the next connection and behind it,
+/// and by that.
+#[derive(Clone, Copy, Debug, PartialEq, Eq)]
+struct Found {
+    left: Option<Left>,
+    refused: Option<u32>,
+    released: [[Option<u64>; 2]; 2],
+    next: Option<(u64, u64, Stamp, Stamp)>,
+}
+
+/// The same at a broker with these ledgers, and its trace.
+fn lost_by<R, W, T>(
+    rt: &R,
+    alloc: Global,
+    opening: Opening,
+    workers: Blank,
+    tickets: Blank,
+) -> Option<(Found, Trace)>
+where
+    R: Threads + Wait + Send + Sync,
+    W: Side + Send + Sync + 'static,
+    T: Side + Send + Sync + 'static,
+    requires workers { (workers.name ≡ W.name) × (workers.parts ≡ W.parts) × (W.parts ≡ W.all) × (W.all ≡ 257) }
+    requires tickets { (tickets.name ≡ T.name) × (tickets.parts ≡ T.parts) × (T.parts ≡ T.all) × (T.all ≡ 1024) }
+{
+    let broker = opening.begin::<R, W, T>(alloc, workers, tickets).ok()?;
+    let (left, refused) = converse_and_close(rt, alloc, &broker);
+    let before = heads(rt, &broker);
+    let next = goes_on(rt, alloc, &broker);
+    let found = Found {
+        left,
+        refused,
+        released: [before, heads(rt, &broker)],
+        next,
+    };
+    Some((found, broker.into_trace().ok()?))
+}
+
+/// The same, with ledgers of its own.
+fn lost<R>(rt: &R, alloc: Global, opening: Opening) -> Option<(Found, Trace)>
+where
+    R: Threads + Wait + Send + Sync,
+{
+    lost_by::<R, Brand, Brand>(rt, alloc, opening, Blank::new(257), Blank::new(1_024))
+}
+
+/// One row at each topic, and then that of the next connection.
+const ROWS: &[u8] = b"log 0 0 1 1.1 0,1\nlog 0 0 2 2.0 0\nlog 1 0 1 1.1 0,1\n";
+
+/// The tickets are (1, 0) and (1, 1), so the stamp is (1, 1), which is the floor of the sender's next transaction. The
+/// RECEIPT finds no peer.
+#[test]
+fn a_lost_connection_commits(rt: HostRuntime) -> Result<(), Fail> {
+    let alloc = rt.alloc();
+    let opening = Opening::new(alloc, &[0, 0], 4, true)?;
+    let (found, trace) = lost(&rt, alloc, opening).expect(&rt, "memory");
+    let wanted = Found {
+        left: Some(Left {
+            stamp: Some(stamp(1, 1)),
+            wrote: Err(ProgramFault::Io),
+            exit: Some(Exit::Lost),
+            is_connected: true,
+        }),
+        refused: Some(77),
+        released: [[Some(1), Some(1)], [Some(1), Some(0)]],
+        next: Some((0, 1, stamp(1, 1), stamp(2, 0))),
+    };
+    assert!(rt; found == wanted, "{found:?}");
+    assert!(rt; has_text(alloc, &trace, ROWS) == Some(true));
+    assert!(rt; is_complete(alloc, &trace, 2));
+    Ok(())
+}
