@@ -5,35 +5,10 @@ use super::ending::at_a_used_address;
 use super::logged::Kept;
 use super::many::Many;
 use super::peers::Reset;
-use super::served::{Peers, serves};
+use super::served::serves;
 use super::slow::{OneOfTwo, Silent};
 use log::{LevelFilter, Logged};
-use std::alloc::Global;
-use std::net::Net;
-use std::sync::{Mutex, Wait};
-use std::thread::Threads;
-use std::time::Clock;
-
-/// The lines that a server logs while these peers talk to it, where it answers them as it should, and leaves so many
-/// transactions.
-fn said<R, P>(rt: R, alloc: Global, peers: &P, rows: usize) -> Option<Vec<String>>
-where
-    R: Threads + Wait + Net + Clock + Copy + Send + Sync,
-    P: Peers + Send + Sync,
-{
-    let lines = Mutex::new(Vec::new(alloc));
-    let kept = Kept {
-        rt: &rt,
-        alloc,
-        lines: &lines,
-    };
-    let logged = Logged::new(rt, LevelFilter::Info, kept);
-    if !serves(&logged, alloc, peers, rows) {
-        return None;
-    }
-    let said = lines.lock(&rt);
-    said.clone().ok()
-}
+use std::sync::Mutex;
 
 /// What stands between this front and that back, in the one line that has both.
 fn between<'a>(lines: &'a [String], front: &str, back: &str) -> Option<&'a str> {
@@ -78,44 +53,76 @@ fn lagged_behind(lines: &[String]) -> Option<u64> {
 /// The first subscribes to A and B, and doesn't read while 400 items come to A, and one to B. A queue holds 64 of them.
 #[test]
 fn the_log_says_who_lagged(rt: HostRuntime) {
-    let lines = said(rt, rt.alloc(), &OneOfTwo, 401).expect(&rt, "a server");
-    let behind = lagged_behind(lines.as_slice());
+    let lines = Mutex::new(Vec::new(rt.alloc()));
+    let kept = Kept {
+        rt: &rt,
+        alloc: rt.alloc(),
+        lines: &lines,
+    };
+    let logged = Logged::new(rt, LevelFilter::Info, kept);
+    assert!(rt; serves(&logged, rt.alloc(), &OneOfTwo, 401));
+    let said = lines.lock(&rt);
+    let behind = lagged_behind(said.as_slice());
     assert!(rt;
         behind.is_some_and(|items| items >= 64 && items < 400),
         "{behind:?}"
     );
-    assert!(rt; says_of_first(lines.as_slice(), " left: ERROR 74 Lagged"));
-    assert_eq!(rt; lines.len(), 6);
+    assert!(rt; says_of_first(said.as_slice(), " left: ERROR 74 Lagged"));
+    assert_eq!(rt; said.len(), 6);
 }
 
 /// The first is sent more than it reads, is refused a frame, and doesn't read its ERROR.
 #[test]
 fn the_log_says_who_never_read_its_error(rt: HostRuntime) {
-    let lines = said(rt, rt.alloc(), &Silent, 400).expect(&rt, "a server");
+    let lines = Mutex::new(Vec::new(rt.alloc()));
+    let kept = Kept {
+        rt: &rt,
+        alloc: rt.alloc(),
+        lines: &lines,
+    };
+    let logged = Logged::new(rt, LevelFilter::Info, kept);
+    assert!(rt; serves(&logged, rt.alloc(), &Silent, 400));
+    let said = lines.lock(&rt);
     let left = " left: ERROR 21 Unsupported, closed after 100 polls that brought nothing out";
-    assert!(rt; says_of_first(lines.as_slice(), left));
-    assert_eq!(rt; lines.len(), 5);
+    assert!(rt; says_of_first(said.as_slice(), left));
+    assert_eq!(rt; said.len(), 5);
 }
 
 /// The second resets its connection, which a read or a write finds.
 #[test]
 fn the_log_says_who_is_gone(rt: HostRuntime) {
-    let lines = said(rt, rt.alloc(), &Reset, 3).expect(&rt, "a server");
+    let lines = Mutex::new(Vec::new(rt.alloc()));
+    let kept = Kept {
+        rt: &rt,
+        alloc: rt.alloc(),
+        lines: &lines,
+    };
+    let logged = Logged::new(rt, LevelFilter::Info, kept);
+    assert!(rt; serves(&logged, rt.alloc(), &Reset, 3));
+    let said = lines.lock(&rt);
     let front = "[INFO  serve] connection 1 of 127.0.0.1:";
-    let by_read = between(lines.as_slice(), front, " left: its peer closed it");
-    let by_write = between(lines.as_slice(), front, " left: a write failed");
+    let by_read = between(said.as_slice(), front, " left: its peer closed it");
+    let by_write = between(said.as_slice(), front, " left: a write failed");
     assert!(rt; by_read.or(by_write).is_some_and(|port| is_port(port)));
     assert!(rt; by_read.is_none() || by_write.is_none());
-    assert_eq!(rt; lines.len(), 9);
+    assert_eq!(rt; said.len(), 9);
 }
 
 /// 256 are there, and one more comes.
 #[test]
 fn the_log_says_how_many_were_refused(rt: HostRuntime) {
-    let lines = said(rt, rt.alloc(), &Many, 256).expect(&rt, "a server");
+    let lines = Mutex::new(Vec::new(rt.alloc()));
+    let kept = Kept {
+        rt: &rt,
+        alloc: rt.alloc(),
+        lines: &lines,
+    };
+    let logged = Logged::new(rt, LevelFilter::Info, kept);
+    assert!(rt; serves(&logged, rt.alloc(), &Many, 256));
+    let said = lines.lock(&rt);
     let refused = "[WARN  serve] refused 1 connections: 256 are there";
-    assert!(rt; between(lines.as_slice(), refused, "").is_some());
-    assert_eq!(rt; lines.len(), 514);
+    assert!(rt; between(said.as_slice(), refused, "").is_some());
+    assert_eq!(rt; said.len(), 514);
 }
 
 /// Another listens at the address.
