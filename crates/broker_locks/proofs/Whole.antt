@@ -1,5 +1,5 @@
 -- Flights as their gate began them, and what is left of them after their proposals.
-use Rattle.std.proofs.Common.{◌≡◌, ◌<◌, ℕ, true, false, List, [], ◌∷◌, map, length, take, Option, Some, None, refl, sym, ap, subst, ◌∙◌, arith, inl, inr}
+use Rattle.std.proofs.Common.{suc, ◌≤◌, ◌≡◌, ◌<◌, ℕ, true, false, List, [], ◌∷◌, map, length, take, Option, Some, None, refl, sym, ap, subst, ◌∙◌, arith, inl, inr}
 use Rattle.std.specs.List.{AllByRecursion, list_any}
 use Rattle.std.specs.Option.{is_none}
 use Rattle.mcast_txn.specs.declared.id.Topic.{Topic}
@@ -72,6 +72,12 @@ first_parts (p ∷ ps) [] = refl
 first_parts (p ∷ ps) (n ∷ ns) = ap (λ (l : List TopicPart). p ∷ l) (first_parts ps ns)
 
 -- and of all, where there is a number for each
+pub proposals_length : (ps : List TopicPart) (ns : List ℕ) → length ns ≤ length ps → length (proposals_of ps ns) ≡ length ns
+proposals_length [] [] l = refl
+proposals_length [] (n ∷ ns) l = absurd (omega (arith, l))
+proposals_length (p ∷ ps) [] l = refl
+proposals_length (p ∷ ps) (n ∷ ns) l = ap suc (proposals_length ps ns (omega (arith, l)))
+
 pub all_parts : (ps : List TopicPart) (ns : List ℕ) → length ns ≡ length ps → map (λ (p : EnteredPart). p.part) (proposals_of ps ns) ≡ ps
 all_parts [] ns e = refl
 all_parts (p ∷ ps) [] e = absurd (omega (arith, e))

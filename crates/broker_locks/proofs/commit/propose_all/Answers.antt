@@ -12,7 +12,7 @@ use Rattle.broker_locks.specs.Rows.{Entered, IsTicketFor}
 use Rattle.broker_locks.proofs.Proposals.{no_part, proposals_none, as_many, whole_topics, next_part, next_ticket, next_so, next_parts, next_told, part_here}
 use Rattle.mcast_group.specs.declared.fault.ProposeFault.{ProposeFault}
 use Rattle.broker_locks.specs.Inner.Proposing.{TriesPart}
-use Rattle.broker_locks.proofs.Adding.{err_is}
+use Rattle.broker_locks.proofs.Adding.{err_is, err_no}
 use Rattle.broker_locks.proofs.commit.propose_all.Goals as goal
 
 pub loop-k-init : goal.loop-k-init
@@ -121,7 +121,7 @@ returns-clause-proposed g c =
     let few = inv.so_far.few in
     let many = inv.many in
     let past = c.loop-k-test.false in
-    (inv.numbers, inv.so_far, omega (arith, inv.given), omega arith)
+    (inv.numbers, inv.so_far, omega (arith, inv.given), omega arith, tt)
 
 pub returns-clause-told : goal.returns-clause-told
 returns-clause-told g c =
@@ -133,8 +133,8 @@ returns-clause-told g c =
     let all : c.loop-k.k ≡ length (topics_in c.args.flying.now.state) = omega (arith, inv.many, few, length-map (parts_in c.args.flying.now.state.parts) (λ (p : TopicPart). p.topic)) in
     subst (λ (k : ℕ). AreTold g.Q.Point.told (topics_in c.args.flying.now.state) k c.args.point.now c.loop-k.point) all inv.told
 
-pub returns-in_err-ticket-clause-stops : goal.returns-in_err-ticket-clause-stops
-returns-in_err-ticket-clause-stops g c =
+pub returns-in_err-ticket-clause-proposed : goal.returns-in_err-ticket-clause-proposed
+returns-in_err-ticket-clause-proposed g c =
     let inv = c.loop-k.invariant in
     let found = c.in-Some.ensures.lookup in
     let ps = parts_in c.args.flying.now.state.parts in
@@ -147,8 +147,8 @@ returns-in_err-ticket-clause-stops g c =
     let fault = c.in_err-ticket.field-0.0 in
     let point = c.before-in-loop-k.new.self in
     let more : suc c.loop-k.k ≡ c.loop-k.k + 1 = omega arith in
-    err_is c.from_residual.result fault (λ (f : ProposeFault). TriesPart g.P.Places.may_refuse g.Q.Point.told c.args.flying.now.state c.args.point.now point f) c.from_residual.ensures.1 (record {
-      before = c.loop-k.k;
+    let taken = c.in-Some-part.ensures.taken in
+    let tries : TriesPart g.P.Places.may_refuse g.Q.Point.told c.args.flying.now.state c.loop-k.k c.args.point.now point fault = record {
       tells = subst (λ (m : ℕ). AreTold g.Q.Point.told (topics_in c.args.flying.now.state) m c.args.point.now point) more (
         c.loop-k.point,
         inv.told,
@@ -161,4 +161,17 @@ returns-in_err-ticket-clause-stops g c =
       at = part_here ps c.args.flying.now.state c.loop-k.flying.state inv.numbers _ _ inv.so_far c.requires.rises inv.parts c.loop-k.k inv.many c.as_slice.result.now named found.3.0;
       refused = subst (λ (f : Stamp). g.P.Places.may_refuse c.loop-k.places f (get_or ps c.loop-k.k no_part) fault) (floor ∙ inv.so_far.floor)
           (subst (λ (p : TopicPart). g.P.Places.may_refuse c.loop-k.places c.floor.result p fault) part c.in_err-ticket.ensures.fault);
-    })
+    } in (
+      inv.numbers,
+      record {
+        few = inv.so_far.few;
+        id = ap (λ (f : FlyingState). f.state.id) taken ∙ inv.so_far.id;
+        floor = ap (λ (f : FlyingState). f.state.floor) taken ∙ inv.so_far.floor;
+        tickets = ap (λ (f : FlyingState). f.state.tickets) taken ∙ inv.so_far.tickets;
+        rows = c.in_err-ticket.ensures.refused ∙ inv.so_far.rows;
+      },
+      c.in_err-ticket.ensures.none ∙ (inv.given ∙ ap (λ (k : ℕ). g.P.Places.given c.args.places.now + k) (sym inv.many)),
+      err_no c.from_residual.result fault _ c.from_residual.ensures.1,
+      err_is c.from_residual.result fault (λ (f : ProposeFault). TriesPart g.P.Places.may_refuse g.Q.Point.told c.args.flying.now.state (length inv.numbers) c.args.point.now point f) c.from_residual.ensures.1
+          (subst (λ (k : ℕ). TriesPart g.P.Places.may_refuse g.Q.Point.told c.args.flying.now.state k c.args.point.now point fault) (sym inv.many) tries),
+    )
