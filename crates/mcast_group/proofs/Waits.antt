@@ -493,6 +493,30 @@ one_step waited waiting after notes more most g now new count l s f sound = go s
           sound = sound;
         }
 
+-- where no note was taken, nothing was found: each part waits on, and the topic is as it was
+none_taken : (ss : List Step) → taken ss ≡ [] → (left ss ≡ of_steps ss) × ((x : TopicState) → tried ss x ≡ x)
+none_taken [] e = (refl, λ x. refl)
+none_taken (s ∷ ss) e = go s.1 refl (λ k. none_taken ss k)
+  where
+    go : (o : Option Decision) → s.1 ≡ o → (taken ss ≡ [] → (left ss ≡ of_steps ss) × ((x : TopicState) → tried ss x ≡ x)) → (left (s ∷ ss) ≡ of_steps (s ∷ ss)) × ((x : TopicState) → tried (s ∷ ss) x ≡ x)
+    go None k ih =
+        let none : taken ss ≡ [] = rw k at e in
+        let h = ih none in
+        (rw k (ap (λ (z : List Waiting). s.0 ∷ z) h.0), λ x. rw k (h.1 x))
+    go (Some v) k ih = let f : taken_of s.0 (Some v) ++ taken ss ≡ [] = rw k at e in cc
+
+none_more : (notes more : List Sight) → notes ++ more ≡ notes → more ≡ []
+none_more notes [] e = refl
+none_more notes (s ∷ more) e =
+    let n = ap (λ (z : List Sight). length z) e in
+    let m = length-append notes (s ∷ more) in
+    absurd (omega arith)
+
+idle_steps : (ss : List Step) (g new : GroupState) (after : List Waiting) (notes more : List Sight) → new ≡ record g { topic = tried ss g.topic } → after ≡ left ss → more ≡ notes ++ taken ss → more ≡ notes → (new ≡ g) × (after ≡ of_steps ss)
+idle_steps ss g new after notes more is l t e =
+    let h = none_taken ss (none_more notes (taken ss) (sym t ∙ e)) in
+    (is ∙ ap (λ (x : TopicState). record { topic = x; rooms = g.rooms }) (h.1 g.topic), l ∙ h.0)
+
 -- all that waited have learnt, or wait on
 pub learns_waiting : (ss : List Step) (g new : GroupState) (after : List Waiting) (notes more : List Sight) → RisesById g.topic.pending → ids (of_steps ss) ≡ waiting_ids g.topic.pending → AreFit ss → new ≡ record g { topic = tried ss g.topic } → after ≡ left ss → more ≡ notes ++ taken ss → ids (left ss) ≡ waiting_ids new.topic.pending → LearnsWaiting g new (of_steps ss) after notes more
 learns_waiting ss g new after notes more rises e fit is l t i = record {
@@ -501,6 +525,7 @@ learns_waiting ss g new after notes more rises e fit is l t i = record {
   kept = t;
   stays = λ w k. stayed ss w (subst (In w) l k);
   ids = ap ids l ∙ i;
+  idle = idle_steps ss g new after notes more is l t;
 }
 
 -- the same, once each had its step

@@ -1,5 +1,5 @@
 -- What a topic's group shows, and what its calls answer.
-use Rattle.std.specs.Prelude.{◌≡◌, ℕ, ◌==◌, nat_lt, Bool, List, [], ◌∷◌, length, Option, Some, None, Result, Ok, Err, IfSome, if◌then◌else◌}
+use Rattle.std.specs.Prelude.{◌≡◌, ◌⊎◌, ℕ, ◌==◌, nat_lt, Bool, List, [], ◌∷◌, length, Option, Some, None, Result, Ok, Err, IfSome, if◌then◌else◌}
 use Rattle.std.specs.List.{position}
 use Rattle.mcast_txn.specs.declared.id.Topic.{Topic}
 use Rattle.mcast_txn.specs.declared.id.TxnId.{TxnId}
@@ -99,6 +99,10 @@ group_after_tries find g = record g { topic = after_tries find g.topic.pending g
 abbrev pub AreFound : (TopicPart → Option Decision → Type 0) → (TxnId → Option Decision) → List Pending
     → Type 0
 AreFound finds find ps = (p : Pending) → In p ps → finds p.part (find p.part.id)
+
+-- no verdict may be found for any part
+abbrev pub FindsNothing : (TopicPart → Option Decision → Type 0) → Type 0
+FindsNothing finds = (part : TopicPart) (found : Option Decision) → finds part found → found ≡ None
 
 -- something may be found, and where it is a verdict, that has one row for a topic
 abbrev pub MayBeFound : (TopicPart → Option Decision → Type 0) → TopicPart → Option Decision → Type 0
@@ -224,3 +228,10 @@ or_no_memory (Some fault) = fault
 -- why a proposal is refused: by the first of its refusals that applies, or else for out of memory
 abbrev pub propose_refusal : Stamp → TopicPart → TopicState → ProposeFault
 propose_refusal floor part x = or_no_memory (propose_fault floor part x)
+
+-- A proposal is refused by this fault, where this is why the topic itself refuses it, if it does: by that, or else out
+-- of memory, and then its counter was not asked; or else by its counter.
+abbrev pub IsRefusedBy : {C : Type 0} → (C → C → ProposeFault → Type 0) → Option ProposeFault → C → C
+    → ProposeFault → Type 0
+IsRefusedBy refused why old new fault =
+    ((fault ≡ or_no_memory why) × (new ≡ old)) ⊎ ((why ≡ None) × refused old new fault)

@@ -1,12 +1,12 @@
 //! A topic whose parts learn from the cells of their own flights.
 
-ghost use Rattle.std.specs.Prelude.{◌≡◌, ◌-◌, [], length, map, nat_lt, slice_get, None, Some, OnOk, OnErr, IfOk, IfErr};
+ghost use Rattle.std.specs.Prelude.{◌≡◌, ◌-◌, [], length, map, nat_lt, slice_get, None, Some, OnOk, OnErr, IfOk, IfErr, IsOk};
 ghost use Rattle.mcast_txn.specs.Part.{data_of, flight_of_part};
 ghost use Rattle.mcast_txn.specs.Flight.{cell_of};
 ghost use Rattle.std.specs.Arc.{arc_value};
 ghost use Rattle.mcast_group.specs.CellGroup.{CellTurns, cell_group_after_cancel, cell_group_after_propose, new_cell_group, open_count, waiting_ids};
-ghost use Rattle.mcast_group.specs.Group.{HasLeft, group_after_subscribe, group_after_unsubscribe, propose_refusal, result_of, sub_refusal};
-ghost use Rattle.mcast_group.specs.Machine.{after_drain, cancel_fault, next_number, propose_fault, subscribe_fault, unsubscribe_fault};
+ghost use Rattle.mcast_group.specs.Group.{HasLeft, IsRefusedBy, group_after_subscribe, group_after_unsubscribe, propose_refusal, result_of, sub_refusal};
+ghost use Rattle.mcast_group.specs.Machine.{after_drain, cancel_fault, due_part, next_number, propose_fault, subscribe_fault, unsubscribe_fault};
 ghost use Rattle.mcast_group.specs.Sound.{IsSound};
 
 use crate::ended::Ended;
@@ -14,6 +14,7 @@ use crate::fault::{CancelFault, NoSub, ProposeFault, SubFault};
 use crate::group::Group;
 use crate::log_rows::LogRows;
 use crate::proposal::Proposal;
+use crate::ticket_counter::{TicketCounter, Uncounted};
 use crate::turned::Turned;
 use crate::waiting::{WaitingPart, learn_each, make_room, put, take_out};
 use mcast_txn::{NoMemory, Part, Seen, Stamp, Ticket, Topic, TxnId};
@@ -100,28 +101,17 @@ impl<Q: Outlet + Drop> CellGroup<Q> {
         Some(self.notes[index].again())
     }
 
-    /// Makes the room that `enter` needs for this part, so that it takes no memory where nothing has changed between. It
-    /// gives no number. Refused, in this order: 49 where a part of the transaction is pending, 40 where no number is left,
-    /// 41 where the log is at its limit, 42 out of memory; what shows is as it was, either way.
-    pub fn prepare(&mut self, floor: Stamp, proposal: &mut Proposal) -> Result<(), ProposeFault>
-        ensures allowed { OnOk result (propose_fault floor proposal.old.part self.old.group.topic ≡ None) }
-        ensures fault { IfErr result
-            (λ fault. fault ≡ propose_refusal floor proposal.old.part self.old.group.topic) }
-        ensures same { self.new ≡ self.old }
-        ensures kept { proposal.new ≡ proposal.old }
-    {
-        self.group.prepare(floor, proposal)?;
-        self.group.sound();
-        let Ok(()) = make_room(&mut self.waiting, &mut self.notes) else {
-            return Err(ProposeFault::NoMemory);
-        };
-        Ok(())
-    }
-
     /// Enters a part of this topic, and gives its ticket, whose number is one above the clock and the floor's. Refused,
     /// in this order: 49 where a part of the transaction is pending, 40 where no number is left, 41 where the log is at
-    /// its limit, 42 out of memory; what shows is then as it was.
-    pub fn enter(&mut self, floor: Stamp, proposal: Proposal) -> Result<Ticket, ProposeFault>
+    /// its limit, 42 out of memory, and then as the counter refuses; what shows is then as it was. The counter is asked once
+    /// all memory is made and nothing else can refuse: so the ticket that it counted is given, and else it is as it was or
+    /// as it was refused.
+    pub fn enter<C: TicketCounter>(
+        &mut self,
+        floor: Stamp,
+        proposal: Proposal,
+        counter: &mut C,
+    ) -> Result<Ticket, ProposeFault>
         requires { proposal.part.topic ≡ self.old.group.topic.topic }
         ensures allowed { OnOk result (propose_fault floor proposal.part self.old.group.topic ≡ None) }
         ensures ticket { IfOk result (λ ticket. ticket ≡ record {
@@ -130,8 +120,9 @@ impl<Q: Outlet + Drop> CellGroup<Q> {
           n = next_number floor self.old.group.topic;
         }) }
         ensures ok { OnOk result (self.new ≡ cell_group_after_propose floor proposal self.old) }
-        ensures fault { IfErr result
-            (λ fault. fault ≡ propose_refusal floor proposal.part self.old.group.topic) }
+        ensures counted { OnOk result (C.counted counter.old counter.new) }
+        ensures fault { IfErr result (IsRefusedBy C.refused
+            (propose_fault floor proposal.part self.old.group.topic) counter.old counter.new) }
         ensures err { OnErr result (self.new ≡ self.old) }
     {
         if let Some(fault) = self.group.refusal(floor, proposal.part()) {
@@ -146,13 +137,13 @@ impl<Q: Outlet + Drop> CellGroup<Q> {
             id: prepared.part().id,
             flight,
         };
-        let ticket = self.group.enter_allowed(floor, prepared)?;
+        let ticket = self.group.enter_allowed(floor, prepared, counter)?;
         put(&mut self.waiting, waiting);
         self.group.sound();
         Ok(ticket)
     }
 
-    /// `enter`, of a part for which no proposal was made.
+    /// `enter`, of a part for which no proposal was made, and whose ticket nobody counts.
     pub fn propose(
         &mut self,
         alloc: Global,
@@ -180,7 +171,7 @@ impl<Q: Outlet + Drop> CellGroup<Q> {
         let Ok(proposal) = Proposal::new(alloc, part) else {
             return Err(ProposeFault::NoMemory);
         };
-        self.enter(floor, proposal)
+        self.enter(floor, proposal, &mut Uncounted)
     }
 
     /// Takes the transaction's part out, with no memory. Refused, in this order: 43 where no part of the transaction
@@ -197,9 +188,11 @@ impl<Q: Outlet + Drop> CellGroup<Q> {
     }
 
     /// Each part that hasn't learnt looks once into the cell of its own flight, by rising id, and learns the verdict that
-    /// it finds, if that isn't refused; then what is due is released, until nothing is. It takes no memory.
+    /// it finds, if that isn't refused; then what is due is released, until nothing is. It takes no memory. Where no part
+    /// was due, and none learns, it changes nothing.
     pub fn turn(&mut self, needs: &Q::Needs) -> Turned
         ensures turned { CellTurns Q.may_accept self.old self.new }
+        ensures idle { self.new.notes ≡ self.old.notes → due_part self.old.group.topic ≡ None → self.new ≡ self.old }
         ensures released { result.released
             ≡ length self.new.group.topic.held - length self.old.group.topic.held }
         ensures lagged { result.lagged ≡ nat_lt (open_count self.new.group.topic.subscriptions)
@@ -219,9 +212,10 @@ impl<Q: Outlet + Drop> CellGroup<Q> {
     }
 
     /// Drains the log: its rows are moved out, in order. Then it has none, its base is the frontier, and the room that
-    /// is promised to pending parts is there still. Out of memory, nothing has changed.
+    /// is promised to pending parts is there still. Out of memory, nothing has changed; a log without rows wants none.
     pub fn drain_log(&mut self) -> Result<LogRows, NoMemory>
         ensures rows { IfOk result (λ rows. rows ≡ self.old.group.topic.held) }
+        ensures idle { self.old.group.topic.held ≡ [] → IsOk result }
         ensures ok { OnOk result (self.new
             ≡ record self.old { group = record self.old.group { topic = after_drain self.old.group.topic } }) }
         ensures err { OnErr result (self.new ≡ self.old) }

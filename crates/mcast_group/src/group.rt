@@ -4,7 +4,7 @@ ghost use Rattle.std.specs.Prelude.{◌≡◌, ℕ, ◌+◌, ◌-◌, ◌<◌, �
 ghost use Rattle.std.specs.Arc.{arc_value};
 ghost use Rattle.std.specs.Option.{option_map};
 ghost use Rattle.mcast_txn.specs.Part.{data_of};
-ghost use Rattle.mcast_group.specs.Group.{CanLearn, MayBeFound, GroupState, Releases, ReleasesAll, Tries, TriesAll, Turns, AreFound, group_after_release, result_of, after_enter, propose_refusal, HasLeft, shown_at, sub_refusal, group_after_subscribe, group_after_unsubscribe};
+ghost use Rattle.mcast_group.specs.Group.{CanLearn, FindsNothing, MayBeFound, GroupState, Releases, ReleasesAll, Tries, TriesAll, Turns, AreFound, group_after_release, result_of, after_enter, propose_refusal, IsRefusedBy, HasLeft, shown_at, sub_refusal, group_after_subscribe, group_after_unsubscribe};
 ghost use Rattle.mcast_txn.specs.declared.id.TxnId.{TxnId};
 ghost use Rattle.mcast_txn.specs.Ballot.{Decision};
 ghost use Rattle.mcast_txn.specs.Lists.{In};
@@ -28,11 +28,11 @@ use crate::log::Log;
 use crate::log_rows::LogRows;
 use crate::pending_parts::PendingParts;
 use crate::prepared::Prepared;
-use crate::proposal::Proposal;
 use crate::row::Row;
 use crate::state::SubState;
 use crate::subscription::Subscription;
 use crate::subscriptions::Subscriptions;
+use crate::ticket_counter::{TicketCounter, Uncounted};
 use crate::verdicts::Verdicts;
 use mcast_txn::{NoMemory, Part, Released, Stamp, Ticket, Topic, TxnId, Verdict};
 use std::alloc::Global;
@@ -235,8 +235,10 @@ impl<Q: Outlet + Drop> Group<Q> {
     }
 
     /// `learn_found`, and then `release` until nothing is due. Returns how many parts it released. It takes no memory.
+    /// Where no part was due, and no verdict may be found, it changes nothing.
     pub fn turn<V: Verdicts>(&mut self, needs: &Q::Needs, verdicts: &V) -> u64
         ensures turned { Turns Q.may_accept (V.finds verdicts.now) self.old self.new }
+        ensures idle { FindsNothing (V.finds verdicts.now) → due_part self.old.topic ≡ None → self.new ≡ self.old }
         ensures count { result ≡ length self.new.topic.held - length self.old.topic.held }
     {
         let held = self.rows.len();
@@ -269,68 +271,16 @@ impl<Q: Outlet + Drop> Group<Q> {
         let Ok(prepared) = Prepared::new(self.alloc, part) else {
             return Err(ProposeFault::NoMemory);
         };
-        self.enter_allowed(floor, prepared)
+        self.enter_allowed(floor, prepared, &mut Uncounted)
     }
 
-    /// Makes the room that `enter` needs for this part, so that it takes no memory where nothing has changed between. It
-    /// gives no number. Refused, in this order: 49 where a part of the transaction is pending, 40 where no number is left,
-    /// 41 where the log is at its limit, 42 out of memory; what shows is as it was, either way.
-    pub fn prepare(&mut self, floor: Stamp, proposal: &mut Proposal) -> Result<(), ProposeFault>
-        ensures allowed { OnOk result (propose_fault floor proposal.old.part self.old.topic ≡ None) }
-        ensures fault { IfErr result (λ fault. fault ≡ propose_refusal floor proposal.old.part self.old.topic) }
-        ensures same { self.new ≡ self.old }
-        ensures kept { proposal.new ≡ proposal.old }
-    {
-        if let Some(fault) = self.refusal(floor, proposal.part()) {
-            return Err(fault);
-        }
-        let Ok(()) = self.make_room(&mut proposal.prepared) else {
-            return Err(ProposeFault::NoMemory);
-        };
-        Ok(())
-    }
-
-    /// Makes the part's copies, and room for one part more.
-    fn make_room(&mut self, prepared: &mut Prepared) -> Result<(), NoMemory>
-        ensures same { self.new ≡ self.old }
-        ensures kept { prepared.new ≡ prepared.old }
-    {
-        prepared.copy_for(self.alloc, self.subscriptions.open_len())?;
-        self.pending.reserve()?;
-        self.copies.reserve(1)?;
-        let Some(more) = self.pending.len().checked_add(1) else {
-            return Err(NoMemory);
-        };
-        self.rows.reserve(more)?;
-        self.subscriptions.reserve_each(more)?;
-        Ok(())
-    }
-
-    /// Enters a part of this topic, and gives its ticket, as `propose` does.
-    pub fn enter(&mut self, floor: Stamp, proposal: Proposal) -> Result<Ticket, ProposeFault>
-        requires { proposal.part.topic ≡ self.old.topic.topic }
-        ensures allowed { OnOk result (propose_fault floor proposal.part self.old.topic ≡ None) }
-        ensures ticket { IfOk result (λ ticket. ticket ≡ record {
-          id = proposal.part.id;
-          topic = self.old.topic.topic;
-          n = next_number floor self.old.topic;
-        }) }
-        ensures ok { OnOk result (self.new
-            ≡ record self.old { topic = after_propose floor proposal.part self.old.topic }) }
-        ensures fault { IfErr result (λ fault. fault ≡ propose_refusal floor proposal.part self.old.topic) }
-        ensures err { OnErr result (self.new ≡ self.old) }
-    {
-        if let Some(fault) = self.refusal(floor, proposal.part()) {
-            return Err(fault);
-        }
-        self.enter_allowed(floor, proposal.prepared)
-    }
-
-    /// Enters a part that isn't refused.
-    pub(crate) fn enter_allowed(
+    /// Enters a part that the topic doesn't refuse, once the counter has counted its ticket, for which it is asked when all
+    /// memory is made: so what was counted is given.
+    pub(crate) fn enter_allowed<C: TicketCounter>(
         &mut self,
         floor: Stamp,
         prepared: Prepared,
+        counter: &mut C,
     ) -> Result<Ticket, ProposeFault>
         requires own { prepared.topic ≡ self.old.topic.topic }
         requires allowed { propose_fault floor prepared self.old.topic ≡ None }
@@ -341,14 +291,13 @@ impl<Q: Outlet + Drop> Group<Q> {
         }) }
         ensures ok { OnOk result (self.new
             ≡ record self.old { topic = after_propose floor prepared self.old.topic }) }
-        ensures fault { IfErr result (λ fault. fault ≡ ProposeFault.NoMemory) }
+        ensures counted { OnOk result (C.counted counter.old counter.new) }
+        ensures fault { IfErr result (IsRefusedBy C.refused None counter.old counter.new) }
         ensures err { OnErr result (self.new ≡ self.old) }
     {
         let id = prepared.part().id;
         let n = self.clock.max(floor.n) + 1;
-        let Ok(()) = self.put_in(prepared, n) else {
-            return Err(ProposeFault::NoMemory);
-        };
+        self.put_in(prepared, n, counter)?;
         Ok(Ticket {
             id,
             topic: self.topic,
@@ -388,19 +337,26 @@ impl<Q: Outlet + Drop> Group<Q> {
         let _ = &self.subscriptions;
     }
 
-    /// Puts a part among the pending ones, with all that its release will need.
-    fn put_in(&mut self, prepared: Prepared, n: u64) -> Result<(), NoMemory>
+    /// Puts a part among the pending ones, with all that its release will need, once its ticket is counted.
+    fn put_in<C: TicketCounter>(
+        &mut self,
+        prepared: Prepared,
+        n: u64,
+        counter: &mut C,
+    ) -> Result<(), ProposeFault>
         requires own { prepared.topic ≡ self.old.topic.topic }
         requires may { (floor : Stamp) × (n ≡ next_number floor self.old.topic)
             × (propose_fault floor prepared self.old.topic ≡ None) }
         ensures ok { OnOk result (self.new
             ≡ record self.old { topic = after_enter n prepared self.old.topic }) }
+        ensures counted { OnOk result (C.counted counter.old counter.new) }
+        ensures fault { IfErr result (IsRefusedBy C.refused None counter.old counter.new) }
         ensures err { OnErr result (self.new ≡ self.old) }
     {
         let (entry, made) = prepared.into_entry(self.alloc, n, self.subscriptions.open_len())?;
         self.rows.reserve(self.pending.len() + 1)?;
         self.subscriptions.reserve_each(self.pending.len() + 1)?;
-        put(&mut self.pending, &mut self.copies, entry, made)?;
+        put(&mut self.pending, &mut self.copies, entry, made, counter)?;
         self.clock = n;
         Ok(())
     }
@@ -592,13 +548,14 @@ fn make_room<Q: Outlet + Drop>(
     Ok(())
 }
 
-/// Puts a part and its copies at its index.
-fn put(
+/// Puts a part and its copies at its index, once its ticket is counted.
+fn put<C: TicketCounter>(
     pending: &mut PendingParts,
     copies: &mut VecDeque<Copies>,
     entry: BoxedPart,
     made: Copies,
-) -> Result<(), NoMemory>
+    counter: &mut C,
+) -> Result<(), ProposeFault>
     requires same { length copies.old.items ≡ length pending.old }
     requires free { is_pending entry.part.id pending.old ≡ false }
     requires above { (q : Pending) → In q pending.old → stamp_lt (key q) (key entry) ≡ true }
@@ -607,9 +564,13 @@ fn put(
         → AreOf entry.part made → HaveCopies n pending.new copies.new.items) }
     ensures err { OnErr result (pending.new ≡ pending.old) }
     ensures kept { OnErr result (copies.new.items ≡ copies.old.items) }
+    ensures counted { OnOk result (C.counted counter.old counter.new) }
+    ensures fault { IfErr result (IsRefusedBy C.refused None counter.old counter.new) }
 {
-    copies.reserve(1)?;
-    let index = pending.insert(entry)?;
-    copies.insert(index, made)?;
+    let Ok(()) = copies.reserve(1) else {
+        return Err(ProposeFault::NoMemory);
+    };
+    let index = pending.insert(entry, counter)?;
+    copies.insert(index, made).unwrap();
     Ok(())
 }

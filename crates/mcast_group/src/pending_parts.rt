@@ -6,13 +6,15 @@ ghost use Rattle.mcast_txn.specs.Ids.{id_lt, same_id};
 ghost use Rattle.mcast_txn.specs.Lists.{In};
 ghost use Rattle.mcast_txn.specs.Stamp.{stamp_lt};
 ghost use Rattle.mcast_group.specs.Machine.{Pending, clashes, find_pending, insert_pending, is_pending, key, learn_fault_of, least_part};
+ghost use Rattle.mcast_group.specs.Group.{IsRefusedBy};
 ghost use Rattle.mcast_group.specs.Inner.Keys.{IsIndexPast};
 
 use crate::boxed_part::BoxedPart;
-use crate::fault::LearnFault;
+use crate::fault::{LearnFault, ProposeFault};
 use crate::keys::Keys;
 use crate::pending::PendingPart;
-use mcast_txn::{NoMemory, Stamp, TxnId, Verdict};
+use crate::ticket_counter::TicketCounter;
+use mcast_txn::{Stamp, TxnId, Verdict};
 use std::alloc::Global;
 use std::collections::VecDeque;
 use std::marker::Model;
@@ -144,30 +146,33 @@ impl PendingParts {
         self.parts.remove(index).unwrap().into_part()
     }
 
-    /// Makes room for one more.
-    pub(crate) fn reserve(&mut self) -> Result<(), NoMemory>
-        ensures { self.new ≡ self.old }
-    {
-        self.parts.reserve(1)?;
-        self.keys.reserve()
-    }
-
-    /// Puts a part among the others, whose keys are below its own, and returns its index.
-    pub(crate) fn insert(&mut self, part: BoxedPart) -> Result<usize, NoMemory>
+    /// Puts a part among the others, whose keys are below its own, and returns its index. The counter is asked once all
+    /// memory is made, and nothing is refused after that.
+    pub(crate) fn insert<C: TicketCounter>(
+        &mut self,
+        part: BoxedPart,
+        counter: &mut C,
+    ) -> Result<usize, ProposeFault>
         requires free { is_pending part.part.id self.old ≡ false }
         requires above { (q : Pending) → In q self.old → stamp_lt (key q) (key part) ≡ true }
         ensures within { IfOk result (λ index. index ≤ length self.old) }
         ensures at { IfOk result (λ index. self.new ≡ insert self.old index part) }
         ensures ok { OnOk result (self.new ≡ insert_pending part self.old) }
         ensures err { OnErr result (self.new ≡ self.old) }
+        ensures counted { OnOk result (C.counted counter.old counter.new) }
+        ensures fault { IfErr result (IsRefusedBy C.refused None counter.old counter.new) }
     {
         let keyed = part.part().keyed();
         let index = self.index_for(part.id());
-        self.keys.put_greatest(keyed)?;
-        let Ok(()) = self.parts.insert(index, part) else {
-            self.keys.drop_greatest();
-            return Err(NoMemory);
+        let Ok(()) = self.parts.reserve(1) else {
+            return Err(ProposeFault::NoMemory);
         };
+        self.keys.put_greatest(keyed)?;
+        if let Err(fault) = counter.count() {
+            self.keys.drop_greatest();
+            return Err(fault);
+        }
+        self.parts.insert(index, part).unwrap();
         Ok(index)
     }
 }

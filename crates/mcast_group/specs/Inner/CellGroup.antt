@@ -49,9 +49,11 @@ pub record LearnsFirst (g new : GroupState) (waiting after : List Waiting) (note
 -- tries: the group after each tried to learn what a note taken of its own cell knows.
 -- kept, stays: the notes are kept, and those that wait waited before.
 -- ids: those that wait are those that haven't learnt.
+-- idle: where no note was taken, nothing has changed.
 pub record LearnsWaiting (g new : GroupState) (waiting after : List Waiting) (notes more : List Sight) : Type 0 where
   pub taken : List Sight
   pub tries : TriesAll (MayBeFound (IsRead waiting taken)) g new
   pub kept : more ≡ notes ++ taken
   pub stays : (w : Waiting) → In w after → In w waiting
   pub ids : map (λ (w : Waiting). w.id) after ≡ waiting_ids new.topic.pending
+  pub idle : more ≡ notes → (new ≡ g) × (after ≡ waiting)

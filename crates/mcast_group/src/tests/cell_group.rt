@@ -1,7 +1,9 @@
 //! Topics whose parts learn from the cells of their own flights, and from nothing else.
 
+ghost use Rattle.std.specs.Prelude.{◌≡◌, ◌+◌};
+
 use super::calls::{id, part_of, stamp, txn_to, verdict_of};
-use crate::{CellGroup, Proposal, ProposeFault, SubState, Turned};
+use crate::{CellGroup, Proposal, ProposeFault, SubState, TicketCounter, Turned};
 use mcast_txn::{Flight, Part, Stamp, Topic};
 use std::alloc::Global;
 use std::sync::Arc;
@@ -157,29 +159,86 @@ fn two_topics_learn_one_stamp(rt: HostRuntime) {
     assert_eq!(rt; two_topics(rt.alloc()), Some([stamp(1, 1), stamp(1, 1)]));
 }
 
-/// With one allocation refused (`rt try --test --fail-alloc N`) it is `prepare` that is refused by 42, and never the
-/// `enter` after it: all that entering needs is there by then.
+/// Counts tickets up to a limit, past which it refuses.
+#[derive(Drop)]
+struct Limited {
+    counted: u64,
+    limit: u64,
+}
+
+impl TicketCounter for Limited {
+    ghost use Rattle.std.specs.Prelude.{◌≡◌, ◌+◌};
+    ghost use Rattle.mcast_group.specs.declared.fault.ProposeFault.{ProposeFault};
+
+    ghost counted = { λ old new. new ≡ record old { counted = old.counted + 1 } };
+
+    ghost refused = { λ old new fault. (new ≡ old) × (fault ≡ ProposeFault.ClockFull) };
+
+    fn count(&mut self) -> Result<(), ProposeFault> {
+        if self.counted >= self.limit {
+            return Err(ProposeFault::ClockFull);
+        }
+        self.counted += 1;
+        Ok(())
+    }
+}
+
+/// The ticket that a topic gives to its first part, or its refusal, where the counter counts so many.
+fn entered_by(
+    alloc: Global,
+    group: &mut CellGroup<VecOutlet>,
+    counter: &mut Limited,
+) -> Option<Result<u64, ProposeFault>> {
+    let part = part_of(alloc, id(1), &[0, 1], Topic(0))?;
+    let proposal = Proposal::new(alloc, part).ok()?;
+    if proposal.topic().0 != group.group().topic().0 {
+        return None;
+    }
+    match group.enter(stamp(0, 0), proposal, counter) {
+        Ok(ticket) => Some(Ok(ticket.n)),
+        Err(fault) => Some(Err(fault)),
+    }
+}
+
+/// Whichever one allocation is refused (`rt try --test --fail-alloc N`), what is counted is what is given: a proposal that is
+/// refused by 42 isn't counted, and once it is counted it has its ticket.
 #[test]
-fn what_was_prepared_enters(rt: HostRuntime) {
+fn what_is_counted_is_given(rt: HostRuntime) {
     let alloc = rt.alloc();
     for _ in 0..4u8 {
         let mut group = CellGroup::<VecOutlet>::new(alloc, Topic(0), 4, 1);
-        let Some(part) = part_of(alloc, id(1), &[0, 1], Topic(0)) else {
-            continue;
+        let mut counter = Limited {
+            counted: 0,
+            limit: 1,
         };
-        let Ok(mut proposal) = Proposal::new(alloc, part) else {
-            continue;
-        };
-        if let Err(fault) = group.prepare(stamp(0, 0), &mut proposal) {
-            assert_eq!(rt; fault, ProposeFault::NoMemory);
-            continue;
+        match entered_by(alloc, &mut group, &mut counter) {
+            None => {}
+            Some(Ok(n)) => assert_eq!(rt; (n, counter.counted, group.waiting_len()), (5, 1, 1)),
+            Some(Err(fault)) => {
+                assert_eq!(rt; fault, ProposeFault::NoMemory);
+                assert_eq!(rt; (counter.counted, group.waiting_len()), (0, 0));
+            }
         }
-        if proposal.topic().0 != group.group().topic().0 {
-            continue;
-        }
-        match group.enter(stamp(0, 0), proposal) {
-            Ok(ticket) => assert_eq!(rt; ticket.n, 5),
-            Err(fault) => assert_eq!(rt; fault.number(), 0),
-        }
+    }
+}
+
+/// A counter that is full refuses last, by its own fault, and the topic is as it was.
+#[test]
+fn a_full_counter_refuses(rt: HostRuntime) {
+    let alloc = rt.alloc();
+    let mut group = CellGroup::<VecOutlet>::new(alloc, Topic(0), 4, 1);
+    let mut counter = Limited {
+        counted: 0,
+        limit: 0,
+    };
+    if let Some(answer) = entered_by(alloc, &mut group, &mut counter) {
+        assert!(rt;
+            answer == Err(ProposeFault::ClockFull) || answer == Err(ProposeFault::NoMemory)
+        );
+        assert_eq!(rt; (counter.counted, group.waiting_len()), (0, 0));
+        assert_eq!(rt;
+            (group.group().clock(), group.group().pending_len()),
+            (4, 0)
+        );
     }
 }

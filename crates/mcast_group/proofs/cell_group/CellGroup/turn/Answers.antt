@@ -1,8 +1,10 @@
-use Rattle.std.proofs.Common.{sym, ap, subst, ◌∙◌, arith}
+use Rattle.std.proofs.Common.{◌≡◌, None, sym, ap, subst, ◌∙◌, arith}
 use Rattle.mcast_group.specs.CellGroup.{CellGroupState, CellTurns, IsRead, waiting_ids}
 use Rattle.mcast_group.specs.Group.{GroupState, Turns}
 use Rattle.mcast_group.proofs.Learning.{turn_holds}
+use Rattle.mcast_group.specs.Machine.{due_part}
 use Rattle.mcast_group.proofs.TurnEmpties.{turns_of}
+use Rattle.mcast_group.proofs.Turns.{idle_releases}
 use Rattle.mcast_group.proofs.Waits.{releases_ids}
 use Rattle.mcast_group.proofs.cell_group.CellGroup.turn.Goals as goal
 
@@ -37,3 +39,14 @@ returns-clause-turned g c =
     let turns : Turns may finds s.group c.release_all.new.self = turns_of may finds s.group c.learn_each.new.group c.release_all.new.self c.self.invariant.sound l.tries c.release_all.ensures in
     subst (λ (z : CellGroupState). CellTurns may z (record { group = c.release_all.new.self; waiting = c.learn_each.new.waiting.items; notes = c.learn_each.new.notes.items })) c.self.view_is
     (record { taken = l.taken; turns = turns; kept = l.kept; stays = l.stays })
+
+pub returns-clause-idle : goal.returns-clause-idle
+returns-clause-idle g c = λ e none.
+    let may = g.Q.Outlet.may_accept in
+    let s = c.self.inside in
+    let l = c.learn_each.ensures.learns in
+    let notes = e ∙ ap (λ (z : CellGroupState). z.notes) (sym c.self.view_is) in
+    let same = l.idle notes in
+    let due = subst (λ (z : GroupState). due_part z.topic ≡ None) (sym same.0) (ap (λ (z : CellGroupState). due_part z.group.topic) c.self.view_is ∙ none) in
+    let group = idle_releases may c.learn_each.new.group c.release_all.new.self c.release_all.ensures due ∙ same.0 in
+    rw (group, same.1, notes) c.self.view_is

@@ -11,7 +11,7 @@ use Rattle.mcast_group.proofs.ByKey.{keys_put, put_at_index}
 use Rattle.mcast_group.proofs.pending_parts.PendingParts.insert.Goals as goal
 
 pub put_greatest-requires : goal.put_greatest-requires
-put_greatest-requires c = λ k stands.
+put_greatest-requires g c = λ k stands.
     let now = c.args.self.now in
     let keys = c.self.inside.keys in
     let are : AreKeysOf keys now = subst (AreKeysOf keys) c.self.view_is c.self.invariant in
@@ -21,8 +21,8 @@ put_greatest-requires c = λ k stands.
     let above : stamp_lt (key h.part) (key p) ≡ true = c.requires.above h.part h.stands in
     subst (λ (z : Stamp). stamp_lt z c.keyed-keyed.result.key ≡ true) (ap (λ (z : Keyed). z.key) h.is) (subst (λ (z : Keyed). stamp_lt (key h.part) z.key ≡ true) (sym keyed) above)
 
-pub invariant_of-self-in-Ok : goal.invariant_of-self-in-Ok
-invariant_of-self-in-Ok c =
+pub invariant_of-self-2 : goal.invariant_of-self-2
+invariant_of-self-2 g c =
     let now = c.args.self.now in
     let keys = c.self.inside.keys in
     let are : AreKeysOf keys now = subst (AreKeysOf keys) c.self.view_is c.self.invariant in
@@ -30,12 +30,13 @@ invariant_of-self-in-Ok c =
     let keyed : c.keyed-keyed.result ≡ keyed_of p = c.keyed-keyed.ensures ∙ ap keyed_of c.part-2.ensures in
     let i = c.index_for-index.result in
     let index = subst (λ (z : TxnId). IsIndexPast (λ (q : Pending). id_lt q.part.id z) now i) c.id.ensures c.index_for-index.ensures.index in
-    let is : c.insert.new.self.items ≡ insert_pending p now = c.in-Ok.ensures.items ∙ (ap (λ (zs : List Pending). insert zs i p) c.self.view_is ∙ put_at_index p now i index c.requires.free) in
+    let items = rw c.unwrap.ensures at c.insert.ensures.items in
+    let is : c.insert.new.self.items ≡ insert_pending p now = items ∙ (ap (λ (zs : List Pending). insert zs i p) c.in-Ok.ensures.items ∙ ap (λ (zs : List Pending). insert zs i p) c.self.view_is ∙ put_at_index p now i index c.requires.free) in
     subst (λ (zs : List Pending). AreKeysOf c.put_greatest.new.self zs) (sym is)
     (subst (λ (ks : List Keyed). AreKeysOf ks (insert_pending p now)) (sym (c.in_ok-put_greatest.ensures.ok ∙ ap (λ (z : Keyed). z ∷ keys) keyed)) (keys_put p keys now are c.requires.free c.requires.above))
 
 pub returns-clause-ok : goal.returns-clause-ok
-returns-clause-ok c =
+returns-clause-ok g c =
     let now = c.args.self.now in
     let keys = c.self.inside.keys in
     let are : AreKeysOf keys now = subst (AreKeysOf keys) c.self.view_is c.self.invariant in
@@ -43,5 +44,6 @@ returns-clause-ok c =
     let keyed : c.keyed-keyed.result ≡ keyed_of p = c.keyed-keyed.ensures ∙ ap keyed_of c.part-2.ensures in
     let i = c.index_for-index.result in
     let index = subst (λ (z : TxnId). IsIndexPast (λ (q : Pending). id_lt q.part.id z) now i) c.id.ensures c.index_for-index.ensures.index in
-    let is : c.insert.new.self.items ≡ insert_pending p now = c.in-Ok.ensures.items ∙ (ap (λ (zs : List Pending). insert zs i p) c.self.view_is ∙ put_at_index p now i index c.requires.free) in
+    let items = rw c.unwrap.ensures at c.insert.ensures.items in
+    let is : c.insert.new.self.items ≡ insert_pending p now = items ∙ (ap (λ (zs : List Pending). insert zs i p) c.in-Ok.ensures.items ∙ ap (λ (zs : List Pending). insert zs i p) c.self.view_is ∙ put_at_index p now i index c.requires.free) in
     is
