@@ -1,5 +1,7 @@
 -- What a commit leaves, by what its steps leave.
-use Rattle.std.proofs.Common.{◌≡◌, ◌++◌, ℕ, true, inl, inr, List, map, length, Result, Ok, Err, IfOk, IfErr, append_assoc, refl, sym, ap, subst, ◌∙◌}
+use Rattle.std.proofs.Common.{◌≡◌, ◌++◌, ◌+◌, ℕ, true, inl, inr, List, [], map, length, Some, Result, Ok, Err, IfOk, IfErr, append_assoc, append-nil, refl, sym, ap, subst, ◌∙◌}
+use Rattle.std.specs.Prelude.{slice_get}
+use Rattle.std.proofs.lemmas.List.{length-map}
 use Rattle.mcast_txn.specs.declared.id.Topic.{Topic}
 use Rattle.mcast_txn.specs.declared.stamp.Stamp.{Stamp}
 use Rattle.mcast_txn.specs.Transaction.{TopicPart}
@@ -10,13 +12,13 @@ use Rattle.mcast_group.specs.declared.fault.ProposeFault.{ProposeFault}
 use Rattle.mcast_group.specs.declared.fault.ProposeFault.TheVariants as propose
 use Rattle.sender_gate.specs.Gate.{FlightState, GateState, gate_after}
 use Rattle.broker_locks.specs.declared.fault.CommitFault.{CommitFault}
-use Rattle.broker_locks.specs.declared.fault.CommitFault.TheVariants.{AlreadySet}
-use Rattle.broker_locks.specs.Commits.{IsCommitted, IsRefused, EnteredPart, StopsAt, some_refusal, cancelled, entered, parts_in, proposed_stamp, refused_floor}
+use Rattle.broker_locks.specs.declared.fault.CommitFault.TheVariants.{AlreadySet, NoMemory}
+use Rattle.broker_locks.specs.Commits.{AreTold, IsCommitted, IsRefused, EnteredPart, some_refusal, cancelled, entered, parts_in, proposed_stamp, refused_floor, topics_in}
 use Rattle.broker_locks.specs.Faults.{commit_fault}
 use Rattle.broker_locks.specs.Inner.Cancelling.{IsDecidedGate, cancelled_at, topics_given}
-use Rattle.broker_locks.specs.Inner.Proposing.{HasProposed, IsWhole}
+use Rattle.broker_locks.specs.Inner.Proposing.{HasProposed, IsWhole, TriesPart}
 use Rattle.broker_locks.specs.Rows.{PlaceRow}
-use Rattle.broker_locks.proofs.Whole.{all_parts, cancelled_rows, first_parts, gate_left, given, made, rows_back}
+use Rattle.broker_locks.proofs.Whole.{all_parts, cancelled_rows, first_parts, gate_left, given, made, proposals_length, rows_back}
 
 -- what holds of an Ok, by what else holds of it
 pub ok_too : {A E : Type 0} (r : Result A E) (P Q : A → Type 0) → ((x : A) → P x → Q x) → IfOk r P → IfOk r Q
@@ -75,6 +77,10 @@ module _ (first now : FlightState) (ns : List ℕ) (old rows : List PlaceRow) (w
       ∙ (ap (λ (l : List PlaceRow). rows ++ l) (cancelled_rows first now ns old rows whole so)
       ∙ (ap (λ (l : List PlaceRow). l ++ map cancelled ps) so.rows ∙ append_assoc old (map (entered first.floor) ps) (map cancelled ps)))
 
+  -- as many parts as numbers were entered
+  many_made : length ps ≡ length ns
+  many_made = proposals_length (parts_in first.parts) ns so.few
+
   -- a commit whose verdict was set
   pub committed : (gate : GateState) (stamp : Stamp) (after : List PlaceRow) → length ns ≡ length (parts_in first.parts)
       → IsDecidedGate now gate → stamp ≡ gate.floor → after ≡ rows → IsCommitted first old after gate stamp
@@ -88,20 +94,27 @@ module _ (first now : FlightState) (ns : List ℕ) (old rows : List PlaceRow) (w
   }
 
   -- a commit whose flight had another verdict
-  pub set_before : (gate : GateState) (fault : CommitFault) (after : List PlaceRow) → length ns ≡ length (parts_in first.parts)
-      → IsDecidedGate now gate → fault ≡ AlreadySet → after ≡ rows ++ map (cancelled_at now.id) (topics_given now) → IsRefused first old after gate fault
-  set_before gate fault after all d is e = record {
+  pub set_before : {P Q : Type 0} (may : P → Stamp → TopicPart → ProposeFault → Type 0) (told : Q → Topic → ℕ → Q → Type 0) (was is_now : Q)
+      → AreTold told (topics_in first) (length (topics_in first)) was is_now
+      → (gate : GateState) (fault : CommitFault) (after : List PlaceRow) → length ns ≡ length (parts_in first.parts)
+      → IsDecidedGate now gate → fault ≡ AlreadySet → after ≡ rows ++ map (cancelled_at now.id) (topics_given now) → IsRefused may told first old after was is_now gate fault
+  set_before may told was is_now tells gate fault after all d is e = record {
     proposals = ps;
     first = first_parts (parts_in first.parts) ns;
     rows = cancelled_after after e;
     left = gate_is gate d ∙ ap (λ (f : CommitFault). gate_after first (refused_floor f first.floor ps)) (sym is);
-    decided = λ _. (all_parts (parts_in first.parts) ns all, above_is gate d);
+    decided = λ _. above_is gate d;
+    tried = length (topics_in first);
+    tells = tells;
+    why = inr (inl (many_made ∙ all, length-map (parts_in first.parts) (λ (p : TopicPart). p.topic) ∙ sym (many_made ∙ all), is));
   }
 
   -- a commit that a topic refused
-  pub withdrawn : (gate : GateState) (fault : ProposeFault) (is : CommitFault) (after : List PlaceRow) → gate ≡ gate_after now now.floor → is ≡ commit_fault fault
-      → after ≡ rows ++ map (cancelled_at now.id) (topics_given now) → IsRefused first old after gate is
-  withdrawn gate fault is after left e cancels = record {
+  pub withdrawn : {P Q : Type 0} (may : P → Stamp → TopicPart → ProposeFault → Type 0) (told : Q → Topic → ℕ → Q → Type 0) (was is_now : Q)
+      → (gate : GateState) (fault : ProposeFault) (is : CommitFault) (after : List PlaceRow) → TriesPart may told first (length ns) was is_now fault
+      → gate ≡ gate_after now now.floor → is ≡ commit_fault fault
+      → after ≡ rows ++ map (cancelled_at now.id) (topics_given now) → IsRefused may told first old after was is_now gate is
+  withdrawn may told was is_now gate fault is after t left e cancels = record {
     proposals = ps;
     first = first_parts (parts_in first.parts) ns;
     rows = cancelled_after after cancels;
@@ -109,17 +122,46 @@ module _ (first now : FlightState) (ns : List ℕ) (old rows : List PlaceRow) (w
         ∙ (gate_left first now ns old rows whole so now.floor
         ∙ ap (gate_after first) (so.floor ∙ sym (ap (λ (f : CommitFault). refused_floor f first.floor ps) e ∙ fault_floor fault first.floor ps)));
     decided = λ set. absurd (fault_other fault (sym e ∙ set));
+    tried = length ns + 1;
+    tells = t.tells;
+    why = inl (record {
+      places = t.places;
+      part = t.part;
+      next = subst (λ (k : ℕ). slice_get (parts_in first.parts) k ≡ Some t.part) (sym many_made) t.at;
+      last = ap (λ (k : ℕ). k + 1) (sym many_made);
+      refusal = fault;
+      refused = t.refused;
+      is = e;
+    });
   }
 
--- ---- where a refused commit stopped
+-- ---- a refused commit
 
--- where it stopped, said without the places that refused
-pub stops_somewhere : {P Q : Type 0} (may : P → Stamp → TopicPart → ProposeFault → Type 0) (told : Q → Topic → ℕ → Q → Type 0) (flight : FlightState) (old new : Q) (fault : CommitFault) → StopsAt may told flight old new fault → StopsAt some_refusal told flight old new fault
-stops_somewhere may told flight old new fault s = record {
-  tried = s.tried;
-  tells = s.tells;
-  why = elim s.why [
-    | inl p ↦ inl (record { places = tt; before = p.before; last = p.last; part = p.part; at = p.at; refusal = p.refusal; refused = tt; is = p.is })
+-- one that had no memory for the commit itself
+pub unbegun : {P Q : Type 0} (may : P → Stamp → TopicPart → ProposeFault → Type 0) (told : Q → Topic → ℕ → Q → Type 0) (flight : FlightState) (old : List PlaceRow) (was : Q) (gate : GateState) → gate ≡ gate_after flight flight.floor → IsRefused may told flight old old was was gate NoMemory
+unbegun may told flight old was gate left = record {
+  proposals = [];
+  first = refl;
+  rows = sym (append-nil old);
+  left = left;
+  decided = λ set. absurd (fault_other propose.NoMemory set);
+  tried = 0;
+  tells = refl;
+  why = inr (inr (refl, refl, refl));
+}
+
+-- the same, said without the places that refused
+pub refused_somewhere : {P Q : Type 0} (may : P → Stamp → TopicPart → ProposeFault → Type 0) (told : Q → Topic → ℕ → Q → Type 0) (flight : FlightState) (old new : List PlaceRow) (was is_now : Q) (gate : GateState) (fault : CommitFault) → IsRefused may told flight old new was is_now gate fault → IsRefused some_refusal told flight old new was is_now gate fault
+refused_somewhere may told flight old new was is_now gate fault r = record {
+  proposals = r.proposals;
+  first = r.first;
+  rows = r.rows;
+  left = r.left;
+  decided = r.decided;
+  tried = r.tried;
+  tells = r.tells;
+  why = elim r.why [
+    | inl p ↦ inl (record { places = tt; part = p.part; next = p.next; last = p.last; refusal = p.refusal; refused = tt; is = p.is })
     | inr o ↦ inr o
   ];
 }

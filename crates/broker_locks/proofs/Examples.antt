@@ -5,9 +5,10 @@ use Rattle.mcast_txn.specs.declared.id.TxnId.{TxnId}
 use Rattle.mcast_txn.specs.declared.stamp.Stamp.{Stamp}
 use Rattle.mcast_txn.specs.Transaction.{TopicPart}
 use Rattle.mcast_group.specs.declared.fault.ProposeFault.TheVariants.{Twice}
+use Rattle.mcast_group.specs.declared.fault.ProposeFault.TheVariants as propose
 use Rattle.sender_gate.specs.Gate.{FlightState, GateState}
 use Rattle.broker_locks.specs.declared.fault.CommitFault.TheVariants.{LogFull, AlreadySet}
-use Rattle.broker_locks.specs.Commits.{IsCommitted, IsRefused}
+use Rattle.broker_locks.specs.Commits.{IsCommitted, IsRefused, some_refusal}
 use Rattle.mcast_txn.specs.Span.{LogRow}
 use Rattle.mcast_txn.specs.Ballot.{Decision}
 use Rattle.mcast_txn.specs.Flight.{Sight}
@@ -77,25 +78,35 @@ both_entered = record {
   left = refl;
 }
 
+-- a point that puts each topic behind a list
+abbrev listed : List Topic → Topic → ℕ → List Topic → Type 0
+listed topics t k new = new ≡ topics ++ t ∷ []
+
 -- where topic 2 refuses for its log, the part at topic 0 is cancelled, and the floor stays
-one_cancelled : IsRefused flight [] (Entered (part 0) floor 11 ∷ Cancelled (at_topic 0) id ∷ []) (gate_with floor) LogFull
+one_cancelled : IsRefused some_refusal listed flight [] (Entered (part 0) floor 11 ∷ Cancelled (at_topic 0) id ∷ []) [] (at_topic 0 ∷ at_topic 2 ∷ []) (gate_with floor) LogFull
 one_cancelled = record {
   proposals = record { part = part 0; number = 11 } ∷ [];
   first = refl;
   rows = refl;
   left = refl;
   decided = λ e. cc;
+  tried = 2;
+  tells = (at_topic 0 ∷ [], ([], refl, refl), refl);
+  why = inl (record { places = tt; part = part 2; next = refl; last = refl; refusal = propose.LogFull; refused = tt; is = refl });
 }
 
 -- where the flight had another verdict, both are cancelled, and the floor is this one's stamp
-both_cancelled : IsRefused flight [] (Entered (part 0) floor 11 ∷ Entered (part 2) floor 21 ∷ Cancelled (at_topic 0) id ∷ Cancelled (at_topic 2) id ∷ [])
-    (gate_with (record { n = 21; topic = at_topic 2 })) AlreadySet
+both_cancelled : IsRefused some_refusal listed flight [] (Entered (part 0) floor 11 ∷ Entered (part 2) floor 21 ∷ Cancelled (at_topic 0) id ∷ Cancelled (at_topic 2) id ∷ [])
+    [] (at_topic 0 ∷ at_topic 2 ∷ []) (gate_with (record { n = 21; topic = at_topic 2 })) AlreadySet
 both_cancelled = record {
   proposals = record { part = part 0; number = 11 } ∷ record { part = part 2; number = 21 } ∷ [];
   first = refl;
   rows = refl;
   left = refl;
-  decided = λ e. (refl, refl);
+  decided = λ e. refl;
+  tried = 2;
+  tells = (at_topic 0 ∷ [], ([], refl, refl), refl);
+  why = inr (inl (refl, refl, refl));
 }
 
 -- ---- a place

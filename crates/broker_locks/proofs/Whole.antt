@@ -72,6 +72,12 @@ first_parts (p ∷ ps) [] = refl
 first_parts (p ∷ ps) (n ∷ ns) = ap (λ (l : List TopicPart). p ∷ l) (first_parts ps ns)
 
 -- and of all, where there is a number for each
+pub proposals_length : (ps : List TopicPart) (ns : List ℕ) → length ns ≤ length ps → length (proposals_of ps ns) ≡ length ns
+proposals_length [] [] l = refl
+proposals_length [] (n ∷ ns) l = absurd (omega (arith, l))
+proposals_length (p ∷ ps) [] l = refl
+proposals_length (p ∷ ps) (n ∷ ns) l = ap suc (proposals_length ps ns (omega (arith, l)))
+
 pub all_parts : (ps : List TopicPart) (ns : List ℕ) → length ns ≡ length ps → map (λ (p : EnteredPart). p.part) (proposals_of ps ns) ≡ ps
 all_parts [] ns e = refl
 all_parts (p ∷ ps) [] e = absurd (omega (arith, e))

@@ -69,20 +69,6 @@ refused_floor commit.NoMemory floor proposals = floor
 refused_floor commit.Twice floor proposals = floor
 refused_floor commit.AlreadySet floor proposals = greatest (map proposed_stamp proposals)
 
--- A flight wasn't committed.
--- first: the first of its parts were entered, by rising topic.
--- rows: these proposals were made with the flight's floor, then each was cancelled; nothing else was done.
--- left: the gate's floor is the flight's, but where the flight had another verdict.
--- decided: there each part was entered, and the floor is above the old one.
-pub record IsRefused (flight : FlightState) (old new : List PlaceRow) (gate : GateState)
-    (fault : CommitFault) : Type 0 where
-  pub proposals : List EnteredPart
-  pub first : map (λ p. p.part) proposals ≡ take (length proposals) (parts_in flight.parts)
-  pub rows : new ≡ old ++ (map (entered flight.floor) proposals ++ map cancelled proposals)
-  pub left : gate ≡ gate_after flight (refused_floor fault flight.floor proposals)
-  pub decided : fault ≡ commit.AlreadySet →
-      (map (λ p. p.part) proposals ≡ parts_in flight.parts) × (stamp_lt flight.floor gate.floor ≡ true)
-
 -- ---- what is told of a commit
 
 -- the topics of a flight, by rising topic
@@ -103,18 +89,18 @@ pub record KnowsStamp (flight : Flight) (stamp : Stamp) (seen : Sight) : Type 0 
   pub is : seen ≡ sight_of flight verdict
   pub has : stamp ≡ greatest verdict.rows
 
--- A place refused the last of the first so many parts of a flight.
+-- ---- a refused commit
+
+-- A place refused the part after the first so many, which were entered; it was the last that was tried.
 -- places: what the places were.
--- before: how many parts come before it.
--- part: it.
+-- part: the part.
 -- refusal: the fault by which it was refused, which is the commit's.
 pub record IsPlaceFault {P : Type 0} (may_refuse : P → Stamp → TopicPart → ProposeFault → Type 0)
-    (flight : FlightState) (tried : ℕ) (fault : CommitFault) : Type 0 where
+    (flight : FlightState) (done tried : ℕ) (fault : CommitFault) : Type 0 where
   pub places : P
-  pub before : ℕ
-  pub last : tried ≡ before + 1
   pub part : TopicPart
-  pub at : slice_get (parts_in flight.parts) before ≡ Some part
+  pub next : slice_get (parts_in flight.parts) done ≡ Some part
+  pub last : tried ≡ done + 1
   pub refusal : ProposeFault
   pub refused : may_refuse places flight.floor part refusal
   pub is : fault ≡ commit_fault refusal
@@ -123,23 +109,36 @@ pub record IsPlaceFault {P : Type 0} (may_refuse : P → Stamp → TopicPart →
 abbrev pub some_refusal : Unit {0} → Stamp → TopicPart → ProposeFault → Type 0
 some_refusal places floor part fault = Unit {0}
 
--- all parts were tried, and the flight had another verdict
-abbrev pub IsSetBefore : FlightState → ℕ → CommitFault → Type 0
-IsSetBefore flight tried fault = (tried ≡ length (parts_in flight.parts)) × (fault ≡ commit.AlreadySet)
+-- all parts were tried and entered, and the flight had another verdict
+abbrev pub IsSetBefore : FlightState → ℕ → ℕ → CommitFault → Type 0
+IsSetBefore flight done tried fault =
+    (done ≡ length (parts_in flight.parts)) × (tried ≡ done) × (fault ≡ commit.AlreadySet)
 
 -- there was no memory for the commit, before the first part
-abbrev pub HasNoMemory : ℕ → CommitFault → Type 0
-HasNoMemory tried fault = (tried ≡ 0) × (fault ≡ commit.NoMemory)
+abbrev pub HasNoMemory : ℕ → ℕ → CommitFault → Type 0
+HasNoMemory done tried fault = (done ≡ 0) × (tried ≡ 0) × (fault ≡ commit.NoMemory)
 
--- Where a refused commit stopped, and why.
+-- A flight wasn't committed.
+-- proposals: its parts that were entered, each with its number.
+-- first: they are the first of its parts, by rising topic.
+-- rows: these proposals were made with the flight's floor, then each was cancelled; nothing else was done.
+-- left: the gate's floor is the flight's, but where the flight had another verdict.
+-- decided: there the floor is above the old one.
 -- tried: how many of its topics were tried.
 -- tells: the point was told these, and no other.
--- why: a place refused the last of them by this fault, or the flight had another verdict, or there was no
---   memory at first.
-pub record StopsAt {P Q : Type 0} (may_refuse : P → Stamp → TopicPart → ProposeFault → Type 0)
-    (told : Q → Topic → ℕ → Q → Type 0) (flight : FlightState) (old new : Q) (fault : CommitFault)
-    : Type 0 where
+-- why: a place refused the part after those that were entered, the last that was tried, by this fault; or all were
+--   entered, and the flight had another verdict; or none was tried, for want of memory.
+-- So where the second of three topics refuses for its log, one part was entered, two topics were tried, and the fault
+-- is 41, whatever the third would have answered.
+pub record IsRefused {P Q : Type 0} (may_refuse : P → Stamp → TopicPart → ProposeFault → Type 0)
+    (told : Q → Topic → ℕ → Q → Type 0) (flight : FlightState) (old new : List PlaceRow) (before after : Q)
+    (gate : GateState) (fault : CommitFault) : Type 0 where
+  pub proposals : List EnteredPart
+  pub first : map (λ p. p.part) proposals ≡ take (length proposals) (parts_in flight.parts)
+  pub rows : new ≡ old ++ (map (entered flight.floor) proposals ++ map cancelled proposals)
+  pub left : gate ≡ gate_after flight (refused_floor fault flight.floor proposals)
+  pub decided : fault ≡ commit.AlreadySet → stamp_lt flight.floor gate.floor ≡ true
   pub tried : ℕ
-  pub tells : AreTold told (topics_in flight) tried old new
-  pub why : IsPlaceFault may_refuse flight tried fault
-      ⊎ (IsSetBefore flight tried fault ⊎ HasNoMemory tried fault)
+  pub tells : AreTold told (topics_in flight) tried before after
+  pub why : IsPlaceFault may_refuse flight (length proposals) tried fault
+      ⊎ (IsSetBefore flight (length proposals) tried fault ⊎ HasNoMemory (length proposals) tried fault)

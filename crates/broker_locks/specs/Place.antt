@@ -20,7 +20,7 @@ use Rattle.mcast_group.specs.Group.{group_after_subscribe, group_after_unsubscri
 use Rattle.mcast_group.specs.declared.fault.SubFault.{SubFault}
 use Rattle.mcast_group.specs.declared.turned.Turned.{Turned}
 use Rattle.mcast_group.specs.declared.fault.SubFault.TheVariants.{SubInUse}
-use Rattle.mcast_group.specs.Machine.{after_drain, propose_fault, subscribe_fault}
+use Rattle.mcast_group.specs.Machine.{after_drain, due_part, propose_fault, subscribe_fault}
 use Rattle.mcast_group.specs.Sound.{IsSound}
 use Rattle.trace_audit.specs.declared.row.TraceRow.{TraceRow}
 use Rattle.broker_locks.specs.KeptTrace.{KeptTrace, KeepsTrace, no_trace, rows_kept, was_used}
@@ -147,6 +147,15 @@ pub record HasTurned {E : Type 0} (old new : PlaceState) (told : Turned) (draine
   pub lagged : told.lagged
       ≡ nat_lt (open_count turned.group.topic.subscriptions) (open_count old.cells.group.topic.subscriptions)
   pub leaves : DrainLeaves (place_after_turn turned old) drained new
+
+-- nothing is due at the place, and no row is held
+abbrev pub IsIdle : PlaceState → Type 0
+IsIdle place = (due_part place.cells.group.topic ≡ None) × (place.cells.group.topic.held ≡ [])
+
+-- a head's turn that changed nothing: no row was released or drained, and memory wasn't refused
+abbrev pub HasDoneNothing : {E : Type 0} → PlaceState → PlaceState → Turned → Result (List LogRow) E → Type 0
+HasDoneNothing old new told drained =
+    (new ≡ old) × (told ≡ record { released = 0; lagged = false }) × (drained ≡ Ok [])
 
 -- how many rows were released, with the drained rows that no trace keeps, where there was memory to drain
 abbrev pub released_and_drained : {E : Type 0} → Turned → Result (List LogRow) E → Result (ℕ × List LogRow) E

@@ -6,7 +6,7 @@ ghost use Rattle.delivery.specs.Topics.{max_topics};
 ghost use Rattle.mcast_group.specs.declared.fault.SubFault.TheVariants.{SubInUse};
 ghost use Rattle.sender_gate.specs.Senders.{MayRefuse, SendersState, claim_refusal, claimed_gate};
 ghost use Rattle.broker_locks.specs.declared.server_fault.ServerFault.TheVariants.{TooManyConns};
-ghost use Rattle.broker_locks.specs.Commits.{AreTold, IsCommitted, IsRefused, IsUntouched, KnowsStamp, StopsAt, some_refusal, topics_in};
+ghost use Rattle.broker_locks.specs.Commits.{AreTold, IsCommitted, IsRefused, IsUntouched, KnowsStamp, some_refusal, topics_in};
 ghost use Rattle.broker_locks.specs.Gathering.{IsTraceLeft, StopsGathering};
 ghost use Rattle.broker_locks.specs.Opening.{clock_at_start, opening_places};
 ghost use Rattle.broker_locks.specs.Rows.{PlaceRow};
@@ -256,9 +256,8 @@ impl<R: Wait, W: Side, T: Side> Broker<R, W, T> {
         ensures given { OnOk result
             (worker.new.tickets ≡ worker.old.tickets + length (topics_in flying.state)) }
         ensures refused { IfErr result
-            (λ refused. (old new : List PlaceRow) × IsRefused flying.state old new refused.0 refused.1) }
-        ensures stops { IfErr result
-            (λ refused. StopsAt some_refusal Q.told flying.state point.old point.new refused.1) }
+            (λ refused. (old new : List PlaceRow) × IsRefused some_refusal Q.told flying.state old new
+            point.old point.new refused.0 refused.1) }
         ensures no_less { OnErr result (worker.old.tickets ≤ worker.new.tickets) }
         ensures no_more { OnErr result
             (worker.new.tickets ≤ worker.old.tickets + length (topics_in flying.state)) }
@@ -287,9 +286,8 @@ impl<R: Wait, W: Side, T: Side> Broker<R, W, T> {
         ensures given { OnOk result
             (worker.new.tickets ≡ worker.old.tickets + length (topics_in flying.state)) }
         ensures refused { IfErr result
-            (λ refused. (old new : List PlaceRow) × IsRefused flying.state old new refused.0 refused.1) }
-        ensures stops { IfErr result
-            (λ refused. StopsAt some_refusal Q.told flying.state point.old point.new refused.1) }
+            (λ refused. (old new : List PlaceRow) × IsRefused some_refusal Q.told flying.state old new
+            point.old point.new refused.0 refused.1) }
         ensures no_less { OnErr result (worker.old.tickets ≤ worker.new.tickets) }
         ensures no_more { OnErr result
             (worker.new.tickets ≤ worker.old.tickets + length (topics_in flying.state)) }

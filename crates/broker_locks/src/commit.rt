@@ -5,7 +5,7 @@ ghost use Rattle.std.specs.Arc.{arc_value};
 ghost use Rattle.std.specs.List.{list_any};
 ghost use Rattle.std.specs.Option.{is_none};
 ghost use Rattle.sender_gate.specs.Gate.{FlightState};
-ghost use Rattle.broker_locks.specs.Commits.{AreTold, IsCommitted, IsRefused, IsUntouched, KnowsStamp, StopsAt, parts_in, topics_in};
+ghost use Rattle.broker_locks.specs.Commits.{AreTold, IsCommitted, IsRefused, IsUntouched, KnowsStamp, parts_in, topics_in};
 ghost use Rattle.broker_locks.specs.declared.fault.CommitFault.TheVariants as commit;
 ghost use Rattle.broker_locks.specs.Inner.Proposing.{HasProposed, IsWhole, TriesPart};
 ghost use Rattle.broker_locks.specs.Inner.Cancelling.{AreUncancelled, IsDecidedGate, cancelled_at, topics_given};
@@ -36,9 +36,8 @@ pub fn commit_on<P: Places, Q: Point>(
         (AreTold Q.told (topics_in flying.state) (length (topics_in flying.state)) point.old point.new) }
     ensures given { OnOk result (P.given places.new ≡ P.given places.old + length (topics_in flying.state)) }
     ensures refused { IfErr result
-        (λ refused. IsRefused flying.state (P.rows places.old) (P.rows places.new) refused.0 refused.1) }
-    ensures stops { IfErr result
-        (λ refused. StopsAt P.may_refuse Q.told flying.state point.old point.new refused.1) }
+        (λ refused. IsRefused P.may_refuse Q.told flying.state (P.rows places.old) (P.rows places.new)
+        point.old point.new refused.0 refused.1) }
     ensures no_less { OnErr result (P.given places.old ≤ P.given places.new) }
     ensures no_more { OnErr result
         (P.given places.new ≤ P.given places.old + length (topics_in flying.state)) }
@@ -102,13 +101,13 @@ fn propose_all<P: Places, Q: Point>(
     ensures proposed { let ps = parts_in flying.old.state.parts in (ns : List ℕ)
         × HasProposed ps flying.old.state ns flying.new.state (P.rows places.old) (P.rows places.new)
         × (P.given places.new ≡ P.given places.old + length ns)
-        × OnOk result (length ns ≡ length ps) }
+        × OnOk result (length ns ≡ length ps)
+        × IfErr result
+        (TriesPart P.may_refuse Q.told flying.old.state (length ns) point.old point.new) }
     ensures own { flying.new.flight ≡ flying.old.flight }
     ensures told { OnOk result
         (AreTold Q.told (topics_in flying.old.state) (length (topics_in flying.old.state))
         point.old point.new) }
-    ensures stops { IfErr result
-        (λ fault. TriesPart P.may_refuse Q.told flying.old.state point.old point.new fault) }
 {
     for k in 0..flying.topics().len() {
         let Some(&topic) = flying.topics().as_slice().get(k) else {

@@ -1,6 +1,6 @@
 //! What a place stores for the trace of a run.
 
-ghost use Rattle.std.specs.Prelude.{◌≡◌, ◌++◌, ◌==◌, ◌≤◌, ◌+◌, false, [], length, map, vec_capacity, vec_len, Some, None, if◌then◌else◌, IfErr, IfOk, OnErr, OnOk};
+ghost use Rattle.std.specs.Prelude.{◌≡◌, ◌++◌, ◌==◌, ◌≤◌, ◌+◌, false, [], length, map, vec_capacity, vec_len, Some, None, if◌then◌else◌, IfErr, IfOk, IsOk, OnErr, OnOk};
 ghost use Rattle.std.specs.List.{list_any};
 ghost use Rattle.sub_queue.specs.Ends.{shown_of_source};
 ghost use Rattle.mcast_group.specs.Group.{group_after_subscribe, sub_refusal};
@@ -85,6 +85,7 @@ impl KeptRows {
         group: &mut CellGroup<Source<R>>,
     ) -> Result<LogRows, NoMemory>
         ensures none { IfOk result (λ rows. rows ≡ []) }
+        ensures idle { group.old.group.topic.held ≡ [] → IsOk result }
         ensures rows { OnOk result (self.new
             ≡ record self.old { drained = self.old.drained ++ group.old.group.topic.held }) }
         ensures drained { OnOk result (group.new ≡ cells_after_drain group.old) }

@@ -22,6 +22,7 @@ mod side;
 mod subscribed;
 mod tally;
 mod total;
+mod total_counter;
 mod trace_rows;
 mod worker;
 

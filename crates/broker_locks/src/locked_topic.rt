@@ -8,16 +8,18 @@ ghost use Rattle.mcast_group.specs.declared.fault.ProposeFault.TheVariants.{Cloc
 ghost use Rattle.mcast_group.specs.Machine.{cancel_fault, next_number};
 ghost use Rattle.delivery.specs.Topics.{max_topics};
 ghost use Rattle.trace_audit.specs.declared.fault.AddFault.TheVariants.{Misfit};
-ghost use Rattle.broker_locks.specs.Place.{HasTurned, new_place, place_after_cancel, place_after_propose, place_after_subscribe, place_after_unsubscribe, place_fault, topic_limit};
+ghost use Rattle.broker_locks.specs.Place.{HasDoneNothing, HasTurned, IsIdle, new_place, place_after_cancel, place_after_propose, place_after_subscribe, place_after_unsubscribe, place_fault, topic_limit};
 
 use crate::counts::Counts;
 use crate::place::Place;
 use crate::side::Side;
 use crate::total::Total;
+use crate::total_counter::TotalCounter;
 use delivery::MAX_TOPICS;
 use mcast_group::{CancelFault, Ended, LogRows, NoSub, Proposal, ProposeFault, SubFault, Turned};
 use mcast_txn::{NoMemory, Stamp, Ticket, Topic, TxnId};
 use std::alloc::Global;
+use std::mem;
 use std::sync::ledger::Share;
 use std::sync::{Mutex, Wait};
 use sub_queue::Source;
@@ -102,8 +104,8 @@ impl<R: Wait, T: Side> LockedTopic<R, T> {
     }
 
     /// Enters a part, and counts its ticket as the worker's that has this share. All memory is made first; then the
-    /// total's lock is taken, for the count alone. Refused as by the place, and then by 40 where the total is full;
-    /// then nothing has changed, and nothing is counted.
+    /// total's lock is taken, for the count alone, and nothing is refused after that. Refused as by the place, and then
+    /// by 40 where the total is full; then nothing has changed, and nothing is counted.
     pub(crate) fn propose<W: Side>(
         &mut self,
         rt: &R,
@@ -132,13 +134,12 @@ impl<R: Wait, T: Side> LockedTopic<R, T> {
             next: _,
             share,
         } = self;
-        let mut proposal = proposal;
-        place.prepare(floor, &mut proposal)?;
-        total.lock(rt).count(mine, share)?;
-        let answer = place.enter(floor, proposal);
-        if answer.is_err() {
-            total.lock(rt).take_back(mine, share);
-        }
+        let (no_worker, no_topic) = (mine.empty(), share.empty());
+        let theirs = mem::replace(mine, no_worker);
+        let here = mem::replace(share, no_topic);
+        let mut counter = TotalCounter::new(rt, total, theirs, here);
+        let answer = place.enter(floor, proposal, &mut counter);
+        (*mine, *share) = counter.into_shares();
         answer
     }
 
@@ -160,7 +161,9 @@ impl<R: Wait, T: Side> LockedTopic<R, T> {
 
     /// Turns the topic and drains its log, as the place does.
     pub(crate) fn head_turned(&mut self, rt: &R) -> (Turned, Result<LogRows, NoMemory>)
-        ensures { HasTurned self.old.place self.new.place result.0 result.1 }
+        ensures turned { HasTurned self.old.place self.new.place result.0 result.1 }
+        ensures idle { IsIdle self.old.place → self.new.place.cells.notes ≡ self.old.place.cells.notes
+            → HasDoneNothing self.old.place self.new.place result.0 result.1 }
     {
         self.place.head_turned(rt)
     }

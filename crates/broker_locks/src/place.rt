@@ -1,16 +1,16 @@
 //! What one topic's lock guards.
 
-ghost use Rattle.std.specs.Prelude.{◌≡◌, ◌+◌, ℕ, List, [], length, nat_lt, slice_get, true, Result, Some, None, OnOk, OnErr, IfOk, IfErr};
+ghost use Rattle.std.specs.Prelude.{◌≡◌, ◌+◌, ℕ, List, [], length, nat_lt, slice_get, true, Result, Ok, Some, None, OnOk, OnErr, IfOk, IfErr};
 ghost use Rattle.std.specs.Arc.{arc_value};
 ghost use Rattle.mcast_txn.specs.Part.{data_of};
 ghost use Rattle.mcast_txn.specs.Span.{LogRow};
 ghost use Rattle.mcast_txn.specs.TopicSet.{names};
 ghost use Rattle.sub_queue.specs.Ends.{shown_of_source};
 ghost use Rattle.mcast_group.specs.CellGroup.{CellGroupState, CellTurns, open_count};
-ghost use Rattle.mcast_group.specs.Group.{HasLeft, or_no_memory, result_of, sub_refusal};
-ghost use Rattle.mcast_group.specs.Machine.{cancel_fault, next_number, state_of, unsubscribe_fault};
+ghost use Rattle.mcast_group.specs.Group.{HasLeft, IsRefusedBy, or_no_memory, result_of, sub_refusal};
+ghost use Rattle.mcast_group.specs.Machine.{cancel_fault, due_part, next_number, state_of, unsubscribe_fault};
 ghost use Rattle.broker_locks.specs.KeptTrace.{AddsAll, AddsFirst};
-ghost use Rattle.broker_locks.specs.Place.{HasTurned, IsBalanced, is_part_at, new_place, place_after_cancel, place_after_drain, place_after_propose};
+ghost use Rattle.broker_locks.specs.Place.{HasDoneNothing, HasTurned, IsBalanced, IsIdle, is_part_at, new_place, place_after_cancel, place_after_drain, place_after_propose};
 ghost use Rattle.broker_locks.specs.Place.{place_after_subscribe, place_after_turn, place_after_unsubscribe, place_fault, place_rows, place_subscribe_fault, proposal_of};
 ghost use Rattle.broker_locks.specs.Place.{released_and_drained, rows_given, rows_since, source_answers};
 
@@ -18,7 +18,7 @@ use crate::counts::Counts;
 use crate::kept_rows::KeptRows;
 use mcast_group::{
     CancelFault, CellGroup, Ended, Group, LogRows, NoSub, Proposal, ProposeFault, SubFault,
-    SubState, Turned,
+    SubState, TicketCounter, Turned,
 };
 use mcast_txn::{NoMemory, Part, Seen, Stamp, Ticket, Topic, TxnId};
 use std::alloc::Global;
@@ -159,40 +159,31 @@ impl<R: Wait> Place<R> {
         Ok(ticket)
     }
 
-    /// Makes the room that `enter` needs for this part, and gives no number. Refused as `propose`; the place is as it
-    /// was, either way.
-    pub(crate) fn prepare(
+    /// `propose`, of a part that was moved to the heap before, and whose ticket is counted. The counter is asked once all
+    /// memory is made and nothing else can refuse: so a total that is full is 40, and nothing is entered, and the ticket
+    /// that was counted is given.
+    pub fn enter<C: TicketCounter>(
         &mut self,
         floor: Stamp,
-        proposal: &mut Proposal,
-    ) -> Result<(), ProposeFault>
-        ensures allowed { OnOk result (place_fault floor proposal.old.part self.old ≡ None) }
-        ensures fault { IfErr result
-            (λ fault. fault ≡ or_no_memory (place_fault floor proposal.old.part self.old)) }
-        ensures same { self.new ≡ self.old }
-        ensures kept { proposal.new ≡ proposal.old }
-    {
-        if !is_part_at(self.group().topic(), proposal.part()) {
-            return Err(ProposeFault::Twice);
-        }
-        self.group.prepare(floor, proposal)
-    }
-
-    /// `propose`, of a part of this topic. It takes no memory where `prepare` made the room and nothing has changed
-    /// since.
-    pub(crate) fn enter(&mut self, floor: Stamp, proposal: Proposal) -> Result<Ticket, ProposeFault>
-        requires { is_part_at self.old.cells.group.topic.topic proposal.part ≡ true }
+        proposal: Proposal,
+        counter: &mut C,
+    ) -> Result<Ticket, ProposeFault>
+        ensures allowed { OnOk result (place_fault floor proposal.part self.old ≡ None) }
         ensures ticket { IfOk result (λ ticket. ticket ≡ record {
           id = proposal.part.id;
           topic = self.old.cells.group.topic.topic;
           n = next_number floor self.old.cells.group.topic;
         }) }
         ensures ok { OnOk result (self.new ≡ place_after_propose floor proposal self.old) }
+        ensures counted { OnOk result (C.counted counter.old counter.new) }
         ensures fault { IfErr result
-            (λ fault. fault ≡ or_no_memory (place_fault floor proposal.part self.old)) }
+            (IsRefusedBy C.refused (place_fault floor proposal.part self.old) counter.old counter.new) }
         ensures err { OnErr result (self.new ≡ self.old) }
     {
-        let ticket = self.group.enter(floor, proposal)?;
+        if !is_part_at(self.group().topic(), proposal.part()) {
+            return Err(ProposeFault::Twice);
+        }
+        let ticket = self.group.enter(floor, proposal, counter)?;
         self.tickets += 1;
         Ok(ticket)
     }
@@ -221,10 +212,12 @@ impl<R: Wait> Place<R> {
     /// Turns the topic: each part that hasn't learnt looks into the cell of its own flight and learns the verdict
     /// that it finds, of which a note is kept, and what is due is released. Then the log is drained, into the trace
     /// where one is kept. Returns what the turn did, and the drained rows that no trace keeps, for the caller to let
-    /// go once the lock is free. Out of memory for the drain, the turn stands, and nothing is drained. It may wait
-    /// for a take that is under way.
+    /// go once the lock is free. Out of memory for the drain, the turn stands, and nothing is drained. Where nothing was
+    /// due or held, and no part learns, it changes nothing and takes no memory. It may wait for a take that is under way.
     pub fn head_turned(&mut self, rt: &R) -> (Turned, Result<LogRows, NoMemory>)
-        ensures { HasTurned self.old self.new result.0 result.1 }
+        ensures turned { HasTurned self.old self.new result.0 result.1 }
+        ensures idle { IsIdle self.old → self.new.cells.notes ≡ self.old.cells.notes
+            → HasDoneNothing self.old self.new result.0 result.1 }
     {
         let turned = self.turn(rt);
         (turned, self.drain())
@@ -234,6 +227,7 @@ impl<R: Wait> Place<R> {
     /// has changed.
     fn drain(&mut self) -> Result<LogRows, NoMemory>
         ensures rows { IfOk result (λ rows. rows ≡ rows_given self.old) }
+        ensures idle { self.old.cells.group.topic.held ≡ [] → (result ≡ Ok []) × (self.new ≡ self.old) }
         ensures ok { OnOk result (self.new ≡ place_after_drain self.old) }
         ensures err { OnErr result (self.new ≡ self.old) }
     {
@@ -246,6 +240,8 @@ impl<R: Wait> Place<R> {
     /// Turns the topic.
     fn turn(&mut self, rt: &R) -> Turned
         ensures { (turned : CellGroupState) × CellTurns source_answers self.old.cells turned
+            × (turned.notes ≡ self.old.cells.notes → due_part self.old.cells.group.topic ≡ None
+            → turned ≡ self.old.cells)
             × (self.new ≡ place_after_turn turned self.old)
             × (result.released ≡ rows_since self.old.cells turned)
             × (result.lagged ≡ nat_lt (open_count turned.group.topic.subscriptions)

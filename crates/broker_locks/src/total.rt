@@ -70,27 +70,6 @@ impl<W: Side, T: Side> Total<W, T> {
         Ok(())
     }
 
-    /// Takes back a ticket that was counted for these and wasn't given.
-    pub(crate) fn take_back(&mut self, mine: &mut Share<W>, here: &mut Share<T>)
-        requires mine { 0 < mine.old.amount }
-        requires here { 0 < here.old.amount }
-        ensures mine { (mine.new.parts ≡ mine.old.parts) × (mine.new.amount + 1 ≡ mine.old.amount) }
-        ensures here { (here.new.parts ≡ here.old.parts) × (here.new.amount + 1 ≡ here.old.amount) }
-        ensures tickets { self.new.tickets + 1 ≡ self.old.tickets }
-    {
-        let Total {
-            tickets,
-            joined: _,
-            workers,
-            rest: _,
-            topics,
-            end: _,
-        } = self;
-        workers.sub(mine, 1);
-        topics.sub(here, 1);
-        *tickets -= 1;
-    }
-
     /// One more worker, if fewer than 256 ever joined.
     pub(crate) fn join(&mut self) -> Option<Worker<W>>
         ensures worker { IfSome result (λ worker. worker ≡ record { workers = 1; tickets = 0 }) }

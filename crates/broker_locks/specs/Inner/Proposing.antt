@@ -51,13 +51,12 @@ pub record HasProposed (ps : List TopicPart) (first : FlightState) (ns : List �
   pub tickets : now.tickets ≡ tickets_after ps ns
   pub rows : new ≡ old ++ map (entered first.floor) (proposals_of ps ns)
 
--- The first parts of a flight were tried, and a place refused the last of them.
+-- After the first so many parts of a flight, which were entered, a place refused the next one.
 pub record TriesPart {P Q : Type 0} (may_refuse : P → Stamp → TopicPart → ProposeFault → Type 0)
-    (told : Q → Topic → ℕ → Q → Type 0) (flight : FlightState) (old new : Q) (fault : ProposeFault)
+    (told : Q → Topic → ℕ → Q → Type 0) (flight : FlightState) (done : ℕ) (old new : Q) (fault : ProposeFault)
     : Type 0 where
-  pub before : ℕ
-  pub tells : AreTold told (topics_in flight) (before + 1) old new
+  pub tells : AreTold told (topics_in flight) (done + 1) old new
   pub places : P
   pub part : TopicPart
-  pub at : slice_get (parts_in flight.parts) before ≡ Some part
+  pub at : slice_get (parts_in flight.parts) done ≡ Some part
   pub refused : may_refuse places flight.floor part fault

@@ -12,7 +12,7 @@ use Rattle.mcast_txn.specs.Slots.{Slots}
 use Rattle.mcast_txn.specs.declared.stamp.Stamp.{Stamp}
 use Rattle.sender_gate.specs.Gate.{GateState}
 use Rattle.broker_locks.specs.declared.fault.CommitFault.{CommitFault}
-use Rattle.broker_locks.specs.Commits.{StopsAt, parts_in, topics_in}
+use Rattle.broker_locks.specs.Commits.{parts_in}
 use Rattle.broker_locks.specs.Inner.Cancelling.{AreUncancelled, cancelled_at, topics_given}
 use Rattle.broker_locks.proofs.Whole.{are_uncancelled, none_missing, topics_put, untouched_whole}
 use Rattle.broker_locks.proofs.Committed.{committed, err_too, ok_too, set_before, withdrawn}
@@ -50,7 +50,7 @@ pub returns-in-Ok-propose_all-clause-refused : goal.returns-in-Ok-propose_all-cl
 returns-in-Ok-propose_all-clause-refused g c =
     let p = c.in-Ok-propose_all.ensures.proposed in
     err_too _ _ _ (λ (refused : GateState × CommitFault) h. set_before c.args.flying.state c.propose_all.new.flying.state p.0 (g.P.Places.rows c.args.places.now) (g.P.Places.rows c.propose_all.new.places) (untouched_whole c.args.flying.state c.requires) p.1
-    refused.0 refused.1 (g.P.Places.rows c.settle.new.places) p.3 h.0 h.1 h.2) c.settle.ensures.refused
+    g.P.Places.may_refuse g.Q.Point.told c.args.point.now c.propose_all.new.point c.in-Ok-propose_all.ensures.told refused.0 refused.1 (g.P.Places.rows c.settle.new.places) p.3 h.0 h.1 h.2) c.settle.ensures.refused
 
 pub returns-clause-refused : goal.returns-clause-refused
 returns-clause-refused g c =
@@ -63,12 +63,5 @@ returns-clause-refused g c =
     ∙ (ap (λ (i : TxnId). rows ++ map (cancelled_at i) (map (λ (t : Ticket). t.topic) c.withdraw-gate.result.1)) c.id-id.ensures
     ∙ ap (λ (l : List Topic). rows ++ map (cancelled_at now.id) l) us) in
     withdrawn c.args.flying.state now p.0 (g.P.Places.rows c.args.places.now) rows (untouched_whole c.args.flying.state c.requires) p.1
-    c.withdraw-gate.result.0 c.in-Err.fault c.from.result (g.P.Places.rows c.cancel_all.new.places) c.withdraw-gate.ensures.gate c.from.ensures cancels
-
-pub returns-in-Ok-propose_all-clause-stops : goal.returns-in-Ok-propose_all-clause-stops
-returns-in-Ok-propose_all-clause-stops g c =
-    err_too _ _ (λ (refused : GateState × CommitFault). StopsAt g.P.Places.may_refuse g.Q.Point.told c.args.flying.state c.args.point.now c.propose_all.new.point refused.1) (λ (refused : GateState × CommitFault) h. record {
-      tried = length (topics_in c.args.flying.state);
-      tells = c.in-Ok-propose_all.ensures.told;
-      why = inr (inl (length-map (parts_in c.args.flying.state.parts) (λ (p : TopicPart). p.topic), h.1));
-    }) c.settle.ensures.refused
+    g.P.Places.may_refuse g.Q.Point.told c.args.point.now c.propose_all.new.point
+    c.withdraw-gate.result.0 c.in-Err.fault c.from.result (g.P.Places.rows c.cancel_all.new.places) p.4 c.withdraw-gate.ensures.gate c.from.ensures cancels

@@ -121,7 +121,7 @@ returns-clause-proposed g c =
     let few = inv.so_far.few in
     let many = inv.many in
     let past = c.loop-k-test.false in
-    (inv.numbers, inv.so_far, omega (arith, inv.given), omega arith)
+    (inv.numbers, inv.so_far, omega (arith, inv.given), omega arith, tt)
 
 pub returns-clause-told : goal.returns-clause-told
 returns-clause-told g c =
@@ -133,8 +133,8 @@ returns-clause-told g c =
     let all : c.loop-k.k ≡ length (topics_in c.args.flying.now.state) = omega (arith, inv.many, few, length-map (parts_in c.args.flying.now.state.parts) (λ (p : TopicPart). p.topic)) in
     subst (λ (k : ℕ). AreTold g.Q.Point.told (topics_in c.args.flying.now.state) k c.args.point.now c.loop-k.point) all inv.told
 
-pub returns-in_err-ticket-clause-stops : goal.returns-in_err-ticket-clause-stops
-returns-in_err-ticket-clause-stops g c =
+pub returns-in_err-ticket-clause-proposed : goal.returns-in_err-ticket-clause-proposed
+returns-in_err-ticket-clause-proposed g c =
     let inv = c.loop-k.invariant in
     let found = c.in-Some.ensures.lookup in
     let ps = parts_in c.args.flying.now.state.parts in

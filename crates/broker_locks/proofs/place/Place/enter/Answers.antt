@@ -1,9 +1,18 @@
-use Rattle.std.proofs.Common.{ap, ◌∙◌}
+use Rattle.std.proofs.Common.{◌≡◌, true, sym, ap, ◌∙◌, rules}
+use Rattle.mcast_txn.specs.Transaction.{TopicPart}
+use Rattle.mcast_txn.specs.declared.id.Topic.{Topic}
+use Rattle.mcast_group.specs.Group.{GroupState}
 use Rattle.broker_locks.specs.Place.{PlaceState, is_part_at}
 use Rattle.broker_locks.proofs.Balance.{balanced_proposed}
 use Rattle.broker_locks.proofs.place.Place.enter.Goals as goal
 
 pub invariant_of-self-2 : goal.invariant_of-self-2
 invariant_of-self-2 g c =
-    let is = ap (λ (p : PlaceState). is_part_at p.cells.group.topic.topic c.args.proposal.part) c.self.view_is ∙ c.requires in
+    let part = c.args.proposal.part in
+    let t : c.is_part_at.result ≡ true = search rules in
+    let is : is_part_at c.self.inside.group.group.topic.topic part ≡ true =
+    ap (λ (p : PlaceState). is_part_at p.cells.group.topic.topic part) c.self.view_is
+    ∙ (ap (λ (x : GroupState). is_part_at x.topic.topic part) (sym c.group.ensures)
+    ∙ (ap (λ (t : Topic). is_part_at t part) (sym c.topic.ensures)
+    ∙ (ap (λ (p : TopicPart). is_part_at c.topic.result p) (sym c.part.ensures) ∙ (sym c.is_part_at.ensures ∙ t)))) in
     balanced_proposed c.self.inside.group c.self.inside.tickets c.self.inside.released c.self.inside.cancelled c.self.inside.kept c.self.invariant c.enter.new.self c.args.floor c.args.proposal is c.in_ok-ticket.ensures.allowed c.in_ok-ticket.ensures.ok

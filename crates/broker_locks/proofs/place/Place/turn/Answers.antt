@@ -1,5 +1,6 @@
-use Rattle.std.proofs.Common.{◌<◌, ◌+◌, nat_lt, ℕ, Option, ap, subst, ◌∙◌, arith}
+use Rattle.std.proofs.Common.{◌≡◌, None, ◌<◌, ◌+◌, nat_lt, ℕ, Option, ap, subst, ◌∙◌, arith}
 use Rattle.mcast_group.specs.CellGroup.{CellTurns, IsRead, open_count}
+use Rattle.mcast_group.specs.Machine.{due_part}
 use Rattle.broker_locks.specs.Place.{PlaceState, place_after_turn, rows_since, source_answers}
 use Rattle.broker_locks.specs.Inner.KeptRows.{place_with}
 use Rattle.broker_locks.specs.KeptTrace.{KeptTrace}
@@ -22,6 +23,7 @@ returns g c =
     let old = c.self.inside.group in (
       new,
       subst (λ (p : PlaceState). CellTurns source_answers p.cells new) c.self.view_is t.turned,
+      subst (λ (p : PlaceState). new.notes ≡ p.cells.notes → due_part p.cells.group.topic ≡ None → new ≡ p.cells) c.self.view_is t.idle,
       ap (λ (k : ℕ). place_with new c.self.inside.tickets (c.self.inside.released + k) c.self.inside.cancelled c.self.inside.kept) t.released
           ∙ (ap (λ (o : Option KeptTrace). record { cells = new; tickets = c.self.inside.tickets; released = c.self.inside.released + rows_since old new; cancelled = c.self.inside.cancelled; kept = o })
           (kept_turned c.self.inside.kept source_answers (IsRead old.waiting t.turned.taken) old.group new.group c.self.invariant.sound t.turned.turns c.self.invariant.trace)
