@@ -232,6 +232,11 @@ pub err_is : {A B : Type 0} (r : Result A B) (e : B) (P : B → Type 0) → IsEr
 err_is (Ok a) e P h p = tt
 err_is (Err b) e P h p = subst P (sym h) p
 
+-- and that it is no Ok
+pub err_no : {A B : Type 0} (r : Result A B) (e : B) (P : Type 0) → IsErrAnd r (λ y. y ≡ e) → OnOk r P
+err_no (Ok a) e P h = absurd h
+err_no (Err b) e P h = tt
+
 -- what the fault of a refused call says
 pub if_err : {A B : Type 0} {P Q : B → Type 0} (r : Result A B) → ((b : B) → P b → Q b) → IfErr r P → IfErr r Q
 if_err (Ok a) f h = tt

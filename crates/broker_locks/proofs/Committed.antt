@@ -1,5 +1,5 @@
 -- What a commit leaves, by what its steps leave.
-use Rattle.std.proofs.Common.{◌≡◌, ◌++◌, ◌+◌, ℕ, true, inl, inr, List, [], map, length, Some, Result, Ok, Err, IfOk, IfErr, append_assoc, append-nil, refl, sym, ap, subst, ◌∙◌}
+use Rattle.std.proofs.Common.{◌≡◌, ◌++◌, ◌+◌, ℕ, true, inl, inr, List, [], map, length, Some, Result, Ok, Err, IfOk, IfErr, append_assoc, append-nil, refl, sym, ap, subst, ◌∙◌, arith}
 use Rattle.std.specs.Prelude.{slice_get}
 use Rattle.std.proofs.lemmas.List.{length-map}
 use Rattle.mcast_txn.specs.declared.id.Topic.{Topic}
@@ -94,14 +94,15 @@ module _ (first now : FlightState) (ns : List ℕ) (old rows : List PlaceRow) (w
   }
 
   -- a commit whose flight had another verdict
-  pub set_before : {P Q : Type 0} (may : P → Stamp → TopicPart → ProposeFault → Type 0) (told : Q → Topic → ℕ → Q → Type 0) (was is_now : Q)
-      → AreTold told (topics_in first) (length (topics_in first)) was is_now
+  pub set_before : {P Q : Type 0} (may : P → Stamp → TopicPart → ProposeFault → Type 0) (told : Q → Topic → ℕ → Q → Type 0) (had has : ℕ) (was is_now : Q)
+      → has ≡ had + length ns → AreTold told (topics_in first) (length (topics_in first)) was is_now
       → (gate : GateState) (fault : CommitFault) (after : List PlaceRow) → length ns ≡ length (parts_in first.parts)
-      → IsDecidedGate now gate → fault ≡ AlreadySet → after ≡ rows ++ map (cancelled_at now.id) (topics_given now) → IsRefused may told first old after was is_now gate fault
-  set_before may told was is_now tells gate fault after all d is e = record {
+      → IsDecidedGate now gate → fault ≡ AlreadySet → after ≡ rows ++ map (cancelled_at now.id) (topics_given now) → IsRefused may told first old after had has was is_now gate fault
+  set_before may told had has was is_now count tells gate fault after all d is e = record {
     proposals = ps;
     first = first_parts (parts_in first.parts) ns;
     rows = cancelled_after after e;
+    given = count ∙ ap (λ (k : ℕ). had + k) (sym many_made);
     left = gate_is gate d ∙ ap (λ (f : CommitFault). gate_after first (refused_floor f first.floor ps)) (sym is);
     decided = λ _. above_is gate d;
     tried = length (topics_in first);
@@ -110,14 +111,15 @@ module _ (first now : FlightState) (ns : List ℕ) (old rows : List PlaceRow) (w
   }
 
   -- a commit that a topic refused
-  pub withdrawn : {P Q : Type 0} (may : P → Stamp → TopicPart → ProposeFault → Type 0) (told : Q → Topic → ℕ → Q → Type 0) (was is_now : Q)
-      → (gate : GateState) (fault : ProposeFault) (is : CommitFault) (after : List PlaceRow) → TriesPart may told first (length ns) was is_now fault
+  pub withdrawn : {P Q : Type 0} (may : P → Stamp → TopicPart → ProposeFault → Type 0) (told : Q → Topic → ℕ → Q → Type 0) (had has : ℕ) (was is_now : Q)
+      → has ≡ had + length ns → (gate : GateState) (fault : ProposeFault) (is : CommitFault) (after : List PlaceRow) → TriesPart may told first (length ns) was is_now fault
       → gate ≡ gate_after now now.floor → is ≡ commit_fault fault
-      → after ≡ rows ++ map (cancelled_at now.id) (topics_given now) → IsRefused may told first old after was is_now gate is
-  withdrawn may told was is_now gate fault is after t left e cancels = record {
+      → after ≡ rows ++ map (cancelled_at now.id) (topics_given now) → IsRefused may told first old after had has was is_now gate is
+  withdrawn may told had has was is_now count gate fault is after t left e cancels = record {
     proposals = ps;
     first = first_parts (parts_in first.parts) ns;
     rows = cancelled_after after cancels;
+    given = count ∙ ap (λ (k : ℕ). had + k) (sym many_made);
     left = left
         ∙ (gate_left first now ns old rows whole so now.floor
         ∙ ap (gate_after first) (so.floor ∙ sym (ap (λ (f : CommitFault). refused_floor f first.floor ps) e ∙ fault_floor fault first.floor ps)));
@@ -138,11 +140,12 @@ module _ (first now : FlightState) (ns : List ℕ) (old rows : List PlaceRow) (w
 -- ---- a refused commit
 
 -- one that had no memory for the commit itself
-pub unbegun : {P Q : Type 0} (may : P → Stamp → TopicPart → ProposeFault → Type 0) (told : Q → Topic → ℕ → Q → Type 0) (flight : FlightState) (old : List PlaceRow) (was : Q) (gate : GateState) → gate ≡ gate_after flight flight.floor → IsRefused may told flight old old was was gate NoMemory
-unbegun may told flight old was gate left = record {
+pub unbegun : {P Q : Type 0} (may : P → Stamp → TopicPart → ProposeFault → Type 0) (told : Q → Topic → ℕ → Q → Type 0) (flight : FlightState) (old : List PlaceRow) (had : ℕ) (was : Q) (gate : GateState) → gate ≡ gate_after flight flight.floor → IsRefused may told flight old old had had was was gate NoMemory
+unbegun may told flight old had was gate left = record {
   proposals = [];
   first = refl;
   rows = sym (append-nil old);
+  given = omega arith;
   left = left;
   decided = λ set. absurd (fault_other propose.NoMemory set);
   tried = 0;
@@ -151,11 +154,12 @@ unbegun may told flight old was gate left = record {
 }
 
 -- the same, said without the places that refused
-pub refused_somewhere : {P Q : Type 0} (may : P → Stamp → TopicPart → ProposeFault → Type 0) (told : Q → Topic → ℕ → Q → Type 0) (flight : FlightState) (old new : List PlaceRow) (was is_now : Q) (gate : GateState) (fault : CommitFault) → IsRefused may told flight old new was is_now gate fault → IsRefused some_refusal told flight old new was is_now gate fault
-refused_somewhere may told flight old new was is_now gate fault r = record {
+pub refused_somewhere : {P Q : Type 0} (may : P → Stamp → TopicPart → ProposeFault → Type 0) (told : Q → Topic → ℕ → Q → Type 0) (flight : FlightState) (old new : List PlaceRow) (had has had' has' : ℕ) (was is_now : Q) (gate : GateState) (fault : CommitFault) → had ≡ had' → has ≡ has' → IsRefused may told flight old new had has was is_now gate fault → IsRefused some_refusal told flight old new had' has' was is_now gate fault
+refused_somewhere may told flight old new had has had' has' was is_now gate fault e f r = record {
   proposals = r.proposals;
   first = r.first;
   rows = r.rows;
+  given = sym f ∙ (r.given ∙ ap (λ (k : ℕ). k + length r.proposals) e);
   left = r.left;
   decided = r.decided;
   tried = r.tried;

@@ -83,11 +83,12 @@ abbrev listed : List Topic → Topic → ℕ → List Topic → Type 0
 listed topics t k new = new ≡ topics ++ t ∷ []
 
 -- where topic 2 refuses for its log, the part at topic 0 is cancelled, and the floor stays
-one_cancelled : IsRefused some_refusal listed flight [] (Entered (part 0) floor 11 ∷ Cancelled (at_topic 0) id ∷ []) [] (at_topic 0 ∷ at_topic 2 ∷ []) (gate_with floor) LogFull
+one_cancelled : IsRefused some_refusal listed flight [] (Entered (part 0) floor 11 ∷ Cancelled (at_topic 0) id ∷ []) 5 6 [] (at_topic 0 ∷ at_topic 2 ∷ []) (gate_with floor) LogFull
 one_cancelled = record {
   proposals = record { part = part 0; number = 11 } ∷ [];
   first = refl;
   rows = refl;
+  given = refl;
   left = refl;
   decided = λ e. cc;
   tried = 2;
@@ -97,11 +98,12 @@ one_cancelled = record {
 
 -- where the flight had another verdict, both are cancelled, and the floor is this one's stamp
 both_cancelled : IsRefused some_refusal listed flight [] (Entered (part 0) floor 11 ∷ Entered (part 2) floor 21 ∷ Cancelled (at_topic 0) id ∷ Cancelled (at_topic 2) id ∷ [])
-    [] (at_topic 0 ∷ at_topic 2 ∷ []) (gate_with (record { n = 21; topic = at_topic 2 })) AlreadySet
+    5 7 [] (at_topic 0 ∷ at_topic 2 ∷ []) (gate_with (record { n = 21; topic = at_topic 2 })) AlreadySet
 both_cancelled = record {
   proposals = record { part = part 0; number = 11 } ∷ record { part = part 2; number = 21 } ∷ [];
   first = refl;
   rows = refl;
+  given = refl;
   left = refl;
   decided = λ e. refl;
   tried = 2;

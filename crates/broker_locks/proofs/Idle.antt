@@ -1,5 +1,6 @@
 -- A head's turn that has nothing to do.
-use Rattle.std.proofs.Common.{◌≡◌, ◌++◌, ◌+◌, ℕ, nat_lt, false, List, [], length, Some, None, Result, Ok, Err, IfOk, IfErr, OnOk, OnErr, IsOk, append-nil, refl, sym, ap, subst, ◌∙◌, arith}
+use Rattle.std.proofs.Common.{◌≡◌, ◌++◌, ◌+◌, ◌-◌, ℕ, nat_lt, false, List, [], length, Some, None, Result, Ok, Err, IfOk, IfErr, OnOk, OnErr, IsOk, append-nil, refl, sym, ap, subst, ◌∙◌, arith}
+use Rattle.std.proofs.lemmas.Bool.{false≢true, le-ltb}
 use Rattle.mcast_txn.specs.Span.{LogRow, last_stamp}
 use Rattle.mcast_txn.specs.declared.stamp.Stamp.{Stamp}
 use Rattle.mcast_group.specs.CellGroup.{CellGroupState, open_count}
@@ -8,7 +9,7 @@ use Rattle.mcast_group.specs.Machine.{TopicState, after_drain, due_part}
 use Rattle.mcast_group.specs.Sound.{IsSound}
 use Rattle.mcast_group.specs.declared.turned.Turned.{Turned}
 use Rattle.broker_locks.specs.Inner.KeptRows.{RowsKept, place_with}
-use Rattle.broker_locks.specs.Place.{HasDoneNothing, IsIdle, PlaceState, cells_after_drain, place_after_turn, rows_since}
+use Rattle.broker_locks.specs.Place.{HasDoneNothing, IsIdle, PlaceState, cells_after_drain, place_after_drain, place_after_turn, rows_since}
 
 -- where no row is held, a drain leaves the topic as it was
 drained_none : (x : TopicState) → IsSound x → x.held ≡ [] → after_drain x ≡ x
@@ -21,15 +22,20 @@ cells_same g sound held = ap (λ (x : TopicState). record g { group = record g.g
 
 -- a drain of a place without a trace
 pub idle_given : {E : Type 0} (r : Result (List LogRow) E) (g h : CellGroupState) (t l c : ℕ) → IsSound g.group.topic → g.group.topic.held ≡ [] → IsOk r → IfOk r (λ rows. rows ≡ g.group.topic.held) → OnOk r (h ≡ cells_after_drain g) → (r ≡ Ok []) × (place_with h t l c None ≡ place_with g t l c None)
-idle_given (Err e) g h t l c sound held ok is left = absurd ok
+idle_given (Err e) g h t l c sound held ok is left = absurd (false≢true ok)
 idle_given (Ok rows) g h t l c sound held ok is left = (ap Ok (is ∙ held), ap (λ (z : CellGroupState). place_with z t l c None) (left ∙ cells_same g sound held))
 
 -- and of one with a trace
 pub idle_kept : {E : Type 0} (r : Result (List LogRow) E) (g h : CellGroupState) (t l c : ℕ) (k j : RowsKept) → IsSound g.group.topic → g.group.topic.held ≡ [] → IsOk r → IfOk r (λ rows. rows ≡ []) → OnOk r (j ≡ record k { drained = k.drained ++ g.group.topic.held }) → OnOk r (h ≡ cells_after_drain g) → (r ≡ Ok []) × (place_with h t l c (Some j) ≡ place_with g t l c (Some k))
-idle_kept (Err e) g h t l c k j sound held ok is kept left = absurd ok
+idle_kept (Err e) g h t l c k j sound held ok is kept left = absurd (false≢true ok)
 idle_kept (Ok rows) g h t l c k j sound held ok is kept left =
     let same : j ≡ k = kept ∙ (ap (λ (more : List LogRow). record k { drained = k.drained ++ more }) held ∙ ap (λ (all : List LogRow). record k { drained = all }) (append-nil k.drained)) in
     (ap Ok is, ap (λ (z : CellGroupState). place_with z t l c (Some j)) (left ∙ cells_same g sound held) ∙ ap (λ (z : RowsKept). place_with g t l c (Some z)) same)
+
+-- a drain keeps the notes
+pub notes_kept : {E : Type 0} (r : Result (List LogRow) E) (mid new : PlaceState) → OnOk r (new ≡ place_after_drain mid) → OnErr r (new ≡ mid) → new.cells.notes ≡ mid.cells.notes
+notes_kept (Ok rows) mid new ok err = ap (λ (p : PlaceState). p.cells.notes) ok
+notes_kept (Err e) mid new ok err = ap (λ (p : PlaceState). p.cells.notes) err
 
 less_none : (n : ℕ) → n - n ≡ 0
 less_none n = omega arith
@@ -56,4 +62,4 @@ idle_head old mid new turned told drained idle is released lagged drains notes i
     (d.1 ∙ here, ap (λ (k : ℕ). record { released = k; lagged = told.lagged }) many ∙ ap (λ (b : _). record { released = 0; lagged = b }) lag, d.0)
   where
     not_less : (n : ℕ) → nat_lt n n ≡ false
-    not_less n = omega arith
+    not_less n = le-ltb n n (omega arith)

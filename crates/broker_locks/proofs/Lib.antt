@@ -6,6 +6,7 @@ pub mod Room
 pub mod TraceKept
 pub mod PlaceTraces
 pub mod Balance
+pub mod Idle
 pub mod Spans
 pub mod Limits
 pub mod Adding

@@ -1,5 +1,5 @@
 -- Flights as their gate began them, and what is left of them after their proposals.
-use Rattle.std.proofs.Common.{◌≡◌, ◌<◌, ℕ, true, false, List, [], ◌∷◌, map, length, take, Option, Some, None, refl, sym, ap, subst, ◌∙◌, arith, inl, inr}
+use Rattle.std.proofs.Common.{suc, ◌≤◌, ◌≡◌, ◌<◌, ℕ, true, false, List, [], ◌∷◌, map, length, take, Option, Some, None, refl, sym, ap, subst, ◌∙◌, arith, inl, inr}
 use Rattle.std.specs.List.{AllByRecursion, list_any}
 use Rattle.std.specs.Option.{is_none}
 use Rattle.mcast_txn.specs.declared.id.Topic.{Topic}

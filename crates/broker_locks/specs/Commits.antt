@@ -122,20 +122,22 @@ HasNoMemory done tried fault = (done ≡ 0) × (tried ≡ 0) × (fault ≡ commi
 -- proposals: its parts that were entered, each with its number.
 -- first: they are the first of its parts, by rising topic.
 -- rows: these proposals were made with the flight's floor, then each was cancelled; nothing else was done.
+-- given: as many tickets were given as parts were entered.
 -- left: the gate's floor is the flight's, but where the flight had another verdict.
 -- decided: there the floor is above the old one.
 -- tried: how many of its topics were tried.
 -- tells: the point was told these, and no other.
 -- why: a place refused the part after those that were entered, the last that was tried, by this fault; or all were
 --   entered, and the flight had another verdict; or none was tried, for want of memory.
--- So where the second of three topics refuses for its log, one part was entered, two topics were tried, and the fault
--- is 41, whatever the third would have answered.
+-- So where the second of three topics refuses for its log, one ticket was given, the point was told two topics, and the
+-- fault is 41, whatever the third would have answered.
 pub record IsRefused {P Q : Type 0} (may_refuse : P → Stamp → TopicPart → ProposeFault → Type 0)
-    (told : Q → Topic → ℕ → Q → Type 0) (flight : FlightState) (old new : List PlaceRow) (before after : Q)
-    (gate : GateState) (fault : CommitFault) : Type 0 where
+    (told : Q → Topic → ℕ → Q → Type 0) (flight : FlightState) (old new : List PlaceRow) (had has : ℕ)
+    (before after : Q) (gate : GateState) (fault : CommitFault) : Type 0 where
   pub proposals : List EnteredPart
   pub first : map (λ p. p.part) proposals ≡ take (length proposals) (parts_in flight.parts)
   pub rows : new ≡ old ++ (map (entered flight.floor) proposals ++ map cancelled proposals)
+  pub given : has ≡ had + length proposals
   pub left : gate ≡ gate_after flight (refused_floor fault flight.floor proposals)
   pub decided : fault ≡ commit.AlreadySet → stamp_lt flight.floor gate.floor ≡ true
   pub tried : ℕ

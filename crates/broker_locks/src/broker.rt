@@ -257,7 +257,7 @@ impl<R: Wait, W: Side, T: Side> Broker<R, W, T> {
             (worker.new.tickets ≡ worker.old.tickets + length (topics_in flying.state)) }
         ensures refused { IfErr result
             (λ refused. (old new : List PlaceRow) × IsRefused some_refusal Q.told flying.state old new
-            point.old point.new refused.0 refused.1) }
+            worker.old.tickets worker.new.tickets point.old point.new refused.0 refused.1) }
         ensures no_less { OnErr result (worker.old.tickets ≤ worker.new.tickets) }
         ensures no_more { OnErr result
             (worker.new.tickets ≤ worker.old.tickets + length (topics_in flying.state)) }
@@ -287,7 +287,7 @@ impl<R: Wait, W: Side, T: Side> Broker<R, W, T> {
             (worker.new.tickets ≡ worker.old.tickets + length (topics_in flying.state)) }
         ensures refused { IfErr result
             (λ refused. (old new : List PlaceRow) × IsRefused some_refusal Q.told flying.state old new
-            point.old point.new refused.0 refused.1) }
+            worker.old.tickets worker.new.tickets point.old point.new refused.0 refused.1) }
         ensures no_less { OnErr result (worker.old.tickets ≤ worker.new.tickets) }
         ensures no_more { OnErr result
             (worker.new.tickets ≤ worker.old.tickets + length (topics_in flying.state)) }

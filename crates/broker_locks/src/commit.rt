@@ -37,7 +37,7 @@ pub fn commit_on<P: Places, Q: Point>(
     ensures given { OnOk result (P.given places.new ≡ P.given places.old + length (topics_in flying.state)) }
     ensures refused { IfErr result
         (λ refused. IsRefused P.may_refuse Q.told flying.state (P.rows places.old) (P.rows places.new)
-        point.old point.new refused.0 refused.1) }
+        (P.given places.old) (P.given places.new) point.old point.new refused.0 refused.1) }
     ensures no_less { OnErr result (P.given places.old ≤ P.given places.new) }
     ensures no_more { OnErr result
         (P.given places.new ≤ P.given places.old + length (topics_in flying.state)) }

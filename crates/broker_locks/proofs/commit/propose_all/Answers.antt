@@ -12,7 +12,7 @@ use Rattle.broker_locks.specs.Rows.{Entered, IsTicketFor}
 use Rattle.broker_locks.proofs.Proposals.{no_part, proposals_none, as_many, whole_topics, next_part, next_ticket, next_so, next_parts, next_told, part_here}
 use Rattle.mcast_group.specs.declared.fault.ProposeFault.{ProposeFault}
 use Rattle.broker_locks.specs.Inner.Proposing.{TriesPart}
-use Rattle.broker_locks.proofs.Adding.{err_is}
+use Rattle.broker_locks.proofs.Adding.{err_is, err_no}
 use Rattle.broker_locks.proofs.commit.propose_all.Goals as goal
 
 pub loop-k-init : goal.loop-k-init
@@ -147,8 +147,8 @@ returns-in_err-ticket-clause-proposed g c =
     let fault = c.in_err-ticket.field-0.0 in
     let point = c.before-in-loop-k.new.self in
     let more : suc c.loop-k.k ≡ c.loop-k.k + 1 = omega arith in
-    err_is c.from_residual.result fault (λ (f : ProposeFault). TriesPart g.P.Places.may_refuse g.Q.Point.told c.args.flying.now.state c.args.point.now point f) c.from_residual.ensures.1 (record {
-      before = c.loop-k.k;
+    let taken = c.in-Some-part.ensures.taken in
+    let tries : TriesPart g.P.Places.may_refuse g.Q.Point.told c.args.flying.now.state c.loop-k.k c.args.point.now point fault = record {
       tells = subst (λ (m : ℕ). AreTold g.Q.Point.told (topics_in c.args.flying.now.state) m c.args.point.now point) more (
         c.loop-k.point,
         inv.told,
@@ -161,4 +161,17 @@ returns-in_err-ticket-clause-proposed g c =
       at = part_here ps c.args.flying.now.state c.loop-k.flying.state inv.numbers _ _ inv.so_far c.requires.rises inv.parts c.loop-k.k inv.many c.as_slice.result.now named found.3.0;
       refused = subst (λ (f : Stamp). g.P.Places.may_refuse c.loop-k.places f (get_or ps c.loop-k.k no_part) fault) (floor ∙ inv.so_far.floor)
           (subst (λ (p : TopicPart). g.P.Places.may_refuse c.loop-k.places c.floor.result p fault) part c.in_err-ticket.ensures.fault);
-    })
+    } in (
+      inv.numbers,
+      record {
+        few = inv.so_far.few;
+        id = ap (λ (f : FlyingState). f.state.id) taken ∙ inv.so_far.id;
+        floor = ap (λ (f : FlyingState). f.state.floor) taken ∙ inv.so_far.floor;
+        tickets = ap (λ (f : FlyingState). f.state.tickets) taken ∙ inv.so_far.tickets;
+        rows = c.in_err-ticket.ensures.refused ∙ inv.so_far.rows;
+      },
+      c.in_err-ticket.ensures.none ∙ (inv.given ∙ ap (λ (k : ℕ). g.P.Places.given c.args.places.now + k) (sym inv.many)),
+      err_no c.from_residual.result fault _ c.from_residual.ensures.1,
+      err_is c.from_residual.result fault (λ (f : ProposeFault). TriesPart g.P.Places.may_refuse g.Q.Point.told c.args.flying.now.state (length inv.numbers) c.args.point.now point f) c.from_residual.ensures.1
+          (subst (λ (k : ℕ). TriesPart g.P.Places.may_refuse g.Q.Point.told c.args.flying.now.state k c.args.point.now point fault) (sym inv.many) tries),
+    )
