@@ -1,10 +1,9 @@
 -- A head's turn that has nothing to do.
-use Rattle.std.proofs.Common.{◌≡◌, ◌++◌, ◌+◌, ◌-◌, ℕ, nat_lt, false, List, [], length, Some, None, Result, Ok, Err, IfOk, IfErr, OnOk, OnErr, IsOk, append-nil, refl, sym, ap, subst, ◌∙◌, arith}
+use Rattle.std.proofs.Common.{◌≡◌, ◌++◌, ◌+◌, ◌-◌, ℕ, nat_lt, false, List, [], length, Some, None, Result, Ok, Err, IfOk, OnOk, OnErr, IsOk, append-nil, sym, ap, ◌∙◌, arith}
 use Rattle.std.proofs.lemmas.Bool.{false≢true, le-ltb}
 use Rattle.mcast_txn.specs.Span.{LogRow, last_stamp}
 use Rattle.mcast_txn.specs.declared.stamp.Stamp.{Stamp}
 use Rattle.mcast_group.specs.CellGroup.{CellGroupState, open_count}
-use Rattle.mcast_group.specs.Group.{GroupState}
 use Rattle.mcast_group.specs.Machine.{TopicState, after_drain, due_part}
 use Rattle.mcast_group.specs.Sound.{IsSound}
 use Rattle.mcast_group.specs.declared.turned.Turned.{Turned}

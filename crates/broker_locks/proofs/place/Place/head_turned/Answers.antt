@@ -1,5 +1,4 @@
 use Rattle.std.proofs.Common.{sym, ap, ◌∙◌}
-use Rattle.mcast_group.specs.CellGroup.{CellGroupState}
 use Rattle.broker_locks.specs.Place.{PlaceState}
 use Rattle.broker_locks.proofs.Idle.{idle_head, notes_kept}
 use Rattle.broker_locks.proofs.place.Place.head_turned.Goals as goal
