@@ -125,3 +125,15 @@ copies_insert n zero ps cs p c l h m a = ((m, a), h)
 copies_insert n (suc i) [] cs p c l h m a = absurd (omega arith)
 copies_insert n (suc i) (q ∷ ps) [] p c l h m a = absurd h
 copies_insert n (suc i) (q ∷ ps) (b ∷ cs) p c l h m a = (h.0, copies_insert n i ps cs p c (omega arith) h.1 m a)
+
+-- ---- one copy alone, or many
+
+take_none : {X : Type 0} (n : ℕ) → take n ([] {A = X}) ≡ []
+take_none zero = refl
+take_none (suc n) = refl
+
+-- at most so many of one and the others, where there is one alone
+pub cut_list : {X : Type 0} (o : Option X) (many : List X) (n : ℕ) → IfSome o (λ x. many ≡ []) → take n (option_to_list o) ++ take n many ≡ take n (option_to_list o ++ many)
+cut_list None many n h = ap (λ (zs : List _). zs ++ take n many) (take_none n)
+cut_list (Some x) many zero h = refl
+cut_list (Some x) many (suc n) h = rw h (ap (λ (zs : List _). (x ∷ zs) ++ []) (take_none n))

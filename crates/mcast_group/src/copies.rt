@@ -1,8 +1,9 @@
 //! Copies of a pending part, one for each open subscription.
 
-ghost use Rattle.std.specs.Prelude.{◌≡◌, ℕ, ◌+◌, ◌≤◌, ◌<◌, List, [], ◌∷◌, ◌++◌, length, map, take, slice_index_or, IfSome, IfNone, OnOk, OnErr, IfOk};
+ghost use Rattle.std.specs.Prelude.{◌≡◌, ℕ, ◌+◌, ◌≤◌, ◌<◌, List, [], ◌∷◌, ◌++◌, length, map, take, slice_index_or, vec_capacity, vec_len, None, IfSome, IfNone, OnOk, OnErr, IfOk};
 ghost use Rattle.std.specs.Arc.{arc_value};
 ghost use Rattle.std.specs.List.{remove};
+ghost use Rattle.std.specs.Option.{option_to_list};
 ghost use Rattle.mcast_txn.specs.Lists.{In};
 ghost use Rattle.mcast_txn.specs.Part.{data_of};
 ghost use Rattle.mcast_txn.specs.Transaction.{TopicPart};
@@ -17,21 +18,27 @@ use std::collections::VecDeque;
 use std::marker::Model;
 use std::sync::Arc;
 
-/// Copies of a pending part: shared once more for each open subscription, so that a release takes no memory.
+/// Copies of a pending part: shared once more for each open subscription, so that a release takes no memory. A single one
+/// takes none itself.
 #[derive(Drop)]
 pub(crate) struct Copies {
-    parts: Vec<Arc<Part>>,
+    one: Option<Arc<Part>>,
+    /// None where there is one alone.
+    many: Vec<Arc<Part>>,
 }
 
 impl Model for Copies {
-    ghost use Rattle.std.specs.Prelude.{List, map};
+    ghost use Rattle.std.specs.Prelude.{◌≡◌, ◌++◌, [], List, IfSome, map};
     ghost use Rattle.std.specs.Arc.{arc_value};
+    ghost use Rattle.std.specs.Option.{option_to_list};
     ghost use Rattle.mcast_txn.specs.Part.{data_of};
     ghost use Rattle.mcast_txn.specs.Transaction.{TopicPart};
 
     ghost Value = { List TopicPart };
 
-    ghost view = { λ c. map (λ part. data_of (arc_value part)) c.parts.items };
+    ghost view = { λ c. map (λ part. data_of (arc_value part)) (option_to_list c.one ++ c.many.items) };
+
+    ghost invariant = { λ c. IfSome c.one (λ part. c.many.items ≡ []) };
 }
 
 impl Copies {
@@ -39,7 +46,10 @@ impl Copies {
     pub(crate) fn len(&self) -> usize
         ensures { result ≡ length self.now }
     {
-        self.parts.len()
+        match &self.one {
+            Some(_) => 1,
+            None => self.many.len(),
+        }
     }
 
     /// Takes one out.
@@ -49,7 +59,10 @@ impl Copies {
         ensures rest { (c : TopicPart) → In c self.new → In c self.old }
         ensures many { length self.old ≤ length self.new + 1 }
     {
-        self.parts.pop()
+        match self.one.take() {
+            Some(part) => Some(part),
+            None => self.many.pop(),
+        }
     }
 
     /// `many` copies of a part.
@@ -58,7 +71,8 @@ impl Copies {
         ensures of { IfOk result (λ copies. AreOf part.now.part copies) }
     {
         let mut copies = Copies {
-            parts: Vec::with_capacity(alloc, many)?,
+            one: None,
+            many: with_room(alloc, many)?,
         };
         for _ in 0..many {
             copies.add(part)?;
@@ -70,7 +84,8 @@ impl Copies {
     pub(crate) fn keep(&mut self, most: usize)
         ensures { self.new ≡ take most self.old }
     {
-        self.parts.truncate(most);
+        self.one = kept_one(self.one.take(), most);
+        self.many.truncate(most);
     }
 
     /// One copy more.
@@ -79,9 +94,49 @@ impl Copies {
         ensures err { OnErr result (self.new ≡ self.old) }
     {
         let copy = part.share()?;
-        self.parts.push(copy)?;
+        if self.many.is_empty() && self.one.is_none() {
+            self.one = Some(copy);
+            return Ok(());
+        }
+        self.many.reserve(2)?;
+        put_first(&mut self.one, &mut self.many);
+        self.many.push_reserved(copy);
         Ok(())
     }
+}
+
+/// A single copy, where at most so many are kept.
+fn kept_one(one: Option<Arc<Part>>, most: usize) -> Option<Arc<Part>>
+    ensures { option_to_list result ≡ take most (option_to_list one) }
+{
+    if most == 0 {
+        return None;
+    }
+    one
+}
+
+/// Moves a single copy to the others, of which there are none then.
+fn put_first(one: &mut Option<Arc<Part>>, many: &mut Vec<Arc<Part>>)
+    requires alone { IfSome one.old (λ part. many.old.items ≡ []) }
+    requires room { vec_len many.old + 2 ≤ vec_capacity many.old }
+    ensures one { one.new ≡ None }
+    ensures many { many.new.items ≡ option_to_list one.old ++ many.old.items }
+    ensures room { vec_len many.new + 1 ≤ vec_capacity many.new }
+{
+    match one.take() {
+        Some(first) => many.push_reserved(first),
+        None => {}
+    }
+}
+
+/// Room for this many copies, of which a single one needs none.
+fn with_room(alloc: Global, many: usize) -> Result<Vec<Arc<Part>>, NoMemory>
+    ensures { IfOk result (λ room. room.items ≡ []) }
+{
+    if many < 2 {
+        return Ok(Vec::new(alloc));
+    }
+    Ok(Vec::with_capacity(alloc, many)?)
 }
 
 /// One copy more of each part; where there was no memory, the first ones have one more, and `keep_in_each` takes it away.
