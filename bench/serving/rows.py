@@ -5,7 +5,7 @@ import collections
 # A row's words are the load generator's plan (plan.h). A growth is the group of rows that are compared with one of them.
 Row = collections.namedtuple("Row", "name words topics kind growth", defaults=(1, "rate", None))
 
-# The octets of a transaction's bodies, and of a message in the rows of growth.
+# The octets of a transaction's bodies.
 IN_TRANSACTION = 64
 
 IDLE = 256

@@ -71,25 +71,25 @@ def rate(value):
 
 
 def microseconds(value):
-    return f"{value:,.1f} us"
+    return f"{value:,.1f} us" if value >= 10 else f"{value:.2g} us"
 
 
 def line(cells):
     return "| " + " | ".join(cells) + " |"
 
 
-def head(peers):
-    """The machine, its load, and the versions."""
+def head(peers, load):
+    """The machine, its load before the run, and the versions."""
     with open("/proc/cpuinfo", encoding="utf-8", errors="replace") as lines:
         model = next((it.split(":", 1)[1].strip() for it in lines if it.startswith("model name")), "a processor")
     compiler = subprocess.run(["cc", "--version"], stdout=subprocess.PIPE, text=True, check=False).stdout.split("\n")[0]
-    load = " ".join(f"{it:.1f}" for it in os.getloadavg())
+    load = " ".join(f"{it:.1f}" for it in load)
     yield f"{os.cpu_count()} processors ({model}), Linux {platform.release()}, {platform.libc_ver()[1]} of glibc, {compiler}"
     yield f"load of the machine before: {load}" + "".join(f"; {it}" for it in peers)
 
 
 def ratios(results, peers):
-    """The one table: each row's rates or times, and the processor time of a delivery."""
+    """The table of ratios: each row's rates or times, and the processor time of a delivery."""
     others = ["shape", *peers]
     yield line(
         ["row", "measured", "floor", "shape / floor", "stompd / floor", *(f"stompd / {it}" for it in others)]
@@ -116,6 +116,16 @@ def measures(row):
     return [("rate", "deliveries", rate)]
 
 
+def medians(results, servers):
+    """What each server had in each row."""
+    yield line(["row", "measured", *servers])
+    yield line(["---"] * (2 + len(servers)))
+    for row, cells in results.items():
+        if row.kind != "idle":
+            for name, words, form in [*measures(row), ("cost", "time of a delivery", microseconds)]:
+                yield line([row.name, words, *(figure(cells, it, name, form) for it in servers)])
+
+
 def growth(results, bases, servers):
     """For each growth, the processor time of a delivery over that of its base row with the same server."""
     yield line(["row", "compared with", *servers])
@@ -125,8 +135,8 @@ def growth(results, bases, servers):
         base = rows.get(bases.get(row.growth))
         if base is None or base == row:
             continue
-        paired = ({"now": cells.get(it), "base": results[base].get(it)} for it in servers)
-        yield line([row.name, base.name, *(ratio(it, "now", "base", "cost") for it in paired)])
+        paired = ({row.name: cells.get(it), base.name: results[base].get(it)} for it in servers)
+        yield line([row.name, base.name, *(ratio(it, row.name, base.name, "cost") for it in paired)])
 
 
 def idle(results, servers):
