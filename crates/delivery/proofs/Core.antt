@@ -3,6 +3,7 @@ pub mod Acts
 pub mod Agreement
 pub mod Rows
 pub mod TopicRows
+pub mod ClaimRows
 pub mod MoreRows
 pub mod OctetsRow
 pub mod ToldEnds
