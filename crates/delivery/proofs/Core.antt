@@ -6,6 +6,7 @@ pub mod TopicRows
 pub mod MoreRows
 pub mod OctetsRow
 pub mod ToldEnds
+pub mod QueueOfReport
 pub mod DeliveredRow
 pub mod StepRows
 pub mod GreetedRow
@@ -18,6 +19,8 @@ pub mod Speaking
 pub mod ByRun
 pub mod Tests
 pub mod Started
+pub mod NextItem
+pub mod SendsLeft
 pub mod AccountOfRun
 pub mod SaidParts
 pub mod AtNext
