@@ -7,6 +7,7 @@ pub mod ClaimRows
 pub mod MoreRows
 pub mod OctetsRow
 pub mod ToldEnds
+pub mod QueueOfReport
 pub mod DeliveredRow
 pub mod StepRows
 pub mod GreetedRow
@@ -19,6 +20,8 @@ pub mod Speaking
 pub mod ByRun
 pub mod Tests
 pub mod Started
+pub mod NextItem
+pub mod SendsLeft
 pub mod AccountOfRun
 pub mod SaidParts
 pub mod AtNext

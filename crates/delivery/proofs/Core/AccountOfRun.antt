@@ -1,23 +1,16 @@
 -- The account of a run's steps is what the machine answered to its moves, refusals and what was merely done aside.
-use Rattle.std.proofs.Common.{◌≡◌, ℕ, zero, suc, ◌+◌, ◌<◌, ◌==◌, Bool, true, false, cond, not, ◌&&◌, ◌⊎◌, inl, inr, List, [], ◌∷◌, ◌++◌, map, length, Option, Some, None, refl, sym, ap, subst, ◌∙◌, true≢false}
+use Rattle.std.proofs.Common.{◌≡◌, ℕ, ◌+◌, ◌<◌, ◌==◌, Bool, true, false, cond, not, ◌&&◌, ◌⊎◌, inl, inr, List, [], ◌∷◌, ◌++◌, length, Option, Some, None, refl, sym, ap, subst, ◌∙◌, true≢false}
 use Rattle.std.proofs.lemmas.Bool.{ltb-true, false≢true}
-use Rattle.std.specs.Prelude.{take, slice_get, codes}
-use Rattle.std.specs.List.{filter}
-use Rattle.std.specs.Option.{is_some, option_map, option_map_or, option_or, option_to_list, unwrap_or}
+use Rattle.std.specs.Prelude.{slice_get, codes}
+use Rattle.std.specs.Option.{is_some, option_map, option_map_or, option_or, option_to_list}
 use Rattle.stomp_frame.specs.declared.raw_frame.RawFrame.{RawFrame}
 use Rattle.mcast_txn.specs.declared.id.Topic.{Topic}
 use Rattle.mcast_txn.specs.declared.id.TxnId.{TxnId}
 use Rattle.mcast_txn.specs.declared.draft.sent_message.SentMessage.{SentMessage}
-use Rattle.mcast_txn.specs.declared.stamp.Stamp.{Stamp}
-use Rattle.mcast_txn.specs.Stamp.{stamp_lt, greatest}
-use Rattle.mcast_txn.specs.Agreed.{CommitRow, agreed, stamp_of}
+use Rattle.mcast_txn.specs.Stamp.{greatest}
 use Rattle.mcast_txn.specs.Checks.{first_refusal}
-use Rattle.mcast_txn.specs.Lists.{In, Rises}
+use Rattle.mcast_txn.specs.Lists.{In}
 use Rattle.mcast_txn.specs.Span.{Item}
-use Rattle.mcast_txn.specs.Transaction.{topics_of}
-use Rattle.mcast_txn.specs.TopicSet.{names as names_topic}
-use Rattle.std.proofs.lemmas.List.{take-map}
-use Rattle.mcast_txn.proofs.Sorting.{Rises-sorted}
 use Rattle.mcast_group.specs.declared.fault.ProposeFault.{ProposeFault}
 use Rattle.mcast_group.specs.Machine.{Pending, due_part}
 use Rattle.mcast_group.proofs.Parts.{some_same, none_some}
@@ -37,30 +30,28 @@ use Rattle.delivery.specs.declared.event.Event.{Event}
 use Rattle.delivery.specs.declared.outcome.Outcome.{Outcome}
 use Rattle.delivery.specs.declared.refusal.Refusal.{Refusal}
 use Rattle.delivery.specs.declared.connection_fault.ConnectionFault.{ConnectionFault}
-use Rattle.delivery.specs.Theorem.Due.{due, is_due, item_at}
+use Rattle.delivery.specs.Theorem.Due.{due}
 use Rattle.delivery.specs.Theorem.Laws.{Run, answers_of, final_world}
 use Rattle.delivery.specs.Machine.Objections.{Objection, refusal_of}
-use Rattle.delivery.specs.Machine.Observed.{accepted_at, end_at, frontier_at}
+use Rattle.delivery.specs.Machine.Observed.{accepted_at}
 use Rattle.delivery.specs.Machine.World.{World, Leftover, topic_at, connection_at, subscription_at, speaker, start, speaker_number}
 use Rattle.delivery.specs.Machine.Moves.{Move, Answer, world_after, answer_to, move_refusal, move_effect, move_answer, needs_open, needs_idle, undecided_at, find_leftover, oldest_live, or_out_of_memory, commit_answer, proposal_fault, propose_answer, cancel_answer, release_answer, take_answer, leave_answer, next_ticket, end_now, next_txn}
 use Rattle.delivery.specs.Machine.Moves.Move.{Commits, Subscribes, Unsubscribes, Disconnects, Errs, Lost, Leaves, Proposes, Decides, Withdraws, Cancels, Learns, Releases, Turns, Takes, Connects, AddsTopic}
-use Rattle.delivery.specs.Machine.Runs.{run, answers_from, commits_of, delivered_items}
+use Rattle.delivery.specs.Machine.Runs.{run, answers_from}
 use Rattle.delivery.specs.Core.Steps.{CoreStep, Reading, frame_in, has_effect, accepted_of, names_after, number_by}
-use Rattle.delivery.specs.Core.Account.{Beginning, no_item, beginning_of, due_to, next_item, released_frontier, sends_by, account_of, account_of_step, last_of}
+use Rattle.delivery.specs.Core.Account.{sends_by, account_of, account_of_step, last_of}
 use Rattle.delivery.specs.Core.Output.{has_closed, replies_to}
 use Rattle.delivery.specs.Core.State.{Core, core_of, moves, session_at, frame_move, topic_moves, is_faulted, is_out_of_memory, unread_at}
 use Rattle.delivery.specs.Core.Outcomes.{outcome_of, move_outcome, unless, frame_no_memory, frame_fault, fault_outcomes, frame_outcome, reading_outcomes, cut_of, is_any, reply_outcomes, outcomes, IsCoreRun, accepted_outcomes, outcomes_without, wants_memory}
 use Rattle.delivery.proofs.Machine.Invariant.{sender_in}
 use Rattle.delivery.proofs.Machine.SenderSteps.{leftover_found, In-append_cases}
 use Rattle.delivery.proofs.Machine.InvariantIsKept.{NoneHolds, checked, false_not, in_flight}
-use Rattle.delivery.proofs.Theorem.AcceptedIsDue.{reached, accepted_is_due}
-use Rattle.delivery.proofs.Theorem.LogIsOfAnswers.{front}
-use Rattle.delivery.proofs.Theorem.SpansAsAnswered.{handing}
 use Rattle.delivery.proofs.Core.ByRun.{run_append, answers_append, longer}
-use Rattle.delivery.proofs.Core.Said.{said, commits_said, txn_count_said, delivered_said, beginning_said, has_closed_said, released_frontier_said}
+use Rattle.delivery.proofs.Core.Said.{said, txn_count_said, has_closed_said}
 use Rattle.delivery.proofs.Core.Speaking.{Spoken, id_at, open_in, run_spoken, start_spoken}
-use Rattle.delivery.proofs.Core.Started.{begin_of, beginning_is, frontier_of}
 use Rattle.delivery.proofs.Core.Tests.{connection_there}
+use Rattle.delivery.proofs.Core.NextItem.{next_item_is, connection_is}
+use Rattle.delivery.proofs.Core.SendsLeft.{sends_are_left}
 use Rattle.delivery.specs.Core.Claims.{claims_of, claimed_sender, sender_of}
 use Rattle.delivery.proofs.Core.ClaimsStand.{claims_stand, claims_own}
 use Rattle.delivery.proofs.Machine.Speakers.{has_speaker, flying_speaker, cancelling_speaker}
@@ -417,71 +408,6 @@ decided_says names r older whose rd c o acc i =
 
 -- ---- a delivery
 
-filter_same : {X : Type 0} (p q : X → Bool) (xs : List X) → ((x : X) → p x ≡ q x) → filter p xs ≡ filter q xs
-filter_same p q [] h = refl
-filter_same p q (x ∷ xs) h =
-    ap (λ (b : Bool). cond b (x ∷ filter p xs) (filter p xs)) (h x) ∙ ap (λ z. cond (q x) (x ∷ z) z) (filter_same p q xs h)
-
-bound_last : (a b c d : Bool) → (a && (b && c) && d) ≡ ((a && (b && true) && d) && c)
-bound_last true true true true = refl
-bound_last true true true false = refl
-bound_last true true false true = refl
-bound_last true true false false = refl
-bound_last true false true true = refl
-bound_last true false true false = refl
-bound_last true false false true = refl
-bound_last true false false false = refl
-bound_last false b c d = refl
-
--- what is in a front of a list is at the same place in the list
-in_front : {X : Type 0} (n i : ℕ) (xs : List X) (x : X) → slice_get (take n xs) i ≡ Some x → slice_get xs i ≡ Some x
-in_front zero i xs x e = none_some x e
-in_front (suc n) i [] x e = e
-in_front (suc n) zero (y ∷ ys) x e = e
-in_front (suc n) (suc i) (y ∷ ys) x e = in_front n i ys x e
-
--- what is due up to an end is the front of what is due
-due_front : (t : Topic) (from : Stamp) (to : Option Stamp) (f : Stamp) (rows : List CommitRow) → Rises stamp_of (agreed rows) → (i : ℕ) (item : Item)
-    → slice_get (due rows (record { topic = t; from = from; to = to }) f) i ≡ Some item → slice_get (due rows (record { topic = t; from = from; to = None }) f) i ≡ Some item
-due_front t from None f rows up i item e = e
-due_front t from (Some end) f rows up i item e =
-    let all : CommitRow → Bool = is_due (record { topic = t; from = from; to = None }) f in
-    let some : CommitRow → Bool = is_due (record { topic = t; from = from; to = Some end }) f in
-    let q : CommitRow → Bool = λ r. all r && not (stamp_lt end r.stamp) in
-    let a : filter some (agreed rows) ≡ filter q (agreed rows) =
-    filter_same some q (agreed rows)
-    (λ r. bound_last (names_topic t (topics_of r.txn.sends)) (stamp_lt from r.stamp) (not (stamp_lt end r.stamp)) (not (stamp_lt f r.stamp))) in
-    let n = length (filter q (agreed rows)) in
-    let b : filter some (agreed rows) ≡ take n (filter all (agreed rows)) = a ∙ front all end (agreed rows) up in
-    in_front n i (map (item_at t) (filter all (agreed rows))) item
-    (subst (λ z. slice_get z i ≡ Some item) (ap (map (item_at t)) b ∙ sym (take-map (item_at t) n (filter all (agreed rows)))) e)
-
--- the item that is handed on is the next that is due, as the account counts
-pub next_item_is : (r : Run) (s : ℕ) (item : Item) → s < length (final_world r).subscriptions
-    → slice_get (accepted_at (final_world r) s) (subscription_at (final_world r) s).taken ≡ Some item → next_item s (said (answers_of r)) ≡ item
-next_item_is r s item l e =
-    let w = final_world r in let past = answers_of r in let x = subscription_at w s in let h = reached r in
-    let cs = commits_of past in
-    let up : Rises stamp_of (agreed cs) = subst (λ z. Rises stamp_of (agreed z)) (sym h.commits) (Rises-sorted stamp_of w.commits h.inv.consistent.apart) in
-    let b : beginning_of s (said past) ≡ begin_of x = beginning_said s past ∙ beginning_is r s in
-    let n : length (delivered_items s (said past)) ≡ x.taken =
-    ap (λ (z : List Item). length z) (delivered_said s past) ∙ sym ((handing r).held s l).count in
-    let dues : due_to s (said past) ≡ due cs (record { topic = x.topic; from = x.from; to = None }) (frontier_at w x.topic) =
-    ap (λ z. due z (record { topic = (beginning_of s (said past)).topic; from = (beginning_of s (said past)).from; to = None })
-    (released_frontier (beginning_of s (said past)).topic (said past))) (commits_said past)
-    ∙ (ap (λ (z : Beginning). due cs (record { topic = z.topic; from = z.from; to = None }) (released_frontier z.topic (said past))) b
-    ∙ ap (λ z. due cs (record { topic = x.topic; from = x.from; to = None }) z) (released_frontier_said x.topic past ∙ sym (frontier_of r x.topic))) in
-    let here : slice_get (due cs (record { topic = x.topic; from = x.from; to = None }) (frontier_at w x.topic)) x.taken ≡ Some item =
-    due_front x.topic x.from (end_at w s) (frontier_at w x.topic) cs up x.taken item
-    (subst (λ z. slice_get z x.taken ≡ Some item) (accepted_is_due r s l) e) in
-    ap (λ z. unwrap_or (slice_get z (length (delivered_items s (said past)))) no_item) dues
-    ∙ (ap (λ (k : ℕ). unwrap_or (slice_get (due cs (record { topic = x.topic; from = x.from; to = None }) (frontier_at w x.topic)) k) no_item) n
-    ∙ ap (λ z. unwrap_or z no_item) here)
-
--- whose a subscription is, as the account has it
-pub connection_is : (r : Run) (s : ℕ) → (beginning_of s (said (answers_of r))).connection ≡ (subscription_at (final_world r) s).connection
-connection_is r s = ap (λ (z : Beginning). z.connection) (beginning_said s (answers_of r) ∙ beginning_is r s)
-
 taken_case : (names : List (List ℕ)) (r : Run) (older : List CoreStep) (rd : Reading) (s : ℕ) (o : Option Item) (z : Outcome)
     → s < length (final_world r).subscriptions → slice_get (accepted_at (final_world r) s) (subscription_at (final_world r) s).taken ≡ o
     → answer_to (final_world r) (Takes s) ≡ take_answer (final_world r) s o → outcome_of (take_answer (final_world r) s o) ≡ Some z → Says names r older (Event.Take s) rd z
@@ -621,7 +547,8 @@ cons_none e = absurd (false≢true (ap has_any e))
 -- those that a frame commits are those of what it asks for, if it asks for a transaction
 sends_committed : (command : Command) (names : List (List ℕ)) (accepted : List RawFrame) (f : RawFrame) (first : SentMessage) (others : List SentMessage)
     → action_by command (held_after names accepted) f ≡ actions.Commit (first ∷ others) → sends_by command names accepted f ≡ first ∷ others
-sends_committed commands.Commit names accepted f first others e = by_case (is_ended accepted) e
+sends_committed commands.Commit names accepted f first others e =
+    sym (sends_are_left (transaction_of f) names accepted) ∙ by_case (is_ended accepted) e
   where
     by_case : (b : Bool) → commit (sends_in (transaction_of f) (cond b [] (transactions_left names accepted))) ≡ actions.Commit (first ∷ others)
         → sends_in (transaction_of f) (transactions_left names accepted) ≡ first ∷ others

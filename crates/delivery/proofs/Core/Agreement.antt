@@ -2,6 +2,7 @@
 use Rattle.std.specs.Prelude.{ℕ, ◌+◌, ◌&&◌, Bool, true, false, List, [], ◌∷◌, ◌++◌, map, length}
 use Rattle.std.specs.List.{list_all, flat_map}
 use Rattle.std.specs.Str.{bytes_eq}
+use Rattle.mcast_txn.specs.declared.id.Topic.{Topic}
 use Rattle.mcast_txn.specs.declared.id.TxnId.{TxnId}
 use Rattle.mcast_txn.specs.declared.stamp.Stamp.{Stamp}
 use Rattle.mcast_txn.specs.Stamp.{zero_stamp}
@@ -14,7 +15,7 @@ use Rattle.delivery.specs.Core.Steps.{shows_reading}
 use Rattle.delivery.specs.Core.Account.{account_of, released_log}
 use Rattle.delivery.specs.Core.State.{Core}
 use Rattle.delivery.specs.Core.Reports.{report_of, span_of, log_in, each_number}
-use Rattle.delivery.specs.Core.Delivery.{begun_in, reported_begun, Begun}
+use Rattle.delivery.specs.Core.Delivery.{begun_in, reported_begun}
 use Rattle.delivery.proofs.Core.Acts.{Act, machine_account, played, topic}
 
 -- ---- plain numbers of each
@@ -36,7 +37,7 @@ abbrev pub row_numbers : LogRow → List ℕ
 row_numbers r = id_numbers r.id ++ stamp_numbers r.stamp ++ map (λ t. t.0) r.topics
 
 -- of a subscription that began: its number, its topic, and the stamp that it began at
-abbrev pub begun_numbers : Begun → List ℕ
+abbrev pub begun_numbers : ℕ × Topic × Stamp → List ℕ
 begun_numbers b = b.0 ∷ b.1.0 ∷ stamp_numbers b.2
 
 -- the kind of an answer, and the numbers of what it says, but for the reason of a failure or refusal

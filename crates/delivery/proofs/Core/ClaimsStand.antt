@@ -41,10 +41,11 @@ use Rattle.delivery.specs.Machine.Moves.{Move, world_after, move_refusal, move_e
 use Rattle.delivery.specs.Machine.Moves.Move.{AddsTopic, Opens, Connects, Commits, Unsubscribes, Disconnects, Errs, Lost, Leaves, Proposes, Decides, Withdraws, Cancels, Learns, Takes}
 use Rattle.delivery.specs.Machine.Runs.{run}
 use Rattle.delivery.specs.Core.Steps.{CoreStep, Reading, frame_in, has_effect}
-use Rattle.delivery.specs.Core.Claims.{Claim, claim_of, claims_of, is_kept, begins, begun_count, claimed_sender, sender_claimed, sender_of}
+use Rattle.delivery.specs.Core.Claims.{Claim, claim_of, claims_of, is_kept, begins, begun_count, kept_sender, claimed_sender, sender_claimed, sender_of}
 use Rattle.delivery.specs.Core.Output.{is_cut}
 use Rattle.delivery.specs.Core.State.{Core, core_for, core_of, names_at, moves, topic_moves, frame_move, session_at, is_no_memory}
 use Rattle.delivery.specs.Core.Outcomes.{unless, frame_no_memory, claim_fault, frame_fault, fault_outcomes, outcomes_without, reading_outcomes, outcomes, accepted_outcomes, IsCoreRun}
+use Rattle.sender_gate.proofs.KeptLemmas.{octets_pass}
 use Rattle.delivery.proofs.Machine.SubscriptionSteps.{at_push, push_length, set_length}
 use Rattle.delivery.proofs.Machine.InvariantIsKept.{by_refusal, checked, false_not}
 
@@ -325,6 +326,25 @@ pub core_stands : (topics : TopicList) (capacity : ℕ) (steps : List CoreStep) 
 core_stands topics capacity steps r =
     subst (λ (ss : List CoreStep). Stand (core_of topics capacity steps).world (claims_of ss)) (sym (steps_are topics capacity steps)) (claims_stand topics capacity steps r)
 
+-- what a connection's claim gives it, as a number
+number_claimed : (c : ℕ) (claims : List Claim) → unwrap_or (sender_claimed c claims) 0 ≡ sender_of c claims
+number_claimed c [] = refl
+number_claimed c (claim ∷ before) = by (claim.connection == c) claim.client (number_claimed c before)
+  where
+    kept : (id : List ℕ) (k : Bool)
+        → unwrap_or (cond k (Some (kept_sender id before)) None) (begun_count before) ≡ cond (not k) (begun_count before) (kept_sender id before)
+    kept id true = refl
+    kept id false = refl
+
+    by : (b : Bool) (o : Option (List ℕ)) → unwrap_or (sender_claimed c before) 0 ≡ sender_of c before
+        → unwrap_or (cond b (Some (unwrap_or (claimed_sender o before) (begun_count before))) (sender_claimed c before)) 0
+        ≡ cond b (option_map_or (λ id. kept_sender id (record { connection = claim.connection; client = o } ∷ before)) o (begun_count before)) (sender_of c before)
+    by false o same = same
+    by true None same = refl
+    by true (Some id) same =
+        kept id (is_kept id before)
+        ∙ ap (λ z. cond (z && not (is_kept id before)) (begun_count before) (kept_sender id before)) (sym (octets_pass id))
+
 -- whom a connection speaks for its claim says
 pub claims_own : {w : World} (older : List CoreStep) → Stand w (claims_of older) → (c s : ℕ) → (connection_at w c).sender ≡ Some s → s ≡ sender_of c (claims_of older)
-claims_own older h c s e = ap (λ (o : Option ℕ). unwrap_or o 0) (sym e ∙ h.spoken c)
+claims_own older h c s e = ap (λ (o : Option ℕ). unwrap_or o 0) (sym e ∙ h.spoken c) ∙ number_claimed c (claims_of older)

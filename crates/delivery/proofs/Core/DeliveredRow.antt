@@ -1,7 +1,7 @@
 -- The theorem's record, met by one row: its fields can be had together, and their premises are met. Beside it stand reports
 -- that it refuses: of a closed subscription that stays open, and of lags that are none.
 use Rattle.std.proofs.Common.{inl, inr, refl, sym, ap, subst, ◌∙◌, arith}
-use Rattle.std.specs.Prelude.{◌≡◌, ℕ, zero, suc, ◌+◌, ◌<◌, ◌≤◌, ◌++◌, true, length, List, [], ◌∷◌, codes, Option, Some, None}
+use Rattle.std.specs.Prelude.{◌≡◌, ℕ, zero, suc, ◌+◌, ◌<◌, ◌++◌, true, length, slice_get, List, [], ◌∷◌, codes, Option, Some, None}
 use Rattle.mcast_txn.specs.Agreed.{CommitRow, Transaction}
 use Rattle.mcast_txn.specs.Lists.{In}
 use Rattle.mcast_txn.specs.TopicSet.{names}
@@ -11,19 +11,18 @@ use Rattle.mcast_group.specs.declared.cause.Cause.{Cause}
 use Rattle.mcast_group.specs.declared.cause.Cause.TheVariants.{Asked, Lag}
 use Rattle.mcast_group.proofs.Parts.{some_same, none_some}
 use Rattle.mcast_txn.specs.declared.stamp.Stamp.{Stamp}
-use Rattle.mcast_txn.specs.Span.{Item, last_stamp}
-use Rattle.mcast_txn.specs.Stamp.{zero_stamp}
-use Rattle.delivery.specs.Theorem.Due.{log_row, due}
+use Rattle.mcast_txn.specs.Span.{Item}
+use Rattle.delivery.specs.Theorem.Due.{log_row}
 use Rattle.delivery.specs.Machine.Moves.{Answer}
 use Rattle.delivery.specs.Theorem.Laws.{shared_marks}
 use Rattle.delivery.specs.Machine.Runs.{commits_of, delivered_items}
-use Rattle.delivery.specs.Core.Reports.{Report}
+use Rattle.delivery.specs.Core.Reports.{QueueReport, Report}
 use Rattle.delivery.specs.Core.Account.{account_of, released_log}
-use Rattle.delivery.specs.Core.Reports.{report_of, log_in, queue_in, span_of}
-use Rattle.delivery.specs.Core.Delivery.{Delivers, EndsAsTold}
+use Rattle.delivery.specs.Core.Reports.{report_of, log_in}
+use Rattle.delivery.specs.Core.Delivery.{Delivers, IsAsTold}
 use Rattle.delivery.proofs.Core.Acts.{topic, stamp, id, made, part, log_row as row, A}
 use Rattle.delivery.proofs.Core.Rows.{ends}
-use Rattle.delivery.proofs.Core.ToldEnds.{in_ends}
+use Rattle.delivery.proofs.Core.ToldEnds.{in_ends, silent_at}
 
 abbrev item : Item
 item = record { id = id 0 1; stamp = stamp 1 0; sends = part 0 ((codes "destination", A) ∷ []) (codes "m") ∷ [] }
@@ -56,42 +55,37 @@ logs : (n : ℕ) → n < 1 → log_in report (topic n) ≡ released_log (topic n
 logs zero lt = refl
 logs (suc n) lt = absurd (omega arith)
 
-ends_as_told : (s : ℕ) → s < 1 → EndsAsTold 64 s told (queue_in report s)
-ends_as_told zero lt = record {
+-- its one subscription
+abbrev ended : Option Stamp → Option Cause → QueueReport
+ended to cause = record { topic = topic 0; from = stamp 0 0; to = to; cause = cause; queued = item ∷ []; handed = [] }
+
+as_told : IsAsTold 64 0 told report (ended (Some (stamp 1 0)) (Some Asked))
+as_told = record {
   told = λ to i. elim (in_ends 0 to told i) [ inl e ↦ ap Some e | inr none ↦ absurd none ];
   unended = λ e. none_some Asked (sym e);
-  asked = λ e. (stamp 1 0, refl, (Answer.Gone 0 ∷ [], before_end, refl, refl));
+  asked = λ e. (Answer.Gone 0 ∷ [], before_end, stamp 1 0, refl, refl);
   lag = λ e. (let same : Asked ≡ Lag = some_same Asked Lag e in cc);
+  exactly_due = refl;
+  handed = refl;
+  handed_prefix = (item ∷ [], refl);
+  bounded = omega arith;
 }
-ends_as_told (suc s) lt = absurd (omega arith)
 
-is_due : (s : ℕ) → s < 1
-    → (queue_in report s).queued ≡ due (commits_of told) (span_of (queue_in report s)) (last_stamp zero_stamp (log_in report (queue_in report s).topic))
-is_due zero lt = refl
-is_due (suc s) lt = absurd (omega arith)
+queues_told : (s : ℕ) (q : QueueReport) → slice_get report.subscriptions s ≡ Some q → IsAsTold 64 s told report q
+queues_told zero q e = subst (λ (z : QueueReport). IsAsTold 64 0 told report z) (some_same _ q e) as_told
+queues_told (suc s) q e = none_some q e
 
-in_one_order : (s q : ℕ) → shared_marks (queue_in report s).queued (queue_in report q).queued ≡ shared_marks (queue_in report q).queued (queue_in report s).queued
-in_one_order zero zero = refl
-in_one_order zero (suc q) = refl
-in_one_order (suc s) zero = refl
-in_one_order (suc s) (suc q) = refl
+-- both are this one
+in_one_order : (p q : QueueReport) → In p report.subscriptions → In q report.subscriptions
+    → shared_marks p.queued q.queued ≡ shared_marks q.queued p.queued
+in_one_order p q (inl e) (inl d) = ap (λ (z : QueueReport). shared_marks z.queued q.queued) (sym e ∙ d) ∙ ap (λ (z : QueueReport). shared_marks q.queued z.queued) (sym d ∙ e)
+in_one_order p q (inl e) (inr none) = absurd none
+in_one_order p q (inr none) j = absurd none
 
 is_logged : (n : ℕ) (row : CommitRow) → n < 1 → In row (commits_of told) → In (log_row row) (log_in report (topic n))
 is_logged zero row lt (inl e) = subst (λ (r : CommitRow). In (log_row r) (log_in report (topic 0))) e (inl refl)
 is_logged zero row lt (inr none) = absurd none
 is_logged (suc n) row lt i = absurd (omega arith)
-
-is_handed : (s : ℕ) → s < 1 → (queue_in report s).handed ≡ delivered_items s told
-is_handed zero lt = refl
-is_handed (suc s) lt = absurd (omega arith)
-
-prefix : (s : ℕ) → s < 1 → (rest : List Item) × ((queue_in report s).queued ≡ (queue_in report s).handed ++ rest)
-prefix zero lt = ((queue_in report 0).queued, refl)
-prefix (suc s) lt = absurd (omega arith)
-
-in_room : (s : ℕ) → s < 1 → length (queue_in report s).queued ≤ length (queue_in report s).handed + 64
-in_room zero lt = omega arith
-in_room (suc s) lt = absurd (omega arith)
 
 -- topic 0 is settled: its one transaction was decided, and a turn came after
 abbrev before_turn : List Answer
@@ -118,14 +112,10 @@ delivers = record {
   fifo_order = (λ y i same. absurd i, tt);
   logs = λ t lt. logs t.0 lt;
   begins = refl;
-  ends = ends_as_told;
-  exactly_due = is_due;
+  queues = queues_told;
   total_order = in_one_order;
   validity = λ t row lt settled i named. is_logged t.0 row lt i;
-  handed = is_handed;
-  handed_prefix = λ s lt. prefix s lt;
-  bounded = in_room;
-  silent_after_close = tt;
+  silent_after_close = silent_at told tt;
 }
 
 -- ---- reports that are no delivery
@@ -148,30 +138,28 @@ while_open = committed subscribed
 
 -- the item was queued, and the span is reported to end so
 abbrev with_end : Option Stamp → Option Cause → Report
-with_end to cause = record report {
-  subscriptions = record { topic = topic 0; from = stamp 0 0; to = to; cause = cause; queued = item ∷ []; handed = [] } ∷ [];
-}
+with_end to cause = record report { subscriptions = ended to cause ∷ [] }
 
 -- the closed subscription is reported open, with the row that came after
 stays_open : (capacity : ℕ) → Delivers capacity after_close (with_end None None) → Prim.⊥
-stays_open capacity d = none_some (stamp 0 0) ((d.ends 0 (omega arith)).told (stamp 0 0) (inr (inr (inr (inr (inl refl))))))
+stays_open capacity d = none_some (stamp 0 0) ((d.queues 0 (ended None None) refl).told (stamp 0 0) (inr (inr (inr (inr (inl refl))))))
 
 -- it is reported to have lagged, at a stamp that nothing has
 closed_lags : (capacity : ℕ) → Delivers capacity after_close (with_end (Some (stamp 7 3)) (Some Lag)) → Prim.⊥
 closed_lags capacity d =
-    let e : stamp 7 3 ≡ stamp 0 0 = some_same (stamp 7 3) (stamp 0 0) ((d.ends 0 (omega arith)).told (stamp 0 0) (inr (inr (inr (inr (inl refl)))))) in
+    let e : stamp 7 3 ≡ stamp 0 0 = some_same (stamp 7 3) (stamp 0 0) ((d.queues 0 (ended (Some (stamp 7 3)) (Some Lag)) refl).told (stamp 0 0) (inr (inr (inr (inr (inl refl)))))) in
     let n : 7 ≡ 0 = ap (λ (z : Stamp). z.n) e in absurd (omega (arith, n))
 
 -- an open one is
 open_lags : (capacity : ℕ) → Delivers capacity while_open (with_end (Some (stamp 7 3)) (Some Lag)) → Prim.⊥
 open_lags capacity d =
-    let l = (d.ends 0 (omega arith)).lag refl in
+    let l = (d.queues 0 (ended (Some (stamp 7 3)) (Some Lag)) refl).lag refl in
     let n : 7 ≡ 1 = ap (λ (z : Stamp). z.n) (some_same (stamp 7 3) l.0 l.1 ∙ l.2.last) in absurd (omega (arith, n))
 
 -- it is reported to have lagged at its last item, where there is room for one more
 lags_with_room : Delivers 2 while_open (with_end (Some (stamp 1 0)) (Some Lag)) → Prim.⊥
 lags_with_room d =
-    let l = (d.ends 0 (omega arith)).lag refl in
+    let l = (d.queues 0 (ended (Some (stamp 1 0)) (Some Lag)) refl).lag refl in
     let n : 1 ≡ length (delivered_items 0 l.2.before) + 2 = l.2.full in absurd (omega (arith, n))
 
 -- it is reported to have been asked to end, which nobody asked
@@ -184,4 +172,4 @@ unasked later before to e = subst (λ z. In (Answer.Unsubscribed 0 to) z) (sym e
 
 asked_unasked : (capacity : ℕ) → Delivers capacity while_open (with_end (Some (stamp 1 0)) (Some Asked)) → Prim.⊥
 asked_unasked capacity d =
-    let a = (d.ends 0 (omega arith)).asked refl in in_ends 0 a.0 while_open (unasked a.2.0 a.2.1 a.0 a.2.2)
+    let a = (d.queues 0 (ended (Some (stamp 1 0)) (Some Asked)) refl).asked refl in in_ends 0 a.2 while_open (unasked a.0 a.1 a.2 a.3)

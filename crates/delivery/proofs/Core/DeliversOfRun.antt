@@ -1,21 +1,18 @@
 -- What every run of the core delivers: the laws of the machine's run, said of the account and of the report.
 use Rattle.std.proofs.Common.{◌≡◌, ℕ, zero, suc, ◌+◌, ◌<◌, ◌≤◌, inl, inr, List, [], ◌∷◌, ◌++◌, map, length, get_or, Option, Some, None, refl, sym, ap, subst, ◌∙◌, arith}
-use Rattle.std.specs.Prelude.{take}
-use Rattle.std.specs.List.{filter, list_any}
+use Rattle.std.specs.Prelude.{take, slice_get}
 use Rattle.std.specs.Option.{option_map}
 use Rattle.mcast_txn.specs.declared.id.Topic.{Topic}
 use Rattle.mcast_txn.specs.declared.stamp.Stamp.{Stamp}
 use Rattle.mcast_txn.specs.Stamp.{zero_stamp}
 use Rattle.mcast_txn.specs.Agreed.{committed_id, stamp_of, agreed, EachOnce, SenderOrder}
-use Rattle.mcast_txn.specs.Ids.{same_id}
 use Rattle.mcast_txn.specs.Lists.{In}
-use Rattle.mcast_txn.specs.Span.{Item, LogRow, last_stamp, item_mark}
+use Rattle.mcast_txn.specs.Span.{Item, LogRow, last_stamp}
 use Rattle.mcast_group.specs.declared.cause.Cause.{Cause}
 use Rattle.mcast_group.specs.declared.cause.Cause.TheVariants.{Asked, Lag}
 use Rattle.mcast_group.specs.Machine.{TopicState, EntryEnd, new_topic}
 use Rattle.delivery.specs.Topics.{TopicList}
 use Rattle.delivery.specs.Theorem.Due.{due, log_row}
-use Rattle.mcast_txn.specs.declared.mark.Mark.{Mark}
 use Rattle.delivery.specs.Theorem.Laws.{Run, answers_of, final_world, shared_marks}
 use Rattle.delivery.specs.Machine.Observed.{accepted_at, span_at, log_at, frontier_at, entry_to}
 use Rattle.delivery.specs.Machine.World.{World, Subscription, no_subscription, subscription_at, entry_at}
@@ -25,20 +22,20 @@ use Rattle.delivery.specs.Core.Steps.{CoreStep}
 use Rattle.delivery.specs.Core.Account.{beginning_of, Beginning, released_frontier, account_of}
 use Rattle.delivery.specs.Core.State.{core_of}
 use Rattle.delivery.specs.Core.Outcomes.{IsCoreRun}
-use Rattle.delivery.specs.Core.Reports.{QueueReport, Report, report_of, queue_report, each_number, no_queue, queue_in, log_in, span_of}
-use Rattle.delivery.specs.Core.Delivery.{Begun, reported_begun, EndsAtFrontier, EndsAsTold, Delivers}
+use Rattle.delivery.specs.Core.Reports.{QueueReport, Report, report_of, queue_report, each_number, log_in}
+use Rattle.delivery.specs.Core.Delivery.{reported_begun, IsAsTold, Delivers}
 use Rattle.delivery.proofs.Theorem.AcceptedIsDue.{reached, accepted_is_due, shared_in_one_order, agreed_once, agreed_in_sender_order}
 use Rattle.delivery.proofs.Theorem.LogIsOfAnswers.{log_is_of_outcomes}
 use Rattle.delivery.proofs.Theorem.SettledLeavesNoneOut.{settled_in_log}
 use Rattle.delivery.proofs.Theorem.ClosedIsSilent.{closed_is_silent}
-use Rattle.delivery.proofs.Theorem.SpansAsAnswered.{handing, within, spans_end_as_told, queues_are_bounded}
+use Rattle.delivery.proofs.Theorem.SpansAsAnswered.{handing, spans_end_as_told, queues_are_bounded}
 use Rattle.delivery.proofs.Core.Said.{said, said_from, commits_said, delivered_said, beginning_said, released_log_said, released_frontier_said, begun_said, settled_said, silent_said}
-use Rattle.delivery.proofs.Core.Started.{begin_of, numbered, begun_is, asked_at_frontier}
+use Rattle.delivery.proofs.Core.Started.{EndsAtFrontier, begin_of, numbered, begun_is, asked_at_frontier}
 use Rattle.delivery.proofs.Core.AccountOfRun.{run_of, core_at, core_is, account_is}
 use Rattle.delivery.proofs.Core.LagsAsTold.{lag_as_told}
 use Rattle.delivery.proofs.Core.SaidParts.{said_append}
+use Rattle.delivery.proofs.Core.ToldEnds.{silent_at}
 use Rattle.mcast_group.proofs.Parts.{some_same, none_some}
-use Rattle.delivery.proofs.Machine.SubscriptionSteps.{beyond}
 
 -- ---- numbered lists
 
@@ -53,13 +50,24 @@ pub each_length : {X Y : Type 0} (f : ℕ → Y) (i : ℕ) (xs : List X) → len
 each_length f i [] = refl
 each_length f i (x ∷ xs) = ap suc (each_length f (i + 1) xs)
 
+-- what is found in it, and what stands in it
+each_got : {X Y : Type 0} (f : ℕ → Y) (i : ℕ) (xs : List X) (s : ℕ) (y : Y) → slice_get (each_number f i xs) s ≡ Some y → (s < length xs) × (f (i + s) ≡ y)
+each_got f i [] s y e = none_some y e
+each_got f i (x ∷ xs) zero y e = (omega arith, ap f (omega arith) ∙ some_same (f i) y e)
+each_got f i (x ∷ xs) (suc s) y e = let k = each_got f (i + 1) xs s y e in (omega (arith, k.0), ap f (omega arith) ∙ k.1)
+
+each_in : {X Y : Type 0} (f : ℕ → Y) (i : ℕ) (xs : List X) (y : Y) → In y (each_number f i xs) → (s : ℕ) × (s < length xs) × (f (i + s) ≡ y)
+each_in f i [] y k = absurd k
+each_in f i (x ∷ xs) y (inl e) = (0, omega arith, ap f (omega arith) ∙ e)
+each_in f i (x ∷ xs) y (inr k) = let h = each_in f (i + 1) xs y k in (suc h.0, omega (arith, h.1), ap f (omega arith) ∙ h.2)
+
 reported_is : (w : World) (i : ℕ) (xs : List Subscription) → ((j : ℕ) → j < length xs → subscription_at w (i + j) ≡ get_or xs j no_subscription)
     → reported_begun i (each_number (queue_report w) i xs) ≡ numbered i (map begin_of xs)
 reported_is w i [] h = refl
 reported_is w i (x ∷ xs) h =
     let a : subscription_at w i ≡ x = ap (subscription_at w) (omega arith) ∙ h 0 (omega arith) in
     ap (λ (z : Subscription). (i, z.topic, z.from) ∷ reported_begun (i + 1) (each_number (queue_report w) (i + 1) xs)) a
-    ∙ ap (λ (z : List Begun). (i, x.topic, x.from) ∷ z) (reported_is w (i + 1) xs (λ j l. ap (subscription_at w) (omega arith) ∙ h (suc j) (omega arith)))
+    ∙ ap (λ (z : List (ℕ × Topic × Stamp)). (i, x.topic, x.from) ∷ z) (reported_is w (i + 1) xs (λ j l. ap (subscription_at w) (omega arith) ∙ h (suc j) (omega arith)))
 
 held_at : (topics : List TopicState) (n : ℕ) (t : Topic) → get_or (map (λ (x : TopicState). x.held) topics) n [] ≡ (get_or topics n (new_topic t 0 0)).held
 held_at [] n t = refl
@@ -70,13 +78,6 @@ held_at (x ∷ xs) (suc n) t = held_at xs n t
 
 abbrev report_at : Run → List (List ℕ) → List CoreStep → Report
 report_at r names steps = report_of (core_at names r steps)
-
-queue_at : (r : Run) (names : List (List ℕ)) (steps : List CoreStep) (s : ℕ) → s < length (final_world r).subscriptions
-    → queue_in (report_at r names steps) s ≡ queue_report (final_world r) s
-queue_at r names steps s l = each_at (queue_report (final_world r)) 0 (final_world r).subscriptions s no_queue l ∙ ap (queue_report (final_world r)) (omega arith)
-
-subs_there : (r : Run) (names : List (List ℕ)) (steps : List CoreStep) (s : ℕ) → s < length (report_at r names steps).subscriptions → s < length (final_world r).subscriptions
-subs_there r names steps s l = subst (λ n. s < n) (each_length (queue_report (final_world r)) 0 (final_world r).subscriptions) l
 
 log_is : (r : Run) (names : List (List ℕ)) (steps : List CoreStep) (t : Topic) → log_in (report_at r names steps) t ≡ log_at (final_world r) t
 log_is r names steps t = held_at (final_world r).topics t.0 t
@@ -116,21 +117,6 @@ asked_closed None None e = none_some Asked e
 asked_closed None (Some end) e = let k : Lag ≡ Asked = some_same Lag Asked e in cc
 asked_closed (Some left) lagged e = (left, refl, some_same left.cause Asked e)
 
--- each span ends as it was told
-ends_told : (r : Run) (s : ℕ) → EndsAsTold r.capacity s (said (answers_of r)) (queue_report (final_world r) s)
-ends_told r s =
-    let w = final_world r in let past = answers_of r in let lagged = entry_to (entry_at w s) in let closed = (subscription_at w s).closed in
-    record {
-      told = λ to i. spans_end_as_told r s to (said_from (Answer.Unsubscribed s to) past i);
-      unended = λ none. no_end closed lagged none;
-      asked = λ cause. (let left = asked_closed closed lagged cause in (
-        left.0.to,
-        ap (λ z. end_by z lagged) left.1,
-        end_said s past left.0.to (asked_at_frontier r s left.0 left.1 left.2),
-      ));
-      lag = λ cause. (let end = has_end closed lagged Lag cause in (end.0, end.1, lag_as_told r s end.0 cause end.1));
-    }
-
 -- ---- what was handed on
 
 take_given : {X : Type 0} (xs ys : List X) → take (length xs) (xs ++ ys) ≡ xs
@@ -143,32 +129,38 @@ handed_is r s l =
     let h = (handing r).held s l in let given = delivered_items s (answers_of r) in
     ap (λ n. take n (accepted_at (final_world r) s)) h.count ∙ (ap (λ z. take (length given) z) h.is ∙ take_given given h.rest)
 
--- ---- one order
+-- ---- each subscription, and each two
 
-none_shared : (xs : List Mark) → filter (λ (p : Mark). list_any (λ (i : Item). same_id i.id p.id) []) xs ≡ []
-none_shared [] = refl
-none_shared (x ∷ xs) = none_shared xs
+-- what is reported of each subscription is as it was told
+as_told : (r : Run) (names : List (List ℕ)) (steps : List CoreStep) (s : ℕ) → s < length (final_world r).subscriptions
+    → IsAsTold r.capacity s (said (answers_of r)) (report_at r names steps) (queue_report (final_world r) s)
+as_told r names steps s l =
+    let w = final_world r in let past = answers_of r in let lagged = entry_to (entry_at w s) in let closed = (subscription_at w s).closed in
+    let t = (subscription_at w s).topic in let h = (handing r).held s l in
+    record {
+      told = λ to i. spans_end_as_told r s to (said_from (Answer.Unsubscribed s to) past i);
+      unended = λ none. no_end closed lagged none;
+      asked = λ cause. (let left = asked_closed closed lagged cause in
+          let end = end_said s past left.0.to (asked_at_frontier r s left.0 left.1 left.2) in
+          (end.0, end.1, left.0.to, end.2, end.3));
+      lag = λ cause. (let end = has_end closed lagged Lag cause in (end.0, end.1, lag_as_told r s end.0 cause end.1));
+      exactly_due = accepted_is_due r s l
+          ∙ (ap (λ z. due z (span_at w s) (frontier_at w t)) (sym (commits_said past))
+          ∙ ap (λ (z : List LogRow). due (commits_of (said past)) (span_at w s) (last_stamp zero_stamp z)) (sym (log_is r names steps t)));
+      handed = handed_is r s l ∙ sym (delivered_said s past);
+      handed_prefix = (h.rest, h.is ∙ ap (λ z. z ++ h.rest) (sym (handed_is r s l)));
+      bounded = subst (λ (z : List Item). length (accepted_at w s) ≤ length z + r.capacity) (sym (handed_is r s l)) (queues_are_bounded r s l);
+    }
 
-alone : (items : List Item) → shared_marks [] items ≡ shared_marks items []
-alone items = sym (none_shared (map item_mark items))
-
-one_order : (r : Run) (names : List (List ℕ)) (steps : List CoreStep) (s q : ℕ)
-    → let p = report_at r names steps in shared_marks (queue_in p s).queued (queue_in p q).queued ≡ shared_marks (queue_in p q).queued (queue_in p s).queued
-one_order r names steps s q = elim (within s (length (final_world r).subscriptions)) [
-  | inr l ↦ subst (λ (z : QueueReport). shared_marks z.queued (queue_in p q).queued ≡ shared_marks (queue_in p q).queued z.queued) (sym (nobody s l)) (alone (queue_in p q).queued)
-  | inl l ↦ elim (within q (length (final_world r).subscriptions)) [
-    | inr m ↦ subst (λ (z : QueueReport). shared_marks (queue_in p s).queued z.queued ≡ shared_marks z.queued (queue_in p s).queued) (sym (nobody q m)) (sym (alone (queue_in p s).queued))
-    | inl m ↦ subst (λ (z : QueueReport). shared_marks z.queued (queue_in p q).queued ≡ shared_marks (queue_in p q).queued z.queued) (sym (queue_at r names steps s l))
-        (subst (λ (z : QueueReport). shared_marks (accepted_at (final_world r) s) z.queued ≡ shared_marks z.queued (accepted_at (final_world r) s)) (sym (queue_at r names steps q m))
-        (shared_in_one_order r s q l m))
-  ]
-]
-  where
-    p : Report
-    p = report_at r names steps
-
-    nobody : (n : ℕ) → length (final_world r).subscriptions ≤ n → queue_in p n ≡ no_queue
-    nobody n l = beyond p.subscriptions n no_queue (let m : length p.subscriptions ≡ length (final_world r).subscriptions = each_length (queue_report (final_world r)) 0 (final_world r).subscriptions in omega arith)
+one_order : (r : Run) (names : List (List ℕ)) (steps : List CoreStep) (p q : QueueReport)
+    → In p (report_at r names steps).subscriptions → In q (report_at r names steps).subscriptions
+    → shared_marks p.queued q.queued ≡ shared_marks q.queued p.queued
+one_order r names steps p q i j =
+    let w = final_world r in
+    let a = each_in (queue_report w) 0 w.subscriptions p i in let b = each_in (queue_report w) 0 w.subscriptions q j in
+    subst (λ (z : QueueReport). shared_marks z.queued q.queued ≡ shared_marks q.queued z.queued) a.2
+    (subst (λ (z : QueueReport). shared_marks (accepted_at w (0 + a.0)) z.queued ≡ shared_marks z.queued (accepted_at w (0 + a.0))) b.2
+    (shared_in_one_order r (0 + a.0) (0 + b.0) (omega (arith, a.1)) (omega (arith, b.1))))
 
 -- ---- all together
 
@@ -180,26 +172,14 @@ delivers_said names r steps = record {
   fifo_order = subst (λ z. SenderOrder committed_id (agreed z)) (sym (commits_said past)) (agreed_in_sender_order r);
   logs = λ t l. log_is r names steps t ∙ (log_is_of_outcomes r t ∙ sym (released_log_said t past));
   begins = reported_is w 0 w.subscriptions (λ j l. ap (subscription_at w) (omega arith)) ∙ (sym (begun_is r) ∙ sym (begun_said past));
-  ends = λ s l. subst (λ (z : QueueReport). EndsAsTold r.capacity s (said past) z) (sym (queue_at r names steps s (subs_there r names steps s l))) (ends_told r s);
-  exactly_due = λ s l. (let m = subs_there r names steps s l in
-      subst (λ (z : QueueReport). z.queued ≡ due (commits_of (said past)) (span_of z) (last_stamp zero_stamp (log_in p z.topic))) (sym (queue_at r names steps s m))
-      (accepted_is_due r s m
-      ∙ (ap (λ z. due z (span_at w s) (frontier_at w (subscription_at w s).topic)) (sym (commits_said past))
-      ∙ ap (λ (z : List LogRow). due (commits_of (said past)) (span_at w s) (last_stamp zero_stamp z)) (sym (log_is r names steps (subscription_at w s).topic)))));
-  total_order = λ s q. one_order r names steps s q;
+  queues = λ s q e. (let k = each_got (queue_report w) 0 w.subscriptions s q e in
+      subst (λ (z : QueueReport). IsAsTold r.capacity s (said past) (report_at r names steps) z) (ap (queue_report w) (omega arith) ∙ k.1)
+      (as_told r names steps s k.0));
+  total_order = λ p q i j. one_order r names steps p q i j;
   validity = λ t row l settled i named.
       subst (λ z. In (log_row row) z) (sym (log_is r names steps t))
       (settled_in_log r t row (settled_said t past settled) (subst (λ z. In row z) (commits_said past) i) named);
-  handed = λ s l. (let m = subs_there r names steps s l in
-      subst (λ (z : QueueReport). z.handed ≡ delivered_items s (said past)) (sym (queue_at r names steps s m))
-      (handed_is r s m ∙ sym (delivered_said s past)));
-  handed_prefix = λ s l. (let m = subs_there r names steps s l in
-      subst (λ (z : QueueReport). (rest : List Item) × (z.queued ≡ z.handed ++ rest)) (sym (queue_at r names steps s m))
-      (((handing r).held s m).rest, ((handing r).held s m).is ∙ ap (λ z. z ++ ((handing r).held s m).rest) (sym (handed_is r s m))));
-  bounded = λ s l. (let m = subs_there r names steps s l in
-      subst (λ (z : QueueReport). length z.queued ≤ length z.handed + r.capacity) (sym (queue_at r names steps s m))
-      (subst (λ (z : List Item). length (accepted_at w s) ≤ length z + r.capacity) (sym (handed_is r s m)) (queues_are_bounded r s m)));
-  silent_after_close = silent_said past (closed_is_silent r);
+  silent_after_close = silent_at (said past) (silent_said past (closed_is_silent r));
 }
   where
     w : World
@@ -207,9 +187,6 @@ delivers_said names r steps = record {
 
     past : List Answer
     past = answers_of r
-
-    p : Report
-    p = report_of (core_at names r steps)
 
 -- every run of the core delivers what its account says
 pub delivers : (topics : TopicList) (capacity : ℕ) (steps : List CoreStep) → IsCoreRun topics capacity steps

@@ -22,7 +22,9 @@ use Rattle.delivery.specs.Core.State.{core_of}
 use Rattle.delivery.specs.Core.Outcomes.{IsCoreRun}
 use Rattle.delivery.specs.Core.Reports.{Report, report_of, log_in, out_in}
 use Rattle.delivery.specs.Core.Delivery.{Delivers, Delivery}
+use Rattle.mcast_group.proofs.Parts.{none_some}
 use Rattle.delivery.proofs.Core.Acts.{topic, topic_list, connect, A}
+use Rattle.delivery.proofs.Core.ToldEnds.{silent_at}
 
 abbrev text : List ℕ
 text = codes "CONNECT\naccept-version:1.2\nhost:h\n\n\0"
@@ -90,14 +92,10 @@ delivers = record {
   fifo_order = tt;
   logs = λ t lt. logs t.0 lt;
   begins = refl;
-  ends = λ s lt. absurd (omega arith);
-  exactly_due = λ s lt. absurd (omega arith);
-  total_order = λ s q. refl;
+  queues = λ s q e. none_some q e;
+  total_order = λ p q i j. absurd i;
   validity = λ t row lt settled i named. none_logged t.0 row i;
-  handed = λ s lt. absurd (omega arith);
-  handed_prefix = λ s lt. absurd (omega arith);
-  bounded = λ s lt. absurd (omega arith);
-  silent_after_close = tt;
+  silent_after_close = silent_at (Answer.Opened 0 ∷ []) tt;
 }
 
 is_delivered : Delivery topics 64 steps report

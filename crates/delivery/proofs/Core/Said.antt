@@ -18,7 +18,7 @@ use Rattle.delivery.specs.Theorem.Laws.{agreed_rows}
 use Rattle.delivery.specs.Theorem.Settled.{IsResolved, AllResolved, IsSettled, IsSilent, SilentAfterClose, is_at, closes}
 use Rattle.delivery.specs.Core.Account.{Beginning, beginning_of, released_log, released_frontier}
 use Rattle.delivery.specs.Core.Output.{has_closed}
-use Rattle.delivery.specs.Core.Delivery.{Begun, begun_in}
+use Rattle.delivery.specs.Core.Delivery.{begun_in}
 use Rattle.std.specs.Prelude.{take}
 
 -- an account says it
@@ -107,7 +107,7 @@ released_frontier_said t past = ap (λ (z : List LogRow). last_stamp zero_stamp 
 -- the subscriptions that began
 pub begun_said : (past : List Answer) → begun_in (said past) ≡ begun_in past
 begun_said [] = refl
-begun_said (Answer.Subscribed r c u from ∷ past) = ap (λ (z : List Begun). z ++ (r, u, released_frontier u (said past)) ∷ []) (begun_said past)
+begun_said (Answer.Subscribed r c u from ∷ past) = ap (λ (z : List (ℕ × Topic × Stamp)). z ++ (r, u, released_frontier u (said past)) ∷ []) (begun_said past)
     ∙ ap (λ (z : Stamp). begun_in past ++ (r, u, z) ∷ []) (released_frontier_said u past)
 begun_said (_ ∷ past) = begun_said past
 

@@ -22,7 +22,7 @@ use Rattle.delivery.specs.Machine.Moves.Answer.{Refused, Done}
 use Rattle.delivery.specs.Theorem.Laws.{Run, answers_of, final_world}
 use Rattle.delivery.specs.Theorem.Spans.{cause_of}
 use Rattle.delivery.specs.Core.Account.{Beginning, no_beginning, beginning_of, released_frontier}
-use Rattle.delivery.specs.Core.Delivery.{Begun, begun_in, EndsAtFrontier}
+use Rattle.delivery.specs.Core.Delivery.{begun_in}
 use Rattle.delivery.proofs.Machine.SubscriptionSteps.{at_push_two}
 use Rattle.delivery.proofs.Machine.InvariantIsKept.{tickets, by_refusal, checked}
 use Rattle.delivery.proofs.Theorem.LogIsOfAnswers.{log_is_of_outcomes}
@@ -36,7 +36,7 @@ abbrev pub begin_of : Subscription → Beginning
 begin_of x = record { connection = x.connection; topic = x.topic; from = x.from }
 
 -- beginnings with their numbers, where the first has number i
-abbrev pub numbered : ℕ → List Beginning → List Begun
+abbrev pub numbered : ℕ → List Beginning → List (ℕ × Topic × Stamp)
 numbered i [] = []
 numbered i (x ∷ xs) = (i, x.topic, x.from) ∷ numbered (i + 1) xs
 
@@ -154,7 +154,7 @@ begins past w c t f h =
           (λ e. ap (λ (b : Bool). cond b x (beginning_of s past)) (eq-eqb n s (omega arith)))
           (λ ne. ap (λ (b : Bool). cond b x (beginning_of s past)) (not_true (n == s) refl (λ d. ne (let i : n ≡ s = eqb-true n s d in omega arith))) ∙ h.beginnings s)
           ∙ ap (λ z. get_or z s no_beginning) (sym m);
-      begun = ap (λ (z : List Begun). z ++ (n, t, released_frontier t past) ∷ []) h.begun
+      begun = ap (λ (z : List (ℕ × Topic × Stamp)). z ++ (n, t, released_frontier t past) ∷ []) h.begun
           ∙ (ap (λ (z : Stamp). numbered 0 (begins_in w) ++ (n, t, z) ∷ []) (sym f)
           ∙ (ap (λ (z : ℕ). numbered 0 (begins_in w) ++ (z, t, (topic_at w t).frontier) ∷ []) (let i : n ≡ 0 + length (begins_in w) = omega arith in i)
           ∙ (sym (numbered_push 0 (begins_in w) x) ∙ ap (numbered 0) (sym m))));
@@ -205,6 +205,12 @@ pub begun_is : (r : Run) → begun_in (answers_of r) ≡ numbered 0 (begins_in (
 begun_is r = (started_run r).begun
 
 -- ---- ends that were asked for
+
+-- subscription s was closed, and its span ended at its topic's frontier then
+abbrev pub EndsAtFrontier : ℕ → List Answer → Stamp → Type 0
+EndsAtFrontier s account to =
+    (later before : List Answer) × (account ≡ later ++ Answer.Unsubscribed s to ∷ before)
+    × (to ≡ released_frontier (beginning_of s before).topic before)
 
 abbrev AskedEnds : List Answer → World → Type 0
 AskedEnds past w = (s : ℕ) (end : EntryEnd) → (subscription_at w s).closed ≡ Some end → end.cause ≡ Asked → EndsAtFrontier s past end.to

@@ -21,7 +21,8 @@ use Rattle.stomp_frame.specs.Reader.{Unread, unread_of}
 use Rattle.delivery.specs.Machine.World.{new_sender}
 use Rattle.delivery.specs.Core.Outcomes.{outcomes}
 use Rattle.delivery.specs.Core.State.{Core, new_core, unread_at}
-use Rattle.delivery.specs.Core.Reports.{report_of, queue_in}
+use Rattle.delivery.specs.Core.Reports.{report_of}
+use Rattle.delivery.proofs.Core.QueueOfReport.{queue_in}
 use Rattle.delivery.proofs.Core.Agreement.{agreements, all_agree}
 use Rattle.delivery.proofs.Core.Acts.{send, Act, topic_list, without, frame, topic, stamp, id, act, reads, fails, waits, played, shown_outcomes, seen, connect, subscribe, begin, send_in, commit, opens, propose, turn, A, B}
 use Rattle.delivery.proofs.Core.Rows.{crossing, one, both, narrow, greeting, sends_one, to_both}

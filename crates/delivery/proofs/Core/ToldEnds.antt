@@ -1,12 +1,14 @@
--- The ends of spans that an account tells, listed: so that a row's account has no other.
-use Rattle.std.proofs.Common.{◌≡◌, ℕ, ◌==◌, Bool, true, false, cond, inl, inr, List, [], ◌∷◌, sym, subst, ◌∙◌}
+-- The ends of spans that an account tells, listed: so that a row's account has no other. And that nothing is delivered after a
+-- close, said of each delivery.
+use Rattle.std.proofs.Common.{◌≡◌, ℕ, ◌==◌, Bool, true, false, cond, inl, inr, List, [], ◌∷◌, ◌++◌, sym, subst, ◌∙◌}
 use Rattle.std.proofs.lemmas.Bool.{eq-eqb, true≢false}
 use Rattle.std.specs.Prelude.{if◌then◌else◌}
 use Rattle.mcast_txn.specs.declared.stamp.Stamp.{Stamp}
 use Rattle.mcast_txn.specs.Lists.{In}
+use Rattle.mcast_txn.specs.Span.{Item}
 use Rattle.mcast_txn.proofs.Members.{any_from}
 use Rattle.delivery.specs.Machine.Moves.{Answer}
-use Rattle.delivery.specs.Theorem.Settled.{IsSilent, closes}
+use Rattle.delivery.specs.Theorem.Settled.{IsSilent, SilentAfterClose, closes}
 use Rattle.delivery.specs.Core.Output.{has_closed}
 
 -- the ends of subscription s
@@ -34,3 +36,13 @@ pub not_silent : (s : ℕ) (account : List Answer) → ends_of s account ≡ [] 
 not_silent s account none unclosed (inl h) = subst (λ z. In h.0 z) none (in_ends s h.0 account h.1)
 not_silent s account none unclosed (inr h) =
     true≢false (sym (any_from (closes h.0) h.3 account h.5 h.6) ∙ unclosed h.0)
+
+-- an account that is silent after a close has no delivery above what makes its subscription silent
+pub silent_at : (account : List Answer) → SilentAfterClose account → (later before : List Answer) (s : ℕ) (item : Item)
+    → account ≡ later ++ Answer.Handed s item ∷ before → IsSilent s before → Prim.⊥
+silent_at account h later before s item e k = below later (subst SilentAfterClose e h)
+  where
+    below : (xs : List Answer) → SilentAfterClose (xs ++ Answer.Handed s item ∷ before) → Prim.⊥
+    below [] silent = silent.0 k
+    below (Answer.Handed r i ∷ xs) silent = below xs silent.1
+    below (o ∷ xs) silent = below xs silent

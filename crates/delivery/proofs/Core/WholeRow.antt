@@ -1,7 +1,7 @@
 -- One whole delivery: a connection subscribes to two topics, commits a transaction to both, is delivered an item of the first,
 -- and unsubscribes from it; its queue of the second, which takes one item, lags as a second transaction comes.
 use Rattle.std.proofs.Common.{inl, inr, refl, sym, ap, subst, ◌∙◌, arith}
-use Rattle.std.specs.Prelude.{◌≡◌, ℕ, zero, suc, nat_lt, ◌==◌, ◌+◌, ◌<◌, ◌≤◌, ◌++◌, Bool, true, false, if◌then◌else◌, length, List, [], ◌∷◌, codes, Ok, Some}
+use Rattle.std.specs.Prelude.{◌≡◌, ℕ, zero, suc, nat_lt, ◌==◌, ◌<◌, ◌++◌, Bool, true, false, if◌then◌else◌, slice_get, List, [], ◌∷◌, codes, Ok, Some}
 use Rattle.std.specs.Fmt.{digits}
 use Rattle.std.specs.Option.{option_to_list}
 use Rattle.std.specs.Str.{is_utf8, chars}
@@ -16,8 +16,7 @@ use Rattle.mcast_txn.specs.declared.id.TxnId.{TxnId}
 use Rattle.mcast_txn.specs.declared.stamp.Stamp.{Stamp}
 use Rattle.mcast_txn.specs.Agreed.{CommitRow, Transaction, committed_id, stamp_of, agreed, EachOnce, SenderOrder}
 use Rattle.mcast_txn.specs.Lists.{In}
-use Rattle.mcast_txn.specs.Span.{Item, last_stamp}
-use Rattle.mcast_txn.specs.Stamp.{zero_stamp}
+use Rattle.mcast_txn.specs.Span.{Item}
 use Rattle.mcast_txn.specs.TopicSet.{names}
 use Rattle.mcast_txn.specs.Transaction.{topics_of}
 use Rattle.mcast_group.specs.declared.cause.Cause.TheVariants.{Asked, Lag}
@@ -25,19 +24,19 @@ use Rattle.mcast_group.proofs.Parts.{some_same, none_some}
 use Rattle.delivery.specs.declared.event.Event.{Event}
 use Rattle.delivery.specs.declared.outcome.Outcome.TheVariants.{Opened, Fed, Done, Subscribed, Unsubscribed, Flying, Proposed, Decided, Turned, Handed}
 use Rattle.delivery.specs.Topics.{TopicList}
-use Rattle.delivery.specs.Theorem.Due.{log_row, due}
+use Rattle.delivery.specs.Theorem.Due.{log_row}
 use Rattle.delivery.specs.Theorem.Laws.{shared_marks}
 use Rattle.delivery.specs.Theorem.Settled.{SilentAfterClose}
 use Rattle.delivery.specs.Machine.Moves.{Answer}
-use Rattle.delivery.specs.Machine.Runs.{commits_of, delivered_items}
+use Rattle.delivery.specs.Machine.Runs.{commits_of}
 use Rattle.delivery.specs.Core.Steps.{CoreStep, BeginsWithFrames, fed_octets, frames_of, frame_in, is_fed, reader_limits}
 use Rattle.delivery.specs.Core.Account.{account_of, released_log}
 use Rattle.delivery.specs.Core.Output.{text_out}
 use Rattle.delivery.specs.Core.State.{new_core}
-use Rattle.delivery.specs.Core.Reports.{Report, report_of, log_in, queue_in, out_in, span_of}
-use Rattle.delivery.specs.Core.Delivery.{EndsAsTold, Delivers, Delivery}
+use Rattle.delivery.specs.Core.Reports.{QueueReport, Report, report_of, log_in, out_in}
+use Rattle.delivery.specs.Core.Delivery.{IsAsTold, Delivers, Delivery}
 use Rattle.delivery.proofs.Core.Acts.{Act, topic_list, played, act, reads, frame, connect, subscribe, begin, send_in, send, commit, propose, turn, topic, stamp, id, made, part, x_to, shown_outcomes, log_row as row, A, B}
-use Rattle.delivery.proofs.Core.ToldEnds.{in_ends, not_silent}
+use Rattle.delivery.proofs.Core.ToldEnds.{in_ends, not_silent, silent_at}
 
 -- ---- the run
 
@@ -226,12 +225,18 @@ told = Answer.Handed 1 at_b ∷ Answer.Turned (topic 1) 1 ∷ before_lag
 account_is : account_of topics.names steps ≡ told
 account_is = refl
 
+-- its two subscriptions
+abbrev closed : QueueReport
+closed = record { topic = topic 0; from = stamp 0 0; to = Some (stamp 1 1); cause = Some Asked; queued = at_a ∷ []; handed = at_a ∷ [] }
+
+abbrev lagged : QueueReport
+lagged = record { topic = topic 1; from = stamp 0 0; to = Some (stamp 1 1); cause = Some Lag; queued = at_b ∷ []; handed = at_b ∷ [] }
+
 abbrev report : Report
 report = record {
   commits = row 0 1 1 1 (0 ∷ 1 ∷ []) ∷ row 0 2 2 1 (1 ∷ []) ∷ [];
   logs = (row 0 1 1 1 (0 ∷ 1 ∷ []) ∷ []) ∷ (row 0 1 1 1 (0 ∷ 1 ∷ []) ∷ row 0 2 2 1 (1 ∷ []) ∷ []) ∷ [];
-  subscriptions = record { topic = topic 0; from = stamp 0 0; to = Some (stamp 1 1); cause = Some Asked; queued = at_a ∷ []; handed = at_a ∷ [] }
-      ∷ record { topic = topic 1; from = stamp 0 0; to = Some (stamp 1 1); cause = Some Lag; queued = at_b ∷ []; handed = at_b ∷ [] } ∷ [];
+  subscriptions = closed ∷ lagged ∷ [];
   outs = codes "CONNECTED\nversion:1.2\nheart-beat:0,0\n\n\0MESSAGE\nsubscription:s\nmessage-id:1.1.0\ndestination:A\ncontent-length:1\n\n1\0MESSAGE\nsubscription:t\nmessage-id:1.1.1\ndestination:B\ncontent-length:1\n\n1\0" ∷ [];
 }
 
@@ -270,14 +275,20 @@ logs zero lt = refl
 logs (suc zero) lt = refl
 logs (suc (suc n)) lt = absurd (omega arith)
 
-ends : (s : ℕ) → s < 2 → EndsAsTold 1 s told (queue_in report s)
-ends zero lt = record {
+closed_told : IsAsTold 1 0 told report closed
+closed_told = record {
   told = λ to i. elim (in_ends 0 to told i) [ inl e ↦ ap Some e | inr none ↦ absurd none ];
   unended = λ e. none_some Asked (sym e);
-  asked = λ e. (stamp 1 1, refl, (Answer.Handed 1 at_b ∷ Answer.Turned (topic 1) 1 ∷ since_close, before_close, refl, refl));
+  asked = λ e. (Answer.Handed 1 at_b ∷ Answer.Turned (topic 1) 1 ∷ since_close, before_close, stamp 1 1, refl, refl);
   lag = λ e. (let same : Asked ≡ Lag = some_same Asked Lag e in cc);
+  exactly_due = refl;
+  handed = refl;
+  handed_prefix = ([], refl);
+  bounded = omega arith;
 }
-ends (suc zero) lt = record {
+
+lagged_told : IsAsTold 1 1 told report lagged
+lagged_told = record {
   told = λ to i. absurd (in_ends 1 to told i);
   unended = λ e. none_some Lag (sym e);
   asked = λ e. (let same : Lag ≡ Asked = some_same Lag Asked e in cc);
@@ -295,25 +306,32 @@ ends (suc zero) lt = record {
       full = refl;
     },
   );
+  exactly_due = refl;
+  handed = refl;
+  handed_prefix = ([], refl);
+  bounded = omega arith;
 }
-ends (suc (suc s)) lt = absurd (omega arith)
 
-is_due : (s : ℕ) → s < 2
-    → (queue_in report s).queued ≡ due (commits_of told) (span_of (queue_in report s)) (last_stamp zero_stamp (log_in report (queue_in report s).topic))
-is_due zero lt = refl
-is_due (suc zero) lt = refl
-is_due (suc (suc s)) lt = absurd (omega arith)
+queues_told : (s : ℕ) (q : QueueReport) → slice_get report.subscriptions s ≡ Some q → IsAsTold 1 s told report q
+queues_told zero q e = subst (λ (z : QueueReport). IsAsTold 1 0 told report z) (some_same _ q e) closed_told
+queues_told (suc zero) q e = subst (λ (z : QueueReport). IsAsTold 1 1 told report z) (some_same _ q e) lagged_told
+queues_told (suc (suc s)) q e = none_some q e
 
-in_one_order : (s q : ℕ) → shared_marks (queue_in report s).queued (queue_in report q).queued ≡ shared_marks (queue_in report q).queued (queue_in report s).queued
-in_one_order zero zero = refl
-in_one_order zero (suc zero) = refl
-in_one_order zero (suc (suc q)) = refl
-in_one_order (suc zero) zero = refl
-in_one_order (suc zero) (suc zero) = refl
-in_one_order (suc zero) (suc (suc q)) = refl
-in_one_order (suc (suc s)) zero = refl
-in_one_order (suc (suc s)) (suc zero) = refl
-in_one_order (suc (suc s)) (suc (suc q)) = refl
+abbrev InOrder : QueueReport → QueueReport → Type 0
+InOrder p q = shared_marks p.queued q.queued ≡ shared_marks q.queued p.queued
+
+in_one_order : (p q : QueueReport) → In p report.subscriptions → In q report.subscriptions → InOrder p q
+in_one_order p q i j = by_first p q i (by_second q j)
+  where
+    by_second : (q : QueueReport) → In q report.subscriptions → InOrder closed q × InOrder lagged q
+    by_second q (inl e) = subst (λ (z : QueueReport). InOrder closed z × InOrder lagged z) e (refl, refl)
+    by_second q (inr (inl e)) = subst (λ (z : QueueReport). InOrder closed z × InOrder lagged z) e (refl, refl)
+    by_second q (inr (inr none)) = absurd none
+
+    by_first : (p q : QueueReport) → In p report.subscriptions → InOrder closed q × InOrder lagged q → InOrder p q
+    by_first p q (inl e) h = subst (λ (z : QueueReport). InOrder z q) e h.0
+    by_first p q (inr (inl e)) h = subst (λ (z : QueueReport). InOrder z q) e h.1
+    by_first p q (inr (inr none)) h = absurd none
 
 is_logged : (n : ℕ) (r : CommitRow) → n < 2 → In r (commits_of told) → names (topic n) (topics_of r.txn.sends) ≡ true → In (log_row r) (log_in report (topic n))
 is_logged zero r lt (inl e) named = subst (λ (z : CommitRow). In (log_row z) (log_in report (topic 0))) e (inl refl)
@@ -323,21 +341,6 @@ is_logged (suc zero) r lt (inl e) named = subst (λ (z : CommitRow). In (log_row
 is_logged (suc zero) r lt (inr (inl e)) named = subst (λ (z : CommitRow). In (log_row z) (log_in report (topic 1))) e (inr (inl refl))
 is_logged (suc zero) r lt (inr (inr none)) named = absurd none
 is_logged (suc (suc n)) r lt i named = absurd (omega arith)
-
-is_handed : (s : ℕ) → s < 2 → (queue_in report s).handed ≡ delivered_items s told
-is_handed zero lt = refl
-is_handed (suc zero) lt = refl
-is_handed (suc (suc s)) lt = absurd (omega arith)
-
-prefix : (s : ℕ) → s < 2 → (rest : List Item) × ((queue_in report s).queued ≡ (queue_in report s).handed ++ rest)
-prefix zero lt = ([], refl)
-prefix (suc zero) lt = ([], refl)
-prefix (suc (suc s)) lt = absurd (omega arith)
-
-in_room : (s : ℕ) → s < 2 → length (queue_in report s).queued ≤ length (queue_in report s).handed + 1
-in_room zero lt = omega arith
-in_room (suc zero) lt = omega arith
-in_room (suc (suc s)) lt = absurd (omega arith)
 
 -- no item came after a close
 silent : SilentAfterClose told
@@ -353,14 +356,10 @@ delivers = record {
   fifo_order = in_order;
   logs = λ t lt. logs t.0 lt;
   begins = refl;
-  ends = ends;
-  exactly_due = is_due;
+  queues = queues_told;
   total_order = in_one_order;
   validity = λ t r lt settled i named. is_logged t.0 r lt i named;
-  handed = is_handed;
-  handed_prefix = prefix;
-  bounded = in_room;
-  silent_after_close = silent;
+  silent_after_close = silent_at told silent;
 }
 
 outs : (c : ℕ) → c < 1 → out_in report c ≡ text_out topics.names c steps

@@ -22,7 +22,8 @@ use Rattle.delivery.specs.Theorem.Due.{log_row, item_at, is_due}
 use Rattle.delivery.specs.Machine.Moves.{Answer}
 use Rattle.delivery.specs.Machine.Runs.{commits_of, released_at}
 use Rattle.delivery.specs.Core.Delivery.{Delivers}
-use Rattle.delivery.specs.Core.Reports.{Report, queue_in, log_in, span_of}
+use Rattle.delivery.specs.Core.Reports.{Report, log_in, span_of}
+use Rattle.delivery.proofs.Core.QueueOfReport.{queue_in, queue_there}
 use Rattle.delivery.specs.Traces.{traced_span, trace_of, AllSettled}
 use Rattle.delivery.proofs.Theorem.SpansAsAnswered.{within}
 use Rattle.delivery.proofs.Traces.Lists.{filter_twice, filter_mapped, In-take}
@@ -181,7 +182,7 @@ queue_cut account r d s l =
     let q = queue_in r s in
     let last = last_stamp zero_stamp (log_in r q.topic) in
     queue_is r s
-    ∙ (ap (map (λ item. row_mark (item_row item))) (d.exactly_due s l)
+    ∙ (ap (map (λ item. row_mark (item_row item))) ((d.queues s q (queue_there r s l)).exactly_due)
     ∙ (marks_twice q.topic (filter (is_due (span_of q) last) (agreed (commits_of account)))
     ∙ (ap (map row_mark) (sym (filter_mapped (due_row q.topic q.from q.to last) log_row (agreed (commits_of account))))
     ∙ (ap (map row_mark) (due_logged account r d q.topic q.from q.to)

@@ -10,7 +10,8 @@ use Rattle.trace_audit.specs.declared.row.QueueRow.{QueueRow}
 use Rattle.trace_audit.specs.Logs.{LogLine}
 use Rattle.trace_audit.specs.Trace.{rows_of, log_of, queue_mark, queue_of}
 use Rattle.std.proofs.lemmas.Bool.{eq-eqb}
-use Rattle.delivery.specs.Core.Reports.{QueueReport, Report, no_queue, queue_in, log_in}
+use Rattle.delivery.specs.Core.Reports.{QueueReport, Report, log_in}
+use Rattle.delivery.proofs.Core.QueueOfReport.{no_queue, queue_in}
 use Rattle.delivery.specs.Traces.{traced_log, traced_span, traced_queue, trace_of}
 use Rattle.delivery.proofs.Traces.Lists.{made_at}
 

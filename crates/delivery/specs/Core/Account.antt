@@ -1,8 +1,9 @@
 -- The account that a run's steps give of transactions, topics and subscriptions, in the words of the
 -- machine's answers. It takes nothing from the machine: what a transaction has and which item is next is
 -- worked out from frames and outcomes.
-use Rattle.std.specs.Prelude.{ℕ, ◌==◌, ◌+◌, true, false, List, [], ◌∷◌, ◌++◌, codes, length, take, slice_get, Option, Some, None, if◌then◌else◌}
-use Rattle.std.specs.Option.{option_map_or, unwrap_or}
+use Rattle.std.specs.Prelude.{ℕ, ◌==◌, ◌+◌, not, ◌&&◌, List, [], ◌∷◌, ◌++◌, codes, map, length, take, get_or, Option, Some, None, if◌then◌else◌}
+use Rattle.std.specs.List.{filter, list_any}
+use Rattle.std.specs.Option.{option_map_or}
 use Rattle.stomp_frame.specs.declared.command.Command.{Command}
 use Rattle.stomp_frame.specs.declared.command.Command.TheVariants as commands
 use Rattle.stomp_frame.specs.declared.raw_frame.RawFrame.{RawFrame}
@@ -13,9 +14,7 @@ use Rattle.mcast_txn.specs.declared.draft.sent_message.SentMessage.{SentMessage}
 use Rattle.mcast_txn.specs.declared.stamp.Stamp.{Stamp}
 use Rattle.mcast_txn.specs.Stamp.{zero_stamp}
 use Rattle.mcast_txn.specs.Span.{LogRow, Item, last_stamp}
-use Rattle.stomp_session.specs.Frames.{topic_of, id_of, transaction_of, send_of}
-use Rattle.stomp_session.specs.Open.{transactions_left}
-use Rattle.stomp_session.specs.Refusals.{sends_in}
+use Rattle.stomp_session.specs.Frames.{topic_of, id_of, transaction_of, is_begin, names_transaction, is_send_in, send_of}
 use Rattle.delivery.specs.declared.event.Event.{Event}
 use Rattle.delivery.specs.declared.outcome.Outcome.{Outcome}
 use Rattle.delivery.specs.Theorem.Due.{due}
@@ -34,10 +33,19 @@ last_of c older account =
     let s = sender_of c (claims_of older) in
     record { sender = record { 0 = s }; seq = txn_count s account }
 
+-- The SENDs of this transaction that these frames left open: those since its BEGIN, where no later frame but a
+-- SEND names it. So of BEGIN x, SEND in x, COMMIT x, BEGIN x, two SENDs in x and one in y, the two; after an
+-- ABORT x none.
+abbrev pub sends_left : List ℕ → List (List ℕ) → List RawFrame → List SentMessage
+sends_left x names [] = []
+sends_left x names (f ∷ after) =
+    if is_begin f.command && names_transaction x f && not (list_any (names_transaction x) after)
+    then map (send_of names) (filter (is_send_in x) after) else sends_left x names after
+
 -- the SENDs that a frame of this command commits, after these accepted frames: a COMMIT those of its transaction,
 -- a SEND alone itself
 abbrev pub sends_by : Command → List (List ℕ) → List RawFrame → RawFrame → List SentMessage
-sends_by commands.Commit names accepted f = sends_in (transaction_of f) (transactions_left names accepted)
+sends_by commands.Commit names accepted f = sends_left (transaction_of f) names accepted
 sends_by commands.Send names accepted f =
     option_map_or (λ x. []) (first_of (codes "transaction") f.headers) (send_of names f ∷ [])
 sends_by command names accepted f = []
@@ -83,8 +91,7 @@ no_item =
 -- The next item that is delivered to the subscription: of those that are due, the first that wasn't. So where
 -- three are due and one was delivered, it is the second.
 abbrev pub next_item : ℕ → List Answer → Item
-next_item s account =
-    unwrap_or (slice_get (due_to s account) (length (delivered_items s account))) no_item
+next_item s account = get_or (due_to s account) (length (delivered_items s account)) no_item
 
 -- ---- what a step adds
 
@@ -107,10 +114,8 @@ account_of_step names older past (Event.Propose c t) read (Outcome.Proposed n) =
     Answer.Ticket (last_of c older past) (record { n = n; topic = t }) ∷ []
 account_of_step names older past (Event.Propose c t) read (Outcome.Failed why) =
     Answer.Failed (last_of c older past) why ∷ []
-account_of_step names older past (Event.Decide c) read (Outcome.Decided stamp true) =
-    Answer.Leaving c ∷ Answer.Decided (last_of c older past) stamp ∷ []
-account_of_step names older past (Event.Decide c) read (Outcome.Decided stamp false) =
-    Answer.Decided (last_of c older past) stamp ∷ []
+account_of_step names older past (Event.Decide c) read (Outcome.Decided stamp cut) =
+    (if cut then Answer.Leaving c ∷ [] else []) ++ Answer.Decided (last_of c older past) stamp ∷ []
 account_of_step names older past (Event.Withdraw c) read (Outcome.Withdrawn cut) =
     Answer.Withdrawn (last_of c older past) c ∷ []
 account_of_step names older past (Event.Cancel c t) read Outcome.Cancelled =

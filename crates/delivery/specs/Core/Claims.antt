@@ -65,9 +65,12 @@ sender_claimed c (claim ∷ before) =
     then Some (unwrap_or (claimed_sender claim.client before) (begun_count before))
     else sender_claimed c before
 
--- the same as a number; before its claim, 0
+-- The same as a number: that of its client-id, or of as many as had begun before. Before its claim, 0.
 abbrev pub sender_of : ℕ → List Claim → ℕ
-sender_of c claims = unwrap_or (sender_claimed c claims) 0
+sender_of c [] = 0
+sender_of c (claim ∷ before) =
+    let number = option_map_or (λ id. kept_sender id (claim ∷ before)) claim.client (begun_count before) in
+    if claim.connection == c then number else sender_of c before
 
 -- how many of the senders that have begun are kept
 abbrev pub kept_count : List Claim → ℕ

@@ -1,6 +1,6 @@
 -- What the core is to deliver: the statement over the steps of a run and its report alone, and that each run
 -- of the core's definitions meets it. It mentions no clock, no floor and no pending part.
-use Rattle.std.specs.Prelude.{◌≡◌, ℕ, ◌+◌, ◌<◌, ◌≤◌, true, false, List, [], ◌∷◌, ◌++◌, map, length, reverse, Some, None}
+use Rattle.std.specs.Prelude.{◌≡◌, ℕ, ◌+◌, ◌<◌, ◌≤◌, true, false, List, [], ◌∷◌, ◌++◌, map, length, reverse, slice_get, Some, None}
 use Rattle.mcast_txn.specs.declared.id.Topic.{Topic}
 use Rattle.mcast_txn.specs.declared.stamp.Stamp.{Stamp}
 use Rattle.mcast_txn.specs.Stamp.{zero_stamp, stamp_lt}
@@ -17,36 +17,26 @@ use Rattle.delivery.specs.Machine.Moves.{Answer}
 use Rattle.delivery.specs.Machine.Runs.{commits_of, delivered_items}
 use Rattle.delivery.specs.Theorem.Due.{log_row, due}
 use Rattle.delivery.specs.Theorem.Laws.{shared_marks}
-use Rattle.delivery.specs.Theorem.Settled.{IsSettled, SilentAfterClose}
+use Rattle.delivery.specs.Theorem.Settled.{IsSettled, IsSilent}
 use Rattle.delivery.specs.Core.Steps.{CoreStep, kept_of, names_after, AreReadings}
 use Rattle.delivery.specs.Core.Account.{released_log, released_frontier, beginning_of, account_of}
 use Rattle.delivery.specs.Core.Output.{text_out}
 use Rattle.delivery.specs.Core.State.{core_of}
 use Rattle.delivery.specs.Core.Outcomes.{IsCoreRun}
-use Rattle.delivery.specs.Core.Reports.{QueueReport, Report, report_of, queue_in, log_in, out_in, span_of}
+use Rattle.delivery.specs.Core.Reports.{QueueReport, Report, report_of, log_in, out_in, span_of}
 
 -- ---- where spans begin and end
 
--- a subscription as it begins: its number, its topic, and the end of its topic's log
-abbrev pub Begun : Type 0
-Begun = ℕ × Topic × Stamp
-
--- the subscriptions that began, each at its topic's frontier then
-abbrev pub begun_in : List Answer → List Begun
+-- the subscriptions that began: of each its number, its topic, and its topic's frontier then
+abbrev pub begun_in : List Answer → List (ℕ × Topic × Stamp)
 begun_in [] = []
 begun_in (Answer.Subscribed s c t from ∷ before) = begun_in before ++ (s, t, released_frontier t before) ∷ []
 begun_in (o ∷ before) = begun_in before
 
 -- the same of a report, where the first has number i
-abbrev pub reported_begun : ℕ → List QueueReport → List Begun
+abbrev pub reported_begun : ℕ → List QueueReport → List (ℕ × Topic × Stamp)
 reported_begun i [] = []
 reported_begun i (q ∷ qs) = (i, q.topic, q.from) ∷ reported_begun (i + 1) qs
-
--- subscription s was closed, and its span ended at the frontier then
-abbrev pub EndsAtFrontier : ℕ → List Answer → Stamp → Type 0
-EndsAtFrontier s account to =
-    (later before : List Answer) × (account ≡ later ++ Answer.Unsubscribed s to ∷ before)
-    × (to ≡ released_frontier (beginning_of s before).topic before)
 
 -- the stamp of the last of these items, or else this one
 abbrev pub last_queued : Stamp → List Item → Stamp
@@ -69,16 +59,25 @@ pub record EndsByLag (capacity s : ℕ) (account : List Answer) (q : QueueReport
   pub passed : stamp_lt end (released_frontier q.topic (by ∷ before)) ≡ true
   pub full : length q.queued ≡ length (delivered_items s before) + capacity
 
--- How the span of subscription s ends, by the account.
+-- What is reported of subscription s is as the account tells it.
 -- told: an end that an UNSUBSCRIBE or a Leave was answered is the end.
 -- unended: without a cause there is no end.
--- asked: an end that was asked for was answered, and is the topic's frontier then.
+-- asked: where an end was asked for, one was answered, and it is the topic's frontier then.
 -- lag: an end by lag is that of a full queue.
-pub record EndsAsTold (capacity s : ℕ) (account : List Answer) (q : QueueReport) : Type 0 where
+-- exactly_due: what its queue accepted is what is due to it.
+-- handed, handed_prefix: what was delivered is what Takes delivered, the front of the queue.
+-- bounded: the queue has no more than its capacity that wasn't delivered.
+pub record IsAsTold (capacity s : ℕ) (account : List Answer) (r : Report) (q : QueueReport) : Type 0 where
   pub told : (to : Stamp) → In (Answer.Unsubscribed s to) account → q.to ≡ Some to
   pub unended : q.cause ≡ None → q.to ≡ None
-  pub asked : q.cause ≡ Some Asked → (to : Stamp) × (q.to ≡ Some to) × EndsAtFrontier s account to
+  pub asked : q.cause ≡ Some Asked → (later before : List Answer) × (to : Stamp)
+      × (account ≡ later ++ Answer.Unsubscribed s to ∷ before)
+      × (to ≡ released_frontier (beginning_of s before).topic before)
   pub lag : q.cause ≡ Some Lag → (end : Stamp) × (q.to ≡ Some end) × EndsByLag capacity s account q end
+  pub exactly_due : q.queued ≡ due (commits_of account) (span_of q) (last_stamp zero_stamp (log_in r q.topic))
+  pub handed : q.handed ≡ delivered_items s account
+  pub handed_prefix : (rest : List Item) × (q.queued ≡ q.handed ++ rest)
+  pub bounded : length q.queued ≤ length q.handed + capacity
 
 -- ---- what is delivered
 
@@ -91,30 +90,21 @@ pub record Delivers (capacity : ℕ) (account : List Answer) (r : Report) : Type
   pub fifo_order : SenderOrder committed_id (agreed (commits_of account))
   -- each log is as many rows of the agreed sequence as were released
   pub logs : (t : Topic) → t.0 < length r.logs → log_in r t ≡ released_log t account
-  -- each subscription begins where its topic's log ended then, and ends where it was closed, or by lag
+  -- each subscription begins where its topic's log ended then; its end, its queue and what was delivered of
+  -- it are as told
   pub begins : reported_begun 0 r.subscriptions ≡ begun_in account
-  pub ends : (s : ℕ) → s < length r.subscriptions → EndsAsTold capacity s account (queue_in r s)
-  -- what its queue accepted is what is due to it
-  pub exactly_due : (s : ℕ) → s < length r.subscriptions
-      → (queue_in r s).queued
-      ≡ due (commits_of account) (span_of (queue_in r s))
-      (last_stamp zero_stamp (log_in r (queue_in r s).topic))
+  pub queues : (s : ℕ) (q : QueueReport) → slice_get r.subscriptions s ≡ Some q
+      → IsAsTold capacity s account r q
   -- two subscriptions have what they share in one order
-  pub total_order : (s q : ℕ) → shared_marks (queue_in r s).queued (queue_in r q).queued
-      ≡ shared_marks (queue_in r q).queued (queue_in r s).queued
+  pub total_order : (p q : QueueReport) → In p r.subscriptions → In q r.subscriptions
+      → shared_marks p.queued q.queued ≡ shared_marks q.queued p.queued
   -- a settled topic's log leaves no committed transaction out
   pub validity : (t : Topic) (row : CommitRow) → t.0 < length r.logs → IsSettled t account
       → In row (commits_of account) → names t (topics_of row.txn.sends) ≡ true
       → In (log_row row) (log_in r t)
-  -- what was delivered is what Takes delivered, the front of the queue
-  pub handed : (s : ℕ) → s < length r.subscriptions → (queue_in r s).handed ≡ delivered_items s account
-  pub handed_prefix : (s : ℕ) → s < length r.subscriptions
-      → (rest : List Item) × ((queue_in r s).queued ≡ (queue_in r s).handed ++ rest)
-  -- no queue has more than its capacity that wasn't delivered
-  pub bounded : (s : ℕ) → s < length r.subscriptions
-      → length (queue_in r s).queued ≤ length (queue_in r s).handed + capacity
   -- nothing is delivered to a closed subscription, nor to one of a closed connection
-  pub silent_after_close : SilentAfterClose account
+  pub silent_after_close : (later before : List Answer) (s : ℕ) (item : Item)
+      → account ≡ later ++ Answer.Handed s item ∷ before → IsSilent s before → Prim.⊥
 
 -- the connections that a step opened
 abbrev pub opened_by : Outcome → ℕ

@@ -3,7 +3,6 @@ use Rattle.std.specs.Prelude.{ℕ, ◌+◌, List, [], ◌∷◌, map, take, get_
 use Rattle.std.specs.Option.{option_map}
 use Rattle.mcast_txn.specs.declared.id.Topic.{Topic}
 use Rattle.mcast_txn.specs.declared.stamp.Stamp.{Stamp}
-use Rattle.mcast_txn.specs.Stamp.{zero_stamp}
 use Rattle.mcast_txn.specs.Span.{LogRow, Item, Span}
 use Rattle.mcast_group.specs.declared.cause.Cause.{Cause}
 use Rattle.mcast_group.specs.declared.cause.Cause.TheVariants.{Lag}
@@ -65,15 +64,6 @@ report_of k = record {
 }
 
 -- ---- reading a report
-
--- what stands for a subscription that isn't reported
-abbrev pub no_queue : QueueReport
-no_queue =
-    record { topic = record { 0 = 0 }; from = zero_stamp; to = None; cause = None; queued = []; handed = [] }
-
--- the subscription of this number
-abbrev pub queue_in : Report → ℕ → QueueReport
-queue_in r s = get_or r.subscriptions s no_queue
 
 -- the log of a topic
 abbrev pub log_in : Report → Topic → List LogRow

@@ -63,17 +63,15 @@ pub data Answer : Type 0 where
   Subscribed : (s c : ℕ) (t : Topic) (from : Stamp) → Answer
   Unsubscribed : (s : ℕ) (to : Stamp) → Answer
   -- the connection is leaving: by itself, or by an ERROR; it is gone
-  Leaving : (c : ℕ) → Answer
-  Error : (c : ℕ) → Answer
-  Gone : (c : ℕ) → Answer
+  Leaving Error Gone : (c : ℕ) → Answer
   -- a topic gave a ticket; it refused, and the transaction is marked
   Ticket : (id : TxnId) (ticket : Stamp) → Answer
   Failed : (id : TxnId) (why : ProposeFault) → Answer
   -- the transaction was decided; it was withdrawn, and its connection is leaving by an ERROR
   Decided : (id : TxnId) (stamp : Stamp) → Answer
   Withdrawn : (id : TxnId) (c : ℕ) → Answer
-  Cancelled : (id : TxnId) (t : Topic) → Answer
-  Learnt : (id : TxnId) (t : Topic) → Answer
+  -- a ticket of it was cancelled at t; t learnt its stamp
+  Cancelled Learnt : (id : TxnId) (t : Topic) → Answer
   -- the transaction's part was released at t; count parts were
   Released : (t : Topic) (id : TxnId) → Answer
   Turned : (t : Topic) (count : ℕ) → Answer

@@ -9,37 +9,25 @@ use Rattle.delivery.specs.declared.refusal.Refusal.TheVariants as refusal
 pub data Objection : Type 0 where
   -- the topic's: no part of the transaction is pending; the verdict isn't the part's; another stamp was
   -- learnt; the part that is to be cancelled has learnt its stamp
-  NotPending : Objection
-  Foreign : Objection
-  Clash : Objection
-  Decided : Objection
+  NotPending Foreign Clash Decided : Objection
   -- there is no such subscription of this connection that isn't closed
   NoSub : Objection
   -- the topic gave a ticket before; a named topic gave none yet
-  Twice : Objection
-  Incomplete : Objection
+  Twice Incomplete : Objection
   -- the connection speaks for no sender, or there is no such sender; it speaks for one already; another
   -- connection speaks for this one
-  NoSender : Objection
-  HasSender : Objection
-  InUse : Objection
+  NoSender HasSender InUse : Objection
   -- the sender has no sequence numbers left
   SeqFull : Objection
   -- the connection: it is open; it isn't there; it is leaving, or its transaction is in flight; that isn't in
   -- flight
-  NotLeaving : Objection
-  NoConn : Objection
-  Busy : Objection
-  NoFlight : Objection
+  NotLeaving NoConn Busy NoFlight : Objection
   -- there is no such topic, or the transaction doesn't name it
   NotNamed : Objection
   -- the transaction has no verdict; nothing is due; the connection is gone, or the subscription has ended
-  NotDecided : Objection
-  NothingDue : Objection
-  Gone : Objection
+  NotDecided NothingDue Gone : Objection
   -- a topic refused the transaction; none did
-  Marked : Objection
-  NotMarked : Objection
+  Marked NotMarked : Objection
 
 -- The refusal that the core reports; none where the objection is the machine's own. So `Gone` is 87, and
 -- `Clash` none.

@@ -29,7 +29,8 @@ use Rattle.delivery.proofs.Machine.InvariantIsKept.{by_refusal, checked, false_n
 use Rattle.delivery.proofs.Core.ByRun.{by_run}
 use Rattle.delivery.proofs.Core.Speaking.{open_in}
 use Rattle.delivery.proofs.Core.Started.{begins_in, begins_more, begins_count, begins_at}
-use Rattle.delivery.proofs.Core.AccountOfRun.{IsRefusal, run_of, core_is, world_is, account_is, connection_is, in_option, refusal_some, by_answer, replied, either_cut}
+use Rattle.delivery.proofs.Core.AccountOfRun.{IsRefusal, run_of, core_is, world_is, account_is, in_option, refusal_some, by_answer, replied, either_cut}
+use Rattle.delivery.proofs.Core.NextItem.{connection_is}
 use Rattle.delivery.proofs.Views.Runs.ByRunOfCore.{by_world}
 use Rattle.delivery.proofs.Views.Endpoints.EndpointsStay.{if_same}
 use Rattle.delivery.proofs.Views.Endpoints.StandingOfConnection.{grown, grown_once, stands_after, open_there, differ}

@@ -14,7 +14,8 @@ use Rattle.delivery.specs.Core.Account.{account_of, last_of, beginning_of, next_
 use Rattle.delivery.specs.Core.State.{Core}
 use Rattle.delivery.specs.Inner.Stands.{IsReached}
 use Rattle.delivery.proofs.Theorem.NeverRefused.{entries_are_there}
-use Rattle.delivery.proofs.Core.AccountOfRun.{Own, spoken, undecided_is, next_item_is, connection_is}
+use Rattle.delivery.proofs.Core.AccountOfRun.{Own, spoken, undecided_is}
+use Rattle.delivery.proofs.Core.NextItem.{next_item_is, connection_is}
 use Rattle.delivery.proofs.Views.Runs.ByRunOfCore.{by_world, by_account, stand_of}
 use Rattle.delivery.proofs.Core.ClaimsStand.{claims_own}
 
