@@ -127,7 +127,7 @@ pub(super) enum Call {
 pub(super) const SHOWN: usize = 8;
 
 /// What a call answered.
-#[derive(Clone, Copy, Debug, PartialEq, Eq)]
+#[derive(Clone, Copy, PartialEq, Eq)]
 pub(super) enum Answer {
     /// A ticket of this number.
     Ticket(u64),

@@ -79,11 +79,8 @@ fn turned_with(alloc: Global, rows: &[(u32, u64)]) -> Option<(Option<Stamp>, usi
 #[test]
 fn a_part_waits_on_where_its_verdict_is_refused(rt: HostRuntime) {
     let alloc = rt.alloc();
-    assert_eq!(rt;
-        turned_with(alloc, &[(0, 1), (1, 9)]),
-        Some((Some(stamp(9, 1)), 0))
-    );
-    assert_eq!(rt; turned_with(alloc, &[(0, 2), (1, 9)]), Some((None, 1)));
+    assert!(rt; turned_with(alloc, &[(0, 1), (1, 9)]) == Some((Some(stamp(9, 1)), 0)));
+    assert!(rt; turned_with(alloc, &[(0, 2), (1, 9)]) == Some((None, 1)));
 }
 
 /// What two turns tell of a subscription whose queue has room for one item: the first releases two parts, the second
@@ -156,7 +153,7 @@ fn released_of(alloc: Global, topic: Topic, part: Arc<Part>, flight: &Flight) ->
 
 #[test]
 fn two_topics_learn_one_stamp(rt: HostRuntime) {
-    assert_eq!(rt; two_topics(rt.alloc()), Some([stamp(1, 1), stamp(1, 1)]));
+    assert!(rt; two_topics(rt.alloc()) == Some([stamp(1, 1), stamp(1, 1)]));
 }
 
 /// Counts tickets up to a limit, past which it refuses.
@@ -213,10 +210,10 @@ fn what_is_counted_is_given(rt: HostRuntime) {
         };
         match entered_by(alloc, &mut group, &mut counter) {
             None => {}
-            Some(Ok(n)) => assert_eq!(rt; (n, counter.counted, group.waiting_len()), (5, 1, 1)),
+            Some(Ok(n)) => assert!(rt; (n, counter.counted, group.waiting_len()) == (5, 1, 1)),
             Some(Err(fault)) => {
-                assert_eq!(rt; fault, ProposeFault::NoMemory);
-                assert_eq!(rt; (counter.counted, group.waiting_len()), (0, 0));
+                assert!(rt; fault == ProposeFault::NoMemory);
+                assert!(rt; (counter.counted, group.waiting_len()) == (0, 0));
             }
         }
     }
@@ -235,10 +232,7 @@ fn a_full_counter_refuses(rt: HostRuntime) {
         assert!(rt;
             answer == Err(ProposeFault::ClockFull) || answer == Err(ProposeFault::NoMemory)
         );
-        assert_eq!(rt; (counter.counted, group.waiting_len()), (0, 0));
-        assert_eq!(rt;
-            (group.group().clock(), group.group().pending_len()),
-            (4, 0)
-        );
+        assert!(rt; (counter.counted, group.waiting_len()) == (0, 0));
+        assert!(rt; (group.group().clock(), group.group().pending_len()) == (4, 0));
     }
 }

@@ -98,5 +98,5 @@ fn turned_by_cell(alloc: Global) -> Option<(u64, Stamp)> {
 
 #[test]
 fn a_turn_reads_cells(rt: HostRuntime) {
-    assert_eq!(rt; turned_by_cell(rt.alloc()), Some((1, stamp(7, 1))));
+    assert!(rt; turned_by_cell(rt.alloc()) == Some((1, stamp(7, 1))));
 }

@@ -19,14 +19,14 @@ fn running_out_of_memory_changes_nothing(rt: HostRuntime) {
             continue;
         };
         let Err(fault) = answer else {
-            assert_eq!(rt; proposed(answer), Answer::Ticket(8));
+            assert!(rt; proposed(answer) == Answer::Ticket(8));
             continue;
         };
-        assert_eq!(rt; fault, ProposeFault::NoMemory);
-        assert_eq!(rt; group.clock(), 7);
-        assert_eq!(rt; group.pending_len(), 0);
+        assert!(rt; fault == ProposeFault::NoMemory);
+        assert!(rt; group.clock() == 7);
+        assert!(rt; group.pending_len() == 0);
         if let Some(again) = propose(alloc, &mut group, id(1), &[0, 1], 0) {
-            assert_eq!(rt; proposed(again), Answer::Ticket(8));
+            assert!(rt; proposed(again) == Answer::Ticket(8));
         }
     }
 }

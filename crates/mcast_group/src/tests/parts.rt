@@ -32,9 +32,9 @@ fn parts_are_released_by_their_stamps(rt: HostRuntime) {
     let alloc = rt.alloc();
     let mut group = Group::new(alloc, Topic(1), 0, 8);
     assert!(rt; answers(alloc, &mut group, &BY_STAMPS));
-    assert_eq!(rt; group.clock(), 11);
-    assert_eq!(rt; group.frontier(), stamp(11, 2));
-    assert_eq!(rt; group.held_len(), 2);
+    assert!(rt; group.clock() == 11);
+    assert!(rt; group.frontier() == stamp(11, 2));
+    assert!(rt; group.held_len() == 2);
     assert!(rt; is_row(&group, 0, 1, stamp(10, 0), &[Topic(0), Topic(1)]));
     assert!(rt; is_row(&group, 1, 2, stamp(11, 2), &[Topic(1), Topic(2)]));
     assert!(rt; group.held(2).is_none());
@@ -63,8 +63,8 @@ fn refusals_in_order(rt: HostRuntime) {
     let alloc = rt.alloc();
     let mut group = Group::new(alloc, Topic(0), 0, 2);
     assert!(rt; answers(alloc, &mut group, &REFUSALS));
-    assert_eq!(rt; group.clock(), 6);
-    assert_eq!(rt; group.pending_len(), 1);
+    assert!(rt; group.clock() == 6);
+    assert!(rt; group.pending_len() == 1);
 }
 
 /// Topic 0 with room for one: a row counts until it is drained.
@@ -114,10 +114,10 @@ fn refused_proposals_have_their_titles(rt: HostRuntime) {
 /// The numbers of the faults, by their names in docs/FAULTS.md.
 #[test]
 fn faults_have_their_numbers(rt: HostRuntime) {
-    assert_eq!(rt; ProposeFault::NoMemory.number(), 42);
-    assert_eq!(rt; SubFault::SubInUse.number(), 47);
-    assert_eq!(rt; SubFault::NoMemory.number(), 42);
-    assert_eq!(rt; NoSub.number(), 48);
+    assert!(rt; ProposeFault::NoMemory.number() == 42);
+    assert!(rt; SubFault::SubInUse.number() == 47);
+    assert!(rt; SubFault::NoMemory.number() == 42);
+    assert!(rt; NoSub.number() == 48);
 }
 
 /// Three parts at topic 0.
@@ -139,17 +139,17 @@ fn a_turn_learns_and_releases(rt: HostRuntime) {
         (2, &[(0, 2), (1, 9)]),
         (3, &[(0, 3), (1, 4)]),
     );
-    assert_eq!(rt; waits, Some(0));
-    assert_eq!(rt; group.pending_len(), 3);
+    assert!(rt; waits == Some(0));
+    assert!(rt; group.pending_len() == 3);
     let all = turned(
         alloc,
         &mut group,
         (4, &[(0, 1), (1, 6)]),
         (1, &[(0, 1), (1, 6)]),
     );
-    assert_eq!(rt; all, Some(3));
-    assert_eq!(rt; group.pending_len(), 0);
-    assert_eq!(rt; group.frontier(), stamp(9, 1));
+    assert!(rt; all == Some(3));
+    assert!(rt; group.pending_len() == 0);
+    assert!(rt; group.frontier() == stamp(9, 1));
     assert!(rt; is_row(&group, 0, 3, stamp(4, 1), &[Topic(0), Topic(1)]));
     assert!(rt; is_row(&group, 1, 1, stamp(6, 1), &[Topic(0), Topic(1)]));
     assert!(rt; is_row(&group, 2, 2, stamp(9, 1), &[Topic(0), Topic(1)]));
@@ -172,7 +172,7 @@ fn a_part_that_learns_goes_behind_others(rt: HostRuntime) {
     let mut group = Group::new(alloc, Topic(0), 0, 8);
     assert!(rt; answers(alloc, &mut group, PASSED));
     let all = turned(alloc, &mut group, (8, &[(0, 8)]), (9, &[(0, 9)]));
-    assert_eq!(rt; all, Some(3));
+    assert!(rt; all == Some(3));
     assert!(rt; is_row(&group, 0, 1, stamp(1, 0), &[Topic(0)]));
     assert!(rt; is_row(&group, 1, 3, stamp(3, 0), &[Topic(0)]));
     assert!(rt; is_row(&group, 2, 2, stamp(9, 1), &[Topic(0), Topic(1)]));

@@ -9,7 +9,7 @@ use mcast_txn::Stamp;
 use std::alloc::Global;
 
 /// What happened to a transaction, by its seq, or to a subscription, by its number.
-#[derive(Clone, Copy, Debug, PartialEq, Eq)]
+#[derive(Clone, Copy, PartialEq, Eq)]
 enum Fact {
     /// It was proposed, and its ticket has this number.
     Proposed(u64, u64),

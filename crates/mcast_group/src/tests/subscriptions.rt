@@ -47,7 +47,7 @@ fn a_full_queue_lags(rt: HostRuntime) {
     let alloc = rt.alloc();
     let mut group = Group::new(alloc, Topic(0), 0, 8);
     assert!(rt; answers(alloc, &mut group, &LAG));
-    assert_eq!(rt; group.held_len(), 3);
+    assert!(rt; group.held_len() == 3);
 }
 
 /// Queues of two items, step by step.

@@ -62,7 +62,7 @@ fn commits(rt: HostRuntime) -> Result<(), Fail> {
     ];
     for (row, want) in rows {
         let told = counts(step(rt.alloc(), &row)?);
-        assert_eq!(rt; told, want);
+        assert!(rt; told == want);
     }
     Ok(())
 }

@@ -77,7 +77,7 @@ fn leaves_no_row(alloc: Global, at: usize) -> Result<bool, NoMemory> {
 
 #[test]
 fn one_lost_before_its_commit_leaves_no_row(rt: HostRuntime) -> Result<(), Fail> {
-    assert_eq!(rt; nulls(stream()), FRAMES);
+    assert!(rt; nulls(stream()) == FRAMES);
     for at in 0..stream().len() {
         assert!(rt; leaves_no_row(rt.alloc(), at)?, "lost before octet {at}");
     }

@@ -29,7 +29,7 @@ fn refusals_have_their_titles(rt: HostRuntime) -> Result<(), Fail> {
     let alloc = rt.alloc();
     for &(refusal, number, title) in REFUSALS {
         let message = format!(in alloc; "{refusal}")?;
-        assert_eq!(rt; refusal.number(), number);
+        assert!(rt; refusal.number() == number);
         assert!(rt; refusal.title() == title);
         assert!(rt; message.as_bytes().starts_with(title));
     }
@@ -82,7 +82,7 @@ const ENDS: &[(ConnectionFault, u32, &[u8])] = &[
 #[test]
 fn connections_end_with_their_titles(rt: HostRuntime) {
     for &(fault, number, title) in ENDS {
-        assert_eq!(rt; fault.number(), number);
+        assert!(rt; fault.number() == number);
         assert!(rt; fault.title() == title);
     }
 }

@@ -103,6 +103,6 @@ fn the_1025th_topic_is_made_by_none(rt: HostRuntime) -> Result<(), Fail> {
     assert!(rt; fills(rt.alloc(), &mut net)?);
     assert!(rt; is_full(rt.alloc(), &mut net)?);
     let told = answer(rt.alloc(), &mut net, Ask::Propose(8, 1_023))?;
-    assert_eq!(rt; told.as_str(), "ticket 1");
+    assert!(rt; told.as_str() == "ticket 1");
     Ok(())
 }

@@ -25,35 +25,86 @@ fn print_stamp(text: &mut String, word: &str, stamp: Stamp) -> Result<(), AllocE
     print(text, word, &[stamp.n, stamp.topic.0 as u64])
 }
 
+/// The word of an outcome, and its numbers.
+#[derive(Clone, Copy)]
+struct Words {
+    word: &'static str,
+    many: usize,
+    numbers: [u64; 3],
+}
+
+/// A word alone.
+fn word(word: &'static str) -> Words {
+    Words {
+        word,
+        many: 0,
+        numbers: [0; 3],
+    }
+}
+
+/// A word and a number.
+fn numbered(word: &'static str, n: u64) -> Words {
+    Words {
+        word,
+        many: 1,
+        numbers: [n, 0, 0],
+    }
+}
+
+/// A word and the numbers of a transaction.
+fn of_id(word: &'static str, id: TxnId) -> Words {
+    Words {
+        word,
+        many: 2,
+        numbers: [id.sender.0, id.seq, 0],
+    }
+}
+
+/// A word and the numbers of a stamp.
+fn of_stamp(word: &'static str, stamp: Stamp) -> Words {
+    Words {
+        word,
+        many: 2,
+        numbers: [stamp.n, stamp.topic.0 as u64, 0],
+    }
+}
+
+/// A word, the number of a subscription, and where its span begins or ends.
+fn of_span(word: &'static str, sub: u64, at: Stamp) -> Words {
+    Words {
+        word,
+        many: 3,
+        numbers: [sub, at.n, at.topic.0 as u64],
+    }
+}
+
 /// The word of an outcome whose reply may be left out.
 fn cut_or(cut: bool, word: &'static str) -> &'static str {
     if cut { "cut" } else { word }
 }
 
-fn print_outcome(text: &mut String, outcome: Outcome) -> Result<(), AllocError> {
+fn words_of(outcome: Outcome) -> Words {
     match outcome {
-        Outcome::Opened(c) => print(text, "conn", &[c]),
-        Outcome::Fed => print(text, "fed", &[]),
-        Outcome::Done => print(text, "done", &[]),
-        Outcome::Subscribed(s, from) => print(text, "sub", &[s, from.n, from.topic.0 as u64]),
-        Outcome::Unsubscribed(s, to) => print(text, "unsub", &[s, to.n, to.topic.0 as u64]),
-        Outcome::Flying(id) => print_id(text, "flight", id),
-        Outcome::Proposed(n) => print(text, "ticket", &[n]),
-        Outcome::Failed(fault) => print(text, "failed", &[fault.number() as u64]),
-        Outcome::Decided { stamp, cut } => print_stamp(text, cut_or(cut, "stamp"), stamp),
-        Outcome::Withdrawn { cut } => print(text, cut_or(cut, "withdrawn"), &[]),
-        Outcome::Cancelled => print(text, "cancelled", &[]),
-        Outcome::Learnt => print(text, "learnt", &[]),
-        Outcome::Released(id) => print_id(text, "released", id),
-        Outcome::Turned(count) => print(text, "turned", &[count]),
-        Outcome::Handed(count) => print(text, "handed", &[count]),
-        Outcome::Faulted { fault, cut } => {
-            print(text, cut_or(cut, "error"), &[fault.number() as u64])
-        }
-        Outcome::Leaving => print(text, "leaving", &[]),
-        Outcome::Gone { cut } => print(text, cut_or(cut, "gone"), &[]),
-        Outcome::Refused(why) => print(text, "refused", &[why.number() as u64]),
-        Outcome::NoMemory => print(text, "no memory", &[]),
+        Outcome::Opened(c) => numbered("conn", c),
+        Outcome::Fed => word("fed"),
+        Outcome::Done => word("done"),
+        Outcome::Subscribed(s, from) => of_span("sub", s, from),
+        Outcome::Unsubscribed(s, to) => of_span("unsub", s, to),
+        Outcome::Flying(id) => of_id("flight", id),
+        Outcome::Proposed(n) => numbered("ticket", n),
+        Outcome::Failed(fault) => numbered("failed", fault.number() as u64),
+        Outcome::Decided { stamp, cut } => of_stamp(cut_or(cut, "stamp"), stamp),
+        Outcome::Withdrawn { cut } => word(cut_or(cut, "withdrawn")),
+        Outcome::Cancelled => word("cancelled"),
+        Outcome::Learnt => word("learnt"),
+        Outcome::Released(id) => of_id("released", id),
+        Outcome::Turned(count) => numbered("turned", count),
+        Outcome::Handed(count) => numbered("handed", count),
+        Outcome::Faulted { fault, cut } => numbered(cut_or(cut, "error"), fault.number() as u64),
+        Outcome::Leaving => word("leaving"),
+        Outcome::Gone { cut } => word(cut_or(cut, "gone")),
+        Outcome::Refused(why) => numbered("refused", why.number() as u64),
+        Outcome::NoMemory => word("no memory"),
     }
 }
 
@@ -61,7 +112,11 @@ fn print_outcome(text: &mut String, outcome: Outcome) -> Result<(), AllocError> 
 /// span begins or ends.
 pub(super) fn outcome_text(alloc: Global, outcome: Outcome) -> Result<String, AllocError> {
     let mut text = String::new(alloc);
-    print_outcome(&mut text, outcome)?;
+    let words = words_of(outcome);
+    text.push_str(words.word)?;
+    for n in words.numbers.iter().take(words.many) {
+        write!(text, " {n}")?;
+    }
     Ok(text)
 }
 

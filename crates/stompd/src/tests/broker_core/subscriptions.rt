@@ -80,7 +80,7 @@ fn a_65th_subscription_is_one_too_many(rt: HostRuntime) -> Result<(), Fail> {
     assert!(rt; is_fault(outcome, 69));
     let outcome = step(&mut net, Event::Next(0))?;
     assert!(rt; outcome == Outcome::Refused(Refusal::Busy));
-    assert_eq!(rt; net.report().subscriptions_len(), 64);
+    assert!(rt; net.report().subscriptions_len() == 64);
     assert!(rt; all_leave(&mut net)?);
     Ok(())
 }

@@ -43,7 +43,7 @@ fn topics_are_numbered_as_they_were_added(rt: HostRuntime) -> Result<(), Fail> {
     let mut topics = Topics::new(rt.alloc());
     assert!(rt; topics.is_empty());
     for &(name, clock, may) in OFFERED {
-        assert_eq!(rt; added(&mut topics, name, clock)?, may);
+        assert!(rt; added(&mut topics, name, clock)? == may);
     }
     assert!(rt; !topics.is_empty());
     assert!(rt; are_topics(&topics, ADDED));
@@ -66,7 +66,7 @@ fn the_1025th_topic_isnt_added(rt: HostRuntime) -> Result<(), Fail> {
     for letter in 0..32u8 {
         assert!(rt; are_added(&mut topics, letter)?);
     }
-    assert_eq!(rt; topics.len(), MAX_TOPICS);
+    assert!(rt; topics.len() == MAX_TOPICS);
     assert!(rt; !topics.may_add(b"one more"));
     Ok(())
 }

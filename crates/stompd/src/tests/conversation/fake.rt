@@ -14,7 +14,7 @@ use stomp_frame::ClientFrame;
 use stomp_session::{Names, Session, Step};
 
 /// A call, and what it was answered.
-#[derive(Clone, Copy, Debug, PartialEq, Eq)]
+#[derive(Clone, Copy, PartialEq, Eq)]
 pub(super) enum Row {
     /// A sender was to be claimed; whether it was.
     Claims(bool),

@@ -147,6 +147,6 @@ fn takes_at(alloc: Global, waiting: usize) -> Option<bool> {
 
 #[test]
 fn nothing_is_taken_while_65_536_octets_wait(rt: HostRuntime) {
-    assert_eq!(rt; takes_at(rt.alloc(), 65_535), Some(true));
-    assert_eq!(rt; takes_at(rt.alloc(), 65_536), Some(false));
+    assert!(rt; takes_at(rt.alloc(), 65_535) == Some(true));
+    assert!(rt; takes_at(rt.alloc(), 65_536) == Some(false));
 }

@@ -12,7 +12,7 @@ use std::process::Abort;
 use std::sync::Arc;
 
 /// What a commit answers, what its gate's floor is then, and what was seen.
-#[derive(Clone, Copy, Debug, PartialEq, Eq)]
+#[derive(Clone, Copy, PartialEq, Eq)]
 struct Answer {
     answer: Result<Stamp, CommitFault>,
     floor: Stamp,
@@ -77,7 +77,7 @@ fn parts_are_entered_by_rising_topic(rt: HostRuntime) {
 #[test]
 fn the_topic_breaks_a_tie(rt: HostRuntime) {
     let answer = answer_to(&rt, rt.alloc(), &[0, 1], None);
-    assert_eq!(rt; answer.map(|answer| answer.answer), Some(Ok(stamp(11, 1))));
+    assert!(rt; answer.map(|answer| answer.answer) == Some(Ok(stamp(11, 1))));
 }
 
 /// What a topic refuses a part by, and what the commit answers then.
@@ -121,10 +121,7 @@ fn a_refused_commit_cancels_what_it_entered(rt: HostRuntime) {
 #[test]
 fn a_topic_without_a_number_refuses(rt: HostRuntime) {
     let answer = answer_to(&rt, rt.alloc(), &[3], None);
-    assert_eq!(rt;
-        answer.map(|answer| answer.answer),
-        Some(Err(CommitFault::ClockFull))
-    );
+    assert!(rt; answer.map(|answer| answer.answer) == Some(Err(CommitFault::ClockFull)));
 }
 
 /// Before the second proposal, it sets another verdict of this flight.

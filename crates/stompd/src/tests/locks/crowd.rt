@@ -205,7 +205,7 @@ where
 /// What a run with six threads gives: how many rows were released, by the heads and by a last turn of each topic; how many
 /// items a subscription at topic 0 took that was there from the beginning and was read at the end alone, and why it ended;
 /// whether each subscription took just its rows; whether the trace has just the commits that were made.
-#[derive(Clone, Copy, Debug, PartialEq, Eq)]
+#[derive(Clone, Copy, PartialEq, Eq)]
 struct Found {
     released: u64,
     unread: (usize, Cause),
@@ -324,7 +324,7 @@ fn each_of_a_crowd_takes_its_rows(rt: HostRuntime) -> Result<(), Fail> {
     };
     for run in 0..8 {
         let opening = three_topics(rt.alloc(), 512)?;
-        assert_eq!(rt; crowded(&rt, rt.alloc(), opening, run), Some(wanted));
+        assert!(rt; crowded(&rt, rt.alloc(), opening, run) == Some(wanted));
     }
     Ok(())
 }
@@ -340,7 +340,7 @@ fn those_of_a_crowd_that_lag_take_their_rows(rt: HostRuntime) -> Result<(), Fail
     };
     for run in 8..16 {
         let opening = three_topics(rt.alloc(), 2)?;
-        assert_eq!(rt; crowded(&rt, rt.alloc(), opening, run), Some(wanted));
+        assert!(rt; crowded(&rt, rt.alloc(), opening, run) == Some(wanted));
     }
     Ok(())
 }

@@ -15,7 +15,7 @@ use std::process::Abort;
 use std::sync::Arc;
 
 /// A call that was answered.
-#[derive(Clone, Copy, Debug, PartialEq, Eq)]
+#[derive(Clone, Copy, PartialEq, Eq)]
 pub(super) enum Call {
     /// The part at this topic was entered, with a floor of this number, and got this number.
     Entered(u32, u64, u64),

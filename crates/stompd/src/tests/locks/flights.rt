@@ -56,7 +56,7 @@ impl Point for Quiet {
 }
 
 /// The points that a commit came to: each topic, and the index of its proposal.
-#[derive(Clone, Copy, Debug, PartialEq, Eq)]
+#[derive(Clone, Copy, PartialEq, Eq)]
 pub(super) struct Points {
     pub(super) at: [Option<(u32, usize)>; 4],
 }

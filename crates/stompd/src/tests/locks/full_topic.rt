@@ -42,7 +42,7 @@ struct FullTopic;
 
 /// How many commits fill the topic, and what refuses the next; what the commits that cross answer; what the heads answer
 /// then; and what the same commit answers after that.
-#[derive(Clone, Copy, Debug, PartialEq, Eq)]
+#[derive(Clone, Copy, PartialEq, Eq)]
 struct Found {
     filled: (u64, CommitFault),
     crossed: Crossed,
@@ -135,7 +135,7 @@ fn a_topic_without_a_number_refuses_a_commit(rt: HostRuntime) -> Result<(), Fail
 struct RefusedGate;
 
 /// By which fault it is refused; the gate's sender, its sequence number and its floor then; and what the next one answers.
-#[derive(Clone, Copy, Debug, PartialEq, Eq)]
+#[derive(Clone, Copy, PartialEq, Eq)]
 struct After {
     fault: CommitFault,
     gate: (u64, u64, Stamp),

@@ -100,7 +100,7 @@ where
 }
 
 /// What they answer; then what the heads answer, and what the subscription at each topic takes.
-#[derive(Clone, Copy, Debug, PartialEq, Eq)]
+#[derive(Clone, Copy, PartialEq, Eq)]
 struct Found {
     answers: [Option<Result<Stamp, CommitFault>>; 2],
     released: [Option<u64>; 2],

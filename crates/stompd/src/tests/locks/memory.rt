@@ -126,7 +126,7 @@ struct Connection;
 /// The number and the beginning of the subscription; its state after the turn; whether the topic released one row; whether the
 /// first item, and no more, has the commit's stamp, at which the subscription ends, and which is the floor of the gate that is
 /// claimed again.
-#[derive(Clone, Copy, Debug, PartialEq, Eq)]
+#[derive(Clone, Copy, PartialEq, Eq)]
 struct Found {
     begun: (u64, Stamp),
     state: Option<SubState>,

@@ -19,7 +19,7 @@ struct TwoConnections;
 
 /// By which number the second claim is refused while the first connection has the gate; the gate's sender, number and floor
 /// when it is claimed again; both commits' stamps; and what topic 0 gives.
-#[derive(Clone, Copy, Debug, PartialEq, Eq)]
+#[derive(Clone, Copy, PartialEq, Eq)]
 struct Found {
     refused: Option<u32>,
     gate: (u64, u64, Stamp),

@@ -46,7 +46,7 @@ fn three_taken<R: Wait>(rt: &R, begun: &mut Subscribed) -> [Option<(u64, Stamp)>
 struct TwoSpans;
 
 /// A subscription: its number and its beginning, what it takes, and how it ends.
-#[derive(Clone, Copy, Debug, PartialEq, Eq)]
+#[derive(Clone, Copy, PartialEq, Eq)]
 struct Span {
     sub: u64,
     start: Stamp,
@@ -56,7 +56,7 @@ struct Span {
 
 /// The stamps of the three commits; what the heads answer, of topic 1, and then of topics 0, 1 and 2; both subscriptions, and
 /// the second one's state after the first one's end.
-#[derive(Clone, Copy, Debug, PartialEq, Eq)]
+#[derive(Clone, Copy, PartialEq, Eq)]
 struct Found {
     stamps: [Stamp; 3],
     released: [Option<u64>; 4],

@@ -78,7 +78,7 @@ pub(super) fn left<R: Wait, W: Side, T: Side>(
 struct AtTheirTopics;
 
 /// The states at both topics, what the first item of each subscription is, and what is left.
-#[derive(Clone, Copy, Debug, PartialEq, Eq)]
+#[derive(Clone, Copy, PartialEq, Eq)]
 struct Found {
     states: [[Option<SubState>; 3]; 2],
     items: [Option<(u64, Stamp)>; 3],
@@ -194,10 +194,7 @@ impl<R: Wait> Job<R> for AfterARefusal {
 fn a_refused_commit_leaves_nothing_pending(rt: HostRuntime) -> Result<(), Fail> {
     let opening = Opening::new(rt.alloc(), &[0, 0], 1, false)?;
     let (answers, released) = with_broker(&rt, rt.alloc(), opening, AfterARefusal)?;
-    assert_eq!(rt;
-        answers,
-        [Some(Err(CommitFault::Twice)), Some(Ok(stamp(2, 0)))]
-    );
-    assert_eq!(rt; released, [Some(1), Some(0)]);
+    assert!(rt; answers == [Some(Err(CommitFault::Twice)), Some(Ok(stamp(2, 0)))]);
+    assert!(rt; released == [Some(1), Some(0)]);
     Ok(())
 }

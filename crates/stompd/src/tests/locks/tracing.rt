@@ -181,5 +181,5 @@ fn added_twice<R: Wait>(rt: &R, alloc: Global, text: &[u8]) -> Option<(u32, bool
 #[test]
 fn a_second_span_does_not_fit(rt: HostRuntime) {
     let text = b"log 0 0 1 1.0 0\nlog 0 0 1 1.0 0\nspan 5 0 0.0 -\nqueue 5 0 1 1.0\n".as_slice();
-    assert_eq!(rt; added_twice(&rt, rt.alloc(), text), Some((98, true)));
+    assert!(rt; added_twice(&rt, rt.alloc(), text) == Some((98, true)));
 }

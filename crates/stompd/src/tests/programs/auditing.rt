@@ -103,7 +103,7 @@ fn slow_peers(rt: HostRuntime) -> Result<(), Fail> {
     for &(input, output, status) in ROWS {
         for interrupted in [false, true] {
             let told = slowly(rt.alloc(), Asked::Audit, input, output, interrupted)?;
-            assert_eq!(rt; told, (Ok(status), true, 0));
+            assert!(rt; told == (Ok(status), true, 0));
         }
     }
     Ok(())
@@ -119,9 +119,9 @@ fn each_read_fails(rt: HostRuntime) -> Result<(), Fail> {
         reader.inner.fails_at = fails_at;
         let mut writer = Counting::new(Target::with_room(alloc, 1024)?);
         let ended = run_audit(alloc, &mut reader, &mut writer);
-        assert_eq!(rt; ended, Err(ProgramFault::Io));
-        assert_eq!(rt; reader.failures, 1);
-        assert_eq!(rt; writer.calls, 0);
+        assert!(rt; ended == Err(ProgramFault::Io));
+        assert!(rt; reader.failures == 1);
+        assert!(rt; writer.calls == 0);
         assert!(rt; writer.inner.taken.is_empty());
     }
     Ok(())
@@ -138,9 +138,9 @@ fn each_write_fails(rt: HostRuntime) -> Result<(), Fail> {
         writer.inner.fails_at = fails_at;
         writer.inner.fails_flush = true;
         let ended = run_audit(alloc, &mut reader, &mut writer);
-        assert_eq!(rt; ended, Err(ProgramFault::Io));
-        assert_eq!(rt; writer.failures, 1);
-        assert_eq!(rt; writer.inner.taken.len() + 1, fails_at);
+        assert!(rt; ended == Err(ProgramFault::Io));
+        assert!(rt; writer.failures == 1);
+        assert!(rt; writer.inner.taken.len() + 1 == fails_at);
     }
     Ok(())
 }
@@ -151,8 +151,8 @@ fn a_write_takes_nothing(rt: HostRuntime) -> Result<(), Fail> {
     let mut writer = Counting::new(Target::with_room(rt.alloc(), 64)?);
     writer.inner.at_once = 0;
     let ended = run_audit(rt.alloc(), &mut reader, &mut writer);
-    assert_eq!(rt; ended, Err(ProgramFault::Io));
-    assert_eq!(rt; writer.failures, 1);
+    assert!(rt; ended == Err(ProgramFault::Io));
+    assert!(rt; writer.failures == 1);
     Ok(())
 }
 
@@ -166,7 +166,7 @@ fn too_long(rt: HostRuntime) -> Result<(), Fail> {
     });
     let mut writer = Counting::new(Target::with_room(alloc, 64)?);
     let ended = run_audit(alloc, &mut reader, &mut writer);
-    assert_eq!(rt; ended, Ok(2));
+    assert!(rt; ended == Ok(2));
     assert!(rt; writer.inner.taken.as_slice() == b"bad 112 TooLong\n".as_slice());
     Ok(())
 }

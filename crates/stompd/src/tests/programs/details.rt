@@ -146,7 +146,7 @@ fn too_long(rt: HostRuntime) -> Result<(), Fail> {
             at_once: usize::MAX,
         };
         let (status, text) = told(rt.alloc(), words, reader, &mut writer)?;
-        assert_eq!(rt; status, 2);
+        assert!(rt; status == 2);
         let line = "112 TooLong: give at most 16,777,216 octets of input";
         assert!(rt; text.as_deref() == Some(line));
     }
@@ -161,7 +161,7 @@ fn a_read_fails(rt: HostRuntime) -> Result<(), Fail> {
         let mut reader = Source::of(b"open\n");
         reader.fails_at = 1;
         let (status, text) = told(rt.alloc(), words, reader, &mut writer)?;
-        assert_eq!(rt; status, 5);
+        assert!(rt; status == 5);
         assert!(rt; text.as_deref() == Some("reading: timed out"));
     }
     Ok(())
@@ -185,7 +185,7 @@ fn a_write_fails(rt: HostRuntime) -> Result<(), Fail> {
         writer.inner.fails_at = fails_at;
         writer.inner.fails_flush = fails_flush;
         let (status, text) = told(rt.alloc(), "audit", Source::of(b""), &mut writer)?;
-        assert_eq!(rt; status, 5);
+        assert!(rt; status == 5);
         assert!(rt; text.as_deref() == Some(line));
     }
     Ok(())

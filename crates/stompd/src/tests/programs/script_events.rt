@@ -105,7 +105,7 @@ fn are_events(alloc: Global, text: &[u8], wanted: &[(&[u8], u64)]) -> bool {
 }
 
 /// What reading a TEXT came to.
-#[derive(Clone, Copy, Debug, PartialEq, Eq)]
+#[derive(Clone, Copy, PartialEq, Eq)]
 enum Reading {
     /// It spells the octets that were wanted.
     Wanted,

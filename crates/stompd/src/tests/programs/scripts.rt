@@ -6,7 +6,7 @@ use std::alloc::Global;
 use std::test::Fail;
 
 /// What reading a text came to.
-#[derive(Clone, Copy, Debug, PartialEq, Eq)]
+#[derive(Clone, Copy, PartialEq, Eq)]
 enum Reading {
     /// It is a script with this capacity, so many topics and so many events.
     Script(usize, usize, usize),

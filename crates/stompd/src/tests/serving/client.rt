@@ -25,7 +25,7 @@ const FRAME: u32 = 4_096;
 const MOST: u32 = 1_000_000;
 
 /// What came of what a client waits for.
-#[derive(Clone, Copy, Debug, PartialEq, Eq)]
+#[derive(Clone, Copy, PartialEq, Eq)]
 pub(super) enum Came {
     /// It came.
     Wanted,

@@ -76,10 +76,7 @@ fn lines_that_find_no_room_are_lost(rt: HostRuntime) -> Result<(), Fail> {
     let Some((lost, kept)) = lines.as_slice().split_first() else {
         return Err(Fail::new("no line"));
     };
-    assert_eq!(rt;
-        lost.as_str(),
-        "[WARN  serve] 6 lines of this log were lost"
-    );
+    assert!(rt; lost.as_str() == "[WARN  serve] 6 lines of this log were lost");
     assert!(rt; are_first(rt.alloc(), kept, ROOM)?);
     Ok(())
 }

@@ -143,6 +143,6 @@ fn has_line(alloc: Global, outcome: &Outcome, line: &[u8]) -> Result<bool, NoMem
 #[test]
 fn outcomes_have_their_lines(rt: HostRuntime) {
     for &(outcome, line) in LINES {
-        assert_eq!(rt; has_line(rt.alloc(), &outcome, line), Ok(true));
+        assert!(rt; has_line(rt.alloc(), &outcome, line) == Ok(true));
     }
 }
