@@ -5,6 +5,7 @@ mod drawn;
 mod ending;
 mod errors;
 mod lines;
+mod log_lines;
 mod logged;
 mod made;
 mod many;

@@ -13,9 +13,16 @@ use std::sync::{Mutex, Wait};
 /// A log that keeps its lines.
 #[derive(Clone, Copy)]
 pub(super) struct Kept<'a, R: Wait> {
-    pub(super) rt: &'a R,
-    pub(super) alloc: Global,
-    pub(super) lines: &'a Mutex<Vec<String>>,
+    rt: &'a R,
+    alloc: Global,
+    lines: &'a Mutex<Vec<String>>,
+}
+
+impl<'a, R: Wait> Kept<'a, R> {
+    /// One that keeps its lines here.
+    pub(super) fn here(rt: &'a R, alloc: Global, lines: &'a Mutex<Vec<String>>) -> Kept<'a, R> {
+        Kept { rt, alloc, lines }
+    }
 }
 
 impl<'a, R: Wait> Log for Kept<'a, R> {
@@ -119,11 +126,7 @@ fn tell_all(alloc: Global, lines: &[String]) -> bool {
 #[test]
 fn the_log_says_who_came_and_why_they_left(rt: HostRuntime) {
     let lines = Mutex::new(Vec::new(rt.alloc()));
-    let kept = Kept {
-        rt: &rt,
-        alloc: rt.alloc(),
-        lines: &lines,
-    };
+    let kept = Kept::here(&rt, rt.alloc(), &lines);
     let logged = Logged::new(rt, LevelFilter::Info, kept);
     assert!(rt; serves(&logged, rt.alloc(), &LeavingPeers, 1));
     assert!(rt; tell_all(rt.alloc(), lines.lock(&rt).as_slice()));

@@ -24,10 +24,11 @@ fn send_of(alloc: Global, count: usize) -> Option<String> {
     Some(text)
 }
 
-/// Whether the MESSAGE of this number comes next, with this body and the NULL behind it.
+/// Whether the MESSAGE of this number at A comes next, with this body and the NULL behind it.
 fn hears_number(client: &mut Client, alloc: Global, number: u64, body: &[u8]) -> bool {
+    let count = body.len().saturating_sub(1);
     let head = format!(in alloc;
-        "MESSAGE\nsubscription:s\nmessage-id:{number}.0.0\ndestination:A\ncontent-length:{BODY}\n\n"
+        "MESSAGE\nsubscription:s\nmessage-id:{number}.0.0\ndestination:A\ncontent-length:{count}\n\n"
     );
     match head {
         Ok(head) => {
@@ -198,6 +199,46 @@ fn is_given_up(slow: &mut Client, other: &mut Client) -> bool {
     false
 }
 
+/// How many SENDs come to one that never reads: fewer than a queue holds, so that it doesn't lag, and together more octets
+/// than the systems on the way take.
+const UNREAD: u64 = 60;
+
+/// How many octets each of them has in its body. One of them and what an item may be taken behind are fewer octets than
+/// those at which nothing more is read.
+const LARGE: usize = 700_000;
+
+/// Whether the MESSAGE of the SEND to B of this number comes next.
+fn hears_at_b(client: &mut Client, alloc: Global, number: u64) -> bool {
+    let text = format!(in alloc;
+        "MESSAGE\nsubscription:t\nmessage-id:{number}.1.0\ndestination:B\ncontent-length:2\n\nhi\0"
+    );
+    match text {
+        Ok(text) => client.hears(text.as_str()),
+        Err(_) => false,
+    }
+}
+
+/// Whether the other sends to A, and both subscribe there; then the slow one sends to B, which the other reads. So the
+/// server has heard the slow one after it had an item for it, and writes before it hears it again.
+fn fills(slow: &mut Client, other: &mut Client, alloc: Global) -> bool {
+    let Some(text) = send_of(alloc, LARGE) else {
+        return false;
+    };
+    let Some(body) = text.as_bytes().get(HEAD.len()..) else {
+        return false;
+    };
+    for number in 1..=UNREAD {
+        let sent = other.sends(text.as_str()) && hears_number(other, alloc, number, body);
+        if !sent
+            || !slow.sends("SEND\ndestination:B\n\nhi\0")
+            || !hears_at_b(other, alloc, number)
+        {
+            return false;
+        }
+    }
+    true
+}
+
 /// One subscribes, has more waiting than it can be told, and is refused a frame; it never reads its ERROR.
 #[derive(Drop)]
 pub(super) struct Silent;
@@ -211,14 +252,17 @@ impl Peers for Silent {
         let Some(mut slow) = Client::subscribed(alloc, lines) else {
             return false;
         };
-        let Some(mut sender) = Client::connected(alloc, lines) else {
+        let Some(mut other) = Client::subscribed(alloc, lines) else {
             return false;
         };
-        bursts(&mut sender, alloc) && slow.sends("ACK\n\n\0") && is_given_up(&mut slow, &mut sender)
+        other.asks(TO_B.0, TO_B.1)
+            && fills(&mut slow, &mut other, alloc)
+            && slow.sends("ACK\n\n\0")
+            && is_given_up(&mut slow, &mut other)
     }
 }
 
 #[test]
 fn one_that_never_reads_its_error_is_closed(rt: HostRuntime) {
-    assert!(rt; serves(&quiet(rt), rt.alloc(), &Silent, 400));
+    assert!(rt; serves(&quiet(rt), rt.alloc(), &Silent, 120));
 }

@@ -1,0 +1,128 @@
+//! What a server says in its log of peers that lag, don't read, are gone or find no place, and of an address that it can't
+//! have.
+
+use super::ending::at_a_used_address;
+use super::logged::Kept;
+use super::many::Many;
+use super::peers::Reset;
+use super::served::serves;
+use super::slow::{OneOfTwo, Silent};
+use log::{LevelFilter, Logged};
+use std::sync::Mutex;
+
+/// What stands between this front and that back, in the one line that has both.
+fn between<'a>(lines: &'a [String], front: &str, back: &str) -> Option<&'a str> {
+    let mut found = None;
+    let mut count = 0usize;
+    for line in lines {
+        if let Some(rest) = line.as_str().strip_prefix(front)
+            && let Some(middle) = rest.strip_suffix(back)
+        {
+            found = Some(middle);
+            count = count.saturating_add(1);
+        }
+    }
+    if count == 1 { found } else { None }
+}
+
+/// Whether this is the number of a port.
+fn is_port(text: &str) -> bool {
+    text.parse::<u16>().is_ok()
+}
+
+/// Whether these lines say once, of the first connection, that it left so.
+fn says_of_first(lines: &[String], left: &str) -> bool {
+    match between(lines, "[INFO  serve] connection 0 of 127.0.0.1:", left) {
+        Some(port) => is_port(port),
+        None => false,
+    }
+}
+
+/// How many items behind the first connection lagged at A, where these lines say it once.
+fn lagged_behind(lines: &[String]) -> Option<u64> {
+    let front = "[WARN  serve] connection 0 of 127.0.0.1:";
+    let middle = between(lines, front, " items behind")?;
+    let (port, number) = middle.split_once(" lagged at the topic A: ")?;
+    if is_port(port) {
+        number.parse::<u64>().ok()
+    } else {
+        None
+    }
+}
+
+/// The first subscribes to A and B, and doesn't read while 400 items come to A, and one to B. A queue holds 64 of them.
+#[test]
+fn the_log_says_who_lagged(rt: HostRuntime) {
+    let lines = Mutex::new(Vec::new(rt.alloc()));
+    let kept = Kept::here(&rt, rt.alloc(), &lines);
+    let logged = Logged::new(rt, LevelFilter::Info, kept);
+    assert!(rt; serves(&logged, rt.alloc(), &OneOfTwo, 401));
+    let said = lines.lock(&rt);
+    let behind = lagged_behind(said.as_slice());
+    assert!(rt;
+        behind.is_some_and(|items| items >= 64 && items < 400),
+        "{behind:?}"
+    );
+    assert!(rt; says_of_first(said.as_slice(), " left: ERROR 74 Lagged"));
+    assert_eq!(rt; said.len(), 6);
+}
+
+/// The first is sent more than it reads, is refused a frame, and doesn't read its ERROR.
+#[test]
+fn the_log_says_who_never_read_its_error(rt: HostRuntime) {
+    let lines = Mutex::new(Vec::new(rt.alloc()));
+    let kept = Kept::here(&rt, rt.alloc(), &lines);
+    let logged = Logged::new(rt, LevelFilter::Info, kept);
+    assert!(rt; serves(&logged, rt.alloc(), &Silent, 120));
+    let said = lines.lock(&rt);
+    let left = " left: ERROR 21 Unsupported, closed after 100 polls that brought nothing out";
+    assert!(rt; says_of_first(said.as_slice(), left));
+    assert_eq!(rt; said.len(), 5);
+}
+
+/// The second resets its connection, which a read or a write finds.
+#[test]
+fn the_log_says_who_is_gone(rt: HostRuntime) {
+    let lines = Mutex::new(Vec::new(rt.alloc()));
+    let kept = Kept::here(&rt, rt.alloc(), &lines);
+    let logged = Logged::new(rt, LevelFilter::Info, kept);
+    assert!(rt; serves(&logged, rt.alloc(), &Reset, 3));
+    let said = lines.lock(&rt);
+    let front = "[INFO  serve] connection 1 of 127.0.0.1:";
+    let by_read = between(said.as_slice(), front, " left: its peer closed it");
+    let by_write = between(said.as_slice(), front, " left: a write failed");
+    assert!(rt; by_read.or(by_write).is_some_and(|port| is_port(port)));
+    assert!(rt; by_read.is_none() || by_write.is_none());
+    assert_eq!(rt; said.len(), 9);
+}
+
+/// 256 are there, and one more comes.
+#[test]
+fn the_log_says_how_many_were_refused(rt: HostRuntime) {
+    let lines = Mutex::new(Vec::new(rt.alloc()));
+    let kept = Kept::here(&rt, rt.alloc(), &lines);
+    let logged = Logged::new(rt, LevelFilter::Info, kept);
+    assert!(rt; serves(&logged, rt.alloc(), &Many, 256));
+    let said = lines.lock(&rt);
+    let refused = "[WARN  serve] refused 1 connections: 256 are there";
+    assert!(rt; between(said.as_slice(), refused, "").is_some());
+    assert_eq!(rt; said.len(), 514);
+}
+
+/// Another listens at the address.
+#[test]
+fn the_log_says_where_it_cannot_listen(rt: HostRuntime) {
+    let lines = Mutex::new(Vec::new(rt.alloc()));
+    let kept = Kept::here(&rt, rt.alloc(), &lines);
+    let logged = Logged::new(rt, LevelFilter::Info, kept);
+    assert!(rt; at_a_used_address(&logged, rt.alloc()).is_some());
+    let said = lines.lock(&rt);
+    let rest = between(
+        said.as_slice(),
+        "[ERROR serve] can't listen at 127.0.0.1:",
+        "",
+    );
+    let parted = rest.and_then(|rest| rest.split_once(": "));
+    assert!(rt; parted.is_some_and(|(port, reason)| is_port(port) && !reason.is_empty()));
+    assert_eq!(rt; said.len(), 1);
+}
