@@ -6,6 +6,7 @@ ghost use Rattle.std.specs.Option.{option_map};
 use crate::log_rows::LogRows;
 use crate::row::Row;
 use crate::segment::{SEGMENT_ROWS, Segment};
+use crate::segment_rows::SegmentRows;
 use mcast_txn::NoMemory;
 use std::alloc::Global;
 use std::collections::VecDeque;
@@ -135,6 +136,9 @@ impl Log {
         if self.len == 0 {
             return self.drain_none(more);
         }
+        if self.len == 1 {
+            return self.drain_one(more);
+        }
         if self.len < SEGMENT_ROWS {
             return self.drain_first(more);
         }
@@ -165,7 +169,22 @@ impl Log {
         ensures capacity { self.old.capacity ≤ self.new.capacity }
     {
         self.reserve(more)?;
-        Ok(LogRows::new(VecDeque::new(self.alloc), Log::new(self.alloc)))
+        Ok(LogRows::of_many(SegmentRows::new(VecDeque::new(self.alloc), Log::new(self.alloc))))
+    }
+
+    /// The same where there is one row, which is moved out with no memory of its own.
+    fn drain_one(&mut self, more: usize) -> Result<LogRows, NoMemory>
+        requires { length self.old.items ≡ 1 }
+        ensures rows { IfOk result (λ rows. rows ≡ self.old.items) }
+        ensures none { OnOk result (self.new.items ≡ []) }
+        ensures room { OnOk result (more ≤ self.new.capacity) }
+        ensures err { OnErr result (self.new.items ≡ self.old.items) }
+        ensures capacity { OnErr result (self.old.capacity ≤ self.new.capacity) }
+    {
+        self.reserve(more.saturating_sub(1))?;
+        let row = self.segments[0].take_only();
+        self.len = 0;
+        Ok(LogRows::of_one(self.alloc, row))
     }
 
     /// The same where the first segment alone has rows: they are moved out of it, and it stays with its room.
@@ -181,7 +200,7 @@ impl Log {
         self.reserve(more.saturating_sub(self.len))?;
         let rows = self.segments[0].take_rows(self.alloc)?;
         self.len = 0;
-        Ok(LogRows::new(rows, Log::new(self.alloc)))
+        Ok(LogRows::of_many(SegmentRows::new(rows, Log::new(self.alloc))))
     }
 
     /// The same by whole segments, whose rows aren't moved.
@@ -201,7 +220,7 @@ impl Log {
             segments: mem::replace(&mut self.segments, rest),
             len: mem::replace(&mut self.len, 0),
         };
-        Ok(LogRows::new(VecDeque::new(self.alloc), drained))
+        Ok(LogRows::of_many(SegmentRows::new(VecDeque::new(self.alloc), drained)))
     }
 
     /// Takes out the first segment, if the log has a row.

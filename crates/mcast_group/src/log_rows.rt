@@ -1,56 +1,74 @@
 //! Rows that were drained from a topic's log.
 
-ghost use Rattle.std.specs.Prelude.{◌≡◌, ◌+◌, ◌++◌, ◌<◌, ◌^◌, length, slice_get, IfNone, IfSome, [], ◌∷◌};
+ghost use Rattle.std.specs.Prelude.{◌≡◌, length, slice_get, IfNone, IfSome, [], ◌∷◌};
 ghost use Rattle.std.specs.Option.{option_map};
 ghost use Rattle.mcast_txn.specs.Span.{LogRow};
 
 use crate::log::Log;
 use crate::row::Row;
+use crate::segment_rows::SegmentRows;
+use std::alloc::Global;
 use std::collections::VecDeque;
 use std::marker::Model;
 
 /// Rows that were drained from a topic's log, in their order. In contracts it is the list of those that weren't taken.
 #[derive(Drop)]
 pub struct LogRows {
-    /// What is left of the segment whose rows are taken.
-    first: VecDeque<Row>,
-    rest: Log,
+    /// The row of a log that had no other: it takes no memory of its own, and then there are no others here.
+    only: Option<Row>,
+    /// The rows of a log that had several.
+    many: SegmentRows,
 }
 
 impl Model for LogRows {
-    ghost use Rattle.std.specs.Prelude.{◌+◌, ◌++◌, ◌<◌, ◌^◌, List, length};
+    ghost use Rattle.std.specs.Prelude.{◌≡◌, ◌++◌, [], IfSome, List};
+    ghost use Rattle.std.specs.Option.{option_to_list};
     ghost use Rattle.mcast_txn.specs.Span.{LogRow};
 
     ghost Value = { List LogRow };
 
-    ghost view = { λ r. r.first.items ++ r.rest.items };
+    ghost view = { λ r. option_to_list r.only ++ r.many };
 
-    ghost invariant = { λ r. length r.first.items + length r.rest.items < 2 ^ 64 };
+    ghost invariant = { λ r. IfSome r.only (λ _. r.many ≡ []) };
 }
 
 impl LogRows {
-    /// The first rows, and the rest of them, which are moved and not copied.
-    pub(crate) fn new(first: VecDeque<Row>, rest: Log) -> LogRows
-        requires fits { length first.items + length rest.items < 2 ^ 64 }
-        ensures { result ≡ first.items ++ rest.items }
+    /// These.
+    pub(crate) fn of_many(many: SegmentRows) -> LogRows
+        ensures { result ≡ many }
     {
-        LogRows { first, rest }
+        LogRows { only: None, many }
+    }
+
+    /// This row alone.
+    pub(crate) fn of_one(alloc: Global, row: Row) -> LogRows
+        ensures { result ≡ row ∷ [] }
+    {
+        let none = SegmentRows::new(VecDeque::new(alloc), Log::new(alloc));
+        LogRows {
+            only: Some(row),
+            many: none,
+        }
     }
 
     /// How many rows there are.
     pub fn len(&self) -> usize
         ensures { result ≡ length self.now }
     {
-        self.first.len() + self.rest.len()
+        match &self.only {
+            Some(_) => 1,
+            None => self.many.len(),
+        }
     }
 
     /// The row at index `i`, from 0, or `None` past the last.
     pub fn row(&self, i: usize) -> Option<&Row>
         ensures { option_map (λ row. row.now) result ≡ slice_get self.now i }
     {
-        match i.checked_sub(self.first.len()) {
-            None => self.first.get(i),
-            Some(past) => self.rest.row(past),
+        match &self.only {
+            Some(row) if i == 0 => Some(row),
+            Some(_) => None,
+            None => self.many.row(i),
         }
     }
 
@@ -59,11 +77,9 @@ impl LogRows {
         ensures some { IfSome result (λ row. self.old ≡ row ∷ self.new) }
         ensures none { IfNone result ((self.old ≡ []) × (self.new ≡ [])) }
     {
-        if self.first.is_empty()
-            && let Some(rows) = self.rest.take_segment()
-        {
-            self.first = rows;
+        match self.only.take() {
+            Some(row) => Some(row),
+            None => self.many.take_first(),
         }
-        self.first.pop_front()
     }
 }

@@ -42,8 +42,8 @@ impl Proposal {
         Ok(Proposal { prepared, flight })
     }
 
-    /// Makes a copy of the part for each of so many subscriptions, where it has fewer. Made before the topic's lock is taken,
-    /// `prepare` makes those alone that are missing then; `enter` lets go of those that are too many.
+    /// Makes a copy of the part for each of so many subscriptions, where it has fewer. Where they are made before
+    /// the topic's lock is taken, `enter` makes those alone that are missing then, and lets go of those that are too many.
     pub fn copy_for(&mut self, alloc: Global, many: usize) -> Result<(), NoMemory>
         ensures { self.new ≡ self.old }
     {

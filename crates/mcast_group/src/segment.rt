@@ -72,6 +72,15 @@ impl Segment {
         Ok(rows)
     }
 
+    /// Takes its only row out, with no memory; its room stays.
+    pub(crate) fn take_only(&mut self) -> Row
+        requires { length self.old ≡ 1 }
+        ensures row { self.old ≡ result ∷ [] }
+        ensures none { self.new ≡ [] }
+    {
+        self.rows.pop_front().unwrap()
+    }
+
     /// Its rows, which aren't moved.
     pub(crate) fn into_rows(self) -> VecDeque<Row>
         ensures { result.items ≡ self }

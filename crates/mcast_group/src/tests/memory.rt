@@ -143,23 +143,27 @@ fn subscriptions_with_pending_parts(rt: HostRuntime) {
     assert!(rt; each_gets_both(alloc, &mut group));
 }
 
-/// Two pending parts, of which one is released; the log is drained, and so is the other's row after it.
-const DRAINS: [(Call, u64, Answer); 9] = [
+/// Three pending parts, of which two are released; the log is drained, and so is the third's row after it.
+const DRAINS: [(Call, u64, Answer); 12] = [
     (Propose(1, &[0], 0), 0, Answer::Ticket(1)),
     (Propose(2, &[0], 0), 0, Answer::Ticket(2)),
+    (Propose(3, &[0], 0), 0, Answer::Ticket(3)),
     (Learn(1, &[(0, 1)]), 0, Done),
     (Learn(2, &[(0, 2)]), 0, Done),
+    (Learn(3, &[(0, 3)]), 0, Done),
     (Release, 0, Released(1, 1, 0)),
-    (Drain, 0, Drained(1, [1, 0, 0, 0, 0, 0, 0, 0])),
     (Release, 0, Released(2, 2, 0)),
-    (Drain, 0, Drained(1, [2, 0, 0, 0, 0, 0, 0, 0])),
-    (Propose(3, &[0], 0), 0, Answer::Ticket(3)),
+    (Drain, 0, Drained(2, [1, 2, 0, 0, 0, 0, 0, 0])),
+    (Release, 0, Released(3, 3, 0)),
+    (Drain, 0, Drained(1, [3, 0, 0, 0, 0, 0, 0, 0])),
+    (Propose(4, &[0], 0), 0, Answer::Ticket(4)),
 ];
 
-/// The same for drains with a part pending: one that is refused leaves the row, and the same drain then hands it out.
+/// The same for drains with a part pending: one that is refused leaves the rows, and the same drain then hands them out.
+/// A row alone takes no memory.
 #[test]
 fn drains_with_a_pending_part(rt: HostRuntime) {
     let alloc = rt.alloc();
-    let mut group = Group::new(alloc, Topic(0), 0, 2);
+    let mut group = Group::new(alloc, Topic(0), 0, 3);
     assert!(rt; answers_at_last(alloc, &mut group, &DRAINS));
 }

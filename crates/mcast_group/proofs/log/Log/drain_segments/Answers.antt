@@ -78,7 +78,7 @@ returns-clause-rows c =
     let enough = c.used-used.ensures.enough in
     let parted : Parted 256 s.len c.used-used.result s.segments.items = segments_parted 256 s.len c.used-used.result s.segments.items c.self-2.invariant.0 (omega arith) in
     let kept : c.replace.result.items ≡ take c.used-used.result s.segments.items = ap (λ (z : VecDeque _ _). z.items) c.replace.ensures.value ∙ c.in_ok-rest.ensures.items in
-    c.new-2.ensures ∙ (ap (λ (z : List LogRow). z ++ joined_rows c.replace.result.items) c.new.ensures.items ∙ (ap joined_rows kept ∙ (parted.rows ∙ (ap (λ (z : LogState). z.items) c.self-2.view_is ∙ c.in_ok-reserve.ensures.items))))
+    c.of_many.ensures ∙ (c.new-2.ensures ∙ (ap (λ (z : List LogRow). z ++ joined_rows c.replace.result.items) c.new.ensures.items ∙ (ap joined_rows kept ∙ (parted.rows ∙ (ap (λ (z : LogState). z.items) c.self-2.view_is ∙ c.in_ok-reserve.ensures.items)))))
 
 pub returns-clause-none : goal.returns-clause-none
 returns-clause-none c =
