@@ -38,7 +38,7 @@ returns g c =
     ∙ ap (λ (n : ℕ). front ++ get_or subs i it ∷ drop n subs) next
     ∙ ap (λ (o : OpenSubState). front ++ o ∷ back) (sym c.remove-open.ensures.value) in
     let place : length front ≡ i = length-take-le i subs (omega arith) in
-    let turns = c.turn_without.ensures ∙ ap (λ (n : ℕ). turn_without n held.first) (sym place) in
+    let turns = c.turn_without-self-inside.ensures ∙ ap (λ (n : ℕ). turn_without n held.first) (sym place) in
     let with : List OpenSubState → ℕ → ConversationState = λ xs turn. record {
       reader = held.reader;
       session = held.session;
@@ -64,7 +64,7 @@ returns g c =
           ap (has_id id) c.remove-open.ensures.value ∙ found.1,
           none_before (has_id id) subs i it found.2,
           refl,
-          ap (λ (xs : List OpenSubState). with xs c.turn_without.result) c.remove-open.ensures.by_index.2
+          ap (λ (xs : List OpenSubState). with xs c.turn_without-self-inside.result) c.remove-open.ensures.by_index.2
               ∙ (ap (with (front ++ back)) turns ∙ ap (λ (s : ConversationState). record s { subs = front ++ back; turn = turn_without (length front) s.turn }) c.self.view_is),
         ),
       ),
