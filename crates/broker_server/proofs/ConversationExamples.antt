@@ -5,8 +5,8 @@ use Rattle.sender_gate.specs.Gate.{FlightState, GateState, gate_after}
 use Rattle.broker_server.specs.declared.conversation.conversation_fault.ConversationFault.{ConversationFault}
 use Rattle.broker_server.specs.declared.conversation.drained.Taking.TheVariants.{Emptied, Stopped, Failed}
 use Rattle.broker_server.specs.BrokerRows.{AsksLag, BrokerRow, GivesBack, IsGateAfter, SubName, Takes, Unsubscribes}
-use Rattle.broker_server.specs.Conversations.{ConversationState, EndsSub, OpenSubState, begun_sub, closing_rows, gate_rows}
-use Rattle.broker_server.specs.Delivering.{Drains, DrainsAll, DrainsQueues, IsLag, full_wire}
+use Rattle.broker_server.specs.Conversations.{ConversationState, EndsSub, OpenSubState, begun_sub, closing_rows, gate_rows, turn_without}
+use Rattle.broker_server.specs.Delivering.{Drains, DrainsAll, DrainsQueues, IsLag, begins_at, full_wire}
 use Rattle.broker_server.specs.Judging.{Grows}
 
 -- the subscription of this number at topic 0
@@ -30,7 +30,7 @@ pub a_third_name : Grows (codes "A" ∷ codes "B" ∷ []) (codes "A" ∷ codes "
 a_third_name = (codes "C" ∷ [], refl)
 
 -- UNSUBSCRIBE b ends the second of two
-pub second_ends : (s : ConversationState) → s.subs ≡ a ∷ b ∷ [] → EndsSub (codes "b") s (Unsubscribes (named 1) ∷ []) (Ok tt) (record s { subs = a ∷ [] })
+pub second_ends : (s : ConversationState) → s.subs ≡ a ∷ b ∷ [] → EndsSub (codes "b") s (Unsubscribes (named 1) ∷ []) (Ok tt) (record s { subs = a ∷ []; turn = turn_without 1 s.turn })
 second_ends s two = (refl, inl (a ∷ [], [], b, two, refl, refl, refl, refl))
 
 -- what a connection with two subscriptions and a gate asks as it leaves
@@ -50,15 +50,30 @@ empty_queue : (n : ℕ) (id : List ℕ) → Drains 2 0 (Takes (named n) None ∷
 empty_queue n id = (omega arith, refl, inr (refl, omega arith, refl, refl), refl)
 
 -- of three queues, from the second on, the first is the last that is looked at
-pub second_first : DrainsQueues 2 (Takes (named 1) None ∷ Takes (named 2) None ∷ Takes (named 0) None ∷ []) (a ∷ b ∷ c ∷ []) [] Emptied (a ∷ b ∷ c ∷ []) []
+pub second_first : DrainsQueues 2 1 (Takes (named 1) None ∷ Takes (named 2) None ∷ Takes (named 0) None ∷ []) (a ∷ b ∷ c ∷ []) [] Emptied (a ∷ b ∷ c ∷ []) [] 1
 second_first =
-    let last : DrainsAll 2 (Takes (named 2) None ∷ []) (c ∷ []) [] Emptied (c ∷ []) [] =
-    (Takes (named 2) None ∷ [], [], refl, Emptied, c, [], [], empty_queue 2 (codes "c"), refl, (refl, refl, refl, refl)) in
-    let back : DrainsAll 2 (Takes (named 1) None ∷ Takes (named 2) None ∷ []) (b ∷ c ∷ []) [] Emptied (b ∷ c ∷ []) [] =
+    let last : DrainsAll 2 (Takes (named 2) None ∷ []) (c ∷ []) [] Emptied (c ∷ []) [] 0 =
+    (Takes (named 2) None ∷ [], [], refl, Emptied, c, [], [], empty_queue 2 (codes "c"), refl, (refl, refl, refl, refl, refl)) in
+    let back : DrainsAll 2 (Takes (named 1) None ∷ Takes (named 2) None ∷ []) (b ∷ c ∷ []) [] Emptied (b ∷ c ∷ []) [] 0 =
     (Takes (named 1) None ∷ [], Takes (named 2) None ∷ [], refl, Emptied, b, c ∷ [], [], empty_queue 1 (codes "b"), refl, last) in
-    let front : DrainsAll 2 (Takes (named 0) None ∷ []) (a ∷ []) [] Emptied (a ∷ []) [] =
-    (Takes (named 0) None ∷ [], [], refl, Emptied, a, [], [], empty_queue 0 (codes "a"), refl, (refl, refl, refl, refl)) in
-    (a ∷ [], b ∷ c ∷ [], refl, Takes (named 1) None ∷ Takes (named 2) None ∷ [], Takes (named 0) None ∷ [], refl, Emptied, b ∷ c ∷ [], a ∷ [], [], back, refl, front)
+    let front : DrainsAll 2 (Takes (named 0) None ∷ []) (a ∷ []) [] Emptied (a ∷ []) [] 0 =
+    (Takes (named 0) None ∷ [], [], refl, Emptied, a, [], [], empty_queue 0 (codes "a"), refl, (refl, refl, refl, refl, refl)) in
+    (a ∷ [], b ∷ c ∷ [], refl, refl, Takes (named 1) None ∷ Takes (named 2) None ∷ [], Takes (named 0) None ∷ [], refl, Emptied, b ∷ c ∷ [], a ∷ [], [], 0, 0, back, refl, front, refl)
+
+-- where the second of three isn't emptied, since 65,536 octets wait, it is the third's turn next
+pub third_next : (wire : List ℕ) → full_wire ≤ length wire → DrainsQueues 2 1 [] (a ∷ b ∷ c ∷ []) wire Stopped (a ∷ b ∷ c ∷ []) wire 2
+third_next wire full =
+    let back : DrainsAll 2 [] (b ∷ c ∷ []) wire Stopped (b ∷ c ∷ []) wire 1 =
+    ([], [], refl, Stopped, b, c ∷ [], wire, (inl full, refl, refl, refl), refl, (refl, refl, refl, refl, refl)) in
+    (a ∷ [], b ∷ c ∷ [], refl, refl, [], [], refl, Stopped, b ∷ c ∷ [], a ∷ [], wire, 1, 0, back, refl, (refl, refl, refl, refl, refl))
+
+-- of a, b and c, where it is c's turn, it is c's when a has gone
+pub turn_moves : turn_without 0 2 ≡ 1
+turn_moves = refl
+
+-- where it is the turn of none of them, it begins at the first
+pub begins_anew : begins_at 3 3 ≡ 0
+begins_anew = refl
 
 -- A queue of two that gave two items is found empty, and has lagged: it is taken until it is empty again, and then 74 is
 -- told.

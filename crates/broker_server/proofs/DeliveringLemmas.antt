@@ -1,5 +1,5 @@
 -- What is taken of one queue, call by call.
-use Rattle.std.proofs.Common.{◌≡◌, ◌⊎◌, inl, inr, ℕ, zero, suc, ◌+◌, ◌<◌, ◌≤◌, Bool, true, false, List, [], ◌∷◌, ◌++◌, length, Result, Ok, Err, OnOk, OnErr, IsTrue, is_err, Some, None, refl, sym, ap, subst, ◌∙◌, append_assoc, append-nil, arith}
+use Rattle.std.proofs.Common.{◌≡◌, ◌⊎◌, inl, inr, ℕ, zero, suc, ◌+◌, ◌-◌, ◌<◌, ◌≤◌, Bool, true, false, List, [], ◌∷◌, ◌++◌, length, Result, Ok, Err, OnOk, OnErr, IsTrue, is_err, Some, None, refl, sym, ap, subst, ◌∙◌, append_assoc, append-nil, arith}
 use Rattle.std.specs.Prelude.{◌||◌}
 use Rattle.std.proofs.lemmas.Bool.{cases_lt, false≢true, true≢false}
 use Rattle.std.proofs.lemmas.List.Folds.{list_any-append}
@@ -8,7 +8,7 @@ use Rattle.broker_server.specs.declared.conversation.drained.Taking.{Taking}
 use Rattle.broker_server.specs.declared.conversation.drained.Taking.TheVariants.{Emptied, Stopped, Failed}
 use Rattle.broker_server.specs.BrokerRows.{AsksLag, BrokerRow, SubName, Takes}
 use Rattle.broker_server.specs.Conversations.{OpenSubState}
-use Rattle.broker_server.specs.Delivering.{Drains, DrainsAll, DrainsQueues, IfEmptied, after_item, full_wire, has_item, is_item, with_item}
+use Rattle.broker_server.specs.Delivering.{Drains, DrainsAll, DrainsQueues, IfEmptied, after_item, begins_at, full_wire, has_item, is_item, with_item}
 
 -- what was asked, and then more
 pub drains_behind : (capacity : ℕ) (asked more rows : List BrokerRow) (o : OpenSubState) (wire : List ℕ) (end : Taking) (new : OpenSubState) (after : List ℕ) → Drains capacity 0 (asked ++ (more ++ rows)) o wire end new after → Drains capacity 0 ((asked ++ more) ++ rows) o wire end new after
@@ -87,16 +87,16 @@ pub if_emptied : (t : Taking) (A B : Type 0) → t ≡ Emptied → A → IfEmpti
 if_emptied t A B e a = subst (λ (s : Taking). IfEmptied s A B) (sym e) a
 
 -- the back ones are emptied, and then the front ones are taken
-pub drains_both : (capacity : ℕ) (queues front back : List OpenSubState) → queues ≡ front ++ back → (first rest : List BrokerRow) (wire : List ℕ) (one end : Taking) (changed others : List OpenSubState) (between after : List ℕ) → one ≡ Emptied → DrainsAll capacity first back wire one changed between → DrainsAll capacity rest front between end others after → DrainsQueues capacity (first ++ rest) queues wire end (others ++ changed) after
-drains_both capacity queues front back cut first rest wire one end changed others between after emptied did then =
-    (front, back, cut, first, rest, refl, one, changed, others, between, did, refl, if_emptied one (DrainsAll capacity rest front between end others after) _ emptied then)
+pub drains_both : (capacity turn : ℕ) (queues front back : List OpenSubState) → queues ≡ front ++ back → length front ≡ begins_at turn (length queues) → (first rest : List BrokerRow) (wire : List ℕ) (one end : Taking) (changed others : List OpenSubState) (between after : List ℕ) (left unseen next : ℕ) → one ≡ Emptied → DrainsAll capacity first back wire one changed between left → DrainsAll capacity rest front between end others after unseen → next ≡ length front - unseen → DrainsQueues capacity turn (first ++ rest) queues wire end (others ++ changed) after next
+drains_both capacity turn queues front back cut begins first rest wire one end changed others between after left unseen next emptied did then goes =
+    (front, back, cut, begins, first, rest, refl, one, changed, others, between, left, unseen, did, refl, if_emptied one _ _ emptied (then, goes))
 
 -- the back ones aren't all emptied, and the front ones stay
-pub drains_back : (capacity : ℕ) (queues front back : List OpenSubState) → queues ≡ front ++ back → (asked : List BrokerRow) (wire : List ℕ) (end : Taking) (changed : List OpenSubState) (after : List ℕ) → (end ≡ Emptied → ⊥) → DrainsAll capacity asked back wire end changed after → DrainsQueues capacity asked queues wire end (front ++ changed) after
-drains_back capacity queues front back cut asked wire end changed after never did =
-    (front, back, cut, asked, [], sym (append-nil asked), end, changed, front, after, did, refl, if_stopped end (DrainsAll capacity [] front after end front after) _ never (refl, refl, refl, refl))
+pub drains_back : (capacity turn : ℕ) (queues front back : List OpenSubState) → queues ≡ front ++ back → length front ≡ begins_at turn (length queues) → (asked : List BrokerRow) (wire : List ℕ) (end : Taking) (changed : List OpenSubState) (after : List ℕ) (left next : ℕ) → (end ≡ Emptied → ⊥) → DrainsAll capacity asked back wire end changed after left → next ≡ length queues - left → DrainsQueues capacity turn asked queues wire end (front ++ changed) after next
+drains_back capacity turn queues front back cut begins asked wire end changed after left next never did goes =
+    (front, back, cut, begins, asked, [], sym (append-nil asked), end, changed, front, after, left, zero, did, refl, if_stopped end _ _ never (refl, refl, refl, refl, goes))
 
 -- what is said of the queues as they were lent, said of the connection's own
-pub drains_whole : (held capacity : ℕ) (asked : List BrokerRow) (lent queues : List OpenSubState) (before wire : List ℕ) (end : Taking) (new : List OpenSubState) (after : List ℕ) → held ≡ capacity → lent ≡ queues → before ≡ wire → DrainsQueues held asked lent before end new after → DrainsQueues capacity asked queues wire end new after
-drains_whole held capacity asked lent queues before wire end new after c q w drains =
-    subst (λ (n : ℕ). DrainsQueues n asked queues wire end new after) c (subst (λ (os : List OpenSubState). DrainsQueues held asked os wire end new after) q (subst (λ (t : List ℕ). DrainsQueues held asked lent t end new after) w drains))
+pub drains_whole : (held capacity first turn : ℕ) (asked : List BrokerRow) (lent queues : List OpenSubState) (before wire : List ℕ) (end : Taking) (new : List OpenSubState) (after : List ℕ) (next : ℕ) → held ≡ capacity → first ≡ turn → lent ≡ queues → before ≡ wire → DrainsQueues held first asked lent before end new after next → DrainsQueues capacity turn asked queues wire end new after next
+drains_whole held capacity first turn asked lent queues before wire end new after next c t q w drains =
+    subst (λ (n : ℕ). DrainsQueues n turn asked queues wire end new after next) c (subst (λ (n : ℕ). DrainsQueues held n asked queues wire end new after next) t (subst (λ (os : List OpenSubState). DrainsQueues held first asked os wire end new after next) q (subst (λ (s : List ℕ). DrainsQueues held first asked lent s end new after next) w drains)))

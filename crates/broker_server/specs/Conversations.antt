@@ -1,5 +1,5 @@
 -- What one connection of the server does.
-use Rattle.std.specs.Prelude.{◌≡◌, ◌⊎◌, ℕ, Bool, true, false, List, [], ◌∷◌, ◌++◌, map, codes, Option, Some, None, IsSome, Result, Ok, Err, if◌then◌else◌}
+use Rattle.std.specs.Prelude.{◌≡◌, ◌⊎◌, ℕ, ◌-◌, nat_lt, Bool, true, false, List, [], ◌∷◌, ◌++◌, length, map, codes, Option, Some, None, IsSome, Result, Ok, Err, if◌then◌else◌}
 use Rattle.std.specs.List.{flat_map, list_any}
 use Rattle.std.specs.Option.{option_map_or}
 use Rattle.std.specs.Str.{bytes_eq}
@@ -39,7 +39,7 @@ pub record OpenSubState : Type 0 where
 -- a connection: what came and isn't read yet, its session, the names of the topics that it knows, its
 -- sender's gate, its open subscriptions, the octets that wait to be written to it, why it leaves, once it
 -- does, whether a reply was left out since there was no memory for it, whether items may be left in its queues
--- since too many octets waited, and how many items each of them holds
+-- since too many octets waited, how many items each of them holds, and the place of the one whose turn it is
 pub record ConversationState : Type 0 where
   pub reader : Unread
   pub session : SessionState
@@ -51,6 +51,7 @@ pub record ConversationState : Type 0 where
   pub cut : Bool
   pub more : Bool
   pub capacity : ℕ
+  pub turn : ℕ
 
 -- a connection that has said nothing, of a broker whose queues hold so many items
 pub record IsNew (capacity : ℕ) (c : ConversationState) : Type 0 where
@@ -64,6 +65,7 @@ pub record IsNew (capacity : ℕ) (c : ConversationState) : Type 0 where
   pub cut : c.cut ≡ false
   pub more : c.more ≡ false
   pub capacity_is : c.capacity ≡ capacity
+  pub turn : c.turn ≡ 0
 
 -- ---- what is written
 
@@ -152,6 +154,11 @@ Begins id topic old asked result new =
 abbrev pub has_id : List ℕ → OpenSubState → Bool
 has_id id o = bytes_eq o.id id
 
+-- Whose turn it is once the subscription at a place has gone: the same one's, or that of the one behind it.
+-- So of a, b and c, where it is c's turn, it is c's when a has gone, which is then at place 1.
+abbrev pub turn_without : ℕ → ℕ → ℕ
+turn_without place turn = if nat_lt place turn then turn - 1 else turn
+
 -- An UNSUBSCRIBE ends the first open subscription of its id. Where none has it, nothing is asked; the session
 -- refuses such a frame before. So of subscriptions a and b, UNSUBSCRIBE b ends b, and leaves a.
 abbrev pub EndsSub : List ℕ → ConversationState → List BrokerRow → Done → ConversationState → Type 0
@@ -159,7 +166,8 @@ EndsSub id old asked result new =
     (result ≡ Ok tt)
     × (((front : List OpenSubState) × (back : List OpenSubState) × (o : OpenSubState)
     × (old.subs ≡ front ++ o ∷ back) × (has_id id o ≡ true) × (list_any (has_id id) front ≡ false)
-    × (asked ≡ Unsubscribes o.sub ∷ []) × (new ≡ record old { subs = front ++ back }))
+    × (asked ≡ Unsubscribes o.sub ∷ [])
+    × (new ≡ record old { subs = front ++ back; turn = turn_without (length front) old.turn }))
     ⊎ ((list_any (has_id id) old.subs ≡ false) × (asked ≡ []) × (new ≡ old)))
 
 -- A transaction is begun by the connection's gate, and committed; the gate comes back in each case. Once it was

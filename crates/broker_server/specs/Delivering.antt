@@ -1,5 +1,5 @@
 -- What one connection of the server takes of its queues.
-use Rattle.std.specs.Prelude.{◌≡◌, ◌⊎◌, ℕ, ◌+◌, ◌-◌, ◌<◌, ◌≤◌, Bool, true, false, List, [], ◌∷◌, ◌++◌, length, Some, None, IsSome}
+use Rattle.std.specs.Prelude.{◌≡◌, ◌⊎◌, ℕ, ◌+◌, ◌-◌, ◌<◌, ◌≤◌, nat_lt, Bool, true, false, List, [], ◌∷◌, ◌++◌, length, Some, None, IsSome, if◌then◌else◌}
 use Rattle.std.specs.List.{flat_map, list_any}
 use Rattle.mcast_txn.specs.Span.{Item}
 use Rattle.stomp_frame.specs.Writing.{spelling_of}
@@ -78,17 +78,18 @@ abbrev pub IfEmptied : Taking → Type 0 → Type 0 → Type 0
 IfEmptied Emptied goes_on stops = goes_on
 IfEmptied _ goes_on stops = stops
 
--- These queues are taken, one after the other, up to the first that isn't emptied; where there are none,
--- nothing is left of them.
+-- These queues are taken, one after the other, up to the first that isn't emptied, and so many are left
+-- behind that one; where there are none, nothing is left of them.
 abbrev pub DrainsAll
-    : ℕ → List BrokerRow → List OpenSubState → List ℕ → Taking → List OpenSubState → List ℕ → Type 0
-DrainsAll capacity asked [] wire end new after = (asked ≡ []) × (end ≡ Emptied) × (new ≡ []) × (after ≡ wire)
-DrainsAll capacity asked (o ∷ os) wire end new after =
+    : ℕ → List BrokerRow → List OpenSubState → List ℕ → Taking → List OpenSubState → List ℕ → ℕ → Type 0
+DrainsAll capacity asked [] wire end new after left =
+    (asked ≡ []) × (end ≡ Emptied) × (new ≡ []) × (after ≡ wire) × (left ≡ 0)
+DrainsAll capacity asked (o ∷ os) wire end new after left =
     (first rest : List BrokerRow) × (asked ≡ first ++ rest)
     × (one : Taking) × (changed : OpenSubState) × (others : List OpenSubState) × (between : List ℕ)
     × Drains capacity 0 first o wire one changed between × (new ≡ changed ∷ others)
-    × IfEmptied one (DrainsAll capacity rest os between end others after)
-    ((rest ≡ []) × (end ≡ one) × (others ≡ os) × (after ≡ between))
+    × IfEmptied one (DrainsAll capacity rest os between end others after left)
+    ((rest ≡ []) × (end ≡ one) × (others ≡ os) × (after ≡ between) × (left ≡ length os))
 
 -- whether an item was taken by this call
 abbrev pub is_item : BrokerRow → Bool
@@ -99,17 +100,25 @@ is_item _ = false
 abbrev pub has_item : List BrokerRow → Bool
 has_item rows = list_any is_item rows
 
--- The queues are taken from one of them to the last, and then, where each of these was emptied, from the
--- first to that one. So of three queues, from the second on, they are taken as second, third and first.
+-- at which of so many queues it begins: at that whose turn it is, or at the first where none is at its place
+abbrev pub begins_at : ℕ → ℕ → ℕ
+begins_at turn count = if nat_lt turn count then turn else 0
+
+-- The queues are taken from the one whose turn it is to the last, and then, where each of these was emptied,
+-- from the first to that one; the next turn is that of the queue behind the one that wasn't emptied, and else
+-- stays. So of three queues of which it is the second's turn, they are taken as second, third and first; and
+-- where the second isn't emptied, it is the third's turn, so that none waits for another for ever.
 abbrev pub DrainsQueues
-    : ℕ → List BrokerRow → List OpenSubState → List ℕ → Taking → List OpenSubState → List ℕ → Type 0
-DrainsQueues capacity asked queues wire end new after =
+    : ℕ → ℕ → List BrokerRow → List OpenSubState → List ℕ → Taking → List OpenSubState → List ℕ → ℕ → Type 0
+DrainsQueues capacity turn asked queues wire end new after next =
     (front back : List OpenSubState) × (queues ≡ front ++ back)
+    × (length front ≡ begins_at turn (length queues))
     × (first rest : List BrokerRow) × (asked ≡ first ++ rest)
-    × (one : Taking) × (changed others : List OpenSubState) × (between : List ℕ)
-    × DrainsAll capacity first back wire one changed between × (new ≡ others ++ changed)
-    × IfEmptied one (DrainsAll capacity rest front between end others after)
-    ((rest ≡ []) × (end ≡ one) × (others ≡ front) × (after ≡ between))
+    × (one : Taking) × (changed others : List OpenSubState) × (between : List ℕ) × (left unseen : ℕ)
+    × DrainsAll capacity first back wire one changed between left × (new ≡ others ++ changed)
+    × IfEmptied one
+    (DrainsAll capacity rest front between end others after unseen × (next ≡ length front - unseen))
+    ((rest ≡ []) × (end ≡ one) × (others ≡ front) × (after ≡ between) × (next ≡ length queues - left))
 
 -- ---- a turn of the connection
 
@@ -134,6 +143,6 @@ abbrev pub Delivers : ConversationState → List BrokerRow → Bool → Conversa
 Delivers old asked result new =
     (IsSome old.exit × (asked ≡ []) × (result ≡ false) × (new ≡ old))
     ⊎ ((old.exit ≡ None) × (first rest : List BrokerRow) × (asked ≡ first ++ rest)
-    × (end : Taking) × (subs : List OpenSubState) × (wire : List ℕ)
-    × DrainsQueues old.capacity first old.subs old.wire end subs wire
-    × Settles end (has_item first) (record old { subs = subs; wire = wire }) rest result new)
+    × (end : Taking) × (subs : List OpenSubState) × (wire : List ℕ) × (turn : ℕ)
+    × DrainsQueues old.capacity old.turn first old.subs old.wire end subs wire turn
+    × Settles end (has_item first) (record old { subs = subs; wire = wire; turn = turn }) rest result new)

@@ -1,6 +1,6 @@
 //! What one connection of the server does, without its socket.
 
-ghost use Rattle.std.specs.Prelude.{◌≡◌, ◌<◌, ◌-◌, ◌&&◌, true, false, List, [], ◌∷◌, map, length, nat_lt, slice_get, None, IfSome, IfOk, IfErr, OnOk, OnErr, if◌then◌else◌};
+ghost use Rattle.std.specs.Prelude.{◌≡◌, ◌<◌, ◌≤◌, ◌&&◌, true, false, List, [], ◌∷◌, map, length, nat_lt, slice_get, None, IfSome, IfOk, IfErr, OnOk, OnErr};
 ghost use Rattle.std.specs.List.{position};
 ghost use Rattle.std.specs.Option.{is_none, is_some, option_map};
 ghost use Rattle.stomp_frame.specs.declared.fault.FrameFault.{FrameFault};
@@ -8,12 +8,12 @@ ghost use Rattle.stomp_frame.specs.declared.raw_frame.RawFrame.{RawFrame};
 ghost use Rattle.stomp_frame.specs.ClientFrames.{raw_of};
 ghost use Rattle.broker_server.specs.BrokerRows.{Asks, BrokerRow, Unsubscribes};
 ghost use Rattle.broker_server.specs.Conversations.{Writes, Fails, Performs, Connects, Begins, EndsSub, Sends, CommitsBy, Acts, Answers, IsLost};
-ghost use Rattle.broker_server.specs.Delivering.{Delivers, Drains, DrainsAll, DrainsQueues, has_item};
+ghost use Rattle.broker_server.specs.Delivering.{Delivers, Drains, DrainsAll, DrainsQueues, begins_at, has_item};
 ghost use Rattle.delivery.specs.Core.Outcomes.{is_any};
 ghost use Rattle.stomp_session.specs.Open.{IsKnownTo};
 ghost use Rattle.broker_server.specs.Hearing.{AcceptsFrame, DeniesFrame, Hears, IsNewTo, Rests, TakesAll, TakesFrame, TakesFrames};
 ghost use Rattle.broker_server.specs.Wires.{GoesOut};
-ghost use Rattle.broker_server.specs.Conversations.{client_id, closed, IsNew, closing_rows, gate_rows, has_id, is_connected, replies};
+ghost use Rattle.broker_server.specs.Conversations.{client_id, closed, IsNew, closing_rows, gate_rows, has_id, is_connected, replies, turn_without};
 ghost use Rattle.broker_server.specs.declared.conversation.conversation_fault.ConversationFault.TheVariants as faults;
 ghost use Rattle.broker_server.specs.declared.conversation.exit.Exit.TheVariants as exits;
 
@@ -51,7 +51,8 @@ const MOST_CALLS: usize = 65_536;
 
 /// One connection of the server, without its socket. In contracts it is what came and isn't read yet, its session, its
 /// sender's gate, its open subscriptions, the octets that wait to be written to it, why it leaves, once it does,
-/// whether a reply was left out, whether items may be left in its queues, and how many each of these holds.
+/// whether a reply was left out, whether items may be left in its queues, how many each of these holds, and which of
+/// them is looked at first.
 pub struct Conversation<C: BrokerCalls> {
     alloc: Global,
     reader: FrameReader,
@@ -116,6 +117,7 @@ impl<C: BrokerCalls> Model for Conversation<C> {
       cut = c.cut;
       more = c.more;
       capacity = c.capacity;
+      turn = c.first;
     } };
 }
 
@@ -554,9 +556,17 @@ fn index_of<C: BrokerCalls>(subs: &[OpenSub<C>], id: &[u8]) -> Option<usize>
 
 /// Whose turn it is once the subscription at this index has gone: the same one's, or that of the one behind it.
 fn turn_without(turn: usize, index: usize) -> usize
-    ensures { result ≡ if nat_lt index turn then turn - 1 else turn }
+    ensures { result ≡ turn_without index turn }
 {
     if index < turn { turn - 1 } else { turn }
+}
+
+/// At which of so many queues it begins: at that whose turn it is, or at the first where there is none at its place.
+fn begins_at(turn: usize, count: usize) -> usize
+    ensures at { result ≡ begins_at turn count }
+    ensures there { result ≤ count }
+{
+    if turn < count { turn } else { 0 }
 }
 
 /// Takes what is there of each queue, from the one whose turn it is to the last, and then from the first to that one;
@@ -569,23 +579,26 @@ fn drain_queues<C: BrokerCalls>(
     capacity: u64,
 ) -> (Drained, usize)
     ensures { (asked : List BrokerRow) × Asks C.called calls.old asked calls.new
-        × DrainsQueues capacity asked queues.old wire.old result.0.end queues.new wire.new
+        × DrainsQueues capacity turn asked queues.old wire.old result.0.end queues.new wire.new result.1
         × (result.0.any ≡ has_item asked) }
 {
-    let first = if turn < queues.len() { turn } else { 0 };
+    let count = queues.len();
+    let first = begins_at(turn, count);
     let (front, back) = queues.split_at_mut(first);
-    let (drained, over) = drain_all(calls, back, wire, capacity);
+    let (drained, left) = drain_all(calls, back, wire, capacity);
     let Taking::Emptied = drained.end else {
-        return (drained, first.saturating_add(over));
+        let behind = count.saturating_sub(left);
+        return (drained, behind);
     };
-    let (others, over) = drain_all(calls, front, wire, capacity);
+    let (others, left) = drain_all(calls, front, wire, capacity);
+    let next = first.saturating_sub(left);
     let any = drained.any || others.any;
     let end = others.end;
-    (Drained { any, end }, over)
+    (Drained { any, end }, next)
 }
 
-/// Takes what is there of these queues, one after the other, up to the first that isn't emptied; and how many they are.
-/// A connection has 64 of them at most.
+/// Takes what is there of these queues, one after the other, up to the first that isn't emptied; and how many are left
+/// behind that one. A connection has 64 of them at most.
 fn drain_all<C: BrokerCalls>(
     calls: &mut C,
     queues: &mut [OpenSub<C>],
@@ -593,7 +606,7 @@ fn drain_all<C: BrokerCalls>(
     capacity: u64,
 ) -> (Drained, usize)
     ensures { (asked : List BrokerRow) × Asks C.called calls.old asked calls.new
-        × DrainsAll capacity asked queues.old wire.old result.0.end queues.new wire.new
+        × DrainsAll capacity asked queues.old wire.old result.0.end queues.new wire.new result.1
         × (result.0.any ≡ has_item asked) }
 {
     let Some((queue, others)) = queues.split_first_mut() else {
@@ -602,12 +615,12 @@ fn drain_all<C: BrokerCalls>(
     };
     let drained = drain_queue(calls, queue, wire, capacity);
     let Taking::Emptied = drained.end else {
-        return (drained, 1);
+        return (drained, others.len());
     };
-    let (rest, over) = drain_all(calls, others, wire, capacity);
+    let (rest, left) = drain_all(calls, others, wire, capacity);
     let any = drained.any || rest.any;
     let end = rest.end;
-    (Drained { any, end }, over.saturating_add(1))
+    (Drained { any, end }, left)
 }
 
 /// Takes what is there of a subscription's queue and writes it, while few octets wait. Where as many items were taken

@@ -22,6 +22,7 @@ returns-in-Ok g c =
       cut = held.cut;
       more = held.more;
       capacity = held.capacity;
+      turn = held.first;
     } in (
       row ∷ [],
       asks_one called c.args.calls.now c.subscribe.new.self row c.in-Ok.ensures.begun,
@@ -50,6 +51,7 @@ returns-in-Err g c =
       cut = held.cut;
       more = held.more;
       capacity = held.capacity;
+      turn = held.first;
     } in (
       row ∷ [],
       asks_one called c.args.calls.now c.subscribe.new.self row c.in-Err.ensures.refused,

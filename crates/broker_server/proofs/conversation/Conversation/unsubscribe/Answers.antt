@@ -1,11 +1,12 @@
 use Rattle.std.proofs.Common.{ℕ, suc, ◌+◌, ◌<◌, ◌≡◌, false, Some, None, List, [], ◌∷◌, ◌++◌, length, take, drop, refl, sym, ap, subst, ◌∙◌, arith, inl, inr}
 use Rattle.std.specs.Prelude.{get_or}
 use Rattle.std.proofs.Math.Seq.{split_at}
+use Rattle.std.proofs.lemmas.List.{length-take-le}
 use Rattle.std.specs.List.{list_any, position}
 use Rattle.std.proofs.lemmas.List.Quantifiers.{position-Some}
 use Rattle.mcast_group.proofs.Indices.{none_at}
 use Rattle.broker_server.specs.BrokerRows.{SubName, Unsubscribes}
-use Rattle.broker_server.specs.Conversations.{ConversationState, OpenSubState, has_id}
+use Rattle.broker_server.specs.Conversations.{ConversationState, OpenSubState, has_id, turn_without}
 use Rattle.broker_server.proofs.ConversationLemmas.{asks_one, none_before}
 use Rattle.broker_server.proofs.conversation.Conversation.unsubscribe.Goals as goal
 
@@ -36,7 +37,9 @@ returns g c =
     let cut : subs ≡ front ++ it ∷ back = split_at subs i it there
     ∙ ap (λ (n : ℕ). front ++ get_or subs i it ∷ drop n subs) next
     ∙ ap (λ (o : OpenSubState). front ++ o ∷ back) (sym c.remove-open.ensures.value) in
-    let with : List OpenSubState → ConversationState = λ xs. record {
+    let place : length front ≡ i = length-take-le i subs (omega arith) in
+    let turns = c.turn_without-self-inside.ensures ∙ ap (λ (n : ℕ). turn_without n held.first) (sym place) in
+    let with : List OpenSubState → ℕ → ConversationState = λ xs turn. record {
       reader = held.reader;
       session = held.session;
       names = held.names;
@@ -47,6 +50,7 @@ returns g c =
       cut = held.cut;
       more = held.more;
       capacity = held.capacity;
+      turn = turn;
     } in (
       Unsubscribes it.sub ∷ [],
       asks_one called c.args.calls.now c.unsubscribe.new.self (Unsubscribes it.sub) one,
@@ -60,7 +64,8 @@ returns g c =
           ap (has_id id) c.remove-open.ensures.value ∙ found.1,
           none_before (has_id id) subs i it found.2,
           refl,
-          ap with c.remove-open.ensures.by_index.2 ∙ ap (λ (s : ConversationState). record s { subs = front ++ back }) c.self.view_is,
+          ap (λ (xs : List OpenSubState). with xs c.turn_without-self-inside.result) c.remove-open.ensures.by_index.2
+              ∙ (ap (with (front ++ back)) turns ∙ ap (λ (s : ConversationState). record s { subs = front ++ back; turn = turn_without (length front) s.turn }) c.self.view_is),
         ),
       ),
     )
