@@ -78,7 +78,7 @@ fn all_octets_come_back(rt: HostRuntime) -> Result<(), Fail> {
         value.push(octet)?;
     }
     let text = escape(alloc, value.as_slice())?;
-    assert!(rt; text.len() == 260);
+    assert_eq!(rt; text.len(), 260);
     assert!(rt; is(&unescape(alloc, text.as_slice())?, value.as_slice()));
     Ok(())
 }
@@ -87,10 +87,10 @@ fn all_octets_come_back(rt: HostRuntime) -> Result<(), Fail> {
 fn the_first_fault_is_returned(rt: HostRuntime) {
     for (text, fault, number) in FAULTY {
         let found = unescape(rt.alloc(), text).err();
-        assert!(rt; found == Some(fault));
-        assert!(rt; fault.number() == number);
+        assert_eq!(rt; found, Some(fault));
+        assert_eq!(rt; fault.number(), number);
     }
-    assert!(rt; EscapeFault::NoMemory.number() == 3);
+    assert_eq!(rt; EscapeFault::NoMemory.number(), 3);
 }
 
 #[test]
@@ -102,11 +102,11 @@ fn octets_grow(rt: HostRuntime) -> Result<(), Fail> {
     octets.extend(b"=")?;
     escape_into(b"a:b", &mut octets)?;
     assert!(rt; is(&octets, b"k=a\\cb"));
-    assert!(rt; octets.len() == 6);
+    assert_eq!(rt; octets.len(), 6);
     let copy = Octets::from_slice(alloc, octets.as_slice())?;
     assert!(rt; is(&copy, octets.as_slice()) && !copy.is_empty());
     octets.truncate(9);
-    assert!(rt; octets.len() == 6);
+    assert_eq!(rt; octets.len(), 6);
     octets.truncate(2);
     assert!(rt; is(&octets, b"k="));
     Ok(())
@@ -128,11 +128,11 @@ fn faults_say_what_to_do(rt: HostRuntime) -> Result<(), Fail> {
             "3 NoMemory: try again where more memory is free, or send less",
         ),
     ] {
-        assert!(rt; fault.to_string(rt.alloc())?.as_str() == message);
+        assert_eq!(rt; fault.to_string(rt.alloc())?.as_str(), message);
     }
-    assert!(rt;
-        NoMemory.to_string(rt.alloc())?.as_str()
-            == "NoMemory: try again where more memory is free, or send less"
+    assert_eq!(rt;
+        NoMemory.to_string(rt.alloc())?.as_str(),
+        "NoMemory: try again where more memory is free, or send less"
     );
     Ok(())
 }
@@ -255,10 +255,10 @@ fn faults_at_each_index(rt: HostRuntime) -> Result<(), Fail> {
     for index in 60..70 {
         let undefined = with_piece(rt.alloc(), 80, index, b"\\t")?;
         let found = unescape(rt.alloc(), undefined.as_slice()).err();
-        assert!(rt; found == Some(EscapeFault::Undefined(index)));
+        assert_eq!(rt; found, Some(EscapeFault::Undefined(index)));
         let cut = with_piece(rt.alloc(), index, index, b"\\")?;
         let found = unescape(rt.alloc(), cut.as_slice()).err();
-        assert!(rt; found == Some(EscapeFault::Cut));
+        assert_eq!(rt; found, Some(EscapeFault::Cut));
     }
     Ok(())
 }
@@ -269,7 +269,7 @@ fn memory_is_enough_for_long_escapes(rt: HostRuntime) -> Result<(), Fail> {
     let alloc = rt.alloc();
     let value = repeated(alloc, ESCAPED_OCTETS, 1024)?;
     let text = repeated(alloc, FOUR_ESCAPES, 1024)?;
-    assert!(rt; (value.len(), text.len()) == (4096, 8192));
+    assert_eq!(rt; (value.len(), text.len()), (4096, 8192));
     let escaped = escape(alloc, value.as_slice())?;
     assert!(rt; is(&escaped, text.as_slice()));
     let unescaped = unescape(alloc, text.as_slice())?;
@@ -292,7 +292,7 @@ fn out_of_memory_changes_no_answer(rt: HostRuntime) {
     }
     match unescape(alloc, LONG_TEXT) {
         Ok(value) => assert!(rt; is(&value, LONG_VALUE)),
-        Err(fault) => assert!(rt; fault == EscapeFault::NoMemory),
+        Err(fault) => assert_eq!(rt; fault, EscapeFault::NoMemory),
     }
     for (text, fault, _) in FAULTY {
         let found = unescape(alloc, text).err();
@@ -315,7 +315,7 @@ fn out_of_memory_leaves_octets(rt: HostRuntime) {
         if octets.extend(b"yz").is_ok() {
             taken = taken.saturating_add(2);
         }
-        assert!(rt; (octets.len() as u64) == taken);
+        assert_eq!(rt; octets.len() as u64, taken);
     }
     let before = octets.len();
     let whole = escape_into(b"a:b", &mut octets).is_ok();

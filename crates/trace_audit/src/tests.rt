@@ -118,7 +118,7 @@ const CROSSING: [Row; 4] = [
 
 #[test]
 fn crossing_is_complete(rt: HostRuntime) {
-    assert!(rt; completeness(rt.alloc(), &CROSSING) == Some(true));
+    assert_eq!(rt; completeness(rt.alloc(), &CROSSING), Some(true));
 }
 
 #[test]
@@ -134,9 +134,9 @@ fn agreed_rows_rise_in_stamp(rt: HostRuntime) -> Result<(), Fail> {
         let Some(row) = seen.next() else {
             return Err(Fail::new("a row is missing"));
         };
-        assert!(rt; row.id == id(wanted.0, 1));
-        assert!(rt; row.stamp == stamp((wanted.1, wanted.2)));
-        assert!(rt; row.topics.as_slice() == [Topic(0), Topic(1)].as_slice());
+        assert_eq!(rt; row.id, id(wanted.0, 1));
+        assert_eq!(rt; row.stamp, stamp((wanted.1, wanted.2)));
+        assert_eq!(rt; row.topics.as_slice(), [Topic(0), Topic(1)].as_slice());
     }
     assert!(rt; seen.next().is_none());
     Ok(())
@@ -144,13 +144,16 @@ fn agreed_rows_rise_in_stamp(rt: HostRuntime) -> Result<(), Fail> {
 
 #[test]
 fn nothing_is_complete(rt: HostRuntime) {
-    assert!(rt; completeness(rt.alloc(), &[]) == Some(true));
+    assert_eq!(rt; completeness(rt.alloc(), &[]), Some(true));
 }
 
 #[test]
 fn a_row_that_a_topic_lacks_is_incomplete(rt: HostRuntime) {
     let [first, second, third, _] = CROSSING;
-    assert!(rt; completeness(rt.alloc(), &[first, second, third]) == Some(false));
+    assert_eq!(rt;
+        completeness(rt.alloc(), &[first, second, third]),
+        Some(false)
+    );
 }
 
 #[test]
@@ -182,7 +185,7 @@ fn logs_are_refused(rt: HostRuntime) {
         ),
     ];
     for (rows, fault) in cases {
-        assert!(rt; fault_of(rt.alloc(), &rows) == Some(fault));
+        assert_eq!(rt; fault_of(rt.alloc(), &rows), Some(fault));
     }
 }
 
@@ -195,7 +198,10 @@ fn the_least_hole_is_reported(rt: HostRuntime) {
         Row::Log(1, 0, 2, (2, 0), all),
         Row::Log(0, 0, 2, (2, 0), all),
     ];
-    assert!(rt; fault_of(rt.alloc(), &rows) == Some(AuditFault::Hole(Topic(1))));
+    assert_eq!(rt;
+        fault_of(rt.alloc(), &rows),
+        Some(AuditFault::Hole(Topic(1)))
+    );
 }
 
 #[test]
@@ -235,13 +241,13 @@ fn queues_are_their_spans(rt: HostRuntime) {
     ];
     for (span, queue, fits) in cases {
         let fault = fault_of(rt.alloc(), &[first, second, span, queue]);
-        assert!(rt;
-            fault
-                == (if fits {
-                    None
-                } else {
-                    Some(AuditFault::QueueRow(7))
-                })
+        assert_eq!(rt;
+            fault,
+            if fits {
+                None
+            } else {
+                Some(AuditFault::QueueRow(7))
+            }
         );
     }
 }
@@ -256,7 +262,7 @@ fn the_least_queue_is_reported(rt: HostRuntime) {
         Row::Span(4, 0, (2, 1), None),
         Row::Span(6, 0, (2, 0), None),
     ];
-    assert!(rt; fault_of(rt.alloc(), &rows) == Some(AuditFault::QueueRow(6)));
+    assert_eq!(rt; fault_of(rt.alloc(), &rows), Some(AuditFault::QueueRow(6)));
 }
 
 #[test]
@@ -287,14 +293,14 @@ fn misfits_are_refused(rt: HostRuntime) {
         ([span, Row::Log(1, 0, 1, (1, 0), BOTH)], None),
     ];
     for (rows, fault) in cases {
-        assert!(rt; add_fault(rt.alloc(), &rows) == fault);
+        assert_eq!(rt; add_fault(rt.alloc(), &rows), fault);
     }
 }
 
 #[test]
 fn faults_have_their_numbers(rt: HostRuntime) {
-    assert!(rt; AddFault::Misfit.number() == 98);
-    assert!(rt; AddFault::NoMemory.number() == 91);
+    assert_eq!(rt; AddFault::Misfit.number(), 98);
+    assert_eq!(rt; AddFault::NoMemory.number(), 91);
     let cases = [
         (AuditFault::NoMemory, 91),
         (AuditFault::LogOrder, 92),
@@ -305,6 +311,6 @@ fn faults_have_their_numbers(rt: HostRuntime) {
         (AuditFault::SameStamp, 97),
     ];
     for (fault, number) in cases {
-        assert!(rt; fault.number() == number);
+        assert_eq!(rt; fault.number(), number);
     }
 }

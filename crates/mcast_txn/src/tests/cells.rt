@@ -21,7 +21,7 @@ fn verdict_of(alloc: Global, n: u64) -> Result<Box<Verdict>, Fail> {
 
 /// What one decision gave: the stamp of the verdict that was returned, if one was, with the number of the fault, and
 /// the stamp that is then read by the same note and by a new one.
-#[derive(Clone, Copy, PartialEq, Eq)]
+#[derive(Clone, Copy, Debug, PartialEq, Eq)]
 struct Decided {
     returned: Option<(Stamp, u32)>,
     read: Option<Stamp>,

@@ -16,7 +16,7 @@ fn faults_have_their_numbers(rt: HostRuntime) -> Result<(), Fail> {
     ];
     for (fault, number, front) in rows {
         let message = format!(in rt.alloc(); "{fault}")?;
-        assert!(rt; fault.number() == number);
+        assert_eq!(rt; fault.number(), number);
         assert!(rt; message.as_bytes().starts_with(front));
     }
     Ok(())
@@ -31,7 +31,7 @@ fn a_claims_faults_have_their_numbers(rt: HostRuntime) -> Result<(), Fail> {
     ];
     for (fault, number, front) in rows {
         let message = format!(in rt.alloc(); "{fault}")?;
-        assert!(rt; fault.number() == number);
+        assert_eq!(rt; fault.number(), number);
         assert!(rt; message.as_bytes().starts_with(front));
     }
     Ok(())
@@ -41,6 +41,6 @@ fn a_claims_faults_have_their_numbers(rt: HostRuntime) -> Result<(), Fail> {
 #[test]
 fn a_ballots_fault_keeps_its_number(rt: HostRuntime) {
     for fault in [BallotFault::NotNamed, BallotFault::Twice] {
-        assert!(rt; GateFault::from(fault).number() == fault.number());
+        assert_eq!(rt; GateFault::from(fault).number(), fault.number());
     }
 }

@@ -52,15 +52,15 @@ pub(super) fn put(flying: &mut Flying, topic: u32, n: u64) -> Result<(), GateFau
 fn the_stamp_becomes_the_floor(rt: HostRuntime) -> Result<(), Fail> {
     let gate = Gate::resume(Sender(0), 4, stamp(10, 0));
     let mut flying = begun(rt.alloc(), gate, &[2, 1])?;
-    assert!(rt; flying.id().seq == 5);
-    assert!(rt; flying.floor() == stamp(10, 0));
+    assert_eq!(rt; flying.id().seq, 5);
+    assert_eq!(rt; flying.floor(), stamp(10, 0));
     put(&mut flying, 1, 11)?;
     put(&mut flying, 2, 11)?;
     let Ok((gate, verdict)) = flying.decide() else {
         return Err(Fail::new("not decided"));
     };
-    assert!(rt; verdict.stamp() == stamp(11, 2));
-    assert!(rt; gate.floor() == stamp(11, 2));
+    assert_eq!(rt; verdict.stamp(), stamp(11, 2));
+    assert_eq!(rt; gate.floor(), stamp(11, 2));
     Ok(())
 }
 
@@ -70,12 +70,12 @@ fn withdraw_keeps_floor_and_number(rt: HostRuntime) -> Result<(), Fail> {
     let mut flying = begun(rt.alloc(), gate, &[1, 2])?;
     put(&mut flying, 2, 11)?;
     let (gate, tickets) = flying.withdraw();
-    assert!(rt; tickets.len() == 1);
-    assert!(rt; tickets.get(0).topic == Topic(2));
-    assert!(rt; tickets.get(0).n == 11);
-    assert!(rt; gate.floor() == stamp(10, 0));
+    assert_eq!(rt; tickets.len(), 1);
+    assert_eq!(rt; tickets.get(0).topic, Topic(2));
+    assert_eq!(rt; tickets.get(0).n, 11);
+    assert_eq!(rt; gate.floor(), stamp(10, 0));
     let flying = begun(rt.alloc(), gate, &[1])?;
-    assert!(rt; flying.id().seq == 2);
+    assert_eq!(rt; flying.id().seq, 2);
     Ok(())
 }
 
@@ -86,9 +86,9 @@ fn the_last_number_is_used_up(rt: HostRuntime) -> Result<(), Fail> {
     match gate.begin(rt.alloc(), txn) {
         Ok(_) => Err(Fail::new("the flight began")),
         Err((gate, txn, fault)) => {
-            assert!(rt; fault == GateFault::SeqFull);
-            assert!(rt; gate.seq() == 18_446_744_073_709_551_615);
-            assert!(rt; txn.len() == 1);
+            assert_eq!(rt; fault, GateFault::SeqFull);
+            assert_eq!(rt; gate.seq(), 18_446_744_073_709_551_615);
+            assert_eq!(rt; txn.len(), 1);
             Ok(())
         }
     }
@@ -98,8 +98,8 @@ fn the_last_number_is_used_up(rt: HostRuntime) -> Result<(), Fail> {
 fn a_number_is_above_the_floor(rt: HostRuntime) -> Result<(), Fail> {
     let gate = Gate::resume(Sender(0), 0, stamp(10, 0));
     let mut flying = begun(rt.alloc(), gate, &[1])?;
-    assert!(rt; put(&mut flying, 1, 10) == Err(GateFault::BelowFloor));
-    assert!(rt; put(&mut flying, 1, 11) == Ok(()));
+    assert_eq!(rt; put(&mut flying, 1, 10), Err(GateFault::BelowFloor));
+    assert_eq!(rt; put(&mut flying, 1, 11), Ok(()));
     Ok(())
 }
 
@@ -115,14 +115,14 @@ fn floor_of(flying: Flying) -> Option<Stamp> {
 fn a_flight_needs_one_ticket_of_each_topic(rt: HostRuntime) -> Result<(), Fail> {
     let mut flying = begun(rt.alloc(), Gate::new(Sender(6)), &[0, 1, 0])?;
     put(&mut flying, 0, 1)?;
-    assert!(rt; put(&mut flying, 0, 1) == Err(GateFault::Twice));
-    assert!(rt; put(&mut flying, 5, 1) == Err(GateFault::NotNamed));
+    assert_eq!(rt; put(&mut flying, 0, 1), Err(GateFault::Twice));
+    assert_eq!(rt; put(&mut flying, 5, 1), Err(GateFault::NotNamed));
     match flying.decide() {
         Ok(_decided) => Err(Fail::new("decided without a ticket")),
         Err((mut flying, fault)) => {
-            assert!(rt; fault == GateFault::Incomplete);
+            assert_eq!(rt; fault, GateFault::Incomplete);
             put(&mut flying, 1, 1)?;
-            assert!(rt; floor_of(flying) == Some(stamp(1, 1)));
+            assert_eq!(rt; floor_of(flying), Some(stamp(1, 1)));
             Ok(())
         }
     }
@@ -131,9 +131,9 @@ fn a_flight_needs_one_ticket_of_each_topic(rt: HostRuntime) -> Result<(), Fail> 
 #[test]
 fn a_flight_has_its_transactions_parts(rt: HostRuntime) -> Result<(), Fail> {
     let gate = Gate::new(Sender(6));
-    assert!(rt; gate.sender() == Sender(6));
+    assert_eq!(rt; gate.sender(), Sender(6));
     let mut flying = begun(rt.alloc(), gate, &[0, 1, 0])?;
-    assert!(rt; flying.topics().len() == 2);
+    assert_eq!(rt; flying.topics().len(), 2);
     assert!(rt; flying.part(Topic(1)).is_some());
     assert!(rt; flying.part(Topic(1)).is_none());
     Ok(())

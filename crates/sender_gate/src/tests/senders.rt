@@ -53,11 +53,14 @@ fn a_withdrawn_number_stays_used(rt: HostRuntime) -> Result<(), Fail> {
 fn a_client_id_in_use_is_77(rt: HostRuntime) -> Result<(), Fail> {
     let mut senders = Senders::new(rt.alloc());
     let gate = senders.claim(Some(b"p"))?;
-    assert!(rt; senders.check(Some(b"p")) == Err(ClaimFault::SenderInUse));
-    assert!(rt; senders.claim(Some(b"p")).err() == Some(ClaimFault::SenderInUse));
-    assert!(rt; senders.check(Some(b"P")) == Ok(()));
+    assert_eq!(rt; senders.check(Some(b"p")), Err(ClaimFault::SenderInUse));
+    assert_eq!(rt;
+        senders.claim(Some(b"p")).err(),
+        Some(ClaimFault::SenderInUse)
+    );
+    assert_eq!(rt; senders.check(Some(b"P")), Ok(()));
     senders.give_back(gate);
-    assert!(rt; senders.check(Some(b"p")) == Ok(()));
+    assert_eq!(rt; senders.check(Some(b"p")), Ok(()));
     assert!(rt; is_at(&senders.claim(Some(b"p"))?, 0, 0, Stamp::ZERO));
     assert!(rt; is_at(&senders.claim(Some(b"P"))?, 1, 0, Stamp::ZERO));
     Ok(())
@@ -73,8 +76,11 @@ fn without_a_client_id_it_is_a_new_sender(rt: HostRuntime) -> Result<(), Fail> {
     senders.give_back(decided(rt.alloc(), gate, [10, 1])?);
     assert!(rt; is_at(&senders.claim(None)?, 2, 0, Stamp::ZERO));
     assert!(rt; is_at(&senders.claim(Some(b""))?, 3, 0, Stamp::ZERO));
-    assert!(rt; senders.claim(Some(b"")).err() == Some(ClaimFault::SenderInUse));
-    assert!(rt; senders.check(None) == Ok(()));
+    assert_eq!(rt;
+        senders.claim(Some(b"")).err(),
+        Some(ClaimFault::SenderInUse)
+    );
+    assert_eq!(rt; senders.check(None), Ok(()));
     Ok(())
 }
 
@@ -88,7 +94,10 @@ fn each_gets_its_own_gate(rt: HostRuntime) -> Result<(), Fail> {
     }
     senders.give_back(Gate::resume(Sender(4), 9, stamp(7, 1)));
     for client in [b"p", b"q", b"s"] {
-        assert!(rt; senders.check(Some(client.as_slice())) == Err(ClaimFault::SenderInUse));
+        assert_eq!(rt;
+            senders.check(Some(client.as_slice())),
+            Err(ClaimFault::SenderInUse)
+        );
     }
     assert!(rt; is_at(&senders.claim(Some(b"r"))?, 4, 9, stamp(7, 1)));
     Ok(())
@@ -103,7 +112,7 @@ fn a_strangers_gate_changes_nothing(rt: HostRuntime) -> Result<(), Fail> {
     senders.claim(None)?;
     senders.give_back(Gate::resume(Sender(1), 4, stamp(10, 0)));
     senders.give_back(Gate::resume(Sender(2), 4, stamp(10, 0)));
-    assert!(rt; senders.check(Some(b"p")) == Err(ClaimFault::SenderInUse));
+    assert_eq!(rt; senders.check(Some(b"p")), Err(ClaimFault::SenderInUse));
     senders.give_back(gate);
     senders.give_back(Gate::resume(Sender(0), 4, stamp(10, 0)));
     assert!(rt; is_at(&senders.claim(Some(b"p"))?, 0, 0, Stamp::ZERO));
@@ -129,11 +138,23 @@ fn full(alloc: Global, free: [u8; 2]) -> Result<Senders, Fail> {
 #[test]
 fn one_client_id_too_many_is_78(rt: HostRuntime) -> Result<(), Fail> {
     let mut senders = full(rt.alloc(), [3, 7])?;
-    assert!(rt; senders.check(Some(b"new")) == Err(ClaimFault::TooManyClients));
-    assert!(rt; senders.claim(Some(b"new")).err() == Some(ClaimFault::TooManyClients));
-    assert!(rt; senders.claim(Some(&[255, 255])).err() == Some(ClaimFault::SenderInUse));
+    assert_eq!(rt;
+        senders.check(Some(b"new")),
+        Err(ClaimFault::TooManyClients)
+    );
+    assert_eq!(rt;
+        senders.claim(Some(b"new")).err(),
+        Some(ClaimFault::TooManyClients)
+    );
+    assert_eq!(rt;
+        senders.claim(Some(&[255, 255])).err(),
+        Some(ClaimFault::SenderInUse)
+    );
     assert!(rt; is_at(&senders.claim(Some(&[3, 7]))?, 775, 0, Stamp::ZERO));
     assert!(rt; is_at(&senders.claim(None)?, 65_536, 0, Stamp::ZERO));
-    assert!(rt; senders.claim(Some(b"new")).err() == Some(ClaimFault::TooManyClients));
+    assert_eq!(rt;
+        senders.claim(Some(b"new")).err(),
+        Some(ClaimFault::TooManyClients)
+    );
     Ok(())
 }

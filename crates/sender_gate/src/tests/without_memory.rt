@@ -84,8 +84,8 @@ fn has_part(flying: &mut Flying, topic: u32, sends: &[(u32, u8)]) -> bool {
 fn a_flight_begins_in_the_end(rt: HostRuntime) -> Result<(), Fail> {
     let mut flying = begun(rt.alloc())?;
     let sender = Sender(3);
-    assert!(rt; flying.id() == TxnId { sender, seq: 5 });
-    assert!(rt; flying.floor() == stamp(10, 0));
+    assert_eq!(rt; flying.id(), TxnId { sender, seq: 5 });
+    assert_eq!(rt; flying.floor(), stamp(10, 0));
     assert!(rt; has_part(&mut flying, 0, &[(0, b'a'), (2, b'c')]));
     assert!(rt; has_part(&mut flying, 1, &[(1, b'b')]));
     put(&mut flying, 0, 11)?;
@@ -93,8 +93,8 @@ fn a_flight_begins_in_the_end(rt: HostRuntime) -> Result<(), Fail> {
     let Ok((gate, verdict)) = flying.decide() else {
         return Err(Fail::new("not decided"));
     };
-    assert!(rt; verdict.stamp() == stamp(12, 1));
-    assert!(rt; gate.floor() == stamp(12, 1));
-    assert!(rt; gate.seq() == 5);
+    assert_eq!(rt; verdict.stamp(), stamp(12, 1));
+    assert_eq!(rt; gate.floor(), stamp(12, 1));
+    assert_eq!(rt; gate.seq(), 5);
     Ok(())
 }

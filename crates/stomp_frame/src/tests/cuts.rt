@@ -404,7 +404,7 @@ fn out_of_memory_at_each_octet(rt: HostRuntime) -> Result<(), Fail> {
             lengths = (lengths % 10) * 10 + length % 10;
         }
     }
-    assert!(rt; lengths == 24);
+    assert_eq!(rt; lengths, 24);
     assert!(rt; reader.clean());
     Ok(())
 }

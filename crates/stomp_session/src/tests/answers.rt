@@ -13,14 +13,14 @@ const ID: TxnId = TxnId {
 };
 
 /// A frame's answer: the number of its refusal, or what the connection has to do, and the receipt.
-#[derive(PartialEq, Eq, Drop)]
+#[derive(Debug, PartialEq, Eq, Drop)]
 pub(super) enum PlainAnswer {
     Refused(u32),
     Accepted(PlainAction, Option<u8>),
 }
 
 /// What the connection has to do, with ids as letters and topics as numbers.
-#[derive(PartialEq, Eq, Drop)]
+#[derive(Debug, PartialEq, Eq, Drop)]
 pub(super) enum PlainAction {
     Connected(Option<u8>),
     Nothing,
@@ -31,7 +31,7 @@ pub(super) enum PlainAction {
 }
 
 /// A transaction: how many SENDs it has, its topics, and the SENDs of its parts, one part after the other.
-#[derive(PartialEq, Eq, Drop)]
+#[derive(Debug, PartialEq, Eq, Drop)]
 pub(super) struct PlainTxn {
     pub len: usize,
     pub topics: Vec<u32>,
@@ -39,7 +39,7 @@ pub(super) struct PlainTxn {
 }
 
 /// A SEND in the part at a topic: its index in the whole, its body of one octet, and how many headers it has.
-#[derive(Clone, Copy, PartialEq, Eq)]
+#[derive(Clone, Copy, Debug, PartialEq, Eq)]
 pub(super) struct PlainSend {
     pub topic: u32,
     pub index: usize,

@@ -27,12 +27,12 @@ fn topics_are_numbered_by_first_use(rt: HostRuntime) -> Result<(), Fail> {
     let rows: [(&[u8], u32); 5] = [(b"a", 3), (b"b", 2), (b"A", 0), (b"a/c", 4), (b"B", 1)];
     for (destination, want) in rows {
         let told = subscribed(&mut client, destination, destination)?;
-        assert!(rt; told == want);
+        assert_eq!(rt; told, want);
     }
-    assert!(rt; client.reconnect()? == 0);
+    assert_eq!(rt; client.reconnect()?, 0);
     for (destination, want) in rows {
         let told = subscribed(&mut client, destination, destination)?;
-        assert!(rt; told == want);
+        assert_eq!(rt; told, want);
     }
     assert!(rt; client.names().len() == 5);
     assert!(rt; client.names().name(Topic(4)) == Some(b"a/c".as_slice()));
@@ -53,7 +53,7 @@ fn a_refused_frame_makes_no_topic(rt: HostRuntime) -> Result<(), Fail> {
         assert!(rt; client.names().len() == 2);
         client.reconnect()?;
         let told = subscribed(&mut client, b"a", b"r")?;
-        assert!(rt; told == 2);
+        assert_eq!(rt; told, 2);
     }
     Ok(())
 }
@@ -86,7 +86,7 @@ fn at_most_1024_topics(rt: HostRuntime) -> Result<(), Fail> {
     ];
     for (topics, script, want) in rows {
         let told = answer_among(rt.alloc(), topics, script)?;
-        assert!(rt; told == want);
+        assert_eq!(rt; told, want);
     }
     Ok(())
 }
@@ -98,9 +98,9 @@ fn a_known_topic_is_no_topic_too_many(rt: HostRuntime) -> Result<(), Fail> {
     let mut client = Client::of(alloc, many_names(alloc, 1_024)?);
     client.connect(b"1.2")?;
     let told = subscribed(&mut client, b"a", b"__")?;
-    assert!(rt; told == 1_023);
+    assert_eq!(rt; told, 1_023);
     let told = subscribed(&mut client, b"b", b"@A")?;
-    assert!(rt; told == 1);
+    assert_eq!(rt; told, 1);
     Ok(())
 }
 

@@ -35,11 +35,11 @@ fn names_are_numbered_from_zero(rt: HostRuntime) -> Result<(), Fail> {
     let rows: [(&[u8], usize); 3] = [(b"A", 1), (b"B/b", 2), (b"A", 2)];
     for (name, len) in rows {
         let told = added(&mut names, name)?;
-        assert!(rt; told == len);
+        assert_eq!(rt; told, len);
     }
     let rows: [(&[u8], u32); 3] = [(b"A", 0), (b"B/b", 1), (b"B", 1000)];
     for (name, number) in rows {
-        assert!(rt; found(&names, name) == number);
+        assert_eq!(rt; found(&names, name), number);
     }
     assert!(rt; has_name(&names, 1, b"B/b"));
     assert!(rt; names.name(Topic(2)).is_none());
@@ -61,11 +61,11 @@ fn the_last_name_is_taken_back(rt: HostRuntime) -> Result<(), Fail> {
         added(&mut names, name)?;
     }
     take_back(&mut names);
-    assert!(rt; found(&names, b"C") == 1000);
-    assert!(rt; added(&mut names, b"D")? == 3);
+    assert_eq!(rt; found(&names, b"C"), 1000);
+    assert_eq!(rt; added(&mut names, b"D")?, 3);
     let rows: [(&[u8], u32); 4] = [(b"A", 0), (b"B", 1), (b"C", 1000), (b"D", 2)];
     for (name, number) in rows {
-        assert!(rt; found(&names, name) == number);
+        assert_eq!(rt; found(&names, name), number);
     }
     Ok(())
 }
@@ -88,6 +88,6 @@ const TEXTS: &[(&[u8], bool)] = &[
 #[test]
 fn names_are_graphic(rt: HostRuntime) {
     for &(text, want) in TEXTS {
-        assert!(rt; is_name(text) == want);
+        assert_eq!(rt; is_name(text), want);
     }
 }

@@ -43,7 +43,7 @@ const ROWS: [(&[u8], u32); 26] = [
 fn the_table(rt: HostRuntime) -> Result<(), Fail> {
     for (script, want) in ROWS {
         let told = last_number(rt.alloc(), script)?;
-        assert!(rt; told == want);
+        assert_eq!(rt; told, want);
     }
     Ok(())
 }
@@ -62,7 +62,7 @@ fn versions(rt: HostRuntime) -> Result<(), Fail> {
     for (versions, want) in rows {
         let mut client = Client::new(rt.alloc())?;
         let told = client.connect(versions)?;
-        assert!(rt; told == want);
+        assert_eq!(rt; told, want);
     }
     Ok(())
 }
@@ -81,7 +81,7 @@ fn an_ack_is_auto(rt: HostRuntime) -> Result<(), Fail> {
             Command::Subscribe,
             &[(b"id", b"a"), (b"destination", destination), (b"ack", ack)],
         )?;
-        assert!(rt; told == want);
+        assert_eq!(rt; told, want);
     }
     Ok(())
 }
@@ -101,7 +101,7 @@ fn answer_once_closed(alloc: Global, is_ended: bool) -> Result<u32, NoMemory> {
 fn a_fault_and_an_end_close(rt: HostRuntime) -> Result<(), Fail> {
     for is_ended in [false, true] {
         let told = answer_once_closed(rt.alloc(), is_ended)?;
-        assert!(rt; told == 73);
+        assert_eq!(rt; told, 73);
     }
     Ok(())
 }
@@ -137,7 +137,7 @@ fn at_most_sixty_four(rt: HostRuntime) -> Result<(), Fail> {
     ];
     for (script, letter, want) in rows {
         let told = answers_at_the_limit(rt.alloc(), script, letter)?;
-        assert!(rt; told == (64, want));
+        assert_eq!(rt; told, (64, want));
     }
     Ok(())
 }
@@ -231,7 +231,7 @@ fn faults_have_their_titles(rt: HostRuntime) -> Result<(), Fail> {
         (SessionFault::BadDestination, 76, b"76 BadDestination"),
     ] {
         let message = format!(in alloc; "{fault}")?;
-        assert!(rt; fault.number() == number);
+        assert_eq!(rt; fault.number(), number);
         assert!(rt; fault.title() == title);
         assert!(rt; message.as_bytes().starts_with(title));
     }

@@ -62,7 +62,7 @@ fn commits(rt: HostRuntime) -> Result<(), Fail> {
     ];
     for (row, want) in rows {
         let told = counts(step(rt.alloc(), &row)?);
-        assert!(rt; told == want);
+        assert_eq!(rt; told, want);
     }
     Ok(())
 }

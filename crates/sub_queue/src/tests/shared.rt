@@ -48,7 +48,7 @@ impl<R: Wait> Pusher<R> {
 }
 
 /// How many items were seen, and whether the k-th of them was item k, from 0.
-#[derive(Clone, Copy, PartialEq, Eq)]
+#[derive(Clone, Copy, Debug, PartialEq, Eq)]
 struct Seen {
     items: u64,
     in_order: bool,
@@ -222,5 +222,5 @@ fn an_empty_queue_gives_nothing_and_a_full_one_returns(rt: HostRuntime) {
         Took(2),
         Nothing,
     ];
-    assert!(rt; queue_of_one(&rt, rt.alloc()) == Some(wanted));
+    assert_eq!(rt; queue_of_one(&rt, rt.alloc()), Some(wanted));
 }

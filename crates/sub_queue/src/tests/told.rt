@@ -100,7 +100,7 @@ where
 /// A body that counts its pushes down and refuses all that follow fails here.
 #[test]
 fn none_is_refused_while_all_are_taken(rt: HostRuntime) {
-    assert!(rt; pumped(&rt, rt.alloc()) == Some((ITEMS, ITEMS)));
+    assert_eq!(rt; pumped(&rt, rt.alloc()), Some((ITEMS, ITEMS)));
 }
 
 /// What a queue of one place answers to a source that is told of each take.
@@ -122,5 +122,5 @@ fn told_of_takes<R: Wait>(rt: &R, alloc: Global) -> Option<[Answer; 4]> {
 #[test]
 fn a_source_that_is_told_goes_on(rt: HostRuntime) {
     let wanted = [Accepted, Returned(1), Accepted, Returned(3)];
-    assert!(rt; told_of_takes(&rt, rt.alloc()) == Some(wanted));
+    assert_eq!(rt; told_of_takes(&rt, rt.alloc()), Some(wanted));
 }

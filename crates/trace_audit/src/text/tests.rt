@@ -7,7 +7,7 @@ use crate::{AuditFault, Trace, audit};
 use std::alloc::Global;
 
 /// What reading a text came to.
-#[derive(Clone, Copy, PartialEq, Eq)]
+#[derive(Clone, Copy, Debug, PartialEq, Eq)]
 enum Reading {
     /// It is a trace.
     Trace,
@@ -59,7 +59,7 @@ fn lines_are_rows(rt: HostRuntime) {
         b"span 0 0 0.0 -\nqueue 0 18446744073709551615 18446744073709551615 18446744073709551615.4294967295",
     ];
     for text in texts {
-        assert!(rt; reading_of(rt.alloc(), text) == Reading::Trace);
+        assert_eq!(rt; reading_of(rt.alloc(), text), Reading::Trace);
     }
 }
 
@@ -110,7 +110,7 @@ fn other_lines_are_bad(rt: HostRuntime) {
         b"log 0 0 1 1.0 0\x00",
     ];
     for text in texts {
-        assert!(rt; reading_of(rt.alloc(), text) == Reading::Bad(1));
+        assert_eq!(rt; reading_of(rt.alloc(), text), Reading::Bad(1));
     }
 }
 
@@ -134,7 +134,7 @@ fn other_spans_and_queues_are_bad(rt: HostRuntime) {
         b"log 0 0 1 1.0 0,0",
     ];
     for text in texts {
-        assert!(rt; reading_of(rt.alloc(), text) == Reading::Bad(1));
+        assert_eq!(rt; reading_of(rt.alloc(), text), Reading::Bad(1));
     }
 }
 
@@ -151,7 +151,7 @@ fn the_first_bad_line_is_reported(rt: HostRuntime) {
         (b"span 3 0 0.0 -\n\nspan 3 0 0.0 -\n", 2),
     ];
     for (text, number) in cases {
-        assert!(rt; reading_of(rt.alloc(), text) == Reading::Bad(number));
+        assert_eq!(rt; reading_of(rt.alloc(), text), Reading::Bad(number));
     }
 }
 
@@ -175,8 +175,8 @@ const PRINTED: [(&[u8], &[u8]); 4] = [
 #[test]
 fn traces_are_printed_in_order(rt: HostRuntime) {
     for (text, printed) in PRINTED {
-        assert!(rt; is_printed_as(rt.alloc(), text, printed) == Some(true));
-        assert!(rt; is_printed_as(rt.alloc(), printed, printed) == Some(true));
+        assert_eq!(rt; is_printed_as(rt.alloc(), text, printed), Some(true));
+        assert_eq!(rt; is_printed_as(rt.alloc(), printed, printed), Some(true));
     }
 }
 
@@ -237,7 +237,7 @@ const ANSWERED: [(&[u8], &[u8]); 10] = [
 #[test]
 fn answers_are_written(rt: HostRuntime) {
     for (text, written) in ANSWERED {
-        assert!(rt; is_answered(rt.alloc(), text, written) == Some(true));
+        assert_eq!(rt; is_answered(rt.alloc(), text, written), Some(true));
     }
 }
 
@@ -250,6 +250,6 @@ fn refused_growths_of_answers_are_reported(rt: HostRuntime) {
 
 #[test]
 fn faults_of_texts_have_their_numbers(rt: HostRuntime) {
-    assert!(rt; ParseFault::BadRow(7).number() == 90);
-    assert!(rt; ParseFault::NoMemory.number() == 91);
+    assert_eq!(rt; ParseFault::BadRow(7).number(), 90);
+    assert_eq!(rt; ParseFault::NoMemory.number(), 91);
 }
