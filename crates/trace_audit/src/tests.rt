@@ -235,14 +235,12 @@ fn queues_are_their_spans(rt: HostRuntime) {
     ];
     for (span, queue, fits) in cases {
         let fault = fault_of(rt.alloc(), &[first, second, span, queue]);
-        assert!(rt;
-            fault
-                == (if fits {
-                    None
-                } else {
-                    Some(AuditFault::QueueRow(7))
-                })
-        );
+        let wanted = if fits {
+            None
+        } else {
+            Some(AuditFault::QueueRow(7))
+        };
+        assert!(rt; fault == wanted);
     }
 }
 
