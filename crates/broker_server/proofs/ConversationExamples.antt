@@ -58,7 +58,7 @@ second_first =
     (Takes (named 1) None ∷ [], Takes (named 2) None ∷ [], refl, Emptied, b, c ∷ [], [], empty_queue 1 (codes "b"), refl, last) in
     let front : DrainsAll 2 (Takes (named 0) None ∷ []) (a ∷ []) [] Emptied (a ∷ []) [] 0 =
     (Takes (named 0) None ∷ [], [], refl, Emptied, a, [], [], empty_queue 0 (codes "a"), refl, (refl, refl, refl, refl, refl)) in
-    (a ∷ [], b ∷ c ∷ [], refl, refl, Takes (named 1) None ∷ Takes (named 2) None ∷ [], Takes (named 0) None ∷ [], refl, Emptied, b ∷ c ∷ [], a ∷ [], [], 0, 0, back, refl, front, refl)
+    (a ∷ [], b ∷ c ∷ [], refl, refl, Takes (named 1) None ∷ Takes (named 2) None ∷ [], Takes (named 0) None ∷ [], refl, Emptied, b ∷ c ∷ [], a ∷ [], [], 0, 0, back, refl, (front, refl))
 
 -- where the second of three isn't emptied, since 65,536 octets wait, it is the third's turn next
 pub third_next : (wire : List ℕ) → full_wire ≤ length wire → DrainsQueues 2 1 [] (a ∷ b ∷ c ∷ []) wire Stopped (a ∷ b ∷ c ∷ []) wire 2

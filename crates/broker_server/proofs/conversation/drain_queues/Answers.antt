@@ -12,8 +12,8 @@ returns-in_default g c =
     let front = c.split_at_mut-front.result.0.now in
     let back = c.split_at_mut-front.result.1.now in
     let new = c.drain_all-left.new in
-    let begins : length front ≡ begins_at c.args.turn (length c.args.queues.now) = c.split_at_mut-front.ensures.front_len ∙ (c.begins_at-first.ensures.at ∙ ap (begins_at c.args.turn) c.len-count.ensures) in
-    let goes = c.saturating_sub-behind.ensures ∙ ap (λ (n : ℕ). n - c.drain_all-left.result.1) c.len-count.ensures in (
+    let begins : length front ≡ begins_at c.args.turn (length c.args.queues.now) = c.split_at_mut-front.ensures.front_len ∙ c.begins_at-first.ensures.at in
+    let goes = c.saturating_sub-behind.ensures in (
       did.0,
       did.1,
       drains_back c.args.capacity c.args.turn c.args.queues.now front back c.split_at_mut-front.ensures.value begins did.0 c.args.wire.now end new.queues new.wire c.drain_all-left.result.1 c.saturating_sub-behind.result c.in_default.not-Emptied did.2 goes,
@@ -31,7 +31,7 @@ returns-then-drained g c =
     let back = c.split_at_mut-front.result.1.now in
     let new = c.drain_all-left.new in
     let after = c.drain_all-left-2.new in
-    let begins : length front ≡ begins_at c.args.turn (length c.args.queues.now) = c.split_at_mut-front.ensures.front_len ∙ (c.begins_at-first.ensures.at ∙ ap (begins_at c.args.turn) c.len-count.ensures) in
+    let begins : length front ≡ begins_at c.args.turn (length c.args.queues.now) = c.split_at_mut-front.ensures.front_len ∙ c.begins_at-first.ensures.at in
     let unseen = c.drain_all-left-2.result.1 in
     let goes = c.saturating_sub-next.ensures ∙ ap (λ (n : ℕ). n - unseen) (sym c.split_at_mut-front.ensures.front_len) in
     let any : (one.any || two.any) ≡ has_item (did.0 ++ rest.0) = either_item did.0 rest.0 one.any two.any did.3 rest.3 in (
@@ -52,7 +52,7 @@ returns-else-drained g c =
     let back = c.split_at_mut-front.result.1.now in
     let new = c.drain_all-left.new in
     let after = c.drain_all-left-2.new in
-    let begins : length front ≡ begins_at c.args.turn (length c.args.queues.now) = c.split_at_mut-front.ensures.front_len ∙ (c.begins_at-first.ensures.at ∙ ap (begins_at c.args.turn) c.len-count.ensures) in
+    let begins : length front ≡ begins_at c.args.turn (length c.args.queues.now) = c.split_at_mut-front.ensures.front_len ∙ c.begins_at-first.ensures.at in
     let unseen = c.drain_all-left-2.result.1 in
     let goes = c.saturating_sub-next.ensures ∙ ap (λ (n : ℕ). n - unseen) (sym c.split_at_mut-front.ensures.front_len) in
     let any : (one.any || two.any) ≡ has_item (did.0 ++ rest.0) = either_item did.0 rest.0 one.any two.any did.3 rest.3 in (
