@@ -1,6 +1,8 @@
 //! Traces of worked runs, and what an audit says of each.
 
 use super::runs::Run;
+use super::runs::first_uses::{aborted, first_use, mixed};
+use super::runs::lasting::{cancelling, lasting};
 use super::runs::order::{crossing, leading, waiting, whole_part};
 use super::runs::spans::{ended_span, lagged, parting};
 use super::without_memory::is_told;
@@ -49,6 +51,23 @@ const TEXTS: &[(&[u8], &[u8])] = &[
         b"log 0 0 1 1.0 0\nlog 0 0 2 2.0 0\nlog 0 0 3 3.0 0\nspan 0 0 0.0 2.0\nqueue 0 0 1 1.0\nqueue 0 0 2 2.0\n",
         b"agreed 0 1 1.0 0\nagreed 0 2 2.0 0\nagreed 0 3 3.0 0\ncomplete\n",
     ),
+    (
+        b"log 1 0 1 1.1 1\nspan 0 0 0.0 -\n",
+        b"agreed 0 1 1.1 1\ncomplete\n",
+    ),
+    (
+        b"span 0 2 0.0 -\nspan 1 1 0.0 -\nspan 2 3 0.0 -\n",
+        b"complete\n",
+    ),
+    (
+        b"log 1 0 1 1.2 0,1,2\nspan 0 1 0.0 -\nqueue 0 0 1 1.2\n",
+        b"agreed 0 1 1.2 0,1,2\nincomplete\n",
+    ),
+    (
+        b"log 1 0 1 10.0 0,1\nlog 1 0 2 11.1 1\n",
+        b"agreed 0 1 10.0 0,1\nagreed 0 2 11.1 1\nincomplete\n",
+    ),
+    (b"", b"complete\n"),
 ];
 
 /// The run of this number, from 0.
@@ -61,6 +80,11 @@ fn run_at(i: usize) -> Option<&'static Run> {
         4 => ended_span(),
         5 => parting(),
         6 => lagged(),
+        7 => first_use(),
+        8 => aborted(),
+        9 => mixed(),
+        10 => lasting(),
+        11 => cancelling(),
         _ => return None,
     })
 }
@@ -88,7 +112,7 @@ fn is_answered(alloc: Global, trace: &Trace, text: &[u8]) -> Result<bool, NoMemo
 }
 
 /// How many runs have a trace.
-const TRACED_LEN: usize = 7;
+const TRACED_LEN: usize = 12;
 
 /// Whether the run's trace has its text, and the audit of it the answer.
 fn is_traced(alloc: Global, traced: &Traced) -> Result<bool, NoMemory> {

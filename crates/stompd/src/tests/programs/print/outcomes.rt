@@ -72,6 +72,13 @@ const LINES: &[(Outcome, &[u8])] = &[
     ),
     (
         Outcome::Faulted {
+            fault: ConnectionFault::Session(SessionFault::TooManyTopics),
+            cut: false,
+        },
+        b"error 75 TooManyTopics\n",
+    ),
+    (
+        Outcome::Faulted {
             fault: ConnectionFault::Session(SessionFault::BadDestination),
             cut: false,
         },
