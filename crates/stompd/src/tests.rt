@@ -6,3 +6,4 @@ mod draws;
 mod locks;
 mod programs;
 mod serving;
+mod stepping;

@@ -14,6 +14,7 @@ mod lost;
 mod memory;
 mod places;
 mod senders;
+mod shared_jobs;
 mod spans;
 mod topics;
 mod tracing;

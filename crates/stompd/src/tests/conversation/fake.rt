@@ -2,9 +2,9 @@
 
 ghost use Rattle.std.specs.Prelude.{◌≡◌};
 
+use crate::tests::stepping::step_alone;
 use broker_locks::CommitFault;
 use broker_server::{BrokerCalls, ConversationFault};
-use delivery::ConnectionFault;
 use mcast_group::SubFault;
 use mcast_txn::{Part, Released, Sender, Stamp, Ticket, Topic};
 use sender_gate::{ClaimFault, Flying, Gate};
@@ -145,13 +145,7 @@ impl BrokerCalls for Fake {
         frame: ClientFrame,
         names: &mut Names,
     ) -> Result<Step, (ClientFrame, ConversationFault)> {
-        match session.step(frame, names) {
-            Ok(step) => Ok(step),
-            Err((frame, fault)) => {
-                let fault = ConversationFault::Connection(ConnectionFault::Session(fault));
-                Err((frame, fault))
-            }
-        }
+        step_alone(session, frame, names)
     }
 
     fn claim(&mut self, _client: Option<&[u8]>) -> Result<Gate, ClaimFault> {

@@ -7,15 +7,14 @@ pub(super) mod logs;
 mod queues;
 
 use super::jobs::Opening;
+use super::shared_jobs::{SharedJob, with_shared_broker};
 use broker_locks::{Broker, Side, Tally};
 use commits::{Answers, Committed, commit_all};
 use logs::are_logs;
 use mcast_txn::{NoMemory, Topic};
 use queues::items_sent;
 use std::alloc::Global;
-use std::marker::Brand;
 use std::sync::Wait;
-use std::sync::ledger::Blank;
 use std::test::Fail;
 use std::thread;
 use std::thread::Threads;
@@ -117,43 +116,33 @@ struct Found {
     are_logs: bool,
 }
 
-/// A run whose trace is audited, with these ledgers.
-fn audited_by<R, W, T>(
-    rt: &R,
-    alloc: Global,
-    opening: Opening,
-    workers: Blank,
-    tickets: Blank,
-) -> Option<Found>
-where
-    R: Threads + Wait + Send + Sync,
-    W: Side + Send + Sync + 'static,
-    T: Side + Send + Sync + 'static,
-    requires workers { (workers.name ≡ W.name) × (workers.parts ≡ W.parts) × (W.parts ≡ W.all) × (W.all ≡ 257) }
-    requires tickets { (tickets.name ≡ T.name) × (tickets.parts ≡ T.parts) × (T.parts ≡ T.all) × (T.all ≡ 1024) }
-{
-    let broker = opening.begin::<R, W, T>(alloc, workers, tickets).ok()?;
-    let Ended {
-        senders,
-        released,
-        items,
-        answers,
-    } = run_subscribed(rt, alloc, &broker)?;
-    let trace = broker.into_trace().ok()?;
-    Some(Found {
-        senders,
-        released,
-        items,
-        are_logs: are_logs(alloc, &trace, &answers),
-    })
-}
+/// A run whose trace is audited.
+#[derive(Drop)]
+struct Audited;
 
-/// The same, with ledgers of its own.
-fn audited<R>(rt: &R, alloc: Global, opening: Opening) -> Option<Found>
-where
-    R: Threads + Wait + Send + Sync,
-{
-    audited_by::<R, Brand, Brand>(rt, alloc, opening, Blank::new(257), Blank::new(1_024))
+impl<R: Threads + Wait + Send + Sync> SharedJob<R> for Audited {
+    type Answer = Found;
+
+    fn run<W, T>(self, rt: &R, alloc: Global, broker: Broker<R, W, T>) -> Option<Found>
+    where
+        W: Side + Send + Sync + 'static,
+        T: Side + Send + Sync + 'static,
+        requires { (W.parts ≡ W.all) × (T.parts ≡ T.all) }
+    {
+        let Ended {
+            senders,
+            released,
+            items,
+            answers,
+        } = run_subscribed(rt, alloc, &broker)?;
+        let trace = broker.into_trace().ok()?;
+        Some(Found {
+            senders,
+            released,
+            items,
+            are_logs: are_logs(alloc, &trace, &answers),
+        })
+    }
 }
 
 /// Of each seven transactions of a worker four name a topic.
@@ -166,45 +155,36 @@ fn two_workers_are_audited(rt: HostRuntime) -> Result<(), Fail> {
         items: [Some(240); 3],
         are_logs: true,
     };
-    assert_eq!(rt; audited(&rt, rt.alloc(), opening), Some(wanted));
+    let found = with_shared_broker(&rt, rt.alloc(), opening, Audited);
+    assert_eq!(rt; found, Some(wanted));
     Ok(())
 }
 
-/// The tally after such a run, with these ledgers.
-fn tallied_by<R, W, T>(
-    rt: &R,
-    alloc: Global,
-    opening: Opening,
-    workers: Blank,
-    tickets: Blank,
-) -> Option<Tally>
-where
-    R: Threads + Wait + Send + Sync,
-    W: Side + Send + Sync + 'static,
-    T: Side + Send + Sync + 'static,
-    requires workers { (workers.name ≡ W.name) × (workers.parts ≡ W.parts) × (W.parts ≡ W.all) × (W.all ≡ 257) }
-    requires tickets { (tickets.name ≡ T.name) × (tickets.parts ≡ T.parts) × (T.parts ≡ T.all) × (T.all ≡ 1024) }
-{
-    let broker = opening.begin::<R, W, T>(alloc, workers, tickets).ok()?;
-    let Ran {
-        senders: _,
-        first,
-        second,
-    } = run_both(rt, alloc, &broker)?;
-    if three_heads(rt, &broker) != [Some(240); 3] {
-        return None;
-    }
-    let first = broker.leave(rt, first.worker);
-    let second = broker.leave(rt, second.worker);
-    broker.tally(rt, first.add(second)).ok()
-}
+/// The tally after such a run.
+#[derive(Drop)]
+struct Tallied;
 
-/// The same, with ledgers of its own.
-fn tallied<R>(rt: &R, alloc: Global, opening: Opening) -> Option<Tally>
-where
-    R: Threads + Wait + Send + Sync,
-{
-    tallied_by::<R, Brand, Brand>(rt, alloc, opening, Blank::new(257), Blank::new(1_024))
+impl<R: Threads + Wait + Send + Sync> SharedJob<R> for Tallied {
+    type Answer = Tally;
+
+    fn run<W, T>(self, rt: &R, alloc: Global, broker: Broker<R, W, T>) -> Option<Tally>
+    where
+        W: Side + Send + Sync + 'static,
+        T: Side + Send + Sync + 'static,
+        requires { (W.parts ≡ W.all) × (T.parts ≡ T.all) }
+    {
+        let Ran {
+            senders: _,
+            first,
+            second,
+        } = run_both(rt, alloc, &broker)?;
+        if three_heads(rt, &broker) != [Some(240); 3] {
+            return None;
+        }
+        let first = broker.leave(rt, first.worker);
+        let second = broker.leave(rt, second.worker);
+        broker.tally(rt, first.add(second)).ok()
+    }
 }
 
 #[test]
@@ -216,6 +196,7 @@ fn two_workers_are_tallied(rt: HostRuntime) -> Result<(), Fail> {
         released: 720,
         pending: 0,
     };
-    assert_eq!(rt; tallied(&rt, rt.alloc(), opening), Some(wanted));
+    let tally = with_shared_broker(&rt, rt.alloc(), opening, Tallied);
+    assert_eq!(rt; tally, Some(wanted));
     Ok(())
 }

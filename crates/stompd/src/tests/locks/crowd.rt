@@ -9,6 +9,7 @@ use super::audited::commits::{Answers, Committed, commit_all};
 use super::audited::logs::are_logs;
 use super::held::reaches;
 use super::jobs::Opening;
+use super::shared_jobs::{SharedJob, with_shared_broker};
 use crate::tests::draws::Draws;
 use broker_locks::{Broker, Side, Worker};
 use mcast_group::Cause;
@@ -16,10 +17,8 @@ use mcast_txn::{NoMemory, Stamp, Topic};
 use sender_gate::Gate;
 use spans::{Taken, taken_between};
 use std::alloc::Global;
-use std::marker::Brand;
 use std::sync::Wait;
 use std::sync::atomic::{AtomicU64, Ordering};
-use std::sync::ledger::Blank;
 use std::test::Fail;
 use std::thread;
 use std::thread::Threads;
@@ -266,44 +265,35 @@ where
     })
 }
 
-/// A run whose trace is audited, with these ledgers.
-fn crowded_by<R, W, T>(
-    rt: &R,
-    alloc: Global,
-    opening: Opening,
+/// A run of this number whose trace is audited.
+#[derive(Drop)]
+struct Crowded {
     run: u32,
-    workers: Blank,
-    tickets: Blank,
-) -> Option<Found>
-where
-    R: Threads + Wait + Send + Sync,
-    W: Side + Send + Sync + 'static,
-    T: Side + Send + Sync + 'static,
-    requires workers { (workers.name ≡ W.name) × (workers.parts ≡ W.parts) × (W.parts ≡ W.all) × (W.all ≡ 257) }
-    requires tickets { (tickets.name ≡ T.name) × (tickets.parts ≡ T.parts) × (T.parts ≡ T.all) × (T.all ≡ 1024) }
-{
-    let broker = opening.begin::<R, W, T>(alloc, workers, tickets).ok()?;
-    let Ended {
-        released,
-        unread,
-        are_whole,
-        answers,
-    } = run_watched(rt, alloc, &broker, run)?;
-    let trace = broker.into_trace().ok()?;
-    Some(Found {
-        released,
-        unread,
-        are_whole,
-        are_logs: are_logs(alloc, &trace, &answers),
-    })
 }
 
-/// The same, with ledgers of its own.
-fn crowded<R>(rt: &R, alloc: Global, opening: Opening, run: u32) -> Option<Found>
-where
-    R: Threads + Wait + Send + Sync,
-{
-    crowded_by::<R, Brand, Brand>(rt, alloc, opening, run, Blank::new(257), Blank::new(1_024))
+impl<R: Threads + Wait + Send + Sync> SharedJob<R> for Crowded {
+    type Answer = Found;
+
+    fn run<W, T>(self, rt: &R, alloc: Global, broker: Broker<R, W, T>) -> Option<Found>
+    where
+        W: Side + Send + Sync + 'static,
+        T: Side + Send + Sync + 'static,
+        requires { (W.parts ≡ W.all) × (T.parts ≡ T.all) }
+    {
+        let Ended {
+            released,
+            unread,
+            are_whole,
+            answers,
+        } = run_watched(rt, alloc, &broker, self.run)?;
+        let trace = broker.into_trace().ok()?;
+        Some(Found {
+            released,
+            unread,
+            are_whole,
+            are_logs: are_logs(alloc, &trace, &answers),
+        })
+    }
 }
 
 /// Topics 0 to 2, whose queues have so many places.
@@ -324,7 +314,8 @@ fn each_of_a_crowd_takes_its_rows(rt: HostRuntime) -> Result<(), Fail> {
     };
     for run in 0..8 {
         let opening = three_topics(rt.alloc(), 512)?;
-        assert_eq!(rt; crowded(&rt, rt.alloc(), opening, run), Some(wanted));
+        let found = with_shared_broker(&rt, rt.alloc(), opening, Crowded { run });
+        assert_eq!(rt; found, Some(wanted));
     }
     Ok(())
 }
@@ -340,7 +331,8 @@ fn those_of_a_crowd_that_lag_take_their_rows(rt: HostRuntime) -> Result<(), Fail
     };
     for run in 8..16 {
         let opening = three_topics(rt.alloc(), 2)?;
-        assert_eq!(rt; crowded(&rt, rt.alloc(), opening, run), Some(wanted));
+        let found = with_shared_broker(&rt, rt.alloc(), opening, Crowded { run });
+        assert_eq!(rt; found, Some(wanted));
     }
     Ok(())
 }

@@ -5,14 +5,13 @@ ghost use Rattle.std.specs.Prelude.{◌≡◌};
 use super::broker::{commit_as, heads, three_taken};
 use super::flights::{Quiet, stamp};
 use super::jobs::Opening;
+use super::shared_jobs::{SharedJob, with_shared_broker};
 use super::tracing::{CROSSED_AND_TAKEN, has_text};
 use broker_locks::{Broker, CommitFault, Point, Side};
 use mcast_txn::{Stamp, Topic};
 use std::alloc::Global;
-use std::marker::Brand;
 use std::sync::Wait;
 use std::sync::atomic::{AtomicU64, Ordering};
-use std::sync::ledger::Blank;
 use std::test::Fail;
 use std::thread;
 use std::thread::Threads;
@@ -127,32 +126,22 @@ where
     })
 }
 
-/// The same with the trace, with these ledgers.
-fn two_workers_by<R, W, T>(
-    rt: &R,
-    alloc: Global,
-    opening: Opening,
-    workers: Blank,
-    tickets: Blank,
-) -> Option<(Found, Trace)>
-where
-    R: Threads + Wait + Send + Sync,
-    W: Side + Send + Sync + 'static,
-    T: Side + Send + Sync + 'static,
-    requires workers { (workers.name ≡ W.name) × (workers.parts ≡ W.parts) × (W.parts ≡ W.all) × (W.all ≡ 257) }
-    requires tickets { (tickets.name ≡ T.name) × (tickets.parts ≡ T.parts) × (T.parts ≡ T.all) × (T.all ≡ 1024) }
-{
-    let broker = opening.begin::<R, W, T>(alloc, workers, tickets).ok()?;
-    let found = two_workers_at(rt, alloc, &broker)?;
-    Some((found, broker.into_trace().ok()?))
-}
+/// The same with the trace.
+#[derive(Drop)]
+struct TwoWorkers;
 
-/// The same, with ledgers of its own.
-fn two_workers<R>(rt: &R, alloc: Global, opening: Opening) -> Option<(Found, Trace)>
-where
-    R: Threads + Wait + Send + Sync,
-{
-    two_workers_by::<R, Brand, Brand>(rt, alloc, opening, Blank::new(257), Blank::new(1_024))
+impl<R: Threads + Wait + Send + Sync> SharedJob<R> for TwoWorkers {
+    type Answer = (Found, Trace);
+
+    fn run<W, T>(self, rt: &R, alloc: Global, broker: Broker<R, W, T>) -> Option<(Found, Trace)>
+    where
+        W: Side + Send + Sync + 'static,
+        T: Side + Send + Sync + 'static,
+        requires { (W.parts ≡ W.all) × (T.parts ≡ T.all) }
+    {
+        let found = two_workers_at(rt, alloc, &broker)?;
+        Some((found, broker.into_trace().ok()?))
+    }
 }
 
 /// The worker that isn't held has the tickets (2, 0) and (1, 1), so each topic releases its row first. With one lock round
@@ -161,7 +150,7 @@ where
 fn a_held_worker_stops_no_other(rt: HostRuntime) -> Result<(), Fail> {
     let alloc = rt.alloc();
     let opening = Opening::new(alloc, &[0, 0], 4, true)?;
-    let left = two_workers(&rt, alloc, opening);
+    let left = with_shared_broker(&rt, alloc, opening, TwoWorkers);
     let (found, trace) = left.expect(&rt, "memory");
     let queue = [Some((1, stamp(2, 0))), Some((0, stamp(2, 1))), None];
     let wanted = Found {

@@ -6,19 +6,18 @@ use super::broker::heads;
 use super::flights::{Quiet, begun, stamp};
 use super::held::{Held, reaches};
 use super::jobs::Opening;
+use super::shared_jobs::{SharedJob, with_shared_broker};
 use super::tracing::{has_text, is_complete};
+use crate::tests::stepping::step_alone;
 use broker_locks::{Broker, CommitFault, Side, Subscribed, Worker};
 use broker_server::{BrokerCalls, Conversation, ConversationFault, Exit, ProgramFault};
-use delivery::ConnectionFault;
 use mcast_group::{SubFault, SubState};
 use mcast_txn::{Released, Stamp, Topic};
 use sender_gate::{ClaimFault, Flying, Gate};
 use std::alloc::Global;
 use std::io::{ErrorKind, Write};
-use std::marker::Brand;
 use std::sync::Wait;
 use std::sync::atomic::{AtomicU64, Ordering};
-use std::sync::ledger::Blank;
 use std::test::Fail;
 use std::thread::Threads;
 use std::{io, thread};
@@ -69,13 +68,7 @@ impl<'a, R: Wait, W: Side, T: Side> BrokerCalls for Calls<'a, R, W, T> {
         frame: ClientFrame,
         names: &mut Names,
     ) -> Result<Step, (ClientFrame, ConversationFault)> {
-        match session.step(frame, names) {
-            Ok(step) => Ok(step),
-            Err((frame, fault)) => {
-                let fault = ConversationFault::Connection(ConnectionFault::Session(fault));
-                Err((frame, fault))
-            }
-        }
+        step_alone(session, frame, names)
     }
 
     fn claim(&mut self, client: Option<&[u8]>) -> Result<Gate, ClaimFault> {
@@ -251,40 +244,30 @@ struct Found {
     next: Option<(u64, u64, Stamp, Stamp)>,
 }
 
-/// The same at a broker with these ledgers, and its trace.
-fn lost_by<R, W, T>(
-    rt: &R,
-    alloc: Global,
-    opening: Opening,
-    workers: Blank,
-    tickets: Blank,
-) -> Option<(Found, Trace)>
-where
-    R: Threads + Wait + Send + Sync,
-    W: Side + Send + Sync + 'static,
-    T: Side + Send + Sync + 'static,
-    requires workers { (workers.name ≡ W.name) × (workers.parts ≡ W.parts) × (W.parts ≡ W.all) × (W.all ≡ 257) }
-    requires tickets { (tickets.name ≡ T.name) × (tickets.parts ≡ T.parts) × (T.parts ≡ T.all) × (T.all ≡ 1024) }
-{
-    let broker = opening.begin::<R, W, T>(alloc, workers, tickets).ok()?;
-    let (left, refused) = converse_and_close(rt, alloc, &broker);
-    let before = heads(rt, &broker);
-    let next = goes_on(rt, alloc, &broker);
-    let found = Found {
-        left,
-        refused,
-        released: [before, heads(rt, &broker)],
-        next,
-    };
-    Some((found, broker.into_trace().ok()?))
-}
+/// The same, and the trace.
+#[derive(Drop)]
+struct Lost;
 
-/// The same, with ledgers of its own.
-fn lost<R>(rt: &R, alloc: Global, opening: Opening) -> Option<(Found, Trace)>
-where
-    R: Threads + Wait + Send + Sync,
-{
-    lost_by::<R, Brand, Brand>(rt, alloc, opening, Blank::new(257), Blank::new(1_024))
+impl<R: Threads + Wait + Send + Sync> SharedJob<R> for Lost {
+    type Answer = (Found, Trace);
+
+    fn run<W, T>(self, rt: &R, alloc: Global, broker: Broker<R, W, T>) -> Option<(Found, Trace)>
+    where
+        W: Side + Send + Sync + 'static,
+        T: Side + Send + Sync + 'static,
+        requires { (W.parts ≡ W.all) × (T.parts ≡ T.all) }
+    {
+        let (left, refused) = converse_and_close(rt, alloc, &broker);
+        let before = heads(rt, &broker);
+        let next = goes_on(rt, alloc, &broker);
+        let found = Found {
+            left,
+            refused,
+            released: [before, heads(rt, &broker)],
+            next,
+        };
+        Some((found, broker.into_trace().ok()?))
+    }
 }
 
 /// One row at each topic, and then that of the next connection.
@@ -296,7 +279,8 @@ const ROWS: &[u8] = b"log 0 0 1 1.1 0,1\nlog 0 0 2 2.0 0\nlog 1 0 1 1.1 0,1\n";
 fn a_lost_connection_commits(rt: HostRuntime) -> Result<(), Fail> {
     let alloc = rt.alloc();
     let opening = Opening::new(alloc, &[0, 0], 4, true)?;
-    let (found, trace) = lost(&rt, alloc, opening).expect(&rt, "memory");
+    let left = with_shared_broker(&rt, alloc, opening, Lost);
+    let (found, trace) = left.expect(&rt, "memory");
     let wanted = Found {
         left: Some(Left {
             stamp: Some(stamp(1, 1)),

@@ -1,5 +1,5 @@
 use Rattle.std.proofs.Common.{[], sym, append-nil}
-use Rattle.stompd.proofs.tests.conversation.fake.FakeBrokerCalls.step.Goals as goal
+use Rattle.stompd.proofs.tests.stepping.step_alone.Goals as goal
 
 pub returns-in-Err-clause-refused : goal.returns-in-Err-clause-refused
 returns-in-Err-clause-refused c =
