@@ -14,6 +14,3 @@ pub use fault::{ClaimFault, GateFault};
 pub use flying::Flying;
 pub use gate::Gate;
 pub use senders::Senders;
-
-#[cfg(test)]
-mod tests;

@@ -16,6 +16,3 @@ pub use fault::EscapeFault;
 pub use no_memory::NoMemory;
 pub use octets::Octets;
 pub use unescaping::unescape;
-
-#[cfg(test)]
-mod tests;

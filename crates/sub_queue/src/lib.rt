@@ -18,6 +18,3 @@ pub use source::Source;
 pub use taken_so_far::TakenSoFar;
 pub use taker::Taker;
 pub use vec_outlet::VecOutlet;
-
-#[cfg(test)]
-mod tests;

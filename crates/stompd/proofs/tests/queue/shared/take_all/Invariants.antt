@@ -1,5 +1,5 @@
 use Rattle.std.proofs.Common.{◌≡◌}
-use Rattle.sub_queue.proofs.tests.shared.take_all.Given as goal
+use Rattle.stompd.proofs.tests.queue.shared.take_all.Given as goal
 
 abbrev pub invariant-loop : goal.invariant-loop
 invariant-loop g l = l.taker.queue ≡ l.fn.taker.queue

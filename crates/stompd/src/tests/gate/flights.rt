@@ -1,7 +1,7 @@
 //! Gates and flights.
 
-use crate::{Flying, Gate, GateFault};
 use mcast_txn::{Draft, Flight, Headers, Octets, Sender, Stamp, Ticket, Topic, Txn};
+use sender_gate::{Flying, Gate, GateFault};
 use std::alloc::Global;
 use std::test::Fail;
 

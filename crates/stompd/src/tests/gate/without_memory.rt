@@ -1,8 +1,8 @@
 //! `Gate::begin` without memory. The test holds whichever one allocation fails (`rt try --test --fail-alloc N`).
 
 use super::flights::{put, stamp};
-use crate::{Flying, Gate, GateFault};
 use mcast_txn::{Draft, Headers, Octets, Sender, Topic, Txn, TxnId};
+use sender_gate::{Flying, Gate, GateFault};
 use std::alloc::Global;
 use std::test::Fail;
 

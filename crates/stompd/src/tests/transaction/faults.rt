@@ -1,6 +1,6 @@
 //! The faults' numbers, and their messages, which begin with number and name.
 
-use crate::{AlreadySet, BallotFault, DraftFault};
+use mcast_txn::{AlreadySet, BallotFault, DraftFault};
 use std::test::Fail;
 
 #[test]

@@ -8,9 +8,9 @@ ghost use Rattle.sub_queue.specs.Shown.{IsAboveLast};
 mod shared;
 mod told;
 
-use crate::{Outlet, VecOutlet};
 use mcast_txn::{Flight, Headers, Octets, Released, Sender, Stamp, Topic, Txn, TxnId};
 use std::alloc::Global;
+use sub_queue::{Outlet, VecOutlet};
 
 /// A call of a queue.
 #[derive(Clone, Copy)]
@@ -73,7 +73,7 @@ fn has_reserved(outlet: &mut VecOutlet) -> bool
 }
 
 /// Whether the stamp is above that of the last item that the queue accepted.
-#[tactic(auto, using(crate::proofs::RisingItems::last_by_index))]
+#[tactic(auto, using(sub_queue::proofs::RisingItems::last_by_index))]
 fn is_above_last(outlet: &VecOutlet, stamp: Stamp) -> bool
     ensures { result ≡ true → IsAboveLast outlet.now.accepted stamp }
 {

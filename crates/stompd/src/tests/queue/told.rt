@@ -5,12 +5,12 @@ ghost use Rattle.std.specs.List.{last_or};
 
 use super::Answer::{self, Accepted, Returned};
 use super::shared::{Pusher, ends};
-use crate::{Source, Taker};
 use std::alloc::Global;
 use std::sync::Wait;
 use std::sync::atomic::{AtomicU64, Ordering};
 use std::thread;
 use std::thread::Threads;
+use sub_queue::{Source, Taker};
 
 /// How many items are pushed: 64 times the capacity.
 const ITEMS: u64 = 256;

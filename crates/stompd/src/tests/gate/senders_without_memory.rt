@@ -2,8 +2,8 @@
 
 use super::flights::stamp;
 use super::senders::is_at;
-use crate::{ClaimFault, Gate, Senders};
 use mcast_txn::{Sender, Stamp};
+use sender_gate::{ClaimFault, Gate, Senders};
 use std::test::Fail;
 
 /// Claims a new client-id. Where there is no memory, the senders are as they were: the one of a client-id that isn't in

@@ -7,12 +7,12 @@ ghost use Rattle.std.specs.List.{last_or};
 
 use super::Answer::{self, Accepted, Nothing, Returned, Took};
 use super::item;
-use crate::{Left, Outlet, Source, Taker, close, ruled};
 use mcast_txn::{NoMemory, Released};
 use std::alloc::Global;
 use std::sync::Wait;
 use std::thread;
 use std::thread::Threads;
+use sub_queue::{Left, Outlet, Source, Taker, close, ruled};
 
 /// How many items are pushed at most.
 const ITEMS: u64 = 1_000;
@@ -30,7 +30,7 @@ pub(super) struct Pusher<R> {
 
 impl<R: Wait> Pusher<R> {
     /// What the queue answers to a push of the item of the next number, if there is memory for that.
-    #[tactic(auto, using(crate::proofs::RisingItems::above_by_number, crate::proofs::RisingItems::last_after_push))]
+    #[tactic(auto, using(sub_queue::proofs::RisingItems::above_by_number, sub_queue::proofs::RisingItems::last_after_push))]
     pub(super) fn push(&mut self, rt: &R, alloc: Global) -> Option<Answer>
         ensures { self.new.source.queue ≡ self.old.source.queue }
     {

@@ -1,8 +1,8 @@
 //! Senders that outlive a connection.
 
 use super::flights::{begun, put, stamp};
-use crate::{ClaimFault, Gate, Senders};
 use mcast_txn::{Sender, Stamp};
+use sender_gate::{ClaimFault, Gate, Senders};
 use std::alloc::Global;
 use std::test::Fail;
 

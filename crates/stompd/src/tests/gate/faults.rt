@@ -1,7 +1,7 @@
 //! The faults' numbers, and their messages, which begin with number and name.
 
-use crate::{ClaimFault, GateFault};
 use mcast_txn::BallotFault;
+use sender_gate::{ClaimFault, GateFault};
 use std::test::Fail;
 
 #[test]

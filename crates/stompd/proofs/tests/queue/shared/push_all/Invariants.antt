@@ -1,5 +1,5 @@
 use Rattle.std.proofs.Common.{◌≡◌}
-use Rattle.sub_queue.proofs.tests.shared.push_all.Given as goal
+use Rattle.stompd.proofs.tests.queue.shared.push_all.Given as goal
 
 abbrev pub invariant-loop-n : goal.invariant-loop-n
 invariant-loop-n g l = l.pusher.source.queue ≡ l.fn.pusher.source.queue

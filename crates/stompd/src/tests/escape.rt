@@ -1,8 +1,8 @@
 //! Worked examples of the definitions, the calls with ample memory, and their answers without it.
 
-use crate::{EscapeFault, NoMemory, Octets, escape, escape_at, escape_into, unescape};
 use std::alloc::Global;
 use std::test::Fail;
+use stomp_escape::{EscapeFault, NoMemory, Octets, escape, escape_at, escape_into, unescape};
 
 /// The four octets that have an escape, and the text that spells them.
 const ESCAPED_OCTETS: &[u8] = b"\r\n:\\";

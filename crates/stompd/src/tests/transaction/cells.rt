@@ -3,7 +3,7 @@
 ghost use Rattle.std.specs.Prelude.{◌≡◌};
 
 use super::deciding::{ID, ballot_to, stamp, ticket};
-use crate::{Flight, Stamp, Verdict};
+use mcast_txn::{Flight, Stamp, Verdict};
 use std::alloc::Global;
 use std::test::Fail;
 use std::thread;
