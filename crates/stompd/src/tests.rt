@@ -1,5 +1,6 @@
-//! Tests of the layers above the topics, and of the four lowest but the frames, by their public calls alone.
+//! Tests of the layers above the topics, and of five crates below, by their public calls alone.
 
+mod audit;
 mod broker_core;
 mod conversation;
 mod draws;
@@ -9,4 +10,5 @@ mod locks;
 mod programs;
 mod queue;
 mod serving;
+mod trace_text;
 mod transaction;

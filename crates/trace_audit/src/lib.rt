@@ -22,6 +22,3 @@ pub use mcast_txn::{NoMemory, Sender, Stamp, Topic, TxnId};
 pub use row::{LogRow, QueueRow, SpanRow, TraceRow};
 pub use text::{Field, ParseFault, first_line, put_line, read_number, split_at_first};
 pub use trace::Trace;
-
-#[cfg(test)]
-mod tests;

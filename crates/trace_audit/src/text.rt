@@ -9,8 +9,6 @@ mod line_printing;
 mod parse_fault;
 mod row_reading;
 mod row_ref;
-#[cfg(test)]
-mod tests;
 mod trace_parsing;
 mod trace_printing;
 

@@ -1,8 +1,8 @@
 //! Lines of fields.
 
-use crate::{Field, put_line};
 use mcast_txn::{Octets, Sender, Stamp, Topic, TxnId};
 use std::test::Fail;
+use trace_audit::{Field, put_line};
 
 /// Fields of each kind.
 const FIELDS: [Field<'static>; 9] = [

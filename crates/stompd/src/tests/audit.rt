@@ -1,11 +1,11 @@
 //! Traces that are audited, and rows that don't fit.
 
-use crate::{
+use std::alloc::Global;
+use std::test::Fail;
+use trace_audit::{
     AddFault, AuditFault, LogRow, QueueRow, Sender, SpanRow, Stamp, Topic, Trace, TraceRow, TxnId,
     audit,
 };
-use std::alloc::Global;
-use std::test::Fail;
 
 mod made;
 mod memory;

@@ -2,9 +2,8 @@
 
 mod lines;
 
-use super::ParseFault;
-use crate::{AuditFault, Trace, audit};
 use std::alloc::Global;
+use trace_audit::{AuditFault, ParseFault, Trace, audit};
 
 /// What reading a text came to.
 #[derive(Clone, Copy, PartialEq, Eq)]

@@ -2,9 +2,9 @@
 
 use super::slow::judged;
 use super::{Row, trace_of};
-use crate::audit;
 use std::alloc::Global;
 use std::test::Fail;
+use trace_audit::audit;
 
 const ONE: &[u32] = &[0];
 

@@ -2,9 +2,9 @@
 //! fails.
 
 use super::{Row, row_of};
-use crate::{Agreed, AuditFault, Trace, audit};
 use std::alloc::Global;
 use std::test::Fail;
+use trace_audit::{Agreed, AuditFault, Trace, audit};
 
 /// How many transactions there are: sorts of more than 20 rows take memory.
 const COUNT: u64 = 24;
