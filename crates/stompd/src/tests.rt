@@ -1,4 +1,4 @@
-//! Tests of the layers above the topics, and of five crates below, by their public calls alone.
+//! Tests of the layers above the topics, and of six crates below, by their public calls alone.
 
 mod audit;
 mod broker_core;
@@ -6,6 +6,7 @@ mod conversation;
 mod draws;
 mod escape;
 mod gate;
+mod group;
 mod locks;
 mod programs;
 mod queue;

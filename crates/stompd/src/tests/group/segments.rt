@@ -2,7 +2,7 @@
 
 use super::calls::{Answer, Call, id, learnt, propose, released};
 use super::memory::at_last;
-use crate::{Group, LogRows};
+use mcast_group::{Group, LogRows};
 use mcast_txn::{NoMemory, Topic};
 use std::alloc::Global;
 use sub_queue::VecOutlet;

@@ -3,7 +3,7 @@
 ghost use Rattle.std.specs.Prelude.{◌≡◌, ◌+◌};
 
 use super::calls::{id, part_of, stamp, txn_to, verdict_of};
-use crate::{CellGroup, Proposal, ProposeFault, SubState, TicketCounter, Turned};
+use mcast_group::{CellGroup, Proposal, ProposeFault, SubState, TicketCounter, Turned};
 use mcast_txn::{Flight, Part, Stamp, Topic};
 use std::alloc::Global;
 use std::sync::Arc;

@@ -1,9 +1,9 @@
 //! A topic's parts: in which order they are released, each refusal, and turns.
 
 use super::calls::{Answer, Call, answers, id, stamp, turned};
-use crate::{Group, NoSub, ProposeFault, SubFault};
 use Answer::{Done, Fault, Nothing, Released};
 use Call::{Cancel, Learn, Propose, Release};
+use mcast_group::{Group, NoSub, ProposeFault, SubFault};
 use mcast_txn::{Stamp, Topic};
 use sub_queue::VecOutlet;
 

@@ -2,7 +2,7 @@
 
 use super::calls::{Answer, id, learnt, propose, released};
 use super::made::Draws;
-use crate::Group;
+use mcast_group::Group;
 use mcast_txn::Topic;
 use std::alloc::Global;
 use sub_queue::VecOutlet;

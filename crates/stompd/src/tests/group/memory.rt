@@ -1,9 +1,9 @@
 //! What is answered when memory runs out.
 
 use super::calls::{Answer, Call, id, propose, proposed, reply, state, taken};
-use crate::{Cause, Group, ProposeFault};
 use Answer::{Done, Drained, Fault, From, Left, Nothing, Open, Released, Took};
 use Call::{Drain, Learn, Propose, Release, Subscribe, Take, Unsubscribe};
+use mcast_group::{Cause, Group, ProposeFault};
 use mcast_txn::Topic;
 use std::alloc::Global;
 use sub_queue::VecOutlet;

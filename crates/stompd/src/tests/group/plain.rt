@@ -3,8 +3,8 @@
 
 use super::calls::{Answer, SHOWN, stamp};
 use super::made::{Drawn, MadeCall};
-use crate::Cause;
 use Answer::{Done, Drained, Fault, From, Lagged, Left, Nothing, Open, Released, Took};
+use mcast_group::Cause;
 use mcast_txn::Stamp;
 use std::alloc::Global;
 

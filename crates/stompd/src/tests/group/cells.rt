@@ -1,7 +1,7 @@
 //! Parts that learn their stamp from the cell of their flight: they keep its note until they are released.
 
 use super::calls::{id, part_of, propose, stamp, txn_to, verdict_of};
-use crate::{Cells, Group};
+use mcast_group::{Cells, Group};
 use mcast_txn::{Flight, Parts, Stamp, Topic};
 use std::alloc::Global;
 use std::thread;

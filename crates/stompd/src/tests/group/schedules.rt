@@ -6,7 +6,7 @@ use super::calls::{
 };
 use super::made::{Draws, MadeCall};
 use super::plain::Past;
-use crate::{Cause, Group};
+use mcast_group::{Cause, Group};
 use mcast_txn::Topic;
 use std::alloc::Global;
 use sub_queue::VecOutlet;

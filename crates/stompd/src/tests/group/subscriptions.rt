@@ -1,9 +1,9 @@
 //! Subscriptions of a topic: what they get, how they lag, and how they end.
 
 use super::calls::{Answer, Call, answers, reply};
-use crate::{Cause, Group};
 use Answer::{Done, Drained, Fault, From, Lagged, Left, Nothing, Open, Released, Took};
 use Call::{Cancel, Drain, Learn, Propose, Release, State, Subscribe, Take, Unsubscribe};
+use mcast_group::{Cause, Group};
 use mcast_txn::Topic;
 use std::alloc::Global;
 use sub_queue::VecOutlet;

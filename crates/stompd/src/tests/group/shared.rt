@@ -3,7 +3,7 @@
 ghost use Rattle.std.specs.Prelude.{◌≡◌};
 
 use super::calls::{id, part_of, stamp, verdict_of};
-use crate::{Group, SubState};
+use mcast_group::{Group, SubState};
 use mcast_txn::Topic;
 use std::alloc::Global;
 use std::sync::Wait;

@@ -1,9 +1,9 @@
 //! Logs that are drained.
 
 use super::calls::{Answer, Call, SHOWN, answers};
-use crate::{Cause, Group};
 use Answer::{Done, Drained, Fault, From, Lagged, Left, Nothing, Open, Released, Took};
 use Call::{Drain, Learn, Propose, Release, State, Subscribe, Take, Unsubscribe};
+use mcast_group::{Cause, Group};
 use mcast_txn::Topic;
 use std::alloc::Global;
 use sub_queue::VecOutlet;

@@ -4,7 +4,7 @@ ghost use Rattle.std.specs.Prelude.{◌≡◌, Some, None, if◌then◌else◌, 
 ghost use Rattle.std.specs.Arc.{arc_value};
 ghost use Rattle.mcast_txn.specs.Ids.{same_id};
 
-use crate::{Cause, Found, Group, LogRows, ProposeFault, SubState, Verdicts};
+use mcast_group::{Cause, Found, Group, LogRows, ProposeFault, SubState, Verdicts};
 use mcast_txn::{
     Ballot, Draft, Flight, Headers, Octets, Part, Sender, Stamp, Ticket, Topic, Txn, TxnId, Verdict,
 };
