@@ -19,6 +19,3 @@ pub use fault::SessionFault;
 pub use names::{MAX_TOPICS, Names, is_name};
 pub use phase::Phase;
 pub use session::Session;
-
-#[cfg(test)]
-mod tests;

@@ -1,4 +1,4 @@
-//! Tests of the layers above the topics, and of six crates below, by their public calls alone.
+//! Tests of the layers above the topics, and of all crates below but the frames, by their public calls alone.
 
 mod audit;
 mod broker_core;
@@ -11,5 +11,6 @@ mod locks;
 mod programs;
 mod queue;
 mod serving;
+mod session;
 mod trace_text;
 mod transaction;

@@ -4,10 +4,10 @@ ghost use Rattle.std.specs.Prelude.{◌≡◌, ◌&&◌, nat_le, IfOk};
 ghost use Rattle.std.specs.List.{list_all};
 ghost use Rattle.stomp_frame.specs.Headers.{IsText, IsPair};
 
-use crate::{MAX_TOPICS, Names, Session, SessionFault, Step};
 use std::alloc::Global;
 use std::test::Fail;
 use stomp_frame::{ClientFrame, Command, Headers, NoMemory, Octets, RawFrame, classify};
+use stomp_session::{MAX_TOPICS, Names, Session, SessionFault, Step};
 
 pub(super) type Pairs<'a> = &'a [(&'a [u8], &'a [u8])];
 

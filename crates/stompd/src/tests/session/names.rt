@@ -1,10 +1,10 @@
 //! Names of topics.
 
 use super::client::add_name;
-use crate::{Names, is_name};
 use mcast_txn::Topic;
 use std::test::Fail;
 use stomp_frame::NoMemory;
+use stomp_session::{Names, is_name};
 
 /// How many names there are once this one is added, where there are few.
 fn added(names: &mut Names, name: &[u8]) -> Result<usize, NoMemory> {

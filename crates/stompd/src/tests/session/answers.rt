@@ -1,11 +1,11 @@
 //! A session's answers as plain data.
 
 use super::client::Answer;
-use crate::{Action, Step};
 use mcast_txn::{Flight, Part, Sender, Topic, Txn, TxnId};
 use std::alloc::Global;
 use std::test::Fail;
 use stomp_frame::{NoMemory, Octets};
+use stomp_session::{Action, Step};
 
 const ID: TxnId = TxnId {
     sender: Sender(7),

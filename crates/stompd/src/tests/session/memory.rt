@@ -2,12 +2,12 @@
 //! fails.
 
 use super::client::{Answer, Client, Pairs, frame_with};
-use crate::{Names, SessionFault};
 use mcast_txn::Topic;
 use std::alloc::Global;
 use std::process::Abort;
 use std::test::Fail;
 use stomp_frame::{ClientFrame, Command, Headers, NoMemory};
+use stomp_session::{Names, SessionFault};
 
 /// A text that doesn't fit in an `Octets` itself, so that its list takes memory.
 const LONG: &[u8] = b"a text that is rather long";

@@ -1,7 +1,7 @@
 use Rattle.std.proofs.Common.{◌≡◌, true, arith, sym, ◌∙◌}
 use Rattle.std.specs.List.{list_all}
 use Rattle.stomp_frame.proofs.Digits.{is_ascii, ascii_text}
-use Rattle.stomp_session.proofs.tests.client.text.Goals as goal
+use Rattle.stompd.proofs.tests.session.client.text.Goals as goal
 
 pub returns : goal.returns
 returns c =

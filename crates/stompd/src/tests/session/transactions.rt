@@ -1,10 +1,10 @@
 //! What a COMMIT and a SEND are answered.
 
 use super::client::{Client, Pairs, has};
-use crate::{Action, Step};
 use std::alloc::Global;
 use std::test::Fail;
 use stomp_frame::Command;
+use stomp_session::{Action, Step};
 
 /// A COMMIT or a SEND after a script.
 #[derive(Clone, Copy)]

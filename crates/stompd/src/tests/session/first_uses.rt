@@ -1,11 +1,11 @@
 //! Topics that are made on their first use.
 
 use super::client::{Client, Pairs, many_names};
-use crate::{Action, Step};
 use mcast_txn::Topic;
 use std::alloc::Global;
 use std::test::Fail;
 use stomp_frame::{Command, NoMemory};
+use stomp_session::{Action, Step};
 
 /// The number of the topic of a SUBSCRIBE of this id to this destination; 1000 where it is refused.
 fn subscribed(client: &mut Client, id: &[u8], destination: &[u8]) -> Result<u32, NoMemory> {

@@ -5,10 +5,10 @@ use super::answers::{PlainAction, PlainAnswer, plain_answer};
 use super::client::{add_name, many_names};
 use super::made::{Draws, Made};
 use super::plain::Past;
-use crate::{Names, Session};
 use std::alloc::Global;
 use std::test::Fail;
 use stomp_frame::NoMemory;
+use stomp_session::{Names, Session};
 
 /// How many histories there are, and how many frames each has.
 const HISTORIES: u32 = 500;

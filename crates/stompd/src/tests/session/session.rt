@@ -3,11 +3,11 @@
 ghost use Rattle.stomp_frame.specs.Headers.{IsText};
 
 use super::client::{Client, has, last_number};
-use crate::{Action, SessionFault, Step};
 use mcast_txn::Topic;
 use std::alloc::Global;
 use std::test::Fail;
 use stomp_frame::{Command, NoMemory, Octets, ServerFrame, render, write_frame};
+use stomp_session::{Action, SessionFault, Step};
 
 /// Scripts, each with the number that its last frame is answered: 0 where it's accepted.
 const ROWS: [(&[u8], u32); 26] = [
