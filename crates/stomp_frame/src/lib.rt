@@ -31,6 +31,3 @@ pub use server::server_frame::{ServerFrame, render};
 pub use stomp_escape::{NoMemory, Octets};
 pub use writing::server_writer::write_server;
 pub use writing::writer::{writable, write_frame};
-
-#[cfg(test)]
-mod tests;

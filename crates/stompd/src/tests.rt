@@ -1,10 +1,11 @@
-//! Tests of the layers above the topics, and of all crates below but the frames, by their public calls alone.
+//! Tests of all crates, by their public calls alone.
 
 mod audit;
 mod broker_core;
 mod conversation;
 mod draws;
 mod escape;
+mod frame;
 mod gate;
 mod group;
 mod locks;

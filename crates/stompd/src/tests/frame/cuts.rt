@@ -1,10 +1,10 @@
 //! Streams in pieces: a reader returns what it returns of the whole text, wherever that is cut.
 
 use super::reading::{BOUNDS, FAULTS, Row, SMALL, STREAMS, show};
-use crate::{FrameFault, FrameReader, Limits};
 use std::alloc::Global;
 use std::test::Fail;
 use stomp_escape::{NoMemory, Octets};
+use stomp_frame::{FrameFault, FrameReader, Limits};
 
 /// The streams of the folder `examples`.
 const EXAMPLES: &[Row] = &[

@@ -1,8 +1,8 @@
 //! Lines with an octet of each kind at each of their indices: 16 octets of a line are looked at at once.
 
-use crate::{FrameReader, Limits};
 use std::alloc::Global;
 use stomp_escape::{NoMemory, Octets};
+use stomp_frame::{FrameReader, Limits};
 
 /// An octet that comes into a value of `x`, and what a reader says then: a fault, or nothing where it is read as
 /// itself.

@@ -3,13 +3,13 @@
 ghost use Rattle.stomp_frame.specs.ServerFrames.{IsRenderable};
 
 use super::made::{put, text};
-use crate::{
-    Command, FrameReader, Headers, Limits, RawFrame, ServerFrame, render, writable, write_frame,
-    write_server,
-};
 use std::alloc::Global;
 use std::test::Fail;
 use stomp_escape::{NoMemory, Octets};
+use stomp_frame::{
+    Command, FrameReader, Headers, Limits, RawFrame, ServerFrame, render, writable, write_frame,
+    write_server,
+};
 
 /// Sixteen octets of a body, three of them NULL; 65,536 times they are a body of 1,048,576 octets.
 const PIECE: &[u8] = b"a\0b\r\n:\\\xff\0cdefgh\0";

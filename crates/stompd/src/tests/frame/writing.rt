@@ -3,13 +3,13 @@
 ghost use Rattle.stomp_frame.specs.ServerFrames.{IsRenderable};
 
 use super::made::{headers, raw, text};
-use crate::{
-    Command, FrameReader, Headers, Limits, RawFrame, ServerFrame, render, writable, write_frame,
-    write_server,
-};
 use std::alloc::Global;
 use std::test::Fail;
 use stomp_escape::{NoMemory, Octets};
+use stomp_frame::{
+    Command, FrameReader, Headers, Limits, RawFrame, ServerFrame, render, writable, write_frame,
+    write_server,
+};
 
 type Pairs<'a> = &'a [(&'a [u8], &'a [u8])];
 

@@ -3,9 +3,9 @@
 ghost use Rattle.std.specs.Prelude.{IfOk};
 ghost use Rattle.stomp_frame.specs.Headers.{IsText};
 
-use crate::{Command, Headers, RawFrame};
 use std::alloc::Global;
 use stomp_escape::{NoMemory, Octets};
+use stomp_frame::{Command, Headers, RawFrame};
 
 /// The octets as a text, as a value of a header is one.
 pub fn text(alloc: Global, octets: &[u8]) -> Result<Octets, NoMemory>
