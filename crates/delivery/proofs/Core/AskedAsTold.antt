@@ -1,7 +1,6 @@
 -- A subscription whose end was asked for has ended at its own topic's frontier then.
-use Rattle.std.proofs.Common.{◌≡◌, ℕ, List, [], ◌∷◌, ◌++◌, Option, Some, None, refl, sym, ap, ◌∙◌}
+use Rattle.std.proofs.Common.{◌≡◌, ℕ, List, [], ◌∷◌, Option, Some, None, refl, sym, ap, ◌∙◌}
 use Rattle.mcast_txn.specs.declared.id.Topic.{Topic}
-use Rattle.mcast_txn.specs.declared.stamp.Stamp.{Stamp}
 use Rattle.mcast_group.specs.declared.cause.Cause.TheVariants.{Asked}
 use Rattle.mcast_group.specs.Machine.{EntryEnd}
 use Rattle.mcast_group.proofs.Parts.{some_same, none_some}

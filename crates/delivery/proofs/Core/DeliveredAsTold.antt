@@ -1,5 +1,5 @@
 -- What is delivered by an account in the machine's answers is delivered by what is told of them.
-use Rattle.std.proofs.Common.{◌≡◌, ℕ, ◌+◌, ◌<◌, ◌≤◌, Bool, true, false, inl, inr, List, [], ◌∷◌, ◌++◌, map, length, Some, None, refl, sym, ap, subst, ◌∙◌}
+use Rattle.std.proofs.Common.{◌≡◌, ℕ, ◌+◌, true, false, List, [], ◌∷◌, ◌++◌, map, length, Some, refl, sym, ap, subst, ◌∙◌}
 use Rattle.std.proofs.lemmas.Bool.{true≢false}
 use Rattle.std.specs.Prelude.{take, slice_get}
 use Rattle.mcast_txn.specs.declared.id.Topic.{Topic}
@@ -10,12 +10,11 @@ use Rattle.mcast_txn.specs.Lists.{In}
 use Rattle.mcast_txn.specs.Span.{Item, last_stamp}
 use Rattle.mcast_group.specs.declared.cause.Cause.TheVariants.{Asked}
 use Rattle.delivery.specs.Machine.Moves.{Answer}
-use Rattle.delivery.specs.Machine.Runs.{commits_of, delivered_items}
 use Rattle.delivery.specs.Theorem.Due.{log_row, due}
 use Rattle.delivery.specs.Theorem.Settled.{SilentAfterClose}
 use Rattle.delivery.specs.Core.Account.{released_frontier}
 use Rattle.delivery.specs.Core.Reports.{QueueReport, Report, log_in, span_of}
-use Rattle.delivery.specs.Core.Told.{Told, committed, frontier_of, handed_count}
+use Rattle.delivery.specs.Core.Told.{Told, frontier_of}
 use Rattle.delivery.specs.Core.Answered.{LagsAsAnswered, IsAsAnswered, DeliversAnswers}
 use Rattle.delivery.specs.Core.Delivery.{EndsByLag, IsAsTold, Delivers}
 use Rattle.delivery.proofs.Core.Tells.{tells, tell, committed_told, log_told, frontier_told, handed_told, begun_told, tell_append}
