@@ -1,6 +1,6 @@
--- What is delivered, in the words of the machine's answers: the statement over the account of a run and its report
--- of which `Core/Delivery` says the same in fewer words. Here each item that was handed on is told with all
--- that it holds, and an end that was asked for is at the frontier of the topic that the account says.
+-- What is delivered, in the words of the machine's answers: the statement over the account of a run and its
+-- report of which `Core/Delivery` says the same in fewer words. Here each item that was handed on is told with
+-- all that it holds, and an end that was asked for is at the frontier of the topic that the account says.
 use Rattle.std.specs.Prelude.{◌≡◌, ℕ, ◌+◌, ◌<◌, ◌≤◌, true, false, List, [], ◌∷◌, ◌++◌, map, length, slice_get, Some, None}
 use Rattle.mcast_txn.specs.declared.id.Topic.{Topic}
 use Rattle.mcast_txn.specs.declared.stamp.Stamp.{Stamp}
@@ -94,8 +94,8 @@ pub record DeliversAnswers (capacity : ℕ) (account : List Answer) (r : Report)
   pub silent_after_close : (later before : List Answer) (s : ℕ) (item : Item)
       → account ≡ later ++ Answer.Handed s item ∷ before → IsSilent s before → Prim.⊥
 
--- What each run of the core reports is delivered by its account, over all topics with their opening clocks, all
--- capacities and all lists of steps that the core may make.
+-- What each run of the core reports is delivered by its account, over all topics with their opening clocks,
+-- all capacities and all lists of steps that the core may make.
 abbrev pub RunsDeliverAnswers : Type 0
 RunsDeliverAnswers =
     (topics : TopicList) (capacity : ℕ) (steps : List CoreStep) → length topics.clocks ≡ length topics.names

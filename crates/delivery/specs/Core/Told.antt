@@ -1,5 +1,5 @@
--- What the steps of a run tell of transactions, topics and subscriptions, and what a reader takes from that. It
--- takes nothing from the machine: whose a transaction is and what it sends is worked out from frames alone.
+-- What the steps of a run tell of transactions, topics and subscriptions, and what a reader takes from that.
+-- It takes nothing from the machine: whose a transaction is and what it sends is worked out from frames alone.
 use Rattle.std.specs.Prelude.{◌≡◌, ◌≢◌, ℕ, ◌==◌, ◌+◌, false, true, not, ◌&&◌, List, [], ◌∷◌, ◌++◌, codes, map, take, Option, Some, if◌then◌else◌, ◌⊎◌}
 use Rattle.std.specs.List.{filter, list_any}
 use Rattle.std.specs.Option.{option_map_or}
@@ -90,8 +90,8 @@ last_by s (o ∷ before) = last_by s before
 
 -- ---- what a step adds
 
--- The SENDs of this transaction that these frames left open: those since its BEGIN, where no later frame but a
--- SEND names it. So of BEGIN x, SEND in x, COMMIT x, BEGIN x, two SENDs in x and one in y, the two; after an
+-- The SENDs of this transaction that these frames left open: those since its BEGIN, where no later frame but
+-- a SEND names it. So of BEGIN x, SEND in x, COMMIT x, BEGIN x, two SENDs in x and one in y, the two; after an
 -- ABORT x none.
 abbrev pub sends_left : List ℕ → List (List ℕ) → List RawFrame → List SentMessage
 sends_left x names [] = []
@@ -99,8 +99,8 @@ sends_left x names (f ∷ after) =
     if is_begin f.command && names_transaction x f && not (list_any (names_transaction x) after)
     then map (send_of names) (filter (is_send_in x) after) else sends_left x names after
 
--- the SENDs that a frame of this command commits, after these accepted frames: a COMMIT those of its transaction,
--- a SEND alone itself
+-- the SENDs that a frame of this command commits, after these accepted frames: a COMMIT those of its
+-- transaction, a SEND alone itself
 abbrev pub sends_by : Command → List (List ℕ) → List RawFrame → RawFrame → List SentMessage
 sends_by commands.Commit names accepted f = sends_left (transaction_of f) names accepted
 sends_by commands.Send names accepted f =
