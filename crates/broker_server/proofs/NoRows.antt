@@ -6,7 +6,7 @@ use Rattle.mcast_txn.specs.Lists.{In}
 use Rattle.mcast_txn.proofs.Members.{In-map, In-filter_cases}
 use Rattle.trace_audit.specs.Logs.{LogLine}
 use Rattle.trace_audit.specs.Trace.{TraceData, no_trace_data}
-use Rattle.delivery.specs.Core.Delivery.{Delivers}
+use Rattle.delivery.specs.Core.Answered.{DeliversAnswers}
 use Rattle.delivery.specs.Core.Reports.{QueueReport, Report}
 use Rattle.delivery.specs.Machine.Moves.{Answer}
 use Rattle.delivery.specs.Machine.Runs.{commits_of}
@@ -22,7 +22,7 @@ none_in : {X : Type 0} (xs : List X) → ((x : X) → In x xs → Prim.⊥) → 
 none_in [] h = refl
 none_in (x ∷ xs) h = absurd (h x (inl refl))
 
-pub no_rows : {capacity : ℕ} (account : List Answer) (r : Report) → Delivers capacity account r → r.commits ≡ [] → r.subscriptions ≡ [] → trace_of r ≡ no_trace_data
+pub no_rows : {capacity : ℕ} (account : List Answer) (r : Report) → DeliversAnswers capacity account r → r.commits ≡ [] → r.subscriptions ≡ [] → trace_of r ≡ no_trace_data
 no_rows account r d commits subscriptions =
     let sent : commits_of account ≡ [] = none_mapped log_row (commits_of account) (sym d.commits ∙ commits) in
     let e = explained account r d in

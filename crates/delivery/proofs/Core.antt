@@ -26,6 +26,11 @@ pub mod AccountOfRun
 pub mod SaidParts
 pub mod AtNext
 pub mod LagsAsTold
+pub mod Tells
+pub mod ToldSettled
+pub mod ToldOfSteps
+pub mod DeliveredAsTold
+pub mod AskedAsTold
 pub mod DeliversOfRun
 pub mod ReadingsShown
 pub mod Counts

@@ -3,6 +3,7 @@
 pub mod Steps
 pub mod Claims
 pub mod Account
+pub mod Told
 pub mod Output
 pub mod State
 pub mod Outcomes
@@ -10,3 +11,4 @@ pub mod Reports
 pub mod Stepped
 pub mod Connections
 pub mod Delivery
+pub mod Answered

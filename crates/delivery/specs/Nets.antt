@@ -7,6 +7,7 @@ use Rattle.delivery.specs.Topics.{TopicList}
 use Rattle.delivery.specs.Machine.Moves.{Answer}
 use Rattle.delivery.specs.Core.Steps.{CoreStep, kept_of}
 use Rattle.delivery.specs.Core.Account.{account_of}
+use Rattle.delivery.specs.Core.Told.{Told, told_of}
 use Rattle.delivery.specs.Core.State.{Core, core_of}
 use Rattle.delivery.specs.Core.Outcomes.{IsCoreRun, MayStep}
 use Rattle.delivery.specs.Core.Reports.{Report, report_of}
@@ -65,12 +66,16 @@ pub record IsRunOfCore (net : KeptRun) (r : Report) : Type 0 where
   pub is_run : IsCoreRun net.topics net.capacity net.steps
   pub is_report : r ≡ report_of (core_of_net net)
 
+-- what a net's steps tell
+abbrev pub told_of_net : KeptRun → List Told
+told_of_net net = told_of net.topics.names net.steps
+
 -- What the net reports is delivered.
--- delivered: commits, logs, spans and queues are those that the account of its steps tells.
+-- delivered: commits, logs, spans and queues are those that its steps tell.
 -- written: what was read and written of each connection is what the steps say.
 -- answered: the steps are a run of the core, and the report is its core's.
 pub record IsDelivered (net : KeptRun) (r : Report) : Type 0 where
-  pub delivered : Delivers net.capacity (account_of_net net) r
+  pub delivered : Delivers net.capacity (told_of_net net) r
   pub written : IsReadAndWritten net.topics.names net.steps r
   pub answered : IsRunOfCore net r
 

@@ -2,6 +2,7 @@
 
 ghost use Rattle.delivery.specs.Core.Connections.{FramesPass, OpenAreLive, OtherConnectionsStay, UnsubscribesFind};
 ghost use Rattle.delivery.specs.Core.Delivery.{RunsDeliver, StepsAreKept};
+ghost use Rattle.delivery.specs.Core.Answered.{RunsDeliverAnswers};
 ghost use Rattle.delivery.specs.Core.Stepped.{StepsHaveStepped};
 ghost use Rattle.delivery.specs.Theorem.Answers.{MovesAreAnswered};
 ghost use Rattle.delivery.specs.Theorem.Examples.{WorkedRows};
@@ -212,12 +213,13 @@ pub fn nets()
     ensures twice { NoneFailsTwice }
 {}
 
-/// Every run of the core is delivered: what was read are the first frames of each connection's octets; the account of
-/// the run is read off its events, these frames and the outcomes alone; and each commit, log, span, queue and octet
+/// Every run of the core is delivered: what was read are the first frames of each connection's octets; what the run
+/// tells is read off its events, these frames and the outcomes alone; and each commit, log, span, queue and octet
 /// out that the core reports is the one that they tell. The steps may be refused, may find no memory, and may cut a
-/// stream anywhere.
+/// stream anywhere. The same is said in the words of the machine's answers, with each item that was handed on whole.
 pub fn delivery()
-    ensures { RunsDeliver }
+    ensures told { RunsDeliver }
+    ensures answered { RunsDeliverAnswers }
 {}
 
 /// Each step of a run of the core, whatever came before it, and so each step of a net: its outcome is one that its event

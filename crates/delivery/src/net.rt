@@ -2,7 +2,7 @@
 
 ghost use Rattle.std.specs.Prelude.{◌≡◌, ◌≤◌, ◌<◌, ◌+◌, ◌-◌, [], ◌∷◌, ◌++◌, length, slice_get, IfOk, OnOk, OnErr};
 ghost use Rattle.std.specs.Option.{option_map};
-ghost use Rattle.delivery.specs.Nets.{KeptRun, max_capacity, account_of_net, HasTaken, HasAnswered, IsRunOfCore, HasReport};
+ghost use Rattle.delivery.specs.Nets.{KeptRun, max_capacity, told_of_net, HasTaken, HasAnswered, IsRunOfCore, HasReport};
 ghost use Rattle.delivery.specs.Core.Delivery.{Delivers, IsReadAndWritten};
 ghost use Rattle.delivery.specs.Traces.{IsTraced};
 
@@ -117,11 +117,11 @@ impl Net {
         self.kept.get(i)
     }
 
-    /// What came of all events so far: what was delivered, by the account of its steps; what was read and written of
+    /// What came of all events so far: what was delivered, by what its steps tell; what was read and written of
     /// each connection; and that the steps are a run of the core, whose report this is. A reader may stop after the
     /// first clause. It takes no memory, and nothing is copied.
     pub fn report(&self) -> Report<'_>
-        ensures delivered { Delivers self.now.capacity (account_of_net self.now) result }
+        ensures delivered { Delivers self.now.capacity (told_of_net self.now) result }
         ensures written { IsReadAndWritten self.now.topics.names self.now.steps result }
         ensures answered { IsRunOfCore self.now result }
     {

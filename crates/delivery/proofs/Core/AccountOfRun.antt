@@ -39,7 +39,8 @@ use Rattle.delivery.specs.Machine.Moves.{Move, Answer, world_after, answer_to, m
 use Rattle.delivery.specs.Machine.Moves.Move.{Commits, Subscribes, Unsubscribes, Disconnects, Errs, Lost, Leaves, Proposes, Decides, Withdraws, Cancels, Learns, Releases, Turns, Takes, Connects, AddsTopic}
 use Rattle.delivery.specs.Machine.Runs.{run, answers_from}
 use Rattle.delivery.specs.Core.Steps.{CoreStep, Reading, frame_in, has_effect, accepted_of, names_after, number_by}
-use Rattle.delivery.specs.Core.Account.{sends_by, account_of, account_of_step, last_of}
+use Rattle.delivery.specs.Core.Account.{account_of, account_of_step, last_of}
+use Rattle.delivery.specs.Core.Told.{sends_by}
 use Rattle.delivery.specs.Core.Output.{has_closed, replies_to}
 use Rattle.delivery.specs.Core.State.{Core, core_of, moves, session_at, frame_move, topic_moves, is_faulted, is_out_of_memory, unread_at}
 use Rattle.delivery.specs.Core.Outcomes.{outcome_of, move_outcome, unless, frame_no_memory, frame_fault, fault_outcomes, frame_outcome, reading_outcomes, cut_of, is_any, reply_outcomes, outcomes, IsCoreRun, accepted_outcomes, outcomes_without, wants_memory}

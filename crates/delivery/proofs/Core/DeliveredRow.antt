@@ -15,14 +15,17 @@ use Rattle.mcast_txn.specs.Span.{Item}
 use Rattle.delivery.specs.Theorem.Due.{log_row}
 use Rattle.delivery.specs.Machine.Moves.{Answer}
 use Rattle.delivery.specs.Theorem.Laws.{shared_marks}
-use Rattle.delivery.specs.Machine.Runs.{commits_of, delivered_items}
+use Rattle.delivery.specs.Machine.Runs.{commits_of}
 use Rattle.delivery.specs.Core.Reports.{QueueReport, Report}
 use Rattle.delivery.specs.Core.Account.{account_of, released_log}
 use Rattle.delivery.specs.Core.Reports.{report_of, log_in}
-use Rattle.delivery.specs.Core.Delivery.{Delivers, IsAsTold}
+use Rattle.delivery.specs.Core.Told.{Told, told_of, handed_count}
+use Rattle.delivery.specs.Core.Delivery.{Delivers}
+use Rattle.delivery.specs.Core.Answered.{IsAsAnswered, DeliversAnswers}
 use Rattle.delivery.proofs.Core.Acts.{topic, stamp, id, made, part, log_row as row, A}
 use Rattle.delivery.proofs.Core.Rows.{ends}
 use Rattle.delivery.proofs.Core.ToldEnds.{in_ends, silent_at}
+use Rattle.delivery.proofs.Core.DeliveredAsTold.{EndsAt, delivered_told}
 
 abbrev item : Item
 item = record { id = id 0 1; stamp = stamp 1 0; sends = part 0 ((codes "destination", A) ∷ []) (codes "m") ∷ [] }
@@ -59,7 +62,7 @@ logs (suc n) lt = absurd (omega arith)
 abbrev ended : Option Stamp → Option Cause → QueueReport
 ended to cause = record { topic = topic 0; from = stamp 0 0; to = to; cause = cause; queued = item ∷ []; handed = [] }
 
-as_told : IsAsTold 64 0 told report (ended (Some (stamp 1 0)) (Some Asked))
+as_told : IsAsAnswered 64 0 told report (ended (Some (stamp 1 0)) (Some Asked))
 as_told = record {
   told = λ to i. elim (in_ends 0 to told i) [ inl e ↦ ap Some e | inr none ↦ absurd none ];
   unended = λ e. none_some Asked (sym e);
@@ -71,8 +74,8 @@ as_told = record {
   bounded = omega arith;
 }
 
-queues_told : (s : ℕ) (q : QueueReport) → slice_get report.subscriptions s ≡ Some q → IsAsTold 64 s told report q
-queues_told zero q e = subst (λ (z : QueueReport). IsAsTold 64 0 told report z) (some_same _ q e) as_told
+queues_told : (s : ℕ) (q : QueueReport) → slice_get report.subscriptions s ≡ Some q → IsAsAnswered 64 s told report q
+queues_told zero q e = subst (λ (z : QueueReport). IsAsAnswered 64 0 told report z) (some_same _ q e) as_told
 queues_told (suc s) q e = none_some q e
 
 -- both are this one
@@ -105,8 +108,8 @@ is_resolved txn (inr (inr (inr (inr (inr none))))) named = absurd none
 settled : IsSettled (topic 0) told
 settled = inl (refl, λ txn i named. is_resolved txn i named)
 
-delivers : Delivers 64 told report
-delivers = record {
+by_answers : DeliversAnswers 64 told report
+by_answers = record {
   commits = refl;
   each_once = (λ y i. absurd i, tt);
   fifo_order = (λ y i same. absurd i, tt);
@@ -118,22 +121,38 @@ delivers = record {
   silent_after_close = silent_at told tt;
 }
 
+-- what its steps tell
+abbrev sent : Transaction
+sent = record { id = id 0 1; sends = made 0 ((codes "destination", A) ∷ []) (codes "m") ∷ [] }
+
+ends_tell : told_of ends.names ends.steps
+    ≡ Told.Unsubscribed 0 (stamp 1 0) ∷ Told.Closed 0 ∷ Told.Turned (topic 0) 1 ∷ Told.Decided sent (stamp 1 0)
+    ∷ Told.Ticket (id 0 1) (topic 0) ∷ Told.Begun sent ∷ Told.Subscribed 0 0 (topic 0) ∷ []
+ends_tell = refl
+
+asked_at : (s : ℕ) (q : QueueReport) → slice_get report.subscriptions s ≡ Some q → q.cause ≡ Some Asked → EndsAt q.topic s told
+asked_at zero q e cause =
+    subst (λ (z : QueueReport). EndsAt z.topic 0 told) (some_same _ q e) (Answer.Gone 0 ∷ [], before_end, stamp 1 0, refl, refl)
+asked_at (suc s) q e cause = none_some q e
+
+delivers : Delivers 64 (told_of ends.names ends.steps) report
+delivers = delivered_told 64 told report asked_at tt by_answers
+
 -- ---- reports that are no delivery
 
 -- what is told of a transaction that is committed at topic 0 and released there
-abbrev committed : List Answer → List Answer
+abbrev committed : List Told → List Told
 committed before =
-    Answer.Turned (topic 0) 1 ∷ Answer.Decided (id 0 1) (stamp 1 0) ∷ Answer.Ticket (id 0 1) (stamp 1 0)
-    ∷ Answer.Begun (record { id = id 0 1; sends = made 0 ((codes "destination", A) ∷ []) (codes "m") ∷ [] }) ∷ before
+    Told.Turned (topic 0) 1 ∷ Told.Decided sent (stamp 1 0) ∷ Told.Ticket (id 0 1) (topic 0) ∷ Told.Begun sent ∷ before
 
 -- a subscription to it is closed before, or stays open
-abbrev subscribed : List Answer
-subscribed = Answer.Subscribed 0 0 (topic 0) (stamp 0 0) ∷ Answer.Opened 0 ∷ []
+abbrev subscribed : List Told
+subscribed = Told.Subscribed 0 0 (topic 0) ∷ []
 
-abbrev after_close : List Answer
-after_close = committed (Answer.Unsubscribed 0 (stamp 0 0) ∷ subscribed)
+abbrev after_close : List Told
+after_close = committed (Told.Unsubscribed 0 (stamp 0 0) ∷ subscribed)
 
-abbrev while_open : List Answer
+abbrev while_open : List Told
 while_open = committed subscribed
 
 -- the item was queued, and the span is reported to end so
@@ -142,12 +161,12 @@ with_end to cause = record report { subscriptions = ended to cause ∷ [] }
 
 -- the closed subscription is reported open, with the row that came after
 stays_open : (capacity : ℕ) → Delivers capacity after_close (with_end None None) → Prim.⊥
-stays_open capacity d = none_some (stamp 0 0) ((d.queues 0 (ended None None) refl).told (stamp 0 0) (inr (inr (inr (inr (inl refl))))))
+stays_open capacity d = none_some (stamp 0 0) ((d.queues 0 (ended None None) refl).ended (stamp 0 0) (inr (inr (inr (inr (inl refl))))))
 
 -- it is reported to have lagged, at a stamp that nothing has
 closed_lags : (capacity : ℕ) → Delivers capacity after_close (with_end (Some (stamp 7 3)) (Some Lag)) → Prim.⊥
 closed_lags capacity d =
-    let e : stamp 7 3 ≡ stamp 0 0 = some_same (stamp 7 3) (stamp 0 0) ((d.queues 0 (ended (Some (stamp 7 3)) (Some Lag)) refl).told (stamp 0 0) (inr (inr (inr (inr (inl refl)))))) in
+    let e : stamp 7 3 ≡ stamp 0 0 = some_same (stamp 7 3) (stamp 0 0) ((d.queues 0 (ended (Some (stamp 7 3)) (Some Lag)) refl).ended (stamp 0 0) (inr (inr (inr (inr (inl refl)))))) in
     let n : 7 ≡ 0 = ap (λ (z : Stamp). z.n) e in absurd (omega (arith, n))
 
 -- an open one is
@@ -160,16 +179,28 @@ open_lags capacity d =
 lags_with_room : Delivers 2 while_open (with_end (Some (stamp 1 0)) (Some Lag)) → Prim.⊥
 lags_with_room d =
     let l = (d.queues 0 (ended (Some (stamp 1 0)) (Some Lag)) refl).lag refl in
-    let n : 1 ≡ length (delivered_items 0 l.2.before) + 2 = l.2.full in absurd (omega (arith, n))
+    let n : 1 ≡ handed_count 0 l.2.before + 2 = l.2.full in absurd (omega (arith, n))
 
 -- it is reported to have been asked to end, which nobody asked
-unasked : (later before : List Answer) (to : Stamp) → while_open ≡ later ++ Answer.Unsubscribed 0 to ∷ before → In (Answer.Unsubscribed 0 to) while_open
-unasked later before to e = subst (λ z. In (Answer.Unsubscribed 0 to) z) (sym e) (in_it later)
-  where
-    in_it : (xs : List Answer) → In (Answer.Unsubscribed 0 to) (xs ++ Answer.Unsubscribed 0 to ∷ before)
-    in_it [] = inl refl
-    in_it (x ∷ xs) = inr (in_it xs)
+in_it : (xs before : List Told) (to : Stamp) → In (Told.Unsubscribed 0 to) (xs ++ Told.Unsubscribed 0 to ∷ before)
+in_it [] before to = inl refl
+in_it (x ∷ xs) before to = inr (in_it xs before to)
+
+unasked : (to : Stamp) → In (Told.Unsubscribed 0 to) while_open → Prim.⊥
+unasked to (inl e) = absurd cc
+unasked to (inr (inl e)) = absurd cc
+unasked to (inr (inr (inl e))) = absurd cc
+unasked to (inr (inr (inr (inl e)))) = absurd cc
+unasked to (inr (inr (inr (inr (inl e))))) = absurd cc
+unasked to (inr (inr (inr (inr (inr none))))) = absurd none
 
 asked_unasked : (capacity : ℕ) → Delivers capacity while_open (with_end (Some (stamp 1 0)) (Some Asked)) → Prim.⊥
 asked_unasked capacity d =
-    let a = (d.queues 0 (ended (Some (stamp 1 0)) (Some Asked)) refl).asked refl in in_ends 0 a.2 while_open (unasked a.0 a.1 a.2 a.3)
+    let a = (d.queues 0 (ended (Some (stamp 1 0)) (Some Asked)) refl).asked refl in
+    unasked a.2 (subst (λ (z : List Told). In (Told.Unsubscribed 0 a.2) z) (sym a.3) (in_it a.0 a.1 a.2))
+
+-- an item is reported to have been delivered that no Take handed on
+not_handed : (capacity : ℕ) → Delivers capacity while_open (record report { subscriptions = record (ended None None) { handed = item ∷ [] } ∷ [] }) → Prim.⊥
+not_handed capacity d =
+    let h : item ∷ [] ≡ [] = (d.queues 0 (record (ended None None) { handed = item ∷ [] }) refl).handed in
+    let n : 1 ≡ 0 = ap (λ (z : List Item). length z) h in absurd (omega (arith, n))

@@ -20,10 +20,13 @@ use Rattle.delivery.specs.Machine.Moves.{Answer}
 use Rattle.delivery.specs.Machine.Runs.{commits_of, delivered_items}
 use Rattle.delivery.specs.Core.Steps.{CoreStep}
 use Rattle.delivery.specs.Core.Account.{beginning_of, Beginning, released_frontier, account_of}
-use Rattle.delivery.specs.Core.State.{core_of}
+use Rattle.delivery.specs.Core.State.{Core, core_of}
+use Rattle.delivery.specs.Theorem.Settled.{SilentAfterClose}
 use Rattle.delivery.specs.Core.Outcomes.{IsCoreRun}
 use Rattle.delivery.specs.Core.Reports.{QueueReport, Report, report_of, queue_report, each_number, log_in}
-use Rattle.delivery.specs.Core.Delivery.{reported_begun, IsAsTold, Delivers}
+use Rattle.delivery.specs.Core.Delivery.{reported_begun, Delivers}
+use Rattle.delivery.specs.Core.Told.{Told, told_of}
+use Rattle.delivery.specs.Core.Answered.{IsAsAnswered, DeliversAnswers}
 use Rattle.delivery.proofs.Theorem.AcceptedIsDue.{reached, accepted_is_due, shared_in_one_order, agreed_once, agreed_in_sender_order}
 use Rattle.delivery.proofs.Theorem.LogIsOfAnswers.{log_is_of_outcomes}
 use Rattle.delivery.proofs.Theorem.SettledLeavesNoneOut.{settled_in_log}
@@ -35,6 +38,9 @@ use Rattle.delivery.proofs.Core.AccountOfRun.{run_of, core_at, core_is, account_
 use Rattle.delivery.proofs.Core.LagsAsTold.{lag_as_told}
 use Rattle.delivery.proofs.Core.SaidParts.{said_append}
 use Rattle.delivery.proofs.Core.ToldEnds.{silent_at}
+use Rattle.delivery.proofs.Core.DeliveredAsTold.{EndsAt, take_given, delivered_told}
+use Rattle.delivery.proofs.Core.AskedAsTold.{asked_said}
+use Rattle.delivery.proofs.Core.ToldOfSteps.{told_is}
 use Rattle.mcast_group.proofs.Parts.{some_same, none_some}
 
 -- ---- numbered lists
@@ -119,10 +125,6 @@ asked_closed (Some left) lagged e = (left, refl, some_same left.cause Asked e)
 
 -- ---- what was handed on
 
-take_given : {X : Type 0} (xs ys : List X) → take (length xs) (xs ++ ys) ≡ xs
-take_given [] ys = refl
-take_given (x ∷ xs) ys = ap (λ z. x ∷ z) (take_given xs ys)
-
 handed_is : (r : Run) (s : ℕ) → s < length (final_world r).subscriptions
     → take (subscription_at (final_world r) s).taken (accepted_at (final_world r) s) ≡ delivered_items s (answers_of r)
 handed_is r s l =
@@ -133,7 +135,7 @@ handed_is r s l =
 
 -- what is reported of each subscription is as it was told
 as_told : (r : Run) (names : List (List ℕ)) (steps : List CoreStep) (s : ℕ) → s < length (final_world r).subscriptions
-    → IsAsTold r.capacity s (said (answers_of r)) (report_at r names steps) (queue_report (final_world r) s)
+    → IsAsAnswered r.capacity s (said (answers_of r)) (report_at r names steps) (queue_report (final_world r) s)
 as_told r names steps s l =
     let w = final_world r in let past = answers_of r in let lagged = entry_to (entry_at w s) in let closed = (subscription_at w s).closed in
     let t = (subscription_at w s).topic in let h = (handing r).held s l in
@@ -165,7 +167,7 @@ one_order r names steps p q i j =
 -- ---- all together
 
 -- the report of a run of the machine is what an account says of its answers
-pub delivers_said : (names : List (List ℕ)) (r : Run) (steps : List CoreStep) → Delivers r.capacity (said (answers_of r)) (report_of (core_at names r steps))
+pub delivers_said : (names : List (List ℕ)) (r : Run) (steps : List CoreStep) → DeliversAnswers r.capacity (said (answers_of r)) (report_of (core_at names r steps))
 delivers_said names r steps = record {
   commits = ap (map log_row) (sym (reached r).commits ∙ sym (commits_said past));
   each_once = subst (λ z. EachOnce committed_id stamp_of (agreed z)) (sym (commits_said past)) (agreed_once r);
@@ -173,7 +175,7 @@ delivers_said names r steps = record {
   logs = λ t l. log_is r names steps t ∙ (log_is_of_outcomes r t ∙ sym (released_log_said t past));
   begins = reported_is w 0 w.subscriptions (λ j l. ap (subscription_at w) (omega arith)) ∙ (sym (begun_is r) ∙ sym (begun_said past));
   queues = λ s q e. (let k = each_got (queue_report w) 0 w.subscriptions s q e in
-      subst (λ (z : QueueReport). IsAsTold r.capacity s (said past) (report_at r names steps) z) (ap (queue_report w) (omega arith) ∙ k.1)
+      subst (λ (z : QueueReport). IsAsAnswered r.capacity s (said past) (report_at r names steps) z) (ap (queue_report w) (omega arith) ∙ k.1)
       (as_told r names steps s k.0));
   total_order = λ p q i j. one_order r names steps p q i j;
   validity = λ t row l settled i named.
@@ -188,10 +190,32 @@ delivers_said names r steps = record {
     past : List Answer
     past = answers_of r
 
+-- a subscription that was asked to end has ended at its topic's frontier then
+asked_told : (names : List (List ℕ)) (r : Run) (steps : List CoreStep) (s : ℕ) (q : QueueReport) → slice_get (report_of (core_at names r steps)).subscriptions s ≡ Some q
+    → q.cause ≡ Some Asked → EndsAt q.topic s (said (answers_of r))
+asked_told names r steps s q e =
+    let w = final_world r in let k = each_got (queue_report w) 0 w.subscriptions s q e in
+    subst (λ (z : QueueReport). z.cause ≡ Some Asked → EndsAt z.topic s (said (answers_of r))) (ap (queue_report w) (omega arith) ∙ k.1)
+    (λ cause. (let left = asked_closed (subscription_at w s).closed (entry_to (entry_at w s)) cause in asked_said r s left.0 left.1 left.2))
+
 -- every run of the core delivers what its account says
 pub delivers : (topics : TopicList) (capacity : ℕ) (steps : List CoreStep) → IsCoreRun topics capacity steps
-    → Delivers capacity (account_of topics.names steps) (report_of (core_of topics capacity steps))
+    → DeliversAnswers capacity (account_of topics.names steps) (report_of (core_of topics capacity steps))
 delivers topics capacity steps run =
     let r = run_of topics capacity steps in
-    subst (λ z. Delivers capacity z (report_of (core_of topics capacity steps))) (sym (account_is topics capacity steps run))
-    (subst (λ k. Delivers capacity (said (answers_of r)) (report_of k)) (sym (core_is topics capacity steps)) (delivers_said topics.names r steps))
+    subst (λ z. DeliversAnswers capacity z (report_of (core_of topics capacity steps))) (sym (account_is topics capacity steps run))
+    (subst (λ k. DeliversAnswers capacity (said (answers_of r)) (report_of k)) (sym (core_is topics capacity steps)) (delivers_said topics.names r steps))
+
+-- and what its steps tell
+pub delivers_told : (topics : TopicList) (capacity : ℕ) (steps : List CoreStep) → IsCoreRun topics capacity steps
+    → Delivers capacity (told_of topics.names steps) (report_of (core_of topics capacity steps))
+delivers_told topics capacity steps run =
+    let r = run_of topics capacity steps in let report = report_of (core_of topics capacity steps) in
+    let is = account_is topics capacity steps run in
+    let asked : (s : ℕ) (q : QueueReport) → slice_get report.subscriptions s ≡ Some q → q.cause ≡ Some Asked → EndsAt q.topic s (account_of topics.names steps) =
+    subst (λ (z : List Answer). (s : ℕ) (q : QueueReport) → slice_get report.subscriptions s ≡ Some q → q.cause ≡ Some Asked → EndsAt q.topic s z) (sym is)
+    (subst (λ (k : Core). (s : ℕ) (q : QueueReport) → slice_get (report_of k).subscriptions s ≡ Some q → q.cause ≡ Some Asked → EndsAt q.topic s (said (answers_of r)))
+    (sym (core_is topics capacity steps)) (asked_told topics.names r steps)) in
+    let silent : SilentAfterClose (account_of topics.names steps) = subst SilentAfterClose (sym is) (silent_said (answers_of r) (closed_is_silent r)) in
+    subst (λ (z : List Told). Delivers capacity z report) (sym (told_is topics.names steps).0)
+    (delivered_told capacity (account_of topics.names steps) report asked silent (delivers topics capacity steps run))

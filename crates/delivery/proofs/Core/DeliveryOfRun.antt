@@ -7,9 +7,10 @@ use Rattle.delivery.specs.Core.Steps.{CoreStep, names_after}
 use Rattle.delivery.specs.Core.Output.{text_out}
 use Rattle.delivery.specs.Core.State.{Core, core_of, names_at}
 use Rattle.delivery.specs.Core.Reports.{report_of, out_in}
+use Rattle.delivery.specs.Core.Answered.{RunsDeliverAnswers}
 use Rattle.delivery.specs.Core.Delivery.{RunsDeliver}
 use Rattle.delivery.proofs.Core.AccountOfRun.{run_of, core_at, core_is}
-use Rattle.delivery.proofs.Core.DeliversOfRun.{each_at, each_length, delivers}
+use Rattle.delivery.proofs.Core.DeliversOfRun.{each_at, each_length, delivers, delivers_told}
 use Rattle.delivery.proofs.Core.Counts.{counted}
 use Rattle.delivery.proofs.Core.FramesRead.{are_readings}
 
@@ -27,10 +28,14 @@ pub delivery : RunsDeliver
 delivery topics capacity steps same run =
     let k = core_of topics capacity steps in let n = counted topics capacity steps same run in
     let names : names_at k ≡ names_after topics.names steps = ap (λ (z : Core). names_at z) (core_is topics capacity steps) in record {
-      delivered = delivers topics capacity steps run;
+      delivered = delivers_told topics capacity steps run;
       written = record {
         are_read = are_readings topics capacity steps run;
         output = written topics capacity steps;
         counts = (map_length (λ (x : TopicState). x.held) k.world.topics ∙ (n.0 ∙ ap (λ (z : List (List ℕ)). length z) names), each_length (λ c. text_out k.names c k.steps) 0 k.world.connections ∙ n.1);
       };
     }
+
+-- by its account in the machine's answers, too
+pub delivery_answers : RunsDeliverAnswers
+delivery_answers topics capacity steps same run = delivers topics capacity steps run

@@ -21,10 +21,12 @@ use Rattle.delivery.specs.Core.Output.{text_out}
 use Rattle.delivery.specs.Core.State.{core_of}
 use Rattle.delivery.specs.Core.Outcomes.{IsCoreRun}
 use Rattle.delivery.specs.Core.Reports.{Report, report_of, log_in, out_in}
-use Rattle.delivery.specs.Core.Delivery.{Delivers, Delivery}
+use Rattle.delivery.specs.Core.Delivery.{Delivery}
+use Rattle.delivery.specs.Core.Answered.{DeliversAnswers}
 use Rattle.mcast_group.proofs.Parts.{none_some}
 use Rattle.delivery.proofs.Core.Acts.{topic, topic_list, connect, A}
 use Rattle.delivery.proofs.Core.ToldEnds.{silent_at}
+use Rattle.delivery.proofs.Core.DeliveredAsTold.{delivered_told}
 
 abbrev text : List ℕ
 text = codes "CONNECT\naccept-version:1.2\nhost:h\n\n\0"
@@ -85,8 +87,8 @@ outs (suc c) lt = absurd (omega arith)
 none_logged : (n : ℕ) (row : CommitRow) → In row [] → In (log_row row) (log_in report (topic n))
 none_logged n row i = absurd i
 
-delivers : Delivers 64 (Answer.Opened 0 ∷ []) report
-delivers = record {
+by_answers : DeliversAnswers 64 (Answer.Opened 0 ∷ []) report
+by_answers = record {
   commits = refl;
   each_once = tt;
   fifo_order = tt;
@@ -100,7 +102,7 @@ delivers = record {
 
 is_delivered : Delivery topics 64 steps report
 is_delivered = record {
-  delivered = delivers;
+  delivered = delivered_told 64 (Answer.Opened 0 ∷ []) report (λ s q e cause. none_some q e) tt by_answers;
   written = record {
     are_read = record { shown = refl; first = first };
     output = outs;

@@ -23,7 +23,8 @@ use Rattle.delivery.specs.Theorem.Laws.{Run, answers_of, final_world}
 use Rattle.delivery.specs.Theorem.Spans.{EndsBeforeRow, cause_of}
 use Rattle.delivery.specs.Core.Account.{released_frontier}
 use Rattle.delivery.specs.Core.Reports.{QueueReport, queue_report, cause_at}
-use Rattle.delivery.specs.Core.Delivery.{last_queued, EndsByLag}
+use Rattle.delivery.specs.Core.Delivery.{last_queued}
+use Rattle.delivery.specs.Core.Answered.{LagsAsAnswered}
 use Rattle.delivery.proofs.Machine.Invariant.{topic_in}
 use Rattle.delivery.proofs.Machine.InvariantIsKept.{tickets, step_reached}
 use Rattle.delivery.proofs.Machine.SpanSteps.{step_tells}
@@ -145,7 +146,7 @@ queue_last base frontier held from end accepted q le at =
 abbrev cause_by : Option EntryEnd → Option Stamp → Option Cause
 cause_by closed lagged = elim closed [ None ↦ option_map (λ end. Lag) lagged | Some end ↦ Some end.cause ]
 
-abbrev end_by : Option EntryEnd → Option Stamp → Option Stamp
+abbrev pub end_by : Option EntryEnd → Option Stamp → Option Stamp
 end_by closed lagged = elim closed [ None ↦ lagged | Some end ↦ Some end.to ]
 
 asked_no_lag : Some Asked ≡ Some Lag → Prim.⊥
@@ -172,7 +173,7 @@ lagged_before r e s end (Some left) c d cause =
 
 -- a lag is told of a subscription with the same topic, beginning and queue, and of a longer account
 lag_stays : (capacity more s : ℕ) (o : Answer) (past : List Answer) (q p : QueueReport) (end : Stamp) → more ≡ capacity → p.topic ≡ q.topic → p.from ≡ q.from → p.queued ≡ q.queued
-    → EndsByLag capacity s past q end → EndsByLag more s (o ∷ past) p end
+    → LagsAsAnswered capacity s past q end → LagsAsAnswered more s (o ∷ past) p end
 lag_stays capacity more s o past q p end same topic from items h = record {
   later = o ∷ h.later;
   by = h.by;
@@ -185,7 +186,7 @@ lag_stays capacity more s o past q p end same topic from items h = record {
 }
 
 -- a subscription whose span has an end after an event, if it had none or one before, is an old one
-old_one : (r : Run) (e : Move) (s : ℕ) (end : Stamp) → end_at (world_after (final_world r) e) s ≡ Some end → s < length (final_world r).subscriptions
+pub old_one : (r : Run) (e : Move) (s : ℕ) (end : Stamp) → end_at (world_after (final_world r) e) s ≡ Some end → s < length (final_world r).subscriptions
 old_one r e s end some =
     let w = final_world r in let h = reached r in elim (within s (length w.subscriptions)) [
       | inl l ↦ l
@@ -207,7 +208,7 @@ queue_then r e s end some =
 lag_comes : (r : Run) (e : Move) (s : ℕ) (end : Stamp) → end_at (final_world r) s ≡ None → cause_at (world_after (final_world r) e) s ≡ Some Lag
     → end_at (world_after (final_world r) e) s ≡ Some end
     → length (accepted_at (world_after (final_world r) e) s) ≡ length (delivered_items s (answers_of r)) + r.capacity
-    → EndsByLag (world_after (final_world r) e).capacity s (answer_to (final_world r) e ∷ answers_of r) (queue_report (world_after (final_world r) e) s) end
+    → LagsAsAnswered (world_after (final_world r) e).capacity s (answer_to (final_world r) e ∷ answers_of r) (queue_report (world_after (final_world r) e) s) end
 lag_comes r e s end none cause some full =
     let w = final_world r in let past = answers_of r in let v = world_after w e in let later = answer_to w e ∷ past in
     let t = (subscription_at w s).topic in let h = step_reached past w e (reached r) in
@@ -236,11 +237,11 @@ lag_comes r e s end none cause some full =
 
 -- each span that has lagged has
 abbrev LagsAre : List Answer → World → Type 0
-LagsAre past w = (s : ℕ) (end : Stamp) → cause_at w s ≡ Some Lag → end_at w s ≡ Some end → EndsByLag w.capacity s past (queue_report w s) end
+LagsAre past w = (s : ℕ) (end : Stamp) → cause_at w s ≡ Some Lag → end_at w s ≡ Some end → LagsAsAnswered w.capacity s past (queue_report w s) end
 
 lag_case : (r : Run) (e : Move) → LagsAre (answers_of r) (final_world r) → (s : ℕ) (end : Stamp) (o : Option Stamp) → end_at (final_world r) s ≡ o
     → cause_at (world_after (final_world r) e) s ≡ Some Lag → end_at (world_after (final_world r) e) s ≡ Some end
-    → EndsByLag (world_after (final_world r) e).capacity s (answer_to (final_world r) e ∷ answers_of r) (queue_report (world_after (final_world r) e) s) end
+    → LagsAsAnswered (world_after (final_world r) e).capacity s (answer_to (final_world r) e ∷ answers_of r) (queue_report (world_after (final_world r) e) s) end
 lag_case r e h s end None none cause some = elim (ends_are_told r e s end none some) [
   | inl a ↦ absurd (not_closed r e s end none cause a)
   | inr k ↦ lag_comes r e s end none cause some k.1
@@ -271,7 +272,7 @@ lags_are =
 
 -- ---- by an account
 
-lag_said : (capacity s : ℕ) (past : List Answer) (q : QueueReport) (end : Stamp) → EndsByLag capacity s past q end → EndsByLag capacity s (said past) q end
+lag_said : (capacity s : ℕ) (past : List Answer) (q : QueueReport) (end : Stamp) → LagsAsAnswered capacity s past q end → LagsAsAnswered capacity s (said past) q end
 lag_said capacity s past q end h = by_case (is_said h.by) refl
   where
     reached : stamp_lt end (released_frontier q.topic (said h.before)) ≡ false
@@ -280,7 +281,7 @@ lag_said capacity s past q end h = by_case (is_said h.by) refl
     passed : stamp_lt end (released_frontier q.topic (said (h.by ∷ h.before))) ≡ true
     passed = subst (λ z. stamp_lt end z ≡ true) (sym (released_frontier_said q.topic (h.by ∷ h.before))) h.passed
 
-    by_case : (b : Bool) → is_said h.by ≡ b → EndsByLag capacity s (said past) q end
+    by_case : (b : Bool) → is_said h.by ≡ b → LagsAsAnswered capacity s (said past) q end
     by_case true e = record {
       later = said h.later;
       by = h.by;
@@ -296,7 +297,7 @@ lag_said capacity s past q end h = by_case (is_said h.by) refl
 
 -- after each run, a span that has lagged ends so by the account
 pub lag_as_told : (r : Run) (s : ℕ) (end : Stamp) → cause_at (final_world r) s ≡ Some Lag → end_at (final_world r) s ≡ Some end
-    → EndsByLag r.capacity s (said (answers_of r)) (queue_report (final_world r) s) end
+    → LagsAsAnswered r.capacity s (said (answers_of r)) (queue_report (final_world r) s) end
 lag_as_told r s end cause some =
     lag_said r.capacity s (answers_of r) (queue_report (final_world r) s) end
-    (subst (λ n. EndsByLag n s (answers_of r) (queue_report (final_world r) s) end) (known r).same (lags_are r s end cause some))
+    (subst (λ n. LagsAsAnswered n s (answers_of r) (queue_report (final_world r) s) end) (known r).same (lags_are r s end cause some))

@@ -18,7 +18,7 @@ use Rattle.delivery.specs.Theorem.Laws.{agreed_rows}
 use Rattle.delivery.specs.Theorem.Settled.{IsResolved, AllResolved, IsSettled, IsSilent, SilentAfterClose, is_at, closes}
 use Rattle.delivery.specs.Core.Account.{Beginning, beginning_of, released_log, released_frontier}
 use Rattle.delivery.specs.Core.Output.{has_closed}
-use Rattle.delivery.specs.Core.Delivery.{begun_in}
+use Rattle.delivery.specs.Core.Answered.{begun_in}
 use Rattle.std.specs.Prelude.{take}
 
 -- an account says it

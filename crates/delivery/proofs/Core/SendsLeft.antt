@@ -10,7 +10,7 @@ use Rattle.stomp_session.specs.Frames.{is_begin, is_end, is_send_in, names_trans
 use Rattle.stomp_session.specs.Open.{transactions_left}
 use Rattle.stomp_session.specs.Refusals.{sends_in}
 use Rattle.sender_gate.proofs.KeptLemmas.{same_octets, octets_pass}
-use Rattle.delivery.specs.Core.Account.{sends_left}
+use Rattle.delivery.specs.Core.Told.{sends_left}
 
 -- octets that differ one way differ the other way
 differ : (x y : List ℕ) (q : Bool) → bytes_eq x y ≡ false → bytes_eq y x ≡ q → q ≡ false

@@ -22,7 +22,7 @@ use Rattle.delivery.specs.Machine.Moves.Answer.{Refused, Done}
 use Rattle.delivery.specs.Theorem.Laws.{Run, answers_of, final_world}
 use Rattle.delivery.specs.Theorem.Spans.{cause_of}
 use Rattle.delivery.specs.Core.Account.{Beginning, no_beginning, beginning_of, released_frontier}
-use Rattle.delivery.specs.Core.Delivery.{begun_in}
+use Rattle.delivery.specs.Core.Answered.{begun_in}
 use Rattle.delivery.proofs.Machine.SubscriptionSteps.{at_push_two}
 use Rattle.delivery.proofs.Machine.InvariantIsKept.{tickets, by_refusal, checked}
 use Rattle.delivery.proofs.Theorem.LogIsOfAnswers.{log_is_of_outcomes}
@@ -218,7 +218,7 @@ AskedEnds past w = (s : ℕ) (end : EntryEnd) → (subscription_at w s).closed �
 later_end : (s : ℕ) (o : Answer) (past : List Answer) (to : Stamp) → EndsAtFrontier s past to → EndsAtFrontier s (o ∷ past) to
 later_end s o past to h = (o ∷ h.0, h.1, ap (λ z. o ∷ z) h.2, h.3)
 
-none_asked : (o : Option Stamp) → cause_of o ≡ Asked → o ≡ None
+pub none_asked : (o : Option Stamp) → cause_of o ≡ Asked → o ≡ None
 none_asked None e = refl
 none_asked (Some end) e = cc
 

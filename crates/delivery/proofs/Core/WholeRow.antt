@@ -34,9 +34,12 @@ use Rattle.delivery.specs.Core.Account.{account_of, released_log}
 use Rattle.delivery.specs.Core.Output.{text_out}
 use Rattle.delivery.specs.Core.State.{new_core}
 use Rattle.delivery.specs.Core.Reports.{QueueReport, Report, report_of, log_in, out_in}
-use Rattle.delivery.specs.Core.Delivery.{IsAsTold, Delivers, Delivery}
+use Rattle.delivery.specs.Core.Told.{Told, told_of}
+use Rattle.delivery.specs.Core.Delivery.{Delivery}
+use Rattle.delivery.specs.Core.Answered.{IsAsAnswered, DeliversAnswers}
 use Rattle.delivery.proofs.Core.Acts.{Act, topic_list, played, act, reads, frame, connect, subscribe, begin, send_in, send, commit, propose, turn, topic, stamp, id, made, part, x_to, shown_outcomes, log_row as row, A, B}
 use Rattle.delivery.proofs.Core.ToldEnds.{in_ends, not_silent, silent_at}
+use Rattle.delivery.proofs.Core.DeliveredAsTold.{EndsAt, delivered_told}
 
 -- ---- the run
 
@@ -225,6 +228,14 @@ told = Answer.Handed 1 at_b ∷ Answer.Turned (topic 1) 1 ∷ before_lag
 account_is : account_of topics.names steps ≡ told
 account_is = refl
 
+-- in fewer words
+steps_tell : told_of topics.names steps
+    ≡ Told.Handed 1 ∷ Told.Turned (topic 1) 1 ∷ Told.Decided alone (stamp 2 1) ∷ Told.Ticket (id 0 2) (topic 1)
+    ∷ Told.Begun alone ∷ Told.Unsubscribed 0 (stamp 1 1) ∷ Told.Handed 0 ∷ Told.Turned (topic 1) 1
+    ∷ Told.Turned (topic 0) 1 ∷ Told.Decided both (stamp 1 1) ∷ Told.Ticket (id 0 1) (topic 1)
+    ∷ Told.Ticket (id 0 1) (topic 0) ∷ Told.Begun both ∷ Told.Subscribed 1 0 (topic 1) ∷ Told.Subscribed 0 0 (topic 0) ∷ []
+steps_tell = refl
+
 -- its two subscriptions
 abbrev closed : QueueReport
 closed = record { topic = topic 0; from = stamp 0 0; to = Some (stamp 1 1); cause = Some Asked; queued = at_a ∷ []; handed = at_a ∷ [] }
@@ -275,7 +286,7 @@ logs zero lt = refl
 logs (suc zero) lt = refl
 logs (suc (suc n)) lt = absurd (omega arith)
 
-closed_told : IsAsTold 1 0 told report closed
+closed_told : IsAsAnswered 1 0 told report closed
 closed_told = record {
   told = λ to i. elim (in_ends 0 to told i) [ inl e ↦ ap Some e | inr none ↦ absurd none ];
   unended = λ e. none_some Asked (sym e);
@@ -287,7 +298,7 @@ closed_told = record {
   bounded = omega arith;
 }
 
-lagged_told : IsAsTold 1 1 told report lagged
+lagged_told : IsAsAnswered 1 1 told report lagged
 lagged_told = record {
   told = λ to i. absurd (in_ends 1 to told i);
   unended = λ e. none_some Lag (sym e);
@@ -312,9 +323,9 @@ lagged_told = record {
   bounded = omega arith;
 }
 
-queues_told : (s : ℕ) (q : QueueReport) → slice_get report.subscriptions s ≡ Some q → IsAsTold 1 s told report q
-queues_told zero q e = subst (λ (z : QueueReport). IsAsTold 1 0 told report z) (some_same _ q e) closed_told
-queues_told (suc zero) q e = subst (λ (z : QueueReport). IsAsTold 1 1 told report z) (some_same _ q e) lagged_told
+queues_told : (s : ℕ) (q : QueueReport) → slice_get report.subscriptions s ≡ Some q → IsAsAnswered 1 s told report q
+queues_told zero q e = subst (λ (z : QueueReport). IsAsAnswered 1 0 told report z) (some_same _ q e) closed_told
+queues_told (suc zero) q e = subst (λ (z : QueueReport). IsAsAnswered 1 1 told report z) (some_same _ q e) lagged_told
 queues_told (suc (suc s)) q e = none_some q e
 
 abbrev InOrder : QueueReport → QueueReport → Type 0
@@ -349,8 +360,8 @@ silent = (
   ((λ h. not_silent 0 opened refl (λ c. refl) h), tt),
 )
 
-delivers : Delivers 1 told report
-delivers = record {
+by_answers : DeliversAnswers 1 told report
+by_answers = record {
   commits = refl;
   each_once = once;
   fifo_order = in_order;
@@ -362,6 +373,14 @@ delivers = record {
   silent_after_close = silent_at told silent;
 }
 
+asked_at : (s : ℕ) (q : QueueReport) → slice_get report.subscriptions s ≡ Some q → q.cause ≡ Some Asked → EndsAt q.topic s told
+asked_at zero q e cause =
+    subst (λ (z : QueueReport). EndsAt z.topic 0 told) (some_same _ q e)
+    (Answer.Handed 1 at_b ∷ Answer.Turned (topic 1) 1 ∷ since_close, before_close, stamp 1 1, refl, refl)
+asked_at (suc zero) q e cause =
+    let same : Lag ≡ Asked = some_same Lag Asked (ap (λ (z : QueueReport). z.cause) (some_same _ q e) ∙ cause) in cc
+asked_at (suc (suc s)) q e cause = none_some q e
+
 outs : (c : ℕ) → c < 1 → out_in report c ≡ text_out topics.names c steps
 unfolding digits
 outs zero lt = refl
@@ -369,7 +388,7 @@ outs (suc c) lt = absurd (omega arith)
 
 is_delivered : Delivery topics 1 steps report
 is_delivered = record {
-  delivered = delivers;
+  delivered = delivered_told 1 told report asked_at silent by_answers;
   written = record {
     are_read = record { shown = refl; first = first };
     output = outs;

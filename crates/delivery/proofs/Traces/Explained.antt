@@ -21,7 +21,7 @@ use Rattle.trace_audit.specs.Trace.{rows_of, queue_of, marks_in}
 use Rattle.delivery.specs.Theorem.Due.{log_row, item_at, is_due}
 use Rattle.delivery.specs.Machine.Moves.{Answer}
 use Rattle.delivery.specs.Machine.Runs.{commits_of, released_at}
-use Rattle.delivery.specs.Core.Delivery.{Delivers}
+use Rattle.delivery.specs.Core.Answered.{DeliversAnswers}
 use Rattle.delivery.specs.Core.Reports.{Report, log_in, span_of}
 use Rattle.delivery.proofs.Core.QueueOfReport.{queue_in, queue_there}
 use Rattle.delivery.specs.Traces.{traced_span, trace_of, AllSettled}
@@ -58,7 +58,7 @@ none_taken [] = refl
 none_taken (x ∷ xs) = refl
 
 -- so is each log of a report that is delivered
-pub fronted : {capacity : ℕ} (account : List Answer) (r : Report) → Delivers capacity account r → (t : Topic) → Fronted account t (log_in r t)
+pub fronted : {capacity : ℕ} (account : List Answer) (r : Report) → DeliversAnswers capacity account r → (t : Topic) → Fronted account t (log_in r t)
 fronted account r d t = elim (within t.0 (length r.logs)) [
   | inl l ↦ record {
     count = released_at t account;
@@ -68,7 +68,7 @@ fronted account r d t = elim (within t.0 (length r.logs)) [
 ]
 
 -- a row of a log is one of the agreed sequence
-in_sequence : {capacity : ℕ} (account : List Answer) (r : Report) → Delivers capacity account r → (row : LogRow) → In row (rows_of (trace_of r).logs) → In row (sequence account)
+in_sequence : {capacity : ℕ} (account : List Answer) (r : Report) → DeliversAnswers capacity account r → (row : LogRow) → In row (rows_of (trace_of r).logs) → In row (sequence account)
 in_sequence account r d row k =
     let h = row_in_log (trace_of r).logs row k in
     let f = fronted account r d h.0 in
@@ -76,7 +76,7 @@ in_sequence account r d row k =
     (In-filter_cases (at_topic h.0) row (sequence account) (In-take row f.count (filter (at_topic h.0) (sequence account)) taken)).stands
 
 -- a log that isn't empty is the agreed sequence restricted to its topic, up to its last stamp
-cut : {capacity : ℕ} (account : List Answer) (r : Report) (d : Delivers capacity account r) (t : Topic) → log_in r t ≢ [] → log_in r t ≡ rows_at t (log_in r t) (sequence account)
+cut : {capacity : ℕ} (account : List Answer) (r : Report) (d : DeliversAnswers capacity account r) (t : Topic) → log_in r t ≢ [] → log_in r t ≡ rows_at t (log_in r t) (sequence account)
 cut account r d t some =
     let f = fronted account r d t in
     let named = filter (at_topic t) (sequence account) in
@@ -89,7 +89,7 @@ cut account r d t some =
 -- ---- of the rows that are in some log
 
 -- a row of the agreed sequence whose transaction is in a log is in it itself
-logged_itself : {capacity : ℕ} (account : List Answer) (r : Report) (d : Delivers capacity account r) (row : LogRow) → In row (sequence account)
+logged_itself : {capacity : ℕ} (account : List Answer) (r : Report) (d : DeliversAnswers capacity account r) (row : LogRow) → In row (sequence account)
     → in_logs (trace_of r).logs row ≡ true → In row (rows_of (trace_of r).logs)
 logged_itself account r d row k e =
     let f = any_found (λ (line : LogLine). same_id line.row.id row.id) (trace_of r).logs e in
@@ -113,7 +113,7 @@ both_same false true h = absurd (true≢false (sym (h refl)))
 both_same false false h = refl
 
 -- a log that isn't empty is these rows restricted to its topic, up to its last stamp
-kept_cut : {capacity : ℕ} (account : List Answer) (r : Report) (d : Delivers capacity account r) (t : Topic) → log_in r t ≢ [] → log_in r t ≡ rows_at t (log_in r t) (logged_rows account r)
+kept_cut : {capacity : ℕ} (account : List Answer) (r : Report) (d : DeliversAnswers capacity account r) (t : Topic) → log_in r t ≢ [] → log_in r t ≡ rows_at t (log_in r t) (logged_rows account r)
 kept_cut account r d t some =
     let logs = (trace_of r).logs in
     let test = λ (row : LogRow). names t row.topics && up_to (Some (last_stamp zero_stamp (log_in r t))) row.stamp in
@@ -156,7 +156,7 @@ empty_or_not (row ∷ rows) = inr (λ none. cons_none row rows none)
     cons_none row rows e = cc
 
 -- the rows that are due are those of the log that lie in the span
-due_logged : {capacity : ℕ} (account : List Answer) (r : Report) (d : Delivers capacity account r) (t : Topic) (from : Stamp) (to : Option Stamp)
+due_logged : {capacity : ℕ} (account : List Answer) (r : Report) (d : DeliversAnswers capacity account r) (t : Topic) (from : Stamp) (to : Option Stamp)
     → filter (due_row t from to (last_stamp zero_stamp (log_in r t))) (sequence account) ≡ filter (λ (row : LogRow). in_span from to row.stamp) (log_in r t)
 due_logged account r d t from to = elim (empty_or_not (log_in r t)) [
   | inl none ↦ ap (λ (z : List LogRow). filter (due_row t from to (last_stamp zero_stamp z)) (sequence account)) none
@@ -176,7 +176,7 @@ marks_twice t [] = refl
 marks_twice t (row ∷ rows) = ap (λ z. row_mark (log_row row) ∷ z) (marks_twice t rows)
 
 -- what a queue accepted are the rows of its topic's log that lie in its span
-queue_cut : {capacity : ℕ} (account : List Answer) (r : Report) (d : Delivers capacity account r) (s : ℕ) → s < length r.subscriptions
+queue_cut : {capacity : ℕ} (account : List Answer) (r : Report) (d : DeliversAnswers capacity account r) (s : ℕ) → s < length r.subscriptions
     → queue_of s (trace_of r).queues ≡ marks_in (traced_span s (queue_in r s)) (trace_of r).logs
 queue_cut account r d s l =
     let q = queue_in r s in
@@ -191,7 +191,7 @@ queue_cut account r d s l =
 -- ---- all together
 
 -- the rows of the agreed sequence that are in some log explain the trace
-pub explained : {capacity : ℕ} (account : List Answer) (r : Report) → Delivers capacity account r → IsExplainedBy (logged_rows account r) (trace_of r)
+pub explained : {capacity : ℕ} (account : List Answer) (r : Report) → DeliversAnswers capacity account r → IsExplainedBy (logged_rows account r) (trace_of r)
 explained account r d = record {
   rises = Rises-filter row_stamp (in_logs logs) (sequence account) (agreed_rises (commits_of account) d.each_once);
   of_logs = λ row k. (let m = In-filter_cases (in_logs logs) row (sequence account) k in logged_itself account r d row m.stands m.passes);
@@ -206,7 +206,7 @@ explained account r d = record {
     logs = (trace_of r).logs
 
 -- where commits name topics of the report alone, and each is settled, the trace is complete
-pub complete : {capacity : ℕ} (account : List Answer) (r : Report) → Delivers capacity account r
+pub complete : {capacity : ℕ} (account : List Answer) (r : Report) → DeliversAnswers capacity account r
     → ((row : CommitRow) (t : Topic) → In row (commits_of account) → names t (topics_of row.txn.sends) ≡ true → t.0 < length r.logs)
     → AllSettled (length r.logs) account → IsCompleteBy (logged_rows account r) (trace_of r)
 complete account r d known settled row t k named =

@@ -24,7 +24,7 @@ use Rattle.delivery.specs.Core.State.{core_of}
 use Rattle.delivery.specs.Core.Steps.{names_after}
 use Rattle.delivery.proofs.Core.NamesFew.{names_few}
 use Rattle.delivery.specs.Core.Reports.{Report, report_of}
-use Rattle.delivery.specs.Core.Delivery.{Delivers}
+use Rattle.delivery.specs.Core.Answered.{DeliversAnswers}
 use Rattle.delivery.specs.Inner.NetInvariant.{KeepsRun}
 use Rattle.delivery.specs.Inner.Readings.{steps_of}
 use Rattle.delivery.specs.Inner.View.{View}
@@ -52,7 +52,7 @@ pub all_pass : {X : Type 0} (p : X → Bool) (xs : List X) → ((x : X) → In x
 all_pass p [] h = refl
 all_pass p (x ∷ xs) h = and_from (p x) (list_all p xs) (h x (inl refl)) (all_pass p xs (λ y k. h y (inr k)))
 
-pub row_fits : {capacity : ℕ} (account : List Answer) (r : Report) → Delivers capacity account r → (line : LogLine) → In line (trace_of r).logs → fits line ≡ true
+pub row_fits : {capacity : ℕ} (account : List Answer) (r : Report) → DeliversAnswers capacity account r → (line : LogLine) → In line (trace_of r).logs → fits line ≡ true
 row_fits account r d line k =
     let t = line.topic in
     let f = fronted account r d t in

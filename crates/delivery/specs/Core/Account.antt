@@ -1,20 +1,14 @@
 -- The account that a run's steps give of transactions, topics and subscriptions, in the words of the
 -- machine's answers. It takes nothing from the machine: what a transaction has and which item is next is
 -- worked out from frames and outcomes.
-use Rattle.std.specs.Prelude.{ℕ, ◌==◌, ◌+◌, not, ◌&&◌, List, [], ◌∷◌, ◌++◌, codes, map, length, take, get_or, Option, Some, None, if◌then◌else◌}
-use Rattle.std.specs.List.{filter, list_any}
-use Rattle.std.specs.Option.{option_map_or}
-use Rattle.stomp_frame.specs.declared.command.Command.{Command}
-use Rattle.stomp_frame.specs.declared.command.Command.TheVariants as commands
+use Rattle.std.specs.Prelude.{ℕ, ◌==◌, ◌+◌, List, [], ◌∷◌, ◌++◌, length, take, get_or, Option, Some, None, if◌then◌else◌}
 use Rattle.stomp_frame.specs.declared.raw_frame.RawFrame.{RawFrame}
-use Rattle.stomp_frame.specs.Headers.{first_of}
 use Rattle.mcast_txn.specs.declared.id.Topic.{Topic}
 use Rattle.mcast_txn.specs.declared.id.TxnId.{TxnId}
-use Rattle.mcast_txn.specs.declared.draft.sent_message.SentMessage.{SentMessage}
 use Rattle.mcast_txn.specs.declared.stamp.Stamp.{Stamp}
 use Rattle.mcast_txn.specs.Stamp.{zero_stamp}
 use Rattle.mcast_txn.specs.Span.{LogRow, Item, last_stamp}
-use Rattle.stomp_session.specs.Frames.{topic_of, id_of, transaction_of, is_begin, names_transaction, is_send_in, send_of}
+use Rattle.stomp_session.specs.Frames.{topic_of, id_of}
 use Rattle.delivery.specs.declared.event.Event.{Event}
 use Rattle.delivery.specs.declared.outcome.Outcome.{Outcome}
 use Rattle.delivery.specs.Theorem.Due.{due}
@@ -23,6 +17,7 @@ use Rattle.delivery.specs.Machine.Moves.{Answer}
 use Rattle.delivery.specs.Machine.Runs.{commits_of, delivered_items, txn_count, released_at}
 use Rattle.delivery.specs.Core.Claims.{claims_of, sender_of}
 use Rattle.delivery.specs.Core.Steps.{CoreStep, frame_in, accepted_of, names_after, number_by}
+use Rattle.delivery.specs.Core.Told.{sends_by}
 
 -- ---- what is read of an account
 
@@ -32,23 +27,6 @@ abbrev pub last_of : ℕ → List CoreStep → List Answer → TxnId
 last_of c older account =
     let s = sender_of c (claims_of older) in
     record { sender = record { 0 = s }; seq = txn_count s account }
-
--- The SENDs of this transaction that these frames left open: those since its BEGIN, where no later frame but a
--- SEND names it. So of BEGIN x, SEND in x, COMMIT x, BEGIN x, two SENDs in x and one in y, the two; after an
--- ABORT x none.
-abbrev pub sends_left : List ℕ → List (List ℕ) → List RawFrame → List SentMessage
-sends_left x names [] = []
-sends_left x names (f ∷ after) =
-    if is_begin f.command && names_transaction x f && not (list_any (names_transaction x) after)
-    then map (send_of names) (filter (is_send_in x) after) else sends_left x names after
-
--- the SENDs that a frame of this command commits, after these accepted frames: a COMMIT those of its transaction,
--- a SEND alone itself
-abbrev pub sends_by : Command → List (List ℕ) → List RawFrame → RawFrame → List SentMessage
-sends_by commands.Commit names accepted f = sends_left (transaction_of f) names accepted
-sends_by commands.Send names accepted f =
-    option_map_or (λ x. []) (first_of (codes "transaction") f.headers) (send_of names f ∷ [])
-sends_by command names accepted f = []
 
 -- A topic's log: as many rows as were released, the first of the agreed sequence that name it. So where (1,
 -- 0) and (2, 0) name topic 0 and one part was released there, it is the row of (1, 0).

@@ -1,6 +1,6 @@
 -- What the core is to deliver: the statement over the steps of a run and its report alone, and that each run
 -- of the core's definitions meets it. It mentions no clock, no floor and no pending part.
-use Rattle.std.specs.Prelude.{◌≡◌, ℕ, ◌+◌, ◌<◌, ◌≤◌, true, false, List, [], ◌∷◌, ◌++◌, map, length, reverse, slice_get, Some, None}
+use Rattle.std.specs.Prelude.{◌≡◌, ℕ, ◌+◌, ◌<◌, ◌≤◌, true, false, List, [], ◌∷◌, ◌++◌, map, length, reverse, take, slice_get, Some, None}
 use Rattle.mcast_txn.specs.declared.id.Topic.{Topic}
 use Rattle.mcast_txn.specs.declared.stamp.Stamp.{Stamp}
 use Rattle.mcast_txn.specs.Stamp.{zero_stamp, stamp_lt}
@@ -13,13 +13,10 @@ use Rattle.mcast_group.specs.declared.cause.Cause.TheVariants.{Asked, Lag}
 use Rattle.delivery.specs.declared.outcome.Outcome.{Outcome}
 use Rattle.delivery.specs.declared.kept.Kept.{Kept}
 use Rattle.delivery.specs.Topics.{TopicList}
-use Rattle.delivery.specs.Machine.Moves.{Answer}
-use Rattle.delivery.specs.Machine.Runs.{commits_of, delivered_items}
 use Rattle.delivery.specs.Theorem.Due.{log_row, due}
 use Rattle.delivery.specs.Theorem.Laws.{shared_marks}
-use Rattle.delivery.specs.Theorem.Settled.{IsSettled, IsSilent}
 use Rattle.delivery.specs.Core.Steps.{CoreStep, kept_of, names_after, AreReadings}
-use Rattle.delivery.specs.Core.Account.{released_log, released_frontier, beginning_of, account_of}
+use Rattle.delivery.specs.Core.Told.{Told, committed, log_of, frontier_of, handed_count, told_of, IsSettled, IsSilent}
 use Rattle.delivery.specs.Core.Output.{text_out}
 use Rattle.delivery.specs.Core.State.{core_of}
 use Rattle.delivery.specs.Core.Outcomes.{IsCoreRun}
@@ -28,9 +25,9 @@ use Rattle.delivery.specs.Core.Reports.{QueueReport, Report, report_of, log_in, 
 -- ---- where spans begin and end
 
 -- the subscriptions that began: of each its number, its topic, and its topic's frontier then
-abbrev pub begun_in : List Answer → List (ℕ × Topic × Stamp)
+abbrev pub begun_in : List Told → List (ℕ × Topic × Stamp)
 begun_in [] = []
-begun_in (Answer.Subscribed s c t from ∷ before) = begun_in before ++ (s, t, released_frontier t before) ∷ []
+begun_in (Told.Subscribed s c t ∷ before) = begun_in before ++ (s, t, frontier_of t before) ∷ []
 begun_in (o ∷ before) = begun_in before
 
 -- the same of a report, where the first has number i
@@ -45,66 +42,62 @@ last_queued from (item ∷ items) = last_queued item.stamp items
 
 -- The span of subscription s ended by lag: a row came to its topic's log for which its queue had no room. So
 -- where the queue holds 2 and rows 1, 2 and 3 come before a Take, it ends at row 2's stamp.
--- before, by, later: the account before the answer by which that row came, this answer, and the account since.
+-- before, by, later: what was told before that row came, what told that it came, and what was told since.
 -- last: the end is the stamp of the last item that was queued, or the span's beginning where none was.
--- reached, passed: the topic's frontier was at most the end before that answer, and is above it then.
--- full: as many items as the capacity weren't delivered then.
-pub record EndsByLag (capacity s : ℕ) (account : List Answer) (q : QueueReport) (end : Stamp) : Type 0 where
-  pub later : List Answer
-  pub by : Answer
-  pub before : List Answer
-  pub account_is : account ≡ later ++ by ∷ before
+-- reached, passed: the topic's frontier was at most the end before that row came, and is above it then.
+-- full: as many items as the capacity weren't handed on then.
+pub record EndsByLag (capacity s : ℕ) (told : List Told) (q : QueueReport) (end : Stamp) : Type 0 where
+  pub later : List Told
+  pub by : Told
+  pub before : List Told
+  pub told_is : told ≡ later ++ by ∷ before
   pub last : end ≡ last_queued q.from q.queued
-  pub reached : stamp_lt end (released_frontier q.topic before) ≡ false
-  pub passed : stamp_lt end (released_frontier q.topic (by ∷ before)) ≡ true
-  pub full : length q.queued ≡ length (delivered_items s before) + capacity
+  pub reached : stamp_lt end (frontier_of q.topic before) ≡ false
+  pub passed : stamp_lt end (frontier_of q.topic (by ∷ before)) ≡ true
+  pub full : length q.queued ≡ handed_count s before + capacity
 
--- What is reported of subscription s is as the account tells it.
--- told: an end that an UNSUBSCRIBE or a Leave was answered is the end.
+-- What is reported of subscription s is as the steps tell it.
+-- ended: an end that an UNSUBSCRIBE or a Leave was answered is the end.
 -- unended: without a cause there is no end.
 -- asked: where an end was asked for, one was answered, and it is the topic's frontier then.
 -- lag: an end by lag is that of a full queue.
 -- exactly_due: what its queue accepted is what is due to it.
--- handed, handed_prefix: what was delivered is what Takes delivered, the front of the queue.
+-- handed: of that, as many from the front were delivered as Takes handed on.
 -- bounded: the queue has no more than its capacity that wasn't delivered.
-pub record IsAsTold (capacity s : ℕ) (account : List Answer) (r : Report) (q : QueueReport) : Type 0 where
-  pub told : (to : Stamp) → In (Answer.Unsubscribed s to) account → q.to ≡ Some to
+pub record IsAsTold (capacity s : ℕ) (told : List Told) (r : Report) (q : QueueReport) : Type 0 where
+  pub ended : (to : Stamp) → In (Told.Unsubscribed s to) told → q.to ≡ Some to
   pub unended : q.cause ≡ None → q.to ≡ None
-  pub asked : q.cause ≡ Some Asked → (later before : List Answer) × (to : Stamp)
-      × (account ≡ later ++ Answer.Unsubscribed s to ∷ before)
-      × (to ≡ released_frontier (beginning_of s before).topic before)
-  pub lag : q.cause ≡ Some Lag → (end : Stamp) × (q.to ≡ Some end) × EndsByLag capacity s account q end
-  pub exactly_due : q.queued ≡ due (commits_of account) (span_of q) (last_stamp zero_stamp (log_in r q.topic))
-  pub handed : q.handed ≡ delivered_items s account
-  pub handed_prefix : (rest : List Item) × (q.queued ≡ q.handed ++ rest)
+  pub asked : q.cause ≡ Some Asked → (later before : List Told) × (to : Stamp)
+      × (told ≡ later ++ Told.Unsubscribed s to ∷ before) × (to ≡ frontier_of q.topic before)
+  pub lag : q.cause ≡ Some Lag → (end : Stamp) × (q.to ≡ Some end) × EndsByLag capacity s told q end
+  pub exactly_due : q.queued ≡ due (committed told) (span_of q) (last_stamp zero_stamp (log_in r q.topic))
+  pub handed : q.handed ≡ take (handed_count s told) q.queued
   pub bounded : length q.queued ≤ length q.handed + capacity
 
 -- ---- what is delivered
 
--- What is delivered, by the account of the run and the capacity of its queues. `proofs/Core/DeliveredRow` has
--- a run that meets it, and reports that don't.
-pub record Delivers (capacity : ℕ) (account : List Answer) (r : Report) : Type 0 where
+-- What is delivered, by what the steps of the run tell and by the capacity of its queues.
+-- `proofs/Core/DeliveredRow` has a run that meets it, and reports that don't.
+pub record Delivers (capacity : ℕ) (told : List Told) (r : Report) : Type 0 where
   -- the commits in the order of Decide; no id and no stamp is there twice; each sender's are in its order
-  pub commits : r.commits ≡ map log_row (commits_of account)
-  pub each_once : EachOnce committed_id stamp_of (agreed (commits_of account))
-  pub fifo_order : SenderOrder committed_id (agreed (commits_of account))
+  pub commits : r.commits ≡ map log_row (committed told)
+  pub each_once : EachOnce committed_id stamp_of (agreed (committed told))
+  pub fifo_order : SenderOrder committed_id (agreed (committed told))
   -- each log is as many rows of the agreed sequence as were released
-  pub logs : (t : Topic) → t.0 < length r.logs → log_in r t ≡ released_log t account
+  pub logs : (t : Topic) → t.0 < length r.logs → log_in r t ≡ log_of t told
   -- each subscription begins where its topic's log ended then; its end, its queue and what was delivered of
   -- it are as told
-  pub begins : reported_begun 0 r.subscriptions ≡ begun_in account
-  pub queues : (s : ℕ) (q : QueueReport) → slice_get r.subscriptions s ≡ Some q
-      → IsAsTold capacity s account r q
+  pub begins : reported_begun 0 r.subscriptions ≡ begun_in told
+  pub queues : (s : ℕ) (q : QueueReport) → slice_get r.subscriptions s ≡ Some q → IsAsTold capacity s told r q
   -- two subscriptions have what they share in one order
   pub total_order : (p q : QueueReport) → In p r.subscriptions → In q r.subscriptions
       → shared_marks p.queued q.queued ≡ shared_marks q.queued p.queued
   -- a settled topic's log leaves no committed transaction out
-  pub validity : (t : Topic) (row : CommitRow) → t.0 < length r.logs → IsSettled t account
-      → In row (commits_of account) → names t (topics_of row.txn.sends) ≡ true
-      → In (log_row row) (log_in r t)
+  pub validity : (t : Topic) (row : CommitRow) → t.0 < length r.logs → IsSettled t told
+      → In row (committed told) → names t (topics_of row.txn.sends) ≡ true → In (log_row row) (log_in r t)
   -- nothing is delivered to a closed subscription, nor to one of a closed connection
-  pub silent_after_close : (later before : List Answer) (s : ℕ) (item : Item)
-      → account ≡ later ++ Answer.Handed s item ∷ before → IsSilent s before → Prim.⊥
+  pub silent_after_close : (later before : List Told) (s : ℕ)
+      → told ≡ later ++ Told.Handed s ∷ before → IsSilent s before → Prim.⊥
 
 -- the connections that a step opened
 abbrev pub opened_by : Outcome → ℕ
@@ -126,11 +119,11 @@ pub record IsReadAndWritten (names : List (List ℕ)) (steps : List CoreStep) (r
   pub output : (c : ℕ) → c < length r.outs → out_in r c ≡ text_out names c steps
   pub counts : (length r.logs ≡ length (names_after names steps)) × (length r.outs ≡ opened_in steps)
 
--- The delivery of a run over these topics whose queues have this capacity, and its report: what its account
--- says is delivered, what was read are the first frames of each connection's octets, and each connection's
+-- The delivery of a run over these topics whose queues have this capacity, and its report: what its steps
+-- tell is delivered, what was read are the first frames of each connection's octets, and each connection's
 -- octets out are what the steps say. `proofs/Core/WholeRow` has one.
 pub record Delivery (topics : TopicList) (capacity : ℕ) (steps : List CoreStep) (r : Report) : Type 0 where
-  pub delivered : Delivers capacity (account_of topics.names steps) r
+  pub delivered : Delivers capacity (told_of topics.names steps) r
   pub written : IsReadAndWritten topics.names steps r
 
 -- ---- of every run

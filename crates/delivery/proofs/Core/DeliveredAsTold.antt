@@ -1,0 +1,106 @@
+-- What is delivered by an account in the machine's answers is delivered by what is told of them.
+use Rattle.std.proofs.Common.{◌≡◌, ℕ, ◌+◌, true, false, List, [], ◌∷◌, ◌++◌, map, length, Some, refl, sym, ap, subst, ◌∙◌}
+use Rattle.std.proofs.lemmas.Bool.{true≢false}
+use Rattle.std.specs.Prelude.{take, slice_get}
+use Rattle.mcast_txn.specs.declared.id.Topic.{Topic}
+use Rattle.mcast_txn.specs.declared.stamp.Stamp.{Stamp}
+use Rattle.mcast_txn.specs.Stamp.{zero_stamp, stamp_lt}
+use Rattle.mcast_txn.specs.Agreed.{CommitRow, committed_id, stamp_of, agreed, EachOnce, SenderOrder}
+use Rattle.mcast_txn.specs.Lists.{In}
+use Rattle.mcast_txn.specs.Span.{Item, last_stamp}
+use Rattle.mcast_group.specs.declared.cause.Cause.TheVariants.{Asked}
+use Rattle.delivery.specs.Machine.Moves.{Answer}
+use Rattle.delivery.specs.Theorem.Due.{log_row, due}
+use Rattle.delivery.specs.Theorem.Settled.{SilentAfterClose}
+use Rattle.delivery.specs.Core.Account.{released_frontier}
+use Rattle.delivery.specs.Core.Reports.{QueueReport, Report, log_in, span_of}
+use Rattle.delivery.specs.Core.Told.{Told, frontier_of}
+use Rattle.delivery.specs.Core.Answered.{LagsAsAnswered, IsAsAnswered, DeliversAnswers}
+use Rattle.delivery.specs.Core.Delivery.{EndsByLag, IsAsTold, Delivers}
+use Rattle.delivery.proofs.Core.Tells.{tells, tell, committed_told, log_told, frontier_told, handed_told, begun_told, tell_append}
+use Rattle.delivery.proofs.Core.ToldSettled.{end_from, settled_from, silent_at}
+
+-- ---- a lag
+
+-- what an answer tells that is told alone and moves a frontier
+record Moves (o : Answer) (past : List Answer) (t : Topic) : Type 0 where
+  by : Told
+  is : tells o past ≡ by ∷ []
+
+-- an answer that tells nothing of logs moves no frontier
+unmoved : (t : Topic) (past : List Answer) (o : Answer) (end : Stamp) → released_frontier t (o ∷ past) ≡ released_frontier t past
+    → stamp_lt end (released_frontier t past) ≡ false → stamp_lt end (released_frontier t (o ∷ past)) ≡ true → Moves o past t
+unmoved t past o end same reached passed = absurd (true≢false (sym passed ∙ (ap (λ (z : Stamp). stamp_lt end z) same ∙ reached)))
+
+-- an answer by which a topic's frontier passes an end is told as one
+moves : (t : Topic) (past : List Answer) (o : Answer) (end : Stamp) → stamp_lt end (released_frontier t past) ≡ false
+    → stamp_lt end (released_frontier t (o ∷ past)) ≡ true → Moves o past t
+moves t past (Answer.Decided id stamp) end reached passed = record { by = _; is = refl }
+moves t past (Answer.Released u id) end reached passed = record { by = _; is = refl }
+moves t past (Answer.Turned u count) end reached passed = record { by = _; is = refl }
+moves t past o end reached passed = unmoved t past o end refl reached passed
+
+lag_told : (capacity s : ℕ) (account : List Answer) (q : QueueReport) (end : Stamp) → LagsAsAnswered capacity s account q end
+    → EndsByLag capacity s (tell account) q end
+lag_told capacity s account q end h =
+    let m = moves q.topic h.before h.by end h.reached h.passed in
+    let a = tell_append h.later (h.by ∷ h.before) in
+    let is : tell (h.by ∷ h.before) ≡ m.by ∷ tell h.before = ap (λ (z : List Told). z ++ tell h.before) m.is in
+    record {
+      later = a.0;
+      by = m.by;
+      before = tell h.before;
+      told_is = ap tell h.account_is ∙ (a.1 ∙ ap (λ (z : List Told). a.0 ++ z) is);
+      last = h.last;
+      reached = subst (λ (z : Stamp). stamp_lt end z ≡ false) (sym (frontier_told q.topic h.before)) h.reached;
+      passed = subst (λ (z : List Told). stamp_lt end (frontier_of q.topic z) ≡ true) is
+          (subst (λ (z : Stamp). stamp_lt end z ≡ true) (sym (frontier_told q.topic (h.by ∷ h.before))) h.passed);
+      full = h.full ∙ ap (λ (n : ℕ). n + capacity) (sym (handed_told s h.before));
+    }
+
+-- ---- a subscription
+
+-- An end of subscription s that was asked for was answered, and was the frontier of this topic then.
+abbrev pub EndsAt : Topic → ℕ → List Answer → Type 0
+EndsAt t s account =
+    (later before : List Answer) × (to : Stamp) × (account ≡ later ++ Answer.Unsubscribed s to ∷ before)
+    × (to ≡ released_frontier t before)
+
+pub take_given : {X : Type 0} (xs ys : List X) → take (length xs) (xs ++ ys) ≡ xs
+take_given [] ys = refl
+take_given (x ∷ xs) ys = ap (λ z. x ∷ z) (take_given xs ys)
+
+queue_told : (capacity s : ℕ) (account : List Answer) (r : Report) (q : QueueReport) → (q.cause ≡ Some Asked → EndsAt q.topic s account)
+    → IsAsAnswered capacity s account r q → IsAsTold capacity s (tell account) r q
+queue_told capacity s account r q asked h = record {
+  ended = λ to i. h.told to (end_from s to account i);
+  unended = h.unended;
+  asked = λ cause. (let e = asked cause in let a = tell_append e.0 (Answer.Unsubscribed s e.2 ∷ e.1) in
+      (a.0, tell e.1, e.2, ap tell e.3 ∙ a.1, e.4 ∙ sym (frontier_told q.topic e.1)));
+  lag = λ cause. (let l = h.lag cause in (l.0, l.1, lag_told capacity s account q l.0 l.2));
+  exactly_due = h.exactly_due
+      ∙ ap (λ (z : List CommitRow). due z (span_of q) (last_stamp zero_stamp (log_in r q.topic))) (sym (committed_told account));
+  handed = sym (take_given q.handed h.handed_prefix.0)
+      ∙ (ap (λ (z : List Item). take (length q.handed) z) (sym h.handed_prefix.1)
+      ∙ ap (λ (n : ℕ). take n q.queued) (ap (λ (z : List Item). length z) h.handed ∙ sym (handed_told s account)));
+  bounded = h.bounded;
+}
+
+-- ---- all of it
+
+-- What is delivered by the answers is delivered by what they tell.
+pub delivered_told : (capacity : ℕ) (account : List Answer) (r : Report)
+    → ((s : ℕ) (q : QueueReport) → slice_get r.subscriptions s ≡ Some q → q.cause ≡ Some Asked → EndsAt q.topic s account)
+    → SilentAfterClose account → DeliversAnswers capacity account r → Delivers capacity (tell account) r
+delivered_told capacity account r asked silent d = record {
+  commits = d.commits ∙ ap (map log_row) (sym (committed_told account));
+  each_once = subst (λ (z : List CommitRow). EachOnce committed_id stamp_of (agreed z)) (sym (committed_told account)) d.each_once;
+  fifo_order = subst (λ (z : List CommitRow). SenderOrder committed_id (agreed z)) (sym (committed_told account)) d.fifo_order;
+  logs = λ t l. d.logs t l ∙ sym (log_told t account);
+  begins = d.begins ∙ sym (begun_told account);
+  queues = λ s q e. queue_told capacity s account r q (asked s q e) (d.queues s q e);
+  total_order = d.total_order;
+  validity = λ t row l settled i named. d.validity t row l (settled_from t account settled)
+      (subst (λ (z : List CommitRow). In row z) (committed_told account) i) named;
+  silent_after_close = silent_at account silent;
+}

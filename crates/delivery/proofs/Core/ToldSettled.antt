@@ -1,0 +1,138 @@
+-- What is told of the machine's answers comes of one of them. So a topic that is settled, and a subscription that is silent, by what
+-- is told of the answers is so by the answers.
+use Rattle.std.proofs.Common.{◌≡◌, ℕ, true, inl, inr, List, [], ◌∷◌, ◌++◌, refl, sym, ap, subst, ◌∙◌}
+use Rattle.std.proofs.lemmas.Bool.{eq-eqb}
+use Rattle.mcast_txn.specs.declared.id.Topic.{Topic}
+use Rattle.mcast_txn.specs.declared.id.TxnId.{TxnId}
+use Rattle.mcast_txn.specs.declared.stamp.Stamp.{Stamp}
+use Rattle.mcast_txn.specs.Agreed.{Transaction}
+use Rattle.mcast_txn.specs.Lists.{In}
+use Rattle.delivery.specs.Machine.Moves.{Answer}
+use Rattle.delivery.specs.Machine.Runs.{txn_of_id}
+use Rattle.delivery.specs.Theorem.Settled.{closes, SilentAfterClose, IsResolved as Resolved, AllResolved as Resolving, IsSettled as Settled, IsSilent as Silent}
+use Rattle.delivery.specs.Core.Told.{Told, IsResolved, AllResolved, IsSettled, IsSilent}
+use Rattle.delivery.proofs.Machine.AnswerLemmas.{made_id}
+use Rattle.delivery.proofs.Core.Tells.{tells, tell, source, told_in}
+
+-- ---- which answer tells what
+
+-- what an answer is that tells this, after these
+abbrev Means : Told → Answer → List Answer → Type 0
+Means (Told.Begun txn) o past = o ≡ Answer.Begun txn
+Means (Told.Decided txn stamp) o past = (id : TxnId) × (o ≡ Answer.Decided id stamp) × (txn_of_id id past ≡ txn)
+Means (Told.Withdrawn txn) o past = (id : TxnId) × (c : ℕ) × (o ≡ Answer.Withdrawn id c) × (txn_of_id id past ≡ txn)
+Means (Told.Cancelled id t) o past = o ≡ Answer.Cancelled id t
+Means (Told.Subscribed s c t) o past = (from : Stamp) × (o ≡ Answer.Subscribed s c t from)
+Means (Told.Unsubscribed s to) o past = o ≡ Answer.Unsubscribed s to
+Means (Told.Closed c) o past = closes c o ≡ true
+Means x o past = Unit {0}
+
+means : (x : Told) (o : Answer) (past : List Answer) → In x (tells o past) → Means x o past
+means x (Answer.Begun txn) past (inl e) = subst (λ (z : Told). Means z (Answer.Begun txn) past) e refl
+means x (Answer.Begun txn) past (inr none) = absurd none
+means x (Answer.Subscribed s c t from) past (inl e) = subst (λ (z : Told). Means z (Answer.Subscribed s c t from) past) e (from, refl)
+means x (Answer.Subscribed s c t from) past (inr none) = absurd none
+means x (Answer.Unsubscribed s to) past (inl e) = subst (λ (z : Told). Means z (Answer.Unsubscribed s to) past) e refl
+means x (Answer.Unsubscribed s to) past (inr none) = absurd none
+means x (Answer.Leaving c) past (inl e) = subst (λ (z : Told). Means z (Answer.Leaving c) past) e (eq-eqb c c refl)
+means x (Answer.Leaving c) past (inr none) = absurd none
+means x (Answer.Error c) past (inl e) = subst (λ (z : Told). Means z (Answer.Error c) past) e (eq-eqb c c refl)
+means x (Answer.Error c) past (inr none) = absurd none
+means x (Answer.Ticket id ticket) past (inl e) = subst (λ (z : Told). Means z (Answer.Ticket id ticket) past) e tt
+means x (Answer.Ticket id ticket) past (inr none) = absurd none
+means x (Answer.Decided id stamp) past (inl e) = subst (λ (z : Told). Means z (Answer.Decided id stamp) past) e (id, refl, refl)
+means x (Answer.Decided id stamp) past (inr none) = absurd none
+means x (Answer.Withdrawn id c) past (inl e) = subst (λ (z : Told). Means z (Answer.Withdrawn id c) past) e (eq-eqb c c refl)
+means x (Answer.Withdrawn id c) past (inr (inl e)) = subst (λ (z : Told). Means z (Answer.Withdrawn id c) past) e (id, c, refl, refl)
+means x (Answer.Withdrawn id c) past (inr (inr none)) = absurd none
+means x (Answer.Cancelled id t) past (inl e) = subst (λ (z : Told). Means z (Answer.Cancelled id t) past) e refl
+means x (Answer.Cancelled id t) past (inr none) = absurd none
+means x (Answer.Released t id) past (inl e) = subst (λ (z : Told). Means z (Answer.Released t id) past) e tt
+means x (Answer.Released t id) past (inr none) = absurd none
+means x (Answer.Turned t count) past (inl e) = subst (λ (z : Told). Means z (Answer.Turned t count) past) e tt
+means x (Answer.Turned t count) past (inr none) = absurd none
+means x (Answer.Handed s item) past (inl e) = subst (λ (z : Told). Means z (Answer.Handed s item) past) e tt
+means x (Answer.Handed s item) past (inr none) = absurd none
+means x o past i = absurd i
+
+-- an end that is told was answered
+pub end_from : (s : ℕ) (to : Stamp) (past : List Answer) → In (Told.Unsubscribed s to) (tell past) → In (Answer.Unsubscribed s to) past
+end_from s to past i =
+    let h = source (Told.Unsubscribed s to) past i in
+    subst (λ (o : Answer). In o past) (means (Told.Unsubscribed s to) h.by h.before h.says) h.stands
+
+-- ---- settled topics
+
+decided_from : (txn : Transaction) (stamp : Stamp) (past : List Answer) → In (Told.Decided txn stamp) (tell past) → In (Answer.Decided txn.id stamp) past
+decided_from txn stamp past i =
+    let h = source (Told.Decided txn stamp) past i in let m = means (Told.Decided txn stamp) h.by h.before h.says in
+    let same : m.0 ≡ txn.id = sym (made_id m.0 h.before) ∙ ap (λ (z : Transaction). z.id) m.2 in
+    subst (λ (o : Answer). In o past) (m.1 ∙ ap (λ (z : TxnId). Answer.Decided z stamp) same) h.stands
+
+withdrawn_from : (txn : Transaction) (past : List Answer) → In (Told.Withdrawn txn) (tell past) → (c : ℕ) × In (Answer.Withdrawn txn.id c) past
+withdrawn_from txn past i =
+    let h = source (Told.Withdrawn txn) past i in let m = means (Told.Withdrawn txn) h.by h.before h.says in
+    let same : m.0 ≡ txn.id = sym (made_id m.0 h.before) ∙ ap (λ (z : Transaction). z.id) m.3 in
+    (m.1, subst (λ (o : Answer). In o past) (m.2 ∙ ap (λ (z : TxnId). Answer.Withdrawn z m.1) same) h.stands)
+
+cancelled_from : (id : TxnId) (t : Topic) (past : List Answer) → In (Told.Cancelled id t) (tell past) → In (Answer.Cancelled id t) past
+cancelled_from id t past i =
+    let h = source (Told.Cancelled id t) past i in
+    subst (λ (o : Answer). In o past) (means (Told.Cancelled id t) h.by h.before h.says) h.stands
+
+resolved_from : (t : Topic) (past : List Answer) (txn : Transaction) → IsResolved t (tell past) txn → Resolved t past txn
+resolved_from t past txn (inl d) = inl (d.0, decided_from txn d.0 past d.1)
+resolved_from t past txn (inr d) =
+    inr (
+      withdrawn_from txn past d.0,
+      (λ ticket i e. cancelled_from txn.id t past
+          (d.1 (subst (λ (u : Topic). In (Told.Ticket txn.id u) (tell past)) e
+          (told_in (Told.Ticket txn.id ticket.topic) (Answer.Ticket txn.id ticket) past (λ before. inl refl) i)))),
+    )
+
+resolving_from : (t : Topic) (past : List Answer) → AllResolved t (tell past) → Resolving t past
+resolving_from t past h txn i named =
+    resolved_from t past txn (h txn (told_in (Told.Begun txn) (Answer.Begun txn) past (λ before. inl refl) i) named)
+
+-- a topic that is settled by what is told is settled by the answers
+pub settled_from : (t : Topic) (past : List Answer) → IsSettled t (tell past) → Settled t past
+settled_from t [] h = h
+settled_from t (Answer.Begun txn ∷ past) h = (h.0, settled_from t past h.1)
+settled_from t (Answer.Decided id stamp ∷ past) h = (h.0, settled_from t past h.1)
+settled_from t (Answer.Withdrawn id c ∷ past) h = (h.0, settled_from t past h.1)
+settled_from t (Answer.Cancelled id u ∷ past) h = (h.0, settled_from t past h.1)
+settled_from t (Answer.Turned u n ∷ past) h = elim h [
+  | inl k ↦ inl (k.0, resolving_from t past k.1)
+  | inr k ↦ inr (settled_from t past k)
+]
+settled_from t (_ ∷ past) h = settled_from t past h
+
+-- ---- silence
+
+silent_from : (s : ℕ) (past : List Answer) → IsSilent s (tell past) → Silent s past
+silent_from s past (inl k) = inl (k.0, end_from s k.0 past k.1)
+silent_from s past (inr k) =
+    let x = source (Told.Subscribed s k.0 k.1) past k.2 in let m = means (Told.Subscribed s k.0 k.1) x.by x.before x.says in
+    let y = source (Told.Closed k.0) past k.3 in
+    inr (k.0, k.1, m.0, y.by, subst (λ (o : Answer). In o past) m.1 x.stands, y.stands, means (Told.Closed k.0) y.by y.before y.says)
+
+-- nothing is handed on of a subscription that was silent before, by what is told
+abbrev pub SilentAsTold : List Told → Type 0
+SilentAsTold [] = Unit {0}
+SilentAsTold (Told.Handed s ∷ before) = (IsSilent s before → Prim.⊥) × SilentAsTold before
+SilentAsTold (o ∷ before) = SilentAsTold before
+
+silent_told : (past : List Answer) → SilentAfterClose past → SilentAsTold (tell past)
+silent_told [] h = h
+silent_told (Answer.Handed s item ∷ past) h = ((λ k. h.0 (silent_from s past k)), silent_told past h.1)
+silent_told (_ ∷ past) h = silent_told past h
+
+silent_above : (s : ℕ) (before xs : List Told) → SilentAsTold (xs ++ Told.Handed s ∷ before) → IsSilent s before → Prim.⊥
+silent_above s before [] h k = h.0 k
+silent_above s before (Told.Handed r ∷ xs) h k = silent_above s before xs h.1 k
+silent_above s before (o ∷ xs) h k = silent_above s before xs h k
+
+-- so of each that is told
+pub silent_at : (past : List Answer) → SilentAfterClose past → (later before : List Told) (s : ℕ)
+    → tell past ≡ later ++ Told.Handed s ∷ before → IsSilent s before → Prim.⊥
+silent_at past h later before s e k = silent_above s before later (subst SilentAsTold e (silent_told past h)) k
