@@ -4,6 +4,7 @@ pub mod Agreement
 pub mod Rows
 pub mod TopicRows
 pub mod ClaimRows
+pub mod InUseRows
 pub mod MoreRows
 pub mod OctetsRow
 pub mod ToldEnds
