@@ -65,8 +65,27 @@ impl PendingParts {
         self.parts[index].part()
     }
 
-    /// The index past the parts whose id is below this one.
+    /// The index past the parts whose id is below this one. The last part is looked at first, then the first: a sender's
+    /// newest part is put behind its others, and its oldest is released.
     fn index_for(&self, id: TxnId) -> usize
+        ensures index { IsIndexPast (λ p. id_lt p.part.id id) self.now result }
+        ensures within { result ≤ length self.now }
+    {
+        if let Some(last) = self.parts.back()
+            && last.is_before(id)
+        {
+            return self.parts.len();
+        }
+        if let Some(first) = self.parts.front()
+            && !first.is_before(id)
+        {
+            return 0;
+        }
+        self.halved_for(id)
+    }
+
+    /// The same index, by halving alone.
+    fn halved_for(&self, id: TxnId) -> usize
         ensures index { IsIndexPast (λ p. id_lt p.part.id id) self.now result }
         ensures within { result ≤ length self.now }
     {
@@ -107,18 +126,25 @@ impl PendingParts {
         if part.is_foreign(verdict) {
             return Err(LearnFault::Foreign);
         }
-        if self.clashes(part, verdict) {
+        if self.clashes(index, verdict) {
             return Err(LearnFault::Clash);
         }
         Ok(index)
     }
 
-    /// Whether the part has learnt another stamp than the verdict's, or another part has that stamp as its key.
-    fn clashes(&self, part: &PendingPart, verdict: &Verdict) -> bool
-        ensures { result ≡ clashes verdict.now part.now self.now }
+    /// Whether the part at an index has learnt another stamp than the verdict's, or another part has that stamp as its
+    /// key. Where it is the part's own key, it is no other's.
+    fn clashes(&self, index: usize, verdict: &Verdict) -> bool
+        requires { index < length self.now }
+        ensures { (d : Pending) → result ≡ clashes verdict.now (slice_index_or self.now index d) self.now }
     {
+        let part = self.at(index);
         let stamp = verdict.stamp();
-        part.has_learnt_other(stamp) || self.keys.has_other_at(part.id(), stamp)
+        let keys = &self.keys;
+        if part.key() == stamp {
+            return false;
+        }
+        part.has_learnt_other(stamp) || keys.has_other_at(part.id(), stamp)
     }
 
     /// The part at an index takes its stamp, which isn't below its key and is no other part's.
