@@ -57,11 +57,15 @@ def close_all(clients):
 
 
 def plain_use(trial, count=MOST_CONNECTIONS - 1):
-    """255 connections that subscribe, send, and leave."""
-    clients = trial.open(trial.part(count), subscribe(TOPICS[0]))
+    """255 connections that subscribe to one topic each, get what is sent there, and leave. Each topic is used, so that what one
+    keeps from its first use on is there before the other rows."""
+    clients = []
+    for at in range(trial.part(count)):
+        clients += trial.open(1, subscribe(TOPICS[at % len(TOPICS)]))
     for it in clients:
         it.ask(b"")
-    clients[0].send(send_frame(TOPICS[0], b"to all"))
+    for at, it in enumerate(clients[: len(TOPICS)]):
+        it.send(send_frame(TOPICS[at], b"to all"))
     for it in clients:
         it.wait_for(b"to all\0", 30)
         it.send(b"DISCONNECT\nreceipt:bye\n\n\0")

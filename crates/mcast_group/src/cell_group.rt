@@ -16,13 +16,16 @@ use crate::log_rows::LogRows;
 use crate::proposal::Proposal;
 use crate::ticket_counter::{TicketCounter, Uncounted};
 use crate::turned::Turned;
-use crate::waiting::{WaitingPart, learn_each, make_room, put, take_out};
+use crate::waiting::{WaitingPart, free_empty, learn_each, make_room, put, take_out};
 use mcast_txn::{NoMemory, Part, Seen, Stamp, Ticket, Topic, TxnId};
 use std::alloc::Global;
 use std::collections::VecDeque;
 use std::marker::Model;
 use std::sync::Arc;
 use sub_queue::Outlet;
+
+/// Behind the end of a subscription so many drains give back the room of an idle topic (our choice).
+const COOLING: u8 = 255;
 
 /// A topic whose parts learn their stamps from the cells of their own flights, and in no other way. It keeps the note of
 /// each cell by which a part learnt; a note takes no bytes. In contracts it is its group, the parts that haven't learnt,
@@ -33,6 +36,8 @@ pub struct CellGroup<Q: Outlet + Drop> {
     waiting: VecDeque<WaitingPart>,
     /// With room for a note of each part that waits.
     notes: Vec<Seen>,
+    /// How many drains more give back the room of an idle topic.
+    cooling: u8,
 }
 
 impl<Q: Outlet + Drop> Drop for CellGroup<Q> {
@@ -42,6 +47,7 @@ impl<Q: Outlet + Drop> Drop for CellGroup<Q> {
             group,
             waiting,
             notes,
+            cooling: _,
         } = self;
         drop(group);
         drop(waiting);
@@ -70,6 +76,7 @@ impl<Q: Outlet + Drop> CellGroup<Q> {
             group: Group::new(alloc, topic, clock, log_limit),
             waiting: VecDeque::new(alloc),
             notes: Vec::new(alloc),
+            cooling: 0,
         }
     }
 
@@ -222,6 +229,7 @@ impl<Q: Outlet + Drop> CellGroup<Q> {
     {
         let rows = self.group.drain_log()?;
         self.group.sound();
+        self.cool();
         Ok(rows)
     }
 
@@ -255,6 +263,21 @@ impl<Q: Outlet + Drop> CellGroup<Q> {
     {
         let ended = self.group.unsubscribe(number)?;
         self.group.sound();
+        self.cooling = COOLING;
+        self.cool();
         Ok(ended)
+    }
+
+    /// Where a subscription ended not long ago, an idle topic gives back the room for its parts: what a burst of them took
+    /// would keep all that the allocator has below it from the system. Else that room stays, so that none is made anew.
+    fn cool(&mut self)
+        ensures { self.new ≡ self.old }
+    {
+        if self.cooling == 0 {
+            return;
+        }
+        self.cooling -= 1;
+        self.group.free_idle();
+        free_empty(&mut self.waiting);
     }
 }

@@ -337,6 +337,18 @@ impl<Q: Outlet + Drop> Group<Q> {
         let _ = &self.subscriptions;
     }
 
+    /// Gives back the room for parts and rows, where no part is pending and no row is held.
+    pub(crate) fn free_idle(&mut self)
+        ensures { self.new ≡ self.old }
+    {
+        if self.pending.len() > 0 || self.rows.len() > 0 {
+            return;
+        }
+        self.pending = PendingParts::new(self.alloc);
+        self.copies = VecDeque::new(self.alloc);
+        self.rows = Log::new(self.alloc);
+    }
+
     /// Puts a part among the pending ones, with all that its release will need, once its ticket is counted.
     fn put_in<C: TicketCounter>(
         &mut self,

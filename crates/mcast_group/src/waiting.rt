@@ -114,6 +114,15 @@ pub(crate) fn take_out(waiting: &mut VecDeque<WaitingPart>, id: TxnId)
     waiting.retain(|part| part.is_other(id));
 }
 
+/// Gives the room back where no part waits.
+pub(crate) fn free_empty(waiting: &mut VecDeque<WaitingPart>)
+    ensures { waiting.new.items ≡ waiting.old.items }
+{
+    if waiting.is_empty() {
+        *waiting = VecDeque::new(*waiting.allocator());
+    }
+}
+
 /// Each part that waits learns what the cell of its flight holds; those that have learnt wait no longer, and their notes
 /// are kept.
 pub(crate) fn learn_each<Q: Outlet + Drop>(
