@@ -1,5 +1,5 @@
 -- What stays, and what shrinks, where a connection takes frames.
-use Rattle.std.proofs.Common.{◌≡◌, ◌≢◌, inl, inr, IfOk, IfErr, IfSome, true, ℕ, ◌<◌, List, [], ◌∷◌, ◌++◌, length, Option, Some, None, Result, Ok, Err, refl, sym, ap, subst, ◌∙◌, append_assoc}
+use Rattle.std.proofs.Common.{◌≡◌, ◌≢◌, inl, inr, IfSome, true, ℕ, ◌<◌, List, [], ◌∷◌, ◌++◌, length, Option, Some, None, Result, Ok, Err, refl, sym, ap, subst, ◌∙◌, append_assoc}
 use Rattle.std.specs.Prelude.{MatchOption}
 use Rattle.stomp_frame.specs.declared.case_fault.CaseFault.{CaseFault}
 use Rattle.stomp_frame.specs.declared.fault.Check.{Check}
@@ -25,8 +25,8 @@ use Rattle.delivery.specs.declared.connection_fault.ConnectionFault.TheVariants 
 use Rattle.broker_server.specs.declared.conversation.conversation_fault.ConversationFault.{ConversationFault}
 use Rattle.broker_server.specs.declared.conversation.conversation_fault.ConversationFault.TheVariants as fault
 use Rattle.broker_server.specs.BrokerRows.{BrokerRow}
-use Rattle.broker_server.specs.Conversations.{Acts, Answers, Concludes, ConversationState, Done, Fails, Performs, client_id}
-use Rattle.broker_server.specs.Hearing.{IsClientOf, Judges, ReadingFails, RefusesFrame, TakesFrame, TakesFrames}
+use Rattle.broker_server.specs.Conversations.{Acts, Answers, Concludes, ConversationState, Done, Fails, Performs}
+use Rattle.broker_server.specs.Hearing.{Judges, ReadingFails, RefusesFrame, TakesFrame, TakesFrames}
 
 -- ---- what came and isn't read yet stays as a frame has its effect
 
@@ -34,19 +34,18 @@ fails_reader : (why : ConversationFault) (receipt : Option (List ℕ)) (old new 
 fails_reader why receipt old new (inl e) = ap (λ (s : ConversationState). s.reader) e
 fails_reader why receipt old new (inr e) = ap (λ (s : ConversationState). s.reader) e
 
-performs_reader : (action : Action) (client : Result (Option (List ℕ)) ConversationFault) (old : ConversationState) (asked : List BrokerRow) (result : Done) (new : ConversationState) → Performs action client old asked result new → new.reader ≡ old.reader
-performs_reader (actions.Connected id) (Err why) old asked result new (a, r, e) = ap (λ (s : ConversationState). s.reader) e
-performs_reader (actions.Connected id) (Ok client) old asked result new (inl (gate, a, r, e)) = ap (λ (s : ConversationState). s.reader) e
-performs_reader (actions.Connected id) (Ok client) old asked result new (inr (why, a, r, e)) = ap (λ (s : ConversationState). s.reader) e
-performs_reader actions.Nothing client old asked result new (a, r, e) = ap (λ (s : ConversationState). s.reader) e
-performs_reader (actions.Subscribe id topic) client old asked result new (inl (sub, a, r, e)) = ap (λ (s : ConversationState). s.reader) e
-performs_reader (actions.Subscribe id topic) client old asked result new (inr (inl (why, a, r, e))) = ap (λ (s : ConversationState). s.reader) e
-performs_reader (actions.Subscribe id topic) client old asked result new (inr (inr (a, r, e))) = ap (λ (s : ConversationState). s.reader) e
-performs_reader (actions.Unsubscribe id) client old asked result new (r, inl (front, back, o, cut, named, none, a, e)) = ap (λ (s : ConversationState). s.reader) e
-performs_reader (actions.Unsubscribe id) client old asked result new (r, inr (none, a, e)) = ap (λ (s : ConversationState). s.reader) e
-performs_reader (actions.Commit sends) client old asked result new (inl (gate, left, g, commits, e)) = ap (λ (s : ConversationState). s.reader) e
-performs_reader (actions.Commit sends) client old asked result new (inr (g, (a, r, e))) = ap (λ (s : ConversationState). s.reader) e
-performs_reader actions.Disconnect client old asked result new (a, r, e) = ap (λ (s : ConversationState). s.reader) e
+performs_reader : (action : Action) (old : ConversationState) (asked : List BrokerRow) (result : Done) (new : ConversationState) → Performs action old asked result new → new.reader ≡ old.reader
+performs_reader (actions.Connected client) old asked result new (inl (gate, a, r, e)) = ap (λ (s : ConversationState). s.reader) e
+performs_reader (actions.Connected client) old asked result new (inr (why, a, r, e)) = ap (λ (s : ConversationState). s.reader) e
+performs_reader actions.Nothing old asked result new (a, r, e) = ap (λ (s : ConversationState). s.reader) e
+performs_reader (actions.Subscribe id topic) old asked result new (inl (sub, a, r, e)) = ap (λ (s : ConversationState). s.reader) e
+performs_reader (actions.Subscribe id topic) old asked result new (inr (inl (why, a, r, e))) = ap (λ (s : ConversationState). s.reader) e
+performs_reader (actions.Subscribe id topic) old asked result new (inr (inr (a, r, e))) = ap (λ (s : ConversationState). s.reader) e
+performs_reader (actions.Unsubscribe id) old asked result new (r, inl (front, back, o, cut, named, none, a, e)) = ap (λ (s : ConversationState). s.reader) e
+performs_reader (actions.Unsubscribe id) old asked result new (r, inr (none, a, e)) = ap (λ (s : ConversationState). s.reader) e
+performs_reader (actions.Commit sends) old asked result new (inl (gate, left, g, commits, e)) = ap (λ (s : ConversationState). s.reader) e
+performs_reader (actions.Commit sends) old asked result new (inr (g, (a, r, e))) = ap (λ (s : ConversationState). s.reader) e
+performs_reader actions.Disconnect old asked result new (a, r, e) = ap (λ (s : ConversationState). s.reader) e
 
 answers_reader : (frames : List RawFrame) (old : ConversationState) (asked : List BrokerRow) (new : ConversationState) → Answers frames old asked new → new.reader ≡ old.reader
 answers_reader frames old asked new (inl (a, e)) = ap (λ (s : ConversationState). s.reader) e
@@ -57,11 +56,11 @@ concludes_reader : (done : Done) (frames : List RawFrame) (receipt : Option (Lis
 concludes_reader (Ok u) frames receipt old asked new answers = answers_reader frames old asked new answers
 concludes_reader (Err why) frames receipt old asked new (a, fails) = fails_reader why receipt old new fails
 
-acts_reader : (step : Step) (client : Result (Option (List ℕ)) ConversationFault) (old : ConversationState) (asked : List BrokerRow) (new : ConversationState) → Acts step client old asked new → new.reader ≡ old.reader
-acts_reader step client old asked new a = concludes_reader a.result _ step.receipt a.between a.rest new a.concludes ∙ performs_reader step.action client old a.first a.result a.between a.performs
+acts_reader : (step : Step) (old : ConversationState) (asked : List BrokerRow) (new : ConversationState) → Acts step old asked new → new.reader ≡ old.reader
+acts_reader step old asked new a = concludes_reader a.result _ step.receipt a.between a.rest new a.concludes ∙ performs_reader step.action old a.first a.result a.between a.performs
 
 judged_reader : (f : RawFrame) (o : Option CaseFault) (old : ConversationState) (asked : List BrokerRow) (new : ConversationState) → MatchOption o (Judges f old asked new) (λ why. RefusesFrame (fault.Connection (connection.Frame why)) f old asked new) → new.reader ≡ old.reader
-judged_reader f None old asked new (first, rest, cut, between, inl (step, client, accepts, is_client, acts)) = acts_reader step client between rest new acts ∙ ap (λ (s : ConversationState). s.reader) accepts.same
+judged_reader f None old asked new (first, rest, cut, between, inl (step, accepts, acts)) = acts_reader step between rest new acts ∙ ap (λ (s : ConversationState). s.reader) accepts.same
 judged_reader f None old asked new (first, rest, cut, between, inr (why, denies, (a, fails))) = fails_reader _ _ between new fails ∙ ap (λ (s : ConversationState). s.reader) denies.same
 judged_reader f (Some why) old asked new (a, fails) = fails_reader _ _ old new fails
 
@@ -90,10 +89,6 @@ takes_on (f ∷ frames) more old asked mid later new (none_yet, left, reads, bet
     (none_yet, left, reads, between, first, rest ++ later, ap (λ (rows : List BrokerRow). rows ++ later) cut ∙ append_assoc first rest later, takes, takes_on frames more between rest mid later new then next)
 
 -- ---- what is said of a frame, said of the same one as it came
-
-pub client_as : (f g : RawFrame) → g ≡ f → (r : Result (Option (List ℕ)) ConversationFault) → IfOk r (λ id. id ≡ client_id g) → IfErr r (λ why. why ≡ fault.NoMemory) → IsClientOf f r
-client_as f g same (Ok client) ok err = ok ∙ ap client_id same
-client_as f g same (Err why) ok err = err
 
 pub refused_as : (f g : RawFrame) → g ≡ f → (r : Option (List ℕ)) → r ≡ receipt_of g → (why : ConversationFault) (old new : ConversationState) → Fails why r old new → Fails why (receipt_of f) old new
 refused_as f g same r asks why old new fails = subst (λ (o : Option (List ℕ)). Fails why o old new) (asks ∙ ap receipt_of same) fails

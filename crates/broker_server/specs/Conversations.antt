@@ -1,5 +1,5 @@
 -- What one connection of the server does.
-use Rattle.std.specs.Prelude.{◌≡◌, ◌⊎◌, ℕ, ◌-◌, nat_lt, Bool, true, false, List, [], ◌∷◌, ◌++◌, length, map, codes, Option, Some, None, IsSome, Result, Ok, Err, if◌then◌else◌}
+use Rattle.std.specs.Prelude.{◌≡◌, ◌⊎◌, ℕ, ◌-◌, nat_lt, Bool, true, false, List, [], ◌∷◌, ◌++◌, length, map, Option, Some, None, IsSome, Result, Ok, Err, if◌then◌else◌}
 use Rattle.std.specs.List.{flat_map, list_any}
 use Rattle.std.specs.Option.{option_map_or}
 use Rattle.std.specs.Str.{bytes_eq}
@@ -10,8 +10,6 @@ use Rattle.sender_gate.specs.declared.fault.ClaimFault.{ClaimFault}
 use Rattle.sender_gate.specs.Gate.{GateState, begin_fault, flight_of}
 use Rattle.broker_locks.specs.declared.fault.CommitFault.{CommitFault}
 use Rattle.stomp_frame.specs.declared.raw_frame.RawFrame.{RawFrame}
-use Rattle.stomp_frame.specs.Cases.{is_connect}
-use Rattle.stomp_frame.specs.Headers.{first_of}
 use Rattle.stomp_frame.specs.Reader.{Unread, unread_of}
 use Rattle.stomp_frame.specs.ServerFrames.{connected_frame, receipt_frame}
 use Rattle.stomp_frame.specs.Writing.{spelling_of}
@@ -122,15 +120,10 @@ Done = Result (Unit {0}) ConversationFault
 abbrev pub LacksMemory : ConversationState → List BrokerRow → Done → ConversationState → Type 0
 LacksMemory old asked result new = (asked ≡ []) × (result ≡ Err fault.NoMemory) × (new ≡ old)
 
--- the client-id of a frame, if it has one, where there was memory for it
-abbrev pub ClientRead : Type 0
-ClientRead = Result (Option (List ℕ)) ConversationFault
-
--- A CONNECT claims the sender of its client-id, or a new one. Without memory for the client-id it is refused.
+-- A CONNECT claims the sender of its client-id, or a new one.
 abbrev pub Connects
-    : ClientRead → ConversationState → List BrokerRow → Done → ConversationState → Type 0
-Connects (Err why) old asked result new = (asked ≡ []) × (result ≡ Err why) × (new ≡ old)
-Connects (Ok client) old asked result new =
+    : Option (List ℕ) → ConversationState → List BrokerRow → Done → ConversationState → Type 0
+Connects client old asked result new =
     ((gate : GateState) × (asked ≡ Claims client (Ok gate) ∷ []) × (result ≡ Ok tt)
     × (new ≡ record old { gate = Some gate }))
     ⊎ ((why : ClaimFault) × (asked ≡ Claims client (Err why) ∷ []) × (result ≡ Err (fault.Claim why))
@@ -192,13 +185,13 @@ Sends sends old asked result new =
 
 -- What an accepted frame's action does. A DISCONNECT ends what is open at once.
 abbrev pub Performs
-    : Action → ClientRead → ConversationState → List BrokerRow → Done → ConversationState → Type 0
-Performs (actions.Connected id) client old asked result new = Connects client old asked result new
-Performs actions.Nothing client old asked result new = (asked ≡ []) × (result ≡ Ok tt) × (new ≡ old)
-Performs (actions.Subscribe id topic) client old asked result new = Begins id topic old asked result new
-Performs (actions.Unsubscribe id) client old asked result new = EndsSub id old asked result new
-Performs (actions.Commit sends) client old asked result new = Sends sends old asked result new
-Performs actions.Disconnect client old asked result new =
+    : Action → ConversationState → List BrokerRow → Done → ConversationState → Type 0
+Performs (actions.Connected client) old asked result new = Connects client old asked result new
+Performs actions.Nothing old asked result new = (asked ≡ []) × (result ≡ Ok tt) × (new ≡ old)
+Performs (actions.Subscribe id topic) old asked result new = Begins id topic old asked result new
+Performs (actions.Unsubscribe id) old asked result new = EndsSub id old asked result new
+Performs (actions.Commit sends) old asked result new = Sends sends old asked result new
+Performs actions.Disconnect old asked result new =
     (asked ≡ closing_rows old) × (result ≡ Ok tt) × (new ≡ closed exit.Disconnect old)
 
 -- ---- frames
@@ -227,21 +220,16 @@ Concludes (Err why) frames receipt old asked new = (asked ≡ closing_rows old) 
 
 -- An accepted frame's action is performed, and then answered.
 pub record Acts
-    (step : Step) (client : ClientRead) (old : ConversationState) (asked : List BrokerRow)
-    (new : ConversationState)
+    (step : Step) (old : ConversationState) (asked : List BrokerRow) (new : ConversationState)
     : Type 0 where
   pub first : List BrokerRow
   pub rest : List BrokerRow
   pub between : ConversationState
   pub result : Done
-  pub performs : Performs step.action client old first result between
+  pub performs : Performs step.action old first result between
   pub concludes
       : Concludes result (replies (is_connected step.action) step.receipt) step.receipt between rest new
   pub all : asked ≡ first ++ rest
-
--- the client-id of a CONNECT or a STOMP: its first header of that name, if it has one
-abbrev pub client_id : RawFrame → Option (List ℕ)
-client_id f = if is_connect f.command then first_of (codes "client-id") f.headers else None
 
 -- The connection is lost: what is open is ended, and nothing is written. One that leaves already does
 -- nothing.

@@ -15,7 +15,7 @@ use Rattle.broker_server.specs.declared.conversation.conversation_fault.Conversa
 use Rattle.broker_server.specs.declared.conversation.conversation_fault.ConversationFault.TheVariants as fault
 use Rattle.broker_server.specs.BrokerRows.{BrokerRow, LooksUp}
 use Rattle.broker_server.specs.ConversationFaults.{reader_fault}
-use Rattle.broker_server.specs.Conversations.{Acts, ClientRead, ConversationState, Fails, client_id, closing_rows}
+use Rattle.broker_server.specs.Conversations.{Acts, ConversationState, Fails, closing_rows}
 use Rattle.broker_server.specs.Judging.{Grows, IsAccepted, IsRefused}
 
 -- ---- one frame
@@ -24,11 +24,6 @@ use Rattle.broker_server.specs.Judging.{Grows, IsAccepted, IsRefused}
 abbrev pub RefusesFrame
     : ConversationFault → RawFrame → ConversationState → List BrokerRow → ConversationState → Type 0
 RefusesFrame why f old asked new = (asked ≡ closing_rows old) × Fails why (receipt_of f) old new
-
--- the client-id of the frame, where there was memory for it
-abbrev pub IsClientOf : RawFrame → ClientRead → Type 0
-IsClientOf f (Ok client) = client ≡ client_id f
-IsClientOf f (Err why) = why ≡ fault.NoMemory
 
 -- its destination is none of these names
 abbrev pub IsNewTo : List (List ℕ) → RawFrame → Type 0
@@ -71,8 +66,7 @@ pub record DeniesFrame
 abbrev pub Judges : RawFrame → ConversationState → List BrokerRow → ConversationState → Type 0
 Judges f old asked new =
     (first rest : List BrokerRow) × (asked ≡ first ++ rest) × (between : ConversationState)
-    × (((step : Step) × (client : ClientRead)
-    × AcceptsFrame f step old first between × IsClientOf f client × Acts step client between rest new)
+    × (((step : Step) × AcceptsFrame f step old first between × Acts step between rest new)
     ⊎ ((why : ConversationFault) × DeniesFrame f why old first between × RefusesFrame why f between rest new))
 
 -- A frame is taken: the case table refuses it, or the session judges it. So an ACK is answered by an ERROR

@@ -13,8 +13,7 @@ ghost use Rattle.delivery.specs.Core.Outcomes.{is_any};
 ghost use Rattle.stomp_session.specs.Open.{IsKnownTo};
 ghost use Rattle.broker_server.specs.Hearing.{AcceptsFrame, DeniesFrame, Hears, IsNewTo, Rests, TakesAll, TakesFrame, TakesFrames};
 ghost use Rattle.broker_server.specs.Wires.{GoesOut};
-ghost use Rattle.broker_server.specs.Conversations.{client_id, closed, IsNew, closing_rows, gate_rows, has_id, is_connected, replies, turn_without};
-ghost use Rattle.broker_server.specs.declared.conversation.conversation_fault.ConversationFault.TheVariants as faults;
+ghost use Rattle.broker_server.specs.Conversations.{closed, IsNew, closing_rows, gate_rows, has_id, is_connected, replies, turn_without};
 ghost use Rattle.broker_server.specs.declared.conversation.exit.Exit.TheVariants as exits;
 
 mod broker_calls;
@@ -265,9 +264,8 @@ impl<C: BrokerCalls> Conversation<C> {
                 return;
             }
         };
-        let client = client_of(self.alloc, &frame);
         match self.judge(calls, frame) {
-            Ok(step) => self.act(calls, step, client),
+            Ok(step) => self.act(calls, step),
             Err((frame, fault)) => self.fail(calls, fault, frame.receipt()),
         }
     }
@@ -297,27 +295,22 @@ impl<C: BrokerCalls> Conversation<C> {
     }
 
     /// Does what an accepted frame asks for, and answers it.
-    fn act(&mut self, calls: &mut C, step: Step, client: Result<Option<Octets>, ConversationFault>)
+    fn act(&mut self, calls: &mut C, step: Step)
         ensures { (asked : List BrokerRow) × Asks C.called calls.old asked calls.new
-            × Acts step client self.old asked self.new }
+            × Acts step self.old asked self.new }
     {
         let Step { action, receipt } = step;
         let connects = is_connected(&action);
-        match self.perform(calls, action, client) {
+        match self.perform(calls, action) {
             Ok(()) => self.answer(calls, connects, &receipt),
             Err(fault) => self.refuse(calls, fault, &receipt),
         }
     }
 
     /// Does what an accepted frame asks for.
-    fn perform(
-        &mut self,
-        calls: &mut C,
-        action: Action,
-        client: Result<Option<Octets>, ConversationFault>,
-    ) -> Result<(), ConversationFault>
+    fn perform(&mut self, calls: &mut C, action: Action) -> Result<(), ConversationFault>
         ensures { (asked : List BrokerRow) × Asks C.called calls.old asked calls.new
-            × Performs action client self.old asked result self.new }
+            × Performs action self.old asked result self.new }
     {
         macro_rules! answers {
             ($($case:ident $(($($part:ident),*))? => $method:ident($($argument:expr),*);)*) => {
@@ -327,7 +320,7 @@ impl<C: BrokerCalls> Conversation<C> {
             };
         }
         answers! {
-            Connected(_client) => connect(client);
+            Connected(client) => connect(client);
             Nothing => nothing();
             Subscribe(id, topic) => subscribe(id, topic);
             Unsubscribe(id) => unsubscribe(id);
@@ -369,18 +362,10 @@ impl<C: BrokerCalls> Conversation<C> {
     }
 
     /// A CONNECT: claims its sender.
-    fn connect(
-        &mut self,
-        calls: &mut C,
-        client: Result<Option<Octets>, ConversationFault>,
-    ) -> Result<(), ConversationFault>
+    fn connect(&mut self, calls: &mut C, client: Option<Octets>) -> Result<(), ConversationFault>
         ensures { (asked : List BrokerRow) × Asks C.called calls.old asked calls.new
             × Connects client self.old asked result self.new }
     {
-        let client = match client {
-            Ok(client) => client,
-            Err(fault) => return Err(fault),
-        };
         match calls.claim(slice_in(&client)) {
             Ok(gate) => {
                 self.gate = Some(gate);
@@ -715,19 +700,6 @@ fn is_idle(reader: &FrameReader, fault: FrameFault) -> bool
     ensures due { result ≡ false → fault ≡ FrameFault.NoMemory → is_any reader.now.text ≡ true }
 {
     matches!(fault, FrameFault::NoMemory) && reader.clean()
-}
-
-/// The client-id of a CONNECT, if it has one: its first.
-fn client_of(alloc: Global, frame: &ClientFrame) -> Result<Option<Octets>, ConversationFault>
-    ensures value { IfOk result (λ id. id ≡ client_id (raw_of frame.now)) }
-    ensures fault { IfErr result (λ why. why ≡ faults.NoMemory) }
-{
-    if let ClientFrame::Connect(frame) = frame {
-        if let Some(client) = frame.raw.headers.first(b"client-id") {
-            return Ok(Some(Octets::from_slice(alloc, client)?));
-        }
-    }
-    Ok(None)
 }
 
 /// Whether the frame has no destination, or one of these names.

@@ -6,7 +6,7 @@ use Rattle.stomp_frame.specs.Receipts.{receipt_of}
 use Rattle.broker_server.specs.Conversations.{closing_rows}
 use Rattle.broker_server.specs.Hearing.{AcceptsFrame, DeniesFrame}
 use Rattle.broker_server.proofs.ConversationLemmas.{asks_on}
-use Rattle.broker_server.proofs.HearingLemmas.{client_as, refused_as, takes_judged}
+use Rattle.broker_server.proofs.HearingLemmas.{refused_as, takes_judged}
 use Rattle.broker_server.proofs.conversation.Conversation.take_frame.Goals as goal
 
 pub returns-in-Ok-judge : goal.returns-in-Ok-judge
@@ -20,12 +20,11 @@ returns-in-Ok-judge g c =
     let between = c.judge.new.self in
     let did = c.act.ensures in
     let step = c.in-Ok-judge.step in
-    let accepts = subst (λ (h : RawFrame). AcceptsFrame h step old judged.0 between) same judged.2 in
-    let client = client_as f (raw_of came) same c.client_of-client.result c.client_of-client.ensures.value c.client_of-client.ensures.fault in (
+    let accepts = subst (λ (h : RawFrame). AcceptsFrame h step old judged.0 between) same judged.2 in (
       judged.0 ++ did.0,
       asks_on called c.args.calls.now c.judge.new.calls c.act.new.calls judged.0 did.0 judged.1 did.1,
       takes_judged f old (judged.0 ++ did.0) c.act.new.self c.in-Ok.ensures.accepted.1
-          (judged.0, did.0, refl, between, inl (step, c.client_of-client.result, accepts, client, did.2)),
+          (judged.0, did.0, refl, between, inl (step, accepts, did.2)),
     )
 
 pub returns-in-Err-judge : goal.returns-in-Err-judge
