@@ -57,13 +57,14 @@ def close_all(clients):
 
 
 def plain_use(trial, count=MOST_CONNECTIONS - 1):
-    """255 connections that subscribe to one topic each, get what is sent there, and leave. Each topic is used, so that what one
-    keeps from its first use on is there before the other rows."""
+    """255 connections that subscribe to one topic each, get what is sent there, and leave, and one more that comes and goes while they
+    are there. Each topic is used, and as many threads are there as may be: what these keep from then on is there before the other rows."""
     clients = []
     for at in range(trial.part(count)):
         clients += trial.open(1, subscribe(TOPICS[at % len(TOPICS)]))
     for it in clients:
         it.ask(b"")
+    exchange(trial.address, MINE)
     for at, it in enumerate(clients[: len(TOPICS)]):
         it.send(send_frame(TOPICS[at], b"to all"))
     for it in clients:
