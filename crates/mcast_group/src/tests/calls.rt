@@ -13,8 +13,16 @@ use std::sync::Arc;
 use sub_queue::VecOutlet;
 
 /// Two verdicts, of which the first is looked at first.
-#[derive(Drop)]
-pub(super) struct Pair(pub(super) Box<Verdict>, pub(super) Box<Verdict>);
+struct Pair(Box<Verdict>, Box<Verdict>);
+
+impl Drop for Pair {
+    /// Written out, so that letting one go is one call for the prover.
+    fn drop(self) {
+        let Pair(first, second) = self;
+        drop(first);
+        drop(second);
+    }
+}
 
 impl Verdicts for Pair {
     ghost finds = { λ pair part found. found ≡ (if same_id pair.0.value.id part.id then Some pair.0.value
@@ -47,13 +55,28 @@ pub(super) fn stamp(n: u64, topic: u32) -> Stamp {
     }
 }
 
+/// Adds a SEND to this topic; whether there was memory for it.
+fn has_added(alloc: Global, draft: &mut Draft, topic: u32) -> bool {
+    draft
+        .add(Topic(topic), Headers::new(alloc), Octets::new(alloc))
+        .is_ok()
+}
+
+/// Adds a SEND to each of these topics; whether there was memory for all.
+fn has_added_all(alloc: Global, draft: &mut Draft, topics: &[u32]) -> bool {
+    for &topic in topics {
+        if !has_added(alloc, draft, topic) {
+            return false;
+        }
+    }
+    true
+}
+
 /// A transaction with a SEND to each of these topics.
 pub(super) fn txn_to(alloc: Global, topics: &[u32]) -> Option<Txn> {
     let mut draft = Draft::new(alloc);
-    for &topic in topics {
-        draft
-            .add(Topic(topic), Headers::new(alloc), Octets::new(alloc))
-            .ok()?;
+    if !has_added_all(alloc, &mut draft, topics) {
+        return None;
     }
     draft.seal().ok()?
 }
@@ -84,23 +107,51 @@ pub(super) fn propose(
     Some(group.propose(stamp(n, 0), part))
 }
 
-/// The verdict of these topics and numbers.
-pub(super) fn verdict_of(alloc: Global, id: TxnId, rows: &[(u32, u64)]) -> Option<Box<Verdict>> {
+/// The topics of these rows.
+fn topics_of(alloc: Global, rows: &[(u32, u64)]) -> Option<Vec<u32>> {
     let mut topics = Vec::new(alloc);
     for row in rows {
         topics.push(row.0).ok()?;
     }
+    Some(topics)
+}
+
+/// The ballot of a transaction to the topics of these rows.
+fn ballot_of(alloc: Global, id: TxnId, rows: &[(u32, u64)]) -> Option<Ballot> {
+    let topics = topics_of(alloc, rows)?;
     let txn = txn_to(alloc, topics.as_slice())?;
-    let mut ballot = Ballot::new(alloc, id, txn.topics()).ok()?;
+    Ballot::new(alloc, id, txn.topics()).ok()
+}
+
+/// Whether the ballot takes a ticket of each of these topics and numbers.
+fn are_put(ballot: &mut Ballot, id: TxnId, rows: &[(u32, u64)]) -> bool {
     for row in rows {
         let ticket = Ticket {
             id,
             topic: Topic(row.0),
             n: row.1,
         };
-        ballot.put(ticket).ok()?;
+        if ballot.put(ticket).is_err() {
+            return false;
+        }
+    }
+    true
+}
+
+/// The verdict of these topics and numbers.
+pub(super) fn verdict_of(alloc: Global, id: TxnId, rows: &[(u32, u64)]) -> Option<Box<Verdict>> {
+    let mut ballot = ballot_of(alloc, id, rows)?;
+    if !are_put(&mut ballot, id, rows) {
+        return None;
     }
     ballot.close().ok()
+}
+
+/// Sets a flight's cell; nothing where memory ran out before, or it was set.
+pub(super) fn decide(alloc: Global, flight: &Flight, rows: &[(u32, u64)]) -> Option<()> {
+    let mut note = flight.note();
+    let verdict = verdict_of(alloc, flight.id(), rows)?;
+    flight.decide(&mut note, verdict).ok()
 }
 
 /// A call for a transaction of sender 0, by its seq.
@@ -242,17 +293,22 @@ fn first_seq(rows: &mut LogRows) -> Option<u64> {
     }
 }
 
-/// What a drain answers; nothing where a row that is lent isn't the one that is then taken out.
-pub(super) fn drained(group: &mut Group<VecOutlet>) -> Option<Answer> {
-    let Ok(mut rows) = group.drain_log() else {
-        return Some(Fault(42));
-    };
+/// How many of these rows there are, and the first of them, which are taken out.
+fn taken_out(rows: &mut LogRows) -> Option<Answer> {
     let many = rows.len();
     let mut seqs = [0; SHOWN];
     for seq in seqs.iter_mut().take(many) {
-        *seq = first_seq(&mut rows)?;
+        *seq = first_seq(rows)?;
     }
     Some(Drained(many, seqs))
+}
+
+/// What a drain answers; nothing where a row that is lent isn't the one that is then taken out.
+pub(super) fn drained(group: &mut Group<VecOutlet>) -> Option<Answer> {
+    match group.drain_log() {
+        Ok(mut rows) => taken_out(&mut rows),
+        Err(_) => Some(Fault(42)),
+    }
 }
 
 /// What the topic answers to a call; nothing where memory ran out before it.
@@ -284,6 +340,17 @@ pub(super) fn answers(
     true
 }
 
+/// Two verdicts of these topics and numbers.
+fn pair_of(
+    alloc: Global,
+    first: (u64, &[(u32, u64)]),
+    second: (u64, &[(u32, u64)]),
+) -> Option<Pair> {
+    let first = verdict_of(alloc, id(first.0), first.1)?;
+    let second = verdict_of(alloc, id(second.0), second.1)?;
+    Some(Pair(first, second))
+}
+
 /// How many parts a turn releases that finds two verdicts of these topics and numbers.
 pub(super) fn turned(
     alloc: Global,
@@ -291,7 +358,6 @@ pub(super) fn turned(
     first: (u64, &[(u32, u64)]),
     second: (u64, &[(u32, u64)]),
 ) -> Option<u64> {
-    let first = verdict_of(alloc, id(first.0), first.1)?;
-    let second = verdict_of(alloc, id(second.0), second.1)?;
-    Some(group.turn_counted(&Pair(first, second)))
+    let pair = pair_of(alloc, first, second)?;
+    Some(group.turn_counted(&pair))
 }

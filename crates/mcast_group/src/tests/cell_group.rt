@@ -2,7 +2,7 @@
 
 ghost use Rattle.std.specs.Prelude.{◌≡◌, ◌+◌};
 
-use super::calls::{id, part_of, stamp, txn_to, verdict_of};
+use super::calls::{decide, id, part_of, stamp, txn_to};
 use crate::{CellGroup, Proposal, ProposeFault, SubState, TicketCounter, Turned};
 use mcast_txn::{Flight, Part, Stamp, Topic};
 use std::alloc::Global;
@@ -22,11 +22,16 @@ fn entered(
     Some(flight)
 }
 
-/// Sets a flight's cell.
-fn decide(alloc: Global, flight: &Flight, rows: &[(u32, u64)]) -> Option<()> {
-    let mut note = flight.note();
-    let verdict = verdict_of(alloc, flight.id(), rows)?;
-    flight.decide(&mut note, verdict).ok()
+/// Enters a part at topic 0, whose cell then gets a verdict of these rows.
+fn enter_and_decide(
+    alloc: Global,
+    group: &mut CellGroup<VecOutlet>,
+    seq: u64,
+    topics: &[u32],
+    rows: &[(u32, u64)],
+) -> Option<()> {
+    let flight = entered(alloc, group, seq, topics)?;
+    decide(alloc, &flight, rows)
 }
 
 /// What a turn releases, how many parts wait after it, and whether a note of this index is kept.
@@ -44,17 +49,25 @@ fn quiet(released: u64) -> Turned {
     }
 }
 
-/// Three turns of a topic with two parts: before a verdict, with that of the second, and with that of the first too.
+/// Three turns of this topic with two parts: before a verdict, with that of the second, and with that of the first too.
+fn three_turns(
+    alloc: Global,
+    group: &mut CellGroup<VecOutlet>,
+) -> Option<[(Turned, usize, bool); 3]> {
+    let first = entered(alloc, group, 1, &[0])?;
+    let second = entered(alloc, group, 2, &[0])?;
+    let none = turn(group, 0);
+    decide(alloc, &second, &[(0, 2)])?;
+    let one = turn(group, 0);
+    decide(alloc, &first, &[(0, 1)])?;
+    let both = turn(group, 1);
+    Some([none, one, both])
+}
+
+/// Those of a new topic.
 fn held_back(alloc: Global) -> Option<[(Turned, usize, bool); 3]> {
     let mut group = CellGroup::new(alloc, Topic(0), 0, 8);
-    let first = entered(alloc, &mut group, 1, &[0])?;
-    let second = entered(alloc, &mut group, 2, &[0])?;
-    let none = turn(&mut group, 0);
-    decide(alloc, &second, &[(0, 2)])?;
-    let one = turn(&mut group, 0);
-    decide(alloc, &first, &[(0, 1)])?;
-    let both = turn(&mut group, 1);
-    Some([none, one, both])
+    three_turns(alloc, &mut group)
 }
 
 #[test]
@@ -69,8 +82,7 @@ fn a_part_learns_from_its_own_cell(rt: HostRuntime) {
 /// released, if one, and how many parts wait.
 fn turned_with(alloc: Global, rows: &[(u32, u64)]) -> Option<(Option<Stamp>, usize)> {
     let mut group = CellGroup::new(alloc, Topic(0), 0, 8);
-    let flight = entered(alloc, &mut group, 1, &[0, 1])?;
-    decide(alloc, &flight, rows)?;
+    enter_and_decide(alloc, &mut group, 1, &[0, 1], rows)?;
     let _ = group.turn(&());
     let stamp = group.group().held(0).map(|row| row.stamp);
     Some((stamp, group.waiting_len()))
@@ -92,8 +104,7 @@ fn lagged(alloc: Global) -> Option<(Turned, Turned, Option<SubState>)> {
         return None;
     }
     for seq in 1..3u64 {
-        let flight = entered(alloc, &mut group, seq, &[0])?;
-        decide(alloc, &flight, &[(0, seq)])?;
+        enter_and_decide(alloc, &mut group, seq, &[0], &[(0, seq)])?;
     }
     let first = group.turn(&());
     let second = group.turn(&());
@@ -114,8 +125,7 @@ fn a_turn_tells_that_a_subscription_lagged(rt: HostRuntime) {
 fn cancelled(alloc: Global) -> Option<(usize, Turned)> {
     let mut group = CellGroup::new(alloc, Topic(0), 0, 8);
     let _ = entered(alloc, &mut group, 1, &[0])?;
-    let second = entered(alloc, &mut group, 2, &[0])?;
-    decide(alloc, &second, &[(0, 2)])?;
+    enter_and_decide(alloc, &mut group, 2, &[0], &[(0, 2)])?;
     group.cancel(id(1)).ok()?;
     let waiting = group.waiting_len();
     Some((waiting, group.turn(&())))

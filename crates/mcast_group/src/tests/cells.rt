@@ -1,9 +1,10 @@
 //! Parts that learn their stamp from the cell of their flight: they keep its note until they are released.
 
-use super::calls::{id, part_of, propose, stamp, txn_to, verdict_of};
+use super::calls::{Answer, decide, id, learnt, part_of, propose, stamp, txn_to};
 use crate::{Cells, Group};
 use mcast_txn::{Flight, Parts, Stamp, Topic};
 use std::alloc::Global;
+use std::sync::Arc;
 use std::thread;
 use std::thread::Threads;
 use sub_queue::VecOutlet;
@@ -14,18 +15,28 @@ fn left(group: &mut Group<VecOutlet>) -> Option<(Stamp, bool)> {
     Some((departed.stamp(), departed.has_seen()))
 }
 
+/// Enters the part of this seq, whose flight is returned.
+fn entered_alone(alloc: Global, group: &mut Group<VecOutlet>, seq: u64) -> Option<Arc<Flight>> {
+    let part = part_of(alloc, id(seq), &[0], group.topic())?;
+    let flight = part.flight.clone().ok()?;
+    group.propose(stamp(0, 0), part).ok()?;
+    Some(flight)
+}
+
+/// Two parts, of which the first learns by hand, and the cell of the second's flight is set.
+fn two_parts(alloc: Global, group: &mut Group<VecOutlet>) -> Option<()> {
+    let _ = propose(alloc, group, id(1), &[0], 0)?;
+    let flight = entered_alone(alloc, group, 2)?;
+    if learnt(alloc, group, id(1), &[(0, 1)]) != Some(Answer::Done) {
+        return None;
+    }
+    decide(alloc, &flight, &[(0, 2)])
+}
+
 /// What three releases give: of a part that learnt by hand, of one that learnt from its flight's cell, and of none.
 fn by_hand_and_by_cell(alloc: Global) -> Option<[Option<(Stamp, bool)>; 3]> {
     let mut group = Group::new(alloc, Topic(0), 0, 8);
-    let _ = propose(alloc, &mut group, id(1), &[0], 0)?;
-    let part = part_of(alloc, id(2), &[0], group.topic())?;
-    let flight = part.flight.clone().ok()?;
-    group.propose(stamp(0, 0), part).ok()?;
-    let verdict = verdict_of(alloc, id(1), &[(0, 1)])?;
-    group.learn(id(1), &verdict).ok()?;
-    let mut note = flight.note();
-    let verdict = verdict_of(alloc, id(2), &[(0, 2)])?;
-    flight.decide(&mut note, verdict).ok()?;
+    two_parts(alloc, &mut group)?;
     group.learn_found(&Cells);
     Some([left(&mut group), left(&mut group), left(&mut group)])
 }
@@ -66,9 +77,7 @@ fn released_by_two<R: Threads + Sync>(
     let mut one = entered(alloc, &mut parts, Topic(0))?;
     let mut other = entered(alloc, &mut parts, Topic(1))?;
     let early = [one.turn(&(), &Cells), other.turn(&(), &Cells)];
-    let verdict = verdict_of(alloc, id(1), &[(0, 1), (1, 1)])?;
-    let mut note = flight.note();
-    flight.decide(&mut note, verdict).ok()?;
+    decide(alloc, &flight, &[(0, 1), (1, 1)])?;
     let (one, other) = thread::join(
         rt,
         move || -> Option<(Stamp, bool)> { learn_and_leave(one) },
@@ -89,9 +98,7 @@ fn turned_by_cell(alloc: Global) -> Option<(u64, Stamp)> {
     let flight = Flight::new(alloc, id(1)).ok()?;
     let mut parts = txn_to(alloc, &[0, 1])?.split(alloc, &flight).ok()?;
     let mut group = entered(alloc, &mut parts, Topic(0))?;
-    let mut note = flight.note();
-    let verdict = verdict_of(alloc, id(1), &[(0, 1), (1, 7)])?;
-    flight.decide(&mut note, verdict).ok()?;
+    decide(alloc, &flight, &[(0, 1), (1, 7)])?;
     let count = group.turn(&(), &Cells);
     Some((count, group.held(0)?.stamp))
 }

@@ -67,12 +67,12 @@ fn drained(rows: &LogRows, i: usize) -> Option<u64> {
 }
 
 /// Whether the drained rows are those of the seqs from `first` on, this many: looked at, and then taken out.
-fn are_in_order(mut rows: LogRows, first: u64, many: u64) -> bool {
+fn are_in_order(rows: &mut LogRows, first: u64, many: u64) -> bool {
     for seq in first..first.saturating_add(many) {
         let left = first.saturating_add(many).saturating_sub(seq);
         let last = rows.len().saturating_sub(1);
         if rows.len() as u64 != left
-            || drained(&rows, last) != Some(first.saturating_add(many).saturating_sub(1))
+            || drained(rows, last) != Some(first.saturating_add(many).saturating_sub(1))
         {
             return false;
         }
@@ -93,6 +93,14 @@ fn drain(group: &mut Group<VecOutlet>) -> Result<LogRows, NoMemory> {
     }
 }
 
+/// Whether a drain gives the rows of the seqs from `first` on, this many, the first or the second time.
+fn are_drained(group: &mut Group<VecOutlet>, first: u64, many: u64) -> bool {
+    match drain(group) {
+        Ok(mut rows) => are_in_order(&mut rows, first, many),
+        Err(NoMemory) => false,
+    }
+}
+
 /// Logs of these lengths are released and drained, one after the other.
 const LENGTHS: [u64; 10] = [1, 254, 255, 256, 257, 0, 511, 512, 513, 2];
 
@@ -103,10 +111,7 @@ fn drains_at_the_ends_of_segments(rt: HostRuntime) {
     let mut first = 0u64;
     for many in LENGTHS {
         assert!(rt; are_released(alloc, &mut group, first, many));
-        let Ok(rows) = drain(&mut group) else {
-            return;
-        };
-        assert!(rt; are_in_order(rows, first, many));
+        assert!(rt; are_drained(&mut group, first, many));
         assert!(rt; group.held_len() == 0);
         first = first.saturating_add(many);
     }

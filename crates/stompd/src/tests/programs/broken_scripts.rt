@@ -1,6 +1,6 @@
 //! The scripts of `examples/scripts`, of which one piece is cut, or one octet of a piece is another.
 
-use super::script_rows::{FRAMES, ORDER, Row, SENDERS, SPANS, USES};
+use super::script_rows::{Row, frames, order, senders, spans, uses};
 use broker_server::{Script, ScriptFault};
 use delivery::{Event, EventList, MAX_CAPACITY, Net, Outcome, Refusal, Topics};
 use std::alloc::Global;
@@ -322,72 +322,77 @@ fn is_held(
     Ok(octets > 100)
 }
 
+/// The same, where there is memory for it.
+fn holds(alloc: Global, done: Done, rows: &[&Row], from: usize, to: usize) -> bool {
+    is_held(alloc, done, rows, from, to) == Ok(true)
+}
+
 #[test]
 fn pieces_of_order_may_be_cut(rt: HostRuntime) {
-    assert!(rt; is_held(rt.alloc(), Done::Cut, ORDER, 0, 6) == Ok(true));
+    assert!(rt; holds(rt.alloc(), Done::Cut, order(), 0, 6));
 }
 
 #[test]
 fn pieces_of_spans_may_be_cut(rt: HostRuntime) {
-    assert!(rt; is_held(rt.alloc(), Done::Cut, SPANS, 0, 4) == Ok(true));
+    assert!(rt; holds(rt.alloc(), Done::Cut, spans(), 0, 4));
 }
 
 #[test]
 fn pieces_of_frames_may_be_cut(rt: HostRuntime) {
-    assert!(rt; is_held(rt.alloc(), Done::Cut, FRAMES, 0, 8) == Ok(true));
+    assert!(rt; holds(rt.alloc(), Done::Cut, frames(), 0, 8));
 }
 
 #[test]
 fn pieces_of_uses_may_be_cut(rt: HostRuntime) {
-    assert!(rt; is_held(rt.alloc(), Done::Cut, USES, 0, 2) == Ok(true));
+    assert!(rt; holds(rt.alloc(), Done::Cut, uses(), 0, 2));
 }
 
 #[test]
 fn pieces_of_senders_may_be_cut(rt: HostRuntime) {
-    assert!(rt; is_held(rt.alloc(), Done::Cut, SENDERS, 0, 2) == Ok(true));
+    assert!(rt; holds(rt.alloc(), Done::Cut, senders(), 0, 2));
 }
 
 #[test]
 fn pieces_of_crossing_transactions_may_be_changed(rt: HostRuntime) {
-    assert!(rt; is_held(rt.alloc(), Done::Changed, ORDER, 0, 3) == Ok(true));
+    assert!(rt; holds(rt.alloc(), Done::Changed, order(), 0, 3));
 }
 
 #[test]
 fn pieces_of_other_orders_may_be_changed(rt: HostRuntime) {
-    assert!(rt; is_held(rt.alloc(), Done::Changed, ORDER, 3, 6) == Ok(true));
+    assert!(rt; holds(rt.alloc(), Done::Changed, order(), 3, 6));
 }
 
 #[test]
 fn pieces_of_ended_spans_may_be_changed(rt: HostRuntime) {
-    assert!(rt; is_held(rt.alloc(), Done::Changed, SPANS, 0, 2) == Ok(true));
+    assert!(rt; holds(rt.alloc(), Done::Changed, spans(), 0, 2));
 }
 
 #[test]
 fn pieces_of_lags_may_be_changed(rt: HostRuntime) {
-    assert!(rt; is_held(rt.alloc(), Done::Changed, SPANS, 2, 4) == Ok(true));
+    assert!(rt; holds(rt.alloc(), Done::Changed, spans(), 2, 4));
 }
 
 #[test]
 fn pieces_of_frames_may_be_changed(rt: HostRuntime) {
-    assert!(rt; is_held(rt.alloc(), Done::Changed, FRAMES, 0, 5) == Ok(true));
+    assert!(rt; holds(rt.alloc(), Done::Changed, frames(), 0, 5));
 }
 
 #[test]
 fn pieces_of_faults_may_be_changed(rt: HostRuntime) {
-    assert!(rt; is_held(rt.alloc(), Done::Changed, FRAMES, 5, 8) == Ok(true));
+    assert!(rt; holds(rt.alloc(), Done::Changed, frames(), 5, 8));
 }
 
 #[test]
 fn pieces_of_uses_may_be_changed(rt: HostRuntime) {
-    assert!(rt; is_held(rt.alloc(), Done::Changed, USES, 0, 2) == Ok(true));
+    assert!(rt; holds(rt.alloc(), Done::Changed, uses(), 0, 2));
 }
 
 #[test]
 fn pieces_of_a_lasting_sender_may_be_changed(rt: HostRuntime) {
-    assert!(rt; is_held(rt.alloc(), Done::Changed, SENDERS, 0, 1) == Ok(true));
+    assert!(rt; holds(rt.alloc(), Done::Changed, senders(), 0, 1));
 }
 
 #[test]
 fn pieces_of_a_sender_in_use_may_be_changed(rt: HostRuntime) {
-    assert!(rt; is_held(rt.alloc(), Done::Changed, SENDERS, 1, 2) == Ok(true));
+    assert!(rt; holds(rt.alloc(), Done::Changed, senders(), 1, 2));
 }

@@ -7,11 +7,11 @@ mod senders;
 mod spans;
 mod uses;
 
-pub(crate) use frames::FRAMES;
-pub(crate) use order::{CROSSING, FOUR_TICKETS, ORDER};
-pub(crate) use senders::SENDERS;
-pub(crate) use spans::SPANS;
-pub(crate) use uses::USES;
+pub(crate) use frames::frames;
+pub(crate) use order::{CROSSING, FOUR_TICKETS, order};
+pub(crate) use senders::senders;
+pub(crate) use spans::spans;
+pub(crate) use uses::uses;
 
 /// A script, and what it gives.
 #[derive(Clone, Copy, Drop)]

@@ -1,7 +1,7 @@
 //! Scripts as their readers and writers see them: those of `examples/scripts`, and refusals.
 
 use super::peers::{LineFeeds, Source, Target};
-use super::script_rows::{CROSSING, FOUR_TICKETS, FRAMES, ORDER, Row, SENDERS, SPANS, USES};
+use super::script_rows::{CROSSING, FOUR_TICKETS, Row, frames, order, senders, spans, uses};
 use broker_server::{Counting, ProgramFault, run_audit, run_script, run_trace};
 use std::alloc::Global;
 use std::test::Fail;
@@ -65,7 +65,7 @@ fn first_wrong(alloc: Global, rows: &[&Row]) -> Result<usize, ProgramFault> {
 
 #[test]
 fn examples(rt: HostRuntime) {
-    for rows in [ORDER, SPANS, FRAMES, USES, SENDERS] {
+    for rows in [order(), spans(), frames(), uses(), senders()] {
         assert!(rt; first_wrong(rt.alloc(), rows) == Ok(rows.len()));
     }
 }

@@ -2,8 +2,8 @@
 
 use super::Row;
 
-/// All of them.
-pub(crate) const FRAMES: &[&Row] = &[
+/// All of them. A proof writes a table out wherever it is named, so it is named here alone.
+const FRAMES: &[&Row] = &[
     NOTHING,
     CUT_PIECE,
     ESCAPES,
@@ -13,6 +13,10 @@ pub(crate) const FRAMES: &[&Row] = &[
     MESSAGE_HEADERS,
     READER_FAULTS,
 ];
+
+pub(crate) fn frames() -> &'static [&'static Row] {
+    FRAMES
+}
 
 const NOTHING: &Row = &Row {
     script: br"# A script without topics and events has no output.

@@ -2,8 +2,8 @@
 
 use super::Row;
 
-/// All of them.
-pub(crate) const ORDER: &[&Row] = &[
+/// All of them. A proof writes a table out wherever it is named, so it is named here alone.
+const ORDER: &[&Row] = &[
     CROSSING,
     FOUR_TICKETS,
     UNDECIDED,
@@ -11,6 +11,10 @@ pub(crate) const ORDER: &[&Row] = &[
     FULL_CLOCK,
     LOST_CONNECTION,
 ];
+
+pub(crate) fn order() -> &'static [&'static Row] {
+    ORDER
+}
 
 pub(crate) const CROSSING: &Row = &Row {
     script: br"# Transactions that cross: 1 to A and B, then 2 to B and C; the turn of B releases both in the order of their stamps.

@@ -2,8 +2,12 @@
 
 use super::Row;
 
-/// All of them.
-pub(crate) const SENDERS: &[&Row] = &[LASTING_SENDER, SENDER_IN_USE, WITHDRAWN_SENDER];
+/// All of them. A proof writes a table out wherever it is named, so it is named here alone.
+const SENDERS: &[&Row] = &[LASTING_SENDER, SENDER_IN_USE, WITHDRAWN_SENDER];
+
+pub(crate) fn senders() -> &'static [&'static Row] {
+    SENDERS
+}
 
 const LASTING_SENDER: &Row = &Row {
     script: br"# The sender p outlives its connection: it goes on with its count and its floor, and nobody else may have it before.

@@ -2,8 +2,12 @@
 
 use super::Row;
 
-/// All of them.
-pub(crate) const SPANS: &[&Row] = &[ENDED_SPAN, DISCONNECT, LAG, BODY_WITH_NULL];
+/// All of them. A proof writes a table out wherever it is named, so it is named here alone.
+const SPANS: &[&Row] = &[ENDED_SPAN, DISCONNECT, LAG, BODY_WITH_NULL];
+
+pub(crate) fn spans() -> &'static [&'static Row] {
+    SPANS
+}
 
 const ENDED_SPAN: &Row = &Row {
     script: br"# A subscription made while a transaction is pending gets it; one that is ended by UNSUBSCRIBE doesn't get the next.

@@ -2,8 +2,12 @@
 
 use super::Row;
 
-/// All of them.
-pub(crate) const USES: &[&Row] = &[FIRST_USE, ABORTED_USE];
+/// All of them. A proof writes a table out wherever it is named, so it is named here alone.
+const USES: &[&Row] = &[FIRST_USE, ABORTED_USE];
+
+pub(crate) fn uses() -> &'static [&'static Row] {
+    USES
+}
 
 const FIRST_USE: &Row = &Row {
     script: br"# There is no topic at first: a SUBSCRIBE makes A and a SEND makes B, with clock 0; `A B` is no topic's name.
