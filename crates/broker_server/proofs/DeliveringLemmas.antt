@@ -86,6 +86,25 @@ if_stopped (Failed why) A B never b = b
 pub if_emptied : (t : Taking) (A B : Type 0) → t ≡ Emptied → A → IfEmptied t A B
 if_emptied t A B e a = subst (λ (s : Taking). IfEmptied s A B) (sym e) a
 
+-- The calls so far emptied the first queues, and are a beginning: whatever is taken of the rest is taken behind them.
+abbrev pub GoesOn : ℕ → List BrokerRow → List OpenSubState → List OpenSubState → List OpenSubState → List ℕ → List ℕ → Type 0
+GoesOn capacity asked queues done rest before wire =
+    (rows : List BrokerRow) (end : Taking) (others : List OpenSubState) (after : List ℕ) (left : ℕ)
+    → DrainsAll capacity rows rest wire end others after left
+    → DrainsAll capacity (asked ++ rows) queues before end (done ++ others) after left
+
+-- the next one is emptied, too
+pub goes_on : (capacity : ℕ) (asked more : List BrokerRow) (queues done rest : List OpenSubState) (o new : OpenSubState) (before wire between : List ℕ) (one : Taking) → one ≡ Emptied → Drains capacity 0 more o wire one new between → GoesOn capacity asked queues done (o ∷ rest) before wire → GoesOn capacity (asked ++ more) queues (done ++ new ∷ []) rest before between
+goes_on capacity asked more queues done rest o new before wire between one emptied drains so_far rows end others after left then =
+    subst (λ (all : List BrokerRow). DrainsAll capacity all queues before end ((done ++ new ∷ []) ++ others) after left) (sym (append_assoc asked more rows))
+    (subst (λ (all : List OpenSubState). DrainsAll capacity (asked ++ (more ++ rows)) queues before end all after left) (sym (append_assoc done (new ∷ []) others))
+        (so_far (more ++ rows) end (new ∷ others) after left (more, rows, refl, one, new, others, between, drains, refl, if_emptied one _ _ emptied then)))
+
+-- the next one isn't, and the rest stay
+pub goes_no_further : (capacity : ℕ) (asked more : List BrokerRow) (queues done rest : List OpenSubState) (o new : OpenSubState) (before wire between : List ℕ) (one : Taking) → (one ≡ Emptied → ⊥) → Drains capacity 0 more o wire one new between → GoesOn capacity asked queues done (o ∷ rest) before wire → DrainsAll capacity (asked ++ more) queues before one (done ++ new ∷ rest) between (length rest)
+goes_no_further capacity asked more queues done rest o new before wire between one never drains so_far =
+    so_far more one (new ∷ rest) between (length rest) (more, [], sym (append-nil more), one, new, rest, between, drains, refl, if_stopped one _ _ never (refl, refl, refl, refl, refl))
+
 -- the back ones are emptied, and then the front ones are taken
 pub drains_both : (capacity turn : ℕ) (queues front back : List OpenSubState) → queues ≡ front ++ back → length front ≡ begins_at turn (length queues) → (first rest : List BrokerRow) (wire : List ℕ) (one end : Taking) (changed others : List OpenSubState) (between after : List ℕ) (left unseen next : ℕ) → one ≡ Emptied → DrainsAll capacity first back wire one changed between left → DrainsAll capacity rest front between end others after unseen → next ≡ length front - unseen → DrainsQueues capacity turn (first ++ rest) queues wire end (others ++ changed) after next
 drains_both capacity turn queues front back cut begins first rest wire one end changed others between after left unseen next emptied did then goes =

@@ -594,17 +594,18 @@ fn drain_all<C: BrokerCalls>(
         × DrainsAll capacity asked queues.old wire.old result.0.end queues.new wire.new result.1
         × (result.0.any ≡ has_item asked) }
 {
-    let Some((queue, others)) = queues.split_first_mut() else {
-        let end = Taking::Emptied;
-        return (Drained { any: false, end }, 0);
-    };
-    let drained = drain_queue(calls, queue, wire, capacity);
-    let Taking::Emptied = drained.end else {
-        return (drained, others.len());
-    };
-    let (rest, left) = drain_all(calls, others, wire, capacity);
-    let any = drained.any || rest.any;
-    let end = rest.end;
+    let mut any = false;
+    let mut left = queues.len();
+    for queue in queues.iter_mut() {
+        left = left.saturating_sub(1);
+        let drained = drain_queue(calls, queue, wire, capacity);
+        any = any || drained.any;
+        let Taking::Emptied = drained.end else {
+            let end = drained.end;
+            return (Drained { any, end }, left);
+        };
+    }
+    let end = Taking::Emptied;
     (Drained { any, end }, left)
 }
 
