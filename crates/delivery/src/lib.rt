@@ -12,7 +12,6 @@ pub mod law;
 mod messages;
 mod net;
 mod net_state;
-mod not_started;
 mod open_endpoint;
 mod oracle;
 mod outcome;

@@ -157,8 +157,9 @@ impl NetState {
         self.check_there(connection)?;
         let endpoint = &self.endpoints[connection as usize];
         match endpoint.stage {
+            Stage::Open(_) => Ok(()),
             Stage::Leaving(_) => Err(Refusal::Busy),
-            _ => Ok(()),
+            Stage::Gone => unreachable!(),
         }
     }
 

@@ -1,23 +1,23 @@
 //! Senders of the core.
 
-ghost use Rattle.std.specs.Prelude.{◌≡◌, ◌≤◌, ◌+◌, ◌++◌, ◌<◌, ◌==◌, true, false, [], length, Some, IfNone, IfOk, IfSome, OnOk, OnErr, OnSome, vec_len, vec_capacity};
+ghost use Rattle.std.specs.Prelude.{◌≡◌, ◌≤◌, ◌+◌, ◌++◌, ◌<◌, ◌==◌, true, false, [], length, Some, None, IfOk, IfSome, OnOk, OnErr, vec_len, vec_capacity};
 ghost use Rattle.std.specs.Arc.{arc_value};
 ghost use Rattle.std.specs.List.{position, remove};
-ghost use Rattle.std.specs.Option.{option_map};
+ghost use Rattle.std.specs.Option.{is_some, option_map};
 ghost use Rattle.std.specs.Result.{result_err};
 ghost use Rattle.mcast_txn.specs.Part.{data_of};
 ghost use Rattle.mcast_txn.specs.TopicSet.{names};
 ghost use Rattle.mcast_group.specs.Machine.{last_number};
 ghost use Rattle.sender_gate.specs.Gate.{next_id};
 ghost use Rattle.delivery.specs.Inner.Rooms.{is_flying};
-ghost use Rattle.delivery.specs.Inner.Senders.{gate_of, launched_sender, decide_refusal, decision_of, decided_row, decided_sender, flight_refusal, part_refusal, part_in, taken_sender, put_sender, failed_sender, withdraw_refusal, failure_of, withdrawn_sender, leftover_at, leftover_in};
+ghost use Rattle.delivery.specs.Inner.Senders.{gate_of, launched_sender, decide_refusal, decision_of, decided_row, decided_sender, flight_refusal, part_refusal, part_in, taken_sender, takes_ticket, put_sender, failed_sender, withdraw_refusal, failure_of, withdrawn_sender, leftover_at, leftover_in};
 ghost use Rattle.delivery.specs.Inner.Clients.{idle_gate};
 ghost use Rattle.delivery.specs.declared.sending.Sending.TheVariants as sendings;
 ghost use Rattle.delivery.specs.Inner.Leaving.{is_busy};
+ghost use Rattle.delivery.specs.Inner.Returned.{returned_sending};
 ghost use Rattle.delivery.specs.Inner.View.{is_undecided};
 
 use crate::in_flight::InFlight;
-use crate::not_started::NotStarted;
 use crate::refusal::Refusal;
 use crate::sending::Sending;
 use mcast_group::{ProposeFault, Row};
@@ -26,6 +26,7 @@ use sender_gate::Gate;
 use std::alloc::Global;
 use std::marker::Model;
 use std::sync::Arc;
+use stomp_frame::NoMemory;
 
 /// A sender: its transaction, if one is undecided, and the tickets that it has to cancel. What it does with its
 /// transaction is taken out while a call changes it, and is there again as the call ends.
@@ -71,9 +72,10 @@ impl SenderState {
         }
     }
 
-    /// Launches a transaction, if none is undecided, with all the room that its end may need. Where it isn't launched
-    /// the sender is what it was.
-    pub(crate) fn launch(&mut self, alloc: Global, txn: Txn) -> Result<TxnId, NotStarted>
+    /// Launches a transaction, where none is undecided, with all the room that its end may need. Out of memory, and
+    /// where the sender has used its last number, it is what it was.
+    pub(crate) fn launch(&mut self, alloc: Global, txn: Txn) -> Result<TxnId, NoMemory>
+        requires { is_undecided self.old.sending ≡ false }
         ensures id { IfOk result (λ id. id ≡ next_id (gate_of self.old.sending)) }
         ensures last { IfOk result (λ id. id.seq ≤ last_number) }
         ensures flying { OnOk result (is_flying self.new.sending ≡ true) }
@@ -83,9 +85,7 @@ impl SenderState {
     {
         let topics = txn.share_topics()?;
         self.leftovers.reserve(topics.len())?;
-        let Some(gate) = take_gate(&mut self.sending) else {
-            return Err(NotStarted::InUse);
-        };
+        let gate = take_gate(&mut self.sending);
         match gate.begin(alloc, txn) {
             Ok(flying) => {
                 let flying = InFlight::new(flying);
@@ -100,7 +100,7 @@ impl SenderState {
             }
             Err((gate, _txn, _fault)) => {
                 self.sending = Some(Sending::Idle(gate));
-                Err(NotStarted::NoMemory)
+                Err(NoMemory)
             }
         }
     }
@@ -152,10 +152,11 @@ impl SenderState {
                 self.sending = Some(Sending::Marked(gate, tickets, fault));
                 Err(Refusal::Marked)
             }
-            idle => {
-                self.sending = idle;
+            Some(Sending::Idle(gate)) => {
+                self.sending = Some(Sending::Idle(gate));
                 Err(Refusal::NoFlight)
             }
+            None => unreachable!(),
         }
     }
 
@@ -166,7 +167,8 @@ impl SenderState {
         match &self.sending {
             Some(Sending::Flying(_, _)) => Ok(()),
             Some(Sending::Marked(_, _, _)) => Err(Refusal::Marked),
-            _ => Err(Refusal::NoFlight),
+            Some(Sending::Idle(_)) => Err(Refusal::NoFlight),
+            None => unreachable!(),
         }
     }
 
@@ -195,22 +197,30 @@ impl SenderState {
             }
             Some(Sending::Marked(_, _, _)) => Err(Refusal::Marked),
             Some(Sending::Idle(_)) => Err(Refusal::NoFlight),
+            // Never reached: by the type's invariant it is there as each call begins.
             None => Err(Refusal::NoFlight),
         }
     }
 
-    /// Puts a ticket into its transaction, if that takes it. It takes no memory.
+    /// Puts a ticket into its transaction, which takes it. It takes no memory.
     pub(crate) fn put(&mut self, ticket: Ticket)
+        requires { takes_ticket ticket self.old.sending ≡ true }
         ensures flying { is_flying self.new.sending ≡ is_flying self.old.sending }
         ensures new { self.new ≡ put_sender ticket self.old }
     {
-        if let Some(Sending::Flying(flying, _)) = &mut self.sending {
-            let _ = flying.put(ticket);
+        match &mut self.sending {
+            Some(Sending::Flying(flying, _)) => {
+                let Ok(()) = flying.put(ticket) else {
+                    unreachable!();
+                };
+            }
+            _ => unreachable!(),
         }
     }
 
-    /// Its transaction fails: a topic refused it, and why. It takes no memory.
+    /// Its transaction, which is on its way, fails: a topic refused it, and why. It takes no memory.
     pub(crate) fn fail(&mut self, fault: ProposeFault)
+        requires { is_flying self.old.sending ≡ true }
         ensures ended { is_flying self.new.sending ≡ false }
         ensures new { self.new ≡ failed_sender fault self.old }
     {
@@ -219,7 +229,7 @@ impl SenderState {
                 let (gate, tickets) = flying.withdraw();
                 self.sending = Some(Sending::Marked(gate, tickets, fault));
             }
-            other => self.sending = other,
+            _ => unreachable!(),
         }
     }
 
@@ -242,10 +252,11 @@ impl SenderState {
                 self.sending = Some(Sending::Flying(flying, row));
                 Err(Refusal::NotMarked)
             }
-            idle => {
-                self.sending = idle;
+            Some(Sending::Idle(gate)) => {
+                self.sending = Some(Sending::Idle(gate));
                 Err(Refusal::NoFlight)
             }
+            None => unreachable!(),
         }
     }
 
@@ -268,18 +279,18 @@ impl SenderState {
     }
 }
 
-/// Takes the gate out, if it is there and no transaction is undecided.
-fn take_gate(sending: &mut Option<Sending>) -> Option<Gate>
-    ensures idle { IfSome result (λ gate. sending.old ≡ Some (sendings.Idle gate)) }
-    ensures taken { OnSome result (sending.new ≡ None) }
-    ensures none { IfNone result (sending.new ≡ sending.old) }
+/// Takes the gate out, where no transaction is undecided.
+fn take_gate(sending: &mut Option<Sending>) -> Gate
+    requires there { is_some sending.old ≡ true }
+    requires idle { is_undecided (returned_sending sending.old) ≡ false }
+    ensures idle { sending.old ≡ Some (sendings.Idle result) }
+    ensures taken { sending.new ≡ None }
 {
-    match sending.take()? {
-        Sending::Idle(gate) => Some(gate),
-        busy => {
-            *sending = Some(busy);
-            None
-        }
+    match sending.take() {
+        Some(Sending::Idle(gate)) => gate,
+        Some(Sending::Flying(_flying, _row)) => unreachable!(),
+        Some(Sending::Marked(_gate, _tickets, _fault)) => unreachable!(),
+        None => unreachable!(),
     }
 }
 

@@ -83,6 +83,7 @@ queue_told capacity s account r q asked h = record {
   handed = sym (take_given q.handed h.handed_prefix.0)
       ∙ (ap (λ (z : List Item). take (length q.handed) z) (sym h.handed_prefix.1)
       ∙ ap (λ (n : ℕ). take n q.queued) (ap (λ (z : List Item). length z) h.handed ∙ sym (handed_told s account)));
+  taken = ap (λ (z : List Item). length z) h.handed ∙ sym (handed_told s account);
   bounded = h.bounded;
 }
 

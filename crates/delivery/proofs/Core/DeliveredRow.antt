@@ -1,5 +1,5 @@
 -- The theorem's record, met by one row: its fields can be had together, and their premises are met. Beside it stand reports
--- that it refuses: of a closed subscription that stays open, and of lags that are none.
+-- that it refuses: of a closed subscription that stays open, of lags that are none, and of Takes that had no item.
 use Rattle.std.proofs.Common.{inl, inr, refl, sym, ap, subst, ◌∙◌, arith}
 use Rattle.std.specs.Prelude.{◌≡◌, ℕ, zero, suc, ◌+◌, ◌<◌, ◌++◌, true, length, slice_get, List, [], ◌∷◌, codes, Option, Some, None}
 use Rattle.mcast_txn.specs.Agreed.{CommitRow, Transaction}
@@ -204,3 +204,8 @@ not_handed : (capacity : ℕ) → Delivers capacity while_open (record report { 
 not_handed capacity d =
     let h : item ∷ [] ≡ [] = (d.queues 0 (record (ended None None) { handed = item ∷ [] }) refl).handed in
     let n : 1 ≡ 0 = ap (λ (z : List Item). length z) h in absurd (omega (arith, n))
+
+-- two Takes are told to have handed an item on, where one was queued
+handed_twice : (capacity : ℕ) → Delivers capacity (Told.Handed 0 ∷ Told.Handed 0 ∷ while_open) (record report { subscriptions = record (ended None None) { handed = item ∷ [] } ∷ [] }) → Prim.⊥
+handed_twice capacity d =
+    let n : 1 ≡ 2 = (d.queues 0 (record (ended None None) { handed = item ∷ [] }) refl).taken in absurd (omega (arith, n))

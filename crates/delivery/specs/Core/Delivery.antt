@@ -63,6 +63,7 @@ pub record EndsByLag (capacity s : ℕ) (told : List Told) (q : QueueReport) (en
 -- lag: an end by lag is that of a full queue.
 -- exactly_due: what its queue accepted is what is due to it.
 -- handed: of that, as many from the front were delivered as Takes handed on.
+-- taken: there were as many: each Take that was answered so handed an item on.
 -- bounded: the queue has no more than its capacity that wasn't delivered.
 pub record IsAsTold (capacity s : ℕ) (told : List Told) (r : Report) (q : QueueReport) : Type 0 where
   pub ended : (to : Stamp) → In (Told.Unsubscribed s to) told → q.to ≡ Some to
@@ -72,6 +73,7 @@ pub record IsAsTold (capacity s : ℕ) (told : List Told) (r : Report) (q : Queu
   pub lag : q.cause ≡ Some Lag → (end : Stamp) × (q.to ≡ Some end) × EndsByLag capacity s told q end
   pub exactly_due : q.queued ≡ due (committed told) (span_of q) (last_stamp zero_stamp (log_in r q.topic))
   pub handed : q.handed ≡ take (handed_count s told) q.queued
+  pub taken : length q.handed ≡ handed_count s told
   pub bounded : length q.queued ≤ length q.handed + capacity
 
 -- ---- what is delivered

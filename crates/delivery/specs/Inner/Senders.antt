@@ -1,7 +1,7 @@
 -- Only serves proofs: what the private calls for a sender's transaction make of what the code holds.
 use Rattle.std.specs.Prelude.{◌≡◌, ◌-◌, ◌++◌, ◌∷◌, [], ℕ, List, Bool, true, false, map, get_or, set, Option, Some, None, Result, Ok, Err, is_ok, length, nat_lt, ◌==◌, ◌&&◌, slice_get, if◌then◌else◌}
 use Rattle.std.specs.List.{list_any, position, remove}
-use Rattle.std.specs.Option.{is_none, is_some, option_map, option_or}
+use Rattle.std.specs.Option.{is_none, is_some, option_or}
 use Rattle.stomp_frame.specs.ServerFrames.{receipt_frame, error_frame}
 use Rattle.stomp_frame.specs.Writing.{spelling_of}
 use Rattle.mcast_txn.specs.declared.ballot.ticket.Ticket.{Ticket}
@@ -15,10 +15,9 @@ use Rattle.mcast_txn.specs.declared.stamp.Stamp.{Stamp}
 use Rattle.mcast_txn.specs.Stamp.{zero_stamp, greatest}
 use Rattle.mcast_txn.specs.TopicSet.{names}
 use Rattle.mcast_txn.specs.Transaction.{TopicPart, topics_of}
-use Rattle.mcast_group.specs.declared.fault.CancelFault.{CancelFault}
 use Rattle.mcast_group.specs.declared.fault.ProposeFault.{ProposeFault}
 use Rattle.mcast_group.specs.Group.{GroupState, propose_refusal}
-use Rattle.mcast_group.specs.Machine.{next_number, propose_fault, after_propose, cancel_fault, after_cancel}
+use Rattle.mcast_group.specs.Machine.{next_number, propose_fault, after_propose, after_cancel}
 use Rattle.sender_gate.specs.Gate.{GateState, flight_of, flight_answer, next_id, gate_after, ballot_of}
 use Rattle.delivery.specs.declared.refusal.Refusal.{Refusal}
 use Rattle.delivery.specs.declared.refusal.Refusal.TheVariants as refusal
@@ -265,6 +264,12 @@ ticket_in t s part v = record {
   n = next_number (floor_in v s) (group_in v t).topic;
 }
 
+-- the transaction is on its way, and takes the ticket
+abbrev pub takes_ticket : Ticket → Sending → Bool
+takes_ticket ticket (Sending.Idle gate) = false
+takes_ticket ticket (Sending.Flying flight row) = is_ok (flight_answer flight ticket)
+takes_ticket ticket (Sending.Marked gate tickets fault) = false
+
 -- the ticket is put, where the transaction takes it
 abbrev pub put_sending : Ticket → Sending → Sending
 put_sending ticket (Sending.Idle gate) = Sending.Idle gate
@@ -394,23 +399,10 @@ leftover_at t x = position (λ k. k.topic.0 == t.0) x.leftovers
 abbrev pub leftover_in : SenderView → ℕ → Ticket
 leftover_in x i = get_or x.leftovers i no_ticket
 
--- why the topic doesn't take a part out
-abbrev pub cancel_refusal_of : CancelFault → Refusal
-cancel_refusal_of CancelFault.NotPending = refusal.NotPending
-cancel_refusal_of CancelFault.Decided = refusal.NotPending
-
--- why the ticket at this place, if there is one, isn't cancelled
-abbrev pub leftover_refusal : Topic → ℕ → View → Option ℕ → Option Refusal
-leftover_refusal t s v None = Some refusal.NotNamed
-leftover_refusal t s v (Some i) = option_map cancel_refusal_of
-    (cancel_fault (leftover_in (sender_in v s) i).id (group_in v t).topic)
-
--- why nothing of the sender is cancelled at t
+-- why nothing of the sender is cancelled at t: there is no group of it, or no ticket
 abbrev pub cancel_refusal_in : Topic → ℕ → View → Option Refusal
 cancel_refusal_in t s v =
-    if is_group t v.groups
-    then leftover_refusal t s v (leftover_at t (sender_in v s))
-    else Some refusal.NotNamed
+    if is_group t v.groups && is_some (leftover_at t (sender_in v s)) then None else Some refusal.NotNamed
 
 -- with the part taken out of its topic, and the ticket at this place dropped
 abbrev pub leftover_view : Topic → ℕ → View → Option ℕ → View

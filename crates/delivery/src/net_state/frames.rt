@@ -19,7 +19,6 @@ ghost use Rattle.delivery.specs.Inner.View.{EndpointView, view_of, written_endpo
 
 use super::{LOG_LIMIT, NetState};
 use crate::connection_fault::ConnectionFault;
-use crate::not_started::NotStarted;
 use crate::outcome::Outcome;
 use crate::refusal::Refusal;
 use mcast_group::Group;
@@ -223,15 +222,17 @@ impl NetState {
     }
 
     /// Takes a SUBSCRIBE. Its RECEIPT is written first, and taken back where the subscription finds no memory: then all
-    /// is what it was.
+    /// is what it was. Its topic is there, and none has the new number.
     fn start_subscription(
         &mut self,
         connection: u64,
         id: Octets,
         topic: Topic,
         receipt: &Option<Octets>,
-    ) -> Result<Outcome, NotStarted>
-        requires { connection < length self.old.endpoints }
+    ) -> Result<Outcome, NoMemory>
+        requires there { connection < length self.old.endpoints }
+        requires asks { (k : Core) × (f : Frame) × (left : Unread)
+            × Asks k connection f left (actions.Subscribe id topic) receipt.now self.old }
         ensures ok { IfOk result (λ outcome. (k : Core) (f : Frame) (left : Unread)
             → Asks k connection f left (actions.Subscribe id topic) receipt.now self.old
             → Makes k (Asked.Next connection) outcome self.new) }
@@ -241,9 +242,9 @@ impl NetState {
         self.write_receipt(connection, receipt)?;
         match self.subscribe(connection, id, topic) {
             Ok((sub, from)) => Ok(Outcome::Subscribed(sub, from)),
-            Err(fault) => {
+            Err(NoMemory) => {
                 self.take_back(connection, len);
-                Err(fault)
+                Err(NoMemory)
             }
         }
     }
@@ -284,15 +285,17 @@ impl NetState {
         endpoint.keep_receipt(receipt);
     }
 
-    /// Takes a frame that makes a transaction. Its RECEIPT is due once the transaction is decided. Where none is launched
-    /// all is what it was, and the receipt comes back.
+    /// Takes a frame that makes a transaction. Its RECEIPT is due once the transaction is decided. Its sender is there,
+    /// and has none undecided. Out of memory, and of numbers, all is what it was, and the receipt comes back.
     fn start_txn(
         &mut self,
         connection: u64,
         txn: Txn,
         receipt: Option<Octets>,
     ) -> Result<Outcome, Option<Octets>>
-        requires { connection < length self.old.endpoints }
+        requires there { connection < length self.old.endpoints }
+        requires asks { (k : Core) × (f : Frame) × (left : Unread)
+            × Asks k connection f left (actions.Commit txn) receipt self.old }
         ensures ok { IfOk result (λ outcome. (k : Core) (f : Frame) (left : Unread)
             → Asks k connection f left (actions.Commit txn) receipt self.old
             → Makes k (Asked.Next connection) outcome self.new) }
@@ -304,7 +307,7 @@ impl NetState {
                 self.keep_receipt(connection, receipt);
                 Ok(Outcome::Flying(id))
             }
-            Err(_) => Err(receipt),
+            Err(NoMemory) => Err(receipt),
         }
     }
 
@@ -337,7 +340,7 @@ impl NetState {
             Action::Subscribe(id, topic) => {
                 match self.start_subscription(connection, id, topic, &receipt) {
                     Ok(outcome) => Ok(outcome),
-                    Err(_) => Err(receipt),
+                    Err(NoMemory) => Err(receipt),
                 }
             }
             Action::Unsubscribe(id) => {

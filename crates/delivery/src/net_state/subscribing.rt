@@ -1,43 +1,41 @@
 //! Subscriptions that begin, and the number that an id names.
 
-ghost use Rattle.std.specs.Prelude.{◌≡◌, ◌<◌, [], length, get_or, set, IfSome, IfOk, OnOk, OnErr};
+ghost use Rattle.std.specs.Prelude.{◌≡◌, ◌<◌, [], length, get_or, set, None, IfSome, IfOk, OnOk, OnErr};
 ghost use Rattle.std.specs.List.{find, position};
 ghost use Rattle.sub_queue.specs.VecQueue.{shown_of};
 ghost use Rattle.mcast_group.specs.Group.{group_after_subscribe};
+ghost use Rattle.mcast_group.specs.Machine.{subscribe_fault};
 ghost use Rattle.delivery.specs.Inner.View.{no_group, group_in};
 ghost use Rattle.delivery.specs.Inner.Subscriptions.{subscribed_view, has_sub_id, number_in};
 
 use crate::net_state::NetState;
-use crate::not_started::NotStarted;
 use crate::sub::Sub;
 use mcast_group::{Group, SubFault};
 use mcast_txn::{Stamp, Topic};
-use stomp_frame::Octets;
+use stomp_frame::{NoMemory, Octets};
 use sub_queue::VecOutlet;
 
-/// Starts a subscription of this number with this outlet at the topic of this index, and returns the stamp after which
-/// its span begins. Where it is refused, also where there is no such topic, all is what it was.
+/// Starts a subscription of this number, which the topic of this index has none of, with this outlet, and returns the
+/// stamp after which its span begins. After `NoMemory` all is what it was.
 fn subscribe_at(
     groups: &mut Vec<Group<VecOutlet>>,
     index: usize,
     number: u64,
     outlet: VecOutlet,
-) -> Result<Stamp, NotStarted>
-    requires { (shown_of outlet).accepted ≡ [] }
-    ensures there { OnOk result (index < length groups.old.items) }
+) -> Result<Stamp, NoMemory>
+    requires there { index < length groups.old.items }
+    requires free { subscribe_fault number (get_or groups.old.items index no_group).topic ≡ None }
+    requires empty { (shown_of outlet).accepted ≡ [] }
     ensures from { IfOk result (λ from. from ≡ (get_or groups.old.items index no_group).topic.frontier) }
     ensures ok { OnOk result (groups.new.items ≡ set groups.old.items index
         (group_after_subscribe number (shown_of outlet).room (get_or groups.old.items index no_group))) }
     ensures err { OnErr result (groups.new.items ≡ groups.old.items) }
 {
-    if index >= groups.len() {
-        return Err(NotStarted::NotThere);
-    }
     let group = &mut groups[index];
     match group.subscribe(number, outlet) {
         Ok(from) => Ok(from),
-        Err((SubFault::SubInUse, _)) => Err(NotStarted::InUse),
-        Err((SubFault::NoMemory, _)) => Err(NotStarted::NoMemory),
+        Err((SubFault::SubInUse, _)) => unreachable!(),
+        Err((SubFault::NoMemory, _)) => Err(NoMemory),
     }
 }
 
@@ -68,16 +66,17 @@ fn number_among(subs: &[Sub], numbers: &[u64], id: &[u8]) -> Option<u64>
 }
 
 impl NetState {
-    /// Begins a subscription of the connection to this topic, with this id, and returns its number and the stamp after
-    /// which its span begins. Where it doesn't start all is what it was.
+    /// Begins a subscription of the connection to this topic, which has none of the next number, with this id, and
+    /// returns its number and the stamp after which its span begins. After `NoMemory` all is what it was.
     pub(super) fn subscribe(
         &mut self,
         connection: u64,
         id: Octets,
         topic: Topic,
-    ) -> Result<(u64, Stamp), NotStarted>
-        requires { connection < length self.old.endpoints }
-        ensures there { OnOk result (topic.0 < length self.old.groups) }
+    ) -> Result<(u64, Stamp), NoMemory>
+        requires there { connection < length self.old.endpoints }
+        requires topic { topic.0 < length self.old.groups }
+        requires free { subscribe_fault (length self.old.subs) (group_in self.old topic).topic ≡ None }
         ensures begun { IfOk result (λ begun. begun
             ≡ (length self.old.subs, (group_in self.old topic).topic.frontier)) }
         ensures ok { OnOk result (self.new ≡ subscribed_view connection id topic self.old) }

@@ -1,50 +1,50 @@
 //! The life of a sender's transaction.
 
-ghost use Rattle.std.specs.Prelude.{◌≡◌, ◌<◌, ◌≤◌, true, length, get_or, Some, IfOk, OnOk, OnErr};
+ghost use Rattle.std.specs.Prelude.{◌≡◌, ◌<◌, ◌≤◌, true, false, length, get_or, Some, IfOk, OnOk, OnErr};
 ghost use Rattle.std.specs.Option.{is_some};
 ghost use Rattle.std.specs.Result.{result_err};
 ghost use Rattle.mcast_txn.specs.Transaction.{TopicPart};
 ghost use Rattle.mcast_group.specs.Machine.{last_number};
 ghost use Rattle.delivery.specs.Core.State.{Core};
-ghost use Rattle.delivery.specs.Inner.Senders.{sender_in, launched_id, launched_view, decide_refusal, decided_row, decided_view, receipt_in, confirmed_view, propose_refusal_in, part_in, IsProposed, taken_view, is_group, cancel_refusal_in, cancelled_view, withdraw_refusal, failure_of, withdrawn_view, reads_frames, refused_view};
-ghost use Rattle.delivery.specs.Inner.Stands.{IsReached, Makes};
-ghost use Rattle.delivery.specs.Inner.View.{view_of, no_endpoint};
+ghost use Rattle.delivery.specs.Inner.Senders.{sender_in, speaker_at, launched_id, launched_view, decide_refusal, decided_row, decided_view, receipt_in, confirmed_view, propose_refusal_in, part_in, IsProposed, taken_view, is_group, cancel_refusal_in, cancelled_view, withdraw_refusal, failure_of, withdrawn_view, reads_frames, refused_view};
+ghost use Rattle.delivery.specs.Inner.Stands.{IsHeld, IsReached, Makes};
+ghost use Rattle.delivery.specs.Inner.View.{view_of, no_endpoint, is_undecided};
 ghost use Rattle.delivery.specs.declared.event.Event.{Event as Asked};
 
 use crate::net_state::NetState;
-use crate::not_started::NotStarted;
 use crate::outcome::Outcome;
 use crate::refusal::Refusal;
-use mcast_group::{Group, ProposeFault};
+use mcast_group::{CancelFault, Group, ProposeFault};
 use mcast_txn::{Stamp, Topic, Txn, TxnId};
+use stomp_frame::NoMemory;
 use sub_queue::VecOutlet;
 
 impl NetState {
-    /// The connection's sender launches a transaction, if none is undecided, with all the room that the transaction's
-    /// later events need. Where it isn't launched all is what it was.
-    pub(super) fn launch(&mut self, connection: u64, txn: Txn) -> Result<TxnId, NotStarted>
-        requires { connection < length self.old.endpoints }
+    /// The connection's sender, which has no undecided transaction, launches one, with all the room that the
+    /// transaction's later events need. Out of memory, and where the sender has used its last number, all is what it
+    /// was.
+    pub(super) fn launch(&mut self, connection: u64, txn: Txn) -> Result<TxnId, NoMemory>
+        requires there { connection < length self.old.endpoints }
+        requires begun { speaker_at self.old connection < length self.old.senders }
+        requires idle { is_undecided (sender_in self.old (speaker_at self.old connection)).sending ≡ false }
         ensures id { IfOk result (λ id. id ≡ launched_id self.old connection) }
         ensures last { IfOk result (λ id. id.seq ≤ last_number) }
         ensures ok { OnOk result (self.new ≡ launched_view txn connection self.old) }
         ensures err { OnErr result (self.new ≡ self.old) }
     {
         let index = self.number_of(&self.endpoints[connection as usize]) as usize;
-        if index >= self.senders.len() {
-            return Err(NotStarted::NotThere);
-        }
         self.commits.promise()?;
         let Ok(()) = self.table.add_seq(index) else {
             self.commits.forgo();
-            return Err(NotStarted::NoMemory);
+            return Err(NoMemory);
         };
         let state = &mut self.senders[index];
         match state.launch(self.alloc, txn) {
             Ok(id) => Ok(id),
-            Err(fault) => {
+            Err(NoMemory) => {
                 self.table.drop_seq(index);
                 self.commits.forgo();
-                Err(fault)
+                Err(NoMemory)
             }
         }
     }
@@ -105,12 +105,14 @@ impl NetState {
 
     /// Proposes the sender's transaction at the topic: the number of its ticket, or why there is none; then the
     /// transaction has failed. Refused where none is undecided (83), where a topic refused it (88), where there is no
-    /// such topic or it isn't named (84), and where the topic gave a ticket before (51).
+    /// such topic or it isn't named (84), and where the topic gave a ticket before (51). In a run the transaction takes
+    /// each ticket that a topic gives.
     fn propose_of(
         &mut self,
         sender: u64,
         topic: Topic,
     ) -> Result<Result<u64, ProposeFault>, Refusal>
+        requires { IsHeld self.old }
         ensures refused { result_err result ≡ propose_refusal_in topic sender self.old }
         ensures made { IfOk result (λ made. (part : TopicPart)
             → part_in topic (sender_in self.old sender).sending ≡ Some part
@@ -145,6 +147,7 @@ impl NetState {
     /// connection, 87 where it is gone, 83 where no transaction is undecided, 88 where a topic refused it, 84 where
     /// there is no such topic or it isn't named, 51 where the topic gave a ticket before.
     pub(crate) fn propose(&mut self, connection: u64, topic: Topic) -> Outcome
+        requires { IsHeld self.old }
         ensures { (k : Core) → IsReached k → self.old ≡ view_of k
             → Makes k (Asked.Propose connection topic) result self.new }
     {
@@ -160,8 +163,10 @@ impl NetState {
     }
 
     /// Cancels the first of the sender's tickets at the topic. It takes no memory. Refused where there is no such
-    /// topic, or no ticket of it (84), and where its part isn't pending there (43).
+    /// topic, or no ticket of it (84). In a run no topic answers 43 or 46, since the ticket's part is pending there and
+    /// has learnt no stamp.
     fn cancel_of(&mut self, sender: u64, topic: Topic) -> Result<(), Refusal>
+        requires { IsHeld self.old }
         ensures refused { result_err result ≡ cancel_refusal_in topic sender self.old }
         ensures ok { OnOk result (self.new ≡ cancelled_view topic sender self.old) }
         ensures err { OnErr result (self.new ≡ self.old) }
@@ -175,17 +180,21 @@ impl NetState {
             return Err(Refusal::NotNamed);
         };
         let group = &mut self.groups[topic.0 as usize];
-        let Ok(()) = group.cancel(id) else {
-            return Err(Refusal::NotPending);
-        };
-        state.drop_leftover(place);
-        Ok(())
+        match group.cancel(id) {
+            Ok(()) => {
+                state.drop_leftover(place);
+                Ok(())
+            }
+            Err(CancelFault::NotPending) => unreachable!(),
+            Err(CancelFault::Decided) => unreachable!(),
+        }
     }
 
     /// A ticket that the topic gave to a withdrawn transaction of the connection's sender is cancelled: 80 where
     /// there is no such connection, 87 where it is gone, 84 where there is no such topic, or no such ticket. It takes
     /// no memory.
     pub(crate) fn cancel(&mut self, connection: u64, topic: Topic) -> Outcome
+        requires { IsHeld self.old }
         ensures { (k : Core) → IsReached k → self.old ≡ view_of k
             → Makes k (Asked.Cancel connection topic) result self.new }
     {

@@ -1,5 +1,5 @@
 -- A transaction that begins.
-use Rattle.std.proofs.Common.{◌≡◌, ℕ, ◌+◌, ◌<◌, ◌≤◌, nat_lt, true, List, [], ◌∷◌, ◌++◌, length, get_or, set, Option, Some, None, refl, sym, ap, ◌∙◌, arith}
+use Rattle.std.proofs.Common.{◌≡◌, ℕ, ◌+◌, ◌<◌, ◌≤◌, nat_lt, true, false, List, [], ◌∷◌, ◌++◌, length, get_or, set, Option, Some, None, refl, sym, ap, ◌∙◌, arith}
 use Rattle.std.proofs.lemmas.Bool.{lt-ltb}
 use Rattle.std.proofs.lemmas.List.FromFn.{map-range_with_len_more}
 use Rattle.stomp_frame.specs.declared.raw_frame.RawFrame.{RawFrame}
@@ -14,7 +14,8 @@ use Rattle.delivery.specs.Core.State.{Core}
 use Rattle.delivery.specs.Core.Reports.{each_number}
 use Rattle.delivery.specs.Inner.Senders.{speaker_at, sender_in, launched_sender, launched_id, launched_view, asked_endpoint, asked_view, gate_of}
 use Rattle.delivery.specs.Inner.Stands.{IsReached}
-use Rattle.delivery.specs.Inner.View.{EndpointView, SenderView, view_with, sender_view, sending_view, endpoint_view, stage_view, no_endpoint, verdict_list}
+use Rattle.delivery.specs.Inner.View.{View, EndpointView, SenderView, is_undecided, view_with, sender_view, sending_view, endpoint_view, stage_view, no_endpoint, verdict_list}
+use Rattle.delivery.proofs.Views.Lists.ByNumber.{length-each_number}
 use Rattle.delivery.proofs.Views.Senders.SenderChanges.{IsSpeaking, number_at, endpoint_in, speaker_is, sender_is, speaker_there, senders_with, lists_with, endpoints_with_sender, endpoint_with_sender, next_undecided}
 
 -- the sender with its new transaction
@@ -92,6 +93,24 @@ begun_id_is names k c sends reached there speaking idle accepted unread text ids
     ap (λ n. Rattle.sender_gate.specs.Gate.next_id (gate_of (sender_in v n).sending)) (speaker_is names w accepted unread text ids c there)
     ∙ (ap (λ (y : SenderView). Rattle.sender_gate.specs.Gate.next_id (gate_of y.sending)) (sender_is names w accepted unread text ids s (speaker_there k c reached speaking))
     ∙ ap (λ (o : Option Undecided). Rattle.sender_gate.specs.Gate.next_id (gate_of (sending_view s (speaker w c).seq (speaker w c).floor o))) idle)
+
+-- what is held has the connection's sender, and none of its transactions is undecided
+abbrev pub IsIdleIn : View → ℕ → Type 0
+IsIdleIn v c = (speaker_at v c < length v.senders) × (is_undecided (sender_in v (speaker_at v c)).sending ≡ false)
+
+pub idle_in : (names : List (List ℕ)) (k : Core) (c : ℕ) → IsReached k → c < length k.world.connections → IsSpeaking k.world c → (speaker k.world c).flight ≡ None
+    → (accepted : ℕ → List RawFrame) (unread : ℕ → Unread) (text ids : ℕ → List ℕ) → IsIdleIn (view_with names k.world accepted unread text ids) c
+idle_in names k c reached there speaking idle accepted unread text ids =
+    let w = k.world in let s = speaker_number w c in
+    let v = view_with names w accepted unread text ids in
+    let at = speaker_is names w accepted unread text ids c there in
+    let known = speaker_there k c reached speaking in
+    let many = length-each_number (λ n. sender_view n (sender_at w n)) 0 w.senders in (
+      omega (arith, at, known, many),
+      ap (λ n. is_undecided (sender_in v n).sending) at
+          ∙ (ap (λ (y : SenderView). is_undecided y.sending) (sender_is names w accepted unread text ids s known)
+          ∙ ap (λ (o : Option Undecided). is_undecided (sending_view s (speaker w c).seq (speaker w c).floor o)) idle),
+    )
 
 -- so a number was left
 pub begun_free : (k : Core) (c : ℕ) (sends : List SentMessage) → (next_txn k.world c sends).id.seq ≤ last_number

@@ -1,5 +1,5 @@
 -- A ticket is cancelled.
-use Rattle.std.proofs.Common.{◌≡◌, ℕ, suc, ◌+◌, ◌<◌, ◌==◌, Bool, true, false, cond, not, nat_lt, List, [], ◌∷◌, map, length, get_or, set, Option, Some, None, inl, inr, refl, sym, ap, subst, ◌∙◌, arith}
+use Rattle.std.proofs.Common.{◌≡◌, ℕ, suc, ◌+◌, ◌<◌, ◌==◌, Bool, true, false, cond, not, ◌&&◌, nat_lt, List, [], ◌∷◌, map, length, get_or, set, Option, Some, None, Result, Ok, Err, inl, inr, refl, sym, ap, subst, ◌∙◌, arith}
 use Rattle.std.specs.Prelude.{slice_get}
 use Rattle.std.proofs.lemmas.Bool.{lt-ltb, ltb-true}
 use Rattle.std.proofs.lemmas.List.{append-nil}
@@ -13,7 +13,7 @@ use Rattle.mcast_txn.specs.Ids.{same_id}
 use Rattle.mcast_txn.specs.Lists.{In}
 use Rattle.mcast_txn.proofs.Orders.{id_itself}
 use Rattle.mcast_group.specs.declared.fault.CancelFault.{CancelFault}
-use Rattle.mcast_group.specs.Group.{GroupState}
+use Rattle.mcast_group.specs.Group.{GroupState, result_of}
 use Rattle.mcast_group.specs.Machine.{Pending, cancel_fault, cancel_fault_of, after_cancel}
 use Rattle.mcast_group.proofs.Parts.{Waits, found_part, finds_part, none_some, some_same}
 use Rattle.delivery.specs.declared.event.Event.{Event}
@@ -27,7 +27,7 @@ use Rattle.delivery.specs.Theorem.Laws.{Run, final_world}
 use Rattle.delivery.specs.Core.Steps.{CoreStep, Reading, accepted_of}
 use Rattle.delivery.specs.Core.Output.{text_out, sub_id_text}
 use Rattle.delivery.specs.Core.State.{Core, names_at, unread_at}
-use Rattle.delivery.specs.Inner.Senders.{there_objection, speaker_at, sender_in, no_ticket, leftover_at, leftover_in, cancel_refusal_of, leftover_refusal, cancel_refusal_in, leftover_view, cancelled_view}
+use Rattle.delivery.specs.Inner.Senders.{there_objection, speaker_at, sender_in, no_ticket, is_group, leftover_at, leftover_in, cancel_refusal_in, leftover_view, cancelled_view}
 use Rattle.delivery.specs.Inner.Stands.{IsReached, Makes, step_of}
 use Rattle.delivery.specs.Inner.View.{View, SenderView, view_of, view_after, sender_view, group_view, ticket_of, group_in, no_group}
 use Rattle.delivery.proofs.Machine.Invariant.{topic_in}
@@ -37,7 +37,7 @@ use Rattle.delivery.proofs.Views.Runs.ByRunOfCore.{by_world}
 use Rattle.delivery.proofs.Views.Events.ProposeStep.{group_there}
 use Rattle.delivery.proofs.Views.Endpoints.EndpointsStay.{IsQuiet, quiet_view}
 use Rattle.delivery.proofs.Views.Events.ReleaseStep.{group_at}
-use Rattle.delivery.proofs.Views.Senders.SenderChanges.{speaker_of, sender_of_endpoint}
+use Rattle.delivery.proofs.Views.Senders.SenderChanges.{held_of, speaker_of, sender_of_endpoint}
 use Rattle.delivery.proofs.Views.Senders.SameSeqAndReceipt.{sender_quiet, topic_quiet}
 use Rattle.delivery.proofs.Views.Events.OneMove.{bool_cases, made_world, made_answer, in_outcome}
 use Rattle.delivery.proofs.Views.Events.ConnectionIsThere.{cancelling_speaking, there_checked, is_there, refusal_first, refusal_after, refused_step, refused_outcome}
@@ -165,29 +165,57 @@ move_checked q c t was free =
 refusal_checked : (q : Core) (c s : ℕ) (t : Topic) → IsReached q → c < length q.world.connections → s ≡ speaker_at (view_of q) c
     → cancel_refusal_in t s (view_of q) ≡ cond (is_topic q.world t) (left_refusal (find_leftover t (speaker q.world c).leftovers)) (Some refusal.NotNamed)
 refusal_checked q c s t was there own =
-    ap (λ (b : Bool). cond b (leftover_refusal t s (view_of q) (leftover_at t (sender_in (view_of q) s))) (Some refusal.NotNamed)) (group_there q t was)
-    ∙ go (is_topic q.world t) refl (find_leftover t (speaker q.world c).leftovers) refl
+    ap (λ (b : Bool). cond (b && is_some (leftover_at t (sender_in (view_of q) s))) None (Some refusal.NotNamed)) (group_there q t was)
+    ∙ (ap (λ (y : SenderView). cond (is_topic q.world t && is_some (leftover_at t y)) None (Some refusal.NotNamed)) (sender_of_endpoint q c s was there own)
+    ∙ go (is_topic q.world t) (find_leftover t ks) refl)
   where
     ks : List Leftover
     ks = (speaker q.world c).leftovers
 
-    held : sender_in (view_of q) s ≡ sender_view (speaker_number q.world c) (speaker q.world c)
-    held = sender_of_endpoint q c s was there own
+    go : (b : Bool) (o : Option Leftover) → find_leftover t ks ≡ o
+        → cond (b && is_some (position (is_of t) (map as_ticket ks))) None (Some refusal.NotNamed) ≡ cond b (left_refusal o) (Some refusal.NotNamed)
+    go false o e = refl
+    go true None e = ap (λ (o : Option ℕ). cond (is_some o) None (Some refusal.NotNamed)) (no_place t ks e)
+    go true (Some k) e = ap (λ (o : Option ℕ). cond (is_some o) None (Some refusal.NotNamed)) (place_is t ks k (found_at t ks k e))
 
-    go : (b : Bool) → is_topic q.world t ≡ b → (o : Option Leftover) → find_leftover t ks ≡ o
-        → cond b (leftover_refusal t s (view_of q) (leftover_at t (sender_in (view_of q) s))) (Some refusal.NotNamed) ≡ cond b (left_refusal o) (Some refusal.NotNamed)
-    go false topic o e = refl
-    go true topic None e =
-        ap (λ (y : SenderView). leftover_refusal t s (view_of q) (leftover_at t y)) held ∙ ap (leftover_refusal t s (view_of q)) (no_place t ks e)
-    go true topic (Some k) e =
+-- the topic takes out the part of each ticket that is to be cancelled there
+pub cancel_takes : (q : Core) (s : ℕ) (t : Topic) (i : ℕ) → IsReached q → s < length q.world.senders → is_group t (view_of q).groups ≡ true
+    → leftover_at t (sender_in (view_of q) s) ≡ Some i
+    → cancel_fault (leftover_in (sender_in (view_of q) s) i).id (group_in (view_of q) t).topic ≡ None
+cancel_takes q s t i was there grouped at = by (find_leftover t ks) refl
+  where
+    ks : List Leftover
+    ks = (sender_at q.world s).leftovers
+
+    held : sender_in (view_of q) s ≡ sender_view s (sender_at q.world s)
+    held = held_of q s there
+
+    placed : position (is_of t) (map as_ticket ks) ≡ Some i
+    placed = sym (ap (leftover_at t) held) ∙ at
+
+    by : (o : Option Leftover) → find_leftover t ks ≡ o → cancel_fault (leftover_in (sender_in (view_of q) s) i).id (group_in (view_of q) t).topic ≡ None
+    by None e = none_some i (sym (no_place t ks e) ∙ placed)
+    by (Some k) e =
         let h = found_at t ks k e in
+        let same : i ≡ h.index = some_same i h.index (sym placed ∙ place_is t ks k h) in
+        let topic : is_topic q.world t ≡ true = sym (group_there q t was) ∙ grouped in
         let group = group_at q t no_group (ltb-true t.0 (length q.world.topics) topic) in
-        ap (λ (y : SenderView). leftover_refusal t s (view_of q) (leftover_at t y)) held
-        ∙ (ap (leftover_refusal t s (view_of q)) (place_is t ks k h)
-        ∙ (ap (λ (y : SenderView). option_map cancel_refusal_of (cancel_fault (leftover_in y h.index).id (group_in (view_of q) t).topic)) held
-        ∙ (ap (λ (y : Ticket). option_map cancel_refusal_of (cancel_fault y.id (group_in (view_of q) t).topic)) h.is
-        ∙ (ap (λ (g : GroupState). option_map cancel_refusal_of (cancel_fault k.id g.topic)) group
-        ∙ ap (λ (o : Option CancelFault). option_map cancel_refusal_of o) (cancel_free q (speaker_number q.world c) t k was e)))))
+        ap (λ (y : SenderView). cancel_fault (leftover_in y i).id (group_in (view_of q) t).topic) held
+        ∙ (ap (λ (n : ℕ). cancel_fault (get_or (map as_ticket ks) n no_ticket).id (group_in (view_of q) t).topic) same
+        ∙ (ap (λ (y : Ticket). cancel_fault y.id (group_in (view_of q) t).topic) h.is
+        ∙ (ap (λ (g : GroupState). cancel_fault k.id g.topic) group
+        ∙ cancel_free q s t k was e)))
+
+-- so it never refuses to
+pub cancel_never : (q : Core) (s : ℕ) (t : Topic) (i : ℕ) (id : TxnId) (x : SenderView) (g : GroupState) (fault : CancelFault) (result : Result Unit CancelFault)
+    → IsReached q → s < length q.world.senders → x ≡ sender_in (view_of q) s → is_group t (view_of q).groups ≡ true → g ≡ group_in (view_of q) t
+    → Some i ≡ leftover_at t x → id ≡ (leftover_in x i).id → result ≡ result_of (cancel_fault id g.topic) → result ≡ Err fault → Prim.⊥
+cancel_never q s t i id x g fault result was there held grouped group at is answer refused =
+    let free = cancel_takes q s t i was there grouped (sym (at ∙ ap (leftover_at t) held)) in
+    let none : cancel_fault id g.topic ≡ None =
+    ap (λ (y : TxnId). cancel_fault y g.topic) (is ∙ ap (λ (y : SenderView). (leftover_in y i).id) held)
+    ∙ (ap (λ (h : GroupState). cancel_fault (leftover_in (sender_in (view_of q) s) i).id h.topic) group ∙ free) in
+    let bad : Err fault ≡ Ok tt = sym refused ∙ (answer ∙ ap (λ (o : Option CancelFault). result_of o) none) in cc
 
 -- a connection that isn't there or is gone
 pub cancel_gone : (q : Core) (c : ℕ) (t : Topic) (o : Objection) (why : Refusal) → there_objection (slice_get (view_of q).endpoints c) ≡ Some o → refusal_of o ≡ Some why

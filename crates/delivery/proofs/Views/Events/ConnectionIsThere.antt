@@ -22,8 +22,7 @@ use Rattle.delivery.specs.Core.Steps.{Reading, accepted_of}
 use Rattle.delivery.specs.Core.State.{Core, moves, unread_at, names_at}
 use Rattle.delivery.specs.Core.Outcomes.{outcomes, outcome_of, move_outcome, reply_outcomes, cut_of, is_any, IsReadAt}
 use Rattle.delivery.specs.Inner.Senders.{gone_objection, there_objection}
-use Rattle.delivery.specs.declared.stage.Stage.{Stage}
-use Rattle.delivery.specs.Inner.Stands.{Makes, step_of, stage_objection}
+use Rattle.delivery.specs.Inner.Stands.{Makes, step_of}
 use Rattle.delivery.specs.Inner.View.{EndpointView, view_of, view_after, stage_view}
 use Rattle.delivery.proofs.Views.Endpoints.EndpointsStay.{quiet_view, refused_is_quiet}
 use Rattle.delivery.proofs.Machine.Speakers.{cancelling_speaker}
@@ -80,12 +79,6 @@ pub cancelling_speaking : (k : Core) (c : ℕ) (left : Leftover) → there_objec
     → IsSpeaking k.world c
 cancelling_speaking k c left free i =
     speaks (speaker_number k.world c) (connection_at k.world c) (still_there k c free) (cancelling_speaker k.world c left i)
-
--- nothing stands against reading a connection that is there and isn't leaving
-pub reads_open : (s : Stage) → gone_objection s ≡ None → ((parting : Option (List ℕ)) → s ≡ Stage.Leaving parting → Prim.⊥) → stage_objection s ≡ None
-reads_open (Stage.Open x) free other = refl
-reads_open (Stage.Leaving parting) free other = absurd (other parting refl)
-reads_open Stage.Gone free other = none_some Objection.Gone (sym free)
 
 -- the first of some checks that fails comes before those after them
 pub refusal_first : {F : Type 0} (cs ds : List (Bool × F)) (o : F) → first_refusal cs ≡ Some o → first_refusal (cs ++ ds) ≡ Some o

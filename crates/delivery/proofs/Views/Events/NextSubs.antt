@@ -1,11 +1,15 @@
 -- A Next whose frame is a SUBSCRIBE or an UNSUBSCRIBE.
-use Rattle.std.proofs.Common.{◌≡◌, ℕ, ◌<◌, true, false, List, [], ◌∷◌, length, get_or, Option, Some, None, refl, sym, ap, subst, ◌∙◌, arith}
+use Rattle.std.proofs.Common.{◌≡◌, ◌≢◌, ℕ, ◌<◌, Bool, true, false, cond, inl, inr, List, [], ◌∷◌, length, get_or, Option, Some, None, refl, sym, ap, subst, ◌∙◌, arith}
 use Rattle.std.specs.Prelude.{codes}
-use Rattle.std.specs.Option.{option_map, option_map_or}
-use Rattle.std.proofs.lemmas.List.{length-map}
+use Rattle.std.specs.Option.{is_some, option_map, option_map_or}
+use Rattle.std.proofs.lemmas.Bool.{ltb-true}
+use Rattle.std.proofs.lemmas.List.{get_or-map, length-map}
+use Rattle.mcast_txn.specs.Lists.{In}
 use Rattle.mcast_txn.specs.declared.draft.sent_message.SentMessage.{SentMessage}
 use Rattle.mcast_txn.specs.declared.id.Topic.{Topic}
 use Rattle.mcast_txn.specs.declared.stamp.Stamp.{Stamp}
+use Rattle.mcast_group.specs.declared.fault.SubFault.{SubFault}
+use Rattle.mcast_group.specs.Machine.{Entry, find_entry, new_topic, subscribe_fault}
 use Rattle.mcast_group.proofs.Parts.{some_same}
 use Rattle.stomp_frame.specs.declared.command.Command.{Command}
 use Rattle.stomp_frame.specs.declared.command.Command.TheVariants as commands
@@ -15,24 +19,30 @@ use Rattle.stomp_frame.specs.Reader.{Unread}
 use Rattle.stomp_session.specs.declared.action.Action.TheVariants as actions
 use Rattle.stomp_session.specs.Answers.{action_by, commit}
 use Rattle.stomp_session.proofs.Later.{with_destination-none}
-use Rattle.stomp_session.specs.Frames.{has_destination, id_of, send_of, transaction_of}
+use Rattle.stomp_session.specs.Frames.{has_destination, id_of, send_of, topic_of, transaction_of}
 use Rattle.stomp_session.specs.Open.{Held}
 use Rattle.stomp_session.specs.Refusals.{sends_in}
 use Rattle.delivery.specs.declared.event.Event.{Event}
 use Rattle.delivery.specs.declared.outcome.Outcome.{Outcome}
 use Rattle.delivery.specs.Machine.World.{subscription_at, topic_at}
-use Rattle.delivery.specs.Machine.Moves.{Move, end_now, is_live, move_effect, move_refusal}
+use Rattle.delivery.specs.Machine.Moves.{Move, end_now, is_live, is_topic, move_effect, move_refusal}
+use Rattle.delivery.specs.Theorem.Laws.{final_world}
 use Rattle.delivery.specs.Core.Steps.{Reading, accepted_of, has_effect, number_by}
 use Rattle.delivery.specs.Core.Output.{sub_id_text, text_out}
 use Rattle.delivery.specs.Core.State.{Core, core_for, names_at, session_at, unread_at}
 use Rattle.delivery.specs.Inner.Nexts.{Asks, receipt_text}
-use Rattle.delivery.specs.Inner.Stands.{Makes}
+use Rattle.delivery.specs.Inner.Stands.{IsReached, Makes}
 use Rattle.delivery.specs.Inner.Subscriptions.{closed_view, left_at, number_in, subscribed_view}
-use Rattle.delivery.specs.Inner.View.{View, EndpointView, LeftView, group_view, view_after, view_with, written_endpoint, group_in}
+use Rattle.delivery.specs.Inner.View.{View, EndpointView, LeftView, group_view, no_group, view_after, view_with, written_endpoint, group_in}
 use Rattle.delivery.proofs.Views.Subscriptions.ClosedIsDropped.{closed_is, closed_end}
 use Rattle.delivery.proofs.Views.Endpoints.EndpointChanges.{with_endpoint}
 use Rattle.delivery.proofs.Views.Events.NextFrames.{move_makes, names_for, receipt_is, replied_view, there_for}
-use Rattle.delivery.proofs.Core.FrameWorld.{framed_none, idle_for}
+use Rattle.delivery.proofs.Core.FrameWorld.{by_use, framed_none, idle_for}
+use Rattle.delivery.proofs.Machine.SubscriptionSteps.{at_added}
+use Rattle.delivery.proofs.Theorem.AcceptedIsDue.{reached}
+use Rattle.delivery.proofs.Views.Endpoints.StandingOfConnection.{differ}
+use Rattle.delivery.proofs.Views.Runs.ByRunOfCore.{by_world}
+use Rattle.delivery.proofs.Views.Senders.SendsAreToTopics.{topic_made}
 use Rattle.delivery.proofs.Views.Events.NextStep.{held_still, idle_reads, idle_there, next_of, text_added}
 use Rattle.delivery.proofs.Views.Subscriptions.OpenIsLive.{names_live, subscribe_free, unsubscribe_free}
 use Rattle.delivery.proofs.Views.Subscriptions.NewSubscription.{begun_as, new_id, old_ids, subscribed_is}
@@ -53,6 +63,14 @@ begins commands.Subscribe s f id t e = cc
 begins commands.Send s f id t e = begins_sent s f (first_of (codes "transaction") f.headers) id t e
 begins commands.Commit s f id t e = begins_committed (sends_in (transaction_of f) s.transactions) id t e
 begins _ s f id t e = absurd (cc)
+
+-- at its destination's topic
+begins_at : (command : Command) (s : Held) (f : RawFrame) (id : List ℕ) (t : Topic) → action_by command s f ≡ actions.Subscribe id t
+    → (has_destination command ≡ true) × (topic_of s.names f ≡ t)
+begins_at commands.Subscribe s f id t e = (refl, cc)
+begins_at commands.Send s f id t e = begins_sent s f (first_of (codes "transaction") f.headers) id t e
+begins_at commands.Commit s f id t e = begins_committed (sends_in (transaction_of f) s.transactions) id t e
+begins_at _ s f id t e = absurd (cc)
 
 ends_sent : {A : Type 0} (s : Held) (f : RawFrame) (o : Option (List ℕ)) (id : List ℕ) → option_map_or (λ transaction. actions.Nothing) o (commit (send_of s.names f ∷ [])) ≡ actions.Unsubscribe id → A
 ends_sent s f None id e = absurd (cc)
@@ -102,6 +120,56 @@ next_subscribes k c f left id t receipt held mid new s from d asks written topic
     subst (λ (p : Outcome). Makes k (Event.Next c) p new) (λ i. Outcome.Subscribed (same i) (at i))
     (move_makes k c f left (actions.Subscribe id t) receipt held new (Move.Subscribes c t) o asks refl refl (subscribe_free w c t idle named) refl refl refl
     (is ∙ (ap (λ (v : View). subscribed_view c id t v) still ∙ view)))
+
+-- ---- what is asked of the private call
+
+-- what is held has the topic, and no subscription of the next number there
+abbrev pub IsFreeIn : View → Topic → Type 0
+IsFreeIn v t = (t.0 < length v.groups) × (subscribe_fault (length v.subs) (group_in v t).topic ≡ None)
+
+none_numbered : (n : ℕ) (es : List Entry) → ((e : Entry) → In e es → e.number ≢ n) → find_entry n es ≡ None
+none_numbered n [] h = refl
+none_numbered n (e ∷ es) h =
+    ap (λ (b : Bool). cond b (Some e) (find_entry n es)) (differ e.number n (h e (inl refl))) ∙ none_numbered n es (λ f i. h f (inr i))
+
+-- no topic has an entry of the next number
+next_unused : (k : Core) (t : Topic) → IsReached k → find_entry (length k.world.subscriptions) (topic_at k.world t).subscriptions ≡ None
+next_unused k t was =
+    by_world (λ w. find_entry (length w.subscriptions) (topic_at w t).subscriptions ≡ None) k was
+    (λ r. none_numbered (length (final_world r).subscriptions) (topic_at (final_world r) t).subscriptions
+    (λ e i same. (let l = ((reached r).inv.subscribes.owned t e i).there in omega (arith, l, same))))
+
+unused_for : (k : Core) (f : RawFrame) (t : Topic) → IsReached k
+    → find_entry (length (core_for k f).world.subscriptions) (topic_at (core_for k f).world t).subscriptions ≡ None
+unused_for k f t was =
+    let old = next_unused k t was in
+    by_use (λ w. find_entry (length w.subscriptions) (topic_at w t).subscriptions ≡ None) k f old
+    (at_added (λ u z. find_entry (length k.world.subscriptions) z.subscriptions ≡ None) k.world.topics k.world.log_limit 0 t (λ none. refl) old)
+
+-- so it is once a SUBSCRIBE's RECEIPT is written
+pub next_free : (k : Core) (c : ℕ) (f : RawFrame) (left : Unread) (id : List ℕ) (t : Topic) (receipt : Option (List ℕ)) (held mid : View) (d : EndpointView)
+    → Asks k c f left (actions.Subscribe id t) receipt held
+    → mid ≡ with_endpoint held c (written_endpoint (receipt_text receipt) (get_or held.endpoints c d))
+    → IsFreeIn mid t
+next_free k c f left id t receipt held mid d asks written =
+    let names = names_for k f in let q = core_for k f in let w = q.world in
+    let o = Outcome.Subscribed 0 (topic_at w t).frontier in
+    let reading = Reading.Finds f left in
+    let steps = next_of c reading o ∷ k.steps in
+    let still : mid ≡ held_still names q w c reading o =
+    replied_view k c f left (actions.Subscribe id t) receipt held mid o (receipt_text receipt) d asks refl
+    (receipt_is k c f left (actions.Subscribe id t) receipt held asks) written in
+    let asked = begins_at f.command (session_at k c) f id t asks.does in
+    let made : is_topic w t ≡ true = subst (λ (u : Topic). is_topic w u ≡ true) asked.1 (topic_made k f asks.reached asked.0) in
+    let named : t.0 < length w.topics = ltb-true t.0 (length w.topics) made in
+    let groups : length mid.groups ≡ length w.topics = ap (λ (v : View). length v.groups) still ∙ length-map w.topics (group_view w) in
+    let begun = begun_as names w t (λ m. accepted_of m steps) (λ m. unread_at m steps) (λ m. text_out k.names m steps) (λ m. sub_id_text m k.steps) named in
+    let group : group_in (held_still names q w c reading o) t ≡ group_view w (topic_at w t) = get_or-map (group_view w) w.topics t.0 (new_topic t 0 0) no_group named in (
+      omega (arith, named, groups),
+      ap (λ (v : View). subscribe_fault (length v.subs) (group_in v t).topic) still
+          ∙ ((λ i. subscribe_fault (begun.0 i) (group i).topic)
+          ∙ ap (λ (e : Option Entry). cond (is_some e) (Some SubFault.SubInUse) None) (unused_for k f t asks.reached)),
+    )
 
 -- ---- UNSUBSCRIBE
 

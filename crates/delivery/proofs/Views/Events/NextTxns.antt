@@ -24,7 +24,7 @@ use Rattle.delivery.specs.Inner.Senders.{asked_view, launched_id, launched_view}
 use Rattle.delivery.specs.Inner.Stands.{IsReached, Makes}
 use Rattle.delivery.specs.Core.Connections.{live_numbers}
 use Rattle.delivery.specs.Inner.View.{View, EndpointView, view_with}
-use Rattle.delivery.proofs.Views.Events.BeginStep.{begun_is, begun_id_is, begun_free}
+use Rattle.delivery.proofs.Views.Events.BeginStep.{IsIdleIn, idle_in, begun_is, begun_id_is, begun_free}
 use Rattle.delivery.proofs.Views.Senders.SendsAreToTopics.{committed_sends}
 use Rattle.delivery.proofs.Views.Endpoints.EndpointChanges.{with_endpoint}
 use Rattle.delivery.proofs.Views.Events.NextFaults.{endpoint_of}
@@ -161,3 +161,21 @@ next_commits k c f left sends receipt held mid new id asks is within begun asked
     (subst (λ (z : List SentMessage). Asks k c f left (actions.Commit z) receipt held) made.is asks)
     (subst (λ (z : List SentMessage). list_all (λ send. is_topic (core_for k f).world send.topic) z ≡ true) made.is made.named)
     is within (begun ∙ ap (λ (z : List SentMessage). launched_view z c held) made.is) asked
+
+-- ---- what is asked of the private call
+
+-- its connection's sender is there, and has no undecided transaction
+pub next_idle : (k : Core) (c : ℕ) (f : RawFrame) (left : Unread) (sends : List SentMessage) (receipt : Option (List ℕ)) (held : View)
+    → Asks k c f left (actions.Commit sends) receipt held → IsIdleIn held c
+next_idle k c f left sends receipt held asks =
+    let names = names_for k f in
+    let steps = next_of c (Reading.Finds f left) (Outcome.Flying (launched_id held c)) ∷ k.steps in
+    let accepted = λ (n : ℕ). accepted_of n steps in
+    let unread = λ (n : ℕ). unread_at n steps in
+    let text = λ (n : ℕ). text_out k.names n steps in
+    let ids = λ (s : ℕ). sub_id_text s k.steps in
+    let own = has_sender k c f asks.reached (commits_other f.command (session_at k c) f sends asks.does) asks.free in
+    let speaking = speaks (speaker_number k.world c) (connection_at k.world c) (ap is_gone (idle_open k.world c asks.idle)) (has_speaker k.world c own) in
+    let old = idle_in names k c asks.reached (idle_there k.world c asks.idle) speaking (idle_flight k.world c asks.idle) accepted unread text ids in
+    subst (λ (v : View). IsIdleIn v c) (sym (still_view k c f left (actions.Commit sends) receipt held (launched_id held c) asks))
+    (by_use (λ w. IsIdleIn (view_with names w accepted unread text ids) c) k f old old)

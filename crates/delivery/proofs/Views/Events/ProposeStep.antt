@@ -3,7 +3,7 @@ use Rattle.std.proofs.Common.{◌≡◌, ℕ, ◌<◌, ◌==◌, Bool, true, fal
 use Rattle.std.specs.Prelude.{slice_get}
 use Rattle.std.proofs.Math.Nat.{le-max_right}
 use Rattle.std.proofs.lemmas.Bool.{and_parts, eq-eqb, lt-ltb, ltb-true}
-use Rattle.std.proofs.lemmas.List.{append-nil, length-map, set-get_or}
+use Rattle.std.proofs.lemmas.List.{append-nil, get_or_default, length-map, set-get_or}
 use Rattle.std.specs.Option.{is_some, option_or, option_and_then}
 use Rattle.mcast_txn.specs.declared.ballot.ticket.Ticket.{Ticket}
 use Rattle.mcast_txn.specs.declared.id.Topic.{Topic}
@@ -21,7 +21,7 @@ use Rattle.mcast_txn.proofs.Orders.{id_itself}
 use Rattle.mcast_group.specs.declared.fault.ProposeFault.{ProposeFault}
 use Rattle.mcast_group.specs.Group.{GroupState, or_no_memory}
 use Rattle.mcast_group.specs.Machine.{TopicState, next_number, propose_fault, after_propose}
-use Rattle.mcast_group.proofs.Parts.{none_some}
+use Rattle.mcast_group.proofs.Parts.{none_some, some_same}
 use Rattle.sender_gate.specs.Gate.{FlightState, flight_answer, over_floor}
 use Rattle.delivery.specs.declared.event.Event.{Event}
 use Rattle.delivery.specs.declared.outcome.Outcome.{Outcome}
@@ -35,7 +35,7 @@ use Rattle.delivery.specs.Core.Steps.{CoreStep, Reading, accepted_of, has_effect
 use Rattle.delivery.specs.Core.Output.{text_out, sub_id_text}
 use Rattle.delivery.specs.Core.State.{Core, names_at, unread_at, is_out_of_memory}
 use Rattle.delivery.specs.Core.Outcomes.{move_outcome, outcomes}
-use Rattle.delivery.specs.Inner.Senders.{there_objection, speaker_at, sender_in, gate_of, is_slot, flight_refusal, part_refusal, part_in, taken_sending, taken_sender, put_sender, failed_sender, is_group, propose_refusal_in, taken_view, floor_in, ticket_in, proposed_view, failed_view, IsProposed, no_sender}
+use Rattle.delivery.specs.Inner.Senders.{there_objection, speaker_at, sender_in, gate_of, is_slot, flight_refusal, part_refusal, part_in, taken_sending, taken_sender, takes_ticket, put_sender, failed_sender, is_group, propose_refusal_in, taken_view, floor_in, ticket_in, proposed_view, failed_view, IsProposed, no_sender}
 use Rattle.delivery.specs.Inner.Stands.{IsReached, Makes, step_of}
 use Rattle.delivery.specs.Inner.View.{View, SenderView, view_of, view_after, sender_view, sending_view, undecided_view, flight_view, blank_row, group_view, pending_receipt, ticket_of, group_in, no_group}
 use Rattle.delivery.proofs.Theorem.AcceptedIsDue.{reached}
@@ -43,7 +43,8 @@ use Rattle.delivery.proofs.Views.Events.DecideStep.{flying_is}
 use Rattle.delivery.proofs.Views.Runs.ByRunOfCore.{by_world}
 use Rattle.delivery.proofs.Views.Endpoints.EndpointsStay.{IsQuiet, none_named, quiet_view}
 use Rattle.delivery.proofs.Views.Events.ReleaseStep.{group_at}
-use Rattle.delivery.proofs.Views.Senders.SenderChanges.{speaker_of, sender_of_endpoint}
+use Rattle.delivery.proofs.Views.Lists.ByNumber.{length-each_number}
+use Rattle.delivery.proofs.Views.Senders.SenderChanges.{held_of, speaker_of, sender_of_endpoint}
 use Rattle.delivery.proofs.Views.Senders.SameSeqAndReceipt.{sender_quiet, topic_quiet}
 use Rattle.delivery.proofs.Views.Senders.SlotsOfTopics.{slot_topics, slot_named, held_named, slot_written, ticket_inserted, row_other, row_own, row_none_given}
 use Rattle.delivery.proofs.Views.Endpoints.StandingOfConnection.{differ}
@@ -165,6 +166,25 @@ group_there k t was =
           ∙ (eq-eqb (topic_at k.world t).topic.0 t.0 (ap (λ (u : Topic). u.0) (topic_own k t was)) ∙ sym on))
       | inr off ↦ ap (λ (b : Bool). b && (get_or groups t.0 no_group).topic.topic.0 == t.0) off ∙ sym off
     ]
+
+-- ---- what is read
+
+-- a sender is read by its number
+pub held_read : (k : Core) (s : ℕ) (senders : List SenderView) (x : SenderView) → senders ≡ (view_of k).senders → s < length senders → x ≡ get_or senders s x
+    → (s < length k.world.senders) × (x ≡ sender_in (view_of k) s)
+held_read k s senders x are there is = (
+  subst (λ (n : ℕ). s < n) (ap (λ (xs : List SenderView). length xs) are ∙ length-each_number (λ n. sender_view n (sender_at k.world n)) 0 k.world.senders) there,
+  is ∙ (get_or_default senders s x (no_sender s) there ∙ ap (λ (xs : List SenderView). get_or xs s (no_sender s)) are),
+)
+
+-- and a group, where there is one of the topic
+pub group_read : (k : Core) (t : Topic) (groups : List GroupState) (g : GroupState) → groups ≡ (view_of k).groups → is_group t groups ≡ true → g ≡ get_or groups t.0 g
+    → (is_group t (view_of k).groups ≡ true) × (g ≡ group_in (view_of k) t)
+group_read k t groups g are grouped is =
+    let within = ltb-true t.0 (length groups) (and_parts (nat_lt t.0 (length groups)) ((get_or groups t.0 no_group).topic.topic.0 == t.0) grouped).0 in (
+      sym (ap (is_group t) are) ∙ grouped,
+      is ∙ (get_or_default groups t.0 g no_group within ∙ ap (λ (xs : List GroupState). get_or xs t.0 no_group) are),
+    )
 
 -- ---- a refused one
 
@@ -293,6 +313,67 @@ answer_is floor f t x named fresh =
     ∙ (ap (λ (o : Option (Option ℕ)). over_floor floor ticket (slot_answer o))
     (slot_named (number_of f) t (topics_of f.txn.sends) named ∙ ap (λ (o : Option ℕ). Some o) (row_none_given t f.given fresh))
     ∙ ap (λ (b : Bool). cond b (Ok tt) (Err Rattle.sender_gate.specs.declared.fault.GateFault.TheVariants.BelowFloor)) (lt-ltb floor.n (next_number floor x) (omega (arith, above))))
+
+-- it takes the ticket that its topic gives to the part that was taken out
+takes_by : (t : Topic) (s seq : ℕ) (floor : Stamp) (y : TopicState) (part : TopicPart) (o : Option Undecided)
+    → part_refusal t (sending_view s seq floor o) ≡ None → part_in t (sending_view s seq floor o) ≡ Some part
+    → takes_ticket (record { id = part.id; topic = t; n = next_number floor y }) (taken_sending t (sending_view s seq floor o)) ≡ true
+takes_by t s seq floor y part None e is = absurd (cc)
+takes_by t s seq floor y part (Some f) e is = go f.mark e is
+  where
+    fl : FlightState
+    fl = flight_view floor f
+
+    ticket : TopicPart → Ticket
+    ticket p = record { id = p.id; topic = t; n = next_number floor y }
+
+    passes : (b h : Bool) → cond b (cond h None (Some refusal.Twice)) (Some refusal.NotNamed) ≡ None → (b ≡ true) × (h ≡ true)
+    passes true true e = (refl, refl)
+    passes true false e = absurd (cc)
+    passes false h e = absurd (cc)
+
+    ungiven : (b : Bool) → not b ≡ true → b ≡ false
+    ungiven true e = absurd (cc)
+    ungiven false e = refl
+
+    go : (m : Option ProposeFault) → part_refusal t (undecided_view floor f m) ≡ None → part_in t (undecided_view floor f m) ≡ Some part
+        → takes_ticket (ticket part) (taken_sending t (undecided_view floor f m)) ≡ true
+    go (Some fault) e is = absurd (cc)
+    go None e is =
+        let both = passes (is_slot t fl.tickets) (is_some (held_at t fl.parts)) e in
+        let named = sym (slot_topics (number_of f) t (topics_of f.txn.sends)) ∙ both.0 in
+        let fresh : has_ticket t f.given ≡ false = ungiven (has_ticket t f.given) (sym (part_stands f t named) ∙ both.1) in
+        let own : part_at f.txn.id f.txn.sends t ≡ part =
+        some_same _ _ (sym (held_named (part_left f) t (topics_of f.txn.sends) named ∙ ap (λ (b : Bool). cond b None (Some (part_at f.txn.id f.txn.sends t))) fresh) ∙ is) in
+        ap (λ (b : Bool). takes_ticket (ticket part) (cond b (Sending.Flying (less floor f t) (blank_row f)) (Sending.Flying fl (blank_row f)))) both.0
+        ∙ (ap (λ (p : TopicPart). takes_ticket (ticket p) (Sending.Flying (less floor f t) (blank_row f))) (sym own)
+        ∙ ap (λ (r : Result Unit Rattle.sender_gate.specs.declared.fault.GateFault.GateFault). is_ok r) (answer_is floor f t y named fresh))
+
+floor_by : (s seq : ℕ) (floor : Stamp) (o : Option Undecided) → (gate_of (sending_view s seq floor o)).floor ≡ floor
+floor_by s seq floor None = refl
+floor_by s seq floor (Some f) = go f.mark
+  where
+    go : (m : Option ProposeFault) → (gate_of (undecided_view floor f m)).floor ≡ floor
+    go None = refl
+    go (Some fault) = refl
+
+-- so in what is held
+pub ticket_taken : (k : Core) (s : ℕ) (t : Topic) (part : TopicPart) → IsReached k → s < length k.world.senders → is_group t (view_of k).groups ≡ true
+    → part_refusal t (sender_in (view_of k) s).sending ≡ None → part_in t (sender_in (view_of k) s).sending ≡ Some part
+    → takes_ticket (ticket_in t s part (view_of k)) (taken_sender t (sender_in (view_of k) s)).sending ≡ true
+ticket_taken k s t part was there grouped free is =
+    let v = view_of k in
+    let x = sender_at k.world s in
+    let y = topic_at k.world t in
+    let held = held_of k s there in
+    let topic : is_topic k.world t ≡ true = sym (group_there k t was) ∙ grouped in
+    let group = group_at k t no_group (ltb-true t.0 (length k.world.topics) topic) in
+    let own = topic_own k t was in
+    let floor = floor_by s x.seq x.floor x.flight in
+    ap (λ (z : SenderView). takes_ticket (record { id = part.id; topic = (group_in v t).topic.topic; n = next_number (gate_of z.sending).floor (group_in v t).topic }) (taken_sender t z).sending) held
+    ∙ (ap (λ (g : GroupState). takes_ticket (record { id = part.id; topic = g.topic.topic; n = next_number (gate_of (sender_view s x).sending).floor g.topic }) (taken_sender t (sender_view s x)).sending) group
+    ∙ ((λ i. takes_ticket (record { id = part.id; topic = own i; n = next_number (floor i) y }) (taken_sender t (sender_view s x)).sending)
+    ∙ takes_by t s x.seq x.floor y part x.flight (ap (λ (z : SenderView). part_refusal t z.sending) (sym held) ∙ free) (ap (λ (z : SenderView). part_in t z.sending) (sym held) ∙ is)))
 
 -- the flight with it
 flight_given : (floor : Stamp) (f : Undecided) (t : Topic) (n : ℕ) → has_ticket t f.given ≡ false

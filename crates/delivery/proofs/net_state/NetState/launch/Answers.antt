@@ -1,7 +1,9 @@
-use Rattle.std.proofs.Common.{◌≡◌, ◌<◌, ◌+◌, ℕ, length, set, sym, ap, ◌∙◌, arith}
+use Rattle.std.proofs.Common.{◌≡◌, ◌<◌, ◌+◌, ℕ, length, get_or, set, sym, ap, subst, ◌∙◌}
 use Rattle.std.proofs.lemmas.List.{set-get_or}
 use Rattle.delivery.specs.Inner.Rooms.{PromisedRows, is_flying}
-use Rattle.delivery.specs.Inner.View.{View, SenderView}
+use Rattle.delivery.specs.Inner.Senders.{speaker_at}
+use Rattle.delivery.specs.Inner.View.{View, SenderView, no_endpoint, number_among}
+use Rattle.delivery.proofs.Views.Events.ConnectionIsThere.{endpoint_found}
 use Rattle.delivery.proofs.Views.Senders.RoomLasts.{count_launched}
 use Rattle.delivery.proofs.Views.Verdicts.VerdictTable.{seqs_restored}
 use Rattle.delivery.proofs.Views.Runs.SameView.{same_view}
@@ -11,7 +13,13 @@ pub invariant_of-self-in-Ok-launch : goal.invariant_of-self-in-Ok-launch
 invariant_of-self-in-Ok-launch c =
     let senders = c.self.inside.senders.items in
     let s = c.number_of-index.result in
-    let there : s < length senders = omega (arith, c.if-index-len.false, c.len.ensures, c.self.inside.senders.ok.0) in
+    let v = c.args.self.now in
+    let endpoint = c.index.result.now in
+    let at = c.index.ensures ∙ ap (λ (x : View). get_or x.endpoints c.args.connection endpoint) c.self.view_is in
+    let number : s ≡ speaker_at v c.args.connection =
+    c.number_of-index.ensures ∙ ap (number_among v.senders) (endpoint_found v.endpoints c.args.connection endpoint no_endpoint c.requires.there at) in
+    let there : s < length senders =
+    subst (λ (n : ℕ). s < n) (sym (ap (λ (x : View). length x.senders) c.self.view_is)) (subst (λ (n : ℕ). n < length v.senders) (sym number) c.requires.begun) in
     let idle = ap (λ (x : SenderView). is_flying x.sending) (sym c.index_mut-state.ensures.value) ∙ c.in-Ok-launch.ensures.idle in
     let promised = ap (λ (p : PromisedRows). p.promised) c.in_ok-promise.ensures.ok in
     promised ∙ (ap (λ (n : ℕ). n + 1) c.self.invariant ∙ count_launched senders s c.launch.new.self _ there idle c.in-Ok-launch.ensures.flying)

@@ -9,6 +9,6 @@ invariant_of-self-in-Ok c =
     let room = c.in_ok-reserve.ensures.ok in
     record {
       there = refl;
-      room = launched_room c.in-Some.gate c.args.txn c.new-flying.result _ c.len.result _ _ (c.new-flying.ensures ∙ c.in-Ok.ensures.ok)
+      room = launched_room c.take_gate-gate.result c.args.txn c.new-flying.result _ c.len.result _ _ (c.new-flying.ensures ∙ c.in-Ok.ensures.ok)
           (len ∙ ap (λ (ts : List Topic). length ts) (c.deref.ensures ∙ c.in_ok-topics.ensures)) (omega (arith, room, c.in_ok-reserve.ensures.len));
     }
