@@ -98,7 +98,7 @@ pub goes_on : (capacity : ℕ) (asked more : List BrokerRow) (queues done rest :
 goes_on capacity asked more queues done rest o new before wire between one emptied drains so_far rows end others after left then =
     subst (λ (all : List BrokerRow). DrainsAll capacity all queues before end ((done ++ new ∷ []) ++ others) after left) (sym (append_assoc asked more rows))
     (subst (λ (all : List OpenSubState). DrainsAll capacity (asked ++ (more ++ rows)) queues before end all after left) (sym (append_assoc done (new ∷ []) others))
-        (so_far (more ++ rows) end (new ∷ others) after left (more, rows, refl, one, new, others, between, drains, refl, if_emptied one _ _ emptied then)))
+    (so_far (more ++ rows) end (new ∷ others) after left (more, rows, refl, one, new, others, between, drains, refl, if_emptied one _ _ emptied then)))
 
 -- the next one isn't, and the rest stay
 pub goes_no_further : (capacity : ℕ) (asked more : List BrokerRow) (queues done rest : List OpenSubState) (o new : OpenSubState) (before wire between : List ℕ) (one : Taking) → (one ≡ Emptied → ⊥) → Drains capacity 0 more o wire one new between → GoesOn capacity asked queues done (o ∷ rest) before wire → DrainsAll capacity (asked ++ more) queues before one (done ++ new ∷ rest) between (length rest)
