@@ -1,12 +1,12 @@
 -- Copies of each pending part.
-use Rattle.std.proofs.Common.{◌≡◌, ℕ, zero, suc, ◌+◌, ◌<◌, ◌≤◌, inl, inr, List, [], ◌∷◌, ◌++◌, length, get_or, set, map, take, refl, sym, ap, ◌∙◌, arith}
+use Rattle.std.proofs.Common.{◌≡◌, ℕ, zero, suc, ◌+◌, ◌<◌, ◌≤◌, inl, inr, List, [], ◌∷◌, ◌++◌, length, get_or, set, map, take, Option, None, Some, refl, sym, ap, ◌∙◌, arith}
 use Rattle.std.proofs.lemmas.List.{length_push, length-take-le}
 use Rattle.mcast_txn.specs.Lists.{In}
 use Rattle.std.specs.List.{insert}
 use Rattle.mcast_txn.specs.Transaction.{TopicPart}
 use Rattle.mcast_txn.proofs.Members.{In-push_cases}
 use Rattle.mcast_group.specs.Machine.{Pending}
-use Rattle.mcast_group.specs.Inner.Copies.{AreOf, HaveCopies}
+use Rattle.mcast_group.specs.Inner.Copies.{AreOf, HaveCopies, IsFirst, with_first}
 
 -- the first i have one copy more
 abbrev pub HaveMore : ℕ → ℕ → List Pending → List (List TopicPart) → Type 0
@@ -43,6 +43,17 @@ pub map_take : {X Y : Type 0} (f : X → Y) (n : ℕ) (xs : List X) → map f (t
 map_take f zero xs = refl
 map_take f (suc n) [] = refl
 map_take f (suc n) (x ∷ xs) = ap (λ ys. f x ∷ ys) (map_take f n xs)
+
+-- what is put behind the others is behind all
+pub with_first-append : {X : Type 0} (first : Option X) (xs ys : List X) → with_first first (xs ++ ys) ≡ with_first first xs ++ ys
+with_first-append None xs ys = refl
+with_first-append (Some x) xs ys = refl
+
+-- a list that keeps its first is cut by cutting the others
+pub with_first-take : {X : Type 0} (n : ℕ) (first : Option X) (others : List X) → IsFirst first others → with_first first (take n others) ≡ take (suc n) (with_first first others)
+with_first-take zero None others e = rw e refl
+with_first-take (suc n) None others e = rw e refl
+with_first-take n (Some x) others e = refl
 
 -- the first i lists are cut
 abbrev pub kept_front : {X : Type 0} → ℕ → ℕ → List (List X) → List (List X)

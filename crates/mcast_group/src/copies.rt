@@ -17,10 +17,20 @@ use std::collections::VecDeque;
 use std::marker::Model;
 use std::sync::Arc;
 
-/// Copies of a pending part: shared once more for each open subscription, so that a release takes no memory.
-#[derive(Drop)]
+/// Copies of a pending part: shared once more for each open subscription, so that a release takes no memory. The first
+/// lies in place: where there is one, a list takes no memory of its own.
 pub(crate) struct Copies {
-    parts: Vec<Arc<Part>>,
+    first: Option<Arc<Part>>,
+    others: Vec<Arc<Part>>,
+}
+
+impl Drop for Copies {
+    /// Written out, so that letting copies go is one call for the prover wherever it happens.
+    fn drop(self) {
+        let Copies { first, others } = self;
+        drop(first);
+        drop(others);
+    }
 }
 
 impl Model for Copies {
@@ -28,10 +38,13 @@ impl Model for Copies {
     ghost use Rattle.std.specs.Arc.{arc_value};
     ghost use Rattle.mcast_txn.specs.Part.{data_of};
     ghost use Rattle.mcast_txn.specs.Transaction.{TopicPart};
+    ghost use Rattle.mcast_group.specs.Inner.Copies.{IsFirst, with_first};
 
     ghost Value = { List TopicPart };
 
-    ghost view = { λ c. map (λ part. data_of (arc_value part)) c.parts.items };
+    ghost view = { λ c. map (λ part. data_of (arc_value part)) (with_first c.first c.others.items) };
+
+    ghost invariant = { λ c. IsFirst c.first c.others.items };
 }
 
 impl Copies {
@@ -39,7 +52,10 @@ impl Copies {
     pub(crate) fn len(&self) -> usize
         ensures { result ≡ length self.now }
     {
-        self.parts.len()
+        if self.first.is_none() {
+            return 0;
+        }
+        1 + self.others.len()
     }
 
     /// Takes one out.
@@ -49,7 +65,10 @@ impl Copies {
         ensures rest { (c : TopicPart) → In c self.new → In c self.old }
         ensures many { length self.old ≤ length self.new + 1 }
     {
-        self.parts.pop()
+        match self.others.pop() {
+            Some(part) => Some(part),
+            None => self.first.take(),
+        }
     }
 
     /// `many` copies of a part.
@@ -58,7 +77,8 @@ impl Copies {
         ensures of { IfOk result (λ copies. AreOf part.now.part copies) }
     {
         let mut copies = Copies {
-            parts: Vec::with_capacity(alloc, many)?,
+            first: None,
+            others: Vec::with_capacity(alloc, many.saturating_sub(1))?,
         };
         for _ in 0..many {
             copies.add(part)?;
@@ -70,7 +90,12 @@ impl Copies {
     pub(crate) fn keep(&mut self, most: usize)
         ensures { self.new ≡ take most self.old }
     {
-        self.parts.truncate(most);
+        if most == 0 {
+            self.first = None;
+            self.others.clear();
+        } else {
+            self.others.truncate(most - 1);
+        }
     }
 
     /// One copy more.
@@ -79,7 +104,11 @@ impl Copies {
         ensures err { OnErr result (self.new ≡ self.old) }
     {
         let copy = part.share()?;
-        self.parts.push(copy)?;
+        if self.first.is_none() {
+            self.first = Some(copy);
+        } else {
+            self.others.push(copy)?;
+        }
         Ok(())
     }
 }

@@ -1,8 +1,18 @@
 -- Copies of parts that are pending. It only serves proofs.
-use Rattle.std.specs.Prelude.{◌≡◌, ℕ, ◌≤◌, List, [], ◌∷◌, length, None}
+use Rattle.std.specs.Prelude.{◌≡◌, ℕ, ◌≤◌, List, [], ◌∷◌, length, Option, None, Some}
 use Rattle.mcast_txn.specs.Lists.{In}
 use Rattle.mcast_txn.specs.Transaction.{TopicPart}
 use Rattle.mcast_group.specs.Machine.{Pending}
+
+-- a list whose first lies beside the others, if there is one
+abbrev pub with_first : {A : Type 0} → Option A → List A → List A
+with_first None others = others
+with_first (Some first) others = first ∷ others
+
+-- there are others only behind a first
+abbrev pub IsFirst : {A : Type 0} → Option A → List A → Type 0
+IsFirst None others = others ≡ []
+IsFirst (Some first) others = Unit {0}
 
 -- each of these is the part
 abbrev pub AreOf : TopicPart → List TopicPart → Type 0

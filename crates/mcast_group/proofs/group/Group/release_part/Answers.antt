@@ -62,7 +62,7 @@ give_all-requires-clause-many g c =
     omega arith
 
 -- the part that was taken out was due
-due : (g : given.Over) (c : goal.After-drop-copies-inside g) → due_part (topic_state c.self.inside.topic c.self.inside.clock c.self.inside.log_limit c.self.inside.pending c.self.inside.base c.self.inside.rows.items c.self.inside.frontier (map (entry_of g.Q.Outlet.shown) c.self.inside.subscriptions)) ≡ Some c.remove-part.result
+due : (g : given.Over) (c : goal.After-drop-copies g) → due_part (topic_state c.self.inside.topic c.self.inside.clock c.self.inside.log_limit c.self.inside.pending c.self.inside.base c.self.inside.rows.items c.self.inside.frontier (map (entry_of g.Q.Outlet.shown) c.self.inside.subscriptions)) ≡ Some c.remove-part.result
 due g c =
     let s = c.self.inside in
     let x = topic_state s.topic s.clock s.log_limit s.pending s.base s.rows.items s.frontier (map (entry_of g.Q.Outlet.shown) s.subscriptions) in
@@ -70,7 +70,7 @@ due g c =
     due_found x c.in_ok-index.index c.at.result.now c.remove-part.result (c.in_ok-index.ensures.1) within c.at.ensures c.remove-part.ensures.value (sym c.is_learnt.ensures ∙ c.if-not-is_learnt.false)
 
 -- each subscription got its item, and nothing else changed
-gave : (g : given.Over) (c : goal.After-drop-copies-inside g) → Gave g.Q.Outlet.shown g.Q.Outlet.may_accept c.self.inside.frontier (item_of c.remove-part.result) c.self.inside.subscriptions c.give_all.new.self
+gave : (g : given.Over) (c : goal.After-drop-copies g) → Gave g.Q.Outlet.shown g.Q.Outlet.may_accept c.self.inside.frontier (item_of c.remove-part.result) c.self.inside.subscriptions c.give_all.new.self
 gave g c = c.give_all.ensures.gave
 
 -- no more are open than were
@@ -85,18 +85,18 @@ cut_copies-requires g c =
     let b = c.open_len.ensures in
     omega arith
 
-many : (g : given.Over) (c : goal.After-drop-copies-inside g) → length c.give_all.new.self ≡ length c.self.inside.subscriptions
+many : (g : given.Over) (c : goal.After-drop-copies g) → length c.give_all.new.self ≡ length c.self.inside.subscriptions
 many g c =
     sym (map_length (room_of g.Q.Outlet.shown) c.give_all.new.self) ∙ (ap (λ (rs : List _). length rs) (gave g c).rooms ∙ map_length (room_of g.Q.Outlet.shown) c.self.inside.subscriptions)
 
-took : (g : given.Over) (c : goal.After-drop-copies-inside g) → Taken g.Q.Outlet.may_accept c.self.inside.frontier (item_of c.remove-part.result) (map (entry_of g.Q.Outlet.shown) c.self.inside.subscriptions) (map (entry_of g.Q.Outlet.shown) c.give_all.new.self) (map (room_of g.Q.Outlet.shown) c.self.inside.subscriptions)
+took : (g : given.Over) (c : goal.After-drop-copies g) → Taken g.Q.Outlet.may_accept c.self.inside.frontier (item_of c.remove-part.result) (map (entry_of g.Q.Outlet.shown) c.self.inside.subscriptions) (map (entry_of g.Q.Outlet.shown) c.give_all.new.self) (map (room_of g.Q.Outlet.shown) c.self.inside.subscriptions)
 took g c = taken g.Q.Outlet.shown g.Q.Outlet.may_accept c.self.inside.frontier (item_of c.remove-part.result) c.self.inside.subscriptions c.give_all.new.self (numbers_differ _ c.self.invariant.sound.numbers) (gave g c)
 
-gone : (g : given.Over) (c : goal.After-drop-copies-inside g) → c.in_ok-index.index < length c.self.inside.pending
+gone : (g : given.Over) (c : goal.After-drop-copies g) → c.in_ok-index.index < length c.self.inside.pending
 gone g c = c.in_ok-index.ensures.0
 
 -- the machine's release
-moved : (g : given.Over) (c : goal.After-drop-copies-inside g) → topic_state c.self.inside.topic c.self.inside.clock c.self.inside.log_limit c.remove-part.new.self c.self.inside.base c.push.new.self.items c.stamp-self-inside.result (map (entry_of g.Q.Outlet.shown) c.give_all.new.self) ≡ after_release_of (took g c).takes c.remove-part.result (topic_state c.self.inside.topic c.self.inside.clock c.self.inside.log_limit c.self.inside.pending c.self.inside.base c.self.inside.rows.items c.self.inside.frontier (map (entry_of g.Q.Outlet.shown) c.self.inside.subscriptions))
+moved : (g : given.Over) (c : goal.After-drop-copies g) → topic_state c.self.inside.topic c.self.inside.clock c.self.inside.log_limit c.remove-part.new.self c.self.inside.base c.push.new.self.items c.stamp-self-inside.result (map (entry_of g.Q.Outlet.shown) c.give_all.new.self) ≡ after_release_of (took g c).takes c.remove-part.result (topic_state c.self.inside.topic c.self.inside.clock c.self.inside.log_limit c.self.inside.pending c.self.inside.base c.self.inside.rows.items c.self.inside.frontier (map (entry_of g.Q.Outlet.shown) c.self.inside.subscriptions))
 moved g c =
     let s = c.self.inside in
     let p = c.remove-part.result in
@@ -107,7 +107,7 @@ moved g c =
     (took g c).is
 
 -- each part has a copy for each subscription that is open then
-copied : (g : given.Over) (c : goal.After-drop-copies-inside g) → HaveCopies (open_count (map (entry_of g.Q.Outlet.shown) c.give_all.new.self)) c.remove-part.new.self c.cut_copies.new.copies.items
+copied : (g : given.Over) (c : goal.After-drop-copies g) → HaveCopies (open_count (map (entry_of g.Q.Outlet.shown) c.give_all.new.self)) c.remove-part.new.self c.cut_copies.new.copies.items
 copied g c =
     let s = c.self.inside in
     let within : c.in_ok-index.index < length s.pending = c.in_ok-index.ensures.0 in
