@@ -2,6 +2,7 @@
 
 ghost use Rattle.std.specs.Prelude.{◌≡◌, ◌≤◌, ◌<◌, ◌+◌, ◌*◌, ℕ, List, [], false, length, map, vec_len, None, Ok, Err, IfOk, IfErr, OnOk, OnErr, IsErr};
 ghost use Rattle.std.specs.Option.{option_map};
+ghost use Rattle.crossbeam_utils.specs.Padded.{padded_value};
 ghost use Rattle.delivery.specs.Topics.{max_topics};
 ghost use Rattle.mcast_group.specs.declared.fault.SubFault.TheVariants.{SubInUse};
 ghost use Rattle.sender_gate.specs.Senders.{MayRefuse, SendersState, claim_refusal, claimed_gate};
@@ -39,6 +40,10 @@ use trace_audit::{AddFault, Trace};
 /// A topic's lock, on cache lines of its own, so that two threads at two topics don't share one.
 pub(crate) type TopicLock<R, T> = CachePadded<Mutex<LockedTopic<R, T>>>;
 
+/// The total's lock, which each proposal takes, on cache lines of its own: whoever reads what else a broker has doesn't
+/// wait for them.
+type TotalLock<W, T> = CachePadded<Mutex<Total<W, T>>>;
+
 /// The topics of a broker, each behind a lock of its own, of which there are 1,024 whatever topics it begins with.
 /// Beside them a lock for the total of tickets, and one for the senders. No call holds two locks, but that a proposal
 /// takes the total's within its topic's, for one step. Nothing is said of what a call finds behind a lock but what
@@ -48,8 +53,8 @@ pub struct Broker<R: Wait, W: Side, T: Side> {
     alloc: Global,
     topics: Topics,
     capacity: usize,
-    senders: Mutex<Senders>,
-    total: Mutex<Total<W, T>>,
+    senders: CachePadded<Mutex<Senders>>,
+    total: TotalLock<W, T>,
     locks: Vec<TopicLock<R, T>>,
     opens: OpenCounts,
     ghost some: { 0 < capacity },
@@ -104,8 +109,8 @@ impl<R: Wait, W: Side, T: Side> Broker<R, W, T> {
             alloc,
             topics,
             capacity,
-            senders: Mutex::new(Senders::new(alloc)),
-            total: Mutex::new(total),
+            senders: CachePadded::new(Mutex::new(Senders::new(alloc))),
+            total: CachePadded::new(Mutex::new(total)),
             locks,
             opens,
         })
@@ -162,9 +167,9 @@ impl<R: Wait, W: Side, T: Side> Broker<R, W, T> {
             locks,
             opens,
         } = self;
-        let total = total.into_inner();
+        let total = total.into_inner().into_inner();
         if total.joined != shares.workers {
-            let total = Mutex::new(total);
+            let total = CachePadded::new(Mutex::new(total));
             let broker = Broker {
                 alloc,
                 topics,
@@ -377,7 +382,7 @@ impl<R: Wait, W: Side, T: Side> Broker<R, W, T> {
 
     /// The lock of the total of tickets.
     pub(crate) fn total(&self) -> &Mutex<Total<W, T>>
-        ensures { result.now ≡ self.now.total }
+        ensures { result.now ≡ padded_value self.now.total }
     {
         &self.total
     }
