@@ -8,7 +8,7 @@ use Rattle.broker_server.specs.declared.conversation.drained.Taking.{Taking}
 use Rattle.broker_server.specs.declared.conversation.drained.Taking.TheVariants.{Emptied, Stopped, Failed}
 use Rattle.broker_server.specs.BrokerRows.{AsksLag, BrokerRow, SubName, Takes}
 use Rattle.broker_server.specs.Conversations.{OpenSubState}
-use Rattle.broker_server.specs.Delivering.{Drains, DrainsAll, DrainsQueues, IfEmptied, after_item, begins_at, full_wire, has_item, is_item, with_item}
+use Rattle.broker_server.specs.Delivering.{Drains, DrainsAll, DrainsQueues, IfEmptied, nearer_lag, begins_at, full_wire, has_item, is_item, with_pushed}
 
 -- what was asked, and then more
 pub drains_behind : (capacity : ℕ) (asked more rows : List BrokerRow) (o : OpenSubState) (wire : List ℕ) (end : Taking) (new : OpenSubState) (after : List ℕ) → Drains capacity 0 (asked ++ (more ++ rows)) o wire end new after → Drains capacity 0 ((asked ++ more) ++ rows) o wire end new after
@@ -16,9 +16,9 @@ drains_behind capacity asked more rows o wire end new after drains =
     subst (λ (all : List BrokerRow). Drains capacity 0 all o wire end new after) (sym (append_assoc asked more rows)) drains
 
 -- an item is taken and written
-pub drains_item : (capacity calls : ℕ) (o next : OpenSubState) (wire more : List ℕ) (item : Item) (sub : SubName) → length wire < full_wire → sub ≡ o.sub → next ≡ after_item o → more ≡ with_item o item wire → (rows : List BrokerRow) (end : Taking) (new : OpenSubState) (after : List ℕ) → Drains capacity (calls + 1) rows next more end new after → Drains capacity calls (Takes sub (Some item) ∷ rows) o wire end new after
+pub drains_item : (capacity calls : ℕ) (o next : OpenSubState) (wire more : List ℕ) (item : Item) (sub : SubName) → length wire < full_wire → sub ≡ o.sub → next ≡ nearer_lag o → more ≡ with_pushed o item wire → (rows : List BrokerRow) (end : Taking) (new : OpenSubState) (after : List ℕ) → Drains capacity (calls + 1) rows next more end new after → Drains capacity calls (Takes sub (Some item) ∷ rows) o wire end new after
 drains_item capacity calls o next wire more item sub room same next_is more_is rows end new after drains =
-    (room, same, inl (subst (λ (w : List ℕ). Drains capacity (calls + 1) rows (after_item o) w end new after) more_is (subst (λ (q : OpenSubState). Drains capacity (calls + 1) rows q more end new after) next_is drains)))
+    (room, same, inl (subst (λ (w : List ℕ). Drains capacity (calls + 1) rows (nearer_lag o) w end new after) more_is (subst (λ (q : OpenSubState). Drains capacity (calls + 1) rows q more end new after) next_is drains)))
 
 -- the queue was empty, and the broker says that it has lagged
 pub drains_lag : (capacity calls : ℕ) (o next : OpenSubState) (wire : List ℕ) (sub lagging : SubName) → length wire < full_wire → sub ≡ o.sub → lagging ≡ o.sub → o.lagged ≡ false → o.until_lag ≡ 0 → next ≡ record o { lagged = true } → (rows : List BrokerRow) (end : Taking) (new : OpenSubState) (after : List ℕ) → Drains capacity (calls + 1) rows next wire end new after → Drains capacity calls (Takes sub None ∷ AsksLag lagging true ∷ rows) o wire end new after

@@ -25,12 +25,12 @@ use Rattle.delivery.specs.declared.connection_fault.ConnectionFault.TheVariants 
 use Rattle.broker_server.specs.declared.conversation.conversation_fault.ConversationFault.{ConversationFault}
 use Rattle.broker_server.specs.declared.conversation.conversation_fault.ConversationFault.TheVariants as fault
 use Rattle.broker_server.specs.BrokerRows.{BrokerRow}
-use Rattle.broker_server.specs.Conversations.{Acts, Answers, Concludes, ConversationState, Done, Fails, Performs}
-use Rattle.broker_server.specs.Hearing.{Judges, ReadingFails, RefusesFrame, TakesFrame, TakesFrames}
+use Rattle.broker_server.specs.Conversations.{Acts, Answers, Concludes, ConversationState, Done, EndsByError, Performs}
+use Rattle.broker_server.specs.Hearing.{JudgesFrame, ReadingFails, RefusesFrame, TakesFrame, TakesFrames}
 
 -- ---- what came and isn't read yet stays as a frame has its effect
 
-fails_reader : (why : ConversationFault) (receipt : Option (List ℕ)) (old new : ConversationState) → Fails why receipt old new → new.reader ≡ old.reader
+fails_reader : (why : ConversationFault) (receipt : Option (List ℕ)) (old new : ConversationState) → EndsByError why receipt old new → new.reader ≡ old.reader
 fails_reader why receipt old new (inl e) = ap (λ (s : ConversationState). s.reader) e
 fails_reader why receipt old new (inr e) = ap (λ (s : ConversationState). s.reader) e
 
@@ -59,7 +59,7 @@ concludes_reader (Err why) frames receipt old asked new (a, fails) = fails_reade
 acts_reader : (step : Step) (old : ConversationState) (asked : List BrokerRow) (new : ConversationState) → Acts step old asked new → new.reader ≡ old.reader
 acts_reader step old asked new a = concludes_reader a.result _ step.receipt a.between a.rest new a.concludes ∙ performs_reader step.action old a.first a.result a.between a.performs
 
-judged_reader : (f : RawFrame) (o : Option CaseFault) (old : ConversationState) (asked : List BrokerRow) (new : ConversationState) → MatchOption o (Judges f old asked new) (λ why. RefusesFrame (fault.Connection (connection.Frame why)) f old asked new) → new.reader ≡ old.reader
+judged_reader : (f : RawFrame) (o : Option CaseFault) (old : ConversationState) (asked : List BrokerRow) (new : ConversationState) → MatchOption o (JudgesFrame f old asked new) (λ why. RefusesFrame (fault.Connection (connection.Frame why)) f old asked new) → new.reader ≡ old.reader
 judged_reader f None old asked new (first, rest, cut, between, inl (step, accepts, acts)) = acts_reader step between rest new acts ∙ ap (λ (s : ConversationState). s.reader) accepts.same
 judged_reader f None old asked new (first, rest, cut, between, inr (why, denies, (a, fails))) = fails_reader _ _ between new fails ∙ ap (λ (s : ConversationState). s.reader) denies.same
 judged_reader f (Some why) old asked new (a, fails) = fails_reader _ _ old new fails
@@ -90,13 +90,13 @@ takes_on (f ∷ frames) more old asked mid later new (none_yet, left, reads, bet
 
 -- ---- what is said of a frame, said of the same one as it came
 
-pub refused_as : (f g : RawFrame) → g ≡ f → (r : Option (List ℕ)) → r ≡ receipt_of g → (why : ConversationFault) (old new : ConversationState) → Fails why r old new → Fails why (receipt_of f) old new
-refused_as f g same r asks why old new fails = subst (λ (o : Option (List ℕ)). Fails why o old new) (asks ∙ ap receipt_of same) fails
+pub refused_as : (f g : RawFrame) → g ≡ f → (r : Option (List ℕ)) → r ≡ receipt_of g → (why : ConversationFault) (old new : ConversationState) → EndsByError why r old new → EndsByError why (receipt_of f) old new
+refused_as f g same r asks why old new fails = subst (λ (o : Option (List ℕ)). EndsByError why o old new) (asks ∙ ap receipt_of same) fails
 
 -- a client's frame is taken as the session judges it
-pub takes_judged : (f : RawFrame) (old : ConversationState) (asked : List BrokerRow) (new : ConversationState) → case_fault f ≡ None → Judges f old asked new → TakesFrame f old asked new
+pub takes_judged : (f : RawFrame) (old : ConversationState) (asked : List BrokerRow) (new : ConversationState) → case_fault f ≡ None → JudgesFrame f old asked new → TakesFrame f old asked new
 takes_judged f old asked new none judges =
-    subst (λ (o : Option CaseFault). MatchOption o (Judges f old asked new) (λ why. RefusesFrame (fault.Connection (connection.Frame why)) f old asked new)) (sym none) judges
+    subst (λ (o : Option CaseFault). MatchOption o (JudgesFrame f old asked new) (λ why. RefusesFrame (fault.Connection (connection.Frame why)) f old asked new)) (sym none) judges
 
 -- what is left of a reader that failed
 pub reading_fails : (why : FrameFault) (old left : Unread) → (why ≢ FrameFault.NoMemory → NextReturns old (Err why) left) → (why ≡ FrameFault.NoMemory → (left ≡ old) × (is_any old.text ≡ true)) → ReadingFails why old left

@@ -40,6 +40,6 @@ IsGateAfter flight gate = (floor : Stamp) × (gate ≡ gate_after flight floor)
 
 -- These calls, in order, made the new broker of the old one; `called` is what one call makes of it. So by no
 -- call it stays as it is.
-abbrev pub Asks : {B : Type 0} → (B → BrokerRow → B → Type 0) → B → List BrokerRow → B → Type 0
-Asks called old [] new = new ≡ old
-Asks {B} called old (row ∷ rows) new = (between : B) × called old row between × Asks called between rows new
+abbrev pub AsksInTurn : {B : Type 0} → (B → BrokerRow → B → Type 0) → B → List BrokerRow → B → Type 0
+AsksInTurn called old [] new = new ≡ old
+AsksInTurn {B} called old (row ∷ rows) new = (between : B) × called old row between × AsksInTurn called between rows new

@@ -68,8 +68,8 @@ pub record IsNew (capacity : ℕ) (c : ConversationState) : Type 0 where
 -- ---- what is written
 
 -- the frames are written behind what waits, and nothing else changes
-abbrev pub Writes : List RawFrame → ConversationState → ConversationState → Type 0
-Writes frames old new = new ≡ record old { wire = old.wire ++ flat_map spelling_of frames }
+abbrev pub PutsFrames : List RawFrame → ConversationState → ConversationState → Type 0
+PutsFrames frames old new = new ≡ record old { wire = old.wire ++ flat_map spelling_of frames }
 
 -- The answer to a frame that was accepted: CONNECTED to a CONNECT, and to others the RECEIPT that they ask
 -- for.
@@ -105,9 +105,9 @@ abbrev pub LeavesOut : ConversationState → ConversationState → Type 0
 LeavesOut old new = new ≡ record old { cut = true }
 
 -- It leaves by this fault: the ERROR is the last that is written, or is left out for want of memory.
-abbrev pub Fails : ConversationFault → Option (List ℕ) → ConversationState → ConversationState → Type 0
-Fails why receipt old new =
-    Writes (told_error why receipt ∷ []) (closed (exit.Error why) old) new
+abbrev pub EndsByError : ConversationFault → Option (List ℕ) → ConversationState → ConversationState → Type 0
+EndsByError why receipt old new =
+    PutsFrames (told_error why receipt ∷ []) (closed (exit.Error why) old) new
     ⊎ LeavesOut (closed (exit.Error why) old) new
 
 -- ---- what a frame asks for
@@ -176,9 +176,9 @@ CommitsBy gate sends asked result left =
 
 -- So of a connection that has a gate. That one without never comes so far, since its session takes no frame
 -- before its CONNECT, isn't said here.
-abbrev pub Sends
+abbrev pub CommitsSends
     : List SentMessage → ConversationState → List BrokerRow → Done → ConversationState → Type 0
-Sends sends old asked result new =
+CommitsSends sends old asked result new =
     ((gate left : GateState) × (old.gate ≡ Some gate) × CommitsBy gate sends asked result left
     × (new ≡ record old { gate = Some left }))
     ⊎ ((old.gate ≡ None) × LacksMemory old asked result new)
@@ -190,7 +190,7 @@ Performs (actions.Connected client) old asked result new = Connects client old a
 Performs actions.Nothing old asked result new = (asked ≡ []) × (result ≡ Ok tt) × (new ≡ old)
 Performs (actions.Subscribe id topic) old asked result new = Begins id topic old asked result new
 Performs (actions.Unsubscribe id) old asked result new = EndsSub id old asked result new
-Performs (actions.Commit sends) old asked result new = Sends sends old asked result new
+Performs (actions.Commit sends) old asked result new = CommitsSends sends old asked result new
 Performs actions.Disconnect old asked result new =
     (asked ≡ closing_rows old) × (result ≡ Ok tt) × (new ≡ closed exit.Disconnect old)
 
@@ -206,9 +206,9 @@ is_connected _ = false
 -- out. So an action that has no answer takes no memory for one.
 abbrev pub Answers : List RawFrame → ConversationState → List BrokerRow → ConversationState → Type 0
 Answers frames old asked new =
-    ((asked ≡ []) × Writes frames old new)
+    ((asked ≡ []) × PutsFrames frames old new)
     ⊎ ((is_any frames ≡ true) × (asked ≡ closing_rows old) × (old.exit ≡ None)
-    × Fails fault.NoReply None old new)
+    × EndsByError fault.NoReply None old new)
     ⊎ ((is_any frames ≡ true) × (asked ≡ []) × IsSome old.exit × LeavesOut old new)
 
 -- What follows an action: its answer, or the connection leaves by its fault, with the receipt that was asked
@@ -216,7 +216,7 @@ Answers frames old asked new =
 abbrev pub Concludes
     : Done → List RawFrame → Option (List ℕ) → ConversationState → List BrokerRow → ConversationState → Type 0
 Concludes (Ok u) frames receipt old asked new = Answers frames old asked new
-Concludes (Err why) frames receipt old asked new = (asked ≡ closing_rows old) × Fails why receipt old new
+Concludes (Err why) frames receipt old asked new = (asked ≡ closing_rows old) × EndsByError why receipt old new
 
 -- An accepted frame's action is performed, and then answered.
 pub record Acts

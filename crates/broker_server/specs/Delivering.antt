@@ -9,7 +9,7 @@ use Rattle.broker_server.specs.declared.conversation.conversation_fault.Conversa
 use Rattle.broker_server.specs.declared.conversation.drained.Taking.{Taking}
 use Rattle.broker_server.specs.declared.conversation.drained.Taking.TheVariants.{Emptied, Stopped, Failed}
 use Rattle.broker_server.specs.BrokerRows.{BrokerRow, AsksLag, Takes}
-use Rattle.broker_server.specs.Conversations.{ConversationState, Fails, OpenSubState, closing_rows}
+use Rattle.broker_server.specs.Conversations.{ConversationState, EndsByError, OpenSubState, closing_rows}
 
 -- ---- one queue
 
@@ -23,16 +23,16 @@ abbrev pub most_calls : ℕ
 most_calls = 65536
 
 -- the queue once an item of it was taken
-abbrev pub after_item : OpenSubState → OpenSubState
-after_item o = record o { until_lag = o.until_lag - 1 }
+abbrev pub nearer_lag : OpenSubState → OpenSubState
+nearer_lag o = record o { until_lag = o.until_lag - 1 }
 
 -- the queue once it was seen empty, and had not lagged
 abbrev pub after_empty : ℕ → OpenSubState → OpenSubState
 after_empty capacity o = record o { until_lag = capacity }
 
 -- what waits once the MESSAGEs of an item were put behind it, which have the subscription's own id
-abbrev pub with_item : OpenSubState → Item → List ℕ → List ℕ
-with_item o item wire = wire ++ flat_map spelling_of (item_messages o.id item)
+abbrev pub with_pushed : OpenSubState → Item → List ℕ → List ℕ
+with_pushed o item wire = wire ++ flat_map spelling_of (item_messages o.id item)
 
 -- it is a lag; its topic and its number go to the log alone
 abbrev pub IsLag : ConversationFault → Type 0
@@ -59,8 +59,8 @@ Drains capacity calls [] o wire end new after =
     ((full_wire ≤ length wire) ⊎ (most_calls ≤ calls)) × (end ≡ Stopped) × (new ≡ o) × (after ≡ wire)
 Drains capacity calls (Takes sub (Some item) ∷ rows) o wire end new after =
     (length wire < full_wire) × (sub ≡ o.sub)
-    × (Drains capacity (calls + 1) rows (after_item o) (with_item o item wire) end new after
-    ⊎ ((rows ≡ []) × (end ≡ Failed fault.NoReply) × (new ≡ after_item o) × (after ≡ wire)))
+    × (Drains capacity (calls + 1) rows (nearer_lag o) (with_pushed o item wire) end new after
+    ⊎ ((rows ≡ []) × (end ≡ Failed fault.NoReply) × (new ≡ nearer_lag o) × (after ≡ wire)))
 Drains capacity calls (Takes sub None ∷ []) o wire end new after =
     (length wire < full_wire) × (sub ≡ o.sub) × EndsEmpty capacity o end new × (after ≡ wire)
 Drains capacity calls (Takes sub None ∷ AsksLag lagging true ∷ rows) o wire end new after =
@@ -132,15 +132,15 @@ is_stopped _ = false
 abbrev pub Settles
     : Taking → Bool → ConversationState → List BrokerRow → Bool → ConversationState → Type 0
 Settles (Failed why) any old asked result new =
-    (asked ≡ closing_rows old) × (result ≡ true) × Fails why None old new
+    (asked ≡ closing_rows old) × (result ≡ true) × EndsByError why None old new
 Settles end any old asked result new =
     (asked ≡ []) × (result ≡ any) × (new ≡ record old { more = is_stopped end })
 
 -- Its queues are taken, and what comes is written; the result is whether something came of it. One that
 -- leaves takes nothing. So where `a` holds an item and `b` has lagged, a's MESSAGE is written, what `b` holds
 -- is taken to its end, and the last that is written is 74.
-abbrev pub Delivers : ConversationState → List BrokerRow → Bool → ConversationState → Type 0
-Delivers old asked result new =
+abbrev pub DeliversTurn : ConversationState → List BrokerRow → Bool → ConversationState → Type 0
+DeliversTurn old asked result new =
     (IsSome old.exit × (asked ≡ []) × (result ≡ false) × (new ≡ old))
     ⊎ ((old.exit ≡ None) × (first rest : List BrokerRow) × (asked ≡ first ++ rest)
     × (end : Taking) × (subs : List OpenSubState) × (wire : List ℕ) × (turn : ℕ)

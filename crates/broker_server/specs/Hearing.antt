@@ -15,15 +15,15 @@ use Rattle.broker_server.specs.declared.conversation.conversation_fault.Conversa
 use Rattle.broker_server.specs.declared.conversation.conversation_fault.ConversationFault.TheVariants as fault
 use Rattle.broker_server.specs.BrokerRows.{BrokerRow, LooksUp}
 use Rattle.broker_server.specs.ConversationFaults.{reader_fault}
-use Rattle.broker_server.specs.Conversations.{Acts, ConversationState, Fails, closing_rows}
-use Rattle.broker_server.specs.Judging.{Grows, IsAccepted, IsRefused}
+use Rattle.broker_server.specs.Conversations.{Acts, ConversationState, EndsByError, closing_rows}
+use Rattle.broker_server.specs.Judging.{Grows, IsFrameAccepted, IsFrameRefused}
 
 -- ---- one frame
 
 -- The connection leaves by a fault of this frame, with the receipt that the frame asks for.
 abbrev pub RefusesFrame
     : ConversationFault → RawFrame → ConversationState → List BrokerRow → ConversationState → Type 0
-RefusesFrame why f old asked new = (asked ≡ closing_rows old) × Fails why (receipt_of f) old new
+RefusesFrame why f old asked new = (asked ≡ closing_rows old) × EndsByError why (receipt_of f) old new
 
 -- its destination is none of these names
 abbrev pub IsNewTo : List (List ℕ) → RawFrame → Type 0
@@ -45,7 +45,7 @@ pub record AcceptsFrame
     : Type 0 where
   pub known : List (List ℕ)
   pub looks : Looks f old asked known new.names
-  pub accepted : IsAccepted f step old.session known new.session new.names
+  pub accepted : IsFrameAccepted f step old.session known new.session new.names
   pub same : new ≡ record old { session = new.session; names = new.names }
 
 -- The session refuses the frame by this, by those names; or there was no memory for a name, where all were
@@ -56,15 +56,15 @@ pub record DeniesFrame
     : Type 0 where
   pub known : List (List ℕ)
   pub looks : Looks f old asked known new.names
-  pub refused : IsRefused f why old.session known
+  pub refused : IsFrameRefused f why old.session known
   pub lacks : why ≡ fault.NoMemory → IsNewTo old.names f
   pub stay : asked ≡ [] → new.names ≡ old.names
   pub same : new ≡ record old { session = new.session; names = new.names }
 
 -- What the session makes of a client's frame: it is accepted, and what it asks for is done and answered; or
 -- it is refused, and the connection leaves.
-abbrev pub Judges : RawFrame → ConversationState → List BrokerRow → ConversationState → Type 0
-Judges f old asked new =
+abbrev pub JudgesFrame : RawFrame → ConversationState → List BrokerRow → ConversationState → Type 0
+JudgesFrame f old asked new =
     (first rest : List BrokerRow) × (asked ≡ first ++ rest) × (between : ConversationState)
     × (((step : Step) × AcceptsFrame f step old first between × Acts step between rest new)
     ⊎ ((why : ConversationFault) × DeniesFrame f why old first between × RefusesFrame why f between rest new))
@@ -73,7 +73,7 @@ Judges f old asked new =
 -- `21 Unsupported`, whatever the session is, and the connection leaves.
 abbrev pub TakesFrame : RawFrame → ConversationState → List BrokerRow → ConversationState → Type 0
 TakesFrame f old asked new =
-    MatchOption (case_fault f) (Judges f old asked new)
+    MatchOption (case_fault f) (JudgesFrame f old asked new)
     (λ why. RefusesFrame (fault.Connection (connection.Frame why)) f old asked new)
 
 -- ---- the frames of a stream
@@ -100,7 +100,7 @@ Rests old asked new =
     ⊎ ((old.exit ≡ None) × (left : Unread) × NextReturns old.reader (Ok None) left
     × (asked ≡ []) × (new ≡ record old { reader = left }))
     ⊎ ((old.exit ≡ None) × (why : FrameFault) × (left : Unread) × ReadingFails why old.reader left
-    × (asked ≡ closing_rows old) × Fails (reader_fault why) None (record old { reader = left }) new)
+    × (asked ≡ closing_rows old) × EndsByError (reader_fault why) None (record old { reader = left }) new)
 
 -- the frames of the stream are taken until nothing more is
 abbrev pub TakesAll : ConversationState → List BrokerRow → ConversationState → Type 0
@@ -115,5 +115,5 @@ TakesAll old asked new =
 abbrev pub Hears : List ℕ → ConversationState → List BrokerRow → ConversationState → Type 0
 Hears piece old asked new =
     (IsSome old.exit × (asked ≡ []) × (new ≡ old))
-    ⊎ ((old.exit ≡ None) × (asked ≡ closing_rows old) × Fails fault.NoMemory None old new)
+    ⊎ ((old.exit ≡ None) × (asked ≡ closing_rows old) × EndsByError fault.NoMemory None old new)
     ⊎ ((old.exit ≡ None) × TakesAll (record old { reader = with_piece old.reader piece }) asked new)

@@ -21,7 +21,7 @@ with_names (name ∷ more) names = with_names more (with_name name names)
 
 -- By these names the session accepts the frame behind those that it accepted before, with this step; and the
 -- names are then with the frame's destination, if it has one.
-pub record IsAccepted
+pub record IsFrameAccepted
     (f : RawFrame) (step : Step) (old : SessionState) (known : List (List ℕ)) (new : SessionState)
     (names : List (List ℕ))
     : Type 0 where
@@ -31,8 +31,8 @@ pub record IsAccepted
 
 -- By these names the session refuses the frame by this, by what those before it left; or there was no memory
 -- for a name.
-abbrev pub IsRefused : RawFrame → ConversationFault → SessionState → List (List ℕ) → Type 0
-IsRefused f (Connection (Session why)) old known =
+abbrev pub IsFrameRefused : RawFrame → ConversationFault → SessionState → List (List ℕ) → Type 0
+IsFrameRefused f (Connection (Session why)) old known =
     (frames : List RawFrame) → StandsFor old known frames → Refuses (held_after known frames) f why
-IsRefused f NoMemory old known = Unit {0}
-IsRefused f _ old known = ⊥
+IsFrameRefused f NoMemory old known = Unit {0}
+IsFrameRefused f _ old known = ⊥

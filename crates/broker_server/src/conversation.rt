@@ -6,9 +6,9 @@ ghost use Rattle.std.specs.Option.{is_none, is_some, option_map};
 ghost use Rattle.stomp_frame.specs.declared.fault.FrameFault.{FrameFault};
 ghost use Rattle.stomp_frame.specs.declared.raw_frame.RawFrame.{RawFrame};
 ghost use Rattle.stomp_frame.specs.ClientFrames.{raw_of};
-ghost use Rattle.broker_server.specs.BrokerRows.{Asks, BrokerRow, Unsubscribes};
-ghost use Rattle.broker_server.specs.Conversations.{Writes, Fails, Performs, Connects, Begins, EndsSub, Sends, CommitsBy, Acts, Answers, IsLost};
-ghost use Rattle.broker_server.specs.Delivering.{Delivers, Drains, DrainsAll, DrainsQueues, begins_at, has_item};
+ghost use Rattle.broker_server.specs.BrokerRows.{AsksInTurn, BrokerRow, Unsubscribes};
+ghost use Rattle.broker_server.specs.Conversations.{PutsFrames, EndsByError, Performs, Connects, Begins, EndsSub, CommitsSends, CommitsBy, Acts, Answers, IsLost};
+ghost use Rattle.broker_server.specs.Delivering.{DeliversTurn, Drains, DrainsAll, DrainsQueues, begins_at, has_item};
 ghost use Rattle.delivery.specs.Core.Outcomes.{is_any};
 ghost use Rattle.stomp_session.specs.Open.{IsKnownTo};
 ghost use Rattle.broker_server.specs.Hearing.{AcceptsFrame, DeniesFrame, Hears, IsNewTo, Rests, TakesAll, TakesFrame, TakesFrames};
@@ -202,7 +202,7 @@ impl<C: BrokerCalls> Conversation<C> {
 
     /// Takes a piece that came, and does what each frame that it ends asks for. Once it leaves, the rest is dropped.
     pub fn hear(&mut self, calls: &mut C, piece: &[u8])
-        ensures { (asked : List BrokerRow) × Asks C.called calls.old asked calls.new
+        ensures { (asked : List BrokerRow) × AsksInTurn C.called calls.old asked calls.new
             × Hears piece.now self.old asked self.new }
     {
         if self.exit.is_some() {
@@ -216,7 +216,7 @@ impl<C: BrokerCalls> Conversation<C> {
 
     /// Takes the frames that its reader has, and does what they ask for, until it leaves.
     fn hear_all(&mut self, calls: &mut C)
-        ensures { (asked : List BrokerRow) × Asks C.called calls.old asked calls.new
+        ensures { (asked : List BrokerRow) × AsksInTurn C.called calls.old asked calls.new
             × TakesAll self.old asked self.new }
     {
         'frames: loop {
@@ -232,9 +232,9 @@ impl<C: BrokerCalls> Conversation<C> {
     /// Takes the next frame; whether there was one.
     fn hear_next(&mut self, calls: &mut C) -> bool
         requires { self.old.exit ≡ None }
-        ensures took { result ≡ true → (asked : List BrokerRow) × Asks C.called calls.old asked calls.new
+        ensures took { result ≡ true → (asked : List BrokerRow) × AsksInTurn C.called calls.old asked calls.new
             × (f : RawFrame) × TakesFrames (f ∷ []) self.old asked self.new }
-        ensures rests { result ≡ false → (asked : List BrokerRow) × Asks C.called calls.old asked calls.new
+        ensures rests { result ≡ false → (asked : List BrokerRow) × AsksInTurn C.called calls.old asked calls.new
             × Rests self.old asked self.new }
     {
         match self.reader.next(self.alloc) {
@@ -254,7 +254,7 @@ impl<C: BrokerCalls> Conversation<C> {
 
     /// Takes a frame by the case table and the session, and does what it asks for.
     fn take_frame(&mut self, calls: &mut C, frame: RawFrame)
-        ensures { (asked : List BrokerRow) × Asks C.called calls.old asked calls.new
+        ensures { (asked : List BrokerRow) × AsksInTurn C.called calls.old asked calls.new
             × TakesFrame frame self.old asked self.new }
     {
         let frame = match classify(frame) {
@@ -277,9 +277,9 @@ impl<C: BrokerCalls> Conversation<C> {
         frame: ClientFrame,
     ) -> Result<Step, (ClientFrame, ConversationFault)>
         ensures back { IfErr result (λ e. e.0 ≡ frame) }
-        ensures accepted { IfOk result (λ step. (asked : List BrokerRow) × Asks C.called calls.old asked calls.new
+        ensures accepted { IfOk result (λ step. (asked : List BrokerRow) × AsksInTurn C.called calls.old asked calls.new
             × AcceptsFrame (raw_of frame) step self.old asked self.new) }
-        ensures refused { IfErr result (λ e. (asked : List BrokerRow) × Asks C.called calls.old asked calls.new
+        ensures refused { IfErr result (λ e. (asked : List BrokerRow) × AsksInTurn C.called calls.old asked calls.new
             × DeniesFrame (raw_of frame) e.1 self.old asked self.new) }
     {
         if is_known(&self.names, &frame) {
@@ -296,7 +296,7 @@ impl<C: BrokerCalls> Conversation<C> {
 
     /// Does what an accepted frame asks for, and answers it.
     fn act(&mut self, calls: &mut C, step: Step)
-        ensures { (asked : List BrokerRow) × Asks C.called calls.old asked calls.new
+        ensures { (asked : List BrokerRow) × AsksInTurn C.called calls.old asked calls.new
             × Acts step self.old asked self.new }
     {
         let Step { action, receipt } = step;
@@ -309,7 +309,7 @@ impl<C: BrokerCalls> Conversation<C> {
 
     /// Does what an accepted frame asks for.
     fn perform(&mut self, calls: &mut C, action: Action) -> Result<(), ConversationFault>
-        ensures { (asked : List BrokerRow) × Asks C.called calls.old asked calls.new
+        ensures { (asked : List BrokerRow) × AsksInTurn C.called calls.old asked calls.new
             × Performs action self.old asked result self.new }
     {
         macro_rules! answers {
@@ -332,7 +332,7 @@ impl<C: BrokerCalls> Conversation<C> {
     /// Sends the answer to a frame that was accepted. Where there is no memory for it, the connection ends; the RECEIPT
     /// of a DISCONNECT is then left out.
     fn answer(&mut self, calls: &mut C, connects: bool, receipt: &Option<Octets>)
-        ensures { (asked : List BrokerRow) × Asks C.called calls.old asked calls.new
+        ensures { (asked : List BrokerRow) × AsksInTurn C.called calls.old asked calls.new
             × Answers (replies connects receipt.now) self.old asked self.new }
     {
         match self.write_answer(connects, receipt) {
@@ -346,7 +346,7 @@ impl<C: BrokerCalls> Conversation<C> {
 
     /// Writes the answer to a frame: CONNECTED to a CONNECT, else the RECEIPT that it asks for.
     fn write_answer(&mut self, connects: bool, receipt: &Option<Octets>) -> Result<(), NoMemory>
-        ensures ok { OnOk result (Writes (replies connects receipt.now) self.old self.new) }
+        ensures ok { OnOk result (PutsFrames (replies connects receipt.now) self.old self.new) }
         ensures err { OnErr result (self.new ≡ self.old) }
         ensures some { OnErr result (is_any (replies connects receipt.now) ≡ true) }
     {
@@ -363,7 +363,7 @@ impl<C: BrokerCalls> Conversation<C> {
 
     /// A CONNECT: claims its sender.
     fn connect(&mut self, calls: &mut C, client: Option<Octets>) -> Result<(), ConversationFault>
-        ensures { (asked : List BrokerRow) × Asks C.called calls.old asked calls.new
+        ensures { (asked : List BrokerRow) × AsksInTurn C.called calls.old asked calls.new
             × Connects client self.old asked result self.new }
     {
         match calls.claim(slice_in(&client)) {
@@ -391,7 +391,7 @@ impl<C: BrokerCalls> Conversation<C> {
         id: Octets,
         topic: Topic,
     ) -> Result<(), ConversationFault>
-        ensures { (asked : List BrokerRow) × Asks C.called calls.old asked calls.new
+        ensures { (asked : List BrokerRow) × AsksInTurn C.called calls.old asked calls.new
             × Begins id topic self.old asked result self.new }
     {
         if self.subs.reserve(1).is_err() {
@@ -415,7 +415,7 @@ impl<C: BrokerCalls> Conversation<C> {
 
     /// An UNSUBSCRIBE: ends the subscription of this id.
     fn unsubscribe(&mut self, calls: &mut C, id: Octets) -> Result<(), ConversationFault>
-        ensures { (asked : List BrokerRow) × Asks C.called calls.old asked calls.new
+        ensures { (asked : List BrokerRow) × AsksInTurn C.called calls.old asked calls.new
             × EndsSub id self.old asked result self.new }
     {
         let Some(index) = index_of(self.subs.as_slice(), id.as_slice()) else {
@@ -429,8 +429,8 @@ impl<C: BrokerCalls> Conversation<C> {
 
     /// A COMMIT, or a SEND outside a transaction: commits the transaction.
     fn commit(&mut self, calls: &mut C, txn: Txn) -> Result<(), ConversationFault>
-        ensures { (asked : List BrokerRow) × Asks C.called calls.old asked calls.new
-            × Sends txn self.old asked result self.new }
+        ensures { (asked : List BrokerRow) × AsksInTurn C.called calls.old asked calls.new
+            × CommitsSends txn self.old asked result self.new }
     {
         let Some(gate) = self.gate.take() else {
             return Err(ConversationFault::NoMemory);
@@ -443,7 +443,7 @@ impl<C: BrokerCalls> Conversation<C> {
     /// A DISCONNECT: ends what is open.
     fn disconnect(&mut self, calls: &mut C) -> Result<(), ConversationFault>
         ensures closed { self.new ≡ closed exits.Disconnect self.old }
-        ensures rows { Asks C.called calls.old (closing_rows self.old) calls.new }
+        ensures rows { AsksInTurn C.called calls.old (closing_rows self.old) calls.new }
         ensures ok { OnErr result ⊥ }
     {
         self.close(calls, Exit::Disconnect);
@@ -452,7 +452,7 @@ impl<C: BrokerCalls> Conversation<C> {
 
     /// The connection is lost: what is open is ended, and nothing is written any more.
     pub fn lose(&mut self, calls: &mut C)
-        ensures { (asked : List BrokerRow) × Asks C.called calls.old asked calls.new
+        ensures { (asked : List BrokerRow) × AsksInTurn C.called calls.old asked calls.new
             × IsLost self.old asked self.new }
     {
         if self.exit.is_none() {
@@ -463,7 +463,7 @@ impl<C: BrokerCalls> Conversation<C> {
     /// Ends what is open: its subscriptions, and then its gate is given back.
     fn close(&mut self, calls: &mut C, exit: Exit)
         ensures closed { self.new ≡ closed exit self.old }
-        ensures rows { Asks C.called calls.old (closing_rows self.old) calls.new }
+        ensures rows { AsksInTurn C.called calls.old (closing_rows self.old) calls.new }
     {
         self.exit = Some(exit);
         self.more = false;
@@ -474,8 +474,8 @@ impl<C: BrokerCalls> Conversation<C> {
 
     /// Ends what is open, and then sends an ERROR, which is the last that is sent; out of memory it is left out.
     fn fail(&mut self, calls: &mut C, fault: ConversationFault, receipt: Option<&[u8]>)
-        ensures fails { Fails fault (option_map (λ id. id.now) receipt.entry) self.old self.new }
-        ensures rows { Asks C.called calls.old (closing_rows self.old) calls.new }
+        ensures fails { EndsByError fault (option_map (λ id. id.now) receipt.entry) self.old self.new }
+        ensures rows { AsksInTurn C.called calls.old (closing_rows self.old) calls.new }
     {
         self.close(calls, Exit::Error(fault));
         let error = ServerFrame::Error {
@@ -491,8 +491,8 @@ impl<C: BrokerCalls> Conversation<C> {
 
     /// Fails by what an accepted frame asked for; the ERROR has the receipt that it asked for.
     fn refuse(&mut self, calls: &mut C, fault: ConversationFault, receipt: &Option<Octets>)
-        ensures fails { Fails fault receipt.now self.old self.new }
-        ensures rows { Asks C.called calls.old (closing_rows self.old) calls.new }
+        ensures fails { EndsByError fault receipt.now self.old self.new }
+        ensures rows { AsksInTurn C.called calls.old (closing_rows self.old) calls.new }
     {
         self.fail(calls, fault, slice_in(receipt));
     }
@@ -501,8 +501,8 @@ impl<C: BrokerCalls> Conversation<C> {
     /// behind the subscription where it stopped last, so that none waits for another for ever. A subscription that has
     /// lagged ends the connection once all that it had accepted was taken.
     pub fn deliver(&mut self, calls: &mut C) -> bool
-        ensures { (asked : List BrokerRow) × Asks C.called calls.old asked calls.new
-            × Delivers self.old asked result self.new }
+        ensures { (asked : List BrokerRow) × AsksInTurn C.called calls.old asked calls.new
+            × DeliversTurn self.old asked result self.new }
     {
         if self.exit.is_some() {
             return false;
@@ -563,7 +563,7 @@ fn drain_queues<C: BrokerCalls>(
     wire: &mut Wire,
     capacity: u64,
 ) -> (Drained, usize)
-    ensures { (asked : List BrokerRow) × Asks C.called calls.old asked calls.new
+    ensures { (asked : List BrokerRow) × AsksInTurn C.called calls.old asked calls.new
         × DrainsQueues capacity turn asked queues.old wire.old result.0.end queues.new wire.new result.1
         × (result.0.any ≡ has_item asked) }
 {
@@ -590,7 +590,7 @@ fn drain_all<C: BrokerCalls>(
     wire: &mut Wire,
     capacity: u64,
 ) -> (Drained, usize)
-    ensures { (asked : List BrokerRow) × Asks C.called calls.old asked calls.new
+    ensures { (asked : List BrokerRow) × AsksInTurn C.called calls.old asked calls.new
         × DrainsAll capacity asked queues.old wire.old result.0.end queues.new wire.new result.1
         × (result.0.any ≡ has_item asked) }
 {
@@ -617,7 +617,7 @@ fn drain_queue<C: BrokerCalls>(
     wire: &mut Wire,
     capacity: u64,
 ) -> Drained
-    ensures { (asked : List BrokerRow) × Asks C.called calls.old asked calls.new
+    ensures { (asked : List BrokerRow) × AsksInTurn C.called calls.old asked calls.new
         × Drains capacity 0 asked queue.old wire.old result.end queue.new wire.new
         × (result.any ≡ has_item asked) }
 {
@@ -660,7 +660,7 @@ fn drain_queue<C: BrokerCalls>(
 
 /// Ends these subscriptions, in order.
 fn end_subs<C: BrokerCalls>(calls: &mut C, subs: Vec<OpenSub<C>>)
-    ensures { Asks C.called calls.old (map (λ o. Unsubscribes o.sub) subs.items) calls.new }
+    ensures { AsksInTurn C.called calls.old (map (λ o. Unsubscribes o.sub) subs.items) calls.new }
 {
     for open in subs {
         calls.unsubscribe(open.sub);
@@ -670,7 +670,7 @@ fn end_subs<C: BrokerCalls>(calls: &mut C, subs: Vec<OpenSub<C>>)
 /// Gives the gate back, if there is one.
 #[tactic(auto, using(crate::proofs::ConversationLemmas::asks_one))]
 fn give_up<C: BrokerCalls>(calls: &mut C, gate: Option<Gate>)
-    ensures { Asks C.called calls.old (gate_rows gate) calls.new }
+    ensures { AsksInTurn C.called calls.old (gate_rows gate) calls.new }
 {
     match gate {
         Some(gate) => calls.give_back(gate),
@@ -723,7 +723,7 @@ fn commit_by<C: BrokerCalls>(
     gate: Gate,
     txn: Txn,
 ) -> (Gate, Result<(), ConversationFault>)
-    ensures { (asked : List BrokerRow) × Asks C.called calls.old asked calls.new
+    ensures { (asked : List BrokerRow) × AsksInTurn C.called calls.old asked calls.new
         × CommitsBy gate txn asked result.1 result.0 }
 {
     let flying = match gate.begin(alloc, txn) {

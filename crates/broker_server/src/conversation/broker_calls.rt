@@ -16,7 +16,7 @@ pub trait BrokerCalls {
     ghost use Rattle.std.specs.Option.{option_map};
     ghost use Rattle.stomp_frame.specs.ClientFrames.{raw_of};
     ghost use Rattle.broker_locks.specs.Commits.{IsUntouched};
-    ghost use Rattle.broker_server.specs.Judging.{Grows, IsAccepted, IsRefused};
+    ghost use Rattle.broker_server.specs.Judging.{Grows, IsFrameAccepted, IsFrameRefused};
     ghost use Rattle.broker_server.specs.BrokerRows.{BrokerRow, IsGateAfter, SubName, LooksUp, Claims, GivesBack, Subscribes, Unsubscribes, AsksLag, Takes, Commits};
 
     /// An open subscription: its topic, its number, and the end of its queue that takes.
@@ -39,9 +39,9 @@ pub trait BrokerCalls {
     ) -> Result<Step, (ClientFrame, ConversationFault)>
         ensures called { called self.old (LooksUp names.old names.new) self.new }
         ensures accepted { IfOk result (λ step. (known : List (List ℕ)) × Grows names.old known
-            × IsAccepted (raw_of frame) step session.old known session.new names.new) }
+            × IsFrameAccepted (raw_of frame) step session.old known session.new names.new) }
         ensures refused { IfErr result (λ e. (known : List (List ℕ)) × Grows names.old known
-            × IsRefused (raw_of frame) e.1 session.old known) }
+            × IsFrameRefused (raw_of frame) e.1 session.old known) }
         ensures back { IfErr result (λ e. e.0 ≡ frame) };
 
     /// Claims the sender of this client-id, or a new one, and gives its gate.

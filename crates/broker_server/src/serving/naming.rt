@@ -4,7 +4,7 @@ ghost use Rattle.std.specs.Prelude.{◌≡◌, ◌∷◌, ◌++◌, [], ◌<◌,
 ghost use Rattle.stomp_frame.specs.ClientFrames.{raw_of};
 ghost use Rattle.stomp_session.specs.Frames.{field, has_destination, with_destination};
 ghost use Rattle.stomp_session.specs.Names.{is_known, max_topics};
-ghost use Rattle.broker_server.specs.Judging.{Grows, IsAccepted, IsRefused, with_names};
+ghost use Rattle.broker_server.specs.Judging.{Grows, IsFrameAccepted, IsFrameRefused, with_names};
 
 use crate::conversation::ConversationFault;
 use delivery::{ConnectionFault, MAX_TOPICS};
@@ -76,9 +76,9 @@ pub(crate) fn step_by_all(
     names: &mut Names,
 ) -> (Result<Step, (ClientFrame, ConversationFault)>, bool)
     ensures accepted { IfOk result.0 (λ step. (known : List (List ℕ)) × Grows names.old known
-        × IsAccepted (raw_of frame) step session.old known session.new names.new) }
+        × IsFrameAccepted (raw_of frame) step session.old known session.new names.new) }
     ensures refused { IfErr result.0 (λ e. (known : List (List ℕ)) × Grows names.old known
-        × IsRefused (raw_of frame) e.1 session.old known) }
+        × IsFrameRefused (raw_of frame) e.1 session.old known) }
     ensures back { IfErr result.0 (λ e. e.0 ≡ frame) }
     ensures front { OnOk result.0 (names.new ≡ with_destination (raw_of frame)
         (with_names (drop (length names.old) (take max_topics all.old)) names.old)) }

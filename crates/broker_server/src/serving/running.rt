@@ -2,7 +2,7 @@
 
 ghost use Rattle.std.specs.Prelude.{◌≡◌, ℕ, List, length, IfOk, IfErr};
 ghost use Rattle.stomp_frame.specs.ClientFrames.{raw_of};
-ghost use Rattle.broker_server.specs.Judging.{Grows, IsAccepted, IsRefused};
+ghost use Rattle.broker_server.specs.Judging.{Grows, IsFrameAccepted, IsFrameRefused};
 
 use crate::conversation::ConversationFault;
 use crate::serving::hub::MAX_CONNECTIONS;
@@ -50,9 +50,9 @@ impl<R: Wait, W: Side, T: Side> Running<R, W, T> {
         names: &mut Names,
     ) -> (Result<Step, (ClientFrame, ConversationFault)>, bool)
         ensures accepted { IfOk result.0 (λ step. (known : List (List ℕ)) × Grows names.old known
-            × IsAccepted (raw_of frame) step session.old known session.new names.new) }
+            × IsFrameAccepted (raw_of frame) step session.old known session.new names.new) }
         ensures refused { IfErr result.0 (λ e. (known : List (List ℕ)) × Grows names.old known
-            × IsRefused (raw_of frame) e.1 session.old known) }
+            × IsFrameRefused (raw_of frame) e.1 session.old known) }
         ensures back { IfErr result.0 (λ e. e.0 ≡ frame) }
     {
         let mut all = self.names.lock(rt);

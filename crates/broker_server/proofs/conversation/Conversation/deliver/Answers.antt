@@ -2,8 +2,8 @@ use Rattle.std.proofs.Common.{◌≡◌, rules, List, true, false, [], ◌++◌,
 use Rattle.std.proofs.lemmas.List.{places, with_items_is}
 use Rattle.std.specs.Vec.{with_items}
 use Rattle.broker_server.specs.declared.conversation.drained.Taking.{Taking}
-use Rattle.broker_server.specs.BrokerRows.{Asks}
-use Rattle.broker_server.specs.Conversations.{ConversationState, Fails, OpenSubState, closing_rows}
+use Rattle.broker_server.specs.BrokerRows.{AsksInTurn}
+use Rattle.broker_server.specs.Conversations.{ConversationState, EndsByError, OpenSubState, closing_rows}
 use Rattle.broker_server.specs.Delivering.{Settles, has_item}
 use Rattle.broker_server.proofs.ConversationLemmas.{asks_on}
 use Rattle.broker_server.proofs.DeliveringLemmas.{drains_whole}
@@ -105,8 +105,8 @@ returns-in-Failed g c =
     let why = c.in-Failed.fault in
     let last = c.fail.new in
     let rest = closing_rows after in
-    let rows = subst (λ (s : ConversationState). Asks called new.calls (closing_rows s) last.calls) changed c.fail.ensures.rows in
-    let fails = subst (λ (s : ConversationState). Fails why None s last.self) changed c.fail.ensures.fails in
+    let rows = subst (λ (s : ConversationState). AsksInTurn called new.calls (closing_rows s) last.calls) changed c.fail.ensures.rows in
+    let fails = subst (λ (s : ConversationState). EndsByError why None s last.self) changed c.fail.ensures.fails in
     let settles = subst (λ (t : Taking). Settles t (has_item did.0) after rest true last.self) (sym c.in-Failed.is) (refl, refl, fails) in (
       did.0 ++ rest,
       asks_on called c.args.calls.now new.calls last.calls did.0 rest did.1 rows,

@@ -3,7 +3,7 @@ use Rattle.stomp_frame.specs.declared.fault.FrameFault.{FrameFault}
 use Rattle.stomp_frame.specs.declared.raw_frame.RawFrame.{RawFrame}
 use Rattle.stomp_frame.specs.Reader.{NextReturns, Unread}
 use Rattle.broker_server.specs.declared.conversation.conversation_fault.ConversationFault.{ConversationFault}
-use Rattle.broker_server.specs.Conversations.{ConversationState, Fails, closing_rows}
+use Rattle.broker_server.specs.Conversations.{ConversationState, EndsByError, closing_rows}
 use Rattle.broker_server.specs.Hearing.{Rests, TakesFrames}
 use Rattle.broker_server.proofs.HearingLemmas.{nothing_read, reading_fails, some_unread}
 use Rattle.broker_server.proofs.conversation.Conversation.hear_next.Goals as goal
@@ -69,7 +69,7 @@ returns-then-not-is_idle-clause-rests g c =
       capacity = held.capacity;
       turn = held.first;
     } in
-    let fails = subst (λ (w : ConversationFault). Fails w None (record old { reader = left }) new) c.of_reader.ensures c.fail.ensures.fails in
+    let fails = subst (λ (w : ConversationFault). EndsByError w None (record old { reader = left }) new) c.of_reader.ensures c.fail.ensures.fails in
     let reads = reading_fails why held.reader left (λ no. c.in-Err.ensures.answer (λ e. no cc)) (λ yes. let same = c.in-Err.ensures.no_memory cc in (same, some_unread held.reader left (c.is_idle.ensures.due c.if-not-is_idle.true yes) same)) in
     λ e. (
       closing_rows old,

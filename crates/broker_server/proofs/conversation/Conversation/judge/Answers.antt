@@ -4,7 +4,7 @@ use Rattle.broker_server.specs.declared.conversation.conversation_fault.Conversa
 use Rattle.broker_server.specs.BrokerRows.{LooksUp}
 use Rattle.broker_server.specs.Conversations.{ConversationState}
 use Rattle.broker_server.specs.Hearing.{AcceptsFrame, DeniesFrame}
-use Rattle.broker_server.specs.Judging.{IsRefused}
+use Rattle.broker_server.specs.Judging.{IsFrameRefused}
 use Rattle.broker_server.proofs.ConversationLemmas.{asks_one}
 use Rattle.broker_server.proofs.HearingLemmas.{not_asked, not_lacking}
 use Rattle.broker_server.proofs.conversation.Conversation.judge.Goals as goal
@@ -58,7 +58,7 @@ returns-in-Err-clause-refused g c =
       subst (λ (s : ConversationState). DeniesFrame f c.from.result s [] new) c.self.view_is (record {
         known = held.names;
         looks = inl (c.is_known.ensures.known c.if-is_known.true, refl, refl);
-        refused = subst (λ (w : ConversationFault). IsRefused f w held.session held.names) (sym c.from.ensures) c.in-Err.ensures.refused;
+        refused = subst (λ (w : ConversationFault). IsFrameRefused f w held.session held.names) (sym c.from.ensures) c.in-Err.ensures.refused;
         lacks = λ e. absurd (not_lacking _ (sym c.from.ensures ∙ e));
         stay = λ none. c.in-Err.ensures.unnamed;
         same = refl;
