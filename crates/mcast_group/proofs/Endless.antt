@@ -27,8 +27,10 @@ endless_step {Q = Q} s subs = go s.to refl
   where
     more : is_some s.to ≡ false → endless_count (s ∷ subs) ≡ suc (endless_count subs)
     more h = rw h refl
+
     same : is_some s.to ≡ true → endless_count (s ∷ subs) ≡ endless_count subs
     same h = rw h refl
+
     go : (o : Option Stamp) → s.to ≡ o → endless_count (s ∷ subs) ≡ endless_count subs + unended s.to
     go None h = let a = more (ap is_some h) in let u = ap unended h in omega arith
     go (Some end) h = let a = same (ap is_some h) in let u = ap unended h in omega arith
