@@ -11,6 +11,7 @@ pub mod Copying
 pub mod Releasing
 pub mod Learning
 pub mod Opens
+pub mod Endless
 pub mod Subscribing
 pub mod Taking
 pub mod ByNumber

@@ -1,8 +1,7 @@
 //! The subscriptions of a topic.
 
-ghost use Rattle.std.specs.Prelude.{◌≡◌, ℕ, ◌+◌, ◌<◌, ◌≤◌, ◌==◌, [], filter, length, map, not, slice_index_or, slice_set, Some, None, IfOk, OnOk, OnErr, IfErr};
+ghost use Rattle.std.specs.Prelude.{◌≡◌, ℕ, ◌+◌, ◌<◌, ◌≤◌, ◌==◌, [], length, map, slice_index_or, slice_set, Some, None, IfOk, OnOk, OnErr, IfErr};
 ghost use Rattle.std.specs.List.{position, remove};
-ghost use Rattle.std.specs.Option.{is_some};
 ghost use Rattle.mcast_txn.specs.Transaction.{TopicPart};
 ghost use Rattle.sub_queue.specs.Shown.{next_index};
 ghost use Rattle.sub_queue.specs.VecQueue.{after_take, shown_of};
@@ -10,7 +9,7 @@ ghost use Rattle.mcast_group.specs.CellGroup.{open_count};
 ghost use Rattle.mcast_group.specs.Machine.{item_of, key};
 ghost use Rattle.mcast_group.specs.Inner.Copies.{AreOf};
 ghost use Rattle.mcast_group.specs.Inner.GroupInvariant.{Gave, IsReady, entry_of, room_of};
-ghost use Rattle.mcast_group.specs.Inner.Subscriptions.{IsIndexFor, insert_sub};
+ghost use Rattle.mcast_group.specs.Inner.Subscriptions.{IsIndexFor, endless_count, insert_sub};
 ghost use Rattle.mcast_group.specs.declared.subscription.Subscription.{Subscription};
 
 use crate::copies::Copies;
@@ -18,26 +17,29 @@ use crate::pending::PendingPart;
 use crate::subscription::Subscription;
 use mcast_txn::{NoMemory, Stamp};
 use std::alloc::Global;
+use std::collections::VecDeque;
 use std::marker::Model;
 use sub_queue::{Outlet, VecOutlet};
 
-/// The subscriptions of a topic, by rising number, so that one is found by halving. In contracts it is the list of
-/// them.
+/// The subscriptions of a topic, by rising number, so that one is found by halving; how many are open is counted. One
+/// that is taken out moves those before or after it, whichever are fewer. In contracts it is the list of them.
 #[derive(Drop)]
 pub(crate) struct Subscriptions<Q: Outlet + Drop> {
-    subs: Vec<Subscription<Q>>,
+    subs: VecDeque<Subscription<Q>>,
+    /// How many have no end.
+    open_len: usize,
 }
 
 impl<Q: Outlet + Drop> Model for Subscriptions<Q> {
     ghost use Rattle.std.specs.Prelude.{List};
-    ghost use Rattle.mcast_txn.specs.Lists.{RisesBy};
     ghost use Rattle.mcast_group.specs.declared.subscription.Subscription.{Subscription};
+    ghost use Rattle.mcast_group.specs.Inner.Subscriptions.{AreCounted};
 
     ghost Value = { List (Subscription Q) };
 
     ghost view = { λ s. s.subs.items };
 
-    ghost invariant = { λ s. RisesBy (λ (z : Subscription Q). z.number) s.subs.items };
+    ghost invariant = { λ s. AreCounted s.subs.items s.open_len };
 }
 
 impl<Q: Outlet + Drop> Subscriptions<Q> {
@@ -46,7 +48,8 @@ impl<Q: Outlet + Drop> Subscriptions<Q> {
         ensures { result ≡ [] }
     {
         Subscriptions {
-            subs: Vec::new(alloc),
+            subs: VecDeque::new(alloc),
+            open_len: 0,
         }
     }
 
@@ -81,21 +84,23 @@ impl<Q: Outlet + Drop> Subscriptions<Q> {
         self.search(number).ok()
     }
 
-    /// Puts a subscription at the index where it comes; out of memory, it is returned.
+    /// Puts an open subscription at the index where it comes; out of memory, it is returned.
     pub(crate) fn insert(
         &mut self,
         index: usize,
         sub: Subscription<Q>,
     ) -> Result<(), Subscription<Q>>
-        requires { IsIndexFor sub.number self.old index }
+        requires at { IsIndexFor sub.number self.old index }
+        requires begins { sub.to ≡ None }
         ensures ok { OnOk result (self.new ≡ insert_sub sub self.old) }
         ensures err { OnErr result (self.new ≡ self.old) }
         ensures returned { IfErr result (λ returned. returned ≡ sub) }
     {
-        match self.subs.insert(index, sub) {
-            Ok(()) => Ok(()),
-            Err(failed) => Err(failed.value),
+        if let Err(failed) = self.subs.insert(index, sub) {
+            return Err(failed.value);
         }
+        self.open_len += 1;
+        Ok(())
     }
 
     /// Takes out the subscription at an index; with the last one the room of all goes, too.
@@ -104,7 +109,10 @@ impl<Q: Outlet + Drop> Subscriptions<Q> {
         ensures value { result ≡ slice_index_or self.old index result }
         ensures items { self.new ≡ remove self.old index }
     {
-        let sub = self.subs.remove(index);
+        let sub = self.subs.remove(index).unwrap();
+        if sub.to.is_none() {
+            self.open_len -= 1;
+        }
         free_empty(&mut self.subs);
         sub
     }
@@ -126,23 +134,15 @@ impl<Q: Outlet + Drop> Subscriptions<Q> {
             → Q.spare (slice_index_or self.old k d).outlet
             ≤ Q.spare (slice_index_or self.new k d).outlet + 1 }
     {
-        for sub in self.subs.iter_mut() {
-            sub.give(needs, frontier, part, copies);
-        }
+        let left = give_each(&mut self.subs, needs, frontier, part, copies);
+        self.open_len = left;
     }
 
     /// How many are open.
     pub(crate) fn open_len(&self) -> usize
         ensures { result ≡ open_count (map (entry_of Q.shown) self.now) }
     {
-        self.endless_len()
-    }
-
-    /// How many have no end.
-    fn endless_len(&self) -> usize
-        ensures { result ≡ length (filter (λ s. not (is_some s.to)) self.now) }
-    {
-        self.subs.iter().filter(|sub| sub.to.is_none()).count()
+        self.open_len
     }
 
     /// Makes room for `more` items in the outlet of each open subscription; no spare falls.
@@ -154,10 +154,7 @@ impl<Q: Outlet + Drop> Subscriptions<Q> {
         ensures ok { OnOk result ((k : ℕ) (d : Subscription Q) → k < length self.old
             → (slice_index_or self.new k d).to ≡ None → more ≤ Q.spare (slice_index_or self.new k d).outlet) }
     {
-        for sub in self.subs.iter_mut() {
-            sub.reserve(more)?;
-        }
-        Ok(())
+        reserve_in_each(&mut self.subs, more)
     }
 }
 
@@ -174,11 +171,58 @@ impl Subscriptions<VecOutlet> {
     }
 }
 
+/// Gives each open subscription a copy of the part, and returns how many are open then.
+fn give_each<Q: Outlet + Drop>(
+    subs: &mut VecDeque<Subscription<Q>>,
+    needs: &Q::Needs,
+    frontier: Stamp,
+    part: &PendingPart,
+    copies: &mut Copies,
+) -> usize
+    requires ready { (k : ℕ) (d : Subscription Q) → k < length subs.old.items
+        → IsReady Q.shown Q.spare (key part.now) (slice_index_or subs.old.items k d) }
+    requires copies { AreOf part.now.part copies.old }
+    requires many { open_count (map (entry_of Q.shown) subs.old.items) ≤ length copies.old }
+    ensures gave { Gave Q.shown Q.may_accept frontier (item_of part.now) subs.old.items subs.new.items }
+    ensures spare { (k : ℕ) (d : Subscription Q) → k < length subs.old.items
+        → Q.spare (slice_index_or subs.old.items k d).outlet
+        ≤ Q.spare (slice_index_or subs.new.items k d).outlet + 1 }
+    ensures left { result ≡ endless_count subs.new.items }
+{
+    let mut left = 0;
+    for i in 0..subs.len() {
+        let sub = &mut subs[i];
+        sub.give(needs, frontier, part, copies);
+        if sub.to.is_none() {
+            left += 1;
+        }
+    }
+    left
+}
+
+/// Makes room for `more` items in the outlet of each open subscription.
+fn reserve_in_each<Q: Outlet + Drop>(
+    subs: &mut VecDeque<Subscription<Q>>,
+    more: usize,
+) -> Result<(), NoMemory>
+    ensures entries { map (entry_of Q.shown) subs.new.items ≡ map (entry_of Q.shown) subs.old.items }
+    ensures rooms { map (room_of Q.shown) subs.new.items ≡ map (room_of Q.shown) subs.old.items }
+    ensures spares { (k : ℕ) (d : Subscription Q) → k < length subs.old.items
+        → Q.spare (slice_index_or subs.old.items k d).outlet ≤ Q.spare (slice_index_or subs.new.items k d).outlet }
+    ensures ok { OnOk result ((k : ℕ) (d : Subscription Q) → k < length subs.old.items
+        → (slice_index_or subs.new.items k d).to ≡ None → more ≤ Q.spare (slice_index_or subs.new.items k d).outlet) }
+{
+    for i in 0..subs.len() {
+        subs[i].reserve(more)?;
+    }
+    Ok(())
+}
+
 /// Gives the room of a list without items back.
-fn free_empty<T: Drop>(list: &mut Vec<T>)
+fn free_empty<T: Drop>(list: &mut VecDeque<T>)
     ensures { list.new.items ≡ list.old.items }
 {
     if list.is_empty() {
-        *list = Vec::new(*list.allocator());
+        *list = VecDeque::new(*list.allocator());
     }
 }

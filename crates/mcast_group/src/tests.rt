@@ -3,6 +3,7 @@
 mod calls;
 mod cell_group;
 mod cells;
+mod closing;
 mod draining;
 mod made;
 mod many;

@@ -1,6 +1,8 @@
 -- Subscriptions by rising number. It only serves proofs.
-use Rattle.std.specs.Prelude.{◌≡◌, ◌≢◌, ℕ, ◌≤◌, nat_lt, List, [], ◌∷◌, length, if◌then◌else◌}
+use Rattle.std.specs.Prelude.{◌≡◌, ◌≢◌, ℕ, ◌≤◌, nat_lt, not, List, [], ◌∷◌, filter, length, if◌then◌else◌}
 use Rattle.std.specs.List.{AllByRecursion, insert}
+use Rattle.std.specs.Option.{is_some}
+use Rattle.mcast_txn.specs.Lists.{RisesBy}
 use Rattle.mcast_group.specs.declared.subscription.Subscription.{Subscription}
 
 -- a subscription among others that rise by number
@@ -16,3 +18,14 @@ pub record IsIndexFor {Q : Type 0} (number : ℕ) (subs : List (Subscription Q))
   pub within : i ≤ length subs
   pub free : AllByRecursion (λ z. z.number ≢ number) subs
   pub puts : (s : Subscription Q) → s.number ≡ number → insert subs i s ≡ insert_sub s subs
+
+-- how many of these have no end
+abbrev pub endless_count : {Q : Type 0} → List (Subscription Q) → ℕ
+endless_count subs = length (filter (λ s. not (is_some s.to)) subs)
+
+-- What the subscriptions of a topic keep.
+-- rises: their numbers rise.
+-- counted: so many have no end.
+pub record AreCounted {Q : Type 0} (subs : List (Subscription Q)) (many : ℕ) : Type 0 where
+  pub rises : RisesBy (λ z. z.number) subs
+  pub counted : many ≡ endless_count subs
