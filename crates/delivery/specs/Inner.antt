@@ -4,7 +4,6 @@ pub mod Leaving
 pub mod NetInvariant
 pub mod Nexts
 pub mod Readings
-pub mod Returned
 pub mod Rooms
 pub mod Senders
 pub mod Stands

@@ -1,9 +1,9 @@
 //! Senders of the core.
 
-ghost use Rattle.std.specs.Prelude.{◌≡◌, ◌≤◌, ◌+◌, ◌++◌, ◌<◌, ◌==◌, true, false, [], length, Some, None, IfOk, IfSome, OnOk, OnErr, vec_len, vec_capacity};
+ghost use Rattle.std.specs.Prelude.{◌≡◌, ◌≤◌, ◌+◌, ◌++◌, ◌<◌, ◌==◌, true, false, [], length, Some, IfOk, IfSome, OnOk, OnErr, vec_len, vec_capacity};
 ghost use Rattle.std.specs.Arc.{arc_value};
 ghost use Rattle.std.specs.List.{position, remove};
-ghost use Rattle.std.specs.Option.{is_some, option_map};
+ghost use Rattle.std.specs.Option.{option_map};
 ghost use Rattle.std.specs.Result.{result_err};
 ghost use Rattle.mcast_txn.specs.Part.{data_of};
 ghost use Rattle.mcast_txn.specs.TopicSet.{names};
@@ -14,8 +14,7 @@ ghost use Rattle.delivery.specs.Inner.Senders.{gate_of, launched_sender, decide_
 ghost use Rattle.delivery.specs.Inner.Clients.{idle_gate};
 ghost use Rattle.delivery.specs.declared.sending.Sending.TheVariants as sendings;
 ghost use Rattle.delivery.specs.Inner.Leaving.{is_busy};
-ghost use Rattle.delivery.specs.Inner.Returned.{returned_sending};
-ghost use Rattle.delivery.specs.Inner.View.{is_undecided};
+ghost use Rattle.delivery.specs.Inner.View.{is_idle, is_undecided, rested_sender};
 
 use crate::in_flight::InFlight;
 use crate::refusal::Refusal;
@@ -25,27 +24,27 @@ use mcast_txn::{Part, Stamp, Ticket, Tickets, Topic, Txn, TxnId, Verdict};
 use sender_gate::Gate;
 use std::alloc::Global;
 use std::marker::Model;
+use std::mem;
 use std::sync::Arc;
 use stomp_frame::NoMemory;
 
-/// A sender: its transaction, if one is undecided, and the tickets that it has to cancel. What it does with its
-/// transaction is taken out while a call changes it, and is there again as the call ends.
+/// A sender: its gate or its undecided transaction, unless it is resting, and the tickets that it has to cancel.
 #[derive(Drop)]
 pub(crate) struct SenderState {
-    sending: Option<Sending>,
+    sending: Sending,
     leftovers: Vec<Ticket>,
 }
 
 impl Model for SenderState {
     ghost use Rattle.std.specs.Prelude.{vec_len, vec_capacity};
-    ghost use Rattle.delivery.specs.Inner.Returned.{IsReturned, returned_sending};
+    ghost use Rattle.delivery.specs.Inner.Rooms.{KeepsRoom};
     ghost use Rattle.delivery.specs.Inner.View.{SenderView};
 
     ghost Value = { SenderView };
 
-    ghost view = { λ state. record { sending = returned_sending state.sending; leftovers = state.leftovers.items } };
+    ghost view = { λ state. record { sending = state.sending; leftovers = state.leftovers.items } };
 
-    ghost invariant = { λ state. IsReturned state.sending (vec_len state.leftovers) (vec_capacity state.leftovers) };
+    ghost invariant = { λ state. KeepsRoom state.sending (vec_len state.leftovers) (vec_capacity state.leftovers) };
 }
 
 impl SenderState {
@@ -54,28 +53,44 @@ impl SenderState {
         ensures { result ≡ record { sending = sendings.Idle gate; leftovers = [] } }
     {
         SenderState {
-            sending: Some(Sending::Idle(gate)),
+            sending: Sending::Idle(gate),
             leftovers: Vec::new(alloc),
         }
     }
 
-    /// Its gate, if it is between two transactions.
-    pub(crate) fn gate(&self) -> Option<Gate>
-        ensures { result ≡ idle_gate self.now }
+    /// Lets its gate go, if it has one between two transactions: it is resting then.
+    pub(crate) fn rest(&mut self) -> Option<Gate>
+        ensures gate { result ≡ idle_gate self.old }
+        ensures flying { is_flying self.new.sending ≡ is_flying self.old.sending }
+        ensures new { self.new ≡ rested_sender self.old }
     {
-        match &self.sending {
-            Some(Sending::Idle(gate)) => {
-                Some(Gate::resume(gate.sender(), gate.seq(), gate.floor()))
+        match mem::replace(&mut self.sending, Sending::Resting) {
+            Sending::Idle(gate) => Some(gate),
+            Sending::Flying(flying, row) => {
+                self.sending = Sending::Flying(flying, row);
+                None
             }
-            Some(_) => None,
-            None => unreachable!(),
+            Sending::Marked(gate, tickets, fault) => {
+                self.sending = Sending::Marked(gate, tickets, fault);
+                None
+            }
+            Sending::Resting => None,
         }
     }
 
-    /// Launches a transaction, where none is undecided, with all the room that its end may need. Out of memory, and
-    /// where the sender has used its last number, it is what it was.
+    /// Takes its gate back, where it is resting: it goes on from this gate.
+    pub(crate) fn resume(&mut self, gate: Gate)
+        requires { self.old.sending ≡ sendings.Resting }
+        ensures flying { is_flying self.new.sending ≡ is_flying self.old.sending }
+        ensures new { self.new ≡ record self.old { sending = sendings.Idle gate } }
+    {
+        self.sending = Sending::Idle(gate);
+    }
+
+    /// Launches a transaction from its gate, with all the room that its end may need. Out of memory, and where the
+    /// sender has used its last number, it is what it was.
     pub(crate) fn launch(&mut self, alloc: Global, txn: Txn) -> Result<TxnId, NoMemory>
-        requires { is_undecided self.old.sending ≡ false }
+        requires { is_idle self.old.sending ≡ true }
         ensures id { IfOk result (λ id. id ≡ next_id (gate_of self.old.sending)) }
         ensures last { IfOk result (λ id. id.seq ≤ last_number) }
         ensures flying { OnOk result (is_flying self.new.sending ≡ true) }
@@ -95,11 +110,11 @@ impl SenderState {
                     topics,
                     stamp: Stamp::ZERO,
                 };
-                self.sending = Some(Sending::Flying(flying, row));
+                self.sending = Sending::Flying(flying, row);
                 Ok(id)
             }
             Err((gate, _txn, _fault)) => {
-                self.sending = Some(Sending::Idle(gate));
+                self.sending = Sending::Idle(gate);
                 Err(NoMemory)
             }
         }
@@ -109,7 +124,12 @@ impl SenderState {
     pub(crate) fn is_undecided(&self) -> bool
         ensures { result ≡ is_undecided self.now.sending }
     {
-        !matches!(self.sending, Some(Sending::Idle(_)))
+        match &self.sending {
+            Sending::Flying(_, _) => true,
+            Sending::Marked(_, _, _) => true,
+            Sending::Idle(_) => false,
+            Sending::Resting => false,
+        }
     }
 
     /// Whether it has an undecided transaction, or tickets to cancel.
@@ -131,8 +151,8 @@ impl SenderState {
         ensures ok { OnOk result (self.new ≡ decided_sender self.old) }
         ensures err { OnErr result (self.new ≡ self.old) }
     {
-        match self.sending.take() {
-            Some(Sending::Flying(flying, row)) => match flying.decide() {
+        match mem::replace(&mut self.sending, Sending::Resting) {
+            Sending::Flying(flying, row) => match flying.decide() {
                 Ok((gate, verdict)) => {
                     let Row {
                         id,
@@ -140,23 +160,23 @@ impl SenderState {
                         stamp: _,
                     } = row;
                     let stamp = verdict.stamp();
-                    self.sending = Some(Sending::Idle(gate));
+                    self.sending = Sending::Idle(gate);
                     Ok((verdict, Row { id, topics, stamp }))
                 }
                 Err(flying) => {
-                    self.sending = Some(Sending::Flying(flying, row));
+                    self.sending = Sending::Flying(flying, row);
                     Err(Refusal::Incomplete)
                 }
             },
-            Some(Sending::Marked(gate, tickets, fault)) => {
-                self.sending = Some(Sending::Marked(gate, tickets, fault));
+            Sending::Marked(gate, tickets, fault) => {
+                self.sending = Sending::Marked(gate, tickets, fault);
                 Err(Refusal::Marked)
             }
-            Some(Sending::Idle(gate)) => {
-                self.sending = Some(Sending::Idle(gate));
+            Sending::Idle(gate) => {
+                self.sending = Sending::Idle(gate);
                 Err(Refusal::NoFlight)
             }
-            None => unreachable!(),
+            Sending::Resting => Err(Refusal::NoFlight),
         }
     }
 
@@ -165,10 +185,10 @@ impl SenderState {
         ensures { result_err result ≡ flight_refusal self.now.sending }
     {
         match &self.sending {
-            Some(Sending::Flying(_, _)) => Ok(()),
-            Some(Sending::Marked(_, _, _)) => Err(Refusal::Marked),
-            Some(Sending::Idle(_)) => Err(Refusal::NoFlight),
-            None => unreachable!(),
+            Sending::Flying(_, _) => Ok(()),
+            Sending::Marked(_, _, _) => Err(Refusal::Marked),
+            Sending::Idle(_) => Err(Refusal::NoFlight),
+            Sending::Resting => Err(Refusal::NoFlight),
         }
     }
 
@@ -186,7 +206,7 @@ impl SenderState {
         ensures new { self.new ≡ taken_sender topic self.old }
     {
         match &mut self.sending {
-            Some(Sending::Flying(flying, _)) => {
+            Sending::Flying(flying, _) => {
                 if !has_topic(flying.topics().as_slice(), topic) {
                     return Err(Refusal::NotNamed);
                 }
@@ -195,10 +215,9 @@ impl SenderState {
                     None => Err(Refusal::Twice),
                 }
             }
-            Some(Sending::Marked(_, _, _)) => Err(Refusal::Marked),
-            Some(Sending::Idle(_)) => Err(Refusal::NoFlight),
-            // Never reached: by the type's invariant it is there as each call begins.
-            None => Err(Refusal::NoFlight),
+            Sending::Marked(_, _, _) => Err(Refusal::Marked),
+            Sending::Idle(_) => Err(Refusal::NoFlight),
+            Sending::Resting => Err(Refusal::NoFlight),
         }
     }
 
@@ -209,7 +228,7 @@ impl SenderState {
         ensures new { self.new ≡ put_sender ticket self.old }
     {
         match &mut self.sending {
-            Some(Sending::Flying(flying, _)) => {
+            Sending::Flying(flying, _) => {
                 let Ok(()) = flying.put(ticket) else {
                     unreachable!();
                 };
@@ -224,13 +243,11 @@ impl SenderState {
         ensures ended { is_flying self.new.sending ≡ false }
         ensures new { self.new ≡ failed_sender fault self.old }
     {
-        match self.sending.take() {
-            Some(Sending::Flying(flying, _)) => {
-                let (gate, tickets) = flying.withdraw();
-                self.sending = Some(Sending::Marked(gate, tickets, fault));
-            }
-            _ => unreachable!(),
-        }
+        let Sending::Flying(flying, _) = mem::replace(&mut self.sending, Sending::Resting) else {
+            unreachable!();
+        };
+        let (gate, tickets) = flying.withdraw();
+        self.sending = Sending::Marked(gate, tickets, fault);
     }
 
     /// Withdraws its transaction, which a topic refused, and why: its tickets are to be cancelled. It takes no memory.
@@ -242,21 +259,21 @@ impl SenderState {
         ensures err { OnErr result (self.new ≡ self.old) }
         ensures new { self.new ≡ withdrawn_sender self.old }
     {
-        match self.sending.take() {
-            Some(Sending::Marked(gate, tickets, fault)) => {
+        match mem::replace(&mut self.sending, Sending::Resting) {
+            Sending::Marked(gate, tickets, fault) => {
                 keep_tickets(&mut self.leftovers, &tickets);
-                self.sending = Some(Sending::Idle(gate));
+                self.sending = Sending::Idle(gate);
                 Ok(fault)
             }
-            Some(Sending::Flying(flying, row)) => {
-                self.sending = Some(Sending::Flying(flying, row));
+            Sending::Flying(flying, row) => {
+                self.sending = Sending::Flying(flying, row);
                 Err(Refusal::NotMarked)
             }
-            Some(Sending::Idle(gate)) => {
-                self.sending = Some(Sending::Idle(gate));
+            Sending::Idle(gate) => {
+                self.sending = Sending::Idle(gate);
                 Err(Refusal::NoFlight)
             }
-            None => unreachable!(),
+            Sending::Resting => Err(Refusal::NoFlight),
         }
     }
 
@@ -279,18 +296,17 @@ impl SenderState {
     }
 }
 
-/// Takes the gate out, where no transaction is undecided.
-fn take_gate(sending: &mut Option<Sending>) -> Gate
-    requires there { is_some sending.old ≡ true }
-    requires idle { is_undecided (returned_sending sending.old) ≡ false }
-    ensures idle { sending.old ≡ Some (sendings.Idle result) }
-    ensures taken { sending.new ≡ None }
+/// Takes the gate out of a sender that has it.
+fn take_gate(sending: &mut Sending) -> Gate
+    requires { is_idle sending.old ≡ true }
+    ensures idle { sending.old ≡ sendings.Idle result }
+    ensures taken { sending.new ≡ sendings.Resting }
 {
-    match sending.take() {
-        Some(Sending::Idle(gate)) => gate,
-        Some(Sending::Flying(_flying, _row)) => unreachable!(),
-        Some(Sending::Marked(_gate, _tickets, _fault)) => unreachable!(),
-        None => unreachable!(),
+    match mem::replace(sending, Sending::Resting) {
+        Sending::Idle(gate) => gate,
+        Sending::Flying(_flying, _row) => unreachable!(),
+        Sending::Marked(_gate, _tickets, _fault) => unreachable!(),
+        Sending::Resting => unreachable!(),
     }
 }
 

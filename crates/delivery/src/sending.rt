@@ -8,8 +8,11 @@ use sender_gate::Gate;
 /// What a sender does with its transaction, if one is undecided.
 #[derive(Drop)]
 pub(crate) enum Sending {
-    /// None is undecided.
+    /// None is undecided, and the sender has its gate.
     Idle(Gate),
+    /// None is undecided, and the sender's gate isn't here: it was given back, and no connection speaks for the sender.
+    /// While a call changes a sender, it stands for what the call took out.
+    Resting,
     /// One is on its way. With it is the row that the commit list is to have of it, whose stamp isn't known yet.
     Flying(InFlight, Row),
     /// A topic refused it, and why: its tickets are to be cancelled.

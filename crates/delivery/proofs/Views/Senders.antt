@@ -1,4 +1,5 @@
 -- Senders and their undecided transactions.
+pub mod HeldSenders
 pub mod SenderChanges
 pub mod SameSeqAndReceipt
 pub mod LastFailure

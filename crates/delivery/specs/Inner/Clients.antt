@@ -1,12 +1,12 @@
 -- Only serves proofs: the senders as `Senders` holds them beside a core, and what a step makes of both.
-use Rattle.std.specs.Prelude.{◌≡◌, ◌==◌, ℕ, List, [], ◌∷◌, ◌++◌, length, get_or, set, slice_get, Option, Some, None, if◌then◌else◌}
+use Rattle.std.specs.Prelude.{◌≡◌, ◌<◌, ℕ, List, [], ◌∷◌, ◌++◌, length, get_or, nat_lt, set, slice_get, Option, Some, None, if◌then◌else◌}
 use Rattle.std.specs.Option.{option_and_then, option_map_or}
 use Rattle.stomp_frame.specs.ServerFrames.{connected_frame}
 use Rattle.stomp_frame.specs.Writing.{spelling_of}
 use Rattle.sender_gate.specs.declared.fault.ClaimFault.{ClaimFault}
 use Rattle.sender_gate.specs.declared.fault.ClaimFault.TheVariants as claims
 use Rattle.sender_gate.specs.Gate.{GateState}
-use Rattle.sender_gate.specs.Senders.{KeptSender, SendersState, after_give_back, find_kept}
+use Rattle.sender_gate.specs.Senders.{KeptSender, SendersState, after_give_back, claim_refusal, claimed_gate, find_kept}
 use Rattle.delivery.specs.declared.connection_fault.ConnectionFault.{ConnectionFault}
 use Rattle.delivery.specs.declared.event.Event.{Event}
 use Rattle.delivery.specs.declared.outcome.Outcome.{Outcome}
@@ -16,8 +16,9 @@ use Rattle.delivery.specs.Core.Claims.{Claim, claims_of, is_kept, begun_count, k
 use Rattle.delivery.specs.Core.Outcomes.{MayStep, frame_no_memory}
 use Rattle.delivery.specs.Core.Steps.{Reading}
 use Rattle.delivery.specs.Core.State.{Core, core_after}
-use Rattle.delivery.specs.Inner.Stands.{step_of}
-use Rattle.delivery.specs.Inner.View.{View, EndpointView, SenderView, view_of, no_endpoint}
+use Rattle.delivery.specs.Inner.Senders.{sender_in}
+use Rattle.delivery.specs.Inner.Stands.{IsReached, step_of}
+use Rattle.delivery.specs.Inner.View.{View, EndpointView, SenderView, rested_sender, view_of, no_endpoint}
 
 -- ---- what is held
 
@@ -51,6 +52,10 @@ pub record AreClaimed (w : World) (before : List Claim) (clients : SendersState)
 abbrev pub AreClients : Core → SendersState → Type 0
 AreClients k clients = AreClaimed k.world (claims_of k.steps) clients
 
+-- this is held of a core that a run leads to, and these are its senders
+abbrev pub AreHeld : View → SendersState → Type 0
+AreHeld held clients = (k : Core) × IsReached k × (held ≡ view_of k) × AreClients k clients
+
 -- ---- a step
 
 -- the core may answer the event so; this is the view of what it is then, and these are its senders
@@ -68,16 +73,27 @@ refused_claim claims.SenderInUse = ConnectionFault.SenderInUse
 refused_claim claims.TooManyClients = ConnectionFault.TooManyClients
 refused_claim claims.NoMemory = frame_no_memory
 
--- with the sender of this gate, where its number is the next one's
+-- a claim that isn't refused gets the gate of a new sender, or of one that is resting
+abbrev pub MayResume : Option (List ℕ) → SendersState → View → Type 0
+MayResume client clients v =
+    claim_refusal client clients ≡ None
+    → (claimed_gate client clients).sender.0 < length v.senders
+    → (sender_in v (claimed_gate client clients).sender.0).sending ≡ Sending.Resting
+
+-- with the sender of this gate, which goes on from it; one more where it is a new one's
 abbrev pub with_sender_of : GateState → View → View
 with_sender_of gate v =
-    if gate.sender.0 == length v.senders
+    if nat_lt gate.sender.0 (length v.senders)
     then
+    record v {
+      senders = set v.senders gate.sender.0
+          (record (sender_in v gate.sender.0) { sending = Sending.Idle gate });
+    }
+    else
     record v {
       senders = v.senders ++ record { sending = Sending.Idle gate; leftovers = [] } ∷ [];
       verdicts = v.verdicts ++ [] ∷ [];
     }
-    else v
 
 -- the endpoint of a connection that has claimed the sender of this number, with its CONNECTED
 abbrev pub claiming_endpoint : ℕ → EndpointView → EndpointView
@@ -97,6 +113,7 @@ claimed_view gate c v =
 abbrev pub idle_gate : SenderView → Option GateState
 idle_gate x = elim x.sending [
   | Sending.Idle gate ↦ Some gate
+  | Sending.Resting ↦ None
   | Sending.Flying flight row ↦ None
   | Sending.Marked gate tickets fault ↦ None
 ]
@@ -110,3 +127,9 @@ gate_at v c =
 -- these senders, with that gate given back
 abbrev pub given_back : View → ℕ → SendersState → SendersState
 given_back v c clients = option_map_or (λ gate. after_give_back gate clients) (gate_at v c) clients
+
+-- what is held without that gate
+abbrev pub rested_view : ℕ → View → View
+rested_view c v =
+    option_map_or (λ s. record v { senders = set v.senders s (rested_sender (sender_in v s)) })
+    (get_or v.endpoints c no_endpoint).sender v

@@ -15,6 +15,7 @@ pub record PromisedRows : Type 0 where
 -- how many tickets a sender may have to keep once its transaction ends without a verdict
 abbrev pub tickets_to_keep : Sending → ℕ
 tickets_to_keep (Sending.Idle gate) = 0
+tickets_to_keep Sending.Resting = 0
 tickets_to_keep (Sending.Flying flight row) = length flight.tickets
 tickets_to_keep (Sending.Marked gate tickets fault) = length tickets
 
@@ -25,6 +26,7 @@ AreOwn parts = (t : Topic) (p : TopicPart) → held_at t parts ≡ Some p → p.
 -- so are those of a sender's transaction, if one is on its way
 abbrev pub HasOwnParts : Sending → Type 0
 HasOwnParts (Sending.Idle gate) = Unit {0}
+HasOwnParts Sending.Resting = Unit {0}
 HasOwnParts (Sending.Flying flight row) = AreOwn flight.parts
 HasOwnParts (Sending.Marked gate tickets fault) = Unit {0}
 
@@ -36,6 +38,7 @@ pub record KeepsRoom (sending : Sending) (leftovers capacity : ℕ) : Type 0 whe
 -- its transaction is on its way, and no topic refused it
 abbrev pub is_flying : Sending → Bool
 is_flying (Sending.Idle gate) = false
+is_flying Sending.Resting = false
 is_flying (Sending.Flying flight row) = true
 is_flying (Sending.Marked gate tickets fault) = false
 

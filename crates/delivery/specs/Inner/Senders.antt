@@ -61,17 +61,23 @@ IsSpeaker (Err refusal) v c =
 
 -- ---- a transaction begins
 
+-- what stands for a gate that isn't there
+abbrev pub no_gate : GateState
+no_gate = record { sender = record { 0 = 0 }; seq = 0; floor = zero_stamp }
+
 -- the sender between its transactions, as it is or as it was before the undecided one
 abbrev pub gate_of : Sending → GateState
 gate_of (Sending.Idle gate) = gate
+gate_of Sending.Resting = no_gate
 gate_of (Sending.Flying flight row) = gate_after flight flight.floor
 gate_of (Sending.Marked gate tickets fault) = gate
 
--- a transaction of these SENDs is on its way, if none was undecided
+-- a transaction of these SENDs is on its way, if the gate was there
 abbrev pub launched_sending : List SentMessage → Sending → Sending
 launched_sending sends (Sending.Idle gate) =
     Sending.Flying (flight_of gate sends)
     (record { id = next_id gate; topics = topics_of sends; stamp = zero_stamp })
+launched_sending sends Sending.Resting = Sending.Resting
 launched_sending sends (Sending.Flying flight row) = Sending.Flying flight row
 launched_sending sends (Sending.Marked gate tickets fault) = Sending.Marked gate tickets fault
 
@@ -112,6 +118,7 @@ asked_view receipt c v =
 -- why a sender's transaction isn't decided
 abbrev pub decide_refusal : Sending → Option Refusal
 decide_refusal (Sending.Idle gate) = Some refusal.NoFlight
+decide_refusal Sending.Resting = Some refusal.NoFlight
 decide_refusal (Sending.Flying flight row) =
     if list_any (λ s. is_none s.1) flight.tickets then Some refusal.Incomplete else None
 decide_refusal (Sending.Marked gate tickets fault) = Some refusal.Marked
@@ -123,6 +130,7 @@ no_decision = record { id = record { sender = record { 0 = 0 }; seq = 0 }; rows 
 -- the verdict of its transaction
 abbrev pub decision_of : Sending → Decision
 decision_of (Sending.Idle gate) = no_decision
+decision_of Sending.Resting = no_decision
 decision_of (Sending.Flying flight row) =
     record { id = flight.id; rows = ticket_rows flight.tickets }
 decision_of (Sending.Marked gate tickets fault) = no_decision
@@ -134,6 +142,7 @@ no_row = record { id = no_decision.id; topics = []; stamp = zero_stamp }
 -- the row of the commit list
 abbrev pub decided_row : Sending → LogRow
 decided_row (Sending.Idle gate) = no_row
+decided_row Sending.Resting = no_row
 decided_row (Sending.Flying flight row) =
     record row { stamp = greatest (ticket_rows flight.tickets) }
 decided_row (Sending.Marked gate tickets fault) = no_row
@@ -141,6 +150,7 @@ decided_row (Sending.Marked gate tickets fault) = no_row
 -- the stamp is the sender's new floor
 abbrev pub decided_sending : Sending → Sending
 decided_sending (Sending.Idle gate) = Sending.Idle gate
+decided_sending Sending.Resting = Sending.Resting
 decided_sending (Sending.Flying flight row) =
     Sending.Idle (gate_after flight (greatest (ticket_rows flight.tickets)))
 decided_sending (Sending.Marked gate tickets fault) = Sending.Marked gate tickets fault
@@ -202,6 +212,7 @@ is_slot t slots = names t (map (λ s. s.0) slots)
 -- why a part of a sender's transaction isn't proposed at t
 abbrev pub part_refusal : Topic → Sending → Option Refusal
 part_refusal t (Sending.Idle gate) = Some refusal.NoFlight
+part_refusal t Sending.Resting = Some refusal.NoFlight
 part_refusal t (Sending.Flying flight row) =
     if is_slot t flight.tickets
     then (if is_some (held_at t flight.parts) then None else Some refusal.Twice)
@@ -211,12 +222,14 @@ part_refusal t (Sending.Marked gate tickets fault) = Some refusal.Marked
 -- its part at t, if it wasn't taken out
 abbrev pub part_in : Topic → Sending → Option TopicPart
 part_in t (Sending.Idle gate) = None
+part_in t Sending.Resting = None
 part_in t (Sending.Flying flight row) = held_at t flight.parts
 part_in t (Sending.Marked gate tickets fault) = None
 
 -- the part at t is taken out
 abbrev pub taken_sending : Topic → Sending → Sending
 taken_sending t (Sending.Idle gate) = Sending.Idle gate
+taken_sending t Sending.Resting = Sending.Resting
 taken_sending t (Sending.Flying flight row) =
     if is_slot t flight.tickets
     then Sending.Flying (record flight { parts = with_slot t None flight.parts }) row
@@ -230,6 +243,7 @@ taken_sender t x = record x { sending = taken_sending t x.sending }
 -- why no transaction of a sender is proposed
 abbrev pub flight_refusal : Sending → Option Refusal
 flight_refusal (Sending.Idle gate) = Some refusal.NoFlight
+flight_refusal Sending.Resting = Some refusal.NoFlight
 flight_refusal (Sending.Flying flight row) = None
 flight_refusal (Sending.Marked gate tickets fault) = Some refusal.Marked
 
@@ -267,12 +281,14 @@ ticket_in t s part v = record {
 -- the transaction is on its way, and takes the ticket
 abbrev pub takes_ticket : Ticket → Sending → Bool
 takes_ticket ticket (Sending.Idle gate) = false
+takes_ticket ticket Sending.Resting = false
 takes_ticket ticket (Sending.Flying flight row) = is_ok (flight_answer flight ticket)
 takes_ticket ticket (Sending.Marked gate tickets fault) = false
 
 -- the ticket is put, where the transaction takes it
 abbrev pub put_sending : Ticket → Sending → Sending
 put_sending ticket (Sending.Idle gate) = Sending.Idle gate
+put_sending ticket Sending.Resting = Sending.Resting
 put_sending ticket (Sending.Flying flight row) =
     if is_ok (flight_answer flight ticket)
     then
@@ -288,6 +304,7 @@ put_sender ticket x = record x { sending = put_sending ticket x.sending }
 -- a topic refused the transaction
 abbrev pub failed_sending : ProposeFault → Sending → Sending
 failed_sending fault (Sending.Idle gate) = Sending.Idle gate
+failed_sending fault Sending.Resting = Sending.Resting
 failed_sending fault (Sending.Flying flight row) =
     Sending.Marked (gate_after flight flight.floor) (tickets_put (ballot_of flight)) fault
 failed_sending fault (Sending.Marked gate tickets why) = Sending.Marked gate tickets why
@@ -328,12 +345,14 @@ IsProposed t s part (Err fault) v new =
 -- why a sender's transaction isn't withdrawn
 abbrev pub withdraw_refusal : Sending → Option Refusal
 withdraw_refusal (Sending.Idle gate) = Some refusal.NoFlight
+withdraw_refusal Sending.Resting = Some refusal.NoFlight
 withdraw_refusal (Sending.Flying flight row) = Some refusal.NotMarked
 withdraw_refusal (Sending.Marked gate tickets fault) = None
 
 -- why a topic refused it
 abbrev pub failure_of : Sending → Option ProposeFault
 failure_of (Sending.Idle gate) = None
+failure_of Sending.Resting = None
 failure_of (Sending.Flying flight row) = None
 failure_of (Sending.Marked gate tickets fault) = Some fault
 
@@ -341,6 +360,7 @@ failure_of (Sending.Marked gate tickets fault) = Some fault
 abbrev pub withdrawn_sender : SenderView → SenderView
 withdrawn_sender x = elim x.sending [
   | Sending.Idle gate ↦ x
+  | Sending.Resting ↦ x
   | Sending.Flying flight row ↦ x
   | Sending.Marked gate tickets fault ↦ record {
     sending = Sending.Idle gate;

@@ -31,7 +31,7 @@ use Rattle.stomp_session.specs.Names.{is_known}
 use Rattle.delivery.specs.declared.sending.Sending.{Sending}
 use Rattle.delivery.specs.declared.stage.Stage.{Stage}
 use Rattle.delivery.specs.Theorem.Due.{log_row}
-use Rattle.delivery.specs.Machine.World.{World, Undecided, SenderState, Standing, connection_at, sender_at, speaker, subscription_at}
+use Rattle.delivery.specs.Machine.World.{World, Undecided, SenderState, Standing, connection_at, sender_at, speaker, is_in_use, subscription_at}
 use Rattle.delivery.specs.Machine.Moves.{has_ticket, find_verdict}
 use Rattle.delivery.specs.Core.Connections.{live_numbers}
 use Rattle.delivery.specs.Core.Steps.{CoreStep, accepted_of, names_after, reader_limits}
@@ -99,12 +99,28 @@ pub record SenderView : Type 0 where
   pub sending : Sending
   pub leftovers : List Ticket
 
--- sender s in this state
+-- sender s in this state, with its gate
 abbrev pub sender_view : ℕ → SenderState → SenderView
 sender_view s x = record {
   sending = sending_view s x.seq x.floor x.flight;
   leftovers = map (λ k. ticket_of k.id k.ticket) x.leftovers;
 }
+
+-- what a sender does without its gate, if it had one between two transactions
+abbrev pub rested_sending : Sending → Sending
+rested_sending (Sending.Idle gate) = Sending.Resting
+rested_sending Sending.Resting = Sending.Resting
+rested_sending (Sending.Flying flight row) = Sending.Flying flight row
+rested_sending (Sending.Marked gate tickets fault) = Sending.Marked gate tickets fault
+
+-- the same of the sender
+abbrev pub rested_sender : SenderView → SenderView
+rested_sender x = record x { sending = rested_sending x.sending }
+
+-- sender s of this machine: its gate is with it while a connection speaks for it
+abbrev pub held_sender : World → ℕ → SenderView
+held_sender w s =
+    if is_in_use w s then sender_view s (sender_at w s) else rested_sender (sender_view s (sender_at w s))
 
 -- of these verdicts those of sender s, by the seqs of as many transactions
 abbrev pub verdict_list : List Decision → ℕ → ℕ → List (Option Decision)
@@ -221,7 +237,7 @@ view_with names w accepted unread text ids = record {
   names = names;
   capacity = w.capacity;
   groups = map (group_view w) w.topics;
-  senders = each_number (λ s. sender_view s (sender_at w s)) 0 w.senders;
+  senders = each_number (held_sender w) 0 w.senders;
   verdicts = each_number (λ s. verdict_list w.verdicts s (sender_at w s).seq) 0 w.senders;
   endpoints = each_number (λ c. endpoint_view names w c (accepted c) (unread c) (text c)) 0 w.connections;
   subs = each_number (λ s. sub_view w s (ids s)) 0 w.subscriptions;
@@ -310,5 +326,13 @@ group_in v t = get_or v.groups t.0 no_group
 -- a transaction is undecided
 abbrev pub is_undecided : Sending → Bool
 is_undecided (Sending.Idle gate) = false
+is_undecided Sending.Resting = false
 is_undecided (Sending.Flying flight row) = true
 is_undecided (Sending.Marked gate tickets fault) = true
+
+-- a transaction may begin: the gate is there
+abbrev pub is_idle : Sending → Bool
+is_idle (Sending.Idle gate) = true
+is_idle Sending.Resting = false
+is_idle (Sending.Flying flight row) = false
+is_idle (Sending.Marked gate tickets fault) = false

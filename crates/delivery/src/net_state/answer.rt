@@ -2,8 +2,8 @@
 
 ghost use Rattle.std.specs.Prelude.{◌≡◌};
 ghost use Rattle.delivery.specs.Core.State.{Core};
-ghost use Rattle.delivery.specs.Inner.Clients.{AreClients, MakesBoth};
-ghost use Rattle.delivery.specs.Inner.Stands.{IsHeld, IsReached};
+ghost use Rattle.delivery.specs.Inner.Clients.{AreClients, AreHeld, MakesBoth};
+ghost use Rattle.delivery.specs.Inner.Stands.{IsReached};
 ghost use Rattle.delivery.specs.Inner.View.{view_of};
 
 use crate::event::Event;
@@ -15,7 +15,7 @@ impl NetState {
     /// What comes of an event. A CONNECT claims its sender of these, and a connection that is gone gives its gate back
     /// to them.
     pub(crate) fn answer(&mut self, event: &Event, clients: &mut Senders) -> Outcome
-        requires { IsHeld self.old }
+        requires { AreHeld self.old clients.old }
         ensures { (k : Core) → IsReached k → self.old ≡ view_of k → AreClients k clients.old
             → MakesBoth k event.now result self.new clients.new }
     {

@@ -9,7 +9,7 @@ ghost use Rattle.stomp_frame.specs.Reader.{Unread};
 ghost use Rattle.stomp_session.specs.declared.action.Action.TheVariants as actions;
 ghost use Rattle.delivery.specs.Core.State.{Core};
 ghost use Rattle.delivery.specs.declared.event.Event.{Event as Asked};
-ghost use Rattle.delivery.specs.Inner.Clients.{AreClients, MakesBoth, gate_at, given_back, refused_claim, with_sender_of};
+ghost use Rattle.delivery.specs.Inner.Clients.{AreClients, MakesBoth, MayResume, gate_at, given_back, refused_claim, rested_view, with_sender_of};
 ghost use Rattle.delivery.specs.Inner.Nexts.{Asks, MayEnd};
 ghost use Rattle.delivery.specs.Inner.View.{EndpointView, no_endpoint};
 
@@ -43,9 +43,10 @@ fn id_of(client: &Option<Octets>) -> Option<&[u8]>
 }
 
 impl NetState {
-    /// Claims the sender of this client-id, or a new one, and returns its number. Room for a new one is made before it
-    /// is claimed. After `NoMemory` all is what it was.
+    /// Claims the sender of this client-id, which takes its gate back, or a new one, and returns its number. Room for a
+    /// new one is made before it is claimed. After `NoMemory` all is what it was.
     fn claim(&mut self, client: Option<&[u8]>, clients: &mut Senders) -> Result<u64, NoMemory>
+        requires { MayResume (option_map (λ id. id.now) client) clients.old self.old }
         ensures ok { IfOk result
             (λ s. (claimed_gate (option_map (λ id. id.now) client.entry) clients.old).sender.0 ≡ s) }
         ensures claimed { OnOk result
@@ -62,11 +63,14 @@ impl NetState {
             return Err(NoMemory);
         };
         let sender = gate.sender().0;
-        if sender == self.senders.len() as u64 {
+        let index = sender as usize;
+        if index < self.senders.len() {
+            self.table.drop_sender();
+            let state = &mut self.senders[index];
+            state.resume(gate);
+        } else {
             self.senders
                 .push_reserved(SenderState::new(self.alloc, gate));
-        } else {
-            self.table.drop_sender();
         }
         Ok(sender)
     }
@@ -92,7 +96,9 @@ impl NetState {
         client: &Option<Octets>,
         clients: &mut Senders,
     ) -> Result<Outcome, ConnectionFault>
-        requires { connection < length self.old.endpoints }
+        requires there { connection < length self.old.endpoints }
+        requires asks { (k : Core) × (f : Frame) × (left : Unread) × (receipt : Option (List ℕ))
+            × Asks k connection f left (actions.Connected client.now) receipt self.old × AreClients k clients.old }
         ensures ok { IfOk result (λ outcome. (k : Core) (f : Frame) (left : Unread) (receipt : Option (List ℕ))
             → Asks k connection f left (actions.Connected client.now) receipt self.old → AreClients k clients.old
             → MakesBoth k (Asked.Next connection) outcome self.new clients.new) }
@@ -122,23 +128,32 @@ impl NetState {
         }
     }
 
-    /// The gate of the connection's sender, if it has one that is between two transactions.
-    fn gate_of(&self, connection: u64) -> Option<Gate>
-        requires { connection < length self.now.endpoints }
-        ensures { result ≡ gate_at self.now connection }
+    /// Takes the gate of the connection's sender out, if it has one that is between two transactions.
+    fn take_gate(&mut self, connection: u64) -> Option<Gate>
+        requires { connection < length self.old.endpoints }
+        ensures gate { result ≡ gate_at self.old connection }
+        ensures rested { self.new ≡ rested_view connection self.old }
     {
-        let sender = self.endpoints[connection as usize].sender?;
-        let state = self.senders.get(sender as usize)?;
-        state.gate()
+        let endpoint = &self.endpoints[connection as usize];
+        let Some(sender) = endpoint.sender else {
+            return None;
+        };
+        let index = sender as usize;
+        if index >= self.senders.len() {
+            return None;
+        }
+        let state = &mut self.senders[index];
+        state.rest()
     }
 
-    /// Gives the gate of the connection's sender back, if it has one that is between two transactions. It takes no
-    /// memory.
-    pub(super) fn give_back(&self, connection: u64, clients: &mut Senders)
-        requires { connection < length self.now.endpoints }
-        ensures { clients.new ≡ given_back self.now connection clients.old }
+    /// Gives the gate of the connection's sender back, if it has one that is between two transactions: the sender is
+    /// resting then. It takes no memory.
+    pub(super) fn give_back(&mut self, connection: u64, clients: &mut Senders)
+        requires { connection < length self.old.endpoints }
+        ensures given { clients.new ≡ given_back self.old connection clients.old }
+        ensures rested { self.new ≡ rested_view connection self.old }
     {
-        if let Some(gate) = self.gate_of(connection) {
+        if let Some(gate) = self.take_gate(connection) {
             clients.give_back(gate);
         }
     }

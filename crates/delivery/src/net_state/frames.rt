@@ -11,10 +11,10 @@ ghost use Rattle.delivery.specs.Core.State.{Core, is_faulted};
 ghost use Rattle.delivery.specs.Topics.{max_topics};
 ghost use Rattle.delivery.specs.declared.event.Event.{Event as Asked};
 ghost use Rattle.delivery.specs.declared.outcome.Outcome.TheVariants as outcomes;
-ghost use Rattle.delivery.specs.Inner.Clients.{AreClients, MakesBoth};
+ghost use Rattle.delivery.specs.Inner.Clients.{AreClients, AreHeld, MakesBoth};
 ghost use Rattle.delivery.specs.Inner.Nexts.{Asks, AsksNamed, AsksUnnamed, JudgesAt, MayEnd, MayLack, claims_none, idle_objection, is_sending, staged_endpoint, failed_endpoint, shortened_endpoint, error_text, receipt_text, HasFault};
 ghost use Rattle.delivery.specs.Inner.Senders.{asked_view};
-ghost use Rattle.delivery.specs.Inner.Stands.{IsReached, IsChecked, IsHeld, Makes};
+ghost use Rattle.delivery.specs.Inner.Stands.{IsReached, IsChecked, Makes};
 ghost use Rattle.delivery.specs.Inner.View.{EndpointView, view_of, written_endpoint, grouped_view};
 
 use super::{LOG_LIMIT, NetState};
@@ -365,7 +365,7 @@ impl NetState {
     ) -> Result<Outcome, (ConnectionFault, Option<Octets>)>
         requires there { connection < length self.old.endpoints }
         requires asks { (k : Core) × (f : Frame) × (left : Unread)
-            × Asks k connection f left action receipt self.old }
+            × Asks k connection f left action receipt self.old × AreClients k clients.old }
         ensures ok { IfOk result (λ outcome. (k : Core) (f : Frame) (left : Unread)
             → Asks k connection f left action receipt self.old → AreClients k clients.old
             → MakesBoth k (Asked.Next connection) outcome self.new clients.new) }
@@ -393,7 +393,7 @@ impl NetState {
     fn act(&mut self, connection: u64, step: Step, clients: &mut Senders) -> Outcome
         requires there { connection < length self.old.endpoints }
         requires asks { (k : Core) × (f : Frame) × (left : Unread)
-            × AsksNamed k connection f left step.action step.receipt self.old }
+            × AsksNamed k connection f left step.action step.receipt self.old × AreClients k clients.old }
         ensures { (k : Core) (f : Frame) (left : Unread)
             → AsksNamed k connection f left step.action step.receipt self.old → AreClients k clients.old
             → MakesBoth k (Asked.Next connection) result self.new clients.new }
@@ -436,7 +436,7 @@ impl NetState {
     fn read_frame(&mut self, connection: u64, clients: &mut Senders) -> Outcome
         requires there { connection < length self.old.endpoints }
         requires idle { (k : Core) × IsReached k × (idle_objection (view_of k) connection ≡ None)
-            × (self.old ≡ view_of k) }
+            × (self.old ≡ view_of k) × AreClients k clients.old }
         ensures { (k : Core) → IsReached k → idle_objection (view_of k) connection ≡ None → self.old
             ≡ view_of k → AreClients k clients.old
             → MakesBoth k (Asked.Next connection) result self.new clients.new }
@@ -452,7 +452,7 @@ impl NetState {
     /// connection, 87 where it is gone, 81 where it is leaving or has an undecided transaction, 82 where no whole
     /// frame is there yet. A CONNECT claims its sender.
     pub(crate) fn next(&mut self, connection: u64, clients: &mut Senders) -> Outcome
-        requires { IsHeld self.old }
+        requires { AreHeld self.old clients.old }
         ensures { (k : Core) → IsReached k → self.old ≡ view_of k → AreClients k clients.old
             → MakesBoth k (Asked.Next connection) result self.new clients.new }
     {

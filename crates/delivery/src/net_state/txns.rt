@@ -8,7 +8,7 @@ ghost use Rattle.mcast_group.specs.Machine.{last_number};
 ghost use Rattle.delivery.specs.Core.State.{Core};
 ghost use Rattle.delivery.specs.Inner.Senders.{sender_in, speaker_at, launched_id, launched_view, decide_refusal, decided_row, decided_view, receipt_in, confirmed_view, propose_refusal_in, part_in, IsProposed, taken_view, is_group, cancel_refusal_in, cancelled_view, withdraw_refusal, failure_of, withdrawn_view, reads_frames, refused_view};
 ghost use Rattle.delivery.specs.Inner.Stands.{IsHeld, IsReached, Makes};
-ghost use Rattle.delivery.specs.Inner.View.{view_of, no_endpoint, is_undecided};
+ghost use Rattle.delivery.specs.Inner.View.{view_of, no_endpoint, is_idle};
 ghost use Rattle.delivery.specs.declared.event.Event.{Event as Asked};
 
 use crate::net_state::NetState;
@@ -20,13 +20,13 @@ use stomp_frame::NoMemory;
 use sub_queue::VecOutlet;
 
 impl NetState {
-    /// The connection's sender, which has no undecided transaction, launches one, with all the room that the
+    /// The connection's sender, which is between two transactions, launches one, with all the room that the
     /// transaction's later events need. Out of memory, and where the sender has used its last number, all is what it
     /// was.
     pub(super) fn launch(&mut self, connection: u64, txn: Txn) -> Result<TxnId, NoMemory>
         requires there { connection < length self.old.endpoints }
         requires begun { speaker_at self.old connection < length self.old.senders }
-        requires idle { is_undecided (sender_in self.old (speaker_at self.old connection)).sending ≡ false }
+        requires idle { is_idle (sender_in self.old (speaker_at self.old connection)).sending ≡ true }
         ensures id { IfOk result (λ id. id ≡ launched_id self.old connection) }
         ensures last { IfOk result (λ id. id.seq ≤ last_number) }
         ensures ok { OnOk result (self.new ≡ launched_view txn connection self.old) }

@@ -30,7 +30,7 @@ use Rattle.delivery.specs.Core.Steps.{Reading, frame_in, has_effect}
 use Rattle.delivery.specs.Inner.Clients.{AreClaimed, AreClients, MakesBoth, given_back, idle_gate}
 use Rattle.delivery.specs.Inner.Nexts.{Asks, claims_none}
 use Rattle.delivery.specs.Inner.Stands.{IsReached, Makes}
-use Rattle.delivery.specs.Inner.View.{EndpointView, SenderView, View, sender_view, sending_view, view_of, no_endpoint}
+use Rattle.delivery.specs.Inner.View.{EndpointView, SenderView, View, held_sender, sender_view, sending_view, view_of, no_endpoint}
 use Rattle.delivery.proofs.Core.ClaimsStand.{claims_asked}
 use Rattle.delivery.proofs.Views.Clients.Claiming.{same_clients}
 use Rattle.delivery.proofs.Views.Clients.RestingStay.{Rests, closed_rests, is_still, run_rests}
@@ -38,6 +38,7 @@ use Rattle.delivery.proofs.Views.Clients.GivenBack.{departed, gate_by, given, no
 use Rattle.delivery.proofs.Views.Events.LeaveStep.{can_leave, endpoint_oldest, leave_checked, none_to_close}
 use Rattle.delivery.proofs.Views.Lists.ByNumber.{length-each_number}
 use Rattle.delivery.proofs.Views.Runs.ByRunOfCore.{speaks_of}
+use Rattle.delivery.proofs.Views.Senders.HeldSenders.{spoken_used}
 use Rattle.delivery.proofs.Views.Senders.SenderChanges.{endpoint_of, held_of}
 use Rattle.delivery.proofs.Machine.InvariantIsKept.{by_refusal, checked}
 use Rattle.delivery.proofs.Theorem.SendersAreOwn.{no_flight, speaks}
@@ -257,9 +258,9 @@ leave_gone_both k c o new clients reached free none makes h = record {
         let speaking : speaks_for s (connection_at k.world c) ≡ true =
         speaks s (connection_at k.world c) (ap is_gone (can_leave k c free).leaving) e in
         let l = (speaks_of k reached).there c s e in
-        let many : s < length (view_of k).senders = omega (arith, l, length-each_number (λ n. sender_view n (sender_at k.world n)) 0 k.world.senders) in
+        let many : s < length (view_of k).senders = omega (arith, l, length-each_number (held_sender k.world) 0 k.world.senders) in
         let found : slice_get (view_of k).senders s ≡ Some (sender_view s (sender_at k.world s)) =
-        slice_get-get_or (view_of k).senders s (no_sender s) many ∙ ap (λ (x : SenderView). Some x) (held_of k s l) in
+        slice_get-get_or (view_of k).senders s (no_sender s) many ∙ ap (λ (x : SenderView). Some x) (held_of k s l (spoken_used k.world c s speaking)) in
         let gate : idle_gate (sender_view s (sender_at k.world s)) ≡ Some (gate_by k.world s) =
         ap (λ (x : Option Undecided). idle_gate (record { sending = sending_view s (sender_at k.world s).seq (sender_at k.world s).floor x; leftovers = (sender_view s (sender_at k.world s)).leftovers }))
         (ap (λ (n : ℕ). (sender_at k.world n).flight) (sym spoken) ∙ idle) in

@@ -184,6 +184,31 @@ new_gate_is w before clients h client none = (λ i. gate (found_by w before clie
     by None e = refl
     by (Some id) e = one id (is_kept id before) e
 
+-- where one that isn't in use is gone on with it is its own
+pub own_gate_is : (w : World) (before : List Claim) (clients : SendersState) → AreClaimed w before clients → (client : Option (List ℕ)) (s : ℕ)
+    → claimed_sender client before ≡ Some s → is_in_use w s ≡ false
+    → claimed_gate client clients ≡ record { sender = record { 0 = s }; seq = (sender_at w s).seq; floor = (sender_at w s).floor }
+own_gate_is w before clients h client s claims unused = (λ i. gate (found_by w before clients h client i) (h.begun i)) ∙ by client claims
+  where
+    gate : Option KeptSender → ℕ → GateState
+    gate found begun = option_map_or (λ k. unwrap_or k.gate (new_gate k.sender)) found (new_gate (record { 0 = begun }))
+
+    own : ℕ → GateState
+    own n = record { sender = record { 0 = n }; seq = (sender_at w n).seq; floor = (sender_at w n).floor }
+
+    one : (id : List ℕ) (b : Bool) → cond b (Some (kept_sender id before)) None ≡ Some s
+        → gate (cond b (Some (record { client = id; sender = record { 0 = kept_sender id before }; gate = resting_gate w (kept_sender id before) })) None) (begun_count before)
+        ≡ own s
+    one id true e =
+        let n = kept_sender id before in
+        let is = some_same n s e in
+        ap (λ (b : Bool). unwrap_or (cond b None (Some (own n))) (new_gate (record { 0 = n }))) (ap (is_in_use w) is ∙ unused) ∙ ap own is
+    one id false e = none_some s e
+
+    by : (o : Option (List ℕ)) → claimed_sender o before ≡ Some s → gate (option_and_then (kept_entry w before) o) (begun_count before) ≡ own s
+    by None e = none_some s e
+    by (Some id) e = one id (is_kept id before) e
+
 -- a sender that is gone on with has begun
 pub claimed_begun : (client : Option (List ℕ)) (before : List Claim) (s : ℕ) → claimed_sender client before ≡ Some s → s < begun_count before
 claimed_begun None before s e = none_some s e

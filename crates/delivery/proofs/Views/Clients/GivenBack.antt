@@ -1,21 +1,29 @@
--- A connection is gone, whose sender is idle: no connection speaks for that sender then, and its gate is given back.
+-- A connection is gone, whose sender is idle: no connection speaks for that sender then, which is resting, and its gate is given back.
 use Rattle.std.proofs.Common.{◌≡◌, ◌≢◌, ℕ, suc, ◌<◌, ◌==◌, ◌||◌, ◌&&◌, Bool, true, false, cond, List, [], ◌∷◌, length, set, get_or, Option, Some, None, refl, sym, ap, ◌∙◌}
 use Rattle.std.specs.Prelude.{is_none}
 use Rattle.std.specs.List.{list_any}
-use Rattle.std.specs.Option.{option_map}
+use Rattle.std.specs.Option.{option_map, option_map_or}
 use Rattle.std.specs.Str.{bytes_eq}
 use Rattle.std.proofs.lemmas.Bool.{true≢false, eqb-true, eq-eqb}
-use Rattle.std.proofs.lemmas.List.{length-map}
+use Rattle.std.proofs.lemmas.List.{length-map, set-get_or}
 use Rattle.mcast_txn.proofs.Members.{at_set_within}
 use Rattle.mcast_group.proofs.Parts.{some_same, not_true}
 use Rattle.sender_gate.specs.Gate.{GateState}
 use Rattle.sender_gate.specs.Senders.{KeptSender, SendersState, after_give_back, kept_with}
-use Rattle.delivery.specs.Machine.World.{World, Connection, Standing, nobody, connection_at, sender_at, speaks_for, is_in_use}
+use Rattle.delivery.specs.Machine.World.{World, Connection, SenderState, Standing, is_gone, new_sender, nobody, connection_at, sender_at, speaks_for, is_in_use}
 use Rattle.delivery.specs.Core.Claims.{Claim, is_kept, kept_sender}
-use Rattle.delivery.specs.Inner.Clients.{AreClaimed, resting_gate}
-use Rattle.delivery.proofs.Theorem.SendersAreOwn.{Speaks, silent, spoken_sender}
+use Rattle.delivery.specs.Core.Reports.{each_number}
+use Rattle.delivery.specs.Core.State.{Core}
+use Rattle.delivery.specs.Inner.Clients.{AreClaimed, rested_view, resting_gate}
+use Rattle.delivery.specs.Inner.Senders.{sender_in}
+use Rattle.delivery.specs.Inner.Stands.{IsReached}
+use Rattle.delivery.specs.Inner.View.{EndpointView, SenderView, View, held_sender, no_endpoint, rested_sender, sender_view, view_of}
+use Rattle.delivery.proofs.Theorem.SendersAreOwn.{Speaks, silent, speaks, spoken_sender}
 use Rattle.delivery.proofs.Views.Clients.Claiming.{find_mapped, resting_none, same_clients}
 use Rattle.delivery.proofs.Views.Clients.RestingStay.{any_set, any_at}
+use Rattle.delivery.proofs.Views.Runs.ByRunOfCore.{speaks_of}
+use Rattle.delivery.proofs.Views.Senders.HeldSenders.{held_same, senders_alike, spoken_used}
+use Rattle.delivery.proofs.Views.Senders.SenderChanges.{endpoint_of, held_of, number_set}
 
 -- of none of a list it is said
 none_any : {X : Type 0} (p : X → Bool) (xs : List X) (d : X) → ((i : ℕ) → p (get_or xs i d) ≡ false) → list_any p xs ≡ false
@@ -50,6 +58,62 @@ now_unused w c s own there speaks = none_any (speaks_for s) (departed w c).conne
         at_set_within (λ (z : Connection). speaks_for s z ≡ false) w.connections c i _ nobody there (λ k. refl)
         (λ ne. not_true (speaks_for s (connection_at w i)) refl (λ e. ne (own.own i c s e speaks)))
 
+-- it spoke for no other
+other_silent : (w : World) (c s n : ℕ) → speaks_for s (connection_at w c) ≡ true → n ≢ s → speaks_for n (connection_at w c) ≡ false
+other_silent w c s n speaks ne =
+    not_true (speaks_for n (connection_at w c)) refl
+    (λ e. ne (some_same n s (sym (spoken_sender n (connection_at w c) e) ∙ spoken_sender s (connection_at w c) speaks)))
+
+-- ---- what is held of its sender
+
+-- the endpoints stay
+pub rested_endpoints : (c : ℕ) (v : View) → (rested_view c v).endpoints ≡ v.endpoints
+rested_endpoints c v = by (get_or v.endpoints c no_endpoint).sender
+  where
+    by : (o : Option ℕ) → (option_map_or (λ s. record v { senders = set v.senders s (rested_sender (sender_in v s)) }) o v).endpoints ≡ v.endpoints
+    by None = refl
+    by (Some s) = refl
+
+-- once its gate is taken, the senders are held as where the connection is gone
+pub gone_rests : (k : Core) (c : ℕ) → IsReached k → c < length k.world.connections → is_gone (connection_at k.world c).standing ≡ false
+    → rested_view c (view_of k) ≡ record (view_of k) { senders = each_number (held_sender (departed k.world c)) 0 k.world.senders }
+gone_rests k c reached there staying =
+    ap (λ (o : Option ℕ). option_map_or (λ s. record v { senders = set v.senders s (rested_sender (sender_in v s)) }) o v)
+    (ap (λ (l : EndpointView). l.sender) (endpoint_of k c no_endpoint there))
+    ∙ by (connection_at k.world c).sender refl
+  where
+    w : World
+    w = k.world
+
+    u : World
+    u = departed k.world c
+
+    v : View
+    v = view_of k
+
+    by : (o : Option ℕ) → (connection_at k.world c).sender ≡ o
+        → option_map_or (λ s. record (view_of k) { senders = set (view_of k).senders s (rested_sender (sender_in (view_of k) s)) }) o (view_of k)
+        ≡ record (view_of k) { senders = each_number (held_sender (departed k.world c)) 0 k.world.senders }
+    by None e =
+        ap (λ (ss : List SenderView). record v { senders = ss })
+        (senders_alike w c (record { sender = (connection_at w c).sender; standing = Standing.Gone }) (λ s. sym (silent s (connection_at w c) e)))
+    by (Some s) e =
+        let l = (speaks_of k reached).there c s e in
+        let speaking = speaks s (connection_at w c) staying e in
+        let x = sender_at w s in
+        let rest : rested_sender (sender_in v s) ≡ held_sender u s =
+        ap rested_sender (held_of k s l (spoken_used w c s speaking))
+        ∙ sym (ap (λ (b : Bool). cond b (sender_view s x) (rested_sender (sender_view s x))) (now_unused w c s (speaks_of k reached) there speaking)) in
+        let others : (n : ℕ) → n < length w.senders → n ≢ s → held_sender w n ≡ held_sender u n = λ n within ne.
+        held_same w u n
+        (any_set (speaks_for n) w.connections c (record { sender = (connection_at w c).sender; standing = Standing.Gone }) nobody (sym (other_silent w c s n speaking ne))) refl in
+        ap (λ (ss : List SenderView). record v { senders = ss })
+        (ap (λ (y : SenderView). set v.senders s y) rest
+        ∙ (number_set (held_sender w) (held_sender u) w.senders s x l others
+        ∙ ap (λ (ss : List SenderState). each_number (held_sender u) 0 ss) (set-get_or w.senders s new_sender)))
+
+-- ---- its gate
+
 module _ (w : World) (c s : ℕ) (before : List Claim) (clients : SendersState) (own : Speaks w) (there : c < length w.connections)
     (speaks : speaks_for s (connection_at w c) ≡ true) (h : AreClaimed w before clients) where
   abbrev v : World
@@ -65,11 +129,6 @@ module _ (w : World) (c s : ℕ) (before : List Claim) (clients : SendersState) 
   client_stays k true = refl
   client_stays k false = refl
 
-  other_silent : (n : ℕ) → n ≢ s → speaks_for n (connection_at w c) ≡ false
-  other_silent n ne =
-      not_true (speaks_for n (connection_at w c)) refl
-      (λ e. ne (some_same n s (sym (spoken_sender n (connection_at w c) e) ∙ spoken_sender s (connection_at w c) speaks)))
-
   each : (id : List ℕ) (n : ℕ) (b : Bool) → (n == s) ≡ b
       → kept_with gate (record { client = id; sender = record { 0 = n }; gate = resting_gate w n }) ≡ record { client = id; sender = record { 0 = n }; gate = resting_gate v n }
   each id n true e =
@@ -84,7 +143,7 @@ module _ (w : World) (c s : ℕ) (before : List Claim) (clients : SendersState) 
   each id n false e =
       let k : KeptSender = record { client = id; sender = record { 0 = n }; gate = resting_gate w n } in
       ap (λ (b : Bool). cond (b && is_none (resting_gate w n)) (record k { gate = Some gate }) k) e
-      ∙ (λ i. record k { gate = sym (others_rest w c n (other_silent n (λ is. true≢false (sym (eq-eqb n s is) ∙ e)))) i })
+      ∙ (λ i. record k { gate = sym (others_rest w c n (other_silent w c s n speaks (λ is. true≢false (sym (eq-eqb n s is) ∙ e)))) i })
 
   -- it has its gate
   pub given : AreClaimed v before (after_give_back gate clients)

@@ -12,7 +12,7 @@ use Rattle.mcast_txn.specs.Span.{Item}
 use Rattle.mcast_group.specs.declared.fault.ProposeFault.{ProposeFault}
 use Rattle.mcast_group.specs.Machine.{Entry}
 use Rattle.sender_gate.specs.Gate.{GateState}
-use Rattle.delivery.specs.Machine.World.{World, Leftover, SenderState, Standing, is_gone, nobody, new_sender, connection_at, sender_at, speaker, speaker_number, speaks_for, is_in_use, subscription_at, entry_at}
+use Rattle.delivery.specs.Machine.World.{World, Connection, Leftover, SenderState, Standing, is_gone, nobody, new_sender, connection_at, sender_at, speaker, speaker_number, speaks_for, is_in_use, subscription_at, entry_at}
 use Rattle.delivery.specs.Machine.Moves.{Move, world_after, move_refusal, move_effect, find_leftover, find_verdict, commit_effect, proposal_fault, propose_effect, cancel_effect, learn_effect, take_effect, close_effect_of}
 use Rattle.delivery.specs.Machine.Moves.Move.{Opens, Connects, Commits, Unsubscribes, Disconnects, Errs, Lost, Leaves, Proposes, Decides, Withdraws, Cancels, Learns, Takes}
 use Rattle.delivery.specs.Machine.Runs.{run}
@@ -67,13 +67,22 @@ sender_rests w c x e s = by (is_in_use w s) refl
         (get_or-set_other w.senders (speaker_number w c) s x new_sender
         (λ is. true≢false (sym (any_at (speaks_for s) w.connections c nobody refl (subst (λ n. speaks_for n (connection_at w c) ≡ true) (sym is) e)) ∙ u)))
 
--- a connection that isn't gone stands otherwise
+-- a connection that isn't gone speaks for the same sender where it stands otherwise
+pub standing_speaks : (x : Connection) (standing : Standing) → is_gone standing ≡ false → is_gone x.standing ≡ false
+    → (s : ℕ) → speaks_for s (record { sender = x.sender; standing = standing }) ≡ speaks_for s x
+standing_speaks x standing n o s = ap (λ (b : Bool). not b && option_map_or (λ m. m == s) x.sender false) (n ∙ sym o)
+
+-- so the same senders are in use
+standing_used : (w : World) (c : ℕ) (standing : Standing) → is_gone standing ≡ false → is_gone (connection_at w c).standing ≡ false
+    → (s : ℕ) → list_any (speaks_for s) (set w.connections c (record { sender = (connection_at w c).sender; standing = standing })) ≡ is_in_use w s
+standing_used w c standing n o s =
+    any_set (speaks_for s) w.connections c (record { sender = (connection_at w c).sender; standing = standing }) nobody
+    (standing_speaks (connection_at w c) standing n o s)
+
+-- and each that isn't rests
 standing_rests : (w : World) (c : ℕ) (standing : Standing) → is_gone standing ≡ false → is_gone (connection_at w c).standing ≡ false
     → (s : ℕ) → cond (list_any (speaks_for s) (set w.connections c (record { sender = (connection_at w c).sender; standing = standing }))) None (Some (gate_by s (sender_at w s))) ≡ resting_gate w s
-standing_rests w c standing n o s =
-    ap (λ (b : Bool). cond b None (Some (gate_by s (sender_at w s))))
-    (any_set (speaks_for s) w.connections c (record { sender = (connection_at w c).sender; standing = standing }) nobody
-    (ap (λ (b : Bool). not b && option_map_or (λ m. m == s) (connection_at w c).sender false) (n ∙ sym o)))
+standing_rests w c standing n o s = ap (λ (b : Bool). cond b None (Some (gate_by s (sender_at w s)))) (standing_used w c standing n o s)
 
 flown : (w : World) (c : ℕ) (sends : List SentMessage) → speaks_for (speaker_number w c) (connection_at w c) ≡ true → Rests w (commit_effect w c sends)
 flown w c [] e s = refl

@@ -1,5 +1,5 @@
 -- A transaction that begins.
-use Rattle.std.proofs.Common.{◌≡◌, ℕ, ◌+◌, ◌<◌, ◌≤◌, nat_lt, true, false, List, [], ◌∷◌, ◌++◌, length, get_or, set, Option, Some, None, refl, sym, ap, ◌∙◌, arith}
+use Rattle.std.proofs.Common.{◌≡◌, ℕ, ◌+◌, ◌<◌, ◌≤◌, nat_lt, true, List, [], ◌∷◌, ◌++◌, length, get_or, set, Option, Some, None, refl, sym, ap, ◌∙◌, arith}
 use Rattle.std.proofs.lemmas.Bool.{lt-ltb}
 use Rattle.std.proofs.lemmas.List.FromFn.{map-range_with_len_more}
 use Rattle.stomp_frame.specs.declared.raw_frame.RawFrame.{RawFrame}
@@ -14,9 +14,9 @@ use Rattle.delivery.specs.Core.State.{Core}
 use Rattle.delivery.specs.Core.Reports.{each_number}
 use Rattle.delivery.specs.Inner.Senders.{speaker_at, sender_in, launched_sender, launched_id, launched_view, asked_endpoint, asked_view, gate_of}
 use Rattle.delivery.specs.Inner.Stands.{IsReached}
-use Rattle.delivery.specs.Inner.View.{View, EndpointView, SenderView, is_undecided, view_with, sender_view, sending_view, endpoint_view, stage_view, no_endpoint, verdict_list}
+use Rattle.delivery.specs.Inner.View.{View, EndpointView, SenderView, held_sender, is_idle, view_with, sender_view, sending_view, endpoint_view, stage_view, no_endpoint, verdict_list}
 use Rattle.delivery.proofs.Views.Lists.ByNumber.{length-each_number}
-use Rattle.delivery.proofs.Views.Senders.SenderChanges.{IsSpeaking, number_at, endpoint_in, speaker_is, sender_is, speaker_there, senders_with, lists_with, endpoints_with_sender, endpoint_with_sender, next_undecided}
+use Rattle.delivery.proofs.Views.Senders.SenderChanges.{IsSpeaking, number_at, endpoint_in, speaker_is, sender_is, speaker_there, speaker_with, speaking_used, lists_with, endpoints_with_sender, endpoint_with_sender, next_undecided}
 
 -- the sender with its new transaction
 abbrev flown : World → ℕ → List SentMessage → SenderState
@@ -65,11 +65,11 @@ begun_is names k c first others reached there speaking reads idle accepted unrea
     let at = speaker_is names w accepted unread text ids c there in
     let list = verdict_list w.verdicts s (sender_at w s).seq in
     let found : get_or v.verdicts s [] ≡ list = number_at (λ n. verdict_list w.verdicts n (sender_at w n).seq) w.senders s [] known in
-    let senders : set v.senders (speaker_at v c) (launched_sender sends (sender_in v (speaker_at v c))) ≡ each_number (λ n. sender_view n (sender_at (with_sender w s x) n)) 0 (set w.senders s x) =
+    let senders : set v.senders (speaker_at v c) (launched_sender sends (sender_in v (speaker_at v c))) ≡ each_number (held_sender (with_sender w s x)) 0 (set w.senders s x) =
     ap (λ n. set v.senders n (launched_sender sends (sender_in v n))) at
-    ∙ (ap (λ y. set v.senders s (launched_sender sends y)) (sender_is names w accepted unread text ids s known)
+    ∙ (ap (λ y. set v.senders s (launched_sender sends y)) (sender_is names w accepted unread text ids s known (speaking_used w c speaking))
     ∙ (ap (λ y. set v.senders s y) (begun_is_flown w c sends idle)
-    ∙ senders_with w s x known)) in
+    ∙ speaker_with k c x reached speaking)) in
     let verdicts : set v.verdicts (speaker_at v c) (get_or v.verdicts (speaker_at v c) [] ++ None ∷ []) ≡ each_number (λ n. verdict_list w.verdicts n (sender_at (with_sender w s x) n).seq) 0 (set w.senders s x) =
     ap (λ n. set v.verdicts n (get_or v.verdicts n [] ++ None ∷ [])) at
     ∙ (ap (λ y. set v.verdicts s (y ++ None ∷ [])) found
@@ -91,12 +91,12 @@ begun_id_is names k c sends reached there speaking idle accepted unread text ids
     let w = k.world in let s = (speaker_number w c) in
     let v = view_with names w accepted unread text ids in
     ap (λ n. Rattle.sender_gate.specs.Gate.next_id (gate_of (sender_in v n).sending)) (speaker_is names w accepted unread text ids c there)
-    ∙ (ap (λ (y : SenderView). Rattle.sender_gate.specs.Gate.next_id (gate_of y.sending)) (sender_is names w accepted unread text ids s (speaker_there k c reached speaking))
+    ∙ (ap (λ (y : SenderView). Rattle.sender_gate.specs.Gate.next_id (gate_of y.sending)) (sender_is names w accepted unread text ids s (speaker_there k c reached speaking) (speaking_used w c speaking))
     ∙ ap (λ (o : Option Undecided). Rattle.sender_gate.specs.Gate.next_id (gate_of (sending_view s (speaker w c).seq (speaker w c).floor o))) idle)
 
--- what is held has the connection's sender, and none of its transactions is undecided
+-- what is held has the connection's sender, which is between two transactions
 abbrev pub IsIdleIn : View → ℕ → Type 0
-IsIdleIn v c = (speaker_at v c < length v.senders) × (is_undecided (sender_in v (speaker_at v c)).sending ≡ false)
+IsIdleIn v c = (speaker_at v c < length v.senders) × (is_idle (sender_in v (speaker_at v c)).sending ≡ true)
 
 pub idle_in : (names : List (List ℕ)) (k : Core) (c : ℕ) → IsReached k → c < length k.world.connections → IsSpeaking k.world c → (speaker k.world c).flight ≡ None
     → (accepted : ℕ → List RawFrame) (unread : ℕ → Unread) (text ids : ℕ → List ℕ) → IsIdleIn (view_with names k.world accepted unread text ids) c
@@ -105,11 +105,11 @@ idle_in names k c reached there speaking idle accepted unread text ids =
     let v = view_with names w accepted unread text ids in
     let at = speaker_is names w accepted unread text ids c there in
     let known = speaker_there k c reached speaking in
-    let many = length-each_number (λ n. sender_view n (sender_at w n)) 0 w.senders in (
+    let many = length-each_number (held_sender w) 0 w.senders in (
       omega (arith, at, known, many),
-      ap (λ n. is_undecided (sender_in v n).sending) at
-          ∙ (ap (λ (y : SenderView). is_undecided y.sending) (sender_is names w accepted unread text ids s known)
-          ∙ ap (λ (o : Option Undecided). is_undecided (sending_view s (speaker w c).seq (speaker w c).floor o)) idle),
+      ap (λ n. is_idle (sender_in v n).sending) at
+          ∙ (ap (λ (y : SenderView). is_idle y.sending) (sender_is names w accepted unread text ids s known (speaking_used w c speaking))
+          ∙ ap (λ (o : Option Undecided). is_idle (sending_view s (speaker w c).seq (speaker w c).floor o)) idle),
     )
 
 -- so a number was left

@@ -37,10 +37,11 @@ use Rattle.delivery.proofs.Views.Runs.ByRunOfCore.{by_world}
 use Rattle.delivery.proofs.Views.Events.ProposeStep.{group_there}
 use Rattle.delivery.proofs.Views.Endpoints.EndpointsStay.{IsQuiet, quiet_view}
 use Rattle.delivery.proofs.Views.Events.ReleaseStep.{group_at}
-use Rattle.delivery.proofs.Views.Senders.SenderChanges.{held_of, speaker_of, sender_of_endpoint}
+use Rattle.delivery.proofs.Views.Senders.HeldSenders.{held_leftovers}
+use Rattle.delivery.proofs.Views.Senders.SenderChanges.{sender_of, speaker_of, sender_of_endpoint}
 use Rattle.delivery.proofs.Views.Senders.SameSeqAndReceipt.{sender_quiet, topic_quiet}
 use Rattle.delivery.proofs.Views.Events.OneMove.{bool_cases, made_world, made_answer, in_outcome}
-use Rattle.delivery.proofs.Views.Events.ConnectionIsThere.{cancelling_speaking, there_checked, is_there, refusal_first, refusal_after, refused_step, refused_outcome}
+use Rattle.delivery.proofs.Views.Events.ConnectionIsThere.{cancelling_speaking, there_checked, is_there, still_there, refusal_first, refusal_after, refused_step, refused_outcome}
 
 -- ---- the place of a ticket
 
@@ -162,11 +163,11 @@ move_checked q c t was free =
     go false o e = refl
 
 -- the private call's refusal
-refusal_checked : (q : Core) (c s : ℕ) (t : Topic) → IsReached q → c < length q.world.connections → s ≡ speaker_at (view_of q) c
+refusal_checked : (q : Core) (c s : ℕ) (t : Topic) → IsReached q → there_objection (slice_get (view_of q).endpoints c) ≡ None → s ≡ speaker_at (view_of q) c
     → cancel_refusal_in t s (view_of q) ≡ cond (is_topic q.world t) (left_refusal (find_leftover t (speaker q.world c).leftovers)) (Some refusal.NotNamed)
-refusal_checked q c s t was there own =
+refusal_checked q c s t was free own =
     ap (λ (b : Bool). cond (b && is_some (leftover_at t (sender_in (view_of q) s))) None (Some refusal.NotNamed)) (group_there q t was)
-    ∙ (ap (λ (y : SenderView). cond (is_topic q.world t && is_some (leftover_at t y)) None (Some refusal.NotNamed)) (sender_of_endpoint q c s was there own)
+    ∙ (ap (λ (y : SenderView). cond (is_topic q.world t && is_some (leftover_at t y)) None (Some refusal.NotNamed)) (sender_of_endpoint q c s was (is_there q c free) (still_there q c free) own)
     ∙ go (is_topic q.world t) (find_leftover t ks) refl)
   where
     ks : List Leftover
@@ -187,11 +188,11 @@ cancel_takes q s t i was there grouped at = by (find_leftover t ks) refl
     ks : List Leftover
     ks = (sender_at q.world s).leftovers
 
-    held : sender_in (view_of q) s ≡ sender_view s (sender_at q.world s)
-    held = held_of q s there
+    left : (sender_in (view_of q) s).leftovers ≡ map as_ticket ks
+    left = ap (λ (y : SenderView). y.leftovers) (sender_of q s there) ∙ held_leftovers q.world s
 
     placed : position (is_of t) (map as_ticket ks) ≡ Some i
-    placed = sym (ap (leftover_at t) held) ∙ at
+    placed = sym (ap (λ (ts : List Ticket). position (is_of t) ts) left) ∙ at
 
     by : (o : Option Leftover) → find_leftover t ks ≡ o → cancel_fault (leftover_in (sender_in (view_of q) s) i).id (group_in (view_of q) t).topic ≡ None
     by None e = none_some i (sym (no_place t ks e) ∙ placed)
@@ -200,7 +201,7 @@ cancel_takes q s t i was there grouped at = by (find_leftover t ks) refl
         let same : i ≡ h.index = some_same i h.index (sym placed ∙ place_is t ks k h) in
         let topic : is_topic q.world t ≡ true = sym (group_there q t was) ∙ grouped in
         let group = group_at q t no_group (ltb-true t.0 (length q.world.topics) topic) in
-        ap (λ (y : SenderView). cancel_fault (leftover_in y i).id (group_in (view_of q) t).topic) held
+        ap (λ (ts : List Ticket). cancel_fault (get_or ts i no_ticket).id (group_in (view_of q) t).topic) left
         ∙ (ap (λ (n : ℕ). cancel_fault (get_or (map as_ticket ks) n no_ticket).id (group_in (view_of q) t).topic) same
         ∙ (ap (λ (y : Ticket). cancel_fault y.id (group_in (view_of q) t).topic) h.is
         ∙ (ap (λ (g : GroupState). cancel_fault k.id g.topic) group
@@ -238,8 +239,7 @@ not_named false o why e = (refl, sym e)
 pub cancel_refused : (q : Core) (c s : ℕ) (t : Topic) (why : Refusal) → IsReached q → there_objection (slice_get (view_of q).endpoints c) ≡ None → s ≡ speaker_at (view_of q) c
     → Some why ≡ cancel_refusal_in t s (view_of q) → Makes q (Event.Cancel c t) (Outcome.Refused why) (view_of q)
 cancel_refused q c s t why was free own refused =
-    let there = is_there q c free in
-    let h = not_named (is_topic q.world t) (find_leftover t (speaker q.world c).leftovers) why (refused ∙ refusal_checked q c s t was there own) in
+    let h = not_named (is_topic q.world t) (find_leftover t (speaker q.world c).leftovers) why (refused ∙ refusal_checked q c s t was free own) in
     let moved : move_refusal q.world (Move.Cancels c t) ≡ Some Objection.NotNamed = move_checked q c t was free ∙ h.0 in
     refused_step q (Event.Cancel c t) why (Move.Cancels c t) Objection.NotNamed refl moved
     (subst (λ (os : List Outcome). In (Outcome.Refused why) os) (sym (refused_outcome q (Move.Cancels c t) Objection.NotNamed why moved h.1)) (inl refl)) refl
@@ -272,10 +272,10 @@ cancel_makes q c s t was free own allowed =
     let n = speaker_number w c in
     let x = speaker w c in
     let there = is_there q c free in
-    let can = cancels w c t (allowed ∙ refusal_checked q c s t was there own) in
+    let can = cancels w c t (allowed ∙ refusal_checked q c s t was free own) in
     let k = can.ticket in
     let h = found_at t x.leftovers k can.found in
-    let held = sender_of_endpoint q c s was there own in
+    let held = sender_of_endpoint q c s was there (still_there q c free) own in
     let y = after_cancel k.id (topic_at w t) in
     let new : SenderState = record x { leftovers = drop_leftover t x.leftovers } in
     let step = step_of (Event.Cancel c t) Reading.Nothing Outcome.Cancelled in

@@ -1,9 +1,9 @@
 -- A Next whose frame is a CONNECT: its connection speaks for the sender that it claims.
-use Rattle.std.proofs.Common.{◌≡◌, ◌≢◌, ℕ, ◌<◌, ◌==◌, Bool, true, false, cond, not, List, [], ◌∷◌, ◌++◌, length, get_or, set, Option, Some, None, refl, sym, ap, subst, ◌∙◌, arith, append-nil}
+use Rattle.std.proofs.Common.{◌≡◌, ◌≢◌, ℕ, ◌<◌, nat_lt, Bool, true, false, cond, not, List, [], ◌∷◌, ◌++◌, length, get_or, set, Option, Some, None, refl, sym, ap, subst, ◌∙◌, arith, append-nil}
 use Rattle.std.specs.List.{flat_map}
 use Rattle.std.specs.Option.{is_some, option_map, option_map_or, option_or, unwrap_or}
-use Rattle.std.proofs.lemmas.Bool.{eq-eqb, eqb-true, lt-ltb}
-use Rattle.std.proofs.lemmas.List.{get_or-set_same, get_or-set_other}
+use Rattle.std.proofs.lemmas.Bool.{lt-ltb, ltb-true}
+use Rattle.std.proofs.lemmas.List.{get_or-set_same, get_or-set_other, set-get_or}
 use Rattle.mcast_txn.specs.Checks.{first_refusal}
 use Rattle.mcast_group.proofs.Parts.{some_same, none_some, not_true}
 use Rattle.stomp_frame.specs.Cases.{is_connect}
@@ -21,7 +21,7 @@ use Rattle.delivery.specs.declared.event.Event.{Event}
 use Rattle.delivery.specs.declared.outcome.Outcome.{Outcome}
 use Rattle.delivery.specs.declared.sending.Sending.{Sending}
 use Rattle.delivery.specs.Machine.Objections.{Objection}
-use Rattle.delivery.specs.Machine.World.{World, Connection, SenderState, is_gone, nobody, new_sender, connection_at, sender_at, speaker, speaks_for, is_in_use}
+use Rattle.delivery.specs.Machine.World.{World, Connection, SenderState, Undecided, is_gone, nobody, new_sender, connection_at, sender_at, speaker, speaks_for, is_in_use}
 use Rattle.delivery.specs.Machine.Moves.{Move, claim_tests, claimed_senders, connect_effect, move_refusal, needs_idle}
 use Rattle.delivery.specs.Machine.Runs.{run}
 use Rattle.delivery.specs.Core.Claims.{begun_count, claim_of, claimed_sender, claims_of, is_one_too_many}
@@ -31,25 +31,27 @@ use Rattle.delivery.specs.Core.State.{Core, core_for, next_moves, session_at, un
 use Rattle.delivery.specs.Core.Steps.{Reading, accepted_of}
 use Rattle.delivery.specs.Core.Reports.{each_number}
 use Rattle.delivery.specs.Core.Connections.{live_numbers}
-use Rattle.delivery.specs.Inner.Clients.{AreClaimed, AreClients, MakesBoth, refused_claim, with_sender_of}
+use Rattle.delivery.specs.Inner.Clients.{AreClaimed, AreClients, MakesBoth, MayResume, refused_claim, with_sender_of}
 use Rattle.delivery.specs.Inner.Nexts.{Asks, MayEnd}
-use Rattle.delivery.specs.Inner.View.{EndpointView, SenderView, View, endpoint_view, sender_view, stage_view, verdict_list, view_after, view_with, written_endpoint}
+use Rattle.delivery.specs.Inner.Senders.{no_sender, sender_in}
+use Rattle.delivery.specs.Inner.View.{EndpointView, SenderView, View, endpoint_view, held_sender, sender_view, sending_view, stage_view, verdict_list, view_after, view_with, written_endpoint}
 use Rattle.delivery.proofs.Core.ClaimsStand.{connect_of, connect_plain}
 use Rattle.delivery.proofs.Core.FrameWorld.{framed_none}
 use Rattle.delivery.proofs.Machine.SubscriptionSteps.{beyond}
-use Rattle.delivery.proofs.Theorem.SendersAreOwn.{silent, speaks, unspoken}
-use Rattle.delivery.proofs.Views.Clients.Claiming.{UsesOne, after_it, claimed_begun, claimed_number, new_gate_is, refused_alike}
-use Rattle.delivery.proofs.Views.Clients.RestingStay.{any_at, any_set}
+use Rattle.delivery.proofs.Theorem.SendersAreOwn.{silent, speaks, spoken_sender, unspoken}
+use Rattle.delivery.proofs.Views.Clients.Claiming.{UsesOne, after_it, claimed_begun, claimed_number, new_gate_is, own_gate_is, refused_alike}
+use Rattle.delivery.proofs.Views.Clients.RestingStay.{any_set}
 use Rattle.delivery.proofs.Views.Endpoints.EndpointChanges.{with_endpoint}
 use Rattle.delivery.proofs.Views.Events.NextFaults.{asked_objection, by_fault, fault_of_frame, may_lack}
 use Rattle.delivery.proofs.Views.Events.WantsMemory.{connect_wants}
 use Rattle.delivery.proofs.Views.Events.NextFrames.{move_may, moved_world, names_for, replied_view}
-use Rattle.delivery.proofs.Views.Events.NextStep.{idle_flight, idle_open, idle_there, next_of, text_added}
+use Rattle.delivery.proofs.Views.Events.NextStep.{held_still, idle_flight, idle_open, idle_there, next_of}
 use Rattle.delivery.proofs.Views.Events.NextTxns.{later_free}
 use Rattle.delivery.proofs.Views.Events.OpenStep.{get_or-push_default, pushed}
 use Rattle.delivery.proofs.Views.Lists.ByNumber.{length-each_number}
 use Rattle.delivery.proofs.Views.Runs.ByRunOfCore.{speaks_of, stand_of}
 use Rattle.delivery.proofs.Views.Senders.ConnectedSpeak.{has_none}
+use Rattle.delivery.proofs.Views.Senders.HeldSenders.{held_leftovers, held_same, spoken_used, unused_rests, used_held}
 use Rattle.delivery.proofs.Views.Senders.SenderChanges.{number_at, number_set}
 
 -- ---- the machine
@@ -59,13 +61,33 @@ same_sender : (w : World) (c : ℕ) (claimed : Option ℕ) (r : ℕ) → sender_
 same_sender w c None r = get_or-push_default w.senders new_sender r
 same_sender w c (Some s) r = refl
 
+-- the sender that is claimed is in use then
+claimed_used : (w : World) (c : ℕ) (claimed : Option ℕ) → c < length w.connections → is_gone (connection_at w c).standing ≡ false
+    → is_in_use (connect_effect w c claimed) (unwrap_or claimed (length w.senders)) ≡ true
+claimed_used w c claimed there staying =
+    let s = unwrap_or claimed (length w.senders) in
+    let x : Connection = record { sender = Some s; standing = (connection_at w c).standing } in
+    spoken_used (connect_effect w c claimed) c s (ap (speaks_for s) (get_or-set_same w.connections c x nobody there) ∙ speaks s x staying refl)
+
+-- and each other one where it was
+others_used : (w : World) (c : ℕ) (claimed : Option ℕ) → (connection_at w c).sender ≡ None
+    → (r : ℕ) → r ≢ unwrap_or claimed (length w.senders) → is_in_use (connect_effect w c claimed) r ≡ is_in_use w r
+others_used w c claimed none r apart =
+    let s = unwrap_or claimed (length w.senders) in
+    let x : Connection = record { sender = Some s; standing = (connection_at w c).standing } in
+    any_set (speaks_for r) w.connections c x nobody
+    (not_true (speaks_for r x) refl (λ e. apart (some_same r s (sym (spoken_sender r x e)))) ∙ sym (silent r (connection_at w c) none))
+
 -- what lets a connection go on as a sender of this gate
 pub record ConnectsFree (w : World) (c : ℕ) (claimed : Option ℕ) (gate : GateState) : Type 0 where
   pub there : c < length w.connections
+  pub staying : is_gone (connection_at w c).standing ≡ false
+  pub none : (connection_at w c).sender ≡ None
   pub idle : (speaker w c).flight ≡ None
   pub rests : (sender_at w (unwrap_or claimed (length w.senders))).flight ≡ None
   pub number : gate.sender.0 ≡ unwrap_or claimed (length w.senders)
   pub fresh : claimed ≡ None → gate ≡ new_gate (record { 0 = length w.senders })
+  pub goes_on : (s : ℕ) → claimed ≡ Some s → gate ≡ record { sender = record { 0 = s }; seq = (sender_at w s).seq; floor = (sender_at w s).floor }
   pub within : (s : ℕ) → claimed ≡ Some s → s < length w.senders
   pub free : move_refusal w (Move.Connects c claimed) ≡ None
 
@@ -124,7 +146,13 @@ claimed_whole names w c claimed gate d h accepted unread text ids = by claimed r
     V = view_with names w accepted unread text ids
 
     many : length (view_with names w accepted unread text ids).senders ≡ length w.senders
-    many = length-each_number (λ n. sender_view n (sender_at w n)) 0 w.senders
+    many = length-each_number (held_sender w) 0 w.senders
+
+    used : (s : ℕ) → unwrap_or claimed (length w.senders) ≡ s → is_in_use (connect_effect w c claimed) s ≡ true
+    used s is = ap (is_in_use (connect_effect w c claimed)) (sym is) ∙ claimed_used w c claimed h.there h.staying
+
+    others : (n : ℕ) → n ≢ unwrap_or claimed (length w.senders) → held_sender w n ≡ held_sender (connect_effect w c claimed) n
+    others n apart = held_same w (connect_effect w c claimed) n (others_used w c claimed h.none n apart) (same_sender w c claimed n)
 
     endpoints : set (each_number (λ n. endpoint_view names w n (accepted n) (unread n) (text n)) 0 w.connections) c
         (record (get_or (each_number (λ n. endpoint_view names w n (accepted n) (unread n) (text n)) 0 w.connections) c d) { sender = Some gate.sender.0 })
@@ -139,6 +167,9 @@ claimed_whole names w c claimed gate d h accepted unread text ids = by claimed r
     grown : View → View
     grown v = record v { senders = v.senders ++ record { sending = Sending.Idle gate; leftovers = [] } ∷ []; verdicts = v.verdicts ++ [] ∷ [] }
 
+    woken : View → View
+    woken v = record v { senders = set v.senders gate.sender.0 (record (sender_in v gate.sender.0) { sending = Sending.Idle gate }) }
+
     by : (o : Option ℕ) → claimed ≡ o
         → set (each_number (λ n. endpoint_view names w n (accepted n) (unread n) (text n)) 0 w.connections) c
         (record (get_or (each_number (λ n. endpoint_view names w n (accepted n) (unread n) (text n)) 0 w.connections) c d) { sender = Some gate.sender.0 })
@@ -149,20 +180,24 @@ claimed_whole names w c claimed gate d h accepted unread text ids = by claimed r
         let new = connect_effect w c claimed in
         let is_new : new.senders ≡ w.senders ++ new_sender ∷ [] = ap (claimed_senders w.senders) e in
         let gate_is = h.fresh e in
-        let equal : (gate.sender.0 == length v0.senders) ≡ true = eq-eqb gate.sender.0 (length v0.senders) (ap (λ (g : GateState). g.sender.0) gate_is ∙ sym many) in
+        let next : unwrap_or claimed (length w.senders) ≡ length w.senders = ap (λ (o : Option ℕ). unwrap_or o (length w.senders)) e in
+        let number : gate.sender.0 ≡ length w.senders = ap (λ (g : GateState). g.sender.0) gate_is in
+        let beyond_all : nat_lt gate.sender.0 (length v0.senders) ≡ false =
+        not_true (nat_lt gate.sender.0 (length v0.senders)) refl (λ t. (let q = ltb-true gate.sender.0 (length v0.senders) t in absurd (omega (arith, q, number, many)))) in
         let x : SenderView = record { sending = Sending.Idle gate; leftovers = [] } in
         let state : (n : ℕ) → sender_at new n ≡ sender_at w n = same_sender w c claimed in
         let last : sender_at new (length w.senders) ≡ new_sender = state (length w.senders) ∙ beyond w.senders (length w.senders) new_sender (omega arith) in
-        let senders : v0.senders ++ x ∷ [] ≡ each_number (λ n. sender_view n (sender_at new n)) 0 new.senders =
-        pushed (λ n. sender_view n (sender_at w n)) (λ n. sender_view n (sender_at new n)) w.senders new_sender x (λ n l. ap (sender_view n) (sym (state n)))
-        (ap (sender_view (length w.senders)) last ∙ ap (λ (g : GateState). record { sending = Sending.Idle g; leftovers = [] }) (sym gate_is))
-        ∙ ap (λ (ss : List SenderState). each_number (λ n. sender_view n (sender_at new n)) 0 ss) (sym is_new) in
+        let senders : v0.senders ++ x ∷ [] ≡ each_number (held_sender new) 0 new.senders =
+        pushed (held_sender w) (held_sender new) w.senders new_sender x (λ n l. others n (λ is. absurd (omega (arith, l, is, next))))
+        (used_held new (length w.senders) (used (length w.senders) next)
+        ∙ (ap (sender_view (length w.senders)) last ∙ ap (λ (g : GateState). record { sending = Sending.Idle g; leftovers = [] }) (sym gate_is)))
+        ∙ ap (λ (ss : List SenderState). each_number (held_sender new) 0 ss) (sym is_new) in
         let verdicts : v0.verdicts ++ [] ∷ [] ≡ each_number (λ n. verdict_list w.verdicts n (sender_at new n).seq) 0 new.senders =
         pushed (λ n. verdict_list w.verdicts n (sender_at w n).seq) (λ n. verdict_list w.verdicts n (sender_at new n).seq) w.senders new_sender []
         (λ n l. ap (λ (z : SenderState). verdict_list w.verdicts n z.seq) (sym (state n)))
         (ap (λ (z : SenderState). verdict_list w.verdicts (length w.senders) z.seq) last)
         ∙ ap (λ (ss : List SenderState). each_number (λ n. verdict_list w.verdicts n (sender_at new n).seq) 0 ss) (sym is_new) in
-        ap (λ (b : Bool). spoken_for c gate.sender.0 d (cond b (record v0 { senders = v0.senders ++ x ∷ []; verdicts = v0.verdicts ++ [] ∷ [] }) v0)) equal
+        ap (λ (b : Bool). spoken_for c gate.sender.0 d (cond b (woken v0) (grown v0))) beyond_all
         ∙ (λ i. record v0 { senders = senders i; verdicts = verdicts i; endpoints = ends i })
     by (Some s) e ends =
         let v0 = view_with names w accepted unread text ids in
@@ -170,22 +205,33 @@ claimed_whole names w c claimed gate d h accepted unread text ids = by claimed r
         let same : w.senders ≡ new.senders = sym (ap (claimed_senders w.senders) e) in
         let state : (n : ℕ) → sender_at w n ≡ sender_at new n = λ n. sym (same_sender w c claimed n) in
         let l = h.within s e in
-        let number : gate.sender.0 ≡ s = h.number ∙ ap (λ (o : Option ℕ). unwrap_or o (length w.senders)) e in
-        let unlike : (gate.sender.0 == length v0.senders) ≡ false =
-        not_true (gate.sender.0 == length v0.senders) refl (λ t. (let q = eqb-true gate.sender.0 (length v0.senders) t in absurd (omega (arith, q, l, number, many)))) in
-        let x : SenderView = record { sending = Sending.Idle gate; leftovers = [] } in
-        let senders : v0.senders ≡ each_number (λ n. sender_view n (sender_at new n)) 0 new.senders =
-        λ i. each_number (λ n. sender_view n (state n i)) 0 (same i) in
+        let chosen : unwrap_or claimed (length w.senders) ≡ s = ap (λ (o : Option ℕ). unwrap_or o (length w.senders)) e in
+        let number : gate.sender.0 ≡ s = h.number ∙ chosen in
+        let below : nat_lt gate.sender.0 (length v0.senders) ≡ true = lt-ltb gate.sender.0 (length v0.senders) (omega (arith, l, number, many)) in
+        let x = sender_at w s in
+        let flight : x.flight ≡ None = ap (λ (n : ℕ). (sender_at w n).flight) (sym chosen) ∙ h.rests in
+        let sending : Sending.Idle gate ≡ sending_view s x.seq x.floor x.flight =
+        ap Sending.Idle (h.goes_on s e) ∙ ap (λ (o : Option Undecided). sending_view s x.seq x.floor o) (sym flight) in
+        let left : (sender_in v0 s).leftovers ≡ (sender_view s x).leftovers =
+        ap (λ (y : SenderView). y.leftovers) (number_at (held_sender w) w.senders s (no_sender s) l) ∙ held_leftovers w s in
+        let own : record (sender_in v0 s) { sending = Sending.Idle gate } ≡ held_sender new s =
+        (λ i. record { sending = sending i; leftovers = left i }) ∙ (ap (sender_view s) (state s) ∙ sym (used_held new s (used s chosen))) in
+        let senders : set v0.senders gate.sender.0 (record (sender_in v0 gate.sender.0) { sending = Sending.Idle gate }) ≡ each_number (held_sender new) 0 new.senders =
+        ap (λ (n : ℕ). set v0.senders n (record (sender_in v0 n) { sending = Sending.Idle gate })) number
+        ∙ (ap (λ (y : SenderView). set v0.senders s y) own
+        ∙ (number_set (held_sender w) (held_sender new) w.senders s x l (λ n within other. others n (λ is. other (is ∙ chosen)))
+        ∙ ap (λ (ss : List SenderState). each_number (held_sender new) 0 ss) (set-get_or w.senders s new_sender ∙ same))) in
         let verdicts : v0.verdicts ≡ each_number (λ n. verdict_list w.verdicts n (sender_at new n).seq) 0 new.senders =
         λ i. each_number (λ n. verdict_list w.verdicts n (state n i).seq) 0 (same i) in
-        ap (λ (b : Bool). spoken_for c gate.sender.0 d (cond b (record v0 { senders = v0.senders ++ x ∷ []; verdicts = v0.verdicts ++ [] ∷ [] }) v0)) unlike
+        ap (λ (b : Bool). spoken_for c gate.sender.0 d (cond b (woken v0) (grown v0))) below
         ∙ (λ i. record v0 { senders = senders i; verdicts = verdicts i; endpoints = ends i })
 
--- there are as many endpoints with a new sender
+-- there are as many endpoints with the sender
 pub sender_endpoints : (gate : GateState) (v : View) → length (with_sender_of gate v).endpoints ≡ length v.endpoints
-sender_endpoints gate v = by (gate.sender.0 == length v.senders)
+sender_endpoints gate v = by (nat_lt gate.sender.0 (length v.senders))
   where
-    by : (b : Bool) → length (cond b (record v { senders = v.senders ++ record { sending = Sending.Idle gate; leftovers = [] } ∷ []; verdicts = v.verdicts ++ [] ∷ [] }) v).endpoints ≡ length v.endpoints
+    by : (b : Bool) → length (cond b (record v { senders = set v.senders gate.sender.0 (record (sender_in v gate.sender.0) { sending = Sending.Idle gate }) })
+        (record v { senders = v.senders ++ record { sending = Sending.Idle gate; leftovers = [] } ∷ []; verdicts = v.verdicts ++ [] ∷ [] })).endpoints ≡ length v.endpoints
     by true = refl
     by false = refl
 
@@ -214,29 +260,10 @@ first_fails false b e = refl
 uses_one : (w : World) (c : ℕ) (claimed : Option ℕ) → c < length w.connections → is_gone (connection_at w c).standing ≡ false → (connection_at w c).sender ≡ None
     → UsesOne w (connect_effect w c claimed) (length w.senders) (unwrap_or claimed (length w.senders))
 uses_one w c claimed there staying none = record {
-  used = any_at (speaks_for s) v.connections c nobody refl (ap (speaks_for s) now ∙ speaks s x staying refl);
+  used = claimed_used w c claimed there staying;
   others = λ r apart within.
-      λ i. cond (in_use r apart i) None (Some (record { sender = record { 0 = r }; seq = (same_sender w c claimed r i).seq; floor = (same_sender w c claimed r i).floor }));
+      λ i. cond (others_used w c claimed none r apart i) None (Some (record { sender = record { 0 = r }; seq = (same_sender w c claimed r i).seq; floor = (same_sender w c claimed r i).floor }));
 }
-  where
-    s : ℕ
-    s = unwrap_or claimed (length w.senders)
-
-    v : World
-    v = connect_effect w c claimed
-
-    x : Connection
-    x = record { sender = Some (unwrap_or claimed (length w.senders)); standing = (connection_at w c).standing }
-
-    now : connection_at (connect_effect w c claimed) c ≡ record { sender = Some (unwrap_or claimed (length w.senders)); standing = (connection_at w c).standing }
-    now = get_or-set_same w.connections c _ nobody there
-
-    in_use : (r : ℕ) → r ≢ unwrap_or claimed (length w.senders) → is_in_use (connect_effect w c claimed) r ≡ is_in_use w r
-    in_use r apart =
-        any_set (speaks_for r) w.connections c (record { sender = Some (unwrap_or claimed (length w.senders)); standing = (connection_at w c).standing }) nobody
-        (not_true (speaks_for r (record { sender = Some (unwrap_or claimed (length w.senders)); standing = (connection_at w c).standing })) refl
-        (λ e. apart (some_same r (unwrap_or claimed (length w.senders)) (sym (Rattle.delivery.proofs.Theorem.SendersAreOwn.spoken_sender r _ e))))
-        ∙ sym (silent r (connection_at w c) none))
 
 -- ---- the step
 
@@ -249,8 +276,8 @@ module _ (k : Core) (c : ℕ) (f : RawFrame) (left : Unread) (client receipt : O
   connecting : (is_connect f.command ≡ true) × (client_of f ≡ client)
   connecting = connect_of f.command (session_at k c) f client asks.does
 
-  no_sender : (connection_at k.world c).sender ≡ None
-  no_sender = has_none k c f asks.reached connecting.0 asks.free
+  speaks_for_none : (connection_at k.world c).sender ≡ None
+  speaks_for_none = has_none k c f asks.reached connecting.0 asks.free
 
   same_core : core_for k f ≡ k
   same_core = framed_none k f (connect_plain f.command connecting.0)
@@ -258,33 +285,39 @@ module _ (k : Core) (c : ℕ) (f : RawFrame) (left : Unread) (client receipt : O
   many : length k.world.senders ≡ begun_count (claims_of k.steps)
   many = (stand_of k asks.reached).begun
 
-  -- where they don't refuse it, nothing stands against it
+  within : (s : ℕ) → claimed_sender client (claims_of k.steps) ≡ Some s → s < length k.world.senders
+  within s e = let l = claimed_begun client (claims_of k.steps) s e in let m = many in omega (arith, l, m)
+
+  -- where they don't refuse it, the sender that it goes on with isn't in use
+  unused : claim_refusal client clients ≡ None → option_map_or (is_in_use k.world) (claimed_sender client (claims_of k.steps)) false ≡ false
+  unused allowed =
+      first_fails (option_map_or (is_in_use k.world) (claimed_sender client (claims_of k.steps)) false) (is_one_too_many client (claims_of k.steps))
+      (claim_alike ∙ ap (option_map refused_claim) allowed)
+
+  sender_unused : claim_refusal client clients ≡ None → (s : ℕ) → claimed_sender client (claims_of k.steps) ≡ Some s → is_in_use k.world s ≡ false
+  sender_unused allowed s e = ap (λ (o : Option ℕ). option_map_or (is_in_use k.world) o false) (sym e) ∙ unused allowed
+
+  -- nothing stands against it
   connects_free : claim_refusal client clients ≡ None
       → ConnectsFree (core_for k f).world c (claimed_sender client (claims_of k.steps)) (claimed_gate client clients)
   connects_free allowed =
       subst (λ (z : Core). ConnectsFree z.world c (claimed_sender client (claims_of k.steps)) (claimed_gate client clients)) (sym same_core) (record {
         there = idle_there k.world c asks.idle;
+        staying = ap is_gone (idle_open k.world c asks.idle);
+        none = speaks_for_none;
         idle = idle_flight k.world c asks.idle;
         rests = rested (claimed_sender client (claims_of k.steps)) refl;
         number = claimed_number k.world (claims_of k.steps) clients kept client
             ∙ ap (λ (n : ℕ). unwrap_or (claimed_sender client (claims_of k.steps)) n) (sym many);
         fresh = λ none. new_gate_is k.world (claims_of k.steps) clients kept client none ∙ ap (λ (n : ℕ). new_gate (record { 0 = n })) (sym many);
+        goes_on = λ s e. own_gate_is k.world (claims_of k.steps) clients kept client s e (sender_unused allowed s e);
         within = within;
-        free = connect_free k.world c (claimed_sender client (claims_of k.steps)) asks.idle no_sender within unused;
+        free = connect_free k.world c (claimed_sender client (claims_of k.steps)) asks.idle speaks_for_none within (unused allowed);
       })
     where
-      unused : option_map_or (is_in_use k.world) (claimed_sender client (claims_of k.steps)) false ≡ false
-      unused =
-          first_fails (option_map_or (is_in_use k.world) (claimed_sender client (claims_of k.steps)) false) (is_one_too_many client (claims_of k.steps))
-          (claim_alike ∙ ap (option_map refused_claim) allowed)
-
-      within : (s : ℕ) → claimed_sender client (claims_of k.steps) ≡ Some s → s < length k.world.senders
-      within s e = let l = claimed_begun client (claims_of k.steps) s e in let m = many in omega (arith, l, m)
-
       rested : (o : Option ℕ) → claimed_sender client (claims_of k.steps) ≡ o → (sender_at k.world (unwrap_or o (length k.world.senders))).flight ≡ None
       rested None e = ap (λ (y : SenderState). y.flight) (beyond k.world.senders (length k.world.senders) new_sender (omega arith))
-      rested (Some s) e =
-          ((speaks_of k asks.reached).resting s (unspoken k.world s (ap (λ (o : Option ℕ). option_map_or (is_in_use k.world) o false) (sym e) ∙ unused))).0
+      rested (Some s) e = ((speaks_of k asks.reached).resting s (unspoken k.world s (sender_unused allowed s e))).0
 
   -- a refusal of theirs ends it
   pub claim_refused : (fault : ClaimFault) → claim_refusal client clients ≡ Some fault → MayEnd k c f (refused_claim fault)
@@ -299,6 +332,39 @@ module _ (k : Core) (c : ℕ) (f : RawFrame) (left : Unread) (client receipt : O
   claim_lacks allowed =
       may_lack k c f asks.cased asks.free (ap (claim_fault k) asks.does ∙ (claim_alike ∙ ap (option_map refused_claim) allowed))
       (connect_wants k c f left client receipt held asks)
+
+  -- CONNECTED is written, and else all is held as it was
+  still : (written : View) (d : EndpointView) → written ≡ with_endpoint held c (written_endpoint (spelling_of connected_frame) (get_or held.endpoints c d))
+      → written ≡ held_still (names_for k f) (core_for k f) (core_for k f).world c (Reading.Finds f left) Outcome.Done
+  still written d wrote =
+      replied_view k c f left (actions.Connected client) receipt held written Outcome.Done (spelling_of connected_frame) d asks refl
+      (sym (append-nil (spelling_of connected_frame))
+      ∙ ap (λ (b : Bool). flat_map spelling_of (cond b (connected_frame ∷ []) (receipts_of f))) (sym connecting.0)) wrote
+
+  -- a sender that it goes on with is resting
+  pub claim_rests : (written : View) (d : EndpointView) → written ≡ with_endpoint held c (written_endpoint (spelling_of connected_frame) (get_or held.endpoints c d))
+      → MayResume client clients written
+  claim_rests written d wrote allowed there = by (claimed_sender client (claims_of k.steps)) refl
+    where
+      n : ℕ
+      n = (claimed_gate client clients).sender.0
+
+      senders : written.senders ≡ each_number (held_sender k.world) 0 k.world.senders
+      senders = ap (λ (v : View). v.senders) (still written d wrote) ∙ ap (λ (z : Core). each_number (held_sender z.world) 0 z.world.senders) same_core
+
+      number : (claimed_gate client clients).sender.0 ≡ unwrap_or (claimed_sender client (claims_of k.steps)) (begun_count (claims_of k.steps))
+      number = claimed_number k.world (claims_of k.steps) clients kept client
+
+      by : (o : Option ℕ) → claimed_sender client (claims_of k.steps) ≡ o → (sender_in written (claimed_gate client clients).sender.0).sending ≡ Sending.Resting
+      by None e =
+          let next = number ∙ ap (λ (o : Option ℕ). unwrap_or o (begun_count (claims_of k.steps))) e in
+          let len = ap (λ (ss : List SenderView). length ss) senders ∙ length-each_number (held_sender k.world) 0 k.world.senders in
+          let all = many in absurd (omega (arith, there, next, len, all))
+      by (Some s) e =
+          ap (λ (m : ℕ). (sender_in written m).sending) (number ∙ ap (λ (o : Option ℕ). unwrap_or o (begun_count (claims_of k.steps))) e)
+          ∙ (ap (λ (ss : List SenderView). (get_or ss s (no_sender s)).sending) senders
+          ∙ (ap (λ (y : SenderView). y.sending) (number_at (held_sender k.world) k.world.senders s (no_sender s) (within s e))
+          ∙ unused_rests k.world s (speaks_of k asks.reached) (sender_unused allowed s e)))
 
   -- its connection speaks for the sender that it claims, and is answered by CONNECTED
   pub connect_both : (written mid new : View) (s : ℕ) (later : SendersState) (d : EndpointView) → claim_refusal client clients ≡ None
@@ -318,16 +384,12 @@ module _ (k : Core) (c : ℕ) (f : RawFrame) (left : Unread) (client receipt : O
       let q = core_for k f in
       let can = connects_free allowed in
       let unclaimed : claim_fault k (actions.Connected client) ≡ None = claim_alike ∙ ap (option_map refused_claim) allowed in
-      let text : spelling_of connected_frame ≡ text_added (Reading.Finds f left) Outcome.Done =
-      sym (append-nil (spelling_of connected_frame))
-      ∙ ap (λ (b : Bool). flat_map spelling_of (cond b (connected_frame ∷ []) (receipts_of f))) (sym connecting.0) in
-      let still = replied_view k c f left (actions.Connected client) receipt held written Outcome.Done (spelling_of connected_frame) d asks refl text wrote in
       let whole = claimed_whole (names_for k f) q.world c sender gate d can (λ n. accepted_of n steps) (λ n. unread_at n steps) (λ n. text_out k.names n steps) (λ n. sub_id_text n k.steps) in
       let world : run (next_moves k c (Reading.Finds f left) Outcome.Done) k.world ≡ connect_effect q.world c sender =
       moved_world k c f left (actions.Connected client) move Outcome.Done asks.does refl can.free refl refl in
       let uses : UsesOne k.world (connect_effect k.world c sender) (begun_count before) (unwrap_or sender (begun_count before)) =
       subst (λ (n : ℕ). UsesOne k.world (connect_effect k.world c sender) n (unwrap_or sender n)) many
-      (uses_one k.world c sender (idle_there k.world c asks.idle) (ap is_gone (idle_open k.world c asks.idle)) no_sender) in
+      (uses_one k.world c sender (idle_there k.world c asks.idle) (ap is_gone (idle_open k.world c asks.idle)) speaks_for_none) in
       let one : record { connection = c; client = client } ∷ before ≡ claim_of (Event.Next c) (Some f) ++ before =
       (λ i. record { connection = c; client = sym connecting.1 i } ∷ before)
       ∙ ap (λ (b : Bool). cond b (record { connection = c; client = client_of f } ∷ []) [] ++ before) (sym connecting.0) in
@@ -336,7 +398,7 @@ module _ (k : Core) (c : ℕ) (f : RawFrame) (left : Unread) (client receipt : O
         may = move_may k c f left (actions.Connected client) receipt held move Outcome.Done asks unclaimed refl can.free refl;
         view = spoke
             ∙ ((λ i. spoken_for c (sym number i) d (claimed i))
-            ∙ (ap (λ (v : View). spoken_for c gate.sender.0 d (with_sender_of gate v)) still
+            ∙ (ap (λ (v : View). spoken_for c gate.sender.0 d (with_sender_of gate v)) (still written d wrote)
             ∙ (whole
             ∙ ap (λ (v : World). view_after k.names v steps) (sym world))));
         claimed = subst (λ (v : World). AreClaimed v (claim_of (Event.Next c) (Some f) ++ before) later)

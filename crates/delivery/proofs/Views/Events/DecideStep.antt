@@ -37,14 +37,14 @@ use Rattle.delivery.specs.Core.Reports.{each_number}
 use Rattle.delivery.specs.Core.Outcomes.{move_outcome, is_any}
 use Rattle.delivery.specs.Inner.Senders.{there_objection, speaker_at, sender_in, decide_refusal, decision_of, decided_row, decided_sender, verdicts_with, decided_view, asked_stage, receipt_in, with_receipt, confirmed_endpoint, confirmed_view}
 use Rattle.delivery.specs.Inner.Stands.{IsReached, Makes, step_of}
-use Rattle.delivery.specs.Inner.View.{EndpointView, SenderView, view_of, view_with, view_after, sender_view, sending_view, undecided_view, endpoint_view, stage_view, parting_receipt, leaving_endpoint, no_endpoint, verdict_list}
+use Rattle.delivery.specs.Inner.View.{EndpointView, SenderView, held_sender, view_of, view_with, view_after, sender_view, sending_view, undecided_view, endpoint_view, stage_view, parting_receipt, leaving_endpoint, no_endpoint, verdict_list}
 use Rattle.delivery.proofs.Views.Runs.AccountOfTransactions.{flight_id}
 use Rattle.delivery.proofs.Views.Endpoints.SpeakerAndEnd.{closed_is}
 use Rattle.delivery.proofs.Views.Endpoints.DisconnectIsLast.{not_parting}
-use Rattle.delivery.proofs.Views.Senders.SenderChanges.{IsSpeaking, number_at, number_set, endpoint_of_stage, speaker_of, held_of, endpoint_of, sender_of_endpoint, speaker_there, senders_with, lists_with, endpoint_with_sender, stage_kept}
+use Rattle.delivery.proofs.Views.Senders.SenderChanges.{IsSpeaking, number_at, number_set, endpoint_of_stage, speaker_of, held_of, endpoint_of, sender_of_endpoint, speaker_there, speaker_with, speaking_used, lists_with, endpoint_with_sender, stage_kept}
 use Rattle.delivery.proofs.Views.Endpoints.StandingOfConnection.{differ}
 use Rattle.delivery.proofs.Views.Events.OneMove.{made_world, made_answer, left_view}
-use Rattle.delivery.proofs.Views.Events.ConnectionIsThere.{there_checked, is_there, flying_speaking, refusal_first, refusal_after, reported, refused_step, refused_outcome, answered_outcome, replied_in, cut_in}
+use Rattle.delivery.proofs.Views.Events.ConnectionIsThere.{there_checked, is_there, still_there, flying_speaking, refusal_first, refusal_after, reported, refused_step, refused_outcome, answered_outcome, replied_in, cut_in}
 use Rattle.delivery.proofs.Views.Senders.TicketsOfTopics.{tickets_are}
 use Rattle.delivery.proofs.Views.Verdicts.VerdictOfSender.{undecided_unvoted, undecided_seq, list_stays, list_filled}
 
@@ -136,7 +136,7 @@ decide_refused k c s why reached free is refused =
     let there = is_there k c free in
     let checks = decide_checks x.flight in
     let found = reported (first_refusal checks) why
-    (refused ∙ (ap (λ (y : SenderView). decide_refusal y.sending) (sender_of_endpoint k c s reached there is)
+    (refused ∙ (ap (λ (y : SenderView). decide_refusal y.sending) (sender_of_endpoint k c s reached there (still_there k c free) is)
     ∙ decide_checked (speaker_number k.world c) x.seq x.floor x.flight)) in
     let moved : move_refusal k.world (Move.Decides c) ≡ Some found.0 =
     ap (λ (r : Option Objection). Rattle.std.specs.Option.option_or r None)
@@ -246,7 +246,7 @@ decides_free k c h =
 
 -- the senders, verdicts and rows after it
 pub record AreDecided (k : Core) (c s : ℕ) : Type 0 where
-  pub senders : (decided_view s (view_of k)).senders ≡ each_number (λ n. sender_view n (sender_at (decide_effect k.world c) n)) 0 (decide_effect k.world c).senders
+  pub senders : (decided_view s (view_of k)).senders ≡ each_number (held_sender (decide_effect k.world c)) 0 (decide_effect k.world c).senders
   pub verdicts : (decided_view s (view_of k)).verdicts
       ≡ each_number (λ n. verdict_list (decide_effect k.world c).verdicts n (sender_at (decide_effect k.world c) n).seq) 0 (decide_effect k.world c).senders
   pub commits : (decided_view s (view_of k)).commits ≡ map log_row (decide_effect k.world c).commits
@@ -260,7 +260,7 @@ are_decided k c s is h =
     let f = h.can.flight in
     let flight : (sender_at w n).flight ≡ Some f = h.can.is in
     let same : s ≡ n = is ∙ speaker_of k c there in
-    let held = held_of k n known in
+    let held = held_of k n known (speaking_used w c (decides_speaking k c h)) in
     let undecided : undecided_at w c ≡ f = ap undecided_or_none h.can.is in
     let decision : Decision = record { id = f.txn.id; rows = f.given } in
     let found : decision_of (sender_in (view_of k) n).sending ≡ decision = ap (λ (y : SenderView). decision_of y.sending) held ∙ decision_is k n f h.reached flight h.can.unmarked in
@@ -272,8 +272,8 @@ are_decided k c s is h =
           ap (λ m. set (view_of k).senders m (decided_sender (sender_in (view_of k) m))) same
           ∙ (ap (λ (y : SenderView). set (view_of k).senders n (decided_sender y)) held
           ∙ (ap (λ (y : SenderView). set (view_of k).senders n y) (decided_is k n f h.reached flight h.can.unmarked)
-          ∙ (senders_with w n (decided_state (speaker w c) f) known
-          ∙ ap (λ (g : Undecided). each_number (λ m. sender_view m (sender_at (with_sender w n (decided_state (speaker w c) g)) m)) 0 (set w.senders n (decided_state (speaker w c) g))) (sym undecided))));
+          ∙ (speaker_with k c (decided_state (speaker w c) f) h.reached (decides_speaking k c h)
+          ∙ ap (λ (g : Undecided). each_number (held_sender (with_sender w n (decided_state (speaker w c) g))) 0 (set w.senders n (decided_state (speaker w c) g))) (sym undecided))));
       verdicts =
           ap (λ m. verdicts_with m (decision_of (sender_in (view_of k) m).sending) (view_of k).verdicts) same
           ∙ (ap (λ (v : Decision). verdicts_with n v (view_of k).verdicts) found
@@ -394,7 +394,7 @@ decided_cut k c s stamp is h reads =
     ap parting_receipt (append-nil (accepted_of c k.steps))
     ∙ ap (λ (f : Option RawFrame). option_and_then receipt_of f) (not_parting k c h.reached reads) in
     (λ i. record (view_of k) { senders = are.senders i; verdicts = are.verdicts i; commits = are.commits i; endpoints = endpoints i })
-    ∙ left_view after c None no_endpoint there parting
+    ∙ left_view after c None no_endpoint there (still_there k c h.free) parting
 
 -- ---- the event
 
@@ -404,7 +404,7 @@ stamp_is k c s stamp is h kept =
     let there = is_there k c h.free in
     let n = speaker_number k.world c in
     ap (λ (o : Option Undecided). greatest (undecided_or_none o).given) h.can.is
-    ∙ sym (kept ∙ (ap (λ (y : SenderView). (decided_row y.sending).stamp) (sender_of_endpoint k c s h.reached there is)
+    ∙ sym (kept ∙ (ap (λ (y : SenderView). (decided_row y.sending).stamp) (sender_of_endpoint k c s h.reached there (still_there k c h.free) is)
     ∙ ap (λ (r : LogRow). r.stamp) (row_is k n h.can.flight h.reached h.can.is h.can.unmarked)))
 
 decided_outcome : (k : Core) (c s : ℕ) (stamp : Stamp) → s ≡ speaker_at (view_of k) c → Decides k c → stamp ≡ (decided_row (sender_in (view_of k) s).sending).stamp
@@ -428,7 +428,7 @@ decide_makes k c s stamp cut reached free is allowed kept asked = go cut asked
       reached = reached;
       free = free;
       can = decidable (speaker_number k.world c) (speaker k.world c).seq (speaker k.world c).floor (speaker k.world c).flight
-          (sym (allowed ∙ ap (λ (y : SenderView). decide_refusal y.sending) (sender_of_endpoint k c s reached there is)));
+          (sym (allowed ∙ ap (λ (y : SenderView). decide_refusal y.sending) (sender_of_endpoint k c s reached there (still_there k c free) is)));
     }
 
     outcome : move_outcome k (Move.Decides c) ≡ Outcome.Decided stamp false ∷ []

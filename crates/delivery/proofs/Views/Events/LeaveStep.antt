@@ -33,9 +33,10 @@ use Rattle.delivery.specs.Core.Outcomes.{outcome_of, move_outcome, reply_outcome
 use Rattle.delivery.specs.Core.Reports.{each_number}
 use Rattle.delivery.specs.Inner.Stands.{IsReached, Makes, step_of}
 use Rattle.delivery.specs.Core.Connections.{live_numbers}
-use Rattle.delivery.specs.Inner.View.{View, EndpointView, SenderView, LeftView, view_of, view_after, view_with, sender_view, sending_view, undecided_view, stage_view, endpoint_view, parting_receipt, no_endpoint, is_undecided, number_among}
+use Rattle.delivery.specs.Inner.View.{View, EndpointView, SenderView, LeftView, view_of, view_after, view_with, sender_view, sending_view, undecided_view, stage_view, endpoint_view, parting_receipt, no_endpoint, is_undecided, number_among, held_sender}
 use Rattle.delivery.specs.Inner.Subscriptions.{no_sub, left_at, closed_if_left, closed_view}
-use Rattle.delivery.specs.Inner.Leaving.{is_busy, end_with, leaving_objection, waits, leave_objection, oldest_in, oldest_end, oldest_closed, parting_text, has_parting, gone_endpoint}
+use Rattle.delivery.specs.Inner.Clients.{rested_view}
+use Rattle.delivery.specs.Inner.Leaving.{is_busy, end_with, leaving_objection, waits, leave_objection, oldest_in, oldest_end, oldest_closed, parting_text, has_parting, gone_endpoint, gone_view}
 use Rattle.delivery.proofs.Theorem.SpansAsAnswered.{within}
 use Rattle.delivery.proofs.Machine.SubscriptionSteps.{set_length, beyond}
 use Rattle.delivery.proofs.Views.Lists.ByNumber.{each_number-set, get_or-each_number, length-each_number}
@@ -43,8 +44,10 @@ use Rattle.delivery.proofs.Views.Endpoints.EndpointsStay.{quiet_view, leave_is_q
 use Rattle.delivery.proofs.Views.Events.OneMove.{bool_cases, made_world, made_answer, refused_answer, refused_makes, endpoint_is, endpoint_at, no_endpoint as no_endpoint_there, same_endpoint, endpoint_read, with_connection}
 use Rattle.delivery.proofs.Views.Endpoints.DisconnectIsLast.{parting_is}
 use Rattle.delivery.proofs.Views.Endpoints.StandingOfConnection.{differ}
+use Rattle.delivery.proofs.Views.Clients.GivenBack.{gone_rests}
 use Rattle.delivery.proofs.Views.Subscriptions.ClosedIsDropped.{closed_is, closed_end}
 use Rattle.delivery.proofs.Theorem.MovesAreAnswered.{is_oldest}
+use Rattle.delivery.proofs.Views.Senders.HeldSenders.{held_undecided, held_leftovers}
 
 -- ---- what stands against it
 
@@ -64,12 +67,15 @@ busy_view s x =
 
 -- of a sender that isn't there neither is
 sender_busy : (w : World) (s : ℕ)
-    → option_map_or is_busy (slice_get (each_number (λ n. sender_view n (sender_at w n)) 0 w.senders) s) false
+    → option_map_or is_busy (slice_get (each_number (held_sender w) 0 w.senders) s) false
     ≡ (is_some (sender_at w s).flight || nat_lt 0 (length (sender_at w s).leftovers))
 sender_busy w s = elim (within s (length w.senders)) [ inl l ↦ here l | inr l ↦ none l ]
   where
     f : ℕ → SenderView
-    f n = sender_view n (sender_at w n)
+    f = held_sender w
+
+    busy : is_busy (held_sender w s) ≡ is_busy (sender_view s (sender_at w s))
+    busy = λ i. held_undecided w s i || nat_lt 0 (length (held_leftovers w s i))
 
     here : s < length w.senders → option_map_or is_busy (slice_get (each_number f 0 w.senders) s) false ≡ (is_some (sender_at w s).flight || nat_lt 0 (length (sender_at w s).leftovers))
     here l =
@@ -77,7 +83,7 @@ sender_busy w s = elim (within s (length w.senders)) [ inl l ↦ here l | inr l 
         let e : 0 + s ≡ s = omega arith in
         ap (λ (o : Option SenderView). option_map_or is_busy o false) (slice_get-get_or (each_number f 0 w.senders) s (f s) many)
         ∙ (ap is_busy (get_or-each_number f 0 w.senders s (f s) l ∙ ap f e)
-        ∙ busy_view s (sender_at w s))
+        ∙ (busy ∙ busy_view s (sender_at w s)))
 
     none : length w.senders ≤ s → option_map_or is_busy (slice_get (each_number f 0 w.senders) s) false ≡ (is_some (sender_at w s).flight || nat_lt 0 (length (sender_at w s).leftovers))
     none l =
@@ -115,7 +121,7 @@ leave_checked k c =
     let wait = not (is_some (oldest_live c 0 w.subscriptions)) && (is_some (speaker w c).flight || nat_lt 0 (length (speaker w c).leftovers)) in
     let checks = λ (b : Bool). first_refusal ((not b, Objection.NoConn) ∷ (is_gone x.standing, Objection.Gone) ∷ (is_reading x.standing, Objection.NotLeaving) ∷ (wait, Objection.Busy) ∷ []) in
     let busy : option_map_or is_busy (slice_get (view_of k).senders (number_among (view_of k).senders endpoint)) false ≡ (is_some (speaker w c).flight || nat_lt 0 (length (speaker w c).leftovers)) =
-    ap (λ (n : ℕ). option_map_or is_busy (slice_get (view_of k).senders (unwrap_or x.sender n)) false) (length-each_number (λ n. sender_view n (sender_at w n)) 0 w.senders)
+    ap (λ (n : ℕ). option_map_or is_busy (slice_get (view_of k).senders (unwrap_or x.sender n)) false) (length-each_number (held_sender w) 0 w.senders)
     ∙ sender_busy w (speaker_number w c) in
     let waiting : waits (view_of k).senders endpoint ≡ wait =
     λ i. not ((some_first (live_numbers c 0 w.subscriptions) ∙ ap (λ (o : Option ℕ). is_some o) (oldest_is c 0 w.subscriptions)) i) && busy i in
@@ -311,7 +317,7 @@ cut_outcome k c reached asked =
 -- the connection is gone, with its RECEIPT or without
 pub leave_gone : (k : Core) (c : ℕ) (cut : Bool) → IsReached k → leave_objection (view_of k).senders (slice_get (view_of k).endpoints c) ≡ None
     → oldest_end (view_of k) c ≡ None → (cut ≡ true → has_parting (get_or (view_of k).endpoints c no_endpoint).stage ≡ true)
-    → Makes k (Event.Leave c) (Outcome.Gone cut) (record (view_of k) { endpoints = set (view_of k).endpoints c (gone_endpoint cut (get_or (view_of k).endpoints c no_endpoint)) })
+    → Makes k (Event.Leave c) (Outcome.Gone cut) (gone_view cut c (rested_view c (view_of k)))
 leave_gone k c cut reached is none asked =
     let can = can_leave k c is in
     let w = k.world in
@@ -353,9 +359,10 @@ leave_gone k c cut reached is none asked =
     record {
       reading = Reading.Nothing;
       may = record { reading = refl; outcome = rw (ap (reply_outcomes k c (Event.Leave c)) alone) (either cut (λ e. cut_outcome k c reached (asked_here (asked e) staged))) };
-      view = ap (λ (ls : List EndpointView). record (view_of k) { endpoints = ls }) endpoints
+      view = ap (gone_view cut c) (gone_rests k c reached can.there (ap is_gone can.leaving))
+          ∙ (ap (λ (ls : List EndpointView). record (view_of k) { senders = each_number (held_sender u) 0 w.senders; endpoints = ls }) endpoints
           ∙ ((λ i. view_with (names_at k) u (λ n. sym (append-nil (accepted n)) i) unread later (λ s. sub_id_text s steps))
-          ∙ ap (λ (v : World). view_after k.names v (step ∷ steps)) (sym world));
+          ∙ ap (λ (v : World). view_after k.names v (step ∷ steps)) (sym world)));
     }
   where
     asked_here : has_parting (get_or (view_of k).endpoints c no_endpoint).stage ≡ true

@@ -16,6 +16,7 @@ use Rattle.delivery.specs.Core.Steps.{Reading, accepted_of}
 use Rattle.delivery.specs.Core.State.{Core}
 use Rattle.delivery.specs.Inner.Stands.{Makes, step_of, endpoint_objection}
 use Rattle.delivery.specs.Inner.View.{EndpointView, view_of, view_after, leaving_endpoint, parting_receipt}
+use Rattle.delivery.proofs.Theorem.SendersAreOwn.{reading_there}
 use Rattle.delivery.proofs.Views.Endpoints.EndpointsStay.{quiet_view, lost_is_quiet}
 use Rattle.delivery.proofs.Views.Events.OneMove.{made_world, made_answer, in_outcome, refused_makes, open_checked, checked_there, checked_open, left_view}
 
@@ -45,7 +46,7 @@ lost_makes k c d not_parting is =
         reading = refl;
         outcome = in_outcome k (Move.Lost c) Outcome.Leaving (Answer.Leaving c) (made_answer k.world (Move.Lost c) free) refl;
       };
-      view = left_view k c None d (checked_there k c is) parting
+      view = left_view k c None d (checked_there k c is) (reading_there (connection_at k.world c).standing (checked_open k c is)) parting
           ∙ (sym (quiet_view k.names step k.steps (with_leaving k.world c) (lost_is_quiet k.names c k.steps))
           ∙ ap (λ (w : World). view_after k.names w (step ∷ k.steps)) (sym (made_world k.world (Move.Lost c) free)));
     }

@@ -29,7 +29,7 @@ use Rattle.delivery.specs.declared.outcome.Outcome.{Outcome}
 use Rattle.delivery.specs.declared.refusal.Refusal.{Refusal}
 use Rattle.delivery.specs.declared.stage.Stage.{Stage}
 use Rattle.delivery.specs.Machine.Objections.{Objection, refusal_of}
-use Rattle.delivery.specs.Machine.World.{World, Connection, Standing, nobody, connection_at, sender_at, speaker}
+use Rattle.delivery.specs.Machine.World.{World, Connection, Standing, nobody, connection_at, sender_at, speaker, is_gone}
 use Rattle.delivery.specs.Machine.Moves.{Move, needs_idle, move_refusal, with_leaving}
 use Rattle.delivery.specs.Core.Steps.{Reading, frame_in, accepted_of}
 use Rattle.delivery.specs.Core.Output.{is_cut, receipt_asked, next_replies, text_out}
@@ -46,10 +46,11 @@ use Rattle.delivery.proofs.Core.NamesKnown.{known_all}
 use Rattle.delivery.proofs.Views.Events.ReadingChecks.{idle_checked}
 use Rattle.delivery.proofs.Views.Endpoints.EndpointChanges.{with_endpoint, endpoint_again}
 use Rattle.delivery.proofs.Views.Lists.ByNumber.{length-each_number}
-use Rattle.delivery.proofs.Views.Events.NextStep.{ReadsUnless, view_by, next_of, next_endpoint, next_makes, next_still, next_written, frames_added, text_added, idle_there, idle_reads, idle_stage}
+use Rattle.delivery.proofs.Views.Events.NextStep.{ReadsUnless, view_by, next_of, next_endpoint, next_makes, next_still, next_written, frames_added, text_added, idle_there, idle_reads, idle_stage, idle_open}
 use Rattle.delivery.proofs.Views.Endpoints.DisconnectIsLast.{not_parting}
 use Rattle.delivery.proofs.Views.Endpoints.EndpointsStay.{quiet_view, refused_is_quiet}
 use Rattle.delivery.proofs.Views.Events.OneMove.{in_one, endpoint_at, made_world}
+use Rattle.delivery.proofs.Views.Clients.RestingStay.{standing_speaks}
 
 -- ---- the endpoint of a connection
 
@@ -227,6 +228,7 @@ next_ends k c reading fault receipt cut stage held new d ends view is =
     ∙ (endpoint_again (view_of k) c (staged_endpoint stage (endpoint_of (names_at k) k c)) (failed_endpoint cut (error_text fault receipt)) d endpoints
     ∙ (ap (λ (l : EndpointView). with_endpoint (view_of k) c l) endpoint
     ∙ (next_written (names_at k) k c reading o x there
+    (standing_speaks (connection_at k.world c) Standing.Leaving refl (ap is_gone (idle_open k.world c ends.idle)))
     ∙ ap (λ (v : World). view_after k.names v (next_of c reading o ∷ k.steps)) (sym (made_world k.world (Move.Errs c) free)))))))
 
 -- ---- which fault it may be

@@ -27,7 +27,7 @@ use Rattle.delivery.specs.declared.event.Event.{Event}
 use Rattle.delivery.specs.declared.outcome.Outcome.{Outcome}
 use Rattle.delivery.specs.declared.stage.Stage.{Stage}
 use Rattle.delivery.specs.Machine.Objections.{Objection}
-use Rattle.delivery.specs.Machine.World.{World, Connection, Standing, nobody, connection_at, sender_at, speaker}
+use Rattle.delivery.specs.Machine.World.{World, Connection, Standing, nobody, connection_at, sender_at, speaker, is_gone}
 use Rattle.delivery.specs.Machine.Moves.{Move, move_refusal, move_effect, move_answer, needs_idle, with_leaving}
 use Rattle.delivery.specs.Machine.Runs.{run}
 use Rattle.delivery.specs.Core.Steps.{Reading, has_effect, accepted_of}
@@ -44,9 +44,10 @@ use Rattle.delivery.proofs.Core.FrameWorld.{idle_for}
 use Rattle.delivery.proofs.Views.Events.FrameTopic.{named_is}
 use Rattle.mcast_txn.specs.Checks.{first_refusal}
 use Rattle.delivery.proofs.Views.Events.NextFaults.{asked_objection, fault_is, endpoint_of, endpoint_there, next_ends, within_endpoints}
-use Rattle.delivery.proofs.Views.Events.NextStep.{view_by, held_still, next_of, next_endpoint, next_makes, next_may, next_still, next_written, text_added, frames_added, idle_there, idle_reads, idle_stage}
+use Rattle.delivery.proofs.Views.Events.NextStep.{view_by, held_still, next_of, next_endpoint, next_makes, next_may, next_still, next_written, text_added, frames_added, idle_there, idle_reads, idle_stage, idle_open}
 use Rattle.delivery.proofs.Views.Endpoints.DisconnectIsLast.{not_parting}
 use Rattle.delivery.proofs.Views.Events.OneMove.{made_answer, made_world, in_outcome}
+use Rattle.delivery.proofs.Views.Clients.RestingStay.{standing_speaks}
 
 -- ---- what is held
 
@@ -291,4 +292,4 @@ next_disconnects k c f left receipt held new d asks is =
     move_makes k c f left actions.Disconnect receipt held new (Move.Disconnects c) o asks refl refl free refl refl refl
     (changed_view k c f left actions.Disconnect receipt held new (leaving_endpoint receipt) d asks is
     ∙ (ap (λ (l : EndpointView). with_endpoint (view_by names q) c l) endpoint
-    ∙ next_written names q c reading o x there))
+    ∙ next_written names q c reading o x there (standing_speaks (connection_at w c) Standing.Leaving refl (ap is_gone (idle_open w c idle)))))

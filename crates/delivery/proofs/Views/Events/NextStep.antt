@@ -15,7 +15,7 @@ use Rattle.delivery.specs.declared.event.Event.{Event}
 use Rattle.delivery.specs.declared.outcome.Outcome.{Outcome}
 use Rattle.delivery.specs.declared.stage.Stage.{Stage}
 use Rattle.delivery.specs.Machine.Objections.{Objection}
-use Rattle.delivery.specs.Machine.World.{World, Undecided, Connection, Standing, nobody, connection_at, sender_at, speaker, is_reading}
+use Rattle.delivery.specs.Machine.World.{World, Undecided, Connection, Standing, nobody, connection_at, sender_at, speaker, is_reading, speaks_for}
 use Rattle.delivery.specs.Machine.Moves.{needs_idle}
 use Rattle.delivery.specs.Machine.Runs.{run}
 use Rattle.delivery.specs.Core.Steps.{CoreStep, Reading, frame_in, has_effect, accepted_of}
@@ -31,6 +31,7 @@ use Rattle.delivery.proofs.Views.Endpoints.EndpointChanges.{with_endpoint}
 use Rattle.delivery.proofs.Views.Lists.ByNumber.{each_number-set}
 use Rattle.delivery.proofs.Views.Endpoints.EndpointsStay.{if_same}
 use Rattle.delivery.proofs.Views.Events.OneMove.{bool_cases, with_connection}
+use Rattle.delivery.proofs.Views.Senders.HeldSenders.{senders_alike}
 
 -- ---- what a Next adds
 
@@ -108,9 +109,10 @@ held_still names k w c reading o =
 
 -- with another standing of its connection, or the same, that is the view of before with another endpoint
 pub next_written : (names : List (List ℕ)) (k : Core) (c : ℕ) (reading : Reading) (o : Outcome) (x : Connection) → c < length k.world.connections
+    → ((s : ℕ) → speaks_for s x ≡ speaks_for s (connection_at k.world c))
     → with_endpoint (view_by names k) c (next_endpoint names k (with_connection k.world c x) c reading o)
     ≡ held_still names k (with_connection k.world c x) c reading o
-next_written names k c reading o x there =
+next_written names k c reading o x there same =
     let w = with_connection k.world c x in
     let steps = next_of c reading o ∷ k.steps in
     let f = λ (n : ℕ). endpoint_view names k.world n (accepted_of n k.steps) (unread_at n k.steps) (text_out k.names n k.steps) in
@@ -119,7 +121,7 @@ next_written names k c reading o x there =
     let endpoint : next_endpoint names k w c reading o ≡ g c =
     λ i. endpoint_view names w c (sym (own_accepted c reading o k.steps) i) (sym (own_unread c reading o k.steps) i) (sym (own_text k.names c reading o k.steps) i) in
     let others : (n : ℕ) → n ≢ 0 + c → f n ≡ g n = λ n differ.
-    (let other : n ≢ c = λ same. differ (same ∙ e) in
+    (let other : n ≢ c = λ is. differ (is ∙ e) in
     let connection : connection_at k.world n ≡ connection_at w n = sym (get_or-set_other k.world.connections c n x nobody other) in
     λ i. record {
       sender = (connection i).sender;
@@ -132,7 +134,8 @@ next_written names k c reading o x there =
     ap (λ (l : EndpointView). set (view_by names k).endpoints c l) endpoint
     ∙ (ap (λ (n : ℕ). set (each_number f 0 k.world.connections) c (g n)) e
     ∙ each_number-set f g 0 k.world.connections c x there (λ n low high differ. others n differ)) in
-    ap (λ (ls : List EndpointView). record (view_by names k) { endpoints = ls }) endpoints
+    let senders = senders_alike k.world c x same in
+    λ i. record (view_by names k) { senders = senders i; endpoints = endpoints i }
 
 -- ---- an idle connection
 
@@ -180,7 +183,7 @@ pub next_still : (names : List (List ℕ)) (k : Core) (c : ℕ) (reading : Readi
     → with_endpoint (view_by names k) c (next_endpoint names k k.world c reading o) ≡ held_still names k k.world c reading o
 next_still names k c reading o there =
     subst (λ (w : World). with_endpoint (view_by names k) c (next_endpoint names k w c reading o) ≡ held_still names k w c reading o) (same_connection k.world c)
-    (next_written names k c reading o (connection_at k.world c) there)
+    (next_written names k c reading o (connection_at k.world c) there (λ s. refl))
 
 -- ---- the step
 

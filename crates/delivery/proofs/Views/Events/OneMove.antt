@@ -27,6 +27,7 @@ use Rattle.delivery.specs.Core.Connections.{live_numbers}
 use Rattle.delivery.specs.Inner.View.{EndpointView, view_of, view_with, view_after, written_endpoint, stage_view, endpoint_view, leaving_endpoint, parting_receipt}
 use Rattle.delivery.proofs.Views.Lists.ByNumber.{each_number-set, get_or-each_number, length-each_number}
 use Rattle.delivery.proofs.Views.Endpoints.EndpointsStay.{quiet_view, refused_is_quiet}
+use Rattle.delivery.proofs.Views.Senders.HeldSenders.{senders_standing}
 
 -- ---- one move
 
@@ -199,10 +200,10 @@ endpoint_read endpoints c endpoint there is = slice_get-get_or endpoints c endpo
 
 -- what is held once this connection is leaving, whatever is held of endpoints
 pub left_with : (names : List (List ℕ)) (w : World) (accepted : ℕ → List RawFrame) (unread : ℕ → Unread) (text ids : ℕ → List ℕ)
-    (c : ℕ) (parting : Option (List ℕ)) (d : EndpointView) → c < length w.connections → parting_receipt (accepted c) ≡ parting
+    (c : ℕ) (parting : Option (List ℕ)) (d : EndpointView) → c < length w.connections → is_gone (connection_at w c).standing ≡ false → parting_receipt (accepted c) ≡ parting
     → let v = view_with names w accepted unread text ids in
     record v { endpoints = set v.endpoints c (leaving_endpoint parting (get_or v.endpoints c d)) } ≡ view_with names (with_leaving w c) accepted unread text ids
-left_with names w accepted unread text ids c parting d there is =
+left_with names w accepted unread text ids c parting d there staying is =
     let x : Connection = record { sender = (connection_at w c).sender; standing = Standing.Leaving } in
     let f = λ (n : ℕ). endpoint_view names w n (accepted n) (unread n) (text n) in
     let ls = each_number f 0 w.connections in
@@ -220,15 +221,16 @@ left_with names w accepted unread text ids c parting d there is =
     let old : leaving_endpoint parting (get_or ls c d) ≡ leaving_endpoint parting (f c) = ap (leaving_endpoint parting) (get_or-each_number f 0 w.connections c d there ∙ ap f e) in
     let endpoints : set ls c (leaving_endpoint parting (get_or ls c d)) ≡ each_number (λ n. endpoint_view names u n (accepted n) (unread n) (text n)) 0 u.connections =
     ap (λ (l : EndpointView). set ls c l) (old ∙ (parted ∙ endpoint)) ∙ endpoints_with names w c x accepted unread text there in
-    ap (λ (zs : List EndpointView). record (view_with names w accepted unread text ids) { endpoints = zs }) endpoints
+    let senders = senders_standing w c Standing.Leaving refl staying in
+    λ i. record (view_with names w accepted unread text ids) { senders = senders i; endpoints = endpoints i }
 
 -- the same of a core
 pub left_view : (k : Core) (c : ℕ) (parting : Option (List ℕ)) (d : EndpointView) → c < length k.world.connections
-    → parting_receipt (accepted_of c k.steps) ≡ parting
+    → is_gone (connection_at k.world c).standing ≡ false → parting_receipt (accepted_of c k.steps) ≡ parting
     → record (view_of k) { endpoints = set (view_of k).endpoints c (leaving_endpoint parting (get_or (view_of k).endpoints c d)) }
     ≡ view_after k.names (with_leaving k.world c) k.steps
-left_view k c parting d there is =
-    left_with (names_at k) k.world (λ n. accepted_of n k.steps) (λ n. unread_at n k.steps) (λ n. text_out k.names n k.steps) (λ s. sub_id_text s k.steps) c parting d there is
+left_view k c parting d there staying is =
+    left_with (names_at k) k.world (λ n. accepted_of n k.steps) (λ n. unread_at n k.steps) (λ n. text_out k.names n k.steps) (λ s. sub_id_text s k.steps) c parting d there staying is
 
 -- ---- text that is written to an endpoint
 

@@ -3,7 +3,7 @@ use Rattle.std.proofs.Common.{◌≡◌, ℕ, zero, suc, ◌+◌, ◌<◌, List,
 use Rattle.std.proofs.lemmas.List.{get_or_append_left}
 use Rattle.delivery.specs.declared.event.Event.{Event}
 use Rattle.delivery.specs.declared.outcome.Outcome.{Outcome}
-use Rattle.delivery.specs.Machine.World.{Connection, Standing, nobody, new_sender, connection_at, sender_at, speaker_number}
+use Rattle.delivery.specs.Machine.World.{Connection, Standing, nobody, new_sender, connection_at, sender_at, speaker_number, speaks_for}
 use Rattle.delivery.specs.Machine.Moves.{Move, move_effect}
 use Rattle.delivery.specs.Core.Steps.{Reading, accepted_of}
 use Rattle.delivery.specs.Core.Output.{text_out}
@@ -17,6 +17,8 @@ use Rattle.delivery.proofs.Views.Endpoints.EndpointsStay.{quiet_view, open_is_qu
 use Rattle.std.specs.Option.{unwrap_or}
 use Rattle.delivery.proofs.Machine.SubscriptionSteps.{beyond}
 use Rattle.delivery.proofs.Views.Events.OneMove.{same_endpoint}
+use Rattle.delivery.proofs.Views.Senders.HeldSenders.{senders_same}
+use Rattle.delivery.proofs.Views.Clients.RestingStay.{any_push}
 
 -- beyond the last the default stands, also where it is put at the end
 pub get_or-push_default : {X : Type 0} (xs : List X) (d : X) (n : ℕ) → get_or (xs ++ d ∷ []) n d ≡ get_or xs n d
@@ -73,8 +75,9 @@ open_makes k nothing =
       output = nothing.text i;
     } in
     let endpoints : (view_of k).endpoints ++ new_endpoint ∷ [] ≡ each_number g 0 new.connections = pushed f g w.connections x new_endpoint same endpoint in
+    let senders = senders_same w new (λ s. any_push (speaks_for s) w.connections x refl) (λ s. refl) in
     record {
       reading = Reading.Nothing;
       may = record { reading = refl; outcome = inl refl };
-      view = (λ i. record (view_of k) { endpoints = endpoints i }) ∙ sym (quiet_view k.names step k.steps new (open_is_quiet k.names c k.steps));
+      view = (λ i. record (view_of k) { senders = senders i; endpoints = endpoints i }) ∙ sym (quiet_view k.names step k.steps new (open_is_quiet k.names c k.steps));
     }

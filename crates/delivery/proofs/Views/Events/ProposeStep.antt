@@ -29,7 +29,7 @@ use Rattle.delivery.specs.declared.refusal.Refusal.{Refusal}
 use Rattle.delivery.specs.declared.refusal.Refusal.TheVariants as refusal
 use Rattle.delivery.specs.declared.sending.Sending.{Sending}
 use Rattle.delivery.specs.Machine.Objections.{Objection, refusal_of}
-use Rattle.delivery.specs.Machine.World.{World, Undecided, SenderState, topic_at, sender_at, speaker, with_sender, with_topic, speaker_number}
+use Rattle.delivery.specs.Machine.World.{World, Undecided, SenderState, topic_at, sender_at, speaker, is_in_use, with_sender, with_topic, speaker_number}
 use Rattle.delivery.specs.Machine.Moves.{Move, Answer, move_refusal, needs_connection, is_topic, has_ticket, insert_ticket, undecided_or_none, undecided_at, next_ticket, proposal_fault, or_out_of_memory, propose_effect, propose_answer}
 use Rattle.delivery.specs.Core.Steps.{CoreStep, Reading, accepted_of, has_effect, names_after}
 use Rattle.delivery.specs.Core.Output.{text_out, sub_id_text}
@@ -37,19 +37,21 @@ use Rattle.delivery.specs.Core.State.{Core, names_at, unread_at, is_out_of_memor
 use Rattle.delivery.specs.Core.Outcomes.{move_outcome, outcomes}
 use Rattle.delivery.specs.Inner.Senders.{there_objection, speaker_at, sender_in, gate_of, is_slot, flight_refusal, part_refusal, part_in, taken_sending, taken_sender, takes_ticket, put_sender, failed_sender, is_group, propose_refusal_in, taken_view, floor_in, ticket_in, proposed_view, failed_view, IsProposed, no_sender}
 use Rattle.delivery.specs.Inner.Stands.{IsReached, Makes, step_of}
-use Rattle.delivery.specs.Inner.View.{View, SenderView, view_of, view_after, sender_view, sending_view, undecided_view, flight_view, blank_row, group_view, pending_receipt, ticket_of, group_in, no_group}
+use Rattle.delivery.specs.Inner.View.{View, SenderView, held_sender, view_of, view_after, sender_view, sending_view, undecided_view, flight_view, blank_row, group_view, pending_receipt, ticket_of, group_in, no_group}
 use Rattle.delivery.proofs.Theorem.AcceptedIsDue.{reached}
 use Rattle.delivery.proofs.Views.Events.DecideStep.{flying_is}
 use Rattle.delivery.proofs.Views.Runs.ByRunOfCore.{by_world}
 use Rattle.delivery.proofs.Views.Endpoints.EndpointsStay.{IsQuiet, none_named, quiet_view}
 use Rattle.delivery.proofs.Views.Events.ReleaseStep.{group_at}
 use Rattle.delivery.proofs.Views.Lists.ByNumber.{length-each_number}
-use Rattle.delivery.proofs.Views.Senders.SenderChanges.{held_of, speaker_of, sender_of_endpoint}
+use Rattle.delivery.proofs.Views.Runs.ByRunOfCore.{speaks_of}
+use Rattle.delivery.proofs.Views.Senders.HeldSenders.{unused_rests}
+use Rattle.delivery.proofs.Views.Senders.SenderChanges.{held_of, sender_of, speaker_of, sender_of_endpoint}
 use Rattle.delivery.proofs.Views.Senders.SameSeqAndReceipt.{sender_quiet, topic_quiet}
 use Rattle.delivery.proofs.Views.Senders.SlotsOfTopics.{slot_topics, slot_named, held_named, slot_written, ticket_inserted, row_other, row_own, row_none_given}
 use Rattle.delivery.proofs.Views.Endpoints.StandingOfConnection.{differ}
 use Rattle.delivery.proofs.Views.Events.OneMove.{bool_cases, made_world, made_answer}
-use Rattle.delivery.proofs.Views.Events.ConnectionIsThere.{flying_speaking, there_checked, is_there, refusal_first, refusal_after, reported, refused_step, refused_outcome, answered_outcome}
+use Rattle.delivery.proofs.Views.Events.ConnectionIsThere.{flying_speaking, there_checked, is_there, still_there, refusal_first, refusal_after, reported, refused_step, refused_outcome, answered_outcome}
 use Rattle.delivery.proofs.Views.Senders.TicketsOfTopics.{tickets_are}
 
 -- ---- what stands against it
@@ -173,7 +175,7 @@ group_there k t was =
 pub held_read : (k : Core) (s : ℕ) (senders : List SenderView) (x : SenderView) → senders ≡ (view_of k).senders → s < length senders → x ≡ get_or senders s x
     → (s < length k.world.senders) × (x ≡ sender_in (view_of k) s)
 held_read k s senders x are there is = (
-  subst (λ (n : ℕ). s < n) (ap (λ (xs : List SenderView). length xs) are ∙ length-each_number (λ n. sender_view n (sender_at k.world n)) 0 k.world.senders) there,
+  subst (λ (n : ℕ). s < n) (ap (λ (xs : List SenderView). length xs) are ∙ length-each_number (held_sender k.world) 0 k.world.senders) there,
   is ∙ (get_or_default senders s x (no_sender s) there ∙ ap (λ (xs : List SenderView). get_or xs s (no_sender s)) are),
 )
 
@@ -200,12 +202,12 @@ propose_gone k c t o why stands is =
     (subst (λ (os : List Outcome). In (Outcome.Refused why) os) (sym (refused_outcome k (Move.Proposes c t true) o why refused is)) (inl refl))) refl
 
 -- what the private call answers is what the checks do
-propose_refusal_is : (k : Core) (c s : ℕ) (t : Topic) → IsReached k → c < length k.world.connections → s ≡ speaker_at (view_of k) c
+propose_refusal_is : (k : Core) (c s : ℕ) (t : Topic) → IsReached k → there_objection (slice_get (view_of k).endpoints c) ≡ None → s ≡ speaker_at (view_of k) c
     → propose_refusal_in t s (view_of k) ≡ option_and_then refusal_of (first_refusal (propose_refusals k.world t (speaker k.world c).flight))
-propose_refusal_is k c s t was there is =
+propose_refusal_is k c s t was free is =
     let x = speaker k.world c in
     let b = is_group t (view_of k).groups in
-    ap (λ (y : SenderView). option_or (flight_refusal y.sending) (cond b (part_refusal t y.sending) (Some refusal.NotNamed))) (sender_of_endpoint k c s was there is)
+    ap (λ (y : SenderView). option_or (flight_refusal y.sending) (cond b (part_refusal t y.sending) (Some refusal.NotNamed))) (sender_of_endpoint k c s was (is_there k c free) (still_there k c free) is)
     ∙ propose_checked k.world t (speaker_number k.world c) x.seq x.floor x.flight b (group_there k t was)
 
 -- a part that was taken out before isn't there to be taken
@@ -238,9 +240,9 @@ taken_kept t s seq floor (Some f) why e = go f.mark e
     go None e = named (is_slot t fl.tickets) (has_ticket t f.given) refl refl e
 
 -- nothing is changed then
-unchanged : (k : Core) (c s : ℕ) (t : Topic) (why : Refusal) → IsReached k → c < length k.world.connections → s ≡ speaker_at (view_of k) c
+unchanged : (k : Core) (c s : ℕ) (t : Topic) (why : Refusal) → IsReached k → there_objection (slice_get (view_of k).endpoints c) ≡ None → s ≡ speaker_at (view_of k) c
     → Some why ≡ propose_refusal_in t s (view_of k) → taken_view t s (view_of k) ≡ view_of k
-unchanged k c s t why was there is refused = go (is_group t (view_of k).groups) refused
+unchanged k c s t why was free is refused = go (is_group t (view_of k).groups) refused
   where
     x : SenderState
     x = speaker k.world c
@@ -249,7 +251,7 @@ unchanged k c s t why was there is refused = go (is_group t (view_of k).groups) 
     n = speaker_number k.world c
 
     held : sender_in (view_of k) s ≡ sender_view n x
-    held = sender_of_endpoint k c s was there is
+    held = sender_of_endpoint k c s was (is_there k c free) (still_there k c free) is
 
     go : (b : Bool) → Some why ≡ option_or (flight_refusal (sender_in (view_of k) s).sending) (cond b (part_refusal t (sender_in (view_of k) s).sending) (Some refusal.NotNamed))
         → cond b (record (view_of k) { senders = set (view_of k).senders s (taken_sender t (sender_in (view_of k) s)) }) (view_of k) ≡ view_of k
@@ -265,13 +267,12 @@ unchanged k c s t why was there is refused = go (is_group t (view_of k).groups) 
 pub propose_refused : (k : Core) (c s : ℕ) (t : Topic) (why : Refusal) → IsReached k → there_objection (slice_get (view_of k).endpoints c) ≡ None → s ≡ speaker_at (view_of k) c
     → Some why ≡ propose_refusal_in t s (view_of k) → Makes k (Event.Propose c t) (Outcome.Refused why) (taken_view t s (view_of k))
 propose_refused k c s t why was free is refused =
-    let there = is_there k c free in
     let checks = propose_refusals k.world t (speaker k.world c).flight in
-    let found = reported (first_refusal checks) why (refused ∙ propose_refusal_is k c s t was there is) in
+    let found = reported (first_refusal checks) why (refused ∙ propose_refusal_is k c s t was free is) in
     let moved : move_refusal k.world (Move.Proposes c t true) ≡ Some found.0 =
     ap (λ (r : Option Objection). option_or r None)
     (refusal_after (needs_connection k.world c) checks (sym (there_checked k c) ∙ free) ∙ found.1) in
-    subst (λ (v : View). Makes k (Event.Propose c t) (Outcome.Refused why) v) (sym (unchanged k c s t why was there is refused))
+    subst (λ (v : View). Makes k (Event.Propose c t) (Outcome.Refused why) v) (sym (unchanged k c s t why was free is refused))
     (refused_step k (Event.Propose c t) why (Move.Proposes c t true) found.0 refl moved
     (In-append_left (Outcome.Refused why) (move_outcome k (Move.Proposes c t true)) (move_outcome k (Move.Proposes c t false))
     (subst (λ (os : List Outcome). In (Outcome.Refused why) os) (sym (refused_outcome k (Move.Proposes c t true) found.0 why moved found.2)) (inl refl))) refl)
@@ -357,6 +358,16 @@ floor_by s seq floor (Some f) = go f.mark
     go None = refl
     go (Some fault) = refl
 
+-- a sender that has a part is in use
+part_held : (k : Core) (s : ℕ) (t : Topic) (part : TopicPart) → IsReached k → s < length k.world.senders
+    → part_in t (sender_in (view_of k) s).sending ≡ Some part → sender_in (view_of k) s ≡ sender_view s (sender_at k.world s)
+part_held k s t part was there is = by (is_in_use k.world s) refl
+  where
+    by : (b : Bool) → is_in_use k.world s ≡ b → sender_in (view_of k) s ≡ sender_view s (sender_at k.world s)
+    by true used = held_of k s there used
+    by false unused =
+        none_some part (sym (ap (λ (y : SenderView). part_in t y.sending) (sender_of k s there) ∙ ap (part_in t) (unused_rests k.world s (speaks_of k was) unused)) ∙ is)
+
 -- so in what is held
 pub ticket_taken : (k : Core) (s : ℕ) (t : Topic) (part : TopicPart) → IsReached k → s < length k.world.senders → is_group t (view_of k).groups ≡ true
     → part_refusal t (sender_in (view_of k) s).sending ≡ None → part_in t (sender_in (view_of k) s).sending ≡ Some part
@@ -365,7 +376,7 @@ ticket_taken k s t part was there grouped free is =
     let v = view_of k in
     let x = sender_at k.world s in
     let y = topic_at k.world t in
-    let held = held_of k s there in
+    let held = part_held k s t part was there is in
     let topic : is_topic k.world t ≡ true = sym (group_there k t was) ∙ grouped in
     let group = group_at k t no_group (ltb-true t.0 (length k.world.topics) topic) in
     let own = topic_own k t was in
@@ -444,14 +455,14 @@ group_is k c s t h = group_at k t no_group (ltb-true t.0 (length k.world.topics)
 floor_is : (k : Core) (c s : ℕ) (t : Topic) → Proposes k c s t → floor_in (view_of k) s ≡ (speaker k.world c).floor
 floor_is k c s t h =
     let n = speaker_number k.world c in let x = speaker k.world c in
-    ap (λ (y : SenderView). (gate_of y.sending).floor) (sender_of_endpoint k c s h.was (is_there k c h.free) h.own)
+    ap (λ (y : SenderView). (gate_of y.sending).floor) (sender_of_endpoint k c s h.was (is_there k c h.free) (still_there k c h.free) h.own)
     ∙ ap (λ (z : Sending). (gate_of z).floor) (flying_is n x h.can.flight h.can.is h.can.unmarked)
 
 -- the part that the private call takes out
 pub part_is : (k : Core) (c s : ℕ) (t : Topic) (h : Proposes k c s t) → part_in t (sender_in (view_of k) s).sending ≡ Some (proposed_part h.can.flight t)
 part_is k c s t h =
     let n = speaker_number k.world c in let x = speaker k.world c in let f = h.can.flight in
-    ap (λ (y : SenderView). part_in t y.sending) (sender_of_endpoint k c s h.was (is_there k c h.free) h.own)
+    ap (λ (y : SenderView). part_in t y.sending) (sender_of_endpoint k c s h.was (is_there k c h.free) (still_there k c h.free) h.own)
     ∙ (ap (part_in t) (flying_is n x f h.can.is h.can.unmarked)
     ∙ (held_named (part_left f) t (topics_of f.txn.sends) h.can.named ∙ ap (λ (b : Bool). cond b None (Some (proposed_part f t))) h.can.fresh))
 
@@ -462,7 +473,7 @@ proposes k c s t was free own allowed = record {
   was = was;
   free = free;
   own = own;
-  can = proposable k.world t (speaker k.world c).flight (sym (allowed ∙ propose_refusal_is k c s t was (is_there k c free) own));
+  can = proposable k.world t (speaker k.world c).flight (sym (allowed ∙ propose_refusal_is k c s t was free own));
 }
 
 -- the same sender with this undecided transaction
@@ -510,7 +521,7 @@ proposed_whole k c s t h =
     let new = with_flight x (record f { given = insert_ticket (next_ticket w c t) f.given }) in
     let senders : set v.senders s (put_sender (ticket_in t s part v) (taken_sender t (sender_in v s))) ≡ set v.senders n (sender_view n new) =
     ap (λ (a : Ticket). set v.senders s (put_sender a (taken_sender t (sender_in v s)))) ticket
-    ∙ (ap (λ (u : SenderView). set v.senders s (put_sender (record { id = f.txn.id; topic = t; n = next_number x.floor y }) (taken_sender t u))) (sender_of_endpoint k c s h.was there h.own)
+    ∙ (ap (λ (u : SenderView). set v.senders s (put_sender (record { id = f.txn.id; topic = t; n = next_number x.floor y }) (taken_sender t u))) (sender_of_endpoint k c s h.was there (still_there k c h.free) h.own)
     ∙ (ap (λ (u : SenderView). set v.senders s u) (put_is n x t f y h.can.is h.can.unmarked h.can.named h.can.fresh)
     ∙ (ap (λ (m : Option ProposeFault). set v.senders s (sender_view n (with_flight x (record f { mark = m; given = insert_ticket (next_ticket w c t) f.given })))) (sym h.can.unmarked)
     ∙ ap (λ (m : ℕ). set v.senders m (sender_view n new)) (h.own ∙ speaker_of k c there)))) in
@@ -570,7 +581,7 @@ failed_whole k c s t fault h =
     let there = is_there k c h.free in
     let new = with_flight (speaker k.world c) (record f { mark = Some fault }) in
     let senders : set v.senders s (failed_sender fault (taken_sender t (sender_in v s))) ≡ set v.senders n (sender_view n new) =
-    ap (λ (u : SenderView). set v.senders s (failed_sender fault (taken_sender t u))) (sender_of_endpoint k c s h.was there h.own)
+    ap (λ (u : SenderView). set v.senders s (failed_sender fault (taken_sender t u))) (sender_of_endpoint k c s h.was there (still_there k c h.free) h.own)
     ∙ (ap (λ (u : SenderView). set v.senders s u) (marked_is k n t f fault h.was h.can.is h.can.unmarked h.can.named)
     ∙ ap (λ (m : ℕ). set v.senders m (sender_view n new)) (h.own ∙ speaker_of k c there)) in
     ap (λ (ys : List SenderView). record v { senders = ys }) senders ∙ with_flight_quiet k c s t h (record f { mark = Some fault })

@@ -20,11 +20,12 @@ use Rattle.delivery.specs.Core.State.{Core, unread_at, names_at}
 use Rattle.delivery.specs.Core.Reports.{each_number}
 use Rattle.delivery.specs.Inner.Nexts.{is_sending, sending_objection, idle_objection}
 use Rattle.delivery.specs.Inner.Stands.{stage_objection, endpoint_objection}
-use Rattle.delivery.specs.Inner.View.{View, EndpointView, SenderView, view_of, stage_view, endpoint_view, sender_view, sending_view, undecided_view, is_undecided, number_among}
+use Rattle.delivery.specs.Inner.View.{View, EndpointView, SenderView, view_of, stage_view, endpoint_view, sender_view, sending_view, undecided_view, is_undecided, number_among, held_sender}
 use Rattle.delivery.proofs.Views.Lists.ByNumber.{get_or-each_number, length-each_number}
 use Rattle.delivery.proofs.Views.Events.OneMove as steps
 use Rattle.delivery.specs.Inner.View as views
 use Rattle.delivery.proofs.Views.Events.OneMove.{bool_cases, endpoint_at, endpoint_is}
+use Rattle.delivery.proofs.Views.Senders.HeldSenders.{held_undecided}
 
 -- ---- a view
 
@@ -79,7 +80,7 @@ flight_is s seq floor (Some f) = marked_is floor f f.mark
 pub sending_is : (k : Core) (s : ℕ) → is_sending (slice_get (view_of k).senders s) ≡ is_some (sender_at k.world s).flight
 sending_is k s =
     let w = k.world in
-    let f = λ (n : ℕ). sender_view n (sender_at w n) in
+    let f = held_sender w in
     let many = length-each_number f 0 w.senders in
     elim (within s (length w.senders)) [
       | inl l ↦
@@ -87,7 +88,7 @@ sending_is k s =
           let e : 0 + s ≡ s = omega arith in
           ap is_sending (slice_get-get_or (each_number f 0 w.senders) s (f s) there)
           ∙ (ap (λ (x : SenderView). is_undecided x.sending) (get_or-each_number f 0 w.senders s (f s) l ∙ ap f e)
-          ∙ flight_is s (sender_at w s).seq (sender_at w s).floor (sender_at w s).flight))
+          ∙ (held_undecided w s ∙ flight_is s (sender_at w s).seq (sender_at w s).floor (sender_at w s).flight)))
       | inr l ↦
           (let past : length (each_number f 0 w.senders) ≤ s = omega (arith, l, many) in
           ap is_sending (slice_get_past (each_number f 0 w.senders) s past)
@@ -116,7 +117,7 @@ idle_checked k c =
           (let there = ltb-true c (length w.connections) t in
           ap (λ (o : Option EndpointView). option_or (endpoint_objection o) (sending_objection (view_of k).senders (number_among (view_of k).senders (get_or (view_of k).endpoints c none)))) (endpoint_is k c there)
           ∙ (ap (λ (l : EndpointView). option_or (stage_objection (f c).stage) (sending_objection (view_of k).senders (number_among (view_of k).senders l))) (endpoint_at k c none f there)
-          ∙ (ap (λ (b : Bool). option_or (stage_objection (f c).stage) (cond b (Some Objection.Busy) None)) (ap (λ (n : ℕ). is_sending (slice_get (view_of k).senders (unwrap_or x.sender n))) (length-each_number (λ n. sender_view n (sender_at w n)) 0 w.senders) ∙ sending_is k (speaker_number w c))
+          ∙ (ap (λ (b : Bool). option_or (stage_objection (f c).stage) (cond b (Some Objection.Busy) None)) (ap (λ (n : ℕ). is_sending (slice_get (view_of k).senders (unwrap_or x.sender n))) (length-each_number (held_sender w) 0 w.senders) ∙ sending_is k (speaker_number w c))
           ∙ (standing_idle (names_at k) x.standing (speaker w c).flight (accepted_of c k.steps) (unread_at c k.steps) flying
           ∙ ap checks (sym t)))))
       | inr n ↦

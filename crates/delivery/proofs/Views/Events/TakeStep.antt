@@ -46,6 +46,7 @@ use Rattle.delivery.proofs.Views.Subscriptions.QueueOfSubscription.{HasQueue, ha
 use Rattle.delivery.proofs.Views.Events.ReleaseStep.{group_at}
 use Rattle.delivery.proofs.Views.Endpoints.StandingOfConnection.{open_there, differ}
 use Rattle.delivery.proofs.Views.Events.OneMove.{bool_cases, endpoint_missing, made_world, made_answer, same_world, in_one, in_outcome, open_checked, left_with, written_with}
+use Rattle.delivery.proofs.Theorem.SendersAreOwn.{reading_there}
 
 -- ---- reading subscriptions
 
@@ -488,7 +489,7 @@ take_lags k s reached free none lagged =
       };
       view = ap (λ (x : SubView). after_lag (view_of k) x.connection) (sub_is k s m.queue.there)
           ∙ (ap (λ (v : View). record v { endpoints = set v.endpoints c (leaving_endpoint None (get_or v.endpoints c no_endpoint)) }) written
-          ∙ (left_with (names_at k) w accepted unread text ids c None no_endpoint m.connection parting
+          ∙ (left_with (names_at k) w accepted unread text ids c None no_endpoint m.connection (reading_there (connection_at w c).standing m.reads) parting
           ∙ ((λ i. view_with (names_at k) (with_leaving w c) (λ n. sym (append-nil (accepted n)) i) unread text ids)
           ∙ ap (λ (z : World). view_after k.names z (step ∷ k.steps)) (sym (made_world w (Move.Takes s) unrefused ∙ ap (take_effect w s) last)))));
     }

@@ -40,11 +40,11 @@ use Rattle.delivery.proofs.Views.Endpoints.SpeakerAndEnd.{closed_is}
 use Rattle.delivery.proofs.Views.Events.DecideStep.{set_twice}
 use Rattle.delivery.proofs.Views.Senders.LastFailure.{failed_is}
 use Rattle.delivery.proofs.Views.Endpoints.DisconnectIsLast.{not_parting}
-use Rattle.delivery.proofs.Views.Senders.SenderChanges.{number_set, endpoint_of_stage, stage_kept, speaker_of, endpoint_of, sender_of_endpoint, speaker_there, senders_with}
+use Rattle.delivery.proofs.Views.Senders.SenderChanges.{number_set, endpoint_of_stage, stage_kept, speaker_of, endpoint_of, sender_of_endpoint, speaker_with}
 use Rattle.delivery.proofs.Views.Senders.SameSeqAndReceipt.{lists_kept}
 use Rattle.delivery.proofs.Views.Endpoints.StandingOfConnection.{differ}
 use Rattle.delivery.proofs.Views.Events.OneMove.{endpoint_is, made_world, made_answer, left_view}
-use Rattle.delivery.proofs.Views.Events.ConnectionIsThere.{flying_speaking, there_checked, is_there, refusal_first, refusal_after, reported, refused_step, refused_outcome, answered_outcome, replied_in, cut_in}
+use Rattle.delivery.proofs.Views.Events.ConnectionIsThere.{flying_speaking, there_checked, is_there, still_there, refusal_first, refusal_after, reported, refused_step, refused_outcome, answered_outcome, replied_in, cut_in}
 
 -- ---- what stands against it
 
@@ -96,11 +96,11 @@ withdraw_gone k c o why stands is =
     (replied_in k c (Event.Withdraw c) (Move.Withdraws c) (Outcome.Refused why) (refused_outcome k (Move.Withdraws c) o why refused is)) refl
 
 -- the sender's refusal in the view of a core
-refusal_is : (k : Core) (c s : ℕ) → IsReached k → c < length k.world.connections → s ≡ speaker_at (view_of k) c
+refusal_is : (k : Core) (c s : ℕ) → IsReached k → there_objection (slice_get (view_of k).endpoints c) ≡ None → s ≡ speaker_at (view_of k) c
     → withdraw_refusal (sender_in (view_of k) s).sending ≡ option_and_then refusal_of (first_refusal (withdraw_checks (speaker k.world c).flight))
-refusal_is k c s reached there is =
+refusal_is k c s reached free is =
     let x = speaker k.world c in
-    ap (λ (y : SenderView). withdraw_refusal y.sending) (sender_of_endpoint k c s reached there is)
+    ap (λ (y : SenderView). withdraw_refusal y.sending) (sender_of_endpoint k c s reached (is_there k c free) (still_there k c free) is)
     ∙ withdraw_checked (speaker_number k.world c) x.seq x.floor x.flight
 
 -- one that is refused
@@ -108,7 +108,7 @@ pub withdraw_refused : (k : Core) (c s : ℕ) (why : Refusal) → IsReached k �
     → Some why ≡ withdraw_refusal (sender_in (view_of k) s).sending → Makes k (Event.Withdraw c) (Outcome.Refused why) (view_of k)
 withdraw_refused k c s why reached free is refused =
     let checks = withdraw_checks (speaker k.world c).flight in
-    let found = reported (first_refusal checks) why (refused ∙ refusal_is k c s reached (is_there k c free) is) in
+    let found = reported (first_refusal checks) why (refused ∙ refusal_is k c s reached free is) in
     let moved : move_refusal k.world (Move.Withdraws c) ≡ Some found.0 =
     ap (λ (r : Option Objection). option_or r None)
     (refusal_after (needs_connection k.world c) checks (sym (there_checked k c) ∙ free) ∙ found.1) in
@@ -217,7 +217,6 @@ withdrawn_whole k c s cut h =
     let after : Core = record { names = k.names; world = u; steps = step ∷ k.steps } in
     let there = is_there k c h.free in
     let speaking = flying_speaking k c f h.free h.can.is in
-    let known = speaker_there k c h.was speaking in
     let standing = (connection_at w c).standing in
     let account = account_of k.names k.steps in
     let old = λ (m : ℕ). endpoint_view (names_at k) w m (accepted_of m k.steps) (unread_at m k.steps) (text_out k.names m k.steps) in
@@ -227,10 +226,10 @@ withdrawn_whole k c s cut h =
     let text = text_out k.names c k.steps in
     let more = flat_map spelling_of (replies_to c k.steps account (Event.Withdraw c) Reading.Nothing (Outcome.Withdrawn cut)) in
     let senders : set v.senders s (withdrawn_sender (sender_in v s)) ≡ (view_of after).senders =
-    ap (λ (y : SenderView). set v.senders s (withdrawn_sender y)) (sender_of_endpoint k c s h.was there h.own)
+    ap (λ (y : SenderView). set v.senders s (withdrawn_sender y)) (sender_of_endpoint k c s h.was there (still_there k c h.free) h.own)
     ∙ (ap (λ (y : SenderView). set v.senders s y) (withdrawn_is k n f h.can.fault h.was h.can.is h.can.marked)
     ∙ (ap (λ (m : ℕ). set v.senders m (sender_view n x)) (h.own ∙ speaker_of k c there)
-    ∙ senders_with w n x known)) in
+    ∙ speaker_with k c x h.was speaking)) in
     let texts : cond cut text (with_error message text (old c).stage) ≡ text_out k.names c (step ∷ k.steps) =
     error_or_none cut more (with_error message text (old c).stage) text
     (ap (λ (o : Option Undecided). with_error message text (stage_view (names_at k) standing o accepted unread)) h.can.is
@@ -258,7 +257,7 @@ withdrawn_whole k c s cut h =
     ∙ (ap (λ (ls : List EndpointView). set ls c (leaving_endpoint parting (new c))) changed
     ∙ ap (λ (l : EndpointView). set (view_of after).endpoints c (leaving_endpoint parting l)) (sym (endpoint_of after c no_endpoint there))))) in
     (λ i. record v { senders = senders i; verdicts = lists_kept k c x h.was speaking refl i; endpoints = endpoints i })
-    ∙ left_view after c parting no_endpoint there refl
+    ∙ left_view after c parting no_endpoint there gone refl
   where
     quiet_text : (b : Bool) (text : List ℕ) → text ++ cond b [] [] ≡ text
     quiet_text true text = append-nil text
@@ -283,9 +282,9 @@ withdraw_makes k c s fault cut was free own allowed kept asked =
     let x = speaker w c in
     let n = speaker_number w c in
     let there = is_there k c free in
-    let h : Withdraws k c s = record { was = was; free = free; own = own; can = withdrawable x.flight (sym (allowed ∙ refusal_is k c s was there own)) } in
+    let h : Withdraws k c s = record { was = was; free = free; own = own; can = withdrawable x.flight (sym (allowed ∙ refusal_is k c s was free own)) } in
     let same : h.can.fault ≡ fault = sym (some_same fault h.can.fault
-    (kept ∙ (ap (λ (y : SenderView). failure_of y.sending) (sender_of_endpoint k c s was there own) ∙ ap failure_of (marked_is n x h.can.flight h.can.fault h.can.is h.can.marked)))) in
+    (kept ∙ (ap (λ (y : SenderView). failure_of y.sending) (sender_of_endpoint k c s was there (still_there k c free) own) ∙ ap failure_of (marked_is n x h.can.flight h.can.fault h.can.is h.can.marked)))) in
     let move = Move.Withdraws c in
     let step = step_of (Event.Withdraw c) Reading.Nothing (Outcome.Withdrawn cut) in
     let moved : move_refusal w move ≡ None =

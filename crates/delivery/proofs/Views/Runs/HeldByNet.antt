@@ -1,14 +1,18 @@
--- What a net holds is held of a core that a run leads to.
+-- What a net holds is held of a core that a run leads to, and the senders beside it are those of that core.
 use Rattle.std.proofs.Common.{ℕ, List, refl}
+use Rattle.sender_gate.specs.Senders.{SendersState}
 use Rattle.delivery.specs.declared.kept.Kept.{Kept}
 use Rattle.delivery.specs.Topics.{TopicList}
 use Rattle.delivery.specs.Core.State.{core_of}
-use Rattle.delivery.specs.Inner.NetInvariant.{KeepsRun}
-use Rattle.delivery.specs.Inner.Stands.{IsHeld, IsReached}
+use Rattle.delivery.specs.Inner.Clients.{AreHeld}
+use Rattle.delivery.specs.Inner.NetInvariant.{KeepsBoth}
+use Rattle.delivery.specs.Inner.Stands.{IsReached}
 use Rattle.delivery.specs.Inner.View.{View}
 
-pub is_held : (topics : TopicList) (capacity : ℕ) (kept : List Kept) (held : View) → KeepsRun topics capacity kept held → IsHeld held
-is_held topics capacity kept held keeps =
-    let k = core_of topics capacity keeps.steps in
-    let reached : IsReached k = record { topics = topics; capacity = capacity; steps = keeps.steps; as_many = keeps.as_many; is = refl; run = keeps.is_run } in
-    (k, reached, keeps.view)
+pub are_held : (topics : TopicList) (capacity : ℕ) (kept : List Kept) (held : View) (clients : SendersState)
+    → KeepsBoth topics capacity kept held clients → AreHeld held clients
+are_held topics capacity kept held clients keeps =
+    let run = keeps.run in
+    let k = core_of topics capacity run.steps in
+    let reached : IsReached k = record { topics = topics; capacity = capacity; steps = run.steps; as_many = run.as_many; is = refl; run = run.is_run } in
+    (k, reached, run.view, keeps.claimed)

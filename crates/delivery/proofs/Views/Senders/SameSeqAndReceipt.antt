@@ -13,7 +13,7 @@ use Rattle.delivery.specs.Core.State.{Core, names_at}
 use Rattle.delivery.specs.Core.Reports.{each_number}
 use Rattle.delivery.specs.Inner.Stands.{IsReached}
 use Rattle.delivery.specs.Inner.View.{EndpointView, view_with, sender_view, endpoint_view, stage_view, pending_receipt, verdict_list, group_view}
-use Rattle.delivery.proofs.Views.Senders.SenderChanges.{IsSpeaking, number_at, number_set, endpoint_of_stage, stage_kept, speaker_there, senders_with, lists_with, endpoint_with_sender}
+use Rattle.delivery.proofs.Views.Senders.SenderChanges.{IsSpeaking, number_at, number_set, endpoint_of_stage, stage_kept, speaker_there, speaker_with, lists_with, endpoint_with_sender}
 
 -- a stage depends on the transaction by its receipt alone
 stage_of_receipt : (names : List (List ℕ)) (standing : Standing) (o p : Option Undecided) (accepted : List RawFrame) (unread : Unread)
@@ -50,7 +50,6 @@ sender_quiet k c x reached there speaking seq receipts accepted unread text ids 
     let w = k.world in
     let s = speaker_number w c in
     let v = with_sender w s x in
-    let known = speaker_there k c reached speaking in
     let verdicts = lists_kept k c x reached speaking seq in
     let old = λ (n : ℕ). endpoint_view (names_at k) w n (accepted n) (unread n) (text n) in
     let new = λ (n : ℕ). endpoint_view (names_at k) v n (accepted n) (unread n) (text n) in
@@ -63,7 +62,7 @@ sender_quiet k c x reached there speaking seq receipts accepted unread text ids 
     ∙ set-get_or (each_number old 0 w.connections) c (old c) in
     let endpoints = sym same ∙ (number_set old new w.connections c (connection_at w c) there others
     ∙ ap (λ (xs : List Connection). each_number new 0 xs) (set-get_or w.connections c nobody)) in
-    λ i. record (view_with (names_at k) w accepted unread text ids) { senders = senders_with w s x known i; verdicts = verdicts i; endpoints = endpoints i }
+    λ i. record (view_with (names_at k) w accepted unread text ids) { senders = speaker_with k c x reached speaking i; verdicts = verdicts i; endpoints = endpoints i }
 
 -- a topic alone changes
 pub topic_quiet : (names : List (List ℕ)) (w : World) (t : Topic) (y : TopicState)

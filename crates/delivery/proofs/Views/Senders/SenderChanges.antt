@@ -8,7 +8,7 @@ use Rattle.stomp_frame.specs.declared.raw_frame.RawFrame.{RawFrame}
 use Rattle.stomp_frame.specs.Reader.{Unread}
 use Rattle.mcast_txn.specs.declared.id.TxnId.{TxnId}
 use Rattle.mcast_txn.specs.Ballot.{Decision}
-use Rattle.delivery.specs.Machine.World.{World, SenderState, Connection, Standing, is_gone, new_sender, nobody, connection_at, sender_at, speaker, speaks_for, with_sender, speaker_number}
+use Rattle.delivery.specs.Machine.World.{World, SenderState, Connection, Standing, is_gone, is_in_use, new_sender, nobody, connection_at, sender_at, speaker, speaks_for, with_sender, speaker_number}
 use Rattle.delivery.specs.Machine.Moves.{find_verdict}
 use Rattle.delivery.specs.Core.Output.{text_out, sub_id_text}
 use Rattle.delivery.specs.Core.State.{Core, unread_at, names_at}
@@ -17,11 +17,12 @@ use Rattle.delivery.specs.Core.Reports.{each_number}
 use Rattle.delivery.specs.Inner.Senders.{speaker_at, sender_in, no_sender}
 use Rattle.delivery.specs.Inner.Stands.{IsReached}
 use Rattle.delivery.specs.Core.Connections.{live_numbers}
-use Rattle.delivery.specs.Inner.View.{EndpointView, SenderView, view_of, view_with, sender_view, endpoint_view, stage_view, no_endpoint, verdict_list}
+use Rattle.delivery.specs.Inner.View.{EndpointView, view_of, view_with, held_sender, sender_view, endpoint_view, stage_view, no_endpoint, verdict_list}
 use Rattle.delivery.proofs.Views.Lists.ByNumber.{each_number-set, get_or-each_number, length-each_number}
 use Rattle.delivery.proofs.Views.Endpoints.StandingOfConnection.{differ}
 use Rattle.delivery.proofs.Views.Verdicts.FoundVerdict.{verdict_is, table, list_of, not_in_list}
 use Rattle.delivery.proofs.Views.Runs.ByRunOfCore.{speaks_of}
+use Rattle.delivery.proofs.Views.Senders.HeldSenders.{senders_with, speaker_used, spoken_used, used_held}
 use Rattle.delivery.proofs.Machine.Speakers.{kept_speaker}
 use Rattle.delivery.proofs.Machine.SubscriptionSteps.{beyond}
 use Rattle.delivery.proofs.Theorem.SendersAreOwn.{speaks, spoken_sender}
@@ -43,21 +44,23 @@ pub speaker_is : (names : List (List ℕ)) (w : World) (accepted : ℕ → List 
     → c < length w.connections → speaker_at (view_with names w accepted unread text ids) c ≡ speaker_number w c
 speaker_is names w accepted unread text ids c there =
     ap (λ (l : EndpointView). unwrap_or l.sender (length (view_with names w accepted unread text ids).senders)) (endpoint_in names w accepted unread text ids c no_endpoint there)
-    ∙ ap (unwrap_or (connection_at w c).sender) (length-each_number (λ n. sender_view n (sender_at w n)) 0 w.senders)
+    ∙ ap (unwrap_or (connection_at w c).sender) (length-each_number (held_sender w) 0 w.senders)
 
--- a sender that is there
+-- a sender that is there, and in use
 pub sender_is : (names : List (List ℕ)) (w : World) (accepted : ℕ → List RawFrame) (unread : ℕ → Unread) (text ids : ℕ → List ℕ) (s : ℕ)
-    → s < length w.senders → sender_in (view_with names w accepted unread text ids) s ≡ sender_view s (sender_at w s)
-sender_is names w accepted unread text ids s there = number_at (λ n. sender_view n (sender_at w n)) w.senders s (no_sender s) there
+    → s < length w.senders → is_in_use w s ≡ true → sender_in (view_with names w accepted unread text ids) s ≡ sender_view s (sender_at w s)
+sender_is names w accepted unread text ids s there used = number_at (held_sender w) w.senders s (no_sender s) there ∙ used_held w s used
 
 -- the same in the view of a core
 pub speaker_of : (k : Core) (c : ℕ) → c < length k.world.connections → speaker_at (view_of k) c ≡ speaker_number k.world c
 speaker_of k c there =
     speaker_is (names_at k) k.world (λ n. accepted_of n k.steps) (λ n. unread_at n k.steps) (λ n. text_out k.names n k.steps) (λ n. sub_id_text n k.steps) c there
 
-pub held_of : (k : Core) (s : ℕ) → s < length k.world.senders → sender_in (view_of k) s ≡ sender_view s (sender_at k.world s)
-held_of k s there =
-    sender_is (names_at k) k.world (λ n. accepted_of n k.steps) (λ n. unread_at n k.steps) (λ n. text_out k.names n k.steps) (λ n. sub_id_text n k.steps) s there
+pub sender_of : (k : Core) (s : ℕ) → s < length k.world.senders → sender_in (view_of k) s ≡ held_sender k.world s
+sender_of k s there = number_at (held_sender k.world) k.world.senders s (no_sender s) there
+
+pub held_of : (k : Core) (s : ℕ) → s < length k.world.senders → is_in_use k.world s ≡ true → sender_in (view_of k) s ≡ sender_view s (sender_at k.world s)
+held_of k s there used = sender_of k s there ∙ used_held k.world s used
 
 pub endpoint_of : (k : Core) (c : ℕ) (d : EndpointView) → c < length k.world.connections
     → get_or (view_of k).endpoints c d ≡ endpoint_view (names_at k) k.world c (accepted_of c k.steps) (unread_at c k.steps) (text_out k.names c k.steps)
@@ -73,17 +76,22 @@ pub speaker_there : (k : Core) (c : ℕ) → IsReached k → IsSpeaking k.world 
 speaker_there k c reached speaks =
     (speaks_of k reached).there c (speaker_number k.world c) (spoken_sender (speaker_number k.world c) (connection_at k.world c) speaks)
 
--- the sender of a number, where it is there or it is the next one
-held_or_next : (k : Core) (s : ℕ) → s ≤ length k.world.senders → sender_in (view_of k) s ≡ sender_view s (sender_at k.world s)
-held_or_next k s within = by (nat_lt s (length w.senders)) refl
+-- so it is in use
+pub speaking_used : (w : World) (c : ℕ) → IsSpeaking w c → is_in_use w (speaker_number w c) ≡ true
+speaking_used w c speaking = spoken_used w c (speaker_number w c) speaking
+
+-- the sender of a number, where it is there and in use or it is the next one
+held_or_next : (k : Core) (s : ℕ) → s ≤ length k.world.senders → (s < length k.world.senders → is_in_use k.world s ≡ true)
+    → sender_in (view_of k) s ≡ sender_view s (sender_at k.world s)
+held_or_next k s within used = by (nat_lt s (length w.senders)) refl
   where
     w : World
     w = k.world
 
     by : (b : Bool) → nat_lt s (length w.senders) ≡ b → sender_in (view_of k) s ≡ sender_view s (sender_at w s)
-    by true e = held_of k s (ltb-true s (length w.senders) e)
+    by true e = let there = ltb-true s (length w.senders) e in held_of k s there (used there)
     by false e =
-        let m = length-each_number (λ n. sender_view n (sender_at w n)) 0 w.senders in
+        let m = length-each_number (held_sender w) 0 w.senders in
         let l = ltb-false s (length w.senders) e in
         beyond (view_of k).senders s (no_sender s) (omega (arith, m, l))
         ∙ ap (sender_view s) (sym (beyond w.senders s new_sender (omega (arith, l))))
@@ -96,27 +104,21 @@ speaker_within k c reached = by (connection_at k.world c).sender refl
     by None e = omega arith
     by (Some s) e = let l = (speaks_of k reached).there c s e in omega (arith, l)
 
--- its sender, by its endpoint
-pub sender_of_endpoint : (k : Core) (c s : ℕ) → IsReached k → c < length k.world.connections → s ≡ speaker_at (view_of k) c
+-- its sender, by its endpoint, where it isn't gone
+pub sender_of_endpoint : (k : Core) (c s : ℕ) → IsReached k → c < length k.world.connections → is_gone (connection_at k.world c).standing ≡ false → s ≡ speaker_at (view_of k) c
     → sender_in (view_of k) s ≡ sender_view (speaker_number k.world c) (speaker k.world c)
-sender_of_endpoint k c s reached there is =
-    ap (λ (n : ℕ). sender_in (view_of k) n) (is ∙ speaker_of k c there) ∙ held_or_next k (speaker_number k.world c) (speaker_within k c reached)
+sender_of_endpoint k c s reached there staying is =
+    ap (λ (n : ℕ). sender_in (view_of k) n) (is ∙ speaker_of k c there)
+    ∙ held_or_next k (speaker_number k.world c) (speaker_within k c reached) (speaker_used k.world c staying)
 
 -- ---- what is held
 
--- one sender is another
-pub senders_with : (w : World) (s : ℕ) (x : SenderState) → s < length w.senders
-    → set (each_number (λ n. sender_view n (sender_at w n)) 0 w.senders) s (sender_view s x)
-    ≡ each_number (λ n. sender_view n (sender_at (with_sender w s x) n)) 0 (set w.senders s x)
-senders_with w s x there =
-    let f = λ (n : ℕ). sender_view n (sender_at w n) in
-    let g = λ (n : ℕ). sender_view n (sender_at (with_sender w s x) n) in
-    let e : s ≡ 0 + s = omega arith in
-    let new : sender_view s x ≡ g s = ap (λ (y : SenderState). sender_view s y) (sym (get_or-set_same w.senders s x new_sender there)) in
-    ap (λ (y : SenderView). set (each_number f 0 w.senders) s y) new
-    ∙ (ap (λ (n : ℕ). set (each_number f 0 w.senders) s (g n)) e
-    ∙ each_number-set f g 0 w.senders s x there
-    (λ n low high other. ap (λ (y : SenderState). sender_view n y) (sym (get_or-set_other w.senders s n x new_sender (λ same. other (same ∙ e))))))
+-- the sender of a connection is another
+pub speaker_with : (k : Core) (c : ℕ) (x : SenderState) → IsReached k → IsSpeaking k.world c
+    → (let w = k.world in let s = speaker_number w c in
+    set (each_number (held_sender w) 0 w.senders) s (sender_view s x) ≡ each_number (held_sender (with_sender w s x)) 0 (set w.senders s x))
+speaker_with k c x reached speaking =
+    senders_with k.world (speaker_number k.world c) x (speaker_there k c reached speaking) (speaking_used k.world c speaking)
 
 -- its list of verdicts with it
 pub lists_with : (w : World) (s : ℕ) (x : SenderState) (verdicts : List Decision) → s < length w.senders

@@ -4,7 +4,7 @@ use Rattle.delivery.specs.Inner.Readings.{steps_of}
 use Rattle.std.specs.Prelude.{length, reverse, take}
 use Rattle.delivery.proofs.Views.Runs.KeptRuns.{opening_of, has_report, has_answered, step_kept, names_stay, capacity_stays}
 use Rattle.delivery.proofs.net.Net.step.Goals as goal
-use Rattle.delivery.proofs.Views.Runs.HeldByNet.{is_held}
+use Rattle.delivery.proofs.Views.Runs.HeldByNet.{are_held}
 
 pub invariant_of-self : goal.invariant_of-self
 invariant_of-self c =
@@ -70,5 +70,5 @@ returns-clause-delivered c =
     c.args.event c.answer-outcome.result c.self.invariant c.answer-outcome.ensures).run)
 
 pub answer-outcome-requires : goal.answer-outcome-requires
-answer-outcome-requires c = is_held (opening_of c.self.inside.clocks.items c.self.inside.state) c.self.inside.state.capacity
-    c.self.inside.kept.items c.self.inside.state c.self.invariant.run
+answer-outcome-requires c = are_held (opening_of c.self.inside.clocks.items c.self.inside.state) c.self.inside.state.capacity
+    c.self.inside.kept.items c.self.inside.state c.self.inside.clients c.self.invariant

@@ -37,6 +37,7 @@ try_act-requires-clause-asks c =
       asks.2,
       subst (λ (v : View). Asks asks.0 c.args.connection asks.1 asks.2 c.args.step.action c.args.step.receipt v) (sym c.in-Ok.ensures.ok)
           (grouped_asks asks.0 c.args.connection asks.1 asks.2 c.args.step.action c.args.step.receipt c.args.self.now asks.3),
+      asks.4,
     )
 
 -- there is no memory for the group: the name is taken back

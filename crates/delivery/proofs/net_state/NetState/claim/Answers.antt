@@ -1,11 +1,19 @@
-use Rattle.std.proofs.Common.{[], ◌∷◌, ◌++◌, List, sym, ap, ◌∙◌}
+use Rattle.std.proofs.Common.{[], ◌∷◌, ◌++◌, ◌<◌, List, length, sym, ap, ◌∙◌, arith}
 use Rattle.delivery.specs.Inner.Rooms.{is_flying, flying_count}
 use Rattle.delivery.specs.Inner.View.{SenderView}
-use Rattle.delivery.proofs.Views.Senders.RoomLasts.{count_pushed}
+use Rattle.delivery.proofs.Views.Senders.RoomLasts.{count_pushed, count_same}
 use Rattle.delivery.proofs.net_state.NetState.claim.Goals as goal
 
-pub invariant_of-self-then-sender-len : goal.invariant_of-self-then-sender-len
-invariant_of-self-then-sender-len c =
+pub invariant_of-self-then-index-len : goal.invariant_of-self-then-index-len
+invariant_of-self-then-index-len c =
+    let senders = c.reserve.new.self.items in
+    let s = c.sender-sender.result.0 in
+    let there : s < length senders = omega (arith, c.if-index-len.true, c.len.ensures, c.reserve.new.self.ok.0) in
+    let same = c.resume.ensures.flying ∙ ap (λ (x : SenderView). is_flying x.sending) c.index_mut-state.ensures.value in
+    c.self.invariant ∙ (ap flying_count (sym c.in_ok-reserve.ensures.items) ∙ count_same senders s c.resume.new.self _ there same)
+
+pub invariant_of-self-else-index-len : goal.invariant_of-self-else-index-len
+invariant_of-self-else-index-len c =
     let senders = c.self.inside.senders.items in
     let new = c.new.result in
     let idle = ap (λ (x : SenderView). is_flying x.sending) c.new.ensures in

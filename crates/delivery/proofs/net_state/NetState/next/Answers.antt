@@ -12,7 +12,7 @@ use Rattle.delivery.proofs.net_state.NetState.next.Goals as goal
 pub read_frame-requires-clause-idle : goal.read_frame-requires-clause-idle
 read_frame-requires-clause-idle c =
     let is = c.requires.2 in
-    (c.requires.0, c.requires.1, sym (ap (λ (v : View). idle_objection v c.args.connection) is) ∙ c.in-Ok.ensures, is)
+    (c.requires.0, c.requires.1, sym (ap (λ (v : View). idle_objection v c.args.connection) is) ∙ c.in-Ok.ensures, is, c.requires.3)
 
 pub read_frame-requires-clause-there : goal.read_frame-requires-clause-there
 read_frame-requires-clause-there c = idle_within c.args.self.now c.args.connection c.in-Ok.ensures

@@ -34,7 +34,7 @@ act-requires-clause-asks c =
     (c.next_step.ensures.stays no_endpoint) (c.next_step.ensures.judges no_endpoint)
     (c.in-Ok-Some.is ∙ ap (λ (o : Option Step). Ok o) c.in-Ok-Some.field-0-is) in
     let taken = next_takes k c.args.connection step c.next_step.new.self c.requires.idle.1 (sym (idle_checked k c.args.connection) ∙ c.requires.idle.2) h in
-    (k, taken.frame, taken.left, taken.asks)
+    (k, taken.frame, taken.left, taken.asks, c.requires.idle.4)
 
 pub returns-in-Ok-None : goal.returns-in-Ok-None
 returns-in-Ok-None c k reached free is kept =

@@ -1,10 +1,9 @@
-use Rattle.std.proofs.Common.{◌≡◌, List, Option, Some, sym, ap, ◌∙◌}
+use Rattle.std.proofs.Common.{◌≡◌, List, sym, ap, ◌∙◌}
 use Rattle.mcast_txn.specs.declared.stamp.Stamp.{Stamp}
 use Rattle.mcast_txn.specs.Ballot.{Decision, ticket_rows}
 use Rattle.mcast_txn.specs.Stamp.{greatest}
 use Rattle.sender_gate.specs.Gate.{GateState, gate_after}
 use Rattle.delivery.specs.declared.sending.Sending.{Sending}
-use Rattle.delivery.specs.Inner.Returned.{returned_sending}
 use Rattle.delivery.specs.Inner.Senders.{decision_of, decided_row, decided_sender, decided_sending}
 use Rattle.delivery.specs.Inner.View.{SenderView}
 use Rattle.delivery.proofs.Views.Senders.TicketsOfTopics.{rows_of_slots}
@@ -12,30 +11,30 @@ use Rattle.delivery.proofs.sender_state.SenderState.decide.Goals as goal
 
 pub returns-in-Ok-clause-verdict : goal.returns-in-Ok-clause-verdict
 returns-in-Ok-clause-verdict c =
-    let flying = c.in-Some-Flying.flying in
+    let flying = c.in-Flying.flying in
     let verdict = c.in-Ok.verdict.value in
-    let is : c.self.inside.sending ≡ Some (Sending.Flying flying c.in-Some-Flying.row) = sym c.take.ensures.value ∙ (c.in-Some-Flying.is ∙ ap (λ (z : Sending). Some z) c.in-Some-Flying.field-0-is) in
+    let is : c.self.inside.sending ≡ Sending.Flying flying c.in-Flying.row = sym c.replace.ensures.value ∙ c.in-Flying.is in
     let rows : verdict.rows ≡ ticket_rows flying.tickets = sym (rows_of_slots verdict.rows) ∙ ap ticket_rows c.in-Ok.ensures.rows in
     let id : verdict.id ≡ flying.id = c.in-Ok.ensures.id in
     (λ i. record { id = id i; rows = rows i })
-    ∙ (ap (λ (o : Option Sending). decision_of (returned_sending o)) (sym is) ∙ ap (λ (x : SenderView). decision_of x.sending) c.self.view_is)
+    ∙ (ap decision_of (sym is) ∙ ap (λ (x : SenderView). decision_of x.sending) c.self.view_is)
 
 pub returns-in-Ok-clause-row : goal.returns-in-Ok-clause-row
 returns-in-Ok-clause-row c =
-    let flying = c.in-Some-Flying.flying in
+    let flying = c.in-Flying.flying in
     let verdict = c.in-Ok.verdict.value in
-    let is : c.self.inside.sending ≡ Some (Sending.Flying flying c.in-Some-Flying.row) = sym c.take.ensures.value ∙ (c.in-Some-Flying.is ∙ ap (λ (z : Sending). Some z) c.in-Some-Flying.field-0-is) in
+    let is : c.self.inside.sending ≡ Sending.Flying flying c.in-Flying.row = sym c.replace.ensures.value ∙ c.in-Flying.is in
     let rows : verdict.rows ≡ ticket_rows flying.tickets = sym (rows_of_slots verdict.rows) ∙ ap ticket_rows c.in-Ok.ensures.rows in
     let stamp : c.stamp-stamp.result ≡ greatest (ticket_rows flying.tickets) = c.stamp-stamp.ensures ∙ (ap (λ (v : Decision). greatest v.rows) c.deref.ensures ∙ ap (λ (rs : List Stamp). greatest rs) rows) in
     (λ i. record (c.row.view_is i) { stamp = stamp i })
-    ∙ (ap (λ (o : Option Sending). decided_row (returned_sending o)) (sym is) ∙ ap (λ (x : SenderView). decided_row x.sending) c.self.view_is)
+    ∙ (ap decided_row (sym is) ∙ ap (λ (x : SenderView). decided_row x.sending) c.self.view_is)
 
 pub returns-in-Ok-clause-ok : goal.returns-in-Ok-clause-ok
 returns-in-Ok-clause-ok c =
-    let flying = c.in-Some-Flying.flying in
+    let flying = c.in-Flying.flying in
     let verdict = c.in-Ok.verdict.value in
-    let is : c.self.inside.sending ≡ Some (Sending.Flying flying c.in-Some-Flying.row) = sym c.take.ensures.value ∙ (c.in-Some-Flying.is ∙ ap (λ (z : Sending). Some z) c.in-Some-Flying.field-0-is) in
+    let is : c.self.inside.sending ≡ Sending.Flying flying c.in-Flying.row = sym c.replace.ensures.value ∙ c.in-Flying.is in
     let rows : verdict.rows ≡ ticket_rows flying.tickets = sym (rows_of_slots verdict.rows) ∙ ap ticket_rows c.in-Ok.ensures.rows in
     let gate : c.in-Ok.gate ≡ gate_after flying (greatest (ticket_rows flying.tickets)) = c.in-Ok.ensures.gate ∙ ap (λ (rs : List Stamp). gate_after flying (greatest rs)) rows in
     ap (λ (g : GateState). record { sending = Sending.Idle g; leftovers = c.self.inside.leftovers.items }) gate
-    ∙ (ap (λ (o : Option Sending). record { sending = decided_sending (returned_sending o); leftovers = c.self.inside.leftovers.items }) (sym is) ∙ ap decided_sender c.self.view_is)
+    ∙ (ap (λ (z : Sending). record { sending = decided_sending z; leftovers = c.self.inside.leftovers.items }) (sym is) ∙ ap decided_sender c.self.view_is)
