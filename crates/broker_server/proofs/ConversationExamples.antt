@@ -4,7 +4,7 @@ use Rattle.mcast_txn.specs.declared.stamp.Stamp.{Stamp}
 use Rattle.sender_gate.specs.Gate.{FlightState, GateState, gate_after}
 use Rattle.broker_server.specs.declared.conversation.conversation_fault.ConversationFault.{ConversationFault}
 use Rattle.broker_server.specs.declared.conversation.drained.Taking.TheVariants.{Emptied, Stopped, Failed}
-use Rattle.broker_server.specs.BrokerRows.{AsksLag, BrokerRow, GivesBack, IsGateAfter, SubName, Takes, Unsubscribes}
+use Rattle.broker_server.specs.BrokerRows.{AsksLag, GivesBack, IsGateAfter, SubName, Takes, Unsubscribes}
 use Rattle.broker_server.specs.Conversations.{ConversationState, EndsSub, OpenSubState, begun_sub, closing_rows, gate_rows, turn_without}
 use Rattle.broker_server.specs.Delivering.{Drains, DrainsAll, DrainsQueues, IsLag, begins_at, full_wire}
 use Rattle.broker_server.specs.Judging.{Grows}

@@ -22,3 +22,10 @@ longer_by_two old out new newer a b l one two = record {
   grown = two ∙ ap (λ (z : List ℕ). z ++ b) (one ∙ ap (λ (z : List ℕ). z ++ a) l.grown)
       ∙ append_assoc (old ++ l.more) a b ∙ append_assoc old l.more (a ++ b);
 }
+
+-- One piece more is written: what is written and what is left are still the whole.
+pub piece_more : (done rest piece later whole : List ℕ) → rest ≡ piece ++ later → done ++ escaped_text rest ≡ whole → (done ++ escaped_text piece) ++ escaped_text later ≡ whole
+piece_more done rest piece later whole cut before =
+    append_assoc done (escaped_text piece) (escaped_text later)
+    ∙ ap (λ (z : List ℕ). done ++ z) (sym (flat_map-append octet_in_text piece later) ∙ sym (ap escaped_text cut))
+    ∙ before

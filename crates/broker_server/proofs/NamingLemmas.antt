@@ -1,11 +1,11 @@
 -- Names that are put behind others.
-use Rattle.std.proofs.Common.{◌≡◌, ◌≤◌, ◌<◌, ◌+◌, ℕ, Bool, true, false, List, [], ◌∷◌, ◌++◌, Some, drop, length, take, min, slice_get, suc, refl, sym, ap, ◌∙◌, append-nil, append_assoc, arith, if◌then◌else◌}
+use Rattle.std.proofs.Common.{◌≡◌, ◌≤◌, ◌<◌, ◌+◌, ℕ, Bool, true, false, List, [], ◌∷◌, ◌++◌, Some, drop, length, take, min, slice_get, suc, sym, ap, ◌∙◌, append-nil, append_assoc, arith, if◌then◌else◌}
 use Rattle.std.proofs.Math.Seq.{drop-cons}
 use Rattle.std.proofs.lemmas.List.{get_or-take, length-append, length-take}
 use Rattle.std.proofs.lemmas.Option.{get_or_from_slice_get}
 use Rattle.stomp_session.specs.Names.{is_known, max_topics, with_name}
 use Rattle.stomp_session.proofs.Later.{with_name-grows}
-use Rattle.broker_server.specs.Judging.{Grows, with_names}
+use Rattle.broker_server.specs.Judging.{Grows}
 
 -- none
 pub grows_none : (names : List (List ℕ)) → Grows names names

@@ -5,7 +5,7 @@ use Rattle.mcast_txn.specs.Agreed.{CommitRow, agreed}
 use Rattle.mcast_txn.specs.Lists.{In}
 use Rattle.mcast_txn.proofs.Members.{In-map, In-filter_cases}
 use Rattle.trace_audit.specs.Logs.{LogLine}
-use Rattle.trace_audit.specs.Trace.{TraceData, no_trace_data}
+use Rattle.trace_audit.specs.Trace.{no_trace_data}
 use Rattle.delivery.specs.Core.Answered.{DeliversAnswers}
 use Rattle.delivery.specs.Core.Reports.{QueueReport, Report}
 use Rattle.delivery.specs.Machine.Moves.{Answer}

@@ -1,5 +1,5 @@
 -- What the program `trace` writes is read as a trace that is alike, and so is explained.
-use Rattle.std.proofs.Common.{◌≡◌, ◌≢◌, ◌⊎◌, ℕ, ◌+◌, ◌<◌, ◌≤◌, ◌==◌, ◌||◌, Bool, true, false, not, inl, inr, List, [], ◌∷◌, ◌++◌, map, length, refl, sym, ap, subst, ◌∙◌, append-nil, append_assoc, arith}
+use Rattle.std.proofs.Common.{◌≡◌, ◌≢◌, ℕ, ◌+◌, ◌≤◌, ◌==◌, ◌||◌, Bool, true, false, not, inl, inr, List, [], ◌∷◌, ◌++◌, map, length, refl, sym, ap, subst, ◌∙◌, append-nil, append_assoc, arith}
 use Rattle.std.specs.List.{AllByRecursion, enumerate_from, filter, flat_map, list_all}
 use Rattle.std.proofs.lemmas.Bool.{and_parts, eq-eqb, eqb-true, cases_Bool}
 use Rattle.mcast_txn.specs.declared.id.Topic.{Topic}
@@ -16,11 +16,10 @@ use Rattle.trace_audit.specs.Parsing.{lines_of, AddsLines}
 use Rattle.trace_audit.specs.PrintedRows.{rows_in}
 use Rattle.trace_audit.specs.Rereading.{AddsRows, AreAlike}
 use Rattle.trace_audit.specs.Rows.{with_row}
-use Rattle.trace_audit.specs.Trace.{TraceData, no_trace_data, rows_of, log_of, queue_of, marks_in, fits, has_span}
+use Rattle.trace_audit.specs.Trace.{TraceData, no_trace_data, rows_of, log_of, fits, has_span}
 use Rattle.trace_audit.proofs.Rereading.{printed_is_read}
 use Rattle.delivery.specs.Core.Account.{account_of}
 use Rattle.delivery.specs.Core.Reports.{QueueReport, Report, report_of}
-use Rattle.delivery.specs.Core.State.{core_of}
 use Rattle.delivery.specs.Nets.{KeptRun, core_of_net}
 use Rattle.delivery.specs.Traces.{traced_span, traced_queue, trace_of, IsTraced}
 use Rattle.delivery.proofs.Core.DeliversOfRun.{delivers}

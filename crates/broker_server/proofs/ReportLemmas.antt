@@ -1,17 +1,22 @@
 -- Lines of a report, appended one after the other.
-use Rattle.std.proofs.Common.{◌≡◌, ℕ, ◌+◌, List, [], ◌∷◌, ◌++◌, length, take, Some, None, sym, ap, ◌∙◌, inl, inr, arith}
+use Rattle.std.proofs.Common.{◌≡◌, ℕ, ◌+◌, ◌==◌, false, List, [], ◌∷◌, ◌++◌, length, take, codes, Some, None, refl, sym, ap, ◌∙◌, inl, inr, arith}
 use Rattle.std.specs.Prelude.{slice_get}
 use Rattle.std.specs.List.{flat_map, enumerate_from}
 use Rattle.std.proofs.lemmas.List.{take_more, take_all, flat_map_more, length-take-le}
 use Rattle.std.proofs.lemmas.Option.{slice_get_within, slice_get_cases, get_or_from_slice_get}
+use Rattle.mcast_txn.specs.Span.{Item}
+use Rattle.delivery.specs.Core.Reports.{QueueReport}
+use Rattle.broker_server.specs.EscapedText.{escaped_text}
+use Rattle.broker_server.specs.ReportText.{out_rest, span_line, subscription_lines}
+use Rattle.broker_server.specs.Inner.Lines.{item_line}
+
+-- the first ones, and one more
+one_more : {X : Type 0} (xs : List X) (i : ℕ) (x : X) → Some x ≡ slice_get xs i → take (i + 1) xs ≡ take i xs ++ x ∷ []
+one_more {X} xs i x is = take_more xs i x (slice_get_within xs i x (sym is)) ∙ ap (λ (z : X). take i xs ++ z ∷ []) (get_or_from_slice_get xs i x x (sym is))
 
 -- the lines of the first ones, and of one more
-pub lines_more : {X : Type 0} (f : X → List ℕ) (xs : List X) (i : ℕ) (x : X) (old out new : List ℕ) → Some x ≡ slice_get xs i
-    → out ≡ old ++ flat_map f (take i xs) → new ≡ out ++ f x → new ≡ old ++ flat_map f (take (i + 1) xs)
-lines_more {X} f xs i x old out new is before one =
-    let more : take (i + 1) xs ≡ take i xs ++ x ∷ [] =
-    take_more xs i x (slice_get_within xs i x (sym is)) ∙ ap (λ (z : X). take i xs ++ z ∷ []) (get_or_from_slice_get xs i x x (sym is)) in
-    one ∙ ap (λ (z : List ℕ). z ++ f x) before ∙ flat_map_more f old (take i xs) x ∙ ap (λ (z : List X). old ++ flat_map f z) (sym more)
+pub lines_more : {X : Type 0} (f : X → List ℕ) (xs : List X) (i : ℕ) (x : X) → Some x ≡ slice_get xs i → flat_map f (take (i + 1) xs) ≡ flat_map f (take i xs) ++ f x
+lines_more {X} f xs i x is = ap (flat_map f) (one_more xs i x is) ∙ sym (flat_map_more f [] (take i xs) x)
 
 -- past the end the first ones are all
 none_more : {X : Type 0} (xs : List X) (i : ℕ) → slice_get xs i ≡ None → take (i + 1) xs ≡ take i xs
@@ -21,9 +26,8 @@ none_more {X} xs i none = elim (slice_get_cases xs i).1 [
 ]
 
 -- the lines of the first ones, where there are no more
-pub lines_end : {X : Type 0} (f : X → List ℕ) (xs : List X) (i : ℕ) (old out new : List ℕ) → None ≡ slice_get xs i
-    → out ≡ old ++ flat_map f (take i xs) → new ≡ out → new ≡ old ++ flat_map f (take (i + 1) xs)
-lines_end {X} f xs i old out new none before same = same ∙ before ∙ ap (λ (z : List X). old ++ flat_map f z) (sym (none_more xs i (sym none)))
+pub lines_end : {X : Type 0} (f : X → List ℕ) (xs : List X) (i : ℕ) → None ≡ slice_get xs i → flat_map f (take (i + 1) xs) ≡ flat_map f (take i xs)
+lines_end {X} f xs i none = ap (flat_map f) (none_more xs i (sym none))
 
 -- those with a number, from the first on
 numbers_more : {X : Type 0} (n : ℕ) (xs : List X) (x : X) → enumerate_from n (xs ++ x ∷ []) ≡ enumerate_from n xs ++ (n + length xs, x) ∷ []
@@ -33,18 +37,28 @@ numbers_more {X} n (y ∷ xs) x =
     ap (λ (z : List (ℕ × X)). (n, y) ∷ z) (numbers_more (n + 1) xs x ∙ ap (λ (k : ℕ). enumerate_from (n + 1) xs ++ (k, x) ∷ []) e)
 
 -- the same of lines that begin with a number
-pub numbered_more : {X : Type 0} (f : ℕ × X → List ℕ) (xs : List X) (i : ℕ) (x : X) (old out new : List ℕ) → Some x ≡ slice_get xs i
-    → out ≡ old ++ flat_map f (enumerate_from 0 (take i xs)) → new ≡ out ++ f (i, x) → new ≡ old ++ flat_map f (enumerate_from 0 (take (i + 1) xs))
-numbered_more {X} f xs i x old out new is before one =
+pub numbered_more : {X : Type 0} (f : ℕ × X → List ℕ) (xs : List X) (i : ℕ) (x : X) → Some x ≡ slice_get xs i
+    → flat_map f (enumerate_from 0 (take (i + 1) xs)) ≡ flat_map f (enumerate_from 0 (take i xs)) ++ f (i, x)
+numbered_more {X} f xs i x is =
     let within = slice_get_within xs i x (sym is) in
-    let more : take (i + 1) xs ≡ take i xs ++ x ∷ [] = take_more xs i x within ∙ ap (λ (z : X). take i xs ++ z ∷ []) (get_or_from_slice_get xs i x x (sym is)) in
     let long : 0 + length (take i xs) ≡ i = omega (arith, length-take-le i xs (omega arith)) in
-    let numbered : enumerate_from 0 (take (i + 1) xs) ≡ enumerate_from 0 (take i xs) ++ (i, x) ∷ [] =
-    ap (enumerate_from 0) more ∙ numbers_more 0 (take i xs) x ∙ ap (λ (k : ℕ). enumerate_from 0 (take i xs) ++ (k, x) ∷ []) (long) in
-    one ∙ ap (λ (z : List ℕ). z ++ f (i, x)) before ∙ flat_map_more f old (enumerate_from 0 (take i xs)) (i, x) ∙ ap (λ (z : List (ℕ × X)). old ++ flat_map f z) (sym numbered)
+    ap (λ (z : List X). flat_map f (enumerate_from 0 z)) (one_more xs i x is)
+    ∙ ap (flat_map f) (numbers_more 0 (take i xs) x ∙ ap (λ (k : ℕ). enumerate_from 0 (take i xs) ++ (k, x) ∷ []) long)
+    ∙ sym (flat_map_more f [] (enumerate_from 0 (take i xs)) (i, x))
 
 -- the same where there are no more
-pub numbered_end : {X : Type 0} (f : ℕ × X → List ℕ) (xs : List X) (i : ℕ) (old out new : List ℕ) → None ≡ slice_get xs i
-    → out ≡ old ++ flat_map f (enumerate_from 0 (take i xs)) → new ≡ out → new ≡ old ++ flat_map f (enumerate_from 0 (take (i + 1) xs))
-numbered_end {X} f xs i old out new none before same =
-    same ∙ before ∙ ap (λ (z : List X). old ++ flat_map f (enumerate_from 0 z)) (sym (none_more xs i (sym none)))
+pub numbered_end : {X : Type 0} (f : ℕ × X → List ℕ) (xs : List X) (i : ℕ) → None ≡ slice_get xs i
+    → flat_map f (enumerate_from 0 (take (i + 1) xs)) ≡ flat_map f (enumerate_from 0 (take i xs))
+numbered_end {X} f xs i none = ap (λ (z : List X). flat_map f (enumerate_from 0 z)) (none_more xs i (sym none))
+
+-- a subscription's lines, where its queue accepted so many items and so many of them were delivered
+pub subscription_is : (s : ℕ) (q : QueueReport) (queued handed : ℕ) → queued ≡ length q.queued → q.handed ≡ take handed q.queued
+    → subscription_lines (s, q) ≡ span_line s q ++ flat_map (item_line (codes "queue") s) (take queued q.queued) ++ flat_map (item_line (codes "handed") s) (take handed q.queued)
+subscription_is s q queued handed all first =
+    ap (λ (z : List Item). span_line s q ++ flat_map (item_line (codes "queue") s) z ++ flat_map (item_line (codes "handed") s) q.handed) (sym (take_all queued q.queued (omega arith)))
+    ∙ ap (λ (z : List Item). span_line s q ++ flat_map (item_line (codes "queue") s) (take queued q.queued) ++ flat_map (item_line (codes "handed") s) z) first
+
+-- what comes after a connection's number, where there are octets
+pub rest_is : (octets : List ℕ) → (length octets == 0) ≡ false → out_rest octets ≡ 32 ∷ escaped_text octets
+rest_is [] none = absurd cc
+rest_is (b ∷ octets) some = refl

@@ -1,14 +1,12 @@
 -- Worked scripts, each computed from the definitions or witnessed by them.
-use Rattle.std.proofs.Common.{◌≡◌, ℕ, true, [], ◌∷◌, None, Some, inl, inr, refl, arith}
+use Rattle.std.proofs.Common.{◌≡◌, ℕ, [], ◌∷◌, None, Some, inl, inr, refl, arith}
 use Rattle.std.specs.Prelude.{codes}
-use Rattle.std.specs.Fmt.{digits, digit_glyph}
-use Rattle.mcast_txn.specs.declared.id.Topic.{Topic}
+use Rattle.std.specs.Fmt.{digits}
 use Rattle.trace_audit.specs.Inner.Reading.{spelled_number}
 use Rattle.delivery.specs.declared.event.Event.{Event}
 use Rattle.delivery.specs.declared.event.Event.TheVariants as event
-use Rattle.broker_server.specs.Script.{SpellsEvent, SpellsLine, NamesCapacity, NamesTopic, SaysNothing, Asks, ScriptData, no_script, capacity_of, is_in_place, IsScript, IsMisplaced, IsFirstBadLine, bad_script_text, event_line}
+use Rattle.broker_server.specs.Script.{SpellsEvent, NamesCapacity, NamesTopic, SaysNothing, Asks, ScriptData, no_script, capacity_of, IsScript, IsMisplaced, IsFirstBadLine, bad_script_text, event_line}
 use Rattle.broker_server.specs.ScriptText.{SpellsText}
-use Rattle.broker_server.specs.EscapedText.{escaped_text}
 use Rattle.broker_server.specs.Inner.ScriptReading.{line_read, words_read, topic_read}
 use Rattle.broker_server.specs.declared.script.script_fault.ScriptFault.TheVariants as fault
 use Rattle.broker_server.proofs.ScriptLines.{line_again}

@@ -1,10 +1,10 @@
 -- Lines of a script: what is read of each is what it says.
-use Rattle.std.proofs.Common.{◌≡◌, ◌≢◌, ℕ, ◌+◌, ◌<◌, ◌≤◌, ◌^◌, Bool, true, false, cond, ltb, List, [], ◌∷◌, ◌++◌, length, Option, Some, None, inl, inr, refl, sym, ap, ◌∙◌, append_assoc, subst, arith}
-use Rattle.std.specs.Prelude.{◌↔◌, ◌==◌, codes, decimal}
+use Rattle.std.proofs.Common.{◌≡◌, ◌≢◌, ℕ, ◌<◌, ◌^◌, Bool, true, false, cond, ltb, List, [], ◌∷◌, ◌++◌, length, Option, Some, None, inl, inr, refl, sym, ap, ◌∙◌, subst, arith}
+use Rattle.std.specs.Prelude.{◌↔◌, codes, decimal}
 use Rattle.std.specs.List.{AllByRecursion, list_all}
 use Rattle.std.specs.Option.{option_map_or}
 use Rattle.std.specs.Str.{bytes_eq}
-use Rattle.std.proofs.lemmas.Bool.{and_parts, eq-eqb, ne_eqb, cases_eq, cases_Bool, ltb-true, lt-ltb}
+use Rattle.std.proofs.lemmas.Bool.{and_parts, eq-eqb, ne_eqb, cases_eq, ltb-true, lt-ltb}
 use Rattle.std.proofs.lemmas.Bool.Decides.{nat_tests}
 use Rattle.std.proofs.lemmas.Slice.Eq.{bytes_eq-Decides}
 use Rattle.mcast_txn.specs.declared.id.Topic.{Topic}
@@ -19,7 +19,7 @@ use Rattle.delivery.specs.declared.event.Event.TheVariants as event
 use Rattle.stomp_session.specs.Names.{is_graphic, is_name}
 use Rattle.broker_server.specs.Script.{SpellsEvent, ScriptLine, SaysNothing, NamesCapacity, NamesTopic, Asks, IsSkipped, SpellsLine}
 use Rattle.broker_server.specs.ScriptText.{SpellsText}
-use Rattle.broker_server.specs.Inner.ScriptReading.{text_read, topic_read, number_then, pair_read, id_read, learn_read, piece_read, name_read, asks, Reader, reader, settings, readers, read_by, words_read, line_read, HasName}
+use Rattle.broker_server.specs.Inner.ScriptReading.{text_read, topic_read, number_then, pair_read, id_read, learn_read, piece_read, name_read, asks, Reader, reader, readers, read_by, words_read, line_read, HasName}
 use Rattle.broker_server.proofs.ScriptTexts.{read_spelled, read_again}
 
 -- ---- fields

@@ -1,5 +1,5 @@
 -- Events that are printed as lines are read as themselves.
-use Rattle.std.proofs.Common.{◌≡◌, ◌≢◌, ℕ, ◌<◌, ◌^◌, ◌/◌, ◌%◌, Bool, true, false, cond, List, [], ◌∷◌, ◌++◌, map, Option, Some, None, refl, sym, ap, ◌∙◌, append_assoc, subst, arith}
+use Rattle.std.proofs.Common.{◌≡◌, ◌≢◌, ℕ, ◌<◌, ◌^◌, ◌/◌, ◌%◌, Bool, true, false, cond, List, [], ◌∷◌, ◌++◌, Option, Some, None, refl, sym, ap, ◌∙◌, append_assoc, subst, arith}
 use Rattle.std.specs.Prelude.{◌==◌, not, codes, decimal}
 use Rattle.std.specs.Fmt.{digit_glyph}
 use Rattle.std.specs.List.{AllByRecursion, flat_map, list_all}
@@ -9,12 +9,12 @@ use Rattle.std.proofs.lemmas.Bool.Decides.{nat_tests}
 use Rattle.std.proofs.lemmas.List.{append-nil}
 use Rattle.mcast_txn.specs.declared.id.Topic.{Topic}
 use Rattle.trace_audit.specs.Parsing.{lines_of}
-use Rattle.trace_audit.specs.Text.{id_text, IsTopicInRange, IsIdInRange}
+use Rattle.trace_audit.specs.Text.{id_text, IsTopicInRange}
 use Rattle.trace_audit.proofs.Cuts.{Without, Without-append, lines_first}
 use Rattle.trace_audit.proofs.Spelling.{number_without}
 use Rattle.delivery.specs.declared.event.Event.{Event}
 use Rattle.delivery.specs.declared.event.Event.TheVariants as event
-use Rattle.broker_server.specs.Script.{event_line, IsEventInRange, IsTextOf, SpellsEvent, Asks, ScriptData, no_script, with_line, AddsScript, IsScript}
+use Rattle.broker_server.specs.Script.{event_line, SpellsEvent, Asks, ScriptData, no_script, with_line, AddsScript}
 use Rattle.broker_server.specs.ScriptPrinting.{text_of_event, event_text, IsSpellable, PrintedIsScript}
 use Rattle.broker_server.specs.EscapedText.{short_letter, is_printable, hex_escape, octet_in_text, escaped_text}
 use Rattle.broker_server.proofs.ScriptTexts.{escaped_spells}

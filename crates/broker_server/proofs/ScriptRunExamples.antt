@@ -1,5 +1,5 @@
 -- Worked examples of the definition of the program `script`.
-use Rattle.std.proofs.Common.{List, [], inl, refl, lit≤}
+use Rattle.std.proofs.Common.{[], inl, refl, lit≤}
 use Rattle.delivery.specs.Core.Reports.{report_of}
 use Rattle.delivery.specs.Core.State.{core_of}
 use Rattle.delivery.specs.Topics.{no_topics}

@@ -10,7 +10,7 @@ use Rattle.trace_audit.specs.Inner.Reading.{◌>>=◌}
 use Rattle.trace_audit.proofs.Cuts.{Without, cut_splits, cut_without, cut_shorter, some_is}
 use Rattle.trace_audit.proofs.Spelling.{bound}
 use Rattle.std.specs.Fmt.{digit_glyph}
-use Rattle.std.specs.List.{AllByRecursion, flat_map}
+use Rattle.std.specs.List.{AllByRecursion}
 use Rattle.std.specs.Option.{option_map_or}
 use Rattle.broker_server.specs.EscapedText.{short_letter, is_printable, hex_escape, octet_in_text, escaped_text}
 use Rattle.broker_server.specs.ScriptText.{SpellsOctet, SpellsText}

@@ -1,5 +1,5 @@
 -- Each input has an output of the programs `script` and `trace`.
-use Rattle.std.proofs.Common.{◌≡◌, ◌≢◌, ◌⊎◌, ◌<◌, ◌≤◌, ℕ, List, [], ◌∷◌, ◌++◌, inl, inr, refl, sym, ap, subst, ◌∙◌, ◌+◌, map, length, length-append}
+use Rattle.std.proofs.Common.{◌≡◌, ◌⊎◌, ℕ, List, [], ◌∷◌, ◌++◌, inl, inr, refl, sym, ap, subst, ◌∙◌, ◌+◌, length, length-append}
 use Rattle.std.proofs.lemmas.Bool.{cases_lt}
 use Rattle.delivery.specs.Core.Account.{account_of}
 use Rattle.delivery.specs.Core.Delivery.{kept_run}

@@ -1,10 +1,9 @@
 -- Whole texts of scripts: what reading gives is the script that the text is, or its first bad line.
-use Rattle.std.proofs.Common.{◌≡◌, ℕ, ◌+◌, ◌⊎◌, Bool, true, false, cond, List, [], ◌∷◌, ◌++◌, length, Option, Some, None, Result, Ok, Err, inl, inr, refl, sym, ap, ◌∙◌, subst, arith, true≢false}
+use Rattle.std.proofs.Common.{◌≡◌, ℕ, ◌⊎◌, true, List, [], ◌∷◌, Option, Some, None, Result, Ok, Err, inl, inr, refl, sym, ap, ◌∙◌, subst, true≢false}
 use Rattle.std.specs.Prelude.{IfOk, IfErr}
 use Rattle.std.proofs.lemmas.Bool.{cases_Bool}
 use Rattle.trace_audit.specs.Parsing.{lines_of}
 use Rattle.trace_audit.specs.Inner.InTurn.{AddsInTurn}
-use Rattle.trace_audit.specs.Inner.Reading.{◌>>=◌}
 use Rattle.trace_audit.proofs.Cuts.{some_is}
 use Rattle.trace_audit.proofs.InTurn.{in_turn, in_turn_again, first_refused, first_refused_again}
 use Rattle.trace_audit.proofs.Spelling.{bound, passed}

@@ -1,11 +1,9 @@
 -- Every list of events has a run: that in which no connection is opened, for want of memory.
 use borrow.Author.Tests.{ltb-true}
-use Rattle.std.proofs.Common.{◌≡◌, ℕ, ◌<◌, arith, Bool, true, false, not, nat_lt, List, [], ◌∷◌, ◌++◌, Option, Some, None, inl, inr, refl, sym, ap, subst, ◌∙◌, length, map, set, reverse}
+use Rattle.std.proofs.Common.{◌≡◌, ℕ, arith, Bool, true, false, not, nat_lt, List, [], ◌∷◌, ◌++◌, Option, Some, None, inl, inr, refl, sym, ap, subst, ◌∙◌, map, set, reverse}
 use Rattle.std.proofs.lemmas.List.{map-append, reverse-append, reverse-reverse}
 use Rattle.std.proofs.lemmas.Simd.{map-map}
 use Rattle.std.specs.Option.{option_or, option_map, option_to_list, is_some}
-use Rattle.mcast_txn.specs.declared.id.Topic.{Topic}
-use Rattle.mcast_txn.specs.declared.id.TxnId.{TxnId}
 use Rattle.mcast_txn.specs.Checks.{first_refusal}
 use Rattle.mcast_txn.specs.Lists.{In}
 use Rattle.mcast_txn.proofs.Members.{In-append_left}
@@ -19,11 +17,11 @@ use Rattle.delivery.specs.declared.refusal.Refusal.{Refusal}
 use Rattle.delivery.specs.Topics.{TopicList}
 use Rattle.delivery.specs.Machine.World.{World, topic_at}
 use Rattle.delivery.specs.Machine.Objections.{Objection, refusal_of}
-use Rattle.delivery.specs.Machine.Moves.{Move, Answer, needs_open, needs_idle, is_topic, objections, topic_objection, move_refusal, move_effect, move_answer, world_after, answer_to, release_answer, queue_has_room, verdict_in}
+use Rattle.delivery.specs.Machine.Moves.{Move, Answer, needs_open, needs_idle, is_topic, objections, topic_objection, move_refusal, move_effect, move_answer, world_after, release_answer, queue_has_room, verdict_in}
 use Rattle.delivery.specs.Core.Steps.{CoreStep, Reading, kept_of}
 use Rattle.delivery.specs.Core.State.{Core, IsReadBy, unread_at, core_after, core_of, new_core, log_limit}
 use Rattle.delivery.specs.Core.Reports.{report_of}
-use Rattle.delivery.specs.Core.Outcomes.{IsCoreRun, MayStep, outcome_of, move_outcome, unless, reply_outcomes, reading_outcomes, outcomes}
+use Rattle.delivery.specs.Core.Outcomes.{IsCoreRun, MayStep, outcome_of, move_outcome, unless, reply_outcomes, reading_outcomes}
 
 -- topics, and nobody there
 abbrev bare : ℕ → List TopicState → World

@@ -1,7 +1,6 @@
 -- Scripts: what each line says, where it may stand, and which script a text is (own).
 use Rattle.std.specs.Prelude.{◌≡◌, ◌≢◌, ℕ, ◌+◌, ◌^◌, ◌<◌, nat_lt, nat_le, Bool, true, false, not, ◌&&◌, List, [], ◌∷◌, ◌++◌, length, codes, decimal, is_none, Option, Some, None, Result, Ok, Err}
 use Rattle.std.specs.Option.{option_map_or}
-use Rattle.mcast_txn.specs.declared.id.Topic.{Topic}
 use Rattle.stomp_session.specs.Names.{is_known}
 use Rattle.trace_audit.specs.Parsing.{lines_of}
 use Rattle.trace_audit.specs.Text.{spaced_text, id_text, IsTopicInRange, IsIdInRange}

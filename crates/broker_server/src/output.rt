@@ -1,11 +1,12 @@
 //! What is written, gathered into large writes.
 
-ghost use Rattle.std.specs.Prelude.{◌≡◌, ◌++◌, [], IfOk, OnOk, IsTrue, Some};
+ghost use Rattle.std.specs.Prelude.{◌≡◌, ◌++◌, [], IfOk, IfErr, OnOk, IsTrue, Some};
 ghost use Rattle.std.specs.Io.KnownBytes.{Appends};
 ghost use Rattle.std.specs.Option.{option_map, option_map_or};
 ghost use Rattle.stomp_frame.specs.Writing.{spelling_of};
 ghost use Rattle.stomp_frame.specs.ServerFrames.{raw_of_server};
 ghost use Rattle.broker_server.specs.declared.detail.Detail.TheVariants.{TooLong};
+ghost use Rattle.broker_server.specs.declared.program_fault.ProgramFault.TheVariants.{Io};
 ghost use Rattle.broker_server.specs.Endings.{done};
 ghost use Rattle.broker_server.specs.Input.{too_long};
 ghost use Rattle.broker_server.specs.Inner.Steps.{Heard, Sends};
@@ -41,6 +42,7 @@ pub(crate) fn drain_full<W: Write>(
 ) -> Result<(), ProgramFault>
     ensures sent { OnOk result (Sends (W.contents writer.old.inner) waiting.old
         (W.contents writer.new.inner) waiting.new []) }
+    ensures io { IfErr result (λ fault. fault ≡ Io) }
     ensures heard { Heard result writer.old writer.new }
 {
     if waiting.len() < FULL {
@@ -54,6 +56,7 @@ fn drain<W: Write>(waiting: &mut Octets, writer: &mut Counting<W>) -> Result<(),
     ensures sent { OnOk result
         (Appends (W.contents writer.old.inner) (W.contents writer.new.inner) waiting.old
         × (waiting.new ≡ [])) }
+    ensures io { IfErr result (λ fault. fault ≡ Io) }
     ensures heard { Heard result writer.old writer.new }
 {
     writer.write_all(waiting.as_slice())?;

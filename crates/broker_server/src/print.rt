@@ -6,3 +6,4 @@ mod report;
 
 pub use outcome::print_outcome;
 pub use report::print_report;
+pub(crate) use report::put_report;

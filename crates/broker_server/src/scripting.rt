@@ -15,7 +15,7 @@ use crate::counting::Counting;
 use crate::ending::Ending;
 use crate::input::gather;
 use crate::output::{drain_full, end, refuse_length};
-use crate::print::{print_outcome, print_report};
+use crate::print::{print_outcome, put_report};
 use crate::program_fault::ProgramFault;
 use crate::script_run::{refuse_script, run_ending, run_text};
 use delivery::Net;
@@ -30,7 +30,7 @@ use stomp_frame::Octets;
 ///
 /// Errors: `Io` (status 5) where a read or a write failed, a write took nothing, or the input hadn't
 /// ended after 16,777,218 reads (a read that is interrupted is one of these, and is tried again);
-/// `NoMemory` (status 4). After either, lines may have been written.
+/// `NoMemory` (status 4). After either, a front of the output may have been written.
 pub fn run_script<R: Read, W: Write>(
     alloc: Global,
     reader: &mut Counting<R>,
@@ -96,7 +96,7 @@ fn write_run<W: Write>(
 {
     let mut waiting = Octets::new(alloc);
     put_outcomes(net, &mut waiting, writer)?;
-    print_report(&net.report(), &mut waiting)?;
+    put_report(&net.report(), &mut waiting, writer)?;
     let status = end(waiting.as_slice(), 0, writer)?;
     Ok(run_ending(status, net))
 }

@@ -2,11 +2,15 @@
 
 ghost use Rattle.std.specs.Prelude.{◌≡◌, ◌++◌, ◌∷◌, [], get_or, take, OnOk, OnErr};
 ghost use Rattle.std.specs.List.{flat_map, enumerate_from};
-ghost use Rattle.stomp_frame.specs.Writing.{Extends};
+ghost use Rattle.trace_audit.specs.Fields.{fields_text};
+ghost use Rattle.broker_server.specs.EscapedText.{escaped_text};
 ghost use Rattle.broker_server.specs.ReportText.{commit_line, log_line, log_lines, span_line, subscription_lines, out_rest, out_line, report_text};
 ghost use Rattle.broker_server.specs.Inner.Lines.{item_line};
+ghost use Rattle.broker_server.specs.Inner.Puts.{Puts};
 
+use crate::drain::{Drain, Undrained};
 use crate::print::escaped_text::put_escaped_text;
+use crate::program_fault::ProgramFault;
 use delivery::{QueueReport, Report};
 use itoa::Buffer;
 use mcast_group::Row;
@@ -14,10 +18,13 @@ use mcast_txn::Released;
 use stomp_frame::{NoMemory, Octets};
 use trace_audit::{Field, put_line};
 
+/// How many of a connection's octets are put at once.
+const PIECE: usize = 4096;
+
 /// Appends a line of a word and these fields.
 macro_rules! line {
-    ($out:ident, $word:expr, $($field:ident($value:expr)),*) => {
-        put_line($out, &[Field::Word($word), $(Field::$field($value)),*])
+    ($out:ident, $drain:ident, $word:expr, $($field:ident($value:expr)),*) => {
+        put_fields(&[Field::Word($word), $(Field::$field($value)),*], $out, $drain)
     };
 }
 
@@ -31,44 +38,55 @@ pub fn print_report(report: &Report<'_>, out: &mut Octets) -> Result<(), NoMemor
     ensures err { OnErr result (out.new ≡ out.old) }
 {
     let before = out.len();
-    let done = put_report(report, out);
-    if done.is_err() {
-        out.truncate(before);
+    match put_report(report, out, &mut Undrained) {
+        Ok(()) => Ok(()),
+        Err(_) => {
+            out.truncate(before);
+            Err(NoMemory)
+        }
     }
-    done
 }
 
-/// Appends the report's lines; after `NoMemory` perhaps only the first ones.
-fn put_report(report: &Report<'_>, out: &mut Octets) -> Result<(), NoMemory>
-    ensures ok { OnOk result (out.new ≡ out.old ++ report_text report.now) }
-    ensures err { OnErr result (Extends out.old out.new) }
+/// Puts the report's lines after the octets that wait, and passes these on whenever they are many.
+pub(crate) fn put_report<D: Drain>(
+    report: &Report<'_>,
+    out: &mut Octets,
+    drain: &mut D,
+) -> Result<(), ProgramFault>
+    ensures { Puts result (D.counted drain.old) out.old (D.counted drain.new) out.new
+        (report_text report.now) }
 {
-    put_commits(report, out)?;
-    put_logs(report, out)?;
-    put_subscriptions(report, out)?;
-    put_outs(report, out)
+    put_commits(report, out, drain)?;
+    put_logs(report, out, drain)?;
+    put_subscriptions(report, out, drain)?;
+    put_outs(report, out, drain)
 }
 
-/// Appends the commits.
-fn put_commits(report: &Report<'_>, out: &mut Octets) -> Result<(), NoMemory>
-    ensures ok { OnOk result (out.new ≡ out.old ++ flat_map commit_line report.now.commits) }
-    ensures err { OnErr result (Extends out.old out.new) }
+/// Puts the commits.
+fn put_commits<D: Drain>(
+    report: &Report<'_>,
+    out: &mut Octets,
+    drain: &mut D,
+) -> Result<(), ProgramFault>
+    ensures { Puts result (D.counted drain.old) out.old (D.counted drain.new) out.new
+        (flat_map commit_line report.now.commits) }
 {
     for i in 0..report.commits_len() {
         if let Some(row) = report.commit(i) {
-            put_commit(row, out)?;
+            put_commit(row, out, drain)?;
         }
     }
     Ok(())
 }
 
-/// Appends a commit.
-fn put_commit(row: &Row, out: &mut Octets) -> Result<(), NoMemory>
-    ensures ok { OnOk result (out.new ≡ out.old ++ commit_line row.now) }
-    ensures err { OnErr result (out.new ≡ out.old) }
+/// Puts a commit.
+fn put_commit<D: Drain>(row: &Row, out: &mut Octets, drain: &mut D) -> Result<(), ProgramFault>
+    ensures { Puts result (D.counted drain.old) out.old (D.counted drain.new) out.new
+        (commit_line row.now) }
 {
     line!(
         out,
+        drain,
         b"commit",
         Id(row.id),
         Stamp(row.stamp),
@@ -76,38 +94,53 @@ fn put_commit(row: &Row, out: &mut Octets) -> Result<(), NoMemory>
     )
 }
 
-/// Appends the logs.
-fn put_logs(report: &Report<'_>, out: &mut Octets) -> Result<(), NoMemory>
-    ensures ok { OnOk result (out.new ≡ out.old ++ flat_map log_lines (enumerate_from 0 report.now.logs)) }
-    ensures err { OnErr result (Extends out.old out.new) }
+/// Puts the logs.
+fn put_logs<D: Drain>(
+    report: &Report<'_>,
+    out: &mut Octets,
+    drain: &mut D,
+) -> Result<(), ProgramFault>
+    ensures { Puts result (D.counted drain.old) out.old (D.counted drain.new) out.new
+        (flat_map log_lines (enumerate_from 0 report.now.logs)) }
 {
     for t in 0..report.topics_len() {
-        put_log(t, report, out)?;
+        put_log(t, report, out, drain)?;
     }
     Ok(())
 }
 
-/// Appends the log of the topic of number `t`.
-fn put_log(t: usize, report: &Report<'_>, out: &mut Octets) -> Result<(), NoMemory>
-    ensures ok { OnOk result (out.new ≡ out.old ++ log_lines (t, get_or report.now.logs t [])) }
-    ensures err { OnErr result (Extends out.old out.new) }
+/// Puts the log of the topic of number `t`.
+fn put_log<D: Drain>(
+    t: usize,
+    report: &Report<'_>,
+    out: &mut Octets,
+    drain: &mut D,
+) -> Result<(), ProgramFault>
+    ensures { Puts result (D.counted drain.old) out.old (D.counted drain.new) out.new
+        (log_lines (t, get_or report.now.logs t [])) }
 {
     for i in 0..report.log_len(t) {
         if let Some(row) = report.log_row(t, i) {
-            put_log_row(t, row, out)?;
+            put_log_row(t, row, out, drain)?;
         }
     }
     Ok(())
 }
 
-/// Appends a row of the log of the topic of number `t`.
-fn put_log_row(t: usize, row: &Row, out: &mut Octets) -> Result<(), NoMemory>
-    ensures ok { OnOk result (out.new ≡ out.old ++ log_line t row.now) }
-    ensures err { OnErr result (out.new ≡ out.old) }
+/// Puts a row of the log of the topic of number `t`.
+fn put_log_row<D: Drain>(
+    t: usize,
+    row: &Row,
+    out: &mut Octets,
+    drain: &mut D,
+) -> Result<(), ProgramFault>
+    ensures { Puts result (D.counted drain.old) out.old (D.counted drain.new) out.new
+        (log_line t row.now) }
 {
     let topics = row.topics.as_slice();
     line!(
         out,
+        drain,
         b"log",
         Number(t as u64),
         Id(row.id),
@@ -116,38 +149,52 @@ fn put_log_row(t: usize, row: &Row, out: &mut Octets) -> Result<(), NoMemory>
     )
 }
 
-/// Appends the subscriptions.
-fn put_subscriptions(report: &Report<'_>, out: &mut Octets) -> Result<(), NoMemory>
-    ensures ok { OnOk result (out.new
-        ≡ out.old ++ flat_map subscription_lines (enumerate_from 0 report.now.subscriptions)) }
-    ensures err { OnErr result (Extends out.old out.new) }
+/// Puts the subscriptions.
+fn put_subscriptions<D: Drain>(
+    report: &Report<'_>,
+    out: &mut Octets,
+    drain: &mut D,
+) -> Result<(), ProgramFault>
+    ensures { Puts result (D.counted drain.old) out.old (D.counted drain.new) out.new
+        (flat_map subscription_lines (enumerate_from 0 report.now.subscriptions)) }
 {
     for s in 0..report.subscriptions_len() {
         if let Some(queue) = report.subscription(s) {
-            put_subscription(s, &queue, out)?;
+            put_subscription(s, &queue, out, drain)?;
         }
     }
     Ok(())
 }
 
-/// Appends the subscription of number `s`.
-fn put_subscription(s: usize, queue: &QueueReport<'_>, out: &mut Octets) -> Result<(), NoMemory>
-    ensures ok { OnOk result (out.new ≡ out.old ++ subscription_lines (s, queue.now)) }
-    ensures err { OnErr result (Extends out.old out.new) }
+/// Puts the subscription of number `s`.
+fn put_subscription<D: Drain>(
+    s: usize,
+    queue: &QueueReport<'_>,
+    out: &mut Octets,
+    drain: &mut D,
+) -> Result<(), ProgramFault>
+    ensures { Puts result (D.counted drain.old) out.old (D.counted drain.new) out.new
+        (subscription_lines (s, queue.now)) }
 {
-    put_span(s, queue, out)?;
-    put_items(b"queue", s, queue, queue.queued_len(), out)?;
-    put_items(b"handed", s, queue, queue.handed_len(), out)
+    put_span(s, queue, out, drain)?;
+    put_items(b"queue", s, queue, queue.queued_len(), out, drain)?;
+    put_items(b"handed", s, queue, queue.handed_len(), out, drain)
 }
 
-/// Appends the span of the subscription of number `s`.
-fn put_span(s: usize, queue: &QueueReport<'_>, out: &mut Octets) -> Result<(), NoMemory>
-    ensures ok { OnOk result (out.new ≡ out.old ++ span_line s queue.now) }
-    ensures err { OnErr result (out.new ≡ out.old) }
+/// Puts the span of the subscription of number `s`.
+fn put_span<D: Drain>(
+    s: usize,
+    queue: &QueueReport<'_>,
+    out: &mut Octets,
+    drain: &mut D,
+) -> Result<(), ProgramFault>
+    ensures { Puts result (D.counted drain.old) out.old (D.counted drain.new) out.new
+        (span_line s queue.now) }
 {
     let topic = queue.topic();
     line!(
         out,
+        drain,
         b"span",
         Number(s as u64),
         Topic(topic),
@@ -156,33 +203,40 @@ fn put_span(s: usize, queue: &QueueReport<'_>, out: &mut Octets) -> Result<(), N
     )
 }
 
-/// Appends the first `len` items that the queue of the subscription of number `s` accepted, each after this word.
-fn put_items(
+/// Puts the first `len` items that the queue of the subscription of number `s` accepted, each after this word.
+fn put_items<D: Drain>(
     word: &[u8],
     s: usize,
     queue: &QueueReport<'_>,
     len: usize,
     out: &mut Octets,
-) -> Result<(), NoMemory>
-    ensures ok { OnOk result
-        (out.new ≡ out.old ++ flat_map (item_line word.now s) (take len queue.now.queued)) }
-    ensures err { OnErr result (Extends out.old out.new) }
+    drain: &mut D,
+) -> Result<(), ProgramFault>
+    ensures { Puts result (D.counted drain.old) out.old (D.counted drain.new) out.new
+        (flat_map (item_line word.now s) (take len queue.now.queued)) }
 {
     for i in 0..len {
         if let Some(item) = queue.queued(i) {
-            put_item(word, s, item, out)?;
+            put_item(word, s, item, out, drain)?;
         }
     }
     Ok(())
 }
 
-/// Appends an item of the subscription of number `s`, after this word.
-fn put_item(word: &[u8], s: usize, item: &Released, out: &mut Octets) -> Result<(), NoMemory>
-    ensures ok { OnOk result (out.new ≡ out.old ++ item_line word.now s item.now) }
-    ensures err { OnErr result (out.new ≡ out.old) }
+/// Puts an item of the subscription of number `s`, after this word.
+fn put_item<D: Drain>(
+    word: &[u8],
+    s: usize,
+    item: &Released,
+    out: &mut Octets,
+    drain: &mut D,
+) -> Result<(), ProgramFault>
+    ensures { Puts result (D.counted drain.old) out.old (D.counted drain.new) out.new
+        (item_line word.now s item.now) }
 {
     line!(
         out,
+        drain,
         word,
         Number(s as u64),
         Id(item.part.id),
@@ -190,38 +244,92 @@ fn put_item(word: &[u8], s: usize, item: &Released, out: &mut Octets) -> Result<
     )
 }
 
-/// Appends the octets out of each connection.
-fn put_outs(report: &Report<'_>, out: &mut Octets) -> Result<(), NoMemory>
-    ensures ok { OnOk result (out.new ≡ out.old ++ flat_map out_line (enumerate_from 0 report.now.outs)) }
-    ensures err { OnErr result (Extends out.old out.new) }
+/// Puts the octets out of each connection.
+fn put_outs<D: Drain>(
+    report: &Report<'_>,
+    out: &mut Octets,
+    drain: &mut D,
+) -> Result<(), ProgramFault>
+    ensures { Puts result (D.counted drain.old) out.old (D.counted drain.new) out.new
+        (flat_map out_line (enumerate_from 0 report.now.outs)) }
 {
     for c in 0..report.connections_len() {
         if let Some(octets) = report.out(c) {
-            put_out(c, octets, out)?;
+            put_out(c, octets, out, drain)?;
         }
     }
     Ok(())
 }
 
-/// Appends the octets out of the connection of number `c`.
-fn put_out(c: usize, octets: &[u8], out: &mut Octets) -> Result<(), NoMemory>
-    ensures ok { OnOk result (out.new ≡ out.old ++ out_line (c, octets.now)) }
-    ensures err { OnErr result (Extends out.old out.new) }
+/// Puts the octets out of the connection of number `c`.
+fn put_out<D: Drain>(
+    c: usize,
+    octets: &[u8],
+    out: &mut Octets,
+    drain: &mut D,
+) -> Result<(), ProgramFault>
+    ensures { Puts result (D.counted drain.old) out.old (D.counted drain.new) out.new
+        (out_line (c, octets.now)) }
 {
-    out.extend(b"out ")?;
-    out.extend(Buffer::new().format(c as u64).as_bytes())?;
-    put_octets(octets, out)?;
-    out.push(b'\n')
+    put(b"out ", out, drain)?;
+    put(Buffer::new().format(c as u64).as_bytes(), out, drain)?;
+    put_octets(octets, out, drain)?;
+    put(b"\n", out, drain)
 }
 
-/// Appends a space and the TEXT of these octets, if there are any.
-fn put_octets(octets: &[u8], out: &mut Octets) -> Result<(), NoMemory>
-    ensures ok { OnOk result (out.new ≡ out.old ++ out_rest octets.now) }
-    ensures err { OnErr result (Extends out.old out.new) }
+/// Puts a space and the TEXT of these octets, if there are any.
+fn put_octets<D: Drain>(octets: &[u8], out: &mut Octets, drain: &mut D) -> Result<(), ProgramFault>
+    ensures { Puts result (D.counted drain.old) out.old (D.counted drain.new) out.new
+        (out_rest octets.now) }
 {
     if octets.is_empty() {
         return Ok(());
     }
-    out.push(b' ')?;
-    put_escaped_text(octets, out)
+    put(b" ", out, drain)?;
+    put_text(octets, out, drain)
+}
+
+/// Puts the TEXT of these octets, piece by piece.
+fn put_text<D: Drain>(octets: &[u8], out: &mut Octets, drain: &mut D) -> Result<(), ProgramFault>
+    ensures { Puts result (D.counted drain.old) out.old (D.counted drain.new) out.new
+        (escaped_text octets.now) }
+{
+    let mut rest = octets;
+    while !rest.is_empty() {
+        let (piece, later) = rest.split_at(rest.len().min(PIECE));
+        put_piece(piece, out, drain)?;
+        rest = later;
+    }
+    Ok(())
+}
+
+/// Puts the TEXT of a piece.
+fn put_piece<D: Drain>(piece: &[u8], out: &mut Octets, drain: &mut D) -> Result<(), ProgramFault>
+    ensures { Puts result (D.counted drain.old) out.old (D.counted drain.new) out.new
+        (escaped_text piece.now) }
+{
+    put_escaped_text(piece, out)?;
+    drain.take_full(out)
+}
+
+/// Puts a line of these fields.
+fn put_fields<D: Drain>(
+    fields: &[Field<'_>],
+    out: &mut Octets,
+    drain: &mut D,
+) -> Result<(), ProgramFault>
+    ensures { Puts result (D.counted drain.old) out.old (D.counted drain.new) out.new
+        (fields_text fields.now ++ 10 ∷ []) }
+{
+    put_line(out, fields)?;
+    drain.take_full(out)
+}
+
+/// Puts these octets.
+fn put<D: Drain>(octets: &[u8], out: &mut Octets, drain: &mut D) -> Result<(), ProgramFault>
+    ensures { Puts result (D.counted drain.old) out.old (D.counted drain.new) out.new
+        octets.now }
+{
+    out.extend(octets)?;
+    drain.take_full(out)
 }

@@ -6,6 +6,7 @@ mod details;
 mod ending;
 mod failing;
 mod frame_limits;
+mod large_reports;
 mod limits;
 mod made_scripts;
 mod peers;

@@ -2,7 +2,7 @@ use Rattle.std.proofs.Common.{◌≡◌, ℕ, suc, ◌+◌, ◌<◌, ◌≤◌, 
 use Rattle.std.specs.Prelude.{◌||◌}
 use Rattle.std.proofs.lemmas.List.{drop-set-lt, drop_all, drop_more, length-drop, length-set, set_split, take_all, take_more_set}
 use Rattle.broker_server.specs.declared.conversation.drained.Taking.TheVariants.{Emptied}
-use Rattle.broker_server.specs.BrokerRows.{AsksInTurn, BrokerRow}
+use Rattle.broker_server.specs.BrokerRows.{BrokerRow}
 use Rattle.broker_server.specs.Conversations.{OpenSubState}
 use Rattle.broker_server.specs.Delivering.{DrainsAll, has_item}
 use Rattle.broker_server.proofs.ConversationLemmas.{asks_on}

@@ -1,12 +1,15 @@
-use Rattle.std.proofs.Common.{◌∙◌}
 use Rattle.broker_server.specs.Inner.Lines.{item_line}
-use Rattle.broker_server.proofs.ReportLemmas.{lines_more, lines_end}
-use Rattle.broker_server.proofs.print.report.put_items.Goals as goal
+use Rattle.broker_server.proofs.PutLemmas.{both_put, cut, put_then, same_put}
+use Rattle.broker_server.proofs.ReportLemmas.{lines_end, lines_more}
 use Rattle.broker_server.proofs.print.report.put_items.Goals.{in-Some+in_ok-put_item, in_default}
+use Rattle.broker_server.proofs.print.report.put_items.Goals as goal
+
+pub returns-in_err-put_item : goal.returns-in_err-put_item
+returns-in_err-put_item g c = cut c.in_err-put_item.was c.from_residual.ensures.1 (put_then c.loop-i.invariant c.put_item.ensures)
 
 pub loop-i-preserved : goal.loop-i-preserved
-loop-i-preserved c = elim c.match-queued.branch [
+loop-i-preserved g c = elim c.match-queued.branch [
   | in-Some+in_ok-put_item w ↦
-      lines_more (item_line c.args.word.now c.args.s) c.args.queue.now.queued c.loop-i.i _ c.args.out.now c.loop-i.out c.match-queued.out w.in-Some.ensures c.loop-i.invariant (w.out-is ∙ w.in_ok-put_item.ensures.ok)
-  | in_default w ↦ lines_end (item_line c.args.word.now c.args.s) c.args.queue.now.queued c.loop-i.i c.args.out.now c.loop-i.out c.match-queued.out w.in_default.ensures c.loop-i.invariant w.out-is
+      rw (w.out-is, w.drain-is) (same_put (both_put c.loop-i.invariant w.in_ok-put_item.ensures.ok) (lines_more (item_line c.args.word.now c.args.s) c.args.queue.now.queued c.loop-i.i _ w.in-Some.ensures))
+  | in_default w ↦ rw (w.out-is, w.drain-is) (same_put c.loop-i.invariant (lines_end (item_line c.args.word.now c.args.s) c.args.queue.now.queued c.loop-i.i w.in_default.ensures))
 ]

@@ -1,12 +1,15 @@
-use Rattle.std.proofs.Common.{◌∙◌}
 use Rattle.broker_server.specs.ReportText.{out_line}
-use Rattle.broker_server.proofs.ReportLemmas.{numbered_more, numbered_end}
-use Rattle.broker_server.proofs.print.report.put_outs.Goals as goal
+use Rattle.broker_server.proofs.PutLemmas.{both_put, cut, put_then, same_put}
+use Rattle.broker_server.proofs.ReportLemmas.{numbered_end, numbered_more}
 use Rattle.broker_server.proofs.print.report.put_outs.Goals.{in-Some+in_ok-put_out, in_default}
+use Rattle.broker_server.proofs.print.report.put_outs.Goals as goal
+
+pub returns-in_err-put_out : goal.returns-in_err-put_out
+returns-in_err-put_out g c = cut c.in_err-put_out.was c.from_residual.ensures.1 (put_then c.loop-c.invariant c.put_out.ensures)
 
 pub loop-c-preserved : goal.loop-c-preserved
-loop-c-preserved c = elim c.match-out.branch [
+loop-c-preserved g c = elim c.match-out.branch [
   | in-Some+in_ok-put_out w ↦
-      numbered_more out_line c.args.report.now.outs c.loop-c.c _ c.args.out.now c.loop-c.out c.match-out.out w.in-Some.ensures c.loop-c.invariant (w.out-is ∙ w.in_ok-put_out.ensures.ok)
-  | in_default w ↦ numbered_end out_line c.args.report.now.outs c.loop-c.c c.args.out.now c.loop-c.out c.match-out.out w.in_default.ensures c.loop-c.invariant w.out-is
+      rw (w.out-is, w.drain-is) (same_put (both_put c.loop-c.invariant w.in_ok-put_out.ensures.ok) (numbered_more out_line c.args.report.now.outs c.loop-c.c _ w.in-Some.ensures))
+  | in_default w ↦ rw (w.out-is, w.drain-is) (same_put c.loop-c.invariant (numbered_end out_line c.args.report.now.outs c.loop-c.c w.in_default.ensures))
 ]

@@ -1,4 +1,4 @@
-use Rattle.std.proofs.Common.{◌<◌, length, sym, ◌∙◌, arith}
+use Rattle.std.proofs.Common.{sym, ◌∙◌}
 use Rattle.broker_server.proofs.ScriptTexts.{goes_on, stops, ends, left_shorter, read_is, nothing_read, nothing_onto}
 use Rattle.broker_server.specs.Inner.ScriptReading.{Between, text_from}
 use Rattle.broker_server.proofs.script.text_reading.octets.Goals as goal
