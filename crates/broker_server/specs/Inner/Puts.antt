@@ -1,4 +1,4 @@
--- Serves proofs only: octets that are put after those that wait for a writer, which is known by the octets that it has.
+-- Serves proofs only: octets that are put after those that wait for a writer.
 use Rattle.std.specs.Prelude.{ℕ, false, List, [], Option, Some, None, Result, OnOk, IsErrOf}
 use Rattle.broker_server.specs.declared.counting.Counting.{Counting}
 use Rattle.broker_server.specs.declared.program_fault.ProgramFault.{ProgramFault}
@@ -19,7 +19,14 @@ counted_by contents writer = record {
 
 -- a writer that is never called
 abbrev pub never_called : Counting (Option (List ℕ))
-never_called = record { inner = Some []; calls = 0; failures = 0; failure = None; interruptions = 0; flushed = false }
+never_called = record {
+  inner = Some [];
+  calls = 0;
+  failures = 0;
+  failure = None;
+  interruptions = 0;
+  flushed = false;
+}
 
 -- The octets were put after those that wait, what is then first was written, and nothing failed.
 pub record HasPut (old : Counting (Option (List ℕ))) (waited : List ℕ) (new : Counting (Option (List ℕ)))
@@ -28,8 +35,8 @@ pub record HasPut (old : Counting (Option (List ℕ))) (waited : List ℕ) (new 
   pub heard : FailsNot old new
 
 -- The octets were put so; or, out of memory, some. `Io` is returned only where the writer failed.
-pub record Puts {A : Type 0} (answer : Result A ProgramFault) (old : Counting (Option (List ℕ))) (waited : List ℕ)
-    (new : Counting (Option (List ℕ))) (waits octets : List ℕ) : Type 0 where
+pub record Puts {A : Type 0} (answer : Result A ProgramFault) (old : Counting (Option (List ℕ)))
+    (waited : List ℕ) (new : Counting (Option (List ℕ))) (waits octets : List ℕ) : Type 0 where
   pub ok : OnOk answer (HasPut old waited new waits octets)
   pub no_memory : IsErrOf answer NoMemory → (some : List ℕ) × HasPut old waited new waits some
   pub heard : Heard answer old new

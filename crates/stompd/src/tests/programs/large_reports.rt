@@ -65,7 +65,7 @@ fn output(alloc: Global, script: &[u8]) -> Result<Octets, NoMemory> {
     let mut out = outcomes_of(alloc, &net)?;
     let outcomes = out.len();
     print_report(&net.report(), &mut out)?;
-    if out.len() - outcomes < 300_000 {
+    if out.len().saturating_sub(outcomes) < 300_000 {
         return Err(NoMemory);
     }
     Ok(out)
