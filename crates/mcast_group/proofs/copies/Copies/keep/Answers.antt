@@ -11,7 +11,7 @@ returns-else-most-eq0 c =
     let others = c.self.inside.others.items in
     let same : suc (c.args.most - 1) ≡ c.args.most = let f = c.if-most-eq0.false in omega arith in
     let cut = ap (with_first first) c.truncate.ensures.items
-        ∙ (with_first-take (c.args.most - 1) first others c.self.invariant
-        ∙ ap (λ (n : ℕ). take n (with_first first others)) same) in
+    ∙ (with_first-take (c.args.most - 1) first others c.self.invariant
+    ∙ ap (λ (n : ℕ). take n (with_first first others)) same) in
     ap (map (λ part. data_of (arc_value part))) cut
     ∙ (map_take (λ part. data_of (arc_value part)) c.args.most (with_first first others) ∙ ap (take c.args.most) c.self.view_is)
