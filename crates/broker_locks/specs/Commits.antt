@@ -105,7 +105,8 @@ pub record IsPlaceFault {P : Type 0} (may_refuse : P → Stamp → TopicPart →
   pub refused : may_refuse places flight.floor part refusal
   pub is : fault ≡ commit_fault refusal
 
--- A place refuses a part by a fault. It stands where nothing is known of the places, since each is behind a lock.
+-- A place refuses a part by a fault. It stands where nothing is known of the places, since each is behind a
+-- lock.
 abbrev pub some_refusal : Unit {0} → Stamp → TopicPart → ProposeFault → Type 0
 some_refusal places floor part fault = Unit {0}
 
@@ -127,10 +128,10 @@ HasNoMemory done tried fault = (done ≡ 0) × (tried ≡ 0) × (fault ≡ commi
 -- decided: there the floor is above the old one.
 -- tried: how many of its topics were tried.
 -- tells: the point was told these, and no other.
--- why: a place refused the part after those that were entered, the last that was tried, by this fault; or all were
---   entered, and the flight had another verdict; or none was tried, for want of memory.
--- So where the second of three topics refuses for its log, one ticket was given, the point was told two topics, and the
--- fault is 41, whatever the third would have answered.
+-- why: a place refused the part after those that were entered, the last that was tried, by this fault; or all
+--   were entered, and the flight had another verdict; or none was tried, for want of memory.
+-- So where the second of three topics refuses for its log, one ticket was given, the point was told two
+-- topics, and the fault is 41, whatever the third would have answered.
 pub record IsRefused {P Q : Type 0} (may_refuse : P → Stamp → TopicPart → ProposeFault → Type 0)
     (told : Q → Topic → ℕ → Q → Type 0) (flight : FlightState) (old new : List PlaceRow) (had has : ℕ)
     (before after : Q) (gate : GateState) (fault : CommitFault) : Type 0 where

@@ -9,7 +9,7 @@ use Rattle.trace_audit.specs.Explained.{IsExplainedBy}
 use Rattle.trace_audit.specs.Trace.{TraceData, no_trace_data}
 use Rattle.broker_locks.specs.KeptTrace.{AddsAll, AddsFirst, topic_trace}
 use Rattle.broker_locks.specs.Place.{IsBalanced, PlaceState}
-use Rattle.broker_locks.specs.TopicTraces.{SubTrace, TopicTrace, frontier_of, is_due_to, topic_rows}
+use Rattle.broker_locks.specs.TopicTraces.{SubTrace, TopicTrace, trace_frontier, is_due_to, topic_rows}
 
 -- what a place leaves for a trace: nothing where none is kept
 abbrev pub traces_left : PlaceState → List TopicTrace
@@ -65,4 +65,4 @@ GatheredIsDue =
     (count : ℕ) (trace : TraceData) (agreed : List LogRow) (left : IsTraceLeft count trace)
     → IsExplainedBy agreed trace
     → (x : TopicTrace) (s : SubTrace) → In x (flat_map traces_left left.places) → In s x.subs
-    → s.marks ≡ map row_mark (filter (is_due_to x.topic (frontier_of x) s) agreed)
+    → s.marks ≡ map row_mark (filter (is_due_to x.topic (trace_frontier x) s) agreed)

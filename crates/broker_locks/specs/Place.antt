@@ -134,8 +134,8 @@ DrainLeaves place (Err fault) new = new ≡ place
 -- A head's turn of a place.
 -- turned: the topic after the turn, before its log was drained.
 -- turns: it is a turn of the topic, in which each part that learnt did so by a note that was taken of its own
---   flight's cell; these notes are kept, after those that there were. So where a part waits with cell 7, a note
---   (7, v) gives it the stamp of v, and no other note gives it any.
+--   flight's cell; these notes are kept, after those that there were. So where a part waits with cell 7, a
+--   note (7, v) gives it the stamp of v, and no other note gives it any.
 -- released: it is told how many rows were released.
 -- lagged: it is told whether fewer subscriptions are open than before.
 -- leaves: the place is left with it, and the log was drained where there was memory.

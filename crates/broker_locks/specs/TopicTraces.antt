@@ -81,8 +81,8 @@ is_due_to t frontier s r =
     names t r.topics && (in_span s.from s.to r.stamp && not (stamp_lt frontier r.stamp))
 
 -- the stamp of the last row that the topic released, or zero
-abbrev pub frontier_of : TopicTrace → Stamp
-frontier_of x = last_stamp zero_stamp x.log
+abbrev pub trace_frontier : TopicTrace → Stamp
+trace_frontier x = last_stamp zero_stamp x.log
 
 -- Where a list of transactions explains the trace of a run's topics, what each subscription's source has
 -- pushed is that list restricted to its topic and span, up to the topic's frontier: the equation of the
@@ -92,4 +92,4 @@ ExplainedIsDue =
     (topics : List TopicTrace) (agreed : List LogRow) → AreOfOneRun topics
     → IsExplainedBy agreed (topics_trace topics)
     → (x : TopicTrace) (s : SubTrace) → In x topics → In s x.subs
-    → s.marks ≡ map row_mark (filter (is_due_to x.topic (frontier_of x) s) agreed)
+    → s.marks ≡ map row_mark (filter (is_due_to x.topic (trace_frontier x) s) agreed)

@@ -124,7 +124,8 @@ impl<R: Wait, T: Side> LockedTopic<R, T> {
         }) }
         ensures ok { OnOk result (self.new.place ≡ place_after_propose floor proposal self.old.place) }
         ensures counted { OnOk result (mine.new.amount ≡ mine.old.amount + 1) }
-        ensures fault { IfErr result (λ fault. (fault ≡ or_no_memory (place_fault floor proposal.part self.old.place))
+        ensures fault { IfErr result
+            (λ fault. (fault ≡ or_no_memory (place_fault floor proposal.part self.old.place))
             ⊎ ((place_fault floor proposal.part self.old.place ≡ None) × (fault ≡ ClockFull))) }
         ensures same { OnErr result (self.new.place ≡ self.old.place) }
         ensures uncounted { OnErr result (mine.new.amount ≡ mine.old.amount) }

@@ -5,8 +5,8 @@ use std::alloc::Global;
 use std::sync::atomic::{AtomicU64, Ordering};
 
 /// How many subscriptions were open at each topic, as was noted last: so a commit makes a part's copies before it takes
-/// the topic's lock. Nothing rests on these numbers but where copies are made: the topic makes those that are missing, and
-/// lets go of those that are too many.
+/// the topic's lock. Nothing rests on these numbers but where copies are made: the topic makes those that are missing,
+/// and lets go of those that are too many.
 #[derive(Drop)]
 pub(crate) struct OpenCounts {
     counts: Vec<AtomicU64>,

@@ -8,7 +8,7 @@ ghost use Rattle.mcast_txn.specs.TopicSet.{names};
 ghost use Rattle.sub_queue.specs.Ends.{shown_of_source};
 ghost use Rattle.mcast_group.specs.CellGroup.{CellGroupState, CellTurns, open_count};
 ghost use Rattle.mcast_group.specs.Group.{HasLeft, IsRefusedBy, or_no_memory, result_of, sub_refusal};
-ghost use Rattle.mcast_group.specs.Machine.{cancel_fault, due_part, next_number, state_of, unsubscribe_fault};
+ghost use Rattle.mcast_group.specs.Machine.{cancel_fault, due_part, next_number, subscription_state, unsubscribe_fault};
 ghost use Rattle.broker_locks.specs.KeptTrace.{AddsAll, AddsFirst};
 ghost use Rattle.broker_locks.specs.Place.{HasDoneNothing, HasTurned, IsBalanced, IsIdle, is_part_at, new_place, place_after_cancel, place_after_drain, place_after_propose};
 ghost use Rattle.broker_locks.specs.Place.{place_after_subscribe, place_after_turn, place_after_unsubscribe, place_fault, place_rows, place_subscribe_fault, proposal_of};
@@ -159,9 +159,9 @@ impl<R: Wait> Place<R> {
         Ok(ticket)
     }
 
-    /// `propose`, of a part that was moved to the heap before, and whose ticket is counted. The counter is asked once all
-    /// memory is made and nothing else can refuse: so a total that is full is 40, and nothing is entered, and the ticket
-    /// that was counted is given.
+    /// `propose`, of a part that was moved to the heap before, and whose ticket is counted. The counter is asked once
+    /// all memory is made and nothing else can refuse: so a total that is full is 40, and nothing is entered, and the
+    /// ticket that was counted is given.
     pub fn enter<C: TicketCounter>(
         &mut self,
         floor: Stamp,
@@ -212,8 +212,9 @@ impl<R: Wait> Place<R> {
     /// Turns the topic: each part that hasn't learnt looks into the cell of its own flight and learns the verdict
     /// that it finds, of which a note is kept, and what is due is released. Then the log is drained, into the trace
     /// where one is kept. Returns what the turn did, and the drained rows that no trace keeps, for the caller to let
-    /// go once the lock is free. Out of memory for the drain, the turn stands, and nothing is drained. Where nothing was
-    /// due or held, and no part learns, it changes nothing and takes no memory. It may wait for a take that is under way.
+    /// go once the lock is free. Out of memory for the drain, the turn stands, and nothing is drained. Where nothing
+    /// was due or held, and no part learns, it changes nothing and takes no memory. It may wait for a take that is
+    /// under way.
     pub fn head_turned(&mut self, rt: &R) -> (Turned, Result<LogRows, NoMemory>)
         ensures turned { HasTurned self.old self.new result.0 result.1 }
         ensures idle { IsIdle self.old → self.new.cells.notes ≡ self.old.cells.notes
@@ -310,7 +311,7 @@ impl<R: Wait> Place<R> {
 
     /// Whether the subscription of this number is open or has lagged, if there is one.
     pub fn state(&self, number: u64) -> Option<SubState>
-        ensures { result ≡ state_of number self.now.cells.group.topic }
+        ensures { result ≡ subscription_state number self.now.cells.group.topic }
     {
         self.group().state(number)
     }

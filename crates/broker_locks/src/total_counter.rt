@@ -8,8 +8,8 @@ use mcast_group::{ProposeFault, TicketCounter};
 use std::sync::ledger::Share;
 use std::sync::{Mutex, Wait};
 
-/// Counts the tickets that a topic gives to a worker, by the shares of both, in the total: it takes the total's lock for
-/// the count alone.
+/// Counts the tickets that a topic gives to a worker, by the shares of both, in the total: it takes the total's lock
+/// for the count alone.
 #[derive(Drop)]
 pub(crate) struct TotalCounter<'a, R: Wait, W: Side, T: Side> {
     rt: &'a R,

@@ -33,7 +33,7 @@ use Rattle.broker_server.specs.Counts.{plus, max_reads, FailsNot}
 use Rattle.broker_server.specs.Input.{input_limit}
 use Rattle.broker_server.specs.Audit.{IsYes, IsNo, IsAudited}
 use Rattle.broker_server.specs.Endings.{done}
-use Rattle.broker_server.specs.Excerpts.{Shown, excerpt_of, line_at}
+use Rattle.broker_server.specs.Excerpts.{ExcerptData, excerpt_of, line_at}
 use Rattle.broker_server.specs.ProgramEndings.{EndsWithin, IsAnsweredEnding, IsAuditEnding, IsErrorDetail, IsRanEnding, IsRefusalEnding, IsRelayEnding, IsScriptEnding, IsTraceEnding, IsTracedEnding, events_detail, finds_no_memory, without_memory}
 use Rattle.broker_server.specs.Relay.{IsAnswered, IsRelayed}
 use Rattle.broker_server.specs.ReportText.{report_text}
@@ -181,7 +181,7 @@ traced old new text written net ending s t w told = (
   ),
 )
 
-pub refused : {E : Type 0} (Ran : List ℕ → List ℕ → Ending → Type 0) (old new : Option (List ℕ)) (text : List ℕ) (bad : Option (ℕ × Shown)) (result : Result Ending E) → IfSome bad (λ b. IsFirstBadLine text b.0) → IfSome bad (λ b. b.1 ≡ excerpt_of (line_at b.0 (lines_of text)))
+pub refused : {E : Type 0} (Ran : List ℕ → List ℕ → Ending → Type 0) (old new : Option (List ℕ)) (text : List ℕ) (bad : Option (ℕ × ExcerptData)) (result : Result Ending E) → IfSome bad (λ b. IsFirstBadLine text b.0) → IfSome bad (λ b. b.1 ≡ excerpt_of (line_at b.0 (lines_of text)))
     → OnOk result (IsSome bad) → OnOk result (IfSome bad (λ b. Appends old new (bad_script_text (BadLine b.0)))) → IfOk result (λ ending. IfSome bad (λ b. ending ≡ done 2 (Some (details.Line (BadLine b.0) b.1))))
     → IfOk result (λ ending. (output : List ℕ) × Appends old new output × (Ran text output ending ⊎ IsRefusalEnding text output ending))
 refused Ran old new text bad (Err e) first shown some written told = tt
@@ -191,6 +191,6 @@ refused Ran old new text (Some b) (Ok ending) first shown some written told = (
   written,
   inr (
     record { line = b.0; bad = first; written = refl; status_is = ap (λ (e : Ending). e.status) told },
-    told ∙ ap (λ (s : Shown). done 2 (Some (details.Line (BadLine b.0) s))) shown,
+    told ∙ ap (λ (s : ExcerptData). done 2 (Some (details.Line (BadLine b.0) s))) shown,
   ),
 )

@@ -1,7 +1,7 @@
 -- The beginning of a line.
 use Rattle.std.proofs.Common.{◌≡◌, ◌-◌, ℕ, Bool, min, List, ◌++◌, take, length, ap, ◌∙◌, arith}
 use Rattle.std.proofs.lemmas.List.{length-take, take_at, take_min}
-use Rattle.broker_server.specs.Excerpts.{Shown, ends_by_cr, excerpt_of}
+use Rattle.broker_server.specs.Excerpts.{ExcerptData, ends_by_cr, excerpt_of}
 
 -- the octets that were copied, of those that a value holds, are the line's first ones
 pub copied_front : (line copied others : List ℕ) (len : ℕ) → len ≡ min 60 (length line) → copied ≡ take len line → take len (copied ++ others) ≡ take 60 line
@@ -11,7 +11,7 @@ copied_front line copied others len l e =
     take_at copied others len as_long ∙ e ∙ ap (λ (n : ℕ). take n line) l ∙ take_min 60 line
 
 -- these parts
-abbrev shown : List ℕ → ℕ → Bool → Shown
+abbrev shown : List ℕ → ℕ → Bool → ExcerptData
 shown front more ends = record { front = front; more = more; ends_by_cr = ends }
 
 -- what a value of these parts shows is the line's excerpt

@@ -33,8 +33,8 @@ pub data BrokerRow : Type 0 where
   -- the flight was to be committed; the gate comes back, also where it was refused
   Commits : FlightState → Result GateState (GateState × CommitFault) → BrokerRow
 
--- The gate is as this flight leaves it: of its sender, with its number as the last that was used, and with some
--- floor. So after flight 7 of sender 2, it is the gate of sender 2, whose next number is 8.
+-- The gate is as this flight leaves it: of its sender, with its number as the last that was used, and with
+-- some floor. So after flight 7 of sender 2, it is the gate of sender 2, whose next number is 8.
 abbrev pub IsGateAfter : FlightState → GateState → Type 0
 IsGateAfter flight gate = (floor : Stamp) × (gate ≡ gate_after flight floor)
 
@@ -42,4 +42,5 @@ IsGateAfter flight gate = (floor : Stamp) × (gate ≡ gate_after flight floor)
 -- call it stays as it is.
 abbrev pub AsksInTurn : {B : Type 0} → (B → BrokerRow → B → Type 0) → B → List BrokerRow → B → Type 0
 AsksInTurn called old [] new = new ≡ old
-AsksInTurn {B} called old (row ∷ rows) new = (between : B) × called old row between × AsksInTurn called between rows new
+AsksInTurn {B} called old (row ∷ rows) new =
+    (between : B) × called old row between × AsksInTurn called between rows new

@@ -31,18 +31,18 @@ tells_version (Connection fault) = says_version fault
 tells_version _ = false
 
 -- a reader's fault, as that of its connection: where its text fails a check, or there was no memory
-abbrev pub reader_fault : FrameFault → ConversationFault
-reader_fault FrameFault.BadCommand = Connection (Stream Check.BadCommand)
-reader_fault FrameFault.BadLine = Connection (Stream Check.BadLine)
-reader_fault FrameFault.BadHeader = Connection (Stream Check.BadHeader)
-reader_fault FrameFault.BadEscape = Connection (Stream Check.BadEscape)
-reader_fault FrameFault.BadText = Connection (Stream Check.BadText)
-reader_fault FrameFault.BadLength = Connection (Stream Check.BadLength)
-reader_fault FrameFault.BadEnd = Connection (Stream Check.BadEnd)
-reader_fault FrameFault.LineTooLong = Connection (Stream Check.LineTooLong)
-reader_fault FrameFault.TooManyHeaders = Connection (Stream Check.TooManyHeaders)
-reader_fault FrameFault.BodyTooLong = Connection (Stream Check.BodyTooLong)
-reader_fault FrameFault.NoMemory = Connection ReaderNoMemory
+abbrev pub fault_of_reader : FrameFault → ConversationFault
+fault_of_reader FrameFault.BadCommand = Connection (Stream Check.BadCommand)
+fault_of_reader FrameFault.BadLine = Connection (Stream Check.BadLine)
+fault_of_reader FrameFault.BadHeader = Connection (Stream Check.BadHeader)
+fault_of_reader FrameFault.BadEscape = Connection (Stream Check.BadEscape)
+fault_of_reader FrameFault.BadText = Connection (Stream Check.BadText)
+fault_of_reader FrameFault.BadLength = Connection (Stream Check.BadLength)
+fault_of_reader FrameFault.BadEnd = Connection (Stream Check.BadEnd)
+fault_of_reader FrameFault.LineTooLong = Connection (Stream Check.LineTooLong)
+fault_of_reader FrameFault.TooManyHeaders = Connection (Stream Check.TooManyHeaders)
+fault_of_reader FrameFault.BodyTooLong = Connection (Stream Check.BodyTooLong)
+fault_of_reader FrameFault.NoMemory = Connection ReaderNoMemory
 
 -- the ERROR of a frame that asked for this receipt, if it asked for one
 abbrev pub told_error : ConversationFault → Option (List ℕ) → RawFrame

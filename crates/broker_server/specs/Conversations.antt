@@ -36,8 +36,9 @@ pub record OpenSubState : Type 0 where
 
 -- a connection: what came and isn't read yet, its session, the names of the topics that it knows, its
 -- sender's gate, its open subscriptions, the octets that wait to be written to it, why it leaves, once it
--- does, whether a reply was left out since there was no memory for it, whether items may be left in its queues
--- since too many octets waited, how many items each of them holds, and the place of the one whose turn it is
+-- does, whether a reply was left out since there was no memory for it, whether items may be left in its
+-- queues since too many octets waited, how many items each of them holds, and the place of the one whose turn
+-- it is
 pub record ConversationState : Type 0 where
   pub reader : Unread
   pub session : SessionState
@@ -84,8 +85,8 @@ abbrev pub gate_rows : Option GateState → List BrokerRow
 gate_rows None = []
 gate_rows (Some gate) = GivesBack gate ∷ []
 
--- What it asks of the broker as it leaves: each subscription is ended, and then its gate is given back. So one
--- with the subscriptions a and b, in this order, ends a, ends b, and gives its gate back.
+-- What it asks of the broker as it leaves: each subscription is ended, and then its gate is given back. So
+-- one with the subscriptions a and b, in this order, ends a, ends b, and gives its gate back.
 abbrev pub closing_rows : ConversationState → List BrokerRow
 closing_rows c = map (λ o. Unsubscribes o.sub) c.subs ++ gate_rows c.gate
 
@@ -144,8 +145,8 @@ Begins id topic old asked result new =
     ⊎ LacksMemory old asked result new
 
 -- whether the subscription has this id
-abbrev pub has_id : List ℕ → OpenSubState → Bool
-has_id id o = bytes_eq o.id id
+abbrev pub is_of_id : List ℕ → OpenSubState → Bool
+is_of_id id o = bytes_eq o.id id
 
 -- Whose turn it is once the subscription at a place has gone: the same one's, or that of the one behind it.
 -- So of a, b and c, where it is c's turn, it is c's when a has gone, which is then at place 1.
@@ -158,13 +159,13 @@ abbrev pub EndsSub : List ℕ → ConversationState → List BrokerRow → Done 
 EndsSub id old asked result new =
     (result ≡ Ok tt)
     × (((front : List OpenSubState) × (back : List OpenSubState) × (o : OpenSubState)
-    × (old.subs ≡ front ++ o ∷ back) × (has_id id o ≡ true) × (list_any (has_id id) front ≡ false)
+    × (old.subs ≡ front ++ o ∷ back) × (is_of_id id o ≡ true) × (list_any (is_of_id id) front ≡ false)
     × (asked ≡ Unsubscribes o.sub ∷ [])
     × (new ≡ record old { subs = front ++ back; turn = turn_without (length front) old.turn }))
-    ⊎ ((list_any (has_id id) old.subs ≡ false) × (asked ≡ []) × (new ≡ old)))
+    ⊎ ((list_any (is_of_id id) old.subs ≡ false) × (asked ≡ []) × (new ≡ old)))
 
--- A transaction is begun by the connection's gate, and committed; the gate comes back in each case. Once it was
--- begun, what comes back is the gate as that flight leaves it, and no other's.
+-- A transaction is begun by the connection's gate, and committed; the gate comes back in each case. Once it
+-- was begun, what comes back is the gate as that flight leaves it, and no other's.
 abbrev pub CommitsBy
     : GateState → List SentMessage → List BrokerRow → Done → GateState → Type 0
 CommitsBy gate sends asked result left =
@@ -197,13 +198,13 @@ Performs actions.Disconnect old asked result new =
 -- ---- frames
 
 -- whether it is the action of a CONNECT
-abbrev pub is_connected : Action → Bool
-is_connected (actions.Connected client) = true
-is_connected _ = false
+abbrev pub is_connect_action : Action → Bool
+is_connect_action (actions.Connected client) = true
+is_connect_action _ = false
 
 -- What follows an action that went well: the frames that answer it are written. Where there is no memory for
--- them, a connection that is open yet leaves by that; of one that leaves already, by a DISCONNECT, they are left
--- out. So an action that has no answer takes no memory for one.
+-- them, a connection that is open yet leaves by that; of one that leaves already, by a DISCONNECT, they are
+-- left out. So an action that has no answer takes no memory for one.
 abbrev pub Answers : List RawFrame → ConversationState → List BrokerRow → ConversationState → Type 0
 Answers frames old asked new =
     ((asked ≡ []) × PutsFrames frames old new)
@@ -216,7 +217,8 @@ Answers frames old asked new =
 abbrev pub Concludes
     : Done → List RawFrame → Option (List ℕ) → ConversationState → List BrokerRow → ConversationState → Type 0
 Concludes (Ok u) frames receipt old asked new = Answers frames old asked new
-Concludes (Err why) frames receipt old asked new = (asked ≡ closing_rows old) × EndsByError why receipt old new
+Concludes (Err why) frames receipt old asked new =
+    (asked ≡ closing_rows old) × EndsByError why receipt old new
 
 -- An accepted frame's action is performed, and then answered.
 pub record Acts
@@ -228,7 +230,7 @@ pub record Acts
   pub result : Done
   pub performs : Performs step.action old first result between
   pub concludes
-      : Concludes result (replies (is_connected step.action) step.receipt) step.receipt between rest new
+      : Concludes result (replies (is_connect_action step.action) step.receipt) step.receipt between rest new
   pub all : asked ≡ first ++ rest
 
 -- The connection is lost: what is open is ended, and nothing is written. One that leaves already does

@@ -50,9 +50,9 @@ EndsEmpty capacity o end new =
 -- waits before and after it, and how it ended. It stops where 65,536 octets wait, and fails where there is no
 -- memory for an item's MESSAGEs. A queue that is found empty after as many items as it holds may have lagged:
 -- the broker is asked, and where it says so, the queue is taken on, until it is empty again. It needn't be
--- asked before: one that lags is full then, so that as many items are taken before it is found empty. So where
--- 65,536 octets wait, there is no call at all; and where the broker is asked for an item and has none, 74 is
--- told only if it said of the queue that it has lagged.
+-- asked before: one that lags is full then, so that as many items are taken before it is found empty. So
+-- where 65,536 octets wait, there is no call at all; and where the broker is asked for an item and has none,
+-- 74 is told only if it said of the queue that it has lagged.
 abbrev pub Drains
     : ℕ → ℕ → List BrokerRow → OpenSubState → List ℕ → Taking → OpenSubState → List ℕ → Type 0
 Drains capacity calls [] o wire end new after =

@@ -4,7 +4,7 @@ use Rattle.std.specs.List.{slice_get}
 use Rattle.std.specs.Option.{option_map_or}
 
 -- The first octets of a line, how many octets more it has, and whether it ends by CR.
-pub record Shown : Type 0 where
+pub record ExcerptData : Type 0 where
   pub front : List ℕ
   pub more : ℕ
   pub ends_by_cr : Bool
@@ -15,7 +15,7 @@ ends_by_cr line = option_map_or (λ b. b == 13) (slice_get line (length line - 1
 
 -- What is shown of a line: at most 60 octets (own). So of `opens` all five are, and none more is left
 -- (proofs/EndingExamples.antt, `word`).
-abbrev pub excerpt_of : List ℕ → Shown
+abbrev pub excerpt_of : List ℕ → ExcerptData
 excerpt_of line =
     record { front = take 60 line; more = length line - 60; ends_by_cr = ends_by_cr line }
 

@@ -14,7 +14,7 @@ use Rattle.delivery.specs.Core.Outcomes.{is_any}
 use Rattle.broker_server.specs.declared.conversation.conversation_fault.ConversationFault.{ConversationFault}
 use Rattle.broker_server.specs.declared.conversation.conversation_fault.ConversationFault.TheVariants as fault
 use Rattle.broker_server.specs.BrokerRows.{BrokerRow, LooksUp}
-use Rattle.broker_server.specs.ConversationFaults.{reader_fault}
+use Rattle.broker_server.specs.ConversationFaults.{fault_of_reader}
 use Rattle.broker_server.specs.Conversations.{Acts, ConversationState, EndsByError, closing_rows}
 use Rattle.broker_server.specs.Judging.{Grows, IsFrameAccepted, IsFrameRefused}
 
@@ -100,7 +100,7 @@ Rests old asked new =
     ⊎ ((old.exit ≡ None) × (left : Unread) × NextReturns old.reader (Ok None) left
     × (asked ≡ []) × (new ≡ record old { reader = left }))
     ⊎ ((old.exit ≡ None) × (why : FrameFault) × (left : Unread) × ReadingFails why old.reader left
-    × (asked ≡ closing_rows old) × EndsByError (reader_fault why) None (record old { reader = left }) new)
+    × (asked ≡ closing_rows old) × EndsByError (fault_of_reader why) None (record old { reader = left }) new)
 
 -- the frames of the stream are taken until nothing more is
 abbrev pub TakesAll : ConversationState → List BrokerRow → ConversationState → Type 0

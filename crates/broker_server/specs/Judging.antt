@@ -14,7 +14,8 @@ use Rattle.broker_server.specs.declared.conversation.conversation_fault.Conversa
 abbrev pub Grows : List (List ℕ) → List (List ℕ) → Type 0
 Grows names known = (more : List (List ℕ)) × (known ≡ names ++ more)
 
--- The names, with each of the others behind them that isn't there yet. So A and B with B and C are A, B and C.
+-- The names, with each of the others behind them that isn't there yet. So A and B with B and C are A, B and
+-- C.
 abbrev pub with_names : List (List ℕ) → List (List ℕ) → List (List ℕ)
 with_names [] names = names
 with_names (name ∷ more) names = with_names more (with_name name names)

@@ -23,8 +23,8 @@ abbrev pub each_once : List Topic → Bool
 each_once [] = true
 each_once (topic ∷ topics) = not (is_marked topic topics) && each_once topics
 
--- A topic is marked: unless it was marked before, it comes behind the others, or, where there is no memory for it,
--- any topic may be one of them. So after topics 3, 5 and 3 again, the marked ones are 3 and 5.
+-- A topic is marked: unless it was marked before, it comes behind the others, or, where there is no memory
+-- for it, any topic may be one of them. So after topics 3, 5 and 3 again, the marked ones are 3 and 5.
 abbrev pub Marks : MarkedTopics → Topic → MarkedTopics → Type 0
 Marks old topic new =
     ((is_marked topic old.topics ≡ true) × (new ≡ old))

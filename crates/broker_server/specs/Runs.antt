@@ -24,9 +24,9 @@ HasCause remaining reader read writer wrote =
 
 -- A run of a program, which is known by what it writes of an input and by how it ends, with a status or with
 -- an ending: `IsWritten`, as `IsAudited` is the audit's. It finds its reader and writer as `reader` and
--- `writer`, leaves them as `read` and `wrote`, and returns this answer. `remaining` is what a reader has left,
--- `contents` what a writer took. So an audit that meets the end at once writes `complete`, and one whose first
--- read fails writes nothing (proofs/RunExamples.antt, `nothing_is_audited`, `a_read_failed`).
+-- `writer`, leaves them as `read` and `wrote`, and returns this answer. `remaining` is what a reader has
+-- left, `contents` what a writer took. So an audit that meets the end at once writes `complete`, and one
+-- whose first read fails writes nothing (proofs/RunExamples.antt, `nothing_is_audited`, `a_read_failed`).
 pub record IsRun {A R W : Type 0} (IsWritten : List ℕ → List ℕ → A → Type 0)
     (remaining : R → Option (List ℕ)) (contents : W → Option (List ℕ))
     (reader read : Counting R) (writer wrote : Counting W) (answer : Result A ProgramFault) : Type 0 where

@@ -28,7 +28,8 @@ may_serve names = are_few names && list_all is_name names && are_distinct names
 -- `serve 127.0.0.1:61613 A B` asks to serve at port 61613 of 127.0.0.1, with `A` and `B`, and
 -- `serve 127.0.0.1:61613` to serve there with none; `serve`, `serve A`, `serve localhost:61613 A` and
 -- `serve 127.0.0.1:61613 A A` ask for no server.
-pub record AsksToServe (words : List (List ℕ)) (text : List ℕ) (addr : SocketAddr) (names : List (List ℕ)) : Type 0 where
+pub record AsksToServe (words : List (List ℕ)) (text : List ℕ) (addr : SocketAddr) (names : List (List ℕ))
+    : Type 0 where
   pub spelled : words ≡ codes "serve" ∷ text ∷ names
   pub address : IsSocketText text addr
   pub topics : may_serve names ≡ true

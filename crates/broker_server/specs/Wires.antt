@@ -15,7 +15,8 @@ use Rattle.broker_server.specs.declared.program_fault.ProgramFault.TheVariants.{
 -- cut: what waited is what went out and then what waits.
 -- given: the writer has just that more.
 -- count: where the call ended well, it returned how many they are.
-pub record GoesOut {E : Type 0} (old new : List ℕ) (had has : Option (List ℕ)) (result : Result ℕ E) : Type 0 where
+pub record GoesOut {E : Type 0} (old new : List ℕ) (had has : Option (List ℕ)) (result : Result ℕ E)
+    : Type 0 where
   pub sent : List ℕ
   pub cut : old ≡ sent ++ new
   pub given : Appends had has sent

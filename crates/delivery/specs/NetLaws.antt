@@ -1,4 +1,5 @@
--- What the laws of the machine say of a net: it is a run of the machine, so that each law of runs is one of it.
+-- What the laws of the machine say of a net: it is a run of the machine, so that each law of runs is one of
+-- it.
 use Rattle.std.specs.Prelude.{◌≡◌, ℕ, Bool, true, false, List, [], ◌∷◌, ◌++◌, filter, get_or}
 use Rattle.mcast_txn.specs.declared.id.Topic.{Topic}
 use Rattle.mcast_txn.specs.declared.id.TxnId.{TxnId}
@@ -61,7 +62,8 @@ NetsAreTied = (net : KeptRun) (r : Report) → IsRunOfCore net r → (t : Topic)
 -- each topic that the core holds is sound
 abbrev pub NetsAreSound : Type 0
 NetsAreSound =
-    (net : KeptRun) (r : Report) → IsRunOfCore net r → (t : Topic) → IsSound (topic_at (core_of_net net).world t)
+    (net : KeptRun) (r : Report) → IsRunOfCore net r → (t : Topic)
+    → IsSound (topic_at (core_of_net net).world t)
 
 -- no move of it was refused because a verdict was another's or clashed, or a part had learnt its stamp
 abbrev pub NothingOddComes : Type 0

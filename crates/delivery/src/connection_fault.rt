@@ -18,8 +18,8 @@ pub enum ConnectionFault {
     /// 20 to 23: the frame isn't one that a client may send.
     #[error("the frame isn't a client's: send what the command's section of STOMP 1.2 requires")]
     Frame(CaseFault),
-    /// 60 to 66, 68 to 71, 75 and 76: the session refuses the frame. 72: the frame found no memory, in the session, at its
-    /// topic or for its sender.
+    /// 60 to 66, 68 to 71, 75 and 76: the session refuses the frame. 72: the frame found no memory, in the session, at
+    /// its topic or for its sender.
     #[error("the frame is refused as the session stands: see its own fault, and connect again")]
     Session(SessionFault),
     /// 77: the sender of a CONNECT's client-id is spoken for by another connection, which isn't gone.

@@ -30,8 +30,8 @@ const READER_LIMITS: Limits = Limits {
     body: 1_048_576,
 };
 
-/// A connection's endpoint: its sender, once it has one, how far it is, the numbers of its subscriptions that aren't closed, in order,
-/// and its octets out.
+/// A connection's endpoint: its sender, once it has one, how far it is, the numbers of its subscriptions that aren't
+/// closed, in order, and its octets out.
 #[derive(Drop)]
 pub(crate) struct Endpoint {
     pub(crate) sender: Option<u64>,
@@ -78,7 +78,8 @@ impl Endpoint {
 
     /// Writes a frame to its octets out. After `NoMemory` it is what it was.
     pub(crate) fn write(&mut self, frame: &ServerFrame) -> Result<(), NoMemory>
-        ensures ok { OnOk result (self.new ≡ written_endpoint (spelling_of (raw_of_server frame.now)) self.old) }
+        ensures ok { OnOk result
+            (self.new ≡ written_endpoint (spelling_of (raw_of_server frame.now)) self.old) }
         ensures err { OnErr result (self.new ≡ self.old) }
     {
         write_server(frame, &mut self.output)

@@ -82,8 +82,8 @@ pub fn genuine()
 
 /// No verdict is refused as another's or as a clash, no decided part is cancelled, each other refusal of a move is
 /// one that the core reports, but for a commit of a sender without sequence numbers or of a connection without a
-/// sender, and for what stands against speaking for a sender; a ticket that is to be cancelled has its part pending, no topic refuses a part because its transaction is pending
-/// there, and no transaction is both withdrawn and decided.
+/// sender, and for what stands against speaking for a sender; a ticket that is to be cancelled has its part pending, no
+/// topic refuses a part because its transaction is pending there, and no transaction is both withdrawn and decided.
 pub fn never()
     ensures refused { OddNeverComes }
     ensures reported { RefusalsAreReported }
@@ -195,8 +195,9 @@ pub fn tied()
     ensures senders { SendersAreFloored }
 {}
 
-/// Seven worked examples: transactions that cross, a withdrawal, a loss, a DISCONNECT before an item is delivered, a lag,
-/// a sender that outlives its connection, and one that does so after a withdrawal. What comes of each event, what logs and queues hold, and how each span ends, is computed.
+/// Seven worked examples: transactions that cross, a withdrawal, a loss, a DISCONNECT before an item is delivered, a
+/// lag, a sender that outlives its connection, and one that does so after a withdrawal. What comes of each event, what
+/// logs and queues hold, and how each span ends, is computed.
 pub fn examples()
     ensures { WorkedRows }
 {}
@@ -222,9 +223,9 @@ pub fn delivery()
     ensures answered { RunsDeliverAnswers }
 {}
 
-/// Each step of a run of the core, whatever came before it, and so each step of a net: its outcome is one that its event
-/// may have; what is refused changes nothing; an event at one topic changes no other; tickets, stamps, items and ends of
-/// spans are as the rules say.
+/// Each step of a run of the core, whatever came before it, and so each step of a net: its outcome is one that its
+/// event may have; what is refused changes nothing; an event at one topic changes no other; tickets, stamps, items and
+/// ends of spans are as the rules say.
 pub fn steps()
     ensures { StepsHaveStepped }
 {}
@@ -236,9 +237,9 @@ pub fn readings()
 {}
 
 /// What an open connection's session has open are the connection's subscriptions that aren't closed, so an
-/// UNSUBSCRIBE that it accepts ends one of them, and 48 never comes of a Next. Of the frames that their sessions and their
-/// claims let pass the machine refuses but a transaction whose sender has no number left. An event of one connection
-/// changes no other: a Take is of its subscription's.
+/// UNSUBSCRIBE that it accepts ends one of them, and 48 never comes of a Next. Of the frames that their sessions and
+/// their claims let pass the machine refuses but a transaction whose sender has no number left. An event of one
+/// connection changes no other: a Take is of its subscription's.
 pub fn connections()
     ensures live { OpenAreLive }
     ensures ends { UnsubscribesFind }

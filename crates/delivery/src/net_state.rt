@@ -49,9 +49,9 @@ use sub_queue::VecOutlet;
 /// The most parts and rows of a topic, taken together.
 const LOG_LIMIT: usize = 65_536;
 
-/// What the core holds: of each topic its name and its group, of each sender its transaction and its verdicts, of each connection
-/// its endpoint, each subscription, and the commit list, with a row promised to each transaction that is on its way.
-/// In contracts it is the view of a core.
+/// What the core holds: of each topic its name and its group, of each sender its transaction and its verdicts, of each
+/// connection its endpoint, each subscription, and the commit list, with a row promised to each transaction that is on
+/// its way. In contracts it is the view of a core.
 #[derive(Drop)]
 pub(crate) struct NetState {
     alloc: Global,

@@ -15,7 +15,7 @@ use Rattle.std.proofs.lemmas.List.{length_push, length-append}
 use Rattle.mcast_txn.proofs.Members.{In-get_or, any_from}
 use Rattle.mcast_txn.proofs.Orders.{id_equal, id_same}
 use Rattle.mcast_group.specs.CellGroup.{Waiting, ReadsOwn, IsRead, insert_waiting, waiting_ids, waiting_without}
-use Rattle.mcast_group.specs.Inner.CellGroup.{LearnsFirst, LearnsWaiting, RisesInId, left_of, taken_of}
+use Rattle.mcast_group.specs.Inner.CellGroup.{LearnsFirst, LearnsWaiting, RisesInId, still_waiting, taken_of}
 use Rattle.mcast_group.specs.Inner.Keys.{IsIndexPast}
 use Rattle.mcast_group.specs.Group.{GroupState, MayBeFound}
 use Rattle.mcast_group.specs.Machine.{TopicState, Pending, HasOneRowEach, insert_pending, parts_without, with_stamp, after_try, after_tries, learn_fault}
@@ -290,7 +290,7 @@ taken (s ∷ ss) = taken_of s.0 s.1 ++ taken ss
 -- the parts that wait on
 abbrev pub left : List Step → List Waiting
 left [] = []
-left (s ∷ ss) = left_of s.0 s.1 ++ left ss
+left (s ∷ ss) = still_waiting s.0 s.1 ++ left ss
 
 -- what they found for a transaction
 abbrev pub found_in : List Step → TxnId → Option Decision
@@ -318,9 +318,9 @@ pub taken_push : (ss : List Step) (s : Step) → taken (ss ++ s ∷ []) ≡ take
 taken_push [] s = append_nil (taken_of s.0 s.1)
 taken_push (r ∷ ss) s = ap (λ (z : List Sight). taken_of r.0 r.1 ++ z) (taken_push ss s) ∙ sym (append_assoc (taken_of r.0 r.1) (taken ss) (taken_of s.0 s.1))
 
-pub left_push : (ss : List Step) (s : Step) → left (ss ++ s ∷ []) ≡ left ss ++ left_of s.0 s.1
-left_push [] s = append_nil (left_of s.0 s.1)
-left_push (r ∷ ss) s = ap (λ (z : List Waiting). left_of r.0 r.1 ++ z) (left_push ss s) ∙ sym (append_assoc (left_of r.0 r.1) (left ss) (left_of s.0 s.1))
+pub left_push : (ss : List Step) (s : Step) → left (ss ++ s ∷ []) ≡ left ss ++ still_waiting s.0 s.1
+left_push [] s = append_nil (still_waiting s.0 s.1)
+left_push (r ∷ ss) s = ap (λ (z : List Waiting). still_waiting r.0 r.1 ++ z) (left_push ss s) ∙ sym (append_assoc (still_waiting r.0 r.1) (left ss) (still_waiting s.0 s.1))
 
 pub fit_push : (ss : List Step) (s : Step) → AreFit ss → IfSome s.1 HasOneRowEach → AreFit (ss ++ s ∷ [])
 fit_push [] s h k = (k, tt)
@@ -406,7 +406,7 @@ stayed : (ss : List Step) (w : Waiting) → In w (left ss) → In w (of_steps ss
 stayed [] w h = h
 stayed (s ∷ ss) w h = go (λ i. stayed ss w i) s.1 h
   where
-    go : (In w (left ss) → In w (of_steps ss)) → (o : Option Decision) → In w (left_of s.0 o ++ left ss) → In w (of_steps (s ∷ ss))
+    go : (In w (left ss) → In w (of_steps ss)) → (o : Option Decision) → In w (still_waiting s.0 o ++ left ss) → In w (of_steps (s ∷ ss))
     go ih None (inl e) = inl e
     go ih None (inr i) = inr (ih i)
     go ih (Some v) i = inr (ih i)
@@ -441,7 +441,7 @@ no_step waiting notes g e h = record {
   sound = h;
 }
 
-waits_on : (l : List Waiting) (r : Waiting) (rs : List Waiting) (o : Option Decision) (x : TopicState) → RisesById x.pending → ids (l ++ r ∷ rs) ≡ waiting_ids x.pending → IfSome o (λ v. HasOneRowEach v × (learn_fault r.id v x ≡ None)) → ids ((l ++ left_of r o) ++ rs) ≡ waiting_ids (after_try r.id o x).pending
+waits_on : (l : List Waiting) (r : Waiting) (rs : List Waiting) (o : Option Decision) (x : TopicState) → RisesById x.pending → ids (l ++ r ∷ rs) ≡ waiting_ids x.pending → IfSome o (λ v. HasOneRowEach v × (learn_fault r.id v x ≡ None)) → ids ((l ++ still_waiting r o) ++ rs) ≡ waiting_ids (after_try r.id o x).pending
 waits_on l r rs None x h e f = ap ids (append_assoc l (r ∷ []) rs) ∙ e
 waits_on l r rs (Some v) x h e f =
     let same : after_try r.id (Some v) x ≡ after_learn r.id (decided_stamp v) x = rw (f.1, after_try) refl in
@@ -474,9 +474,9 @@ one_step waited waiting after notes more most g now new count l s f sound = go s
           all = all ∙ sym (steps_push s.steps step rs);
           many = length_push s.steps step ∙ ap (λ (z : ℕ). z + 1) s.many;
           here = f.left
-              ∙ (ap (λ (z : Waiting). f.rest ++ left_of z f.found) first
-              ∙ (ap (λ (z : List Waiting). z ++ left_of r f.found) rest
-              ∙ (append_assoc rs (left s.steps) (left_of r f.found)
+              ∙ (ap (λ (z : Waiting). f.rest ++ still_waiting z f.found) first
+              ∙ (ap (λ (z : List Waiting). z ++ still_waiting r f.found) rest
+              ∙ (append_assoc rs (left s.steps) (still_waiting r f.found)
               ∙ ap (λ (z : List Waiting). rs ++ z) (sym (left_push s.steps step)))));
           noted = f.taken
               ∙ (ap (λ (z : Waiting). more ++ taken_of z f.found) first

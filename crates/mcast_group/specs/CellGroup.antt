@@ -72,7 +72,8 @@ cell_group_after_cancel id g = record g {
 -- waited: the part waited, with this cell.
 -- noted: among the notes is one of this cell, which knows the verdict.
 -- So where part 7 waited with cell 3, a note (3, v) says that v is its own; a note (4, v) doesn't.
-pub record ReadsOwn (waiting : List Waiting) (notes : List Sight) (part : TopicPart) (verdict : Decision) : Type 0 where
+pub record ReadsOwn (waiting : List Waiting) (notes : List Sight) (part : TopicPart) (verdict : Decision)
+    : Type 0 where
   pub cell : ℕ
   pub waited : In (record { id = part.id; cell = cell }) waiting
   pub noted : In (record { cell = cell; known = Some verdict }) notes

@@ -229,8 +229,8 @@ or_no_memory (Some fault) = fault
 abbrev pub propose_refusal : Stamp → TopicPart → TopicState → ProposeFault
 propose_refusal floor part x = or_no_memory (propose_fault floor part x)
 
--- A proposal is refused by this fault, where this is why the topic itself refuses it, if it does: by that, or else out
--- of memory, and then its counter was not asked; or else by its counter.
+-- A proposal is refused by this fault, where this is why the topic itself refuses it, if it does: by that, or
+-- else out of memory, and then its counter was not asked; or else by its counter.
 abbrev pub IsRefusedBy : {C : Type 0} → (C → C → ProposeFault → Type 0) → Option ProposeFault → C → C
     → ProposeFault → Type 0
 IsRefusedBy refused why old new fault =

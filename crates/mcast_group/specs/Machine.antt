@@ -317,8 +317,8 @@ abbrev pub state_of_entry : Entry → SubState
 state_of_entry e = elim e.to [ None ↦ SubState.Open | Some end ↦ SubState.Lag end ]
 
 -- whether the subscription of this number is open or has lagged, if there is one
-abbrev pub state_of : ℕ → TopicState → Option SubState
-state_of number x = option_map state_of_entry (find_entry number x.subscriptions)
+abbrev pub subscription_state : ℕ → TopicState → Option SubState
+subscription_state number x = option_map state_of_entry (find_entry number x.subscriptions)
 
 -- ---- the log
 

@@ -27,9 +27,9 @@ use sub_queue::Outlet;
 /// Behind the end of a subscription so many drains give back the room of an idle topic (our choice).
 const COOLING: u8 = 255;
 
-/// A topic whose parts learn their stamps from the cells of their own flights, and in no other way. It keeps the note of
-/// each cell by which a part learnt; a note takes no bytes. In contracts it is its group, the parts that haven't learnt,
-/// each with the name of its flight's cell, and what the notes say.
+/// A topic whose parts learn their stamps from the cells of their own flights, and in no other way. It keeps the note
+/// of each cell by which a part learnt; a note takes no bytes. In contracts it is its group, the parts that haven't
+/// learnt, each with the name of its flight's cell, and what the notes say.
 pub struct CellGroup<Q: Outlet + Drop> {
     group: Group<Q>,
     /// The parts that haven't learnt, by rising id. A turn looks at no others.
@@ -110,9 +110,9 @@ impl<Q: Outlet + Drop> CellGroup<Q> {
 
     /// Enters a part of this topic, and gives its ticket, whose number is one above the clock and the floor's. Refused,
     /// in this order: 49 where a part of the transaction is pending, 40 where no number is left, 41 where the log is at
-    /// its limit, 42 out of memory, and then as the counter refuses; what shows is then as it was. The counter is asked once
-    /// all memory is made and nothing else can refuse: so the ticket that it counted is given, and else it is as it was or
-    /// as it was refused.
+    /// its limit, 42 out of memory, and then as the counter refuses; what shows is then as it was. The counter is asked
+    /// once all memory is made and nothing else can refuse: so the ticket that it counted is given, and else it is as
+    /// it was or as it was refused.
     pub fn enter<C: TicketCounter>(
         &mut self,
         floor: Stamp,
@@ -158,7 +158,8 @@ impl<Q: Outlet + Drop> CellGroup<Q> {
         part: Arc<Part>,
     ) -> Result<Ticket, ProposeFault>
         requires { (arc_value part).topic ≡ self.old.group.topic.topic }
-        ensures allowed { OnOk result (propose_fault floor (data_of (arc_value part)) self.old.group.topic ≡ None) }
+        ensures allowed { OnOk result
+            (propose_fault floor (data_of (arc_value part)) self.old.group.topic ≡ None) }
         ensures ticket { IfOk result (λ ticket. ticket ≡ record {
           id = (arc_value part).id;
           topic = self.old.group.topic.topic;
@@ -194,12 +195,13 @@ impl<Q: Outlet + Drop> CellGroup<Q> {
         Ok(())
     }
 
-    /// Each part that hasn't learnt looks once into the cell of its own flight, by rising id, and learns the verdict that
-    /// it finds, if that isn't refused; then what is due is released, until nothing is. It takes no memory. Where no part
-    /// was due, and none learns, it changes nothing.
+    /// Each part that hasn't learnt looks once into the cell of its own flight, by rising id, and learns the verdict
+    /// that it finds, if that isn't refused; then what is due is released, until nothing is. It takes no memory. Where
+    /// no part was due, and none learns, it changes nothing.
     pub fn turn(&mut self, needs: &Q::Needs) -> Turned
         ensures turned { CellTurns Q.may_accept self.old self.new }
-        ensures idle { self.new.notes ≡ self.old.notes → due_part self.old.group.topic ≡ None → self.new ≡ self.old }
+        ensures idle { self.new.notes ≡ self.old.notes → due_part self.old.group.topic ≡ None
+            → self.new ≡ self.old }
         ensures released { result.released
             ≡ length self.new.group.topic.held - length self.old.group.topic.held }
         ensures lagged { result.lagged ≡ nat_lt (open_count self.new.group.topic.subscriptions)
@@ -268,8 +270,9 @@ impl<Q: Outlet + Drop> CellGroup<Q> {
         Ok(ended)
     }
 
-    /// Where a subscription ended not long ago, an idle topic gives back the room for its parts: what a burst of them took
-    /// would keep all that the allocator has below it from the system. Else that room stays, so that none is made anew.
+    /// Where a subscription ended not long ago, an idle topic gives back the room for its parts: what a burst of them
+    /// took would keep all that the allocator has below it from the system. Else that room stays, so that none is made
+    /// anew.
     fn cool(&mut self)
         ensures { self.new ≡ self.old }
     {

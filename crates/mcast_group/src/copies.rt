@@ -113,7 +113,8 @@ impl Copies {
     }
 }
 
-/// One copy more of each part; where there was no memory, the first ones have one more, and `keep_in_each` takes it away.
+/// One copy more of each part; where there was no memory, the first ones have one more, and `keep_in_each` takes it
+/// away.
 pub(crate) fn add_to_each(
     copies: &mut VecDeque<Copies>,
     pending: &PendingParts,

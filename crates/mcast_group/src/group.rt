@@ -16,7 +16,7 @@ ghost use Rattle.mcast_group.specs.CellGroup.{open_count};
 ghost use Rattle.mcast_group.specs.Fitting.{Fits};
 ghost use Rattle.mcast_group.specs.Sound.{IsSound};
 ghost use Rattle.mcast_group.specs.Inner.GroupInvariant.{entry_of};
-ghost use Rattle.mcast_group.specs.Machine.{Pending, cancel_fault, after_cancel, after_drain, after_turn, decided_stamp, due_part, key, learn_fault, after_learn, new_topic, insert_pending, is_pending, next_number, propose_fault, after_propose, state_of, subscribe_fault, unsubscribe_fault};
+ghost use Rattle.mcast_group.specs.Machine.{Pending, cancel_fault, after_cancel, after_drain, after_turn, decided_stamp, due_part, key, learn_fault, after_learn, new_topic, insert_pending, is_pending, next_number, propose_fault, after_propose, subscription_state, subscribe_fault, unsubscribe_fault};
 
 use crate::boxed_part::BoxedPart;
 use crate::copies::{Copies, add_to_each, cut_copies, keep_in_each, take_at};
@@ -238,7 +238,8 @@ impl<Q: Outlet + Drop> Group<Q> {
     /// Where no part was due, and no verdict may be found, it changes nothing.
     pub fn turn<V: Verdicts>(&mut self, needs: &Q::Needs, verdicts: &V) -> u64
         ensures turned { Turns Q.may_accept (V.finds verdicts.now) self.old self.new }
-        ensures idle { FindsNothing (V.finds verdicts.now) → due_part self.old.topic ≡ None → self.new ≡ self.old }
+        ensures idle { FindsNothing (V.finds verdicts.now) → due_part self.old.topic ≡ None
+            → self.new ≡ self.old }
         ensures count { result ≡ length self.new.topic.held - length self.old.topic.held }
     {
         let held = self.rows.len();
@@ -274,8 +275,8 @@ impl<Q: Outlet + Drop> Group<Q> {
         self.enter_allowed(floor, prepared, &mut Uncounted)
     }
 
-    /// Enters a part that the topic doesn't refuse, once the counter has counted its ticket, for which it is asked when all
-    /// memory is made: so what was counted is given.
+    /// Enters a part that the topic doesn't refuse, once the counter has counted its ticket, for which it is asked when
+    /// all memory is made: so what was counted is given.
     pub(crate) fn enter_allowed<C: TicketCounter>(
         &mut self,
         floor: Stamp,
@@ -443,7 +444,7 @@ impl<Q: Outlet + Drop> Group<Q> {
 
     /// Whether the subscription of this number is open or has lagged, if there is one.
     pub fn state(&self, number: u64) -> Option<SubState>
-        ensures { result ≡ state_of number self.now.topic }
+        ensures { result ≡ subscription_state number self.now.topic }
     {
         let Some(index) = self.subscriptions.index_of(number) else {
             return None;

@@ -38,9 +38,9 @@ pub fn counts()
     ensures turns { CountedTurns }
 {}
 
-/// Two notes of one cell by which parts learnt, at whatever two topics and in whatever threads, know one verdict: so the
-/// parts of a transaction leave their topics with one stamp. `CellGroup::turn` keeps such a note of each part that learns
-/// in it, of the cell of the part's own flight, and that part's stamp is the verdict's.
+/// Two notes of one cell by which parts learnt, at whatever two topics and in whatever threads, know one verdict: so
+/// the parts of a transaction leave their topics with one stamp. `CellGroup::turn` keeps such a note of each part that
+/// learns in it, of the cell of the part's own flight, and that part's stamp is the verdict's.
 pub fn one_verdict<Q: Outlet + Drop, P: Outlet + Drop>(
     one: &mut CellGroup<Q>,
     index: usize,
@@ -60,9 +60,9 @@ pub fn one_verdict<Q: Outlet + Drop, P: Outlet + Drop>(
 }
 
 /// Parts whose flights have one cell, and which were kept with a note of it, were released with one stamp, at whatever
-/// topics and in whatever threads. `Group::release_part` gives such parts. A part gets its note as it learns, and `turn`
-/// is `learn_found` and then `release` until nothing is due, which is `release_part` without the part: so the stamps of
-/// what a turn releases are those of this law.
+/// topics and in whatever threads. `Group::release_part` gives such parts. A part gets its note as it learns, and
+/// `turn` is `learn_found` and then `release` until nothing is due, which is `release_part` without the part: so the
+/// stamps of what a turn releases are those of this law.
 pub fn one_stamp(one: Departed, other: Departed)
     requires cell { cell_of other.flight ≡ cell_of one.flight }
     requires seen { is_some one.seen ≡ true }

@@ -145,8 +145,8 @@ impl Log {
         self.drain_segments(more)
     }
 
-    /// Gives the segments back that aren't needed for `more` rows, but one, so that a topic whose parts come and go at the
-    /// end of a segment makes no new one each time.
+    /// Gives the segments back that aren't needed for `more` rows, but one, so that a topic whose parts come and go at
+    /// the end of a segment makes no new one each time.
     fn give_back(&mut self, more: usize)
         requires none { self.old.items ≡ [] }
         requires room { more ≤ self.old.capacity }

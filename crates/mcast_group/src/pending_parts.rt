@@ -65,8 +65,8 @@ impl PendingParts {
         self.parts[index].part()
     }
 
-    /// The index past the parts whose id is below this one. The last part is looked at first, then the first: a sender's
-    /// newest part is put behind its others, and its oldest is released.
+    /// The index past the parts whose id is below this one. The last part is looked at first, then the first: a
+    /// sender's newest part is put behind its others, and its oldest is released.
     fn index_for(&self, id: TxnId) -> usize
         ensures index { IsIndexPast (λ p. id_lt p.part.id id) self.now result }
         ensures within { result ≤ length self.now }

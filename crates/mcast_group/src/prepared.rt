@@ -65,15 +65,16 @@ impl Prepared {
         Ok(())
     }
 
-    /// The part with the number of its ticket, and a copy for each of so many subscriptions: with no memory where it had
-    /// them.
+    /// The part with the number of its ticket, and a copy for each of so many subscriptions: with no memory where it
+    /// had them.
     pub(crate) fn into_entry(
         self,
         alloc: Global,
         number: u64,
         many: usize,
     ) -> Result<(BoxedPart, Copies), NoMemory>
-        ensures entry { IfOk result (λ made. made.0 ≡ record { part = self; number = number; learnt = None }) }
+        ensures entry { IfOk result
+            (λ made. made.0 ≡ record { part = self; number = number; learnt = None }) }
         ensures many { IfOk result (λ made. length made.1 ≡ many) }
         ensures copies { IfOk result (λ made. AreOf self made.1) }
     {

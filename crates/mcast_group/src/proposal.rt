@@ -11,8 +11,8 @@ use std::alloc::Global;
 use std::marker::Model;
 use std::sync::Arc;
 
-/// A part that is to be entered, on the heap, with its topics and its flight shared once more. In contracts it is what the
-/// part says, and the name of its flight's cell.
+/// A part that is to be entered, on the heap, with its topics and its flight shared once more. In contracts it is what
+/// the part says, and the name of its flight's cell.
 #[derive(Drop)]
 pub struct Proposal {
     pub(crate) prepared: Prepared,
@@ -43,7 +43,8 @@ impl Proposal {
     }
 
     /// Makes a copy of the part for each of so many subscriptions, where it has fewer. Where they are made before
-    /// the topic's lock is taken, `enter` makes those alone that are missing then, and lets go of those that are too many.
+    /// the topic's lock is taken, `enter` makes those alone that are missing then, and lets go of those that are too
+    /// many.
     pub fn copy_for(&mut self, alloc: Global, many: usize) -> Result<(), NoMemory>
         ensures { self.new ≡ self.old }
     {

@@ -9,8 +9,8 @@ use crate::row::Row;
 use std::collections::VecDeque;
 use std::marker::Model;
 
-/// Rows of segments that were drained from a topic's log, in their order. In contracts it is the list of those that weren't
-/// taken.
+/// Rows of segments that were drained from a topic's log, in their order. In contracts it is the list of those that
+/// weren't taken.
 #[derive(Drop)]
 pub(crate) struct SegmentRows {
     /// What is left of the segment whose rows are taken.

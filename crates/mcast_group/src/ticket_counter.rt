@@ -2,7 +2,8 @@
 
 use crate::fault::ProposeFault;
 
-/// What counts the tickets that topics give, and may refuse one. It is asked for a ticket once nothing else can refuse it.
+/// What counts the tickets that topics give, and may refuse one. It is asked for a ticket once nothing else can refuse
+/// it.
 pub trait TicketCounter {
     ghost use Rattle.std.specs.Prelude.{IfErr, OnOk};
     ghost use Rattle.mcast_group.specs.declared.fault.ProposeFault.{ProposeFault};

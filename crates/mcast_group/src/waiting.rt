@@ -20,8 +20,8 @@ use std::marker::Model;
 use std::sync::Arc;
 use sub_queue::Outlet;
 
-/// A part that hasn't learnt its stamp: its transaction, and its flight. In contracts it is the transaction and the name
-/// of the flight's cell.
+/// A part that hasn't learnt its stamp: its transaction, and its flight. In contracts it is the transaction and the
+/// name of the flight's cell.
 #[derive(Drop)]
 pub(crate) struct WaitingPart {
     pub(crate) id: TxnId,
@@ -79,7 +79,8 @@ pub(crate) fn make_room(
     ensures notes { notes.new.items ≡ notes.old.items }
     ensures more { vec_capacity notes.old ≤ vec_capacity notes.new }
     ensures room { OnOk result (length waiting.old.items + 1 ≤ deque_capacity waiting.new) }
-    ensures noted { OnOk result (length waiting.old.items + 1 + length notes.old.items ≤ vec_capacity notes.new) }
+    ensures noted { OnOk result
+        (length waiting.old.items + 1 + length notes.old.items ≤ vec_capacity notes.new) }
 {
     waiting.reserve(1)?;
     notes.reserve(waiting.len() + 1)?;
@@ -123,8 +124,8 @@ pub(crate) fn free_empty(waiting: &mut VecDeque<WaitingPart>)
     }
 }
 
-/// Each part that waits learns what the cell of its flight holds; those that have learnt wait no longer, and their notes
-/// are kept.
+/// Each part that waits learns what the cell of its flight holds; those that have learnt wait no longer, and their
+/// notes are kept.
 pub(crate) fn learn_each<Q: Outlet + Drop>(
     group: &mut Group<Q>,
     waiting: &mut VecDeque<WaitingPart>,
@@ -133,7 +134,8 @@ pub(crate) fn learn_each<Q: Outlet + Drop>(
     requires sound { IsSound group.old.topic }
     requires ids { map (λ w. w.id) waiting.old.items ≡ waiting_ids group.old.topic.pending }
     requires room { length waiting.old.items + length notes.old.items ≤ vec_capacity notes.old }
-    ensures learns { LearnsWaiting group.old group.new waiting.old.items waiting.new.items notes.old.items notes.new.items }
+    ensures learns { LearnsWaiting group.old group.new waiting.old.items waiting.new.items
+        notes.old.items notes.new.items }
     ensures room { length waiting.new.items + length notes.new.items ≤ vec_capacity notes.new }
 {
     for _ in 0..waiting.len() {
@@ -149,7 +151,8 @@ fn learn_first<Q: Outlet + Drop>(
 )
     requires some { 0 < length waiting.old.items }
     requires room { length waiting.old.items + length notes.old.items ≤ vec_capacity notes.old }
-    ensures learns { LearnsFirst group.old group.new waiting.old.items waiting.new.items notes.old.items notes.new.items }
+    ensures learns { LearnsFirst group.old group.new waiting.old.items waiting.new.items
+        notes.old.items notes.new.items }
     ensures room { length waiting.new.items + length notes.new.items ≤ vec_capacity notes.new }
     ensures sound { IsSound group.new.topic }
 {

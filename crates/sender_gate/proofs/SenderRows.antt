@@ -2,7 +2,7 @@
 use Rattle.std.proofs.Common.{◌≡◌, ℕ, true, false, List, [], ◌∷◌, codes, Some, None, refl}
 use Rattle.sender_gate.specs.declared.fault.ClaimFault.TheVariants.{SenderInUse, TooManyClients}
 use Rattle.sender_gate.specs.Gate.{GateState}
-use Rattle.sender_gate.specs.Senders.{SendersState, after_claim, after_give_back, claim_refusal, claimed, claimed_gate, find_kept, has_new_client, is_in_use, is_one_too_many, max_senders}
+use Rattle.sender_gate.specs.Senders.{SendersState, after_claim, after_give_back, claim_refusal, claimed, claimed_gate, find_kept, has_new_client, is_claimed_already, lacks_room, max_senders}
 
 abbrev p : List ℕ
 p = codes "p"
@@ -52,7 +52,7 @@ q_is_kept = refl
 
 -- ---- in use, and given back
 
-p_is_in_use : is_in_use (Some p) three ≡ true
+p_is_in_use : is_claimed_already (Some p) three ≡ true
 p_is_in_use = refl
 
 second_claim_is_refused : claim_refusal (Some p) three ≡ Some SenderInUse
@@ -89,7 +89,7 @@ last = record { begun = max_senders; kept = rested.kept }
 no_number_is_left : claim_refusal None last ≡ Some TooManyClients
 no_number_is_left = refl
 
-none_for_a_new_client : is_one_too_many (Some (codes "r")) last ≡ true
+none_for_a_new_client : lacks_room (Some (codes "r")) last ≡ true
 none_for_a_new_client = refl
 
 in_use_comes_first : claim_refusal (Some q) last ≡ Some SenderInUse

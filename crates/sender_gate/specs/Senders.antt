@@ -42,23 +42,23 @@ abbrev pub claimed : Option (List ℕ) → SendersState → Option KeptSender
 claimed client s = option_and_then (λ id. find_kept id s) client
 
 -- the sender that a claim goes on with is in use
-abbrev pub is_in_use : Option (List ℕ) → SendersState → Bool
-is_in_use client s = option_map_or (λ k. is_none k.gate) (claimed client s) false
+abbrev pub is_claimed_already : Option (List ℕ) → SendersState → Bool
+is_claimed_already client s = option_map_or (λ k. is_none k.gate) (claimed client s) false
 
 -- the claim has a client-id that isn't kept yet
 abbrev pub has_new_client : Option (List ℕ) → SendersState → Bool
 has_new_client client s = is_some client && is_none (claimed client s)
 
 -- the claim would keep one client-id too many, or begin one sender too many
-abbrev pub is_one_too_many : Option (List ℕ) → SendersState → Bool
-is_one_too_many client s =
+abbrev pub lacks_room : Option (List ℕ) → SendersState → Bool
+lacks_room client s =
     (has_new_client client s && not (nat_lt (length s.kept) max_clients))
     || (is_none (claimed client s) && not (nat_lt s.begun max_senders))
 
 -- why a claim is refused, but for memory
 abbrev pub claim_refusal : Option (List ℕ) → SendersState → Option ClaimFault
 claim_refusal client s =
-    first_refusal ((is_in_use client s, SenderInUse) ∷ (is_one_too_many client s, TooManyClients) ∷ [])
+    first_refusal ((is_claimed_already client s, SenderInUse) ∷ (lacks_room client s, TooManyClients) ∷ [])
 
 -- A refused claim may answer this fault: why it is refused, or else that there was no memory, which only a
 -- new client-id needs.

@@ -24,8 +24,8 @@ has_destination commands.Send = true
 has_destination commands.Subscribe = true
 has_destination _ = false
 
--- The names, with the frame's destination after them where it has one that isn't there yet. So A and a SEND to
--- B are A and B, A and a SEND to A are A, and so are A and a COMMIT.
+-- The names, with the frame's destination after them where it has one that isn't there yet. So A and a SEND
+-- to B are A and B, A and a SEND to A are A, and so are A and a COMMIT.
 abbrev pub with_destination : RawFrame → List (List ℕ) → List (List ℕ)
 with_destination f names =
     if has_destination f.command then with_name (field (codes "destination") f) names else names

@@ -168,7 +168,8 @@ impl Session {
         frame: &SubscribeFrame,
         names: &mut Names,
     ) -> Result<Judged, SessionFault>
-        ensures handles { Handles commands.Subscribe (held_with names.old self.old) frame.now.raw result self.new }
+        ensures handles { Handles commands.Subscribe (held_with names.old self.old) frame.now.raw
+            result self.new }
         ensures named { OnOk result
             (names.new ≡ with_name (field (codes "destination") frame.now.raw) names.old) }
         ensures unnamed { OnErr result (names.new ≡ names.old) }
@@ -270,7 +271,8 @@ impl Session {
         ensures route { IfOk result (λ sent. IsRouteOf (held_with names.now self.now) frame.now.raw sent.0) }
         ensures receipt { IfOk result (λ sent. sent.1 ≡ first_of (codes "receipt") frame.now.raw.headers) }
         ensures text { IfOk result (λ sent. IfSome sent.1 IsText) }
-        ensures refused { IfErr result (RefusesAs commands.Send (held_with names.now self.now) frame.now.raw) }
+        ensures refused { IfErr result
+            (RefusesAs commands.Send (held_with names.now self.now) frame.now.raw) }
     {
         self.connected()?;
         let Destination { topic, is_new } = names.judge(frame.destination())?;
@@ -301,7 +303,8 @@ impl Session {
         ensures refused { IfErr result
             (λ e. RefusesAs commands.Send (held_with names.old self.old) frame.raw e.1) }
         ensures back { IfErr result (λ e. e.0 ≡ frame) }
-        ensures named { OnOk result (names.new ≡ with_name (field (codes "destination") frame.raw) names.old) }
+        ensures named { OnOk result
+            (names.new ≡ with_name (field (codes "destination") frame.raw) names.old) }
         ensures unnamed { OnErr result (names.new ≡ names.old) }
     {
         let (route, receipt) = match self.accepts_send(&frame, names) {

@@ -10,7 +10,7 @@ use Rattle.crossbeam_queue.proofs.Lists.{at_set}
 use Rattle.mcast_txn.specs.Lists.{Rises}
 use Rattle.mcast_txn.specs.Span.{Item, item_stamp}
 use Rattle.sub_queue.specs.declared.rule.Knowledge.{Knowledge}
-use Rattle.sub_queue.specs.Rule.{knowledge, pusher_knowledge, taker_knowledge, witness_knowledge, no_knowledge, knowing_taken, after_pushing, after_taking, Agrees, BeginsWith, IsInOrder, EndsUntaken, rest_of, IsFront}
+use Rattle.sub_queue.specs.Rule.{knowledge, pusher_knowledge, taker_knowledge, witness_knowledge, no_knowledge, knowing_taken, after_pushing, after_taking, Agrees, BeginsWithItems, IsInOrder, EndsUntaken, rest_of, IsFront}
 use Rattle.sub_queue.specs.Shown.{IsAboveLast}
 use Rattle.sub_queue.proofs.RisingItems.{rises_after_push, rises_front}
 
@@ -39,14 +39,14 @@ is_front : (v : Knowledge) (items : List Item) → v.pushed ≡ v.taken ++ items
 is_front v items e = e ∙ ap (λ xs. v.taken ++ xs) (sym (left_is v items e))
 
 -- every list begins with none of its items, and with all of them
-begins_none : (xs : List Item) → BeginsWith [] xs
+begins_none : (xs : List Item) → BeginsWithItems [] xs
 begins_none xs = (xs, refl)
 
-begins_same : (xs ys : List Item) → xs ≡ ys → BeginsWith xs ys
+begins_same : (xs ys : List Item) → xs ≡ ys → BeginsWithItems xs ys
 begins_same xs ys e = ([], sym e ∙ sym (append-nil xs))
 
 -- it does so after one more item
-begins_more : (xs ys : List Item) (item : Item) → BeginsWith xs ys → BeginsWith xs (ys ++ item ∷ [])
+begins_more : (xs ys : List Item) (item : Item) → BeginsWithItems xs ys → BeginsWithItems xs (ys ++ item ∷ [])
 begins_more xs ys item b = (b.0 ++ item ∷ [], ap (λ zs. zs ++ item ∷ []) b.1 ∙ append_assoc xs b.0 (item ∷ []))
 
 -- an empty queue, with one end that pushes and takes
@@ -135,7 +135,7 @@ pub hears : (n : ℕ) (v : Knowledge) (other : ℕ) (u : Knowledge) → v.takes 
 hears n v other u quiet items ends h at two at' =
     let new = knowing_taken u.taken v in
     let mine = h.agree n v at in
-    let known : BeginsWith u.taken h.taken = elim (at_set ends n other new u at') [
+    let known : BeginsWithItems u.taken h.taken = elim (at_set ends n other new u at') [
       | inl e ↦ absurd (two e.0)
       | inr e ↦ (h.agree other u e.1).known
     ] in

@@ -51,8 +51,8 @@ abbrev pub after_taking : Item → Knowledge → Knowledge
 after_taking item v = record v { taken = v.taken ++ item ∷ [] }
 
 -- the list begins with these items
-abbrev pub BeginsWith : List Item → List Item → Type 0
-BeginsWith items list = (rest : List Item) × (list ≡ items ++ rest)
+abbrev pub BeginsWithItems : List Item → List Item → Type 0
+BeginsWithItems items list = (rest : List Item) × (list ≡ items ++ rest)
 
 -- What the end of this number knows agrees with what was pushed and taken.
 -- pushes: if it pushes, it is the source, and knows what was pushed.
@@ -61,7 +61,7 @@ BeginsWith items list = (rest : List Item) × (list ≡ items ++ rest)
 pub record Agrees (source taker : ℕ) (pushed taken : List Item) (n : ℕ) (v : Knowledge) : Type 0 where
   pub pushes : v.pushes ≡ true → (n ≡ source) × (v.pushed ≡ pushed)
   pub takes : v.takes ≡ true → (n ≡ taker) × (v.taken ≡ taken)
-  pub known : BeginsWith v.taken taken
+  pub known : BeginsWithItems v.taken taken
 
 -- The rule, of what the queue holds and of what each end knows, in the order of their numbers.
 -- source: the number of the end that may push.

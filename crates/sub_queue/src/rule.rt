@@ -10,9 +10,9 @@ use crossbeam_queue::{Pass, RuledArrayQueue};
 use mcast_txn::Released;
 use std::collections::LinkedList;
 
-/// What an end knows: whether it pushes, and then what was pushed; whether it takes, and then what was taken. An end that
-/// doesn't take may know some of the items that were taken, from the first on. It is in contracts alone: no value of it
-/// is made.
+/// What an end knows: whether it pushes, and then what was pushed; whether it takes, and then what was taken. An end
+/// that doesn't take may know some of the items that were taken, from the first on. It is in contracts alone: no value
+/// of it is made.
 pub(crate) struct Knowledge {
     pub(crate) pushes: bool,
     pub(crate) pushed: LinkedList<Released>,

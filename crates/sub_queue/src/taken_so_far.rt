@@ -3,8 +3,8 @@
 use crate::rule::EndPass;
 use std::marker::Model;
 
-/// That items of a queue were taken, for the end that pushes (`Source::know_taken`). It has no bytes. In contracts it is
-/// the queue, and how many items were taken when it was made.
+/// That items of a queue were taken, for the end that pushes (`Source::know_taken`). It has no bytes. In contracts it
+/// is the queue, and how many items were taken when it was made.
 #[derive(Drop)]
 pub struct TakenSoFar {
     pub(crate) witness: EndPass,

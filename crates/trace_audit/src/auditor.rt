@@ -52,7 +52,8 @@ fn find_fault(
     trace: &Trace,
     orders: &Orders<'_>,
 ) -> Result<Option<AuditFault>, NoMemory>
-    requires { IsOrdersOf orders.now.by_id.items orders.now.by_stamp.items orders.now.by_topic.items trace.now.logs }
+    requires { IsOrdersOf orders.now.by_id.items orders.now.by_stamp.items orders.now.by_topic.items
+        trace.now.logs }
     ensures { IfOk result (λ fault. fault ≡ audit_fault trace.now) }
 {
     if let Some(fault) = find_log_fault(&trace.logs, orders) {
@@ -66,7 +67,8 @@ fn find_fault(
 
 /// The first fault of the logs alone.
 fn find_log_fault(logs: &[LogRow], orders: &Orders<'_>) -> Option<AuditFault>
-    requires { IsOrdersOf orders.now.by_id.items orders.now.by_stamp.items orders.now.by_topic.items logs.now }
+    requires { IsOrdersOf orders.now.by_id.items orders.now.by_stamp.items orders.now.by_topic.items
+        logs.now }
     ensures { result ≡ log_fault logs.now }
 {
     if log_checks::has_two_verdicts(&orders.by_id) {

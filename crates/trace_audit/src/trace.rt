@@ -19,8 +19,8 @@ pub struct Trace {
     pub(crate) logs: Vec<LogRow>,
     pub(crate) spans: Vec<SpanRow>,
     pub(crate) queues: Vec<QueueRow>,
-    // The spans' subscriptions. (Ordered: whoever wrote the trace chose the numbers, and could choose them so that a fixed
-    // hash sends all of them to one place.)
+    // The spans' subscriptions. (Ordered: whoever wrote the trace chose the numbers, and could choose them so that a
+    // fixed hash sends all of them to one place.)
     subs: BTreeSet<u64>,
 }
 

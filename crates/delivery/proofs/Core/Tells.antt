@@ -16,7 +16,7 @@ use Rattle.delivery.specs.Theorem.Laws.{agreed_rows}
 use Rattle.delivery.specs.Core.Account.{Beginning, beginning_of, released_log, released_frontier}
 use Rattle.delivery.specs.Core.Answered.{begun_in as begun_answers}
 use Rattle.delivery.specs.Core.Delivery.{begun_in}
-use Rattle.delivery.specs.Core.Told.{Told, committed, released_count, log_of, frontier_of, handed_count, owner_of}
+use Rattle.delivery.specs.Core.Told.{Told, committed, released_count, told_log, frontier_of, handed_count, owner_of}
 use Rattle.delivery.proofs.Machine.SenderSteps.{In-append_cases}
 
 -- what is told of an answer, after these
@@ -53,7 +53,7 @@ released_told t (Answer.Released u id ∷ past) = ap (λ (k : ℕ). cond (u.0 ==
 released_told t (Answer.Turned u n ∷ past) = ap (λ (k : ℕ). cond (u.0 == t.0) (k + n) k) (released_told t past)
 released_told t (_ ∷ past) = released_told t past
 
-pub log_told : (t : Topic) (past : List Answer) → log_of t (tell past) ≡ released_log t past
+pub log_told : (t : Topic) (past : List Answer) → told_log t (tell past) ≡ released_log t past
 log_told t past =
     ap (λ (n : ℕ). take n (agreed_rows t (committed (tell past)))) (released_told t past)
     ∙ ap (λ (z : List CommitRow). take (released_at t past) (agreed_rows t z)) (committed_told past)

@@ -22,7 +22,8 @@ use Rattle.delivery.specs.Core.Told.{sends_by}
 -- ---- what is read of an account
 
 -- The id of the last transaction of the sender that connection c speaks for after these steps: seq counts the
--- sender's from 1. So of the third, where an earlier connection of its client-id made two, and this one another.
+-- sender's from 1. So of the third, where an earlier connection of its client-id made two, and this one
+-- another.
 abbrev pub last_of : ℕ → List CoreStep → List Answer → TxnId
 last_of c older account =
     let s = sender_of c (claims_of older) in
@@ -105,15 +106,17 @@ account_of_step names older past (Event.Take s) read (Outcome.Handed n) =
     Answer.Handed s (next_item s past) ∷ []
 account_of_step names older past (Event.Take s) read (Outcome.Faulted fault cut) =
     Answer.Error (beginning_of s past).connection ∷ []
-account_of_step names older past (Event.Leave c) read (Outcome.Unsubscribed s to) = Answer.Unsubscribed s to ∷ []
+account_of_step names older past (Event.Leave c) read (Outcome.Unsubscribed s to) =
+    Answer.Unsubscribed s to ∷ []
 account_of_step names older past (Event.Leave c) read (Outcome.Gone cut) = Answer.Gone c ∷ []
 account_of_step names older past (Event.Lost c) read Outcome.Leaving = Answer.Leaving c ∷ []
 account_of_step names older past e read o = []
 
--- The account of a run that began with topics of these names, the newest answer first: each step's destinations
--- are numbered by the names before it.
+-- The account of a run that began with topics of these names, the newest answer first: each step's
+-- destinations are numbered by the names before it.
 abbrev pub account_of : List (List ℕ) → List CoreStep → List Answer
 account_of names [] = []
 account_of names (step ∷ older) =
     let past = account_of names older in
-    account_of_step (names_after names older) older past step.event (frame_in step.reading) step.outcome ++ past
+    account_of_step (names_after names older) older past step.event (frame_in step.reading) step.outcome
+    ++ past

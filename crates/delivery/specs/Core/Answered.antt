@@ -1,6 +1,7 @@
 -- What is delivered, in the words of the machine's answers: the statement over the account of a run and its
--- report of which `Core/Delivery` says the same in fewer words. Here each item that was handed on is told with
--- all that it holds, and an end that was asked for is at the frontier of the topic that the account says.
+-- report of which `Core/Delivery` says the same in fewer words. Here each item that was handed on is told
+-- with all that it holds, and an end that was asked for is at the frontier of the topic that the account
+-- says.
 use Rattle.std.specs.Prelude.{◌≡◌, ℕ, ◌+◌, ◌<◌, ◌≤◌, true, false, List, [], ◌∷◌, ◌++◌, map, length, slice_get, Some, None}
 use Rattle.mcast_txn.specs.declared.id.Topic.{Topic}
 use Rattle.mcast_txn.specs.declared.stamp.Stamp.{Stamp}
@@ -34,11 +35,13 @@ begun_in (o ∷ before) = begun_in before
 
 -- The span of subscription s ended by lag: a row came to its topic's log for which its queue had no room. So
 -- where the queue holds 2 and rows 1, 2 and 3 come before a Take, it ends at row 2's stamp.
--- before, by, later: the account before the answer by which that row came, this answer, and the account since.
+-- before, by, later: the account before the answer by which that row came, this answer, and the account
+-- since.
 -- last: the end is the stamp of the last item that was queued, or the span's beginning where none was.
 -- reached, passed: the topic's frontier was at most the end before that answer, and is above it then.
 -- full: as many items as the capacity weren't delivered then.
-pub record LagsAsAnswered (capacity s : ℕ) (account : List Answer) (q : QueueReport) (end : Stamp) : Type 0 where
+pub record LagsAsAnswered (capacity s : ℕ) (account : List Answer) (q : QueueReport) (end : Stamp)
+    : Type 0 where
   pub later : List Answer
   pub by : Answer
   pub before : List Answer

@@ -16,7 +16,7 @@ use Rattle.delivery.specs.Topics.{TopicList}
 use Rattle.delivery.specs.Theorem.Due.{log_row, due}
 use Rattle.delivery.specs.Theorem.Laws.{shared_marks}
 use Rattle.delivery.specs.Core.Steps.{CoreStep, kept_of, names_after, AreReadings}
-use Rattle.delivery.specs.Core.Told.{Told, committed, log_of, frontier_of, handed_count, told_of, IsSettled, IsSilent}
+use Rattle.delivery.specs.Core.Told.{Told, committed, told_log, frontier_of, handed_count, told_of, IsSettled, IsSilent}
 use Rattle.delivery.specs.Core.Output.{text_out}
 use Rattle.delivery.specs.Core.State.{core_of}
 use Rattle.delivery.specs.Core.Outcomes.{IsCoreRun}
@@ -86,7 +86,7 @@ pub record Delivers (capacity : ℕ) (told : List Told) (r : Report) : Type 0 wh
   pub each_once : EachOnce committed_id stamp_of (agreed (committed told))
   pub fifo_order : SenderOrder committed_id (agreed (committed told))
   -- each log is as many rows of the agreed sequence as were released
-  pub logs : (t : Topic) → t.0 < length r.logs → log_in r t ≡ log_of t told
+  pub logs : (t : Topic) → t.0 < length r.logs → log_in r t ≡ told_log t told
   -- each subscription begins where its topic's log ended then; its end, its queue and what was delivered of
   -- it are as told
   pub begins : reported_begun 0 r.subscriptions ≡ begun_in told

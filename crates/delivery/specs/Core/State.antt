@@ -1,5 +1,5 @@
--- The core: its opening topics' names, the machine of topics and transactions, and the steps so far, from which all
--- else of it is read.
+-- The core: its opening topics' names, the machine of topics and transactions, and the steps so far, from
+-- which all else of it is read.
 use Rattle.std.specs.Prelude.{ℕ, ◌==◌, Bool, true, false, not, ◌&&◌, List, [], ◌∷◌, Option, Some, None, Ok, Err, if◌then◌else◌, ◌++◌, codes}
 use Rattle.std.specs.Option.{option_to_list, option_map_or}
 use Rattle.stomp_frame.specs.declared.raw_frame.RawFrame.{RawFrame}
@@ -122,7 +122,8 @@ next_moves k c reading o =
     else (if has_effect o
     then
     option_map_or
-    (λ f. topic_moves (names_at k) f ++ option_to_list (frame_move k c (action_by f.command (session_at k c) f)))
+    (λ f. topic_moves (names_at k) f
+    ++ option_to_list (frame_move k c (action_by f.command (session_at k c) f)))
     (frame_in reading) []
     else [])
 

@@ -94,8 +94,8 @@ abbrev pub names_with : CoreStep → List (List ℕ) → List (List ℕ)
 names_with step names = option_map_or (λ f. with_destination f names) (accepted_in step) names
 
 -- The topics' names after these steps: the opening names, and behind them each destination that was new in an
--- accepted frame, in order. So where A was there and SENDs to B, to A and to C were accepted, and between them
--- one to D was refused, they are A, B, C.
+-- accepted frame, in order. So where A was there and SENDs to B, to A and to C were accepted, and between
+-- them one to D was refused, they are A, B, C.
 abbrev pub names_after : List (List ℕ) → List CoreStep → List (List ℕ)
 names_after opening [] = opening
 names_after opening (step ∷ older) = names_with step (names_after opening older)

@@ -1,5 +1,6 @@
 -- What the steps of a run tell of transactions, topics and subscriptions, and what a reader takes from that.
--- It takes nothing from the machine: whose a transaction is and what it sends is worked out from frames alone.
+-- It takes nothing from the machine: whose a transaction is and what it sends is worked out from frames
+-- alone.
 use Rattle.std.specs.Prelude.{◌≡◌, ◌≢◌, ℕ, ◌==◌, ◌+◌, false, true, not, ◌&&◌, List, [], ◌∷◌, ◌++◌, codes, map, take, Option, Some, if◌then◌else◌, ◌⊎◌}
 use Rattle.std.specs.List.{filter, list_any}
 use Rattle.std.specs.Option.{option_map_or}
@@ -62,12 +63,12 @@ released_count t (o ∷ before) = released_count t before
 
 -- A topic's log: as many rows as were released, the first of the agreed sequence that name it. So where (1,
 -- 0) and (2, 0) name topic 0 and one part was released there, it is the row of (1, 0).
-abbrev pub log_of : Topic → List Told → List LogRow
-log_of t told = take (released_count t told) (agreed_rows t (committed told))
+abbrev pub told_log : Topic → List Told → List LogRow
+told_log t told = take (released_count t told) (agreed_rows t (committed told))
 
 -- a topic's frontier: the stamp of its log's last row
 abbrev pub frontier_of : Topic → List Told → Stamp
-frontier_of t told = last_stamp zero_stamp (log_of t told)
+frontier_of t told = last_stamp zero_stamp (told_log t told)
 
 -- how many items of subscription s were handed on
 abbrev pub handed_count : ℕ → List Told → ℕ
@@ -91,8 +92,8 @@ last_by s (o ∷ before) = last_by s before
 -- ---- what a step adds
 
 -- The SENDs of this transaction that these frames left open: those since its BEGIN, where no later frame but
--- a SEND names it. So of BEGIN x, SEND in x, COMMIT x, BEGIN x, two SENDs in x and one in y, the two; after an
--- ABORT x none.
+-- a SEND names it. So of BEGIN x, SEND in x, COMMIT x, BEGIN x, two SENDs in x and one in y, the two; after
+-- an ABORT x none.
 abbrev pub sends_left : List ℕ → List (List ℕ) → List RawFrame → List SentMessage
 sends_left x names [] = []
 sends_left x names (f ∷ after) =

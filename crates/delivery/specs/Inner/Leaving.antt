@@ -24,7 +24,8 @@ leaving_objection Stage.Gone busy = Some Objection.Gone
 -- the endpoint has no subscription that isn't closed, and its sender is busy
 abbrev pub waits : List SenderView → EndpointView → Bool
 waits senders endpoint =
-    not (nat_lt 0 (length endpoint.live)) && option_map_or is_busy (slice_get senders (number_among senders endpoint)) false
+    not (nat_lt 0 (length endpoint.live))
+    && option_map_or is_busy (slice_get senders (number_among senders endpoint)) false
 
 -- what stands against the next step of leaving of an endpoint, if there is one
 abbrev pub leave_objection : List SenderView → Option EndpointView → Option Objection

@@ -93,9 +93,11 @@ IsRefusedAs s f ConnectionFault.ReaderNoMemory = ⊥
 abbrev pub EndpointFault : Type 0
 EndpointFault = ConnectionFault × Option RawFrame
 
--- what an open endpoint, whose session accepted these frames, makes of what it reads, and of the topics' names
+-- what an open endpoint, whose session accepted these frames, makes of what it reads, and of the topics'
+-- names
 abbrev pub JudgesReading
-    : List RawFrame → List (List ℕ) → OpenEndpoint → Reading → Result (Option Step) EndpointFault → OpenEndpoint
+    : List RawFrame → List (List ℕ) → OpenEndpoint → Reading → Result (Option Step) EndpointFault
+    → OpenEndpoint
     → List (List ℕ) → Type 0
 JudgesReading accepted names old (Reading.Waits left) (Ok None) new later =
     (new ≡ record old { reader = left }) × (later ≡ names)
@@ -122,7 +124,8 @@ pub record Judgement
 
 -- so of each list of frames that its session stands for, while its reader returned no fault
 abbrev pub Judges
-    : List (List ℕ) → OpenEndpoint → Result (Option Step) EndpointFault → OpenEndpoint → List (List ℕ) → Type 0
+    : List (List ℕ) → OpenEndpoint → Result (Option Step) EndpointFault → OpenEndpoint → List (List ℕ)
+    → Type 0
 Judges names old result new later =
     (accepted : List RawFrame) → StandsFor old.session names accepted → old.reader.answered ≡ None
     → Judgement accepted names old result new later

@@ -155,8 +155,8 @@ pub record EndpointView : Type 0 where
   pub live : List ℕ
   pub output : List ℕ
 
--- the endpoint of connection c, which accepted these frames, whose reader stands for this, and whose text out is
--- this
+-- the endpoint of connection c, which accepted these frames, whose reader stands for this, and whose text out
+-- is this
 abbrev pub endpoint_view : List (List ℕ) → World → ℕ → List RawFrame → Unread → List ℕ → EndpointView
 endpoint_view names w c accepted unread text = record {
   sender = (connection_at w c).sender;
@@ -267,8 +267,8 @@ grouped_view v =
     then record v { groups = v.groups ++ made_group (length v.groups) ∷ [] }
     else v
 
--- Once the destination of a frame has its topic, whose name stands behind the others: with a group for it, where
--- there was none.
+-- Once the destination of a frame has its topic, whose name stands behind the others: with a group for it,
+-- where there was none.
 abbrev pub named_view : RawFrame → View → View
 named_view f v =
     if has_destination f.command && not (is_known (field (codes "destination") f) v.names)

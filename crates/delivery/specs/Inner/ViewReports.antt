@@ -9,7 +9,7 @@ use Rattle.sub_queue.specs.Shown.{Shown, known_taken}
 use Rattle.mcast_group.specs.declared.cause.Cause.TheVariants.{Lag}
 use Rattle.mcast_group.specs.declared.state.SubState.{SubState}
 use Rattle.mcast_group.specs.Group.{GroupState, shown_at}
-use Rattle.mcast_group.specs.Machine.{state_of}
+use Rattle.mcast_group.specs.Machine.{subscription_state}
 use Rattle.delivery.specs.Core.Reports.{QueueReport, Report}
 use Rattle.delivery.specs.Inner.View.{View, SubView, LeftView}
 
@@ -22,7 +22,8 @@ lag_of (SubState.Lag end) = Some end
 
 -- where subscription s of topic t lagged, if it did
 abbrev pub lag_in : List GroupState → Topic → ℕ → Option Stamp
-lag_in groups t s = option_and_then lag_of (option_and_then (λ g. state_of s g.topic) (slice_get groups t.0))
+lag_in groups t s =
+    option_and_then lag_of (option_and_then (λ g. subscription_state s g.topic) (slice_get groups t.0))
 
 -- what the queue of subscription s of topic t shows
 abbrev pub queue_shown : List GroupState → Topic → ℕ → Option Shown

@@ -206,8 +206,8 @@ abbrev pub claimed_senders : List SenderState → Option ℕ → List SenderStat
 claimed_senders senders None = senders ++ new_sender ∷ []
 claimed_senders senders (Some s) = senders
 
--- The connection speaks for this sender, which goes on with the seq and the floor that it has, or for a new one.
--- So where two have begun, a claim of 0 goes on with the first, and one of none begins 2.
+-- The connection speaks for this sender, which goes on with the seq and the floor that it has, or for a new
+-- one. So where two have begun, a claim of 0 goes on with the first, and one of none begins 2.
 abbrev pub connect_effect : World → ℕ → Option ℕ → World
 connect_effect w c claimed =
     record (with_speaker w c (unwrap_or claimed (length w.senders))) {

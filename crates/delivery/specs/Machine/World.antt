@@ -128,8 +128,8 @@ speaker w c = sender_at w (speaker_number w c)
 abbrev pub speaks_for : ℕ → Connection → Bool
 speaks_for s x = not (is_gone x.standing) && option_map_or (λ n. n == s) x.sender false
 
--- The sender is in use: a connection that isn't gone speaks for it. So the sender of a connection that was lost
--- is in use while that connection is leaving.
+-- The sender is in use: a connection that isn't gone speaks for it. So the sender of a connection that was
+-- lost is in use while that connection is leaving.
 abbrev pub is_in_use : World → ℕ → Bool
 is_in_use w s = list_any (speaks_for s) w.connections
 

@@ -113,7 +113,8 @@ crossing_at_b = item (id 0 1) (stamp 10 0) (part 1 1 ∷ []) ∷ item (id 0 2) (
 -- transaction is withdrawn and cancelled at B, which keeps its clock: connection 3 gets the ticket 3 there.
 abbrev pub withdrawal : Run
 withdrawal = run_of (18446744073709551614 ∷ 0 ∷ []) (
-    Opens ∷ Connects 0 None ∷ Opens ∷ Connects 1 None ∷ Opens ∷ Connects 2 None ∷ Opens ∷ Connects 3 None ∷ Subscribes 3 (topic 1)
+    Opens ∷ Connects 0 None ∷ Opens ∷ Connects 1 None ∷ Opens ∷ Connects 2 None ∷ Opens ∷ Connects 3 None
+    ∷ Subscribes 3 (topic 1)
     ∷ Commits 0 (send 0 1 ∷ []) ∷ Proposes 0 (topic 0) true ∷ Decides 0 ∷ Turns (topic 0)
     ∷ Commits 2 to_a_and_b ∷ Proposes 2 (topic 1) true
     ∷ Commits 1 (send 1 2 ∷ []) ∷ Proposes 1 (topic 1) true ∷ Decides 1 ∷ Turns (topic 1)
@@ -187,7 +188,8 @@ lag = record {
   capacity = 2;
   log_limit = 65536;
   clocks = 0 ∷ [];
-  events = Opens ∷ Connects 0 None ∷ Opens ∷ Connects 1 None ∷ Opens ∷ Connects 2 None ∷ Subscribes 1 (topic 0) ∷ Subscribes 2 (topic 0)
+  events = Opens ∷ Connects 0 None ∷ Opens ∷ Connects 1 None ∷ Opens ∷ Connects 2 None
+      ∷ Subscribes 1 (topic 0) ∷ Subscribes 2 (topic 0)
       ∷ one_send 1 (one_send 2 (Takes 1 ∷ one_send 3 (
       Takes 0 ∷ Takes 0 ∷ Takes 0 ∷ Takes 0 ∷ Leaves 1
       ∷ Takes 1 ∷ Takes 1 ∷ Unsubscribes 2 1 ∷ Errs 2 ∷ [])));
@@ -195,10 +197,11 @@ lag = record {
 
 -- ---- lasting
 
--- topics A at clock 9, and B. Connection 0 begins a sender, commits to A and B, and is lost. No other connection
--- can go on as that sender before it is gone; connection 1 begins one of its own, and subscribes to B. Connection
--- 2 goes on as the first sender. Both send to B: connection 1's transaction has no floor and is the first of all;
--- connection 2's has the sender's next seq, and the floor (10, A) lifts its ticket above it.
+-- topics A at clock 9, and B. Connection 0 begins a sender, commits to A and B, and is lost. No other
+-- connection can go on as that sender before it is gone; connection 1 begins one of its own, and subscribes
+-- to B. Connection 2 goes on as the first sender. Both send to B: connection 1's transaction has no floor and
+-- is the first of all; connection 2's has the sender's next seq, and the floor (10, A) lifts its ticket above
+-- it.
 abbrev pub lasting : Run
 lasting = run_of (9 ∷ 0 ∷ []) (
     Opens ∷ Commits 0 to_a_and_b ∷ Connects 0 (Some 0) ∷ Connects 0 None ∷ Connects 0 None
@@ -217,10 +220,10 @@ lasting_at_b = item (id 1 1) (stamp 2 1) (part 0 3 ∷ []) ∷ item (id 0 1) (st
 
 -- ---- resuming
 
--- topics A at clock 4, B at 9, C at its end, and D. Connection 0 begins a sender and commits to A, and then sends to
--- B and C. C refuses that transaction: it is withdrawn, and its ticket (10, B) is cancelled. Connection 1 goes on as
--- the sender and sends to D. The sender's floor is still (5, A): so its ticket at D is 6, and neither above the
--- cancelled one nor 1.
+-- topics A at clock 4, B at 9, C at its end, and D. Connection 0 begins a sender and commits to A, and then
+-- sends to B and C. C refuses that transaction: it is withdrawn, and its ticket (10, B) is cancelled.
+-- Connection 1 goes on as the sender and sends to D. The sender's floor is still (5, A): so its ticket at D
+-- is 6, and neither above the cancelled one nor 1.
 abbrev pub resuming : Run
 resuming = run_of (4 ∷ 9 ∷ 18446744073709551615 ∷ 0 ∷ []) (
     Opens ∷ Connects 0 None ∷ Commits 0 (send 0 1 ∷ []) ∷ Proposes 0 (topic 0) true ∷ Decides 0
@@ -251,7 +254,8 @@ pub record WorkedRows : Type 0 where
   pub crossing_delivered : delivered_items 0 (answers_of crossing) ≡ crossing_at_b
   -- the refused transaction has no row and no item; its sender keeps its floor
   pub withdrawal_answers : answers_in_order withdrawal
-      ≡ Opened 0 ∷ Done ∷ Opened 1 ∷ Done ∷ Opened 2 ∷ Done ∷ Opened 3 ∷ Done ∷ Subscribed 0 3 (topic 1) zero_stamp
+      ≡ Opened 0 ∷ Done ∷ Opened 1 ∷ Done ∷ Opened 2 ∷ Done ∷ Opened 3 ∷ Done
+      ∷ Subscribed 0 3 (topic 1) zero_stamp
       ∷ Begun (transaction (id 0 1) (send 0 1 ∷ [])) ∷ Ticket (id 0 1) (stamp 18446744073709551615 0)
       ∷ Decided (id 0 1) (stamp 18446744073709551615 0) ∷ Turned (topic 0) 1
       ∷ Begun (transaction (id 2 1) to_a_and_b) ∷ Ticket (id 2 1) (stamp 1 1)
@@ -274,7 +278,8 @@ pub record WorkedRows : Type 0 where
   pub withdrawal_delivered : delivered_items 0 (answers_of withdrawal) ≡ withdrawal_at_b
   -- the span of the lost connection ends where it began; the other has the part of two SENDs as one item
   pub loss_answers : answers_in_order loss
-      ≡ Opened 0 ∷ Done ∷ Opened 1 ∷ Done ∷ Subscribed 0 0 (topic 0) zero_stamp ∷ Subscribed 1 1 (topic 0) zero_stamp
+      ≡ Opened 0 ∷ Done ∷ Opened 1 ∷ Done ∷ Subscribed 0 0 (topic 0) zero_stamp
+      ∷ Subscribed 1 1 (topic 0) zero_stamp
       ∷ Begun (transaction (id 0 1) to_a_b_and_a) ∷ Ticket (id 0 1) (stamp 1 0)
       ∷ Leaving 0 ∷ Refused Objection.Busy ∷ Refused Objection.Gone ∷ Unsubscribed 0 zero_stamp
       ∷ Refused Objection.Busy
@@ -323,7 +328,8 @@ pub record WorkedRows : Type 0 where
   -- a connection needs a sender, has one at most, and gets none that is in use; the second transaction of the
   -- sender that lasts is above its floor, and delivered after its first
   pub lasting_answers : answers_in_order lasting
-      ≡ Opened 0 ∷ Refused Objection.NoSender ∷ Refused Objection.NoSender ∷ Done ∷ Refused Objection.HasSender
+      ≡ Opened 0 ∷ Refused Objection.NoSender ∷ Refused Objection.NoSender ∷ Done
+      ∷ Refused Objection.HasSender
       ∷ Begun (transaction (id 0 1) to_a_and_b) ∷ Ticket (id 0 1) (stamp 10 0) ∷ Leaving 0
       ∷ Opened 1 ∷ Refused Objection.InUse ∷ Refused Objection.Busy
       ∷ Ticket (id 0 1) (stamp 1 1) ∷ Decided (id 0 1) (stamp 10 0) ∷ Refused Objection.InUse ∷ Gone 0
@@ -347,6 +353,7 @@ pub record WorkedRows : Type 0 where
       ∷ Opened 1 ∷ Done ∷ Begun (transaction (id 0 3) (send 3 3 ∷ [])) ∷ Ticket (id 0 3) (stamp 6 3)
       ∷ Decided (id 0 3) (stamp 6 3)
       ∷ Turned (topic 0) 1 ∷ Turned (topic 1) 0 ∷ Turned (topic 3) 1 ∷ []
-  pub resuming_logs : log_stamps resuming 0 ∷ log_stamps resuming 1 ∷ log_stamps resuming 2 ∷ log_stamps resuming 3 ∷ []
+  pub resuming_logs
+      : log_stamps resuming 0 ∷ log_stamps resuming 1 ∷ log_stamps resuming 2 ∷ log_stamps resuming 3 ∷ []
       ≡ (stamp 5 0 ∷ []) ∷ [] ∷ [] ∷ (stamp 6 3 ∷ []) ∷ []
   pub resuming_floors : floors resuming ≡ stamp 6 3 ∷ []

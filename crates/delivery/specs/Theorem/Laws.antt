@@ -221,9 +221,9 @@ is_of_claim Objection.HasSender = true
 is_of_claim Objection.InUse = true
 is_of_claim why = false
 
--- The core reports what refuses a move, with two exceptions: a frame that would make a transaction whose sender has
--- no sequence number left, or whose connection speaks for no sender; and one that would have a connection speak
--- for a sender. The core answers such a frame by an ERROR, and makes no move of it.
+-- The core reports what refuses a move, with two exceptions: a frame that would make a transaction whose
+-- sender has no sequence number left, or whose connection speaks for no sender; and one that would have a
+-- connection speak for a sender. The core answers such a frame by an ERROR, and makes no move of it.
 abbrev pub RefusalsAreReported : Type 0
 RefusalsAreReported =
     (r : Run) (e : Move) (why : Objection) → answer_to (final_world r) e ≡ Refused why

@@ -28,15 +28,15 @@ SendersAreOwn =
     (r : Run) (c d s : ℕ) → speaks_for s (connection_at (final_world r) c) ≡ true
     → speaks_for s (connection_at (final_world r) d) ≡ true → (c ≡ d) × (s < length (final_world r).senders)
 
--- A sender that isn't in use has no undecided transaction, and nothing to cancel: who goes on as it begins where
--- the last one ended.
+-- A sender that isn't in use has no undecided transaction, and nothing to cancel: who goes on as it begins
+-- where the last one ended.
 abbrev pub RestingAreIdle : Type 0
 RestingAreIdle =
     (r : Run) (s : ℕ) → is_in_use (final_world r) s ≡ false
     → ((sender_at (final_world r) s).flight ≡ None) × ((sender_at (final_world r) s).leftovers ≡ [])
 
--- Who goes on as a sender has its seq and its floor as they were, and all else of it; who begins one has the next
--- number and a new sender.
+-- Who goes on as a sender has its seq and its floor as they were, and all else of it; who begins one has the
+-- next number and a new sender.
 abbrev pub ClaimsGoOn : Type 0
 ClaimsGoOn =
     (w : World) (c : ℕ) (claimed : Option ℕ) → answer_to w (Connects c claimed) ≡ Done

@@ -99,10 +99,12 @@ impl NetState {
         requires there { connection < length self.old.endpoints }
         requires asks { (k : Core) × (f : Frame) × (left : Unread) × (receipt : Option (List ℕ))
             × Asks k connection f left (actions.Connected client.now) receipt self.old × AreClients k clients.old }
-        ensures ok { IfOk result (λ outcome. (k : Core) (f : Frame) (left : Unread) (receipt : Option (List ℕ))
+        ensures ok { IfOk result
+            (λ outcome. (k : Core) (f : Frame) (left : Unread) (receipt : Option (List ℕ))
             → Asks k connection f left (actions.Connected client.now) receipt self.old → AreClients k clients.old
             → MakesBoth k (Asked.Next connection) outcome self.new clients.new) }
-        ensures fault { IfErr result (λ fault. (k : Core) (f : Frame) (left : Unread) (receipt : Option (List ℕ))
+        ensures fault { IfErr result
+            (λ fault. (k : Core) (f : Frame) (left : Unread) (receipt : Option (List ℕ))
             → Asks k connection f left (actions.Connected client.now) receipt self.old → AreClients k clients.old
             → MayEnd k connection f fault) }
         ensures err { OnErr result (self.new ≡ self.old) }

@@ -55,8 +55,8 @@ impl NetState {
         Ok(())
     }
 
-    /// What the connection's next frame asks for, if it is open. The topics' names get the frame's destination, where it
-    /// is accepted and has a new one.
+    /// What the connection's next frame asks for, if it is open. The topics' names get the frame's destination, where
+    /// it is accepted and has a new one.
     fn next_step(
         &mut self,
         connection: u64,

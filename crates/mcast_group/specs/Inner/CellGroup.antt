@@ -24,9 +24,9 @@ RisesInId [] = Unit {0}
 RisesInId (w ∷ ws) = ((v : Waiting) → In v ws → id_lt w.id v.id ≡ true) × RisesInId ws
 
 -- the part waits on, where nothing was found for it
-abbrev pub left_of : Waiting → Option Decision → List Waiting
-left_of w None = w ∷ []
-left_of w (Some v) = []
+abbrev pub still_waiting : Waiting → Option Decision → List Waiting
+still_waiting w None = w ∷ []
+still_waiting w (Some v) = []
 
 -- the note that was taken of the part's own cell, where something was found
 abbrev pub taken_of : Waiting → Option Decision → List Sight
@@ -34,14 +34,15 @@ taken_of w None = []
 taken_of w (Some v) = record { cell = w.cell; known = Some v } ∷ []
 
 -- The first part that waited learnt what was found for it; where that was nothing, it waits as the last.
-pub record LearnsFirst (g new : GroupState) (waiting after : List Waiting) (notes more : List Sight) : Type 0 where
+pub record LearnsFirst (g new : GroupState) (waiting after : List Waiting) (notes more : List Sight)
+    : Type 0 where
   pub found : Option Decision
   pub first : Waiting
   pub rest : List Waiting
   pub is : waiting ≡ first ∷ rest
   pub may : IfSome found (λ v. HasOneRowEach v × (learn_fault first.id v g.topic ≡ None))
   pub group : new ≡ record g { topic = after_try first.id found g.topic }
-  pub left : after ≡ rest ++ left_of first found
+  pub left : after ≡ rest ++ still_waiting first found
   pub taken : more ≡ notes ++ taken_of first found
 
 -- Parts that waited learnt from cells.
@@ -50,7 +51,8 @@ pub record LearnsFirst (g new : GroupState) (waiting after : List Waiting) (note
 -- kept, stays: the notes are kept, and those that wait waited before.
 -- ids: those that wait are those that haven't learnt.
 -- idle: where no note was taken, nothing has changed.
-pub record LearnsWaiting (g new : GroupState) (waiting after : List Waiting) (notes more : List Sight) : Type 0 where
+pub record LearnsWaiting (g new : GroupState) (waiting after : List Waiting) (notes more : List Sight)
+    : Type 0 where
   pub taken : List Sight
   pub tries : TriesAll (MayBeFound (IsRead waiting taken)) g new
   pub kept : more ≡ notes ++ taken

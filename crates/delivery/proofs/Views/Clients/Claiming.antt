@@ -93,7 +93,7 @@ resting_none w n = by (is_in_use w n)
     by false = refl
 
 in_use_alike : (w : World) (before : List Claim) (clients : SendersState) → AreClaimed w before clients → (client : Option (List ℕ))
-    → Senders.is_in_use client clients ≡ option_map_or (is_in_use w) (claimed_sender client before) false
+    → Senders.is_claimed_already client clients ≡ option_map_or (is_in_use w) (claimed_sender client before) false
 in_use_alike w before clients h client = ap (λ (o : Option KeptSender). option_map_or (λ k. is_none k.gate) o false) (found_by w before clients h client) ∙ by client
   where
     one : (id : List ℕ) (b : Bool)
@@ -108,7 +108,7 @@ in_use_alike w before clients h client = ap (λ (o : Option KeptSender). option_
     by (Some id) = one id (is_kept id before)
 
 too_many_alike : (w : World) (before : List Claim) (clients : SendersState) → AreClaimed w before clients → (client : Option (List ℕ))
-    → Senders.is_one_too_many client clients ≡ is_one_too_many client before
+    → Senders.lacks_room client clients ≡ is_one_too_many client before
 too_many_alike w before clients h client = (λ i. test (found_by w before clients h client i) (h.count i) (h.begun i)) ∙ by client
   where
     test : Option KeptSender → ℕ → ℕ → Bool
@@ -134,7 +134,7 @@ pub refused_alike : (w : World) (before : List Claim) (clients : SendersState) �
     ≡ option_map refused_claim (claim_refusal client clients)
 refused_alike w before clients h client =
     sym (λ i. first_refusal ((in_use_alike w before clients h client i, ConnectionFault.SenderInUse) ∷ (too_many_alike w before clients h client i, ConnectionFault.TooManyClients) ∷ []))
-    ∙ by (Senders.is_in_use client clients) (Senders.is_one_too_many client clients)
+    ∙ by (Senders.is_claimed_already client clients) (Senders.lacks_room client clients)
   where
     by : (a b : Bool) → first_refusal ((a, ConnectionFault.SenderInUse) ∷ (b, ConnectionFault.TooManyClients) ∷ [])
         ≡ option_map refused_claim (first_refusal ((a, claims.SenderInUse) ∷ (b, claims.TooManyClients) ∷ []))

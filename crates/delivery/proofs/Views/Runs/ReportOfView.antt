@@ -13,7 +13,7 @@ use Rattle.sub_queue.specs.Shown.{Room}
 use Rattle.mcast_group.specs.declared.cause.Cause.TheVariants.{Lag}
 use Rattle.mcast_group.specs.declared.state.SubState.{SubState}
 use Rattle.mcast_group.specs.Group.{GroupState, shown_with, shown_at}
-use Rattle.mcast_group.specs.Machine.{TopicState, Entry, EntryEnd, new_topic, find_entry, state_of, state_of_entry}
+use Rattle.mcast_group.specs.Machine.{TopicState, Entry, EntryEnd, new_topic, find_entry, subscription_state, state_of_entry}
 use Rattle.delivery.specs.Machine.World.{World, subscription_at, topic_at, entry_at}
 use Rattle.delivery.specs.Machine.Observed.{entry_items, entry_to}
 use Rattle.delivery.specs.Core.Output.{text_out, sub_id_text}
@@ -95,7 +95,7 @@ lag_is : (w : World) (t : Topic) (s : ℕ)
     → lag_in (map (group_view w) w.topics) t s ≡ entry_to (find_entry s (topic_at w t).subscriptions)
 lag_is w t s =
     ap (λ (o : Option SubState). option_and_then lag_of o)
-    (by_topic w t (λ (g : GroupState). state_of s g.topic)
+    (by_topic w t (λ (g : GroupState). subscription_state s g.topic)
     (λ x none. ap (λ (es : List Entry). option_map state_of_entry (find_entry s es)) none))
     ∙ lag_of_entry (find_entry s (topic_at w t).subscriptions)
 

@@ -1,5 +1,5 @@
 use Rattle.std.proofs.Common.{Bool, ◌++◌, refl, sym, subst}
-use Rattle.broker_server.specs.Conversations.{Answers, Concludes, Done, closing_rows, is_connected, replies}
+use Rattle.broker_server.specs.Conversations.{Answers, Concludes, Done, closing_rows, is_connect_action, replies}
 use Rattle.broker_server.proofs.ConversationLemmas.{asks_on}
 use Rattle.broker_server.proofs.conversation.Conversation.act.Goals as goal
 
@@ -10,7 +10,7 @@ returns-in-Ok g c =
     let did = c.perform.ensures in
     let told = c.answer.ensures in
     let between = c.perform.new.self in
-    let answers = subst (λ (connects : Bool). Answers (replies connects step.receipt) between told.0 c.answer.new.self) c.is_connected-connects.ensures told.2 in (
+    let answers = subst (λ (connects : Bool). Answers (replies connects step.receipt) between told.0 c.answer.new.self) c.is_connect_action-connects.ensures told.2 in (
       did.0 ++ told.0,
       asks_on called c.args.calls.now c.perform.new.calls c.answer.new.calls did.0 told.0 did.1 told.1,
       record {
@@ -19,7 +19,7 @@ returns-in-Ok g c =
         between = between;
         result = c.perform.result;
         performs = did.2;
-        concludes = subst (λ (r : Done). Concludes r (replies (is_connected step.action) step.receipt) step.receipt between told.0 c.answer.new.self) (sym c.in-Ok.is) answers;
+        concludes = subst (λ (r : Done). Concludes r (replies (is_connect_action step.action) step.receipt) step.receipt between told.0 c.answer.new.self) (sym c.in-Ok.is) answers;
         all = refl;
       },
     )
@@ -38,7 +38,7 @@ returns g c =
         between = between;
         result = c.perform.result;
         performs = did.2;
-        concludes = subst (λ (r : Done). Concludes r (replies (is_connected step.action) step.receipt) step.receipt between (closing_rows between) c.refuse.new.self) (sym c.in-Err.is) (refl, c.refuse.ensures.fails);
+        concludes = subst (λ (r : Done). Concludes r (replies (is_connect_action step.action) step.receipt) step.receipt between (closing_rows between) c.refuse.new.self) (sym c.in-Err.is) (refl, c.refuse.ensures.fails);
         all = refl;
       },
     )

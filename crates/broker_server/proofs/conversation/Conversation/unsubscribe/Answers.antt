@@ -6,7 +6,7 @@ use Rattle.std.specs.List.{list_any, position}
 use Rattle.std.proofs.lemmas.List.Quantifiers.{position-Some}
 use Rattle.mcast_group.proofs.Indices.{none_at}
 use Rattle.broker_server.specs.BrokerRows.{SubName, Unsubscribes}
-use Rattle.broker_server.specs.Conversations.{ConversationState, OpenSubState, has_id, turn_without}
+use Rattle.broker_server.specs.Conversations.{ConversationState, OpenSubState, is_of_id, turn_without}
 use Rattle.broker_server.proofs.ConversationLemmas.{asks_one, none_before}
 use Rattle.broker_server.proofs.conversation.Conversation.unsubscribe.Goals as goal
 
@@ -14,8 +14,8 @@ pub returns-in_default : goal.returns-in_default
 returns-in_default g c =
     let id = c.args.id in
     let held = c.self.inside in
-    let at : position (has_id id) held.subs.items ≡ None = sym (ap (position (has_id id)) c.as_slice.ensures.value) ∙ (sym (ap (λ (t : List ℕ). position (has_id t) c.as_slice.result.now) c.as_slice-2.ensures) ∙ (sym c.index_of.ensures.at ∙ c.in_default.is)) in
-    let none = subst (λ (s : ConversationState). list_any (has_id id) s.subs ≡ false) c.self.view_is (none_at (has_id id) held.subs.items at) in
+    let at : position (is_of_id id) held.subs.items ≡ None = sym (ap (position (is_of_id id)) c.as_slice.ensures.value) ∙ (sym (ap (λ (t : List ℕ). position (is_of_id t) c.as_slice.result.now) c.as_slice-2.ensures) ∙ (sym c.index_of.ensures.at ∙ c.in_default.is)) in
+    let none = subst (λ (s : ConversationState). list_any (is_of_id id) s.subs ≡ false) c.self.view_is (none_at (is_of_id id) held.subs.items at) in
     ([], refl, (refl, inr (none, refl, refl)))
 
 pub returns : goal.returns
@@ -30,8 +30,8 @@ returns g c =
     let name = ap (λ (o : OpenSubState). o.sub) c.open.view_is in
     let one = subst (λ (n : SubName). called c.args.calls.now (Unsubscribes n) c.unsubscribe.new.self) name c.unsubscribe.ensures in
     let id = c.args.id in
-    let at : position (has_id id) subs ≡ Some i = sym (ap (position (has_id id)) c.as_slice.ensures.value) ∙ (sym (ap (λ (t : List ℕ). position (has_id t) c.as_slice.result.now) c.as_slice-2.ensures) ∙ (sym c.index_of.ensures.at ∙ c.in-Some.is)) in
-    let found = position-Some (has_id id) subs i it at in
+    let at : position (is_of_id id) subs ≡ Some i = sym (ap (position (is_of_id id)) c.as_slice.ensures.value) ∙ (sym (ap (λ (t : List ℕ). position (is_of_id t) c.as_slice.result.now) c.as_slice-2.ensures) ∙ (sym c.index_of.ensures.at ∙ c.in-Some.is)) in
+    let found = position-Some (is_of_id id) subs i it at in
     let there : i < length subs = found.0 in
     let next : suc i ≡ i + 1 = omega arith in
     let cut : subs ≡ front ++ it ∷ back = split_at subs i it there
@@ -61,8 +61,8 @@ returns g c =
           back,
           it,
           sym (ap (λ (s : ConversationState). s.subs) c.self.view_is) ∙ cut,
-          ap (has_id id) c.remove-open.ensures.value ∙ found.1,
-          none_before (has_id id) subs i it found.2,
+          ap (is_of_id id) c.remove-open.ensures.value ∙ found.1,
+          none_before (is_of_id id) subs i it found.2,
           refl,
           ap (λ (xs : List OpenSubState). with xs c.turn_without-self-inside.result) c.remove-open.ensures.by_index.2
               ∙ (ap (with (front ++ back)) turns ∙ ap (λ (s : ConversationState). record s { subs = front ++ back; turn = turn_without (length front) s.turn }) c.self.view_is),

@@ -4,7 +4,7 @@ use Rattle.mcast_group.specs.declared.subscription.Subscription.{Subscription}
 use Rattle.mcast_group.specs.declared.state.SubState.{SubState}
 use Rattle.mcast_group.specs.Group.{GroupState}
 use Rattle.mcast_group.specs.Inner.GroupInvariant.{entry_of}
-use Rattle.mcast_group.specs.Machine.{state_of, state_of_entry}
+use Rattle.mcast_group.specs.Machine.{subscription_state, state_of_entry}
 use Rattle.mcast_group.proofs.Subscribing.{ends_found, no_entry}
 use Rattle.mcast_group.proofs.group.Group.state.Goals as goal
 
@@ -14,7 +14,7 @@ returns-in_default g c =
     let subs = c.self.inside.subscriptions in
     let at = c.index_of.ensures in
     ap (option_map state_of_entry) (sym (no_entry shown c.args.number subs (sym at ∙ c.in_default.is)))
-    ∙ ap (λ (z : GroupState). state_of c.args.number z.topic) c.self.view_is
+    ∙ ap (λ (z : GroupState). subscription_state c.args.number z.topic) c.self.view_is
 
 pub returns : goal.returns
 returns g c =
@@ -26,4 +26,4 @@ returns g c =
     ap (λ (z : SubState). Some z) c.state.ensures
     ∙ (ap (λ (z : Subscription g.row.Q.Denot). Some (state_of_entry (entry_of shown z))) c.at.ensures
     ∙ (sym (ap (option_map state_of_entry) ends.1.found)
-    ∙ ap (λ (z : GroupState). state_of c.args.number z.topic) c.self.view_is))
+    ∙ ap (λ (z : GroupState). subscription_state c.args.number z.topic) c.self.view_is))
