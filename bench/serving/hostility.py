@@ -145,6 +145,23 @@ def flood(trial, seconds):
     return sent, rates[0] if rates else 0.0
 
 
+def bursts(trial, count=20, sends=200):
+    """SENDs that come at once, three times as many as a queue holds, to one that reads all the time: its own, and another's."""
+    frames = send_frame(TOPICS[0], b"one") * (sends - 1) + send_frame(TOPICS[0], b"the last")
+    lagged = {True: 0, False: 0}
+    for at in range(2 * trial.part(count)):
+        reader, other = trial.open(2)
+        reader.ask(subscribe(TOPICS[0]))
+        (reader if at % 2 else other).send(frames)
+        try:
+            reader.wait_for(b"the last\0", 30)
+        except Ended:
+            lagged[at % 2 == 1] += 1
+        close_all([reader, other])
+    trial.expect(sum(lagged.values()) == 0, f"{lagged[True]} lagged by their own, {lagged[False]} by another's")
+    return f"{2 * trial.part(count)} bursts of {sends} SENDs came whole"
+
+
 def opened_and_reset(trial, seconds=120):
     """10,000 connections that are opened and reset: at once, within a CONNECT, or once they have subscribed."""
     count = trial.part(10000)
@@ -329,5 +346,5 @@ def expect_no_more_topics(trial):
 
 # The rows that one server has, one after another, behind plain use; and those that have one of their own: how many descriptors it may
 # have, and whether what they leave stays.
-ROWS = [one_octet_a_second, never_read, opened_and_reset, begins, every_limit, half_closed]
+ROWS = [one_octet_a_second, bursts, never_read, opened_and_reset, begins, every_limit, half_closed]
 OF_THEIR_OWN = [(few_descriptors, 64, False), (named_topics, None, True), (claimed_ids, None, True)]

@@ -13,7 +13,7 @@ ghost use Rattle.delivery.specs.Core.Outcomes.{is_any};
 ghost use Rattle.stomp_session.specs.Open.{IsKnownTo};
 ghost use Rattle.broker_server.specs.Hearing.{AcceptsFrame, DeniesFrame, Hears, IsNewTo, Rests, TakesAll, TakesFrame, TakesFrames};
 ghost use Rattle.broker_server.specs.Wires.{GoesOut};
-ghost use Rattle.broker_server.specs.Conversations.{closed, IsNew, closing_rows, gate_rows, has_id, is_connected, replies, turn_without};
+ghost use Rattle.broker_server.specs.Conversations.{closed, IsNew, closing_rows, gate_rows, is_of_id, is_connect_action, replies, turn_without};
 ghost use Rattle.broker_server.specs.declared.conversation.exit.Exit.TheVariants as exits;
 
 mod broker_calls;
@@ -148,6 +148,17 @@ impl<C: BrokerCalls> Conversation<C> {
         self.names.name(topic)
     }
 
+    /// The open subscription at this place, from 0, if there is one.
+    pub(crate) fn sub_at(&self, at: usize) -> Option<&C::Sub>
+        ensures { option_map (λ sub. C.name sub.now) result
+            ≡ option_map (λ o. o.sub) (slice_get self.now.subs at) }
+    {
+        match self.subs.get(at) {
+            Some(open) => Some(&open.sub),
+            None => None,
+        }
+    }
+
     /// What waits to be written.
     pub fn wire(&self) -> &Wire
         ensures { result.now ≡ self.now.wire }
@@ -157,7 +168,8 @@ impl<C: BrokerCalls> Conversation<C> {
 
     /// Writes what waits, as `drain_wire` does, and returns how many octets went out.
     pub fn drain<W: Write>(&mut self, writer: &mut W) -> Result<usize, ProgramFault>
-        ensures out { GoesOut self.old.wire self.new.wire (W.contents writer.old) (W.contents writer.new) result }
+        ensures out { GoesOut self.old.wire self.new.wire (W.contents writer.old) (W.contents writer.new)
+            result }
         ensures same { self.new ≡ record self.old { wire = self.new.wire } }
     {
         drain_wire(&mut self.wire, writer)
@@ -232,9 +244,11 @@ impl<C: BrokerCalls> Conversation<C> {
     /// Takes the next frame; whether there was one.
     fn hear_next(&mut self, calls: &mut C) -> bool
         requires { self.old.exit ≡ None }
-        ensures took { result ≡ true → (asked : List BrokerRow) × AsksInTurn C.called calls.old asked calls.new
+        ensures took { result ≡ true → (asked : List BrokerRow)
+            × AsksInTurn C.called calls.old asked calls.new
             × (f : RawFrame) × TakesFrames (f ∷ []) self.old asked self.new }
-        ensures rests { result ≡ false → (asked : List BrokerRow) × AsksInTurn C.called calls.old asked calls.new
+        ensures rests { result ≡ false → (asked : List BrokerRow)
+            × AsksInTurn C.called calls.old asked calls.new
             × Rests self.old asked self.new }
     {
         match self.reader.next(self.alloc) {
@@ -277,9 +291,11 @@ impl<C: BrokerCalls> Conversation<C> {
         frame: ClientFrame,
     ) -> Result<Step, (ClientFrame, ConversationFault)>
         ensures back { IfErr result (λ e. e.0 ≡ frame) }
-        ensures accepted { IfOk result (λ step. (asked : List BrokerRow) × AsksInTurn C.called calls.old asked calls.new
+        ensures accepted { IfOk result (λ step. (asked : List BrokerRow)
+            × AsksInTurn C.called calls.old asked calls.new
             × AcceptsFrame (raw_of frame) step self.old asked self.new) }
-        ensures refused { IfErr result (λ e. (asked : List BrokerRow) × AsksInTurn C.called calls.old asked calls.new
+        ensures refused { IfErr result (λ e. (asked : List BrokerRow)
+            × AsksInTurn C.called calls.old asked calls.new
             × DeniesFrame (raw_of frame) e.1 self.old asked self.new) }
     {
         if is_known(&self.names, &frame) {
@@ -300,7 +316,7 @@ impl<C: BrokerCalls> Conversation<C> {
             × Acts step self.old asked self.new }
     {
         let Step { action, receipt } = step;
-        let connects = is_connected(&action);
+        let connects = is_connect_action(&action);
         match self.perform(calls, action) {
             Ok(()) => self.answer(calls, connects, &receipt),
             Err(fault) => self.refuse(calls, fault, &receipt),
@@ -533,7 +549,7 @@ impl<C: BrokerCalls> Conversation<C> {
 
 /// The index of the first of these subscriptions that has this id.
 fn index_of<C: BrokerCalls>(subs: &[OpenSub<C>], id: &[u8]) -> Option<usize>
-    ensures at { result ≡ position (has_id id.now) subs.now }
+    ensures at { result ≡ position (is_of_id id.now) subs.now }
     ensures there { IfSome result (λ index. index < length subs.now) }
 {
     subs.iter().position(|open| open.id.as_slice() == id)
@@ -689,8 +705,8 @@ fn slice_in(octets: &Option<Octets>) -> Option<&[u8]>
 }
 
 /// Whether it is the action of a CONNECT.
-fn is_connected(action: &Action) -> bool
-    ensures { result ≡ is_connected action.now }
+fn is_connect_action(action: &Action) -> bool
+    ensures { result ≡ is_connect_action action.now }
 {
     matches!(action, Action::Connected(_))
 }

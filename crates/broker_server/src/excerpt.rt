@@ -27,9 +27,9 @@ pub struct Excerpt {
 
 impl Model for Excerpt {
     ghost use Rattle.std.specs.Prelude.{◌≤◌, take};
-    ghost use Rattle.broker_server.specs.Excerpts.{Shown};
+    ghost use Rattle.broker_server.specs.Excerpts.{ExcerptData};
 
-    ghost Value = { Shown };
+    ghost Value = { ExcerptData };
 
     ghost view = { λ e. record { front = take e.len e.octets; more = e.more; ends_by_cr = e.ends_by_cr } };
 

@@ -11,7 +11,8 @@ use delivery::MAX_TOPICS;
 use std::net::SocketAddr;
 use stomp_session::is_name;
 
-/// What `serve ADDR NAME..` asks for: the server at this address, which begins with these topics, at most 1,024, or none.
+/// What `serve ADDR NAME..` asks for: the server at this address, which begins with these topics, at most 1,024, or
+/// none.
 #[derive(Clone, Copy)]
 pub struct ServeWords<'a> {
     /// The address as it was given.

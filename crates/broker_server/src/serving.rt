@@ -9,7 +9,6 @@ mod door;
 mod head;
 mod held;
 mod hub;
-mod left;
 mod line;
 mod listening;
 mod marks;
@@ -20,6 +19,7 @@ mod seldom;
 mod socket;
 mod topic_bells;
 mod trouble;
+mod why_left;
 
 use crate::serving::accepting::accept_all;
 use crate::serving::door::Door;
@@ -43,8 +43,8 @@ use trace_audit::Trace;
 /// once because 256 were there among them, and ended; without one, only by a fault. Each thread has then ended. Returns
 /// the trace of the run, which is empty where the broker keeps none.
 ///
-/// Refused: 101 where there is no memory for what it needs before it accepts, or for the trace; 102 where the listener or
-/// a poll failed: then the connections that are there are closed. What is wanting for one connection ends that
+/// Refused: 101 where there is no memory for what it needs before it accepts, or for the trace; 102 where the listener
+/// or a poll failed: then the connections that are there are closed. What is wanting for one connection ends that
 /// connection alone. What it does goes to the log, a line for each thing.
 pub fn serve<R, W, T>(
     rt: &R,
@@ -91,7 +91,8 @@ where
         thread::scope_env(),
         rt,
         |scope| -> Result<(), ServerFault>
-            requires { IsSend R.row × IsSync R.row × IsSend W.row × IsSync W.row × IsSend T.row × IsSync T.row }
+            requires { IsSend R.row × IsSync R.row × IsSend W.row × IsSync W.row
+                × IsSend T.row × IsSync T.row }
         {
             let mut done = Ok(());
             for head in hub.heads() {
@@ -127,7 +128,8 @@ where
         thread::scope_env(),
         rt,
         |scope| -> Result<(), ServerFault>
-            requires { IsSend R.row × IsSync R.row × IsSend W.row × IsSync W.row × IsSend T.row × IsSync T.row }
+            requires { IsSend R.row × IsSync R.row × IsSend W.row × IsSync W.row
+                × IsSend T.row × IsSync T.row }
         {
             let done = accept_all(rt, alloc, scope, hub, door, limit);
             if done.is_err() {

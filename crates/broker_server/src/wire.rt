@@ -79,7 +79,8 @@ impl Wire {
     /// Puts the MESSAGEs of an item, for the subscription of this id, behind the octets that wait. After `NoMemory`
     /// nothing has changed.
     pub fn put_item(&mut self, id: &[u8], item: &Released) -> Result<(), NoMemory>
-        ensures ok { OnOk result (self.new ≡ self.old ++ flat_map spelling_of (item_messages id.now item.now)) }
+        ensures ok { OnOk result
+            (self.new ≡ self.old ++ flat_map spelling_of (item_messages id.now item.now)) }
         ensures err { OnErr result (self.new ≡ self.old) }
     {
         self.tidy();

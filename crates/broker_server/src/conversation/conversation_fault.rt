@@ -1,7 +1,7 @@
 //! Why a connection ends by an ERROR.
 
 ghost use Rattle.std.specs.Prelude.{◌≡◌};
-ghost use Rattle.broker_server.specs.ConversationFaults.{conversation_title, reader_fault, tells_version};
+ghost use Rattle.broker_server.specs.ConversationFaults.{conversation_title, fault_of_reader, tells_version};
 ghost use Rattle.broker_server.specs.declared.conversation.conversation_fault.ConversationFault.TheVariants as faults;
 
 use broker_locks::CommitFault;
@@ -67,7 +67,7 @@ impl ConversationFault {
 
     /// A reader's fault, as that of its connection.
     pub(crate) fn of_reader(fault: FrameFault) -> ConversationFault
-        ensures { result ≡ reader_fault fault }
+        ensures { result ≡ fault_of_reader fault }
     {
         ConversationFault::Connection(match fault {
             FrameFault::BadCommand => ConnectionFault::Stream(Check::BadCommand),

@@ -12,7 +12,7 @@ use thiserror::Error;
 #[derive(Clone, Copy, Debug, PartialEq, Eq, Error)]
 pub enum ScriptFault {
     /// 110: this line, from 1, is the first that says nothing that may stand there.
-    #[error("110 BadLine: at line {0}, write a capacity or a topic before the first event, or one event, with single spaces")]
+    #[error("110 BadLine: at line {0}, write one capacity, 1 to 4096, and topics of different names before the first event, or one event, with single spaces")]
     BadLine(usize),
     /// 111: out of memory; nothing is said of the text.
     #[error("111 NoMemory: out of memory for the script; try again where more memory is free")]

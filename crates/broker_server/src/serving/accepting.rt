@@ -83,7 +83,7 @@ fn start<'a, 's, E, R, W, T>(
     stream: TcpStream,
 )
 where
-    R: Threads + Wait + Net + Log + Send + Sync,
+    R: Threads + Wait + Net + Clock + Log + Send + Sync,
     W: Side + Send + Sync + 'static,
     T: Side + Send + Sync + 'static,
     'a: 's,
@@ -188,16 +188,27 @@ fn wait_after<R: Wait + Clock + Log, W: Side, T: Side>(
             if hub.door().hears() || !hub.door().sleeps() {
                 return Ok(());
             }
-            door.wait(counter.time())
+            wait_at(rt, door, counter.time())
         }
         Trouble::Passing => Ok(()),
         Trouble::Wanting => {
             counter.say_wanting(rt, error);
-            door.wait(Some(Duration::from_millis(100)))
+            wait_at(rt, door, Some(Duration::from_millis(100)))
         }
-        Trouble::Broken => {
-            error!(rt; target: "serve", "the listener: {error}");
-            Err(ServerFault::Io)
-        }
+        Trouble::Broken => Err(broken(rt, error)),
     }
+}
+
+/// Waits at the door, so long at most.
+fn wait_at<R: Log>(rt: &R, door: &mut Door, time: Option<Duration>) -> Result<(), ServerFault> {
+    match door.wait(time) {
+        Ok(()) => Ok(()),
+        Err(error) => Err(broken(rt, &error)),
+    }
+}
+
+/// The listener is broken, which is said: the server ends.
+fn broken<R: Log>(rt: &R, error: &io::Error) -> ServerFault {
+    error!(rt; target: "serve", "the listener: {error}");
+    ServerFault::Io
 }

@@ -1,34 +1,46 @@
 //! A connection's thread.
 
-use crate::conversation::{Conversation, ConversationFault, Exit};
+use crate::conversation::{BrokerCalls, Conversation, ConversationFault, Exit};
 use crate::serving::held::Held;
 use crate::serving::hub::Hub;
-use crate::serving::left::{Left, Told};
-use crate::serving::line::Line;
+use crate::serving::line::{Line, READ};
 use crate::serving::socket::Came;
+use crate::serving::why_left::{Told, WhyLeft};
 use crate::spelled::Spelled;
 use broker_locks::Side;
 use log::{Log, info, warn};
 use std::alloc::Global;
 use std::sync::Wait;
-use std::time::Duration;
+use std::time::{Clock, Duration, Instant};
 use stomp_frame::NoMemory;
 
 /// So many reads are heard in a row, at most, before what is there for the connection is looked for again (our choice).
 const MAX_READS: u32 = 16;
 
+/// After so many turns in a row that found something to do, the poll is asked what else is there (our choice).
+const MAX_ROUNDS: u32 = 16;
+
+/// So many octets are heard at once, at most, of a connection that has subscriptions: fewer SENDs than a queue holds are
+/// in them, and between two of them it takes what came (our choice).
+const HEARD: usize = 1_024;
+
 /// A connection that leaves is closed after so many polls that brought nothing out (our choice).
 const MAX_POLLS: u32 = 100;
 
-/// So many polls a peer that was told all has for closing its side (our choice).
+/// A peer that was told all has so many polls that bring nothing for closing its side (our choice).
 const LAST_POLLS: u32 = 10;
 
 /// So many reads are dropped of a peer that was told all, at most (our choice).
 const LAST_READS: u32 = 4_096;
 
-/// How long a poll of a connection that leaves waits.
+/// How long a poll of a connection waits whose octets the system doesn't take, or that leaves.
 fn poll_time() -> Option<Duration> {
     Some(Duration::from_millis(100))
+}
+
+/// How long a connection that has lagged may take nothing (our choice).
+fn stuck_time() -> Duration {
+    Duration::from_secs(60)
 }
 
 /// What one turn of a connection's thread came to.
@@ -41,31 +53,39 @@ enum Round {
     /// The connection leaves.
     Leaving,
     /// It ends at once, and is told nothing more.
-    Ended(Left),
+    Ended(WhyLeft),
 }
 
 /// A connection that is there.
 #[derive(Drop)]
-struct Connection<'a, R: Wait + Log, W: Side, T: Side> {
+struct Connection<'a, R: Wait + Log + Clock, W: Side, T: Side> {
     line: Line,
     hub: &'a Hub<R, W, T>,
     held: Held<'a, R, W, T>,
     talk: Conversation<Held<'a, R, W, T>>,
+    /// Since when the system has taken nothing of what waits, once the thread looked for that.
+    stuck: Option<Instant>,
 }
 
-impl<'a, R: Wait + Log, W: Side, T: Side> Connection<'a, R, W, T> {
-    /// One turn: takes what is there for it, writes, reads, and does what that asks for.
+impl<'a, R: Wait + Log + Clock, W: Side, T: Side> Connection<'a, R, W, T> {
+    /// One turn: takes what is there for it, writes, reads, and does what that asks for. It looks whether the server ends
+    /// once it has heard, as for all that its bell tells of.
     fn round(&mut self) -> Round {
+        let told = self.line.bell.hears();
         if self.hub.is_closing() {
-            return Round::Ended(Left::Closing);
+            return Round::Ended(WhyLeft::Closing);
         }
         let mut busy = false;
-        if self.line.bell.hears() || self.talk.has_more() {
+        if told || self.talk.has_more() {
             busy = self.talk.deliver(&mut self.held);
         }
         match self.line.socket.write(&mut self.talk) {
-            Ok(sent) => busy = busy || sent > 0,
-            Err(_) => return Round::Ended(Left::WriteFailed),
+            Ok(0) => {}
+            Ok(_) => {
+                busy = true;
+                self.stuck = None;
+            }
+            Err(_) => return Round::Ended(WhyLeft::WriteFailed),
         }
         if self.talk.is_leaving() {
             return Round::Leaving;
@@ -76,16 +96,14 @@ impl<'a, R: Wait + Log, W: Side, T: Side> Connection<'a, R, W, T> {
         }
     }
 
-    /// Reads while a read may give something, and does what each asks for; 16 times at most, and no longer than until the
-    /// bell rings. Then the heads are told of what was committed, before anything else is done.
+    /// Reads while a read may give something, and does what each asks for; 16 times at most, and no longer than until
+    /// the bell rings. Then the heads are told of what was committed, before anything else is done.
     fn hear(&mut self) -> Round {
         let mut round = Round::Idle;
         for _ in 0..MAX_READS {
             match self.read() {
                 Came::Octets(n) => {
-                    if let Some(piece) = self.line.room.as_slice().get(..n) {
-                        self.talk.hear(&mut self.held, piece);
-                    }
+                    self.hear_piece(n);
                     round = Round::Busy;
                 }
                 Came::Again => round = Round::Busy,
@@ -104,6 +122,34 @@ impl<'a, R: Wait + Log, W: Side, T: Side> Connection<'a, R, W, T> {
         round
     }
 
+    /// Does what the first so many octets of the room ask for. A connection that has subscriptions turns in between the
+    /// topics that it sent to, and takes what came for it: else it would lag by what it sends itself.
+    fn hear_piece(&mut self, n: usize) {
+        let subscribes = self.talk.sub_at(0).is_some();
+        let most = if subscribes { HEARD } else { READ };
+        for at in (0..n).step_by(most) {
+            let end = n.min(at.saturating_add(most));
+            if let Some(part) = self.line.room.as_slice().get(at..end) {
+                self.talk.hear(&mut self.held, part);
+            }
+            if subscribes {
+                self.held.turn_topics();
+                self.take_between();
+            }
+        }
+    }
+
+    /// Takes what came for it, and writes where that is much, so that more finds room.
+    fn take_between(&mut self) {
+        if !self.line.bell.hears() && !self.talk.has_more() {
+            return;
+        }
+        self.talk.deliver(&mut self.held);
+        if self.talk.has_more() && self.line.socket.write(&mut self.talk).is_ok() {
+            self.talk.deliver(&mut self.held);
+        }
+    }
+
     /// Reads once, unless the connection leaves or too much waits for it.
     fn read(&mut self) -> Came {
         if self.talk.may_read() {
@@ -114,30 +160,78 @@ impl<'a, R: Wait + Log, W: Side, T: Side> Connection<'a, R, W, T> {
     }
 
     /// Waits for the socket or the bell, so long at most. Refused where the poll failed, which ends the server.
-    fn wait(&mut self, time: Option<Duration>) -> Result<(), Left> {
+    fn wait(&mut self, time: Option<Duration>) -> Result<(), WhyLeft> {
         if self.line.poll.poll(&mut self.line.events, time).is_err() {
-            self.hub.fail();
-            return Err(Left::PollFailed);
+            self.hub.fail(self.held.rt());
+            return Err(WhyLeft::PollFailed);
         }
         self.line.socket.note(&self.line.events);
         Ok(())
     }
 
-    /// Talks with the peer until the connection leaves; refused where it ends at once.
-    fn converse<S: Wait>(&mut self, rt: &S) -> Result<(), Left> {
+    /// Talks with the peer until the connection leaves; refused where it ends at once. The poll is asked what else is
+    /// there while there is something to do, too: a write may go on, or the peer say something.
+    fn converse<S: Wait>(&mut self, rt: &S) -> Result<(), WhyLeft> {
+        let mut rounds = 0u32;
         for _ in rt.forever() {
             match self.round() {
-                Round::Busy => {}
+                Round::Busy => {
+                    rounds = rounds.saturating_add(1);
+                    if self.line.socket.is_blocked() || rounds >= MAX_ROUNDS {
+                        rounds = 0;
+                        self.wait(Some(Duration::from_millis(0)))?;
+                    }
+                }
                 Round::Leaving => return Ok(()),
                 Round::Ended(left) => return Err(left),
                 Round::Idle => {
-                    if self.line.bell.sleeps() {
-                        self.wait(None)?;
-                    }
+                    rounds = 0;
+                    self.rest()?;
                 }
             }
         }
         unreachable!()
+    }
+
+    /// Waits, as there is nothing to do. Refused where a subscription has lagged, and the system has taken nothing for a
+    /// minute: the connection would be told of the lag behind that.
+    fn rest(&mut self) -> Result<(), WhyLeft> {
+        if !self.line.bell.sleeps() {
+            return Ok(());
+        }
+        if !self.line.socket.is_blocked() {
+            return self.wait(None);
+        }
+        if self.is_stuck() && self.has_lagged() {
+            return Err(WhyLeft::Stuck);
+        }
+        self.wait(poll_time())
+    }
+
+    /// Whether the system has taken nothing of what waits for a minute. By a clock that can't be read it has.
+    fn is_stuck(&mut self) -> bool {
+        let now = Instant::now(self.held.rt()).ok();
+        match (self.stuck, now) {
+            (Some(since), Some(now)) => now.duration_since(since) >= stuck_time(),
+            (Some(_), None) => true,
+            (None, _) => {
+                self.stuck = now;
+                false
+            }
+        }
+    }
+
+    /// Whether one of its subscriptions has lagged.
+    fn has_lagged(&mut self) -> bool {
+        for at in 0..usize::MAX {
+            let Some(sub) = self.talk.sub_at(at) else {
+                break;
+            };
+            if self.held.has_lagged(sub) {
+                return true;
+            }
+        }
+        false
     }
 
     /// Writes what waits for a connection that leaves, until all is out, a write failed, or 100 polls brought nothing
@@ -171,8 +265,8 @@ impl<'a, R: Wait + Log, W: Side, T: Side> Connection<'a, R, W, T> {
         unreachable!()
     }
 
-    /// Says that nothing more is written, and drops what the peer still sends, until it closes its side or some polls
-    /// have passed: closing at once would reset the connection, and the peer could lose what it was told.
+    /// Says that nothing more is written, and drops what the peer still sends, until it closes its side, or some
+    /// polls brought nothing: closing at once would reset the connection, and the peer could lose what it was told.
     fn hear_out(&mut self) {
         self.line.socket.shut();
         if self.line.socket.register_reads(&self.line.poll).is_err() {
@@ -190,7 +284,9 @@ impl<'a, R: Wait + Log, W: Side, T: Side> Connection<'a, R, W, T> {
                     {
                         return;
                     }
-                    polls = polls.saturating_add(1);
+                    if self.line.events.is_empty() {
+                        polls = polls.saturating_add(1);
+                    }
                 }
             }
         }
@@ -207,7 +303,7 @@ impl<'a, R: Wait + Log, W: Side, T: Side> Connection<'a, R, W, T> {
     }
 
     /// From its first octet to its last; why it left.
-    fn run<S: Wait>(&mut self, rt: &S) -> Left {
+    fn run<S: Wait>(&mut self, rt: &S) -> WhyLeft {
         let ended = self.converse(rt);
         self.tell_lag();
         self.talk.lose(&mut self.held);
@@ -218,16 +314,16 @@ impl<'a, R: Wait + Log, W: Side, T: Side> Connection<'a, R, W, T> {
                 if let Told::All | Told::Cut = told {
                     self.hear_out();
                 }
-                Left::By(exit, told)
+                WhyLeft::By(exit, told)
             }
-            (Ok(()), None) => Left::Closing,
+            (Ok(()), None) => WhyLeft::Closing,
             (Err(left), _) => left,
         }
     }
 }
 
 /// A connection's thread, from its beginning to its end; its place is then free.
-pub(crate) fn attend<'a, R: Wait + Log, W: Side, T: Side>(
+pub(crate) fn attend<'a, R: Wait + Log + Clock, W: Side, T: Side>(
     rt: &'a R,
     alloc: Global,
     hub: &'a Hub<R, W, T>,
@@ -241,12 +337,12 @@ pub(crate) fn attend<'a, R: Wait + Log, W: Side, T: Side>(
 }
 
 /// Talks over this line; why the connection left.
-fn talk_over<'a, R: Wait + Log, W: Side, T: Side>(
+fn talk_over<'a, R: Wait + Log + Clock, W: Side, T: Side>(
     rt: &'a R,
     alloc: Global,
     hub: &'a Hub<R, W, T>,
     line: Line,
-) -> Left {
+) -> WhyLeft {
     let number = line.peer.number;
     let mut line = line;
     let left = match connection_of(rt, alloc, hub, &mut line) {
@@ -256,6 +352,7 @@ fn talk_over<'a, R: Wait + Log, W: Side, T: Side>(
                 hub,
                 held,
                 talk,
+                stuck: None,
             };
             let left = connection.run(rt);
             let Connection {
@@ -263,6 +360,7 @@ fn talk_over<'a, R: Wait + Log, W: Side, T: Side>(
                 hub: _,
                 held,
                 talk,
+                stuck: _,
             } = connection;
             drop(line);
             drop(talk);
@@ -271,7 +369,7 @@ fn talk_over<'a, R: Wait + Log, W: Side, T: Side>(
         }
         Err(NoMemory) => {
             line.socket.say_no_memory();
-            Left::NoMemory
+            WhyLeft::NoMemory
         }
     };
     hub.leave(rt, number);
@@ -279,7 +377,7 @@ fn talk_over<'a, R: Wait + Log, W: Side, T: Side>(
 }
 
 /// What one connection asks the broker by, and what it does with what comes.
-fn connection_of<'a, R: Wait + Log, W: Side, T: Side>(
+fn connection_of<'a, R: Wait + Log + Clock, W: Side, T: Side>(
     rt: &'a R,
     alloc: Global,
     hub: &'a Hub<R, W, T>,

@@ -41,11 +41,8 @@ impl Door {
     }
 
     /// Waits until a connection comes, the bell rings, or the time is up.
-    pub(crate) fn wait(&mut self, time: Option<Duration>) -> Result<(), ServerFault> {
-        match self.poll.poll(&mut self.events, time) {
-            Ok(()) => Ok(()),
-            Err(_) => Err(ServerFault::Io),
-        }
+    pub(crate) fn wait(&mut self, time: Option<Duration>) -> io::Result<()> {
+        self.poll.poll(&mut self.events, time)
     }
 }
 

@@ -16,6 +16,7 @@ use mcast_txn::{Released, Topic};
 use sender_gate::{ClaimFault, Flying, Gate};
 use std::alloc::Global;
 use std::sync::{Arc, Wait};
+use std::time::Clock;
 use stomp_frame::ClientFrame;
 use stomp_session::{Names, Session, Step};
 
@@ -28,7 +29,7 @@ pub(crate) struct HeldSub {
 
 /// What one connection asks of the broker, and what it still has to tell the heads.
 #[derive(Drop)]
-pub(crate) struct Held<'a, R: Wait + Log, W: Side, T: Side> {
+pub(crate) struct Held<'a, R: Wait + Log + Clock, W: Side, T: Side> {
     rt: &'a R,
     hub: &'a Hub<R, W, T>,
     peer: Peer,
@@ -41,7 +42,7 @@ pub(crate) struct Held<'a, R: Wait + Log, W: Side, T: Side> {
     worker: Worker<W>,
 }
 
-impl<'a, R: Wait + Log, W: Side, T: Side> Held<'a, R, W, T> {
+impl<'a, R: Wait + Log + Clock, W: Side, T: Side> Held<'a, R, W, T> {
     /// This peer's connection has asked nothing yet.
     pub(crate) fn new(
         rt: &'a R,
@@ -104,8 +105,18 @@ impl<'a, R: Wait + Log, W: Side, T: Side> Held<'a, R, W, T> {
         self.untold = 0;
     }
 
-    /// A transaction was committed, or refused. The heads are told once these are half as many as a queue holds, so that a
-    /// burst of one connection comes to a queue in more than one turn.
+    /// Turns the topics of what was committed, or refused, since the heads were told, in place of them.
+    pub(crate) fn turn_topics(&mut self)
+        ensures { self.new ≡ record self.old { marks = unmarked; untold = 0 } }
+    {
+        self.hub.turn_marked(self.rt, &self.marks);
+        self.marks.clear();
+        self.untold = 0;
+    }
+
+    /// A transaction was committed, or refused. The heads are told once these are half as many as a queue holds, and the
+    /// connection gives way until they have come to the subscribers' threads: so a burst of one connection finds room
+    /// in the queue of each subscriber that takes in time.
     fn count_commit(&mut self)
         ensures few { (self.new.untold ≡ 0) ⊎ (self.new.untold < self.new.most) }
         ensures told { self.new.untold ≡ 0 → self.new.marks ≡ unmarked }
@@ -113,12 +124,15 @@ impl<'a, R: Wait + Log, W: Side, T: Side> Held<'a, R, W, T> {
     {
         self.untold = self.untold.saturating_add(1);
         if self.untold >= self.most {
-            self.tell_heads();
+            self.hub
+                .tell_heads_and_wait(self.rt, self.peer.number, &self.bell, &self.marks);
+            self.marks.clear();
+            self.untold = 0;
         }
     }
 }
 
-impl<'a, R: Wait + Log, W: Side, T: Side> BrokerCalls for Held<'a, R, W, T> {
+impl<'a, R: Wait + Log + Clock, W: Side, T: Side> BrokerCalls for Held<'a, R, W, T> {
     ghost use Rattle.broker_server.specs.BrokerRows.{SubName};
 
     type Sub = HeldSub;
@@ -150,7 +164,8 @@ impl<'a, R: Wait + Log, W: Side, T: Side> BrokerCalls for Held<'a, R, W, T> {
         self.hub.running.broker.give_back(self.rt, gate);
     }
 
-    /// Its bell stands at the topic before the subscription begins: the other order would lose what is released between.
+    /// Its bell stands at the topic before the subscription begins: the other order would lose what is released
+    /// between.
     fn subscribe(&mut self, topic: Topic) -> Result<HeldSub, SubFault> {
         if self
             .hub

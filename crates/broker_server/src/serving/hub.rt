@@ -14,9 +14,20 @@ use mcast_txn::{NoMemory, Topic};
 use std::alloc::{AllocError, Global};
 use std::sync::atomic::{AtomicBool, AtomicU64, Ordering};
 use std::sync::{Arc, Mutex, Wait};
+use std::thread::yield_now;
+use std::time::{Clock, Duration, Instant};
 
 /// How many threads turn topics: topic t is turned by the head t mod 2.
 const HEADS: usize = 2;
+
+/// A connection that has sent much gives way so often, and so long, at most, until what it sent has come to the
+/// subscribers' threads.
+const MAX_YIELDS: u32 = 32;
+
+/// How long that is (our choice).
+fn yield_time() -> Duration {
+    Duration::from_millis(10)
+}
 
 /// The most connections that are there at once (our choice).
 pub(crate) const MAX_CONNECTIONS: u64 = 256;
@@ -76,13 +87,40 @@ impl<R: Wait, W: Side, T: Side> Hub<R, W, T> {
         if marks.is_empty() {
             return;
         }
+        self.set_marked_due(rt, marks);
+        marks.clear();
+    }
+
+    /// The topics that were marked are due.
+    fn set_marked_due(&self, rt: &R, marks: &Marks) {
         for topic in marks.topics() {
             self.set_due(rt, topic.0 as usize);
         }
         if marks.may_be_any() {
             self.set_all_due(rt);
         }
-        marks.clear();
+    }
+
+    /// Whether nothing is on its way from these topics to another connection than this.
+    fn are_quiet(&self, rt: &R, connection: u64, topics: &[Topic]) -> bool {
+        for topic in topics {
+            if let Some(topic) = self.topics.get(topic.0 as usize)
+                && !topic.is_quiet(rt, connection)
+            {
+                return false;
+            }
+        }
+        true
+    }
+
+    /// Turns the topics that were marked: who does so needs no head. One that is due stays so.
+    pub(crate) fn turn_marked(&self, rt: &R, marks: &Marks) {
+        for topic in marks.topics() {
+            self.turn_now(rt, topic.0 as usize);
+        }
+        if marks.may_be_any() {
+            self.set_all_due(rt);
+        }
     }
 
     /// Tells the heads of all topics.
@@ -109,14 +147,21 @@ impl<R: Wait, W: Side, T: Side> Hub<R, W, T> {
         }
     }
 
-    /// Turns the topic of this index, and tells the connections that have a subscription there, if there may be
-    /// something for them. What is committed from here on makes it due again.
+    /// Turns the topic of this index, which isn't due then. What is committed from here on makes it due again.
     pub(crate) fn turn(&self, rt: &R, at: usize) {
-        let (Some(topic), Ok(number)) = (self.topics.get(at), u32::try_from(at)) else {
-            return;
-        };
-        topic.clear_due();
-        if self.running.turn(rt, Topic(number)) {
+        if let Some(topic) = self.topics.get(at) {
+            topic.begin_turn();
+            self.turn_now(rt, at);
+            topic.end_turn();
+        }
+    }
+
+    /// Turns the topic of this index, and tells the connections that have a subscription there, if there may be
+    /// something for them.
+    fn turn_now(&self, rt: &R, at: usize) {
+        if let (Some(topic), Ok(number)) = (self.topics.get(at), u32::try_from(at))
+            && self.running.turn(rt, Topic(number))
+        {
             topic.ring(rt);
         }
     }
@@ -193,9 +238,10 @@ impl<R: Wait, W: Side, T: Side> Hub<R, W, T> {
         self.closing.load(Ordering::SeqCst)
     }
 
-    /// A poll failed: the accepting thread is told, and ends the server.
-    pub(crate) fn fail(&self) {
+    /// A poll failed: all connections end, and the accepting thread is told, and ends the server.
+    pub(crate) fn fail(&self, rt: &R) {
         self.failed.store(true, Ordering::SeqCst);
+        self.close(rt);
         self.door.ring();
     }
 
@@ -226,6 +272,33 @@ impl<R: Wait, W: Side, T: Side> Hub<R, W, T> {
             failed: _,
         } = self;
         running
+    }
+}
+
+impl<R: Wait + Clock, W: Side, T: Side> Hub<R, W, T> {
+    /// Tells the heads of the topics that were marked. Then it gives way, for ten milliseconds at most, until these topics
+    /// were turned, and the other connections that subscribed to them have looked; or until this one, whose bell this is, is
+    /// told something itself.
+    pub(crate) fn tell_heads_and_wait(&self, rt: &R, connection: u64, bell: &Bell, marks: &Marks) {
+        self.set_marked_due(rt, marks);
+        let begun = Instant::now(rt).ok();
+        for _ in 0..MAX_YIELDS {
+            if bell.is_told()
+                || self.are_quiet(rt, connection, marks.topics())
+                || is_over(rt, begun)
+            {
+                break;
+            }
+            yield_now();
+        }
+    }
+}
+
+/// Whether it is ten milliseconds since then, also where the clock can't be read.
+fn is_over<C: Clock>(clock: &C, begun: Option<Instant>) -> bool {
+    match (begun, Instant::now(clock)) {
+        (Some(begun), Ok(now)) => now.duration_since(begun) >= yield_time(),
+        _ => true,
     }
 }
 

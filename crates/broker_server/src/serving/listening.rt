@@ -60,8 +60,10 @@ where
     O: Write,
     W: Side + Send + Sync + 'static,
     T: Side + Send + Sync + 'static,
-    requires workers { (workers.name ≡ W.name) × (workers.parts ≡ W.parts) × (W.parts ≡ W.all) × (W.all ≡ 257) }
-    requires tickets { (tickets.name ≡ T.name) × (tickets.parts ≡ T.parts) × (T.parts ≡ T.all) × (T.all ≡ 1024) }
+    requires workers { (workers.name ≡ W.name) × (workers.parts ≡ W.parts) × (W.parts ≡ W.all)
+        × (W.all ≡ 257) }
+    requires tickets { (tickets.name ≡ T.name) × (tickets.parts ≡ T.parts) × (T.parts ≡ T.all)
+        × (T.all ≡ 1024) }
 {
     let topics = topics_of(alloc, asked.names)?;
     let broker = Broker::<R, W, T>::new(alloc, topics, CAPACITY, false, workers, tickets)?;

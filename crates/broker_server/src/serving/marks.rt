@@ -81,8 +81,8 @@ impl Point for Marks {
 
     ghost told = { λ old topic k new. Marks old topic new };
 
-    /// Marks the topic. A proposal that is then refused marks it too: cancelling what was proposed may leave another part
-    /// the least.
+    /// Marks the topic. A proposal that is then refused marks it too: cancelling what was proposed may leave another
+    /// part the least.
     #[tactic(auto, using(crate::proofs::MarkLemmas::once_behind))]
     fn before(&mut self, topic: Topic, _k: usize) {
         if is_marked(self.topics.as_slice(), topic) {

@@ -67,8 +67,8 @@ fn add_new(all: &mut Names, frame: &ClientFrame) -> Result<bool, NoMemory>
     Ok(true)
 }
 
-/// Has the session take a frame by the names of all topics, to which those of a connection catch up. Its destination is a
-/// new topic's name where the session accepts it; and whether it is.
+/// Has the session take a frame by the names of all topics, to which those of a connection catch up. Its destination is
+/// a new topic's name where the session accepts it; and whether it is.
 pub(crate) fn step_by_all(
     all: &mut Names,
     session: &mut Session,

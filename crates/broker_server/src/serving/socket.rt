@@ -123,6 +123,11 @@ impl Socket {
         Ok(sent)
     }
 
+    /// Whether the system took less than there was at the last write, and hasn't told since that it takes more.
+    pub(crate) fn is_blocked(&self) -> bool {
+        self.blocked
+    }
+
     /// Says once that there is no memory, if the system takes that.
     pub(crate) fn say_no_memory(&mut self) {
         let _ = self.stream.write(NO_MEMORY);

@@ -9,6 +9,8 @@ use std::sync::{Arc, Mutex, Wait};
 #[derive(Drop)]
 pub(crate) struct TopicBells {
     due: AtomicBool,
+    /// Whether it is being turned, or its bells rung for that.
+    turning: AtomicBool,
     bells: Mutex<Vec<(u64, Arc<Bell>)>>,
 }
 
@@ -17,6 +19,7 @@ impl TopicBells {
     pub(crate) fn new(alloc: Global) -> TopicBells {
         TopicBells {
             due: AtomicBool::new(false),
+            turning: AtomicBool::new(false),
             bells: Mutex::new(Vec::new(alloc)),
         }
     }
@@ -27,8 +30,25 @@ impl TopicBells {
     }
 
     /// The topic is about to be turned, and due no longer.
-    pub(crate) fn clear_due(&self) {
+    pub(crate) fn begin_turn(&self) {
+        self.turning.store(true, Ordering::SeqCst);
         self.due.store(false, Ordering::SeqCst);
+    }
+
+    /// The topic was turned, and its bells were rung.
+    pub(crate) fn end_turn(&self) {
+        self.turning.store(false, Ordering::SeqCst);
+    }
+
+    /// Whether it isn't due and was turned, and each connection but this one has looked since its bell rang there.
+    pub(crate) fn is_quiet<R: Wait>(&self, rt: &R, connection: u64) -> bool {
+        if self.due.load(Ordering::SeqCst) || self.turning.load(Ordering::SeqCst) {
+            return false;
+        }
+        let bells = self.bells.lock(rt);
+        bells
+            .iter()
+            .all(|(other, bell)| *other == connection || !bell.is_told())
     }
 
     /// Adds the bell of this connection.
@@ -43,8 +63,8 @@ impl TopicBells {
         Ok(())
     }
 
-    /// Takes the bell of this connection out once. Room for more than twice as many as are left is given back where three
-    /// quarters of the room are free, so that a topic to which many had subscribed keeps nothing for them.
+    /// Takes the bell of this connection out once. Room for more than twice as many as are left is given back where
+    /// three quarters of the room are free, so that a topic to which many had subscribed keeps nothing for them.
     pub(crate) fn remove<R: Wait>(&self, rt: &R, connection: u64) {
         let mut bells = self.bells.lock(rt);
         let bells = &mut *bells;

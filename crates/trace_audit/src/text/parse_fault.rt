@@ -9,7 +9,7 @@ use thiserror::Error;
 #[derive(Clone, Copy, Debug, PartialEq, Eq, Error)]
 pub enum ParseFault {
     /// 90: this line, from 1, is the first that spells no row, or one that doesn't fit.
-    #[error("90 BadRow: write log, span and queue rows as they are printed, and a span before its queue")]
+    #[error("90 BadRow: write log, span and queue rows as they are printed: a log's topics rise and have its own, and a subscription's one span comes before its queue")]
     BadRow(usize),
     /// 91: out of memory; nothing is said of the text.
     #[error("91 NoMemory: out of memory for the trace; try again where more memory is free")]

@@ -51,7 +51,7 @@ const ROWS: &[Row] = &[
         b"topic A 0\nopen\nturn 00\n",
         2,
         Some(
-            "110 BadLine: at line 3, write a capacity or a topic before the first event, or one event, with single spaces; it is \"turn 00\"",
+            "110 BadLine: at line 3, write one capacity, 1 to 4096, and topics of different names before the first event, or one event, with single spaces; it is \"turn 00\"",
         ),
     ),
     // A file whose lines end by CR LF.
@@ -60,7 +60,7 @@ const ROWS: &[Row] = &[
         b"# two\r\ntopic A 0\r\nopen\r\n",
         2,
         Some(
-            "110 BadLine: at line 2, write a capacity or a topic before the first event, or one event, with single spaces; it is \"topic A 0\\x0d\", which ends by CR: end each line by LF alone",
+            "110 BadLine: at line 2, write one capacity, 1 to 4096, and topics of different names before the first event, or one event, with single spaces; it is \"topic A 0\\x0d\", which ends by CR: end each line by LF alone",
         ),
     ),
     // Of a long line 60 octets are shown, and none that makes another line or moves the cursor.
@@ -69,7 +69,7 @@ const ROWS: &[Row] = &[
         b"\x1b[2J\\\xc3\xa9 45678 0123456789 0123456789 0123456789 0123456789 0123456789",
         2,
         Some(
-            "110 BadLine: at line 1, write a capacity or a topic before the first event, or one event, with single spaces; it is \"\\x1b[2J\\\\\\xc3\\xa9 45678 0123456789 0123456789 0123456789 0123456789 01\" and 8 octets more",
+            "110 BadLine: at line 1, write one capacity, 1 to 4096, and topics of different names before the first event, or one event, with single spaces; it is \"\\x1b[2J\\\\\\xc3\\xa9 45678 0123456789 0123456789 0123456789 0123456789 01\" and 8 octets more",
         ),
     ),
     ("script", b"topic A 0\nopen\n", 0, None),
@@ -79,7 +79,7 @@ const ROWS: &[Row] = &[
         b"log 0 0 1 1.0 0\n\nlog 0 0 2 2.0 0\n",
         2,
         Some(
-            "90 BadRow: write log, span and queue rows as they are printed, and a span before its queue; line 2 is \"\"",
+            "90 BadRow: write log, span and queue rows as they are printed: a log's topics rise and have its own, and a subscription's one span comes before its queue; line 2 is \"\"",
         ),
     ),
     (
@@ -87,7 +87,7 @@ const ROWS: &[Row] = &[
         b"log 0 0 1 1.0 0\r\n",
         2,
         Some(
-            "90 BadRow: write log, span and queue rows as they are printed, and a span before its queue; line 1 is \"log 0 0 1 1.0 0\\x0d\", which ends by CR: end each line by LF alone",
+            "90 BadRow: write log, span and queue rows as they are printed: a log's topics rise and have its own, and a subscription's one span comes before its queue; line 1 is \"log 0 0 1 1.0 0\\x0d\", which ends by CR: end each line by LF alone",
         ),
     ),
     (

@@ -93,6 +93,38 @@ impl Peers for Slow {
     }
 }
 
+/// How many SENDs one sends to itself at once: more than its queue holds, and than one read brings.
+const TO_ITSELF: u64 = 1_000;
+
+/// One sends to its own subscription, at once, and reads all the time.
+#[derive(Drop)]
+struct ToItself;
+
+impl Peers for ToItself {
+    fn count(&self) -> u64 {
+        1
+    }
+
+    fn meet(&self, alloc: Global, lines: &mut Lines) -> bool {
+        let Some(mut client) = Client::subscribed(alloc, lines) else {
+            return false;
+        };
+        let mut text = String::new(alloc);
+        for _ in 0..TO_ITSELF {
+            if text.push_str("SEND\ndestination:A\n\nx\0").is_err() {
+                return false;
+            }
+        }
+        client.sends(text.as_str())
+            && (1..=TO_ITSELF).all(|number| hears_number(&mut client, alloc, number, b"x\0"))
+    }
+}
+
+#[test]
+fn one_that_sends_to_itself_does_not_lag(rt: HostRuntime) {
+    assert!(rt; serves(&quiet(rt), rt.alloc(), &ToItself, 1_000));
+}
+
 #[test]
 fn one_that_does_not_read_lags_alone(rt: HostRuntime) {
     assert!(rt; serves(&quiet(rt), rt.alloc(), &Slow, 1_000));

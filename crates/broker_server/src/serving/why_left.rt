@@ -22,11 +22,13 @@ pub(crate) enum Told {
 
 /// Why a connection left.
 #[derive(Clone, Copy)]
-pub(crate) enum Left {
+pub(crate) enum WhyLeft {
     /// By its DISCONNECT, by an ERROR, or lost; and what it was told of its last words.
     By(Exit, Told),
     /// A write failed.
     WriteFailed,
+    /// A subscription lagged, and the system took nothing for a minute.
+    Stuck,
     /// There was no memory for the connection.
     NoMemory,
     /// Its poll failed.
@@ -47,18 +49,19 @@ impl Display for Told {
     }
 }
 
-impl Display for Left {
+impl Display for WhyLeft {
     fn fmt<W: fmt::Write>(&self, f: &mut Formatter<W>) -> fmt::Result {
         match self {
-            Left::By(Exit::Disconnect, told) => write!(f, "DISCONNECT{told}"),
-            Left::By(Exit::Error(fault), told) => {
+            WhyLeft::By(Exit::Disconnect, told) => write!(f, "DISCONNECT{told}"),
+            WhyLeft::By(Exit::Error(fault), told) => {
                 write!(f, "ERROR {}{told}", Spelled(fault.title()))
             }
-            Left::By(Exit::Lost, _) => f.write_str("its peer closed it"),
-            Left::WriteFailed => f.write_str("a write failed"),
-            Left::NoMemory => f.write_str("ERROR 72 NoMemory, no memory for the connection"),
-            Left::PollFailed => f.write_str("its poll failed"),
-            Left::Closing => f.write_str("the server ends"),
+            WhyLeft::By(Exit::Lost, _) => f.write_str("its peer closed it"),
+            WhyLeft::WriteFailed => f.write_str("a write failed"),
+            WhyLeft::Stuck => f.write_str("it lagged, and took nothing for a minute"),
+            WhyLeft::NoMemory => f.write_str("ERROR 72 NoMemory, no memory for the connection"),
+            WhyLeft::PollFailed => f.write_str("its poll failed"),
+            WhyLeft::Closing => f.write_str("the server ends"),
         }
     }
 }
