@@ -39,6 +39,8 @@ pub(crate) struct Held<'a, R: Wait + Log + Clock, W: Side, T: Side> {
     untold: u64,
     /// The heads are told at once when they are so many: half of what a queue holds.
     most: u64,
+    /// How many were since nothing was seen on its way from their topics.
+    unheard: u64,
     worker: Worker<W>,
 }
 
@@ -60,6 +62,7 @@ impl<'a, R: Wait + Log + Clock, W: Side, T: Side> Held<'a, R, W, T> {
             marks: Marks::new(alloc),
             untold: 0,
             most: hub.running.capacity() / 2,
+            unheard: 0,
             worker,
         }
     }
@@ -81,6 +84,7 @@ impl<'a, R: Wait + Log + Clock, W: Side, T: Side> Held<'a, R, W, T> {
             marks: _,
             untold: _,
             most: _,
+            unheard: _,
             worker,
         } = self;
         worker
@@ -114,20 +118,26 @@ impl<'a, R: Wait + Log + Clock, W: Side, T: Side> Held<'a, R, W, T> {
         self.untold = 0;
     }
 
-    /// A transaction was committed, or refused. The heads are told once these are half as many as a queue holds, and the
-    /// connection gives way until they have come to the subscribers' threads: so a burst of one connection finds room
-    /// in the queue of each subscriber that takes in time.
+    /// A transaction was committed, or refused. The heads are told once these are half as many as a queue holds. Before
+    /// more are on their way than a queue holds, the connection waits until they have come to the subscribers' threads: so
+    /// a burst of one connection finds room in the queue of each subscriber that takes in time.
     fn count_commit(&mut self)
         ensures few { (self.new.untold ≡ 0) ⊎ (self.new.untold < self.new.most) }
         ensures told { self.new.untold ≡ 0 → self.new.marks ≡ unmarked }
         ensures most { self.new.most ≡ self.old.most }
     {
         self.untold = self.untold.saturating_add(1);
+        self.unheard = self.unheard.saturating_add(1);
         if self.untold >= self.most {
-            self.hub
-                .tell_heads_and_wait(self.rt, self.peer.number, &self.bell, &self.marks);
-            self.marks.clear();
-            self.untold = 0;
+            let topics = self.marks.topics();
+            if self.hub.are_quiet(self.rt, self.peer.number, topics) {
+                self.unheard = self.untold;
+            } else if self.unheard >= self.most.saturating_mul(2) {
+                self.hub
+                    .wait_for(self.rt, self.peer.number, &self.bell, topics);
+                self.unheard = self.untold;
+            }
+            self.tell_heads();
         }
     }
 }

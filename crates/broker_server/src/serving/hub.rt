@@ -14,19 +14,19 @@ use mcast_txn::{NoMemory, Topic};
 use std::alloc::{AllocError, Global};
 use std::sync::atomic::{AtomicBool, AtomicU64, Ordering};
 use std::sync::{Arc, Mutex, Wait};
-use std::thread::yield_now;
-use std::time::{Clock, Duration, Instant};
+use std::thread::sleep;
+use std::time::{Clock, Duration};
 
 /// How many threads turn topics: topic t is turned by the head t mod 2.
 const HEADS: usize = 2;
 
-/// A connection that has sent much gives way so often, and so long, at most, until what it sent has come to the
-/// subscribers' threads.
-const MAX_YIELDS: u32 = 32;
+/// A connection that has sent much rests so often at most, until what it sent has come to the subscribers' threads (our
+/// choice).
+const MAX_RESTS: u32 = 100;
 
-/// How long that is (our choice).
-fn yield_time() -> Duration {
-    Duration::from_millis(10)
+/// How long a rest is (our choice).
+fn rest_time() -> Duration {
+    Duration::from_micros(50)
 }
 
 /// The most connections that are there at once (our choice).
@@ -102,7 +102,7 @@ impl<R: Wait, W: Side, T: Side> Hub<R, W, T> {
     }
 
     /// Whether nothing is on its way from these topics to another connection than this.
-    fn are_quiet(&self, rt: &R, connection: u64, topics: &[Topic]) -> bool {
+    pub(crate) fn are_quiet(&self, rt: &R, connection: u64, topics: &[Topic]) -> bool {
         for topic in topics {
             if let Some(topic) = self.topics.get(topic.0 as usize)
                 && !topic.is_quiet(rt, connection)
@@ -276,29 +276,15 @@ impl<R: Wait, W: Side, T: Side> Hub<R, W, T> {
 }
 
 impl<R: Wait + Clock, W: Side, T: Side> Hub<R, W, T> {
-    /// Tells the heads of the topics that were marked. Then it gives way, for ten milliseconds at most, until these topics
-    /// were turned, and the other connections that subscribed to them have looked; or until this one, whose bell this is, is
-    /// told something itself.
-    pub(crate) fn tell_heads_and_wait(&self, rt: &R, connection: u64, bell: &Bell, marks: &Marks) {
-        self.set_marked_due(rt, marks);
-        let begun = Instant::now(rt).ok();
-        for _ in 0..MAX_YIELDS {
-            if bell.is_told()
-                || self.are_quiet(rt, connection, marks.topics())
-                || is_over(rt, begun)
-            {
+    /// Rests, 100 times at most, until nothing is on its way from these topics to another connection than this: they were
+    /// turned, and those who subscribed there have looked; or until this one, whose bell this is, is told something itself.
+    pub(crate) fn wait_for(&self, rt: &R, connection: u64, bell: &Bell, topics: &[Topic]) {
+        for _ in 0..MAX_RESTS {
+            if bell.is_told() || self.are_quiet(rt, connection, topics) {
                 break;
             }
-            yield_now();
+            sleep(rt, rest_time());
         }
-    }
-}
-
-/// Whether it is ten milliseconds since then, also where the clock can't be read.
-fn is_over<C: Clock>(clock: &C, begun: Option<Instant>) -> bool {
-    match (begun, Instant::now(clock)) {
-        (Some(begun), Ok(now)) => now.duration_since(begun) >= yield_time(),
-        _ => true,
     }
 }
 
