@@ -13,11 +13,13 @@ mod line;
 mod listening;
 mod marks;
 mod naming;
+mod on_way;
 mod peer;
 mod running;
+mod seat;
 mod seldom;
 mod socket;
-mod topic_bells;
+mod topic_seats;
 mod trouble;
 mod why_left;
 
@@ -96,7 +98,7 @@ where
         {
             let mut done = Ok(());
             for head in hub.heads() {
-                if scope.spawn(move || turn_all(rt, hub, head)).is_err() {
+                if scope.spawn(move || turn_all(rt, alloc, hub, head)).is_err() {
                     done = Err(ServerFault::NoMemory);
                 }
             }
@@ -145,8 +147,10 @@ where
     Ok(())
 }
 
-/// A head's thread: turns what is due, until it is closed.
-fn turn_all<R: Wait, W: Side, T: Side>(rt: &R, hub: &Hub<R, W, T>, head: &Head) {
+/// A head's thread: turns what is due, until it is closed. It asks for memory once before it waits: what the C library
+/// makes for a thread then stays where it lies, and made in a head's first turn it would lie above all that is there.
+fn turn_all<R: Wait, W: Side, T: Side>(rt: &R, alloc: Global, hub: &Hub<R, W, T>, head: &Head) {
+    drop(Vec::<u8>::with_capacity(alloc, 1));
     for _ in rt.forever() {
         match head.next(rt) {
             Some(at) => hub.turn(rt, at),

@@ -1,7 +1,7 @@
 //! How a connection's thread is told that something may be there for it.
 
 use mio::Waker;
-use std::sync::atomic::{AtomicU8, Ordering};
+use std::sync::atomic::{AtomicBool, AtomicU8, Ordering};
 
 /// The thread is at work, and wasn't told anything since it looked last.
 const AWAKE: u8 = 0;
@@ -16,6 +16,8 @@ const ASLEEP: u8 = 2;
 #[derive(Drop)]
 pub(crate) struct Bell {
     state: AtomicU8,
+    /// Whether more is there for the connection than the system takes of it.
+    stuck: AtomicBool,
     waker: Waker,
 }
 
@@ -24,6 +26,7 @@ impl Bell {
     pub(crate) fn new(waker: Waker) -> Bell {
         Bell {
             state: AtomicU8::new(AWAKE),
+            stuck: AtomicBool::new(false),
             waker,
         }
     }
@@ -44,6 +47,18 @@ impl Bell {
     pub(crate) fn hears(&self) -> bool {
         self.state.load(Ordering::SeqCst) != AWAKE
             && self.state.swap(AWAKE, Ordering::SeqCst) == TOLD
+    }
+
+    /// Whether more is there for the connection than the system takes of it.
+    pub(crate) fn is_stuck(&self) -> bool {
+        self.stuck.load(Ordering::SeqCst)
+    }
+
+    /// More is there than the system takes, or that isn't so any longer.
+    pub(crate) fn set_stuck(&self, stuck: bool) {
+        if self.is_stuck() != stuck {
+            self.stuck.store(stuck, Ordering::SeqCst);
+        }
     }
 
     /// The thread is about to wait. Whether it may: it wasn't told anything since it looked.

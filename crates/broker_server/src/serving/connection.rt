@@ -3,7 +3,8 @@
 use crate::conversation::{BrokerCalls, Conversation, ConversationFault, Exit};
 use crate::serving::held::Held;
 use crate::serving::hub::Hub;
-use crate::serving::line::{Line, READ};
+use crate::serving::line::Line;
+use crate::serving::on_way::MAX_RESTS;
 use crate::serving::socket::Came;
 use crate::serving::why_left::{Told, WhyLeft};
 use crate::spelled::Spelled;
@@ -20,9 +21,8 @@ const MAX_READS: u32 = 16;
 /// After so many turns in a row that found something to do, the poll is asked what else is there (our choice).
 const MAX_ROUNDS: u32 = 16;
 
-/// So many octets are heard at once, at most, of a connection that has subscriptions: fewer SENDs than a queue holds are
-/// in them, and between two of them it takes what came (our choice).
-const HEARD: usize = 1_024;
+/// The octets of the shortest SEND: its command, a destination of one octet, two ends of lines, and NULL.
+const LEAST_SEND: u64 = 21;
 
 /// A connection that leaves is closed after so many polls that brought nothing out (our choice).
 const MAX_POLLS: u32 = 100;
@@ -77,7 +77,7 @@ impl<'a, R: Wait + Log + Clock, W: Side, T: Side> Connection<'a, R, W, T> {
         }
         let mut busy = false;
         if told || self.talk.has_more() {
-            busy = self.talk.deliver(&mut self.held);
+            busy = self.deliver();
         }
         match self.line.socket.write(&mut self.talk) {
             Ok(0) => {}
@@ -87,6 +87,7 @@ impl<'a, R: Wait + Log + Clock, W: Side, T: Side> Connection<'a, R, W, T> {
             }
             Err(_) => return Round::Ended(WhyLeft::WriteFailed),
         }
+        self.note_stuck();
         if self.talk.is_leaving() {
             return Round::Leaving;
         }
@@ -97,7 +98,7 @@ impl<'a, R: Wait + Log + Clock, W: Side, T: Side> Connection<'a, R, W, T> {
     }
 
     /// Reads while a read may give something, and does what each asks for; 16 times at most, and no longer than until
-    /// the bell rings. Then the heads are told of what was committed, before anything else is done.
+    /// the bell rings. Then the topics of what was committed are turned, before anything else is done.
     fn hear(&mut self) -> Round {
         let mut round = Round::Idle;
         for _ in 0..MAX_READS {
@@ -109,7 +110,7 @@ impl<'a, R: Wait + Log + Clock, W: Side, T: Side> Connection<'a, R, W, T> {
                 Came::Again => round = Round::Busy,
                 Came::Nothing => break,
                 Came::End => {
-                    self.held.tell_heads();
+                    self.held.turn_topics();
                     self.talk.lose(&mut self.held);
                     return Round::Leaving;
                 }
@@ -118,25 +119,59 @@ impl<'a, R: Wait + Log + Clock, W: Side, T: Side> Connection<'a, R, W, T> {
                 break;
             }
         }
-        self.held.tell_heads();
+        self.held.turn_topics();
         round
     }
 
-    /// Does what the first so many octets of the room ask for. A connection that has subscriptions turns in between the
-    /// topics that it sent to, and takes what came for it: else it would lag by what it sends itself.
+    /// Does what the first so many octets of the room ask for. A connection that takes, too, hears no more at once than
+    /// there is room for what it may send, and takes in between what came: else it would lag by what it sends itself.
     fn hear_piece(&mut self, n: usize) {
-        let subscribes = self.talk.sub_at(0).is_some();
-        let most = if subscribes { HEARD } else { READ };
-        for at in (0..n).step_by(most) {
+        let mut at = 0usize;
+        for _ in 0..n {
+            let room = if self.held.only_sends() {
+                self.held.capacity()
+            } else {
+                self.make_room()
+            };
+            let most = usize::try_from(room.saturating_mul(LEAST_SEND)).unwrap_or(n);
             let end = n.min(at.saturating_add(most));
             if let Some(part) = self.line.room.as_slice().get(at..end) {
                 self.talk.hear(&mut self.held, part);
             }
-            if subscribes {
-                self.held.turn_topics();
-                self.take_between();
+            at = end;
+            if at >= n {
+                break;
             }
         }
+    }
+
+    /// Takes what came for it until there is room for a quarter of what a queue holds, or it has rested 100 times; for how
+    /// many transactions there is room then: one or more, and half of what a queue holds at most, since others send, too.
+    fn make_room(&mut self) -> u64 {
+        let capacity = self.held.capacity();
+        let least = (capacity / 4).max(1);
+        self.held.turn_topics();
+        for _ in 0..MAX_RESTS {
+            self.held.settle();
+            self.take_between();
+            let room = self.held.room();
+            let may_take = !self.line.bell.is_stuck() || room >= capacity;
+            if room >= least && may_take {
+                return room.min((capacity / 2).max(1));
+            }
+            if self.talk.is_leaving() || self.hub.is_closing() || !self.may_go_on() {
+                return least;
+            }
+            self.held.rest();
+        }
+        self.held.turn_over();
+        least
+    }
+
+    /// Writes what waits, and looks whether the system takes more; whether that could be asked.
+    fn may_go_on(&mut self) -> bool {
+        self.line.socket.write(&mut self.talk).is_ok()
+            && self.wait(Some(Duration::from_millis(0))).is_ok()
     }
 
     /// Takes what came for it, and writes where that is much, so that more finds room.
@@ -144,9 +179,24 @@ impl<'a, R: Wait + Log + Clock, W: Side, T: Side> Connection<'a, R, W, T> {
         if !self.line.bell.hears() && !self.talk.has_more() {
             return;
         }
-        self.talk.deliver(&mut self.held);
+        self.deliver();
         if self.talk.has_more() && self.line.socket.write(&mut self.talk).is_ok() {
-            self.talk.deliver(&mut self.held);
+            self.deliver();
+        }
+        self.note_stuck();
+    }
+
+    /// Takes what is there for it; whether something came of it. It isn't stuck from before it looks, so that it is told of
+    /// what comes then.
+    fn deliver(&mut self) -> bool {
+        self.line.bell.set_stuck(false);
+        self.talk.deliver(&mut self.held)
+    }
+
+    /// It is stuck where more is there than the system takes: it looks again once that takes some.
+    fn note_stuck(&mut self) {
+        if self.talk.has_more() && self.line.socket.is_blocked() {
+            self.line.bell.set_stuck(true);
         }
     }
 
@@ -307,7 +357,7 @@ impl<'a, R: Wait + Log + Clock, W: Side, T: Side> Connection<'a, R, W, T> {
         let ended = self.converse(rt);
         self.tell_lag();
         self.talk.lose(&mut self.held);
-        self.held.tell_heads();
+        self.held.turn_topics();
         match (ended, self.talk.exit()) {
             (Ok(()), Some(exit)) => {
                 let told = self.tell_last(rt);

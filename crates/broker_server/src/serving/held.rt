@@ -7,14 +7,16 @@ use crate::conversation::{BrokerCalls, ConversationFault};
 use crate::serving::bell::Bell;
 use crate::serving::hub::Hub;
 use crate::serving::marks::Marks;
+use crate::serving::on_way::{OnWay, rest};
 use crate::serving::peer::Peer;
+use crate::serving::seat::Seat;
 use crate::spelled::Spelled;
 use broker_locks::{CommitFault, Side, Subscribed, Worker};
 use log::{Log, info};
 use mcast_group::{SubFault, SubState};
 use mcast_txn::{Released, Topic};
 use sender_gate::{ClaimFault, Flying, Gate};
-use std::alloc::Global;
+use std::alloc::{AllocError, Global};
 use std::sync::{Arc, Wait};
 use std::time::Clock;
 use stomp_frame::ClientFrame;
@@ -25,22 +27,29 @@ use stomp_session::{Names, Session, Step};
 pub(crate) struct HeldSub {
     topic: Topic,
     begun: Subscribed,
+    seat: Arc<Seat>,
+    /// The number of the stamp of what was taken last, or of where it begins.
+    last: u64,
 }
 
 /// What one connection asks of the broker, and what it still has to tell the heads.
 #[derive(Drop)]
 pub(crate) struct Held<'a, R: Wait + Log + Clock, W: Side, T: Side> {
     rt: &'a R,
+    alloc: Global,
     hub: &'a Hub<R, W, T>,
     peer: Peer,
     bell: Arc<Bell>,
     marks: Marks,
-    /// How many transactions were committed, or refused, since the heads were told.
-    untold: u64,
-    /// The heads are told at once when they are so many: half of what a queue holds.
+    /// How many transactions were committed, or refused, since their topics were turned or the heads told.
+    unturned: u64,
+    /// That is done at once when they are so many: half of what a queue holds, and one at least.
     most: u64,
-    /// How many were since nothing was seen on its way from their topics.
-    unheard: u64,
+    on_way: OnWay,
+    /// How many subscriptions it has.
+    subs: u64,
+    /// How many it had, with these.
+    begun: u64,
     worker: Worker<W>,
 }
 
@@ -56,13 +65,16 @@ impl<'a, R: Wait + Log + Clock, W: Side, T: Side> Held<'a, R, W, T> {
     ) -> Held<'a, R, W, T> {
         Held {
             rt,
+            alloc,
             hub,
             peer,
             bell,
             marks: Marks::new(alloc),
-            untold: 0,
-            most: hub.running.capacity() / 2,
-            unheard: 0,
+            unturned: 0,
+            most: (hub.running.capacity() / 2).max(1),
+            on_way: OnWay::new(alloc),
+            subs: 0,
+            begun: 0,
             worker,
         }
     }
@@ -78,16 +90,28 @@ impl<'a, R: Wait + Log + Clock, W: Side, T: Side> Held<'a, R, W, T> {
     {
         let Held {
             rt: _,
+            alloc: _,
             hub: _,
             peer: _,
             bell: _,
             marks: _,
-            untold: _,
+            unturned: _,
             most: _,
-            unheard: _,
+            on_way: _,
+            subs: _,
+            begun: _,
             worker,
         } = self;
         worker
+    }
+
+    /// A seat for its next subscription.
+    fn seat(&mut self) -> Result<Arc<Seat>, AllocError> {
+        let bell = self.bell.clone()?;
+        let number = self.begun;
+        self.begun = number.saturating_add(1);
+        let seat = Arc::new(self.alloc, Seat::new(self.peer.number, number, bell))?;
+        Ok(seat)
     }
 
     /// Says that the last of these topics was made.
@@ -101,43 +125,79 @@ impl<'a, R: Wait + Log + Clock, W: Side, T: Side> Held<'a, R, W, T> {
         }
     }
 
-    /// Tells the heads of what was committed, or refused, since they were told.
-    pub(crate) fn tell_heads(&mut self)
-        ensures { self.new ≡ record self.old { marks = unmarked; untold = 0 } }
-    {
-        self.hub.tell_heads(self.rt, &mut self.marks);
-        self.untold = 0;
-    }
-
-    /// Turns the topics of what was committed, or refused, since the heads were told, in place of them.
+    /// Turns the topics of what was committed, or refused, since that was done; or has their heads do so, where a connection
+    /// that never takes has committed more than one transaction. A head would have to be woken for one, and who takes, too,
+    /// has to have what it sent itself.
     pub(crate) fn turn_topics(&mut self)
-        ensures { self.new ≡ record self.old { marks = unmarked; untold = 0 } }
+        ensures { self.new ≡ record self.old { marks = unmarked; unturned = 0 } }
     {
-        self.hub.turn_marked(self.rt, &self.marks);
+        if self.subs > 0 || self.unturned <= 1 {
+            self.hub.turn_marked(self.rt, &self.marks);
+        } else {
+            self.hub.tell_heads(self.rt, &self.marks);
+        }
         self.marks.clear();
-        self.untold = 0;
+        self.unturned = 0;
     }
 
-    /// A transaction was committed, or refused. The heads are told once these are half as many as a queue holds. Before
-    /// more are on their way than a queue holds, the connection waits until they have come to the subscribers' threads: so
-    /// a burst of one connection finds room in the queue of each subscriber that takes in time.
+    /// Whether it has no subscription, and has sent something: it may never take.
+    pub(crate) fn only_sends(&self) -> bool {
+        self.subs == 0 && self.on_way.room(1) == 0
+    }
+
+    /// How many transactions may be on their way at once: so many find room in a queue.
+    pub(crate) fn capacity(&self) -> u64 {
+        self.hub.running.capacity()
+    }
+
+    /// How many more may be on their way.
+    pub(crate) fn room(&self) -> u64 {
+        self.on_way.room(self.capacity())
+    }
+
+    /// Where all has come that was sent before what is on its way in the newer half, this is waited for from now on.
+    pub(crate) fn settle(&mut self) {
+        if self.on_way.has_come(self.rt, self.hub) {
+            self.turn_over();
+        }
+    }
+
+    /// What was sent before the newer half isn't waited for any more, and this is from now on.
+    pub(crate) fn turn_over(&mut self) {
+        self.turn_topics();
+        self.on_way.turn_over();
+    }
+
+    /// Waits until all has come that was sent, as long as it waits for anything.
+    fn wait_for_all(&mut self) {
+        self.turn_topics();
+        self.on_way.wait(self.rt, self.hub);
+        self.on_way.turn_over();
+        self.on_way.wait(self.rt, self.hub);
+        self.on_way.turn_over();
+    }
+
+    /// Rests, so that others come to their turn.
+    pub(crate) fn rest(&self) {
+        rest(self.rt);
+    }
+
+    /// A transaction was committed, or refused. The topics are turned once these are half as many as a queue holds. A
+    /// connection that has no subscription has at most as many on their way as a queue holds: then it waits until the
+    /// older half has come to the subscribers, so that a burst finds room in the queue of each that takes in time.
     fn count_commit(&mut self)
-        ensures few { (self.new.untold ≡ 0) ⊎ (self.new.untold < self.new.most) }
-        ensures told { self.new.untold ≡ 0 → self.new.marks ≡ unmarked }
+        ensures few { (self.new.unturned ≡ 0) ⊎ (self.new.unturned < self.new.most) }
+        ensures turned { self.new.unturned ≡ 0 → self.new.marks ≡ unmarked }
         ensures most { self.new.most ≡ self.old.most }
     {
-        self.untold = self.untold.saturating_add(1);
-        self.unheard = self.unheard.saturating_add(1);
-        if self.untold >= self.most {
-            let topics = self.marks.topics();
-            if self.hub.are_quiet(self.rt, self.peer.number, topics) {
-                self.unheard = self.untold;
-            } else if self.unheard >= self.most.saturating_mul(2) {
-                self.hub
-                    .wait_for(self.rt, self.peer.number, &self.bell, topics);
-                self.unheard = self.untold;
-            }
-            self.tell_heads();
+        self.unturned = self.unturned.saturating_add(1);
+        let is_half = self.on_way.since() >= self.most || self.room() == 0;
+        if is_half && self.subs == 0 {
+            self.turn_topics();
+            self.on_way.wait(self.rt, self.hub);
+            self.on_way.turn_over();
+        } else if self.unturned >= self.most {
+            self.turn_topics();
         }
     }
 }
@@ -174,28 +234,46 @@ impl<'a, R: Wait + Log + Clock, W: Side, T: Side> BrokerCalls for Held<'a, R, W,
         self.hub.running.broker.give_back(self.rt, gate);
     }
 
-    /// Its bell stands at the topic before the subscription begins: the other order would lose what is released
-    /// between.
+    /// Its seat stands at the topic before the subscription begins: the other order would lose what is released
+    /// between. Before its first one all has come that it sent: from then on it can't wait without taking.
     fn subscribe(&mut self, topic: Topic) -> Result<HeldSub, SubFault> {
-        if self
-            .hub
-            .listen(self.rt, topic, self.peer.number, &self.bell)
-            .is_err()
-        {
+        if self.subs == 0 {
+            self.wait_for_all();
+        }
+        let Ok(seat) = self.seat() else {
+            return Err(SubFault::NoMemory);
+        };
+        if self.hub.listen(self.rt, topic, &seat).is_err() {
             return Err(SubFault::NoMemory);
         }
         match self.hub.running.broker.subscribe(self.rt, topic) {
-            Ok(begun) => Ok(HeldSub { topic, begun }),
+            Ok(begun) => {
+                let last = begun.start.n;
+                seat.set_taken(last);
+                self.subs = self.subs.saturating_add(1);
+                Ok(HeldSub {
+                    topic,
+                    begun,
+                    seat,
+                    last,
+                })
+            }
             Err(fault) => {
-                self.hub.unlisten(self.rt, topic, self.peer.number);
+                self.hub.unlisten(self.rt, topic, &seat);
                 Err(fault)
             }
         }
     }
 
     fn unsubscribe(&mut self, sub: HeldSub) {
-        let HeldSub { topic, begun } = sub;
-        self.hub.unlisten(self.rt, topic, self.peer.number);
+        let HeldSub {
+            topic,
+            begun,
+            seat,
+            last: _,
+        } = sub;
+        self.hub.unlisten(self.rt, topic, &seat);
+        self.subs = self.subs.saturating_sub(1);
         let _ = self
             .hub
             .running
@@ -213,20 +291,34 @@ impl<'a, R: Wait + Log + Clock, W: Side, T: Side> BrokerCalls for Held<'a, R, W,
         matches!(state, Some(SubState::Lag(_)))
     }
 
+    /// Whoever waits for what it takes is told once nothing is there.
     fn take(&mut self, sub: &mut HeldSub) -> Option<Released> {
-        sub.begun.taker.take(self.rt)
+        let item = sub.begun.taker.take(self.rt);
+        match &item {
+            Some(item) => sub.last = item.stamp.n,
+            None => sub.seat.set_taken(sub.last),
+        }
+        item
     }
 
     fn commit(&mut self, flying: Flying) -> Result<Gate, (Gate, CommitFault)> {
+        let topics = flying.topics().len();
+        self.on_way.begin(flying.topics().as_slice());
         let done = self
             .hub
             .running
             .broker
             .commit(self.rt, &mut self.worker, flying, &mut self.marks);
-        self.count_commit();
         match done {
-            Ok((gate, _stamp)) => Ok(gate),
-            Err(refused) => Err(refused),
+            Ok((gate, stamp)) => {
+                self.on_way.commit(topics, stamp);
+                self.count_commit();
+                Ok(gate)
+            }
+            Err(refused) => {
+                self.count_commit();
+                Err(refused)
+            }
         }
     }
 }

@@ -1,33 +1,22 @@
 //! What the server's threads share.
 
 ghost use Rattle.std.specs.Prelude.{◌≡◌};
-ghost use Rattle.broker_server.specs.MarkedTopics.{unmarked};
 
 use crate::serving::bell::Bell;
 use crate::serving::head::Head;
 use crate::serving::marks::Marks;
 use crate::serving::running::Running;
-use crate::serving::topic_bells::TopicBells;
+use crate::serving::seat::Seat;
+use crate::serving::topic_seats::TopicSeats;
 use broker_locks::Side;
 use delivery::MAX_TOPICS;
 use mcast_txn::{NoMemory, Topic};
 use std::alloc::{AllocError, Global};
 use std::sync::atomic::{AtomicBool, AtomicU64, Ordering};
 use std::sync::{Arc, Mutex, Wait};
-use std::thread::sleep;
-use std::time::{Clock, Duration};
 
 /// How many threads turn topics: topic t is turned by the head t mod 2.
 const HEADS: usize = 2;
-
-/// A connection that has sent much rests so often at most, until what it sent has come to the subscribers' threads (our
-/// choice).
-const MAX_RESTS: u32 = 100;
-
-/// How long a rest is (our choice).
-fn rest_time() -> Duration {
-    Duration::from_micros(50)
-}
 
 /// The most connections that are there at once (our choice).
 pub(crate) const MAX_CONNECTIONS: u64 = 256;
@@ -36,7 +25,7 @@ pub(crate) const MAX_CONNECTIONS: u64 = 256;
 #[derive(Drop)]
 pub(crate) struct Hub<R: Wait, W: Side, T: Side> {
     pub(crate) running: Running<R, W, T>,
-    topics: Vec<TopicBells>,
+    topics: Vec<TopicSeats>,
     heads: Vec<Head>,
     /// How many connections are there.
     places: AtomicU64,
@@ -63,7 +52,7 @@ impl<R: Wait, W: Side, T: Side> Hub<R, W, T> {
         }
         Ok(Hub {
             running,
-            topics: bells_of(alloc, MAX_TOPICS)?,
+            topics: seats_of(alloc, MAX_TOPICS)?,
             heads,
             places: AtomicU64::new(0),
             connections: Mutex::new(Vec::with_capacity(alloc, MAX_CONNECTIONS as usize)?),
@@ -80,19 +69,8 @@ impl<R: Wait, W: Side, T: Side> Hub<R, W, T> {
         self.heads.as_slice()
     }
 
-    /// Tells the heads of the topics that were marked, and clears the marks. What they are marked for was done before.
-    pub(crate) fn tell_heads(&self, rt: &R, marks: &mut Marks)
-        ensures { marks.new ≡ unmarked }
-    {
-        if marks.is_empty() {
-            return;
-        }
-        self.set_marked_due(rt, marks);
-        marks.clear();
-    }
-
-    /// The topics that were marked are due.
-    fn set_marked_due(&self, rt: &R, marks: &Marks) {
+    /// Tells the heads of the topics that were marked. What they are marked for was done before.
+    pub(crate) fn tell_heads(&self, rt: &R, marks: &Marks) {
         for topic in marks.topics() {
             self.set_due(rt, topic.0 as usize);
         }
@@ -101,25 +79,21 @@ impl<R: Wait, W: Side, T: Side> Hub<R, W, T> {
         }
     }
 
-    /// Whether nothing is on its way from these topics to another connection than this.
-    pub(crate) fn are_quiet(&self, rt: &R, connection: u64, topics: &[Topic]) -> bool {
-        for topic in topics {
-            if let Some(topic) = self.topics.get(topic.0 as usize)
-                && !topic.is_quiet(rt, connection)
-            {
-                return false;
-            }
-        }
-        true
-    }
-
-    /// Turns the topics that were marked: who does so needs no head. One that is due stays so.
+    /// Turns the topics that were marked, in place of their heads. One that is due stays so.
     pub(crate) fn turn_marked(&self, rt: &R, marks: &Marks) {
         for topic in marks.topics() {
             self.turn_now(rt, topic.0 as usize);
         }
         if marks.may_be_any() {
             self.set_all_due(rt);
+        }
+    }
+
+    /// Whether what was sent to the topic with the stamp of this number has come to all who subscribed there.
+    pub(crate) fn has_come(&self, rt: &R, topic: Topic, n: u64) -> bool {
+        match self.topics.get(topic.0 as usize) {
+            Some(topic) => topic.has_come(rt, n),
+            None => true,
         }
     }
 
@@ -150,10 +124,9 @@ impl<R: Wait, W: Side, T: Side> Hub<R, W, T> {
     /// Turns the topic of this index, which isn't due then. What is committed from here on makes it due again.
     pub(crate) fn turn(&self, rt: &R, at: usize) {
         if let Some(topic) = self.topics.get(at) {
-            topic.begin_turn();
-            self.turn_now(rt, at);
-            topic.end_turn();
+            topic.clear_due();
         }
+        self.turn_now(rt, at);
     }
 
     /// Turns the topic of this index, and tells the connections that have a subscription there, if there may be
@@ -166,24 +139,18 @@ impl<R: Wait, W: Side, T: Side> Hub<R, W, T> {
         }
     }
 
-    /// The connection is told of what the topic releases from now on, once more.
-    pub(crate) fn listen(
-        &self,
-        rt: &R,
-        topic: Topic,
-        connection: u64,
-        bell: &Arc<Bell>,
-    ) -> Result<(), AllocError> {
+    /// Who has this seat is told of what the topic releases from now on.
+    pub(crate) fn listen(&self, rt: &R, topic: Topic, seat: &Arc<Seat>) -> Result<(), AllocError> {
         match self.topics.get(topic.0 as usize) {
-            Some(topic) => topic.add(rt, connection, bell),
+            Some(topic) => topic.add(rt, seat),
             None => Ok(()),
         }
     }
 
-    /// The connection is told once less of what the topic releases.
-    pub(crate) fn unlisten(&self, rt: &R, topic: Topic, connection: u64) {
+    /// Who has this seat is told no longer.
+    pub(crate) fn unlisten(&self, rt: &R, topic: Topic, seat: &Seat) {
         if let Some(topic) = self.topics.get(topic.0 as usize) {
-            topic.remove(rt, connection);
+            topic.remove(rt, seat);
         }
     }
 
@@ -275,24 +242,11 @@ impl<R: Wait, W: Side, T: Side> Hub<R, W, T> {
     }
 }
 
-impl<R: Wait + Clock, W: Side, T: Side> Hub<R, W, T> {
-    /// Rests, 100 times at most, until nothing is on its way from these topics to another connection than this: they were
-    /// turned, and those who subscribed there have looked; or until this one, whose bell this is, is told something itself.
-    pub(crate) fn wait_for(&self, rt: &R, connection: u64, bell: &Bell, topics: &[Topic]) {
-        for _ in 0..MAX_RESTS {
-            if bell.is_told() || self.are_quiet(rt, connection, topics) {
-                break;
-            }
-            sleep(rt, rest_time());
-        }
-    }
-}
-
-/// The bells of so many topics.
-fn bells_of(alloc: Global, count: usize) -> Result<Vec<TopicBells>, NoMemory> {
+/// The seats of so many topics.
+fn seats_of(alloc: Global, count: usize) -> Result<Vec<TopicSeats>, NoMemory> {
     let mut topics = Vec::with_capacity(alloc, count)?;
     for _ in 0..count {
-        topics.push(TopicBells::new(alloc))?;
+        topics.push(TopicSeats::new(alloc))?;
     }
     Ok(topics)
 }

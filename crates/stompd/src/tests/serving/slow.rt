@@ -96,9 +96,24 @@ impl Peers for Slow {
 /// How many SENDs one sends to itself at once: more than its queue holds, and than one read brings.
 const TO_ITSELF: u64 = 1_000;
 
-/// One sends to its own subscription, at once, and reads all the time.
+/// One that has sent before subscribes, and sends to its own subscription, all at once, and reads all the time.
 #[derive(Drop)]
 struct ToItself;
+
+/// A SEND to B, and its RECEIPT; then the stamps of what is sent to A begin with 2.
+const FIRST: (&str, &str) = (
+    "SEND\ndestination:B\nreceipt:f\n\nx\0",
+    "RECEIPT\nreceipt-id:f\n\n\0",
+);
+
+/// A SUBSCRIBE of A, and so many SENDs there.
+fn all_at_once(alloc: Global) -> Option<String> {
+    let mut text = String::from_str(alloc, "SUBSCRIBE\nid:s\ndestination:A\n\n\0").ok()?;
+    for _ in 0..TO_ITSELF {
+        text.push_str("SEND\ndestination:A\n\nx\0").ok()?;
+    }
+    Some(text)
+}
 
 impl Peers for ToItself {
     fn count(&self) -> u64 {
@@ -106,17 +121,15 @@ impl Peers for ToItself {
     }
 
     fn meet(&self, alloc: Global, lines: &mut Lines) -> bool {
-        let Some(mut client) = Client::subscribed(alloc, lines) else {
+        let Some(mut client) = Client::connected(alloc, lines) else {
             return false;
         };
-        let mut text = String::new(alloc);
-        for _ in 0..TO_ITSELF {
-            if text.push_str("SEND\ndestination:A\n\nx\0").is_err() {
-                return false;
-            }
-        }
-        client.sends(text.as_str())
-            && (1..=TO_ITSELF).all(|number| hears_number(&mut client, alloc, number, b"x\0"))
+        let Some(text) = all_at_once(alloc) else {
+            return false;
+        };
+        client.asks(FIRST.0, FIRST.1)
+            && client.sends(text.as_str())
+            && (2..=TO_ITSELF + 1).all(|number| hears_number(&mut client, alloc, number, b"x\0"))
     }
 }
 

@@ -1,0 +1,53 @@
+//! A subscription's place at a topic.
+
+use crate::serving::bell::Bell;
+use std::sync::Arc;
+use std::sync::atomic::{AtomicU64, Ordering};
+
+/// A subscription's place at a topic: whose it is, and how far its connection's thread has taken what the topic releases.
+#[derive(Drop)]
+pub(crate) struct Seat {
+    connection: u64,
+    /// Of the connection's own numbering.
+    number: u64,
+    bell: Arc<Bell>,
+    /// The number of the stamp up to which all was taken. (Of two transactions whose stamps have one number, the second
+    /// counts as taken with the first.)
+    taken: AtomicU64,
+}
+
+impl Seat {
+    /// The place of this connection's subscription of this number, which has taken nothing.
+    pub(crate) fn new(connection: u64, number: u64, bell: Arc<Bell>) -> Seat {
+        Seat {
+            connection,
+            number,
+            bell,
+            taken: AtomicU64::new(0),
+        }
+    }
+
+    /// Whether it is the same as the other.
+    pub(crate) fn is(&self, other: &Seat) -> bool {
+        self.connection == other.connection && self.number == other.number
+    }
+
+    /// Tells its thread that the topic was turned, unless that is stuck: it looks for what there is, once it isn't.
+    pub(crate) fn ring(&self) {
+        if !self.bell.is_stuck() {
+            self.bell.ring();
+        }
+    }
+
+    /// Its queue was empty once all up to the stamp of this number had been taken, or its subscription begins there.
+    pub(crate) fn set_taken(&self, n: u64) {
+        if self.taken.load(Ordering::SeqCst) != n {
+            self.taken.store(n, Ordering::SeqCst);
+        }
+    }
+
+    /// Whether its thread has taken what has the stamp of this number; or can't, since its client takes nothing.
+    pub(crate) fn has_taken(&self, n: u64) -> bool {
+        self.taken.load(Ordering::SeqCst) >= n || self.bell.is_stuck()
+    }
+}
