@@ -5,7 +5,7 @@ use crate::serving::held::Held;
 use crate::serving::hub::Hub;
 use crate::serving::line::Line;
 use crate::serving::on_way::MAX_RESTS;
-use crate::serving::socket::Came;
+use crate::serving::socket::{Came, WriteFailed};
 use crate::serving::why_left::{Told, WhyLeft};
 use crate::spelled::Spelled;
 use broker_locks::Side;
@@ -79,12 +79,8 @@ impl<'a, R: Wait + Log + Clock, W: Side, T: Side> Connection<'a, R, W, T> {
         if told || self.talk.has_more() {
             busy = self.deliver();
         }
-        match self.line.socket.write(&mut self.talk) {
-            Ok(0) => {}
-            Ok(_) => {
-                busy = true;
-                self.stuck = None;
-            }
+        match self.write() {
+            Ok(sent) => busy = busy || sent > 0,
             Err(_) => return Round::Ended(WhyLeft::WriteFailed),
         }
         self.note_stuck();
@@ -170,8 +166,16 @@ impl<'a, R: Wait + Log + Clock, W: Side, T: Side> Connection<'a, R, W, T> {
 
     /// Writes what waits, and looks whether the system takes more; whether that could be asked.
     fn may_go_on(&mut self) -> bool {
-        self.line.socket.write(&mut self.talk).is_ok()
-            && self.wait(Some(Duration::from_millis(0))).is_ok()
+        self.write().is_ok() && self.wait(Some(Duration::from_millis(0))).is_ok()
+    }
+
+    /// Writes what waits, as far as the system takes it; how many octets went out.
+    fn write(&mut self) -> Result<usize, WriteFailed> {
+        let sent = self.line.socket.write(&mut self.talk)?;
+        if sent > 0 {
+            self.stuck = None;
+        }
+        Ok(sent)
     }
 
     /// Takes what came for it, and writes where that is much, so that more finds room.
@@ -180,7 +184,7 @@ impl<'a, R: Wait + Log + Clock, W: Side, T: Side> Connection<'a, R, W, T> {
             return;
         }
         self.deliver();
-        if self.talk.has_more() && self.line.socket.write(&mut self.talk).is_ok() {
+        if self.talk.has_more() && self.write().is_ok() {
             self.deliver();
         }
         self.note_stuck();
