@@ -135,7 +135,7 @@ impl Peers for ToItself {
 
 #[test]
 fn one_that_sends_to_itself_does_not_lag(rt: HostRuntime) {
-    assert!(rt; serves(&quiet(rt), rt.alloc(), &ToItself, 1_000));
+    assert!(rt; serves(&quiet(rt), rt.alloc(), &ToItself, 1_001));
 }
 
 #[test]
