@@ -5,6 +5,8 @@ ghost use denote.Param.Send.{IsSend, IsSync};
 mod accepting;
 mod bell;
 mod connection;
+mod desk;
+mod desks;
 mod door;
 mod head;
 mod held;
@@ -24,6 +26,7 @@ mod trouble;
 mod why_left;
 
 use crate::serving::accepting::accept_all;
+use crate::serving::desks::Desks;
 use crate::serving::door::Door;
 use crate::serving::head::Head;
 use crate::serving::hub::{Hub, MAX_CONNECTIONS};
@@ -114,10 +117,10 @@ where
 }
 
 /// Accepts connections, and ends once all of them ended.
-fn run_connections<R, W, T>(
-    rt: &R,
+fn run_connections<'a, R, W, T>(
+    rt: &'a R,
     alloc: Global,
-    hub: &Hub<R, W, T>,
+    hub: &'a Hub<R, W, T>,
     door: &mut Door,
     limit: Option<u64>,
 ) -> Result<(), ServerFault>
@@ -126,25 +129,45 @@ where
     W: Side + Send + Sync + 'static,
     T: Side + Send + Sync + 'static,
 {
-    let done = thread::scope(
+    let Ok(desks) = Desks::new(rt, alloc) else {
+        return Err(ServerFault::NoMemory);
+    };
+    run_at(rt, alloc, hub, &desks, door, limit)?;
+    if hub.has_failed() {
+        return Err(ServerFault::Io);
+    }
+    Ok(())
+}
+
+/// The same at these desks.
+fn run_at<'a, 'b, R, W, T>(
+    rt: &'a R,
+    alloc: Global,
+    hub: &'a Hub<R, W, T>,
+    desks: &'b Desks<'a, R, W, T>,
+    door: &mut Door,
+    limit: Option<u64>,
+) -> Result<(), ServerFault>
+where
+    R: Threads + Wait + Net + Clock + Log + Send + Sync,
+    W: Side + Send + Sync + 'static,
+    T: Side + Send + Sync + 'static,
+    'a: 'b,
+{
+    thread::scope(
         thread::scope_env(),
         rt,
         |scope| -> Result<(), ServerFault>
             requires { IsSend R.row × IsSync R.row × IsSend W.row × IsSync W.row
                 × IsSend T.row × IsSync T.row }
         {
-            let done = accept_all(rt, alloc, scope, hub, door, limit);
+            let done = accept_all(rt, alloc, scope, hub, desks, door, limit);
             if done.is_err() {
                 hub.close(rt);
             }
             done
         },
-    );
-    done?;
-    if hub.has_failed() {
-        return Err(ServerFault::Io);
-    }
-    Ok(())
+    )
 }
 
 /// A head's thread: turns what is due, until it is closed. It asks for memory once before it waits: what the C library

@@ -1,6 +1,7 @@
 //! The thread that accepts connections.
 
 use crate::serving::connection::attend;
+use crate::serving::desks::Desks;
 use crate::serving::door::Door;
 use crate::serving::hub::{Hub, MAX_CONNECTIONS};
 use crate::serving::line::Line;
@@ -74,11 +75,12 @@ impl Counter {
 }
 
 /// Starts a connection's thread. What is wanting for it, memory or a descriptor, ends it alone.
-fn start<'a, 's, E, R, W, T>(
+fn start<'a, 'b, 's, E, R, W, T>(
     rt: &'a R,
     alloc: Global,
     scope: &Scope<'s, E>,
     hub: &'a Hub<R, W, T>,
+    desks: &'b Desks<'a, R, W, T>,
     peer: Peer,
     stream: TcpStream,
 )
@@ -86,38 +88,47 @@ where
     R: Threads + Wait + Net + Clock + Log + Send + Sync,
     W: Side + Send + Sync + 'static,
     T: Side + Send + Sync + 'static,
-    'a: 's,
+    'a: 'b,
+    'b: 's,
 {
-    let mut line = match Line::new(rt, alloc, peer, Socket::new(stream)) {
+    let Peer {
+        number,
+        desk,
+        addr: _,
+    } = peer;
+    let mut socket = Socket::new(stream);
+    let line = match Line::new(rt, alloc, peer, &mut socket) {
         Ok(line) => line,
-        Err((mut socket, error)) => {
+        Err(error) => {
             if error.kind() == ErrorKind::OutOfMemory {
                 socket.say_no_memory();
             }
             warn!(rt; target: "serve", "{peer} is closed: {error}");
-            hub.free_place();
+            desks.free_number(rt, desk);
             return;
         }
     };
-    if hub.enter(rt, peer.number, &line.bell).is_err() {
-        line.socket.say_no_memory();
+    if hub.enter(rt, number, &line.bell).is_err() {
+        socket.say_no_memory();
         warn!(rt; target: "serve", "{peer} is closed: no memory for its bell");
-        hub.free_place();
+        desks.free_number(rt, desk);
         return;
     }
-    if scope.spawn(move || attend(rt, alloc, hub, line)).is_err() {
+    let run = move || attend(rt, alloc, hub, desks, line, socket);
+    if scope.spawn(run).is_err() {
         warn!(rt; target: "serve", "{peer} is closed: no memory for its thread");
-        hub.leave(rt, peer.number);
-        hub.free_place();
+        hub.leave(rt, number);
+        desks.free_number(rt, desk);
     }
 }
 
 /// A connection came: it is started, or closed at once where 256 are there.
-fn welcome<'a, 's, E, R, W, T>(
+fn welcome<'a, 'b, 's, E, R, W, T>(
     rt: &'a R,
     alloc: Global,
     scope: &Scope<'s, E>,
     hub: &'a Hub<R, W, T>,
+    desks: &'b Desks<'a, R, W, T>,
     counter: &mut Counter,
     stream: TcpStream,
     addr: SocketAddr,
@@ -126,28 +137,31 @@ where
     R: Threads + Wait + Net + Clock + Log + Send + Sync,
     W: Side + Send + Sync + 'static,
     T: Side + Send + Sync + 'static,
-    'a: 's,
+    'a: 'b,
+    'b: 's,
 {
-    let peer = Peer {
-        number: counter.came,
-        addr,
-    };
-    counter.came = counter.came.saturating_add(1);
-    if hub.take_place() {
-        start(rt, alloc, scope, hub, peer, stream);
-    } else {
-        drop(stream);
-        counter.refused.add();
-        counter.say(rt);
+    let number = counter.came;
+    counter.came = number.saturating_add(1);
+    match desks.take_number(rt) {
+        Some(desk) => {
+            let peer = Peer { number, desk, addr };
+            start(rt, alloc, scope, hub, desks, peer, stream);
+        }
+        None => {
+            drop(stream);
+            counter.refused.add();
+            counter.say(rt);
+        }
     }
 }
 
 /// Takes the connections that come, until so many came, or a fault.
-pub(crate) fn accept_all<'a, 's, E, R, W, T>(
+pub(crate) fn accept_all<'a, 'b, 's, E, R, W, T>(
     rt: &'a R,
     alloc: Global,
     scope: &Scope<'s, E>,
     hub: &'a Hub<R, W, T>,
+    desks: &'b Desks<'a, R, W, T>,
     door: &mut Door,
     limit: Option<u64>,
 ) -> Result<(), ServerFault>
@@ -155,7 +169,8 @@ where
     R: Threads + Wait + Net + Clock + Log + Send + Sync,
     W: Side + Send + Sync + 'static,
     T: Side + Send + Sync + 'static,
-    'a: 's,
+    'a: 'b,
+    'b: 's,
 {
     let mut counter = Counter::new();
     for _ in rt.forever() {
@@ -167,7 +182,7 @@ where
             return Ok(());
         }
         match door.listener.accept() {
-            Ok((stream, addr)) => welcome(rt, alloc, scope, hub, &mut counter, stream, addr),
+            Ok((stream, addr)) => welcome(rt, alloc, scope, hub, desks, &mut counter, stream, addr),
             Err(error) => wait_after(rt, hub, door, &mut counter, &error)?,
         }
     }

@@ -38,12 +38,17 @@ impl Bell {
         }
     }
 
+    /// Whether the thread waits, or is about to, and wasn't told anything.
+    pub(crate) fn is_asleep(&self) -> bool {
+        self.state.load(Ordering::SeqCst) == ASLEEP
+    }
+
     /// Whether the thread was told since it looked last.
     pub(crate) fn is_told(&self) -> bool {
         self.state.load(Ordering::SeqCst) == TOLD
     }
 
-    /// Whether the thread was told, or has waited. It looks for what there is after this.
+    /// Whether the thread was told since it looked last; it is awake from here on, and looks for what there is after this.
     pub(crate) fn hears(&self) -> bool {
         self.state.load(Ordering::SeqCst) != AWAKE
             && self.state.swap(AWAKE, Ordering::SeqCst) == TOLD

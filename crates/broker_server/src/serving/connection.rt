@@ -1,19 +1,24 @@
 //! A connection's thread.
 
-use crate::conversation::{BrokerCalls, Conversation, ConversationFault, Exit};
+ghost use Rattle.std.specs.Prelude.{◌≤◌, length};
+
+use crate::conversation::{Conversation, ConversationFault, Exit};
+use crate::serving::desk::Desk;
+use crate::serving::desks::Desks;
 use crate::serving::held::Held;
 use crate::serving::hub::Hub;
 use crate::serving::line::Line;
 use crate::serving::on_way::MAX_RESTS;
-use crate::serving::socket::{Came, WriteFailed};
+use crate::serving::seat::Seat;
+use crate::serving::socket::{Came, Socket};
 use crate::serving::why_left::{Told, WhyLeft};
 use crate::spelled::Spelled;
 use broker_locks::Side;
 use log::{Log, info, warn};
+use memchr::memchr;
 use std::alloc::Global;
-use std::sync::Wait;
-use std::time::{Clock, Duration, Instant};
-use stomp_frame::NoMemory;
+use std::sync::{Arc, Wait};
+use std::time::{Clock, Duration};
 
 /// So many reads are heard in a row, at most, before what is there for the connection is looked for again (our choice).
 const MAX_READS: u32 = 16;
@@ -23,6 +28,9 @@ const MAX_ROUNDS: u32 = 16;
 
 /// The octets of the shortest SEND: its command, a destination of one octet, two ends of lines, and NULL.
 const LEAST_SEND: u64 = 21;
+
+/// Where it heard at most so many octets since it turned topics last, it may stand in for others (our choice).
+const MOST_HEARD: usize = 16_384;
 
 /// A connection that leaves is closed after so many polls that brought nothing out (our choice).
 const MAX_POLLS: u32 = 100;
@@ -38,11 +46,6 @@ fn poll_time() -> Option<Duration> {
     Some(Duration::from_millis(100))
 }
 
-/// How long a connection that has lagged may take nothing (our choice).
-fn stuck_time() -> Duration {
-    Duration::from_secs(60)
-}
-
 /// What one turn of a connection's thread came to.
 #[derive(Clone, Copy)]
 enum Round {
@@ -56,38 +59,66 @@ enum Round {
     Ended(WhyLeft),
 }
 
-/// A connection that is there.
-#[derive(Drop)]
-struct Connection<'a, R: Wait + Log + Clock, W: Side, T: Side> {
-    line: Line,
-    hub: &'a Hub<R, W, T>,
-    held: Held<'a, R, W, T>,
-    talk: Conversation<Held<'a, R, W, T>>,
-    /// Since when the system has taken nothing of what waits, once the thread looked for that.
-    stuck: Option<Instant>,
+/// What wakes a thread.
+#[derive(Clone, Copy)]
+enum Sleep {
+    /// Its socket or its bell.
+    Told,
+    /// The time, too, since the system doesn't take what waits.
+    Timed,
 }
 
-impl<'a, R: Wait + Log + Clock, W: Side, T: Side> Connection<'a, R, W, T> {
+/// Behind the so manieth NULL of this piece, or behind the piece: no more frames end before that, since each ends with NULL.
+fn end_of_frames(piece: &[u8], most: u64) -> usize
+    ensures within { result ≤ length piece.now }
+{
+    let mut end = 0usize;
+    for _ in 0..most {
+        let Some(rest) = piece.get(end..) else {
+            break;
+        };
+        match memchr(0, rest) {
+            Some(at) => end = end.saturating_add(at).saturating_add(1),
+            None => return piece.len(),
+        }
+    }
+    end.min(piece.len())
+}
+
+/// A connection that is there, as its thread has it: it works at the connection's desk.
+#[derive(Drop)]
+struct Connection<'a, 'b, R: Wait + Log + Clock, W: Side, T: Side> {
+    rt: &'a R,
+    hub: &'a Hub<R, W, T>,
+    desks: &'b Desks<'a, R, W, T>,
+    line: Line,
+    /// How many octets it heard since it turned topics last.
+    heard: usize,
+    /// The seats of those who sleep, for whom it stands in.
+    asleep: Vec<Arc<Seat>>,
+}
+
+impl<'a, 'b, R: Wait + Log + Clock, W: Side, T: Side> Connection<'a, 'b, R, W, T> {
     /// One turn: takes what is there for it, writes, reads, and does what that asks for. It looks whether the server ends
     /// once it has heard, as for all that its bell tells of.
-    fn round(&mut self) -> Round {
+    fn round(&mut self, desk: &mut Desk<'a, R, W, T>) -> Round {
         let told = self.line.bell.hears();
         if self.hub.is_closing() {
             return Round::Ended(WhyLeft::Closing);
         }
         let mut busy = false;
-        if told || self.talk.has_more() {
-            busy = self.deliver();
+        if told || desk.talk.has_more() {
+            busy = desk.deliver();
         }
-        match self.write() {
+        match desk.write() {
             Ok(sent) => busy = busy || sent > 0,
             Err(_) => return Round::Ended(WhyLeft::WriteFailed),
         }
-        self.note_stuck();
-        if self.talk.is_leaving() {
+        desk.note_stuck();
+        if desk.talk.is_leaving() {
             return Round::Leaving;
         }
-        match self.hear() {
+        match self.hear(desk) {
             Round::Idle if busy => Round::Busy,
             round => round,
         }
@@ -95,19 +126,20 @@ impl<'a, R: Wait + Log + Clock, W: Side, T: Side> Connection<'a, R, W, T> {
 
     /// Reads while a read may give something, and does what each asks for; 16 times at most, and no longer than until
     /// the bell rings. Then the topics of what was committed are turned, before anything else is done.
-    fn hear(&mut self) -> Round {
+    fn hear(&mut self, desk: &mut Desk<'a, R, W, T>) -> Round {
         let mut round = Round::Idle;
         for _ in 0..MAX_READS {
-            match self.read() {
+            match desk.read(self.line.room.as_mut_slice()) {
                 Came::Octets(n) => {
-                    self.hear_piece(n);
+                    self.heard = self.heard.saturating_add(n);
+                    self.hear_read(desk, n);
                     round = Round::Busy;
                 }
                 Came::Again => round = Round::Busy,
                 Came::Nothing => break,
                 Came::End => {
-                    self.held.turn_topics();
-                    self.talk.lose(&mut self.held);
+                    desk.held.turn_topics();
+                    desk.talk.lose(&mut desk.held);
                     return Round::Leaving;
                 }
             }
@@ -115,194 +147,187 @@ impl<'a, R: Wait + Log + Clock, W: Side, T: Side> Connection<'a, R, W, T> {
                 break;
             }
         }
-        self.held.turn_topics();
+        if desk.held.unturned() > 0 {
+            if !self.stands_in(desk) {
+                desk.held.turn_topics();
+            }
+            self.heard = 0;
+        }
         round
     }
 
-    /// Does what the first so many octets of the room ask for. A connection that takes, too, hears no more at once than
-    /// there is room for what it may send, and takes in between what came: else it would lag by what it sends itself.
-    fn hear_piece(&mut self, n: usize) {
+    /// Where it heard little, and who would be told of what it sent are few, who sleep: turns the topics, and does at once
+    /// what the threads of those would do, since waking them costs more. Whether that was so.
+    fn stands_in(&mut self, desk: &mut Desk<'a, R, W, T>) -> bool {
+        if self.heard > MOST_HEARD || !desk.held.few_sleep() {
+            return false;
+        }
+        desk.held.turn_for(&mut self.asleep);
+        for seat in self.asleep.iter() {
+            if !self.desks.stand_in(seat.desk()) {
+                seat.ring();
+            }
+        }
+        self.asleep.clear();
+        desk.held.settle_both();
+        true
+    }
+
+    /// Does what the first so many octets of the room ask for, in pieces.
+    fn hear_read(&mut self, desk: &mut Desk<'a, R, W, T>, n: usize) {
         let mut at = 0usize;
         for _ in 0..n {
-            let room = if self.held.only_sends() {
-                self.held.capacity()
-            } else {
-                self.make_room()
-            };
-            let most = usize::try_from(room.saturating_mul(LEAST_SEND)).unwrap_or(n);
+            let most = self.most_at_once(desk, at, n);
             let end = n.min(at.saturating_add(most));
-            if let Some(part) = self.line.room.as_slice().get(at..end) {
-                self.talk.hear(&mut self.held, part);
+            if let Some(piece) = self.line.room.as_slice().get(at..end) {
+                desk.talk.hear(&mut desk.held, piece);
             }
             at = end;
             if at >= n {
                 break;
             }
+            if desk.held.unturned() >= desk.held.quarter() {
+                self.stands_in(desk);
+            }
+        }
+    }
+
+    /// How many octets of the room it hears at once, from this one on: so many frames as are a quarter of what a queue holds. A
+    /// connection that takes, too, makes room before, and hears no more than there is room for: else it would lag by what
+    /// it sends itself.
+    fn most_at_once(&mut self, desk: &mut Desk<'a, R, W, T>, at: usize, n: usize) -> usize {
+        if !desk.held.only_sends() {
+            let most = self.make_room(desk).saturating_mul(LEAST_SEND);
+            return usize::try_from(most).unwrap_or(n);
+        }
+        match self.line.room.as_slice().get(at..n) {
+            Some(rest) => end_of_frames(rest, desk.held.quarter()),
+            None => n,
         }
     }
 
     /// Takes what came for it until there is room for a quarter of what a queue holds, or it has rested 100 times; for how
     /// many transactions there is room then: one or more, and half of what a queue holds at most, since others send, too.
-    fn make_room(&mut self) -> u64 {
-        let capacity = self.held.capacity();
-        let least = (capacity / 4).max(1);
-        self.held.turn_topics();
+    fn make_room(&mut self, desk: &mut Desk<'a, R, W, T>) -> u64 {
+        let capacity = desk.held.capacity();
+        let least = desk.held.quarter();
+        desk.held.turn_topics();
         for _ in 0..MAX_RESTS {
-            self.held.settle();
-            self.take_between();
-            let room = self.held.room();
+            desk.held.settle();
+            desk.take_between();
+            let room = desk.held.room();
             let may_take = !self.line.bell.is_stuck() || room >= capacity;
             if room >= least && may_take {
                 return room.min((capacity / 2).max(1));
             }
-            if self.talk.is_leaving() || self.hub.is_closing() || !self.may_go_on() {
+            if desk.talk.is_leaving() || self.hub.is_closing() || !self.may_go_on(desk) {
                 return least;
             }
-            self.held.rest();
+            desk.held.rest();
         }
-        self.held.turn_over();
+        desk.held.turn_over();
         least
     }
 
     /// Writes what waits, and looks whether the system takes more; whether that could be asked.
-    fn may_go_on(&mut self) -> bool {
-        self.write().is_ok() && self.wait(Some(Duration::from_millis(0))).is_ok()
-    }
-
-    /// Writes what waits, as far as the system takes it; how many octets went out.
-    fn write(&mut self) -> Result<usize, WriteFailed> {
-        let sent = self.line.socket.write(&mut self.talk)?;
-        if sent > 0 {
-            self.stuck = None;
-        }
-        Ok(sent)
-    }
-
-    /// Takes what came for it, and writes where that is much, so that more finds room.
-    fn take_between(&mut self) {
-        if !self.line.bell.hears() && !self.talk.has_more() {
-            return;
-        }
-        self.deliver();
-        if self.talk.has_more() && self.write().is_ok() {
-            self.deliver();
-        }
-        self.note_stuck();
-    }
-
-    /// Takes what is there for it; whether something came of it. It isn't stuck from before it looks, so that it is told of
-    /// what comes then.
-    fn deliver(&mut self) -> bool {
-        self.line.bell.set_stuck(false);
-        self.talk.deliver(&mut self.held)
-    }
-
-    /// It is stuck where more is there than the system takes: it looks again once that takes some.
-    fn note_stuck(&mut self) {
-        if self.talk.has_more() && self.line.socket.is_blocked() {
-            self.line.bell.set_stuck(true);
-        }
-    }
-
-    /// Reads once, unless the connection leaves or too much waits for it.
-    fn read(&mut self) -> Came {
-        if self.talk.may_read() {
-            self.line.socket.read(self.line.room.as_mut_slice())
-        } else {
-            Came::Nothing
-        }
+    fn may_go_on(&mut self, desk: &mut Desk<'a, R, W, T>) -> bool {
+        desk.write().is_ok() && self.look(desk).is_ok()
     }
 
     /// Waits for the socket or the bell, so long at most. Refused where the poll failed, which ends the server.
     fn wait(&mut self, time: Option<Duration>) -> Result<(), WhyLeft> {
         if self.line.poll.poll(&mut self.line.events, time).is_err() {
-            self.hub.fail(self.held.rt());
+            self.hub.fail(self.rt);
             return Err(WhyLeft::PollFailed);
         }
-        self.line.socket.note(&self.line.events);
         Ok(())
     }
 
-    /// Talks with the peer until the connection leaves; refused where it ends at once. The poll is asked what else is
-    /// there while there is something to do, too: a write may go on, or the peer say something.
-    fn converse<S: Wait>(&mut self, rt: &S) -> Result<(), WhyLeft> {
+    /// Looks what the poll tells, without a wait.
+    fn look(&mut self, desk: &mut Desk<'a, R, W, T>) -> Result<(), WhyLeft> {
+        self.wait(Some(Duration::from_millis(0)))?;
+        desk.socket.note(&self.line.events);
+        Ok(())
+    }
+
+    /// Talks with the peer until the connection leaves; refused where it ends at once. While it sleeps, another thread may
+    /// stand in for it.
+    fn converse(&mut self) -> Result<(), WhyLeft> {
+        let rt = self.rt;
+        for _ in rt.forever() {
+            let time = match self.work()? {
+                Some(Sleep::Told) => None,
+                Some(Sleep::Timed) => poll_time(),
+                None => return Ok(()),
+            };
+            self.wait(time)?;
+        }
+        unreachable!()
+    }
+
+    /// Works at its desk until there is nothing to do: by what it is woken then, or `None` where the connection leaves. The
+    /// poll is asked what else is there while there is something to do, too: a write may go on, or the peer say something.
+    fn work(&mut self) -> Result<Option<Sleep>, WhyLeft> {
+        let rt = self.rt;
+        let Some(guarded) = self.desks.get(self.line.peer.desk) else {
+            return Ok(None);
+        };
+        let mut guard = guarded.lock(rt);
+        let Some(desk) = &mut *guard else {
+            return Ok(None);
+        };
+        desk.socket.note(&self.line.events);
         let mut rounds = 0u32;
         for _ in rt.forever() {
-            match self.round() {
+            match self.round(desk) {
                 Round::Busy => {
                     rounds = rounds.saturating_add(1);
-                    if self.line.socket.is_blocked() || rounds >= MAX_ROUNDS {
+                    if desk.socket.is_blocked() || rounds >= MAX_ROUNDS {
                         rounds = 0;
-                        self.wait(Some(Duration::from_millis(0)))?;
+                        self.look(desk)?;
                     }
                 }
-                Round::Leaving => return Ok(()),
+                Round::Leaving => return Ok(None),
                 Round::Ended(left) => return Err(left),
                 Round::Idle => {
                     rounds = 0;
-                    self.rest()?;
+                    if self.line.bell.sleeps() {
+                        return self.sleep_of(desk);
+                    }
                 }
             }
         }
         unreachable!()
     }
 
-    /// Waits, as there is nothing to do. Refused where a subscription has lagged, and the system has taken nothing for a
-    /// minute: the connection would be told of the lag behind that.
-    fn rest(&mut self) -> Result<(), WhyLeft> {
-        if !self.line.bell.sleeps() {
-            return Ok(());
+    /// By what it is woken, as there is nothing to do. Refused where the connection would be told of a lag behind what the
+    /// system hasn't taken for a minute.
+    fn sleep_of(&mut self, desk: &mut Desk<'a, R, W, T>) -> Result<Option<Sleep>, WhyLeft> {
+        if !desk.socket.is_blocked() {
+            return Ok(Some(Sleep::Told));
         }
-        if !self.line.socket.is_blocked() {
-            return self.wait(None);
-        }
-        if self.is_stuck() && self.has_lagged() {
+        if desk.is_lost() {
             return Err(WhyLeft::Stuck);
         }
-        self.wait(poll_time())
-    }
-
-    /// Whether the system has taken nothing of what waits for a minute. By a clock that can't be read it has.
-    fn is_stuck(&mut self) -> bool {
-        let now = Instant::now(self.held.rt()).ok();
-        match (self.stuck, now) {
-            (Some(since), Some(now)) => now.duration_since(since) >= stuck_time(),
-            (Some(_), None) => true,
-            (None, _) => {
-                self.stuck = now;
-                false
-            }
-        }
-    }
-
-    /// Whether one of its subscriptions has lagged.
-    fn has_lagged(&mut self) -> bool {
-        for at in 0..usize::MAX {
-            let Some(sub) = self.talk.sub_at(at) else {
-                break;
-            };
-            if self.held.has_lagged(sub) {
-                return true;
-            }
-        }
-        false
+        Ok(Some(Sleep::Timed))
     }
 
     /// Writes what waits for a connection that leaves, until all is out, a write failed, or 100 polls brought nothing
     /// out.
-    fn tell_last<S: Wait>(&mut self, rt: &S) -> Told {
-        if self.line.socket.register_writes(&self.line.poll).is_err() {
+    fn tell_last(&mut self, desk: &mut Desk<'a, R, W, T>) -> Told {
+        if desk.socket.register_writes(&self.line.poll).is_err() {
             return Told::WriteFailed;
         }
+        let rt = self.rt;
         let mut polls = 0u32;
         for _ in rt.forever() {
-            match self.line.socket.write(&mut self.talk) {
+            match desk.write() {
                 Ok(0) => {}
                 Ok(_) => polls = 0,
                 Err(_) => return Told::WriteFailed,
             }
-            if self.talk.wire().is_empty() {
-                return if self.talk.is_cut() {
+            if desk.talk.wire().is_empty() {
+                return if desk.talk.is_cut() {
                     Told::Cut
                 } else {
                     Told::All
@@ -314,6 +339,7 @@ impl<'a, R: Wait + Log + Clock, W: Side, T: Side> Connection<'a, R, W, T> {
             if self.hub.is_closing() || self.wait(poll_time()).is_err() {
                 return Told::Closing;
             }
+            desk.socket.note(&self.line.events);
             polls = polls.saturating_add(1);
         }
         unreachable!()
@@ -321,14 +347,14 @@ impl<'a, R: Wait + Log + Clock, W: Side, T: Side> Connection<'a, R, W, T> {
 
     /// Says that nothing more is written, and drops what the peer still sends, until it closes its side, or some
     /// polls brought nothing: closing at once would reset the connection, and the peer could lose what it was told.
-    fn hear_out(&mut self) {
-        self.line.socket.shut();
-        if self.line.socket.register_reads(&self.line.poll).is_err() {
+    fn hear_out(&mut self, desk: &mut Desk<'a, R, W, T>) {
+        desk.socket.shut();
+        if desk.socket.register_reads(&self.line.poll).is_err() {
             return;
         }
         let mut polls = 0u32;
         for _ in 0..LAST_READS {
-            match self.line.socket.read(self.line.room.as_mut_slice()) {
+            match desk.socket.read(self.line.room.as_mut_slice()) {
                 Came::End => return,
                 Came::Octets(_) | Came::Again => {}
                 Came::Nothing => {
@@ -338,6 +364,7 @@ impl<'a, R: Wait + Log + Clock, W: Side, T: Side> Connection<'a, R, W, T> {
                     {
                         return;
                     }
+                    desk.socket.note(&self.line.events);
                     if self.line.events.is_empty() {
                         polls = polls.saturating_add(1);
                     }
@@ -347,26 +374,43 @@ impl<'a, R: Wait + Log + Clock, W: Side, T: Side> Connection<'a, R, W, T> {
     }
 
     /// Says that a subscription has lagged, if that is why the connection leaves.
-    fn tell_lag(&self) {
-        if let Some(Exit::Error(ConversationFault::Lagged { topic, items })) = self.talk.exit() {
-            let name = self.talk.name(topic).unwrap_or(&[]);
+    fn tell_lag(&self, desk: &Desk<'a, R, W, T>) {
+        if let Some(Exit::Error(ConversationFault::Lagged { topic, items })) = desk.talk.exit() {
+            let name = desk.talk.name(topic).unwrap_or(&[]);
             let peer = self.line.peer;
-            warn!(self.held.rt(); target: "serve",
+            warn!(self.rt; target: "serve",
                 "{peer} lagged at the topic {}: {items} items behind", Spelled(name));
         }
     }
 
-    /// From its first octet to its last; why it left.
-    fn run<S: Wait>(&mut self, rt: &S) -> WhyLeft {
-        let ended = self.converse(rt);
-        self.tell_lag();
-        self.talk.lose(&mut self.held);
-        self.held.turn_topics();
-        match (ended, self.talk.exit()) {
+    /// From its first octet to its last; why it left. Its desk is there for others while it talks.
+    fn run(&mut self, desk: Box<Desk<'a, R, W, T>>) -> WhyLeft {
+        let Some(guarded) = self.desks.get(self.line.peer.desk) else {
+            return WhyLeft::NoMemory;
+        };
+        *guarded.lock(self.rt) = Some(desk);
+        let ended = self.converse();
+        let desk = guarded.lock(self.rt).take();
+        let Some(mut desk) = desk else {
+            return WhyLeft::Closing;
+        };
+        let left = self.leave(ended, &mut desk);
+        let (socket, held) = Box::into_inner(desk).into_parts();
+        drop(socket);
+        self.hub.running.put_worker(self.rt, held.into_worker());
+        left
+    }
+
+    /// Leaves, once the conversation has ended so, and nobody else comes to the desk; why it left.
+    fn leave(&mut self, ended: Result<(), WhyLeft>, desk: &mut Desk<'a, R, W, T>) -> WhyLeft {
+        self.tell_lag(desk);
+        desk.talk.lose(&mut desk.held);
+        desk.held.turn_topics();
+        match (ended, desk.talk.exit()) {
             (Ok(()), Some(exit)) => {
-                let told = self.tell_last(rt);
+                let told = self.tell_last(desk);
                 if let Told::All | Told::Cut = told {
-                    self.hear_out();
+                    self.hear_out(desk);
                 }
                 WhyLeft::By(exit, told)
             }
@@ -376,53 +420,46 @@ impl<'a, R: Wait + Log + Clock, W: Side, T: Side> Connection<'a, R, W, T> {
     }
 }
 
-/// A connection's thread, from its beginning to its end; its place is then free.
-pub(crate) fn attend<'a, R: Wait + Log + Clock, W: Side, T: Side>(
+/// A connection's thread, from its beginning to its end; its desk is then free.
+pub(crate) fn attend<'a, 'b, R: Wait + Log + Clock, W: Side, T: Side>(
     rt: &'a R,
     alloc: Global,
     hub: &'a Hub<R, W, T>,
+    desks: &'b Desks<'a, R, W, T>,
     line: Line,
+    socket: Socket,
 ) {
     let peer = line.peer;
     info!(rt; target: "serve", "{peer} came");
-    let left = talk_over(rt, alloc, hub, line);
+    let left = talk_over(rt, alloc, hub, desks, line, socket);
     info!(rt; target: "serve", "{peer} left: {left}");
-    hub.free_place();
+    desks.free_number(rt, peer.desk);
 }
 
-/// Talks over this line; why the connection left.
-fn talk_over<'a, R: Wait + Log + Clock, W: Side, T: Side>(
+/// Talks over this line and this socket; why the connection left.
+fn talk_over<'a, 'b, R: Wait + Log + Clock, W: Side, T: Side>(
     rt: &'a R,
     alloc: Global,
     hub: &'a Hub<R, W, T>,
+    desks: &'b Desks<'a, R, W, T>,
     line: Line,
+    socket: Socket,
 ) -> WhyLeft {
     let number = line.peer.number;
-    let mut line = line;
-    let left = match connection_of(rt, alloc, hub, &mut line) {
-        Ok((held, talk)) => {
+    let left = match desk_of(rt, alloc, hub, &line, socket) {
+        Ok(desk) => {
             let mut connection = Connection {
-                line,
+                rt,
                 hub,
-                held,
-                talk,
-                stuck: None,
-            };
-            let left = connection.run(rt);
-            let Connection {
+                desks,
                 line,
-                hub: _,
-                held,
-                talk,
-                stuck: _,
-            } = connection;
-            drop(line);
-            drop(talk);
-            hub.running.put_worker(rt, held.into_worker());
-            left
+                heard: 0,
+                asleep: Vec::new(alloc),
+            };
+            connection.run(desk)
         }
-        Err(NoMemory) => {
-            line.socket.say_no_memory();
+        Err(mut socket) => {
+            socket.say_no_memory();
             WhyLeft::NoMemory
         }
     };
@@ -430,17 +467,28 @@ fn talk_over<'a, R: Wait + Log + Clock, W: Side, T: Side>(
     left
 }
 
-/// What one connection asks the broker by, and what it does with what comes.
-fn connection_of<'a, R: Wait + Log + Clock, W: Side, T: Side>(
+/// The desk of a connection that begins. Out of memory, its socket is returned.
+fn desk_of<'a, R: Wait + Log + Clock, W: Side, T: Side>(
     rt: &'a R,
     alloc: Global,
     hub: &'a Hub<R, W, T>,
-    line: &mut Line,
-) -> Result<(Held<'a, R, W, T>, Conversation<Held<'a, R, W, T>>), NoMemory> {
-    let bell = line.bell.clone()?;
+    line: &Line,
+    socket: Socket,
+) -> Result<Box<Desk<'a, R, W, T>>, Socket> {
+    let Ok(bell) = line.bell.clone() else {
+        return Err(socket);
+    };
     let Ok(worker) = hub.running.take_worker(rt) else {
-        return Err(NoMemory);
+        return Err(socket);
     };
     let held = Held::new(rt, alloc, hub, line.peer, bell, worker);
-    Ok((held, Conversation::new(alloc, hub.running.capacity())))
+    let talk = Conversation::new(alloc, hub.running.capacity());
+    match Box::new(alloc, Desk::new(socket, held, talk)) {
+        Ok(desk) => Ok(desk),
+        Err(refused) => {
+            let (socket, held) = refused.value.into_parts();
+            hub.running.put_worker(rt, held.into_worker());
+            Err(socket)
+        }
+    }
 }

@@ -84,6 +84,11 @@ impl<'a, R: Wait + Log + Clock, W: Side, T: Side> Held<'a, R, W, T> {
         self.rt
     }
 
+    /// What its connection's thread is told by.
+    pub(crate) fn bell(&self) -> &Bell {
+        &self.bell
+    }
+
     /// Its worker, when it asks no more.
     pub(crate) fn into_worker(self) -> Worker<W>
         ensures { result ≡ self.entry.worker }
@@ -110,7 +115,10 @@ impl<'a, R: Wait + Log + Clock, W: Side, T: Side> Held<'a, R, W, T> {
         let bell = self.bell.clone()?;
         let number = self.begun;
         self.begun = number.saturating_add(1);
-        let seat = Arc::new(self.alloc, Seat::new(self.peer.number, number, bell))?;
+        let seat = Arc::new(
+            self.alloc,
+            Seat::new(self.peer.number, number, self.peer.desk, bell),
+        )?;
         Ok(seat)
     }
 
@@ -140,7 +148,28 @@ impl<'a, R: Wait + Log + Clock, W: Side, T: Side> Held<'a, R, W, T> {
         self.unturned = 0;
     }
 
-    /// Whether it has no subscription, and has sent something: it may never take.
+    /// How many transactions were committed, or refused, since their topics were turned.
+    pub(crate) fn unturned(&self) -> u64
+        ensures { result ≡ self.now.unturned }
+    {
+        self.unturned
+    }
+
+    /// Whether their topics have few seats, and the threads of all of these sleep.
+    pub(crate) fn few_sleep(&self) -> bool {
+        self.hub.few_sleep(self.rt, &self.marks)
+    }
+
+    /// Turns their topics. Who sleeps isn't told: the seat is put into this list, for whom this thread then stands in.
+    pub(crate) fn turn_for(&mut self, asleep: &mut Vec<Arc<Seat>>)
+        ensures { self.new ≡ record self.old { marks = unmarked; unturned = 0 } }
+    {
+        self.hub.turn_for(self.rt, &self.marks, asleep);
+        self.marks.clear();
+        self.unturned = 0;
+    }
+
+    /// Whether it has no subscription, and something that it sent may not have come: it may never take.
     pub(crate) fn only_sends(&self) -> bool {
         self.subs == 0 && self.on_way.room(1) == 0
     }
@@ -148,6 +177,11 @@ impl<'a, R: Wait + Log + Clock, W: Side, T: Side> Held<'a, R, W, T> {
     /// How many transactions may be on their way at once: so many find room in a queue.
     pub(crate) fn capacity(&self) -> u64 {
         self.hub.running.capacity()
+    }
+
+    /// A quarter of that, and one at least.
+    pub(crate) fn quarter(&self) -> u64 {
+        (self.capacity() / 4).max(1)
     }
 
     /// How many more may be on their way.
@@ -160,6 +194,12 @@ impl<'a, R: Wait + Log + Clock, W: Side, T: Side> Held<'a, R, W, T> {
         if self.on_way.has_come(self.rt, self.hub) {
             self.turn_over();
         }
+    }
+
+    /// The same twice: where all has come, nothing is on its way then.
+    pub(crate) fn settle_both(&mut self) {
+        self.settle();
+        self.settle();
     }
 
     /// What was sent before the newer half isn't waited for any more, and this is from now on.

@@ -12,7 +12,7 @@ use broker_locks::Side;
 use delivery::MAX_TOPICS;
 use mcast_txn::{NoMemory, Topic};
 use std::alloc::{AllocError, Global};
-use std::sync::atomic::{AtomicBool, AtomicU64, Ordering};
+use std::sync::atomic::{AtomicBool, Ordering};
 use std::sync::{Arc, Mutex, Wait};
 
 /// How many threads turn topics: topic t is turned by the head t mod 2.
@@ -21,14 +21,15 @@ const HEADS: usize = 2;
 /// The most connections that are there at once (our choice).
 pub(crate) const MAX_CONNECTIONS: u64 = 256;
 
+/// A sender's thread may stand in for so many seats at once that sleep (our choice).
+const MOST_ASLEEP: usize = 16;
+
 /// What the server's threads share: the broker, who is told of which topic, the heads, and the connections.
 #[derive(Drop)]
 pub(crate) struct Hub<R: Wait, W: Side, T: Side> {
     pub(crate) running: Running<R, W, T>,
     topics: Vec<TopicSeats>,
     heads: Vec<Head>,
-    /// How many connections are there.
-    places: AtomicU64,
     /// The bell of each connection that is there.
     connections: Mutex<Vec<(u64, Arc<Bell>)>>,
     /// The bell of the thread that accepts.
@@ -54,7 +55,6 @@ impl<R: Wait, W: Side, T: Side> Hub<R, W, T> {
             running,
             topics: seats_of(alloc, MAX_TOPICS)?,
             heads,
-            places: AtomicU64::new(0),
             connections: Mutex::new(Vec::with_capacity(alloc, MAX_CONNECTIONS as usize)?),
             door,
             closing: AtomicBool::new(false),
@@ -83,6 +83,36 @@ impl<R: Wait, W: Side, T: Side> Hub<R, W, T> {
     pub(crate) fn turn_marked(&self, rt: &R, marks: &Marks) {
         for topic in marks.topics() {
             self.turn_now(rt, topic.0 as usize);
+        }
+        if marks.may_be_any() {
+            self.set_all_due(rt);
+        }
+    }
+
+    /// Whether the topics that were marked have few seats, each and together, and the threads of all of these sleep.
+    pub(crate) fn few_sleep(&self, rt: &R, marks: &Marks) -> bool {
+        let mut asleep = 0usize;
+        for topic in marks.topics() {
+            let Some(seats) = self.topics.get(topic.0 as usize) else {
+                return false;
+            };
+            let Some(count) = seats.few_asleep(rt) else {
+                return false;
+            };
+            asleep = asleep.saturating_add(count);
+            if asleep > MOST_ASLEEP {
+                return false;
+            }
+        }
+        true
+    }
+
+    /// As `turn_marked`, but who sleeps isn't told: the seat is put into this list.
+    pub(crate) fn turn_for(&self, rt: &R, marks: &Marks, asleep: &mut Vec<Arc<Seat>>) {
+        for topic in marks.topics() {
+            if let Some(seats) = self.turned(rt, topic.0 as usize) {
+                seats.ring_awake(rt, asleep);
+            }
         }
         if marks.may_be_any() {
             self.set_all_due(rt);
@@ -132,10 +162,19 @@ impl<R: Wait, W: Side, T: Side> Hub<R, W, T> {
     /// Turns the topic of this index, and tells the connections that have a subscription there, if there may be
     /// something for them.
     fn turn_now(&self, rt: &R, at: usize) {
-        if let (Some(topic), Ok(number)) = (self.topics.get(at), u32::try_from(at))
-            && self.running.turn(rt, Topic(number))
-        {
-            topic.ring(rt);
+        if let Some(seats) = self.turned(rt, at) {
+            seats.ring(rt);
+        }
+    }
+
+    /// Turns the topic of this index: its seats, if there may be something for who has them.
+    fn turned(&self, rt: &R, at: usize) -> Option<&TopicSeats> {
+        let number = u32::try_from(at).ok()?;
+        let seats = self.topics.get(at)?;
+        if self.running.turn(rt, Topic(number)) {
+            Some(seats)
+        } else {
+            None
         }
     }
 
@@ -152,20 +191,6 @@ impl<R: Wait, W: Side, T: Side> Hub<R, W, T> {
         if let Some(topic) = self.topics.get(topic.0 as usize) {
             topic.remove(rt, seat);
         }
-    }
-
-    /// Takes a place for a connection, if one is free. Only the accepting thread does.
-    pub(crate) fn take_place(&self) -> bool {
-        if self.places.load(Ordering::SeqCst) >= MAX_CONNECTIONS {
-            return false;
-        }
-        self.places.fetch_add(1, Ordering::SeqCst);
-        true
-    }
-
-    /// Frees a place.
-    pub(crate) fn free_place(&self) {
-        self.places.fetch_sub(1, Ordering::SeqCst);
     }
 
     /// Adds a connection's bell, which rings when the server ends.
@@ -232,7 +257,6 @@ impl<R: Wait, W: Side, T: Side> Hub<R, W, T> {
             running,
             topics: _,
             heads: _,
-            places: _,
             connections: _,
             door: _,
             closing: _,

@@ -21,7 +21,7 @@ use trace_audit::Trace;
 #[derive(Drop)]
 pub(crate) struct Running<R: Wait, W: Side, T: Side> {
     pub(crate) broker: Broker<R, W, T>,
-    /// The names of the topics. Its lock is never held with another.
+    /// The names of the topics. No lock is taken while its own is held.
     pub(crate) names: Mutex<Names>,
     /// The workers that no connection uses.
     workers: Mutex<Vec<Worker<W>>>,

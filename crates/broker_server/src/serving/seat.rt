@@ -4,12 +4,14 @@ use crate::serving::bell::Bell;
 use std::sync::Arc;
 use std::sync::atomic::{AtomicU64, Ordering};
 
-/// A subscription's place at a topic: whose it is, and how far its connection's thread has taken what the topic releases.
+/// A subscription's place at a topic: whose it is, and how far what the topic releases was taken from its queue.
 #[derive(Drop)]
 pub(crate) struct Seat {
     connection: u64,
     /// Of the connection's own numbering.
     number: u64,
+    /// The number of the connection's desk.
+    desk: usize,
     bell: Arc<Bell>,
     /// The number of the stamp up to which all was taken. (Of two transactions whose stamps have one number, the second
     /// counts as taken with the first.)
@@ -18,10 +20,11 @@ pub(crate) struct Seat {
 
 impl Seat {
     /// The place of this connection's subscription of this number, which has taken nothing.
-    pub(crate) fn new(connection: u64, number: u64, bell: Arc<Bell>) -> Seat {
+    pub(crate) fn new(connection: u64, number: u64, desk: usize, bell: Arc<Bell>) -> Seat {
         Seat {
             connection,
             number,
+            desk,
             bell,
             taken: AtomicU64::new(0),
         }
@@ -30,6 +33,16 @@ impl Seat {
     /// Whether it is the same as the other.
     pub(crate) fn is(&self, other: &Seat) -> bool {
         self.connection == other.connection && self.number == other.number
+    }
+
+    /// The number of its connection's desk.
+    pub(crate) fn desk(&self) -> usize {
+        self.desk
+    }
+
+    /// Whether its thread sleeps, and would be woken by what comes.
+    pub(crate) fn is_asleep(&self) -> bool {
+        self.bell.is_asleep() && !self.bell.is_stuck()
     }
 
     /// Tells its thread that the topic was turned, unless that is stuck: it looks for what there is, once it isn't.
@@ -46,7 +59,7 @@ impl Seat {
         }
     }
 
-    /// Whether its thread has taken what has the stamp of this number; or can't, since its client takes nothing.
+    /// Whether what has the stamp of this number was taken from its queue; or can't be, since its client takes nothing.
     pub(crate) fn has_taken(&self, n: u64) -> bool {
         self.taken.load(Ordering::SeqCst) >= n || self.bell.is_stuck()
     }

@@ -5,6 +5,9 @@ use std::alloc::{AllocError, Global};
 use std::sync::atomic::{AtomicBool, Ordering};
 use std::sync::{Arc, Mutex, Wait};
 
+/// At a topic with so many seats, at most, the sender's thread may stand in for those that sleep (our choice).
+const FEW: usize = 2;
+
 /// A topic's seats, one of each open subscription; and whether the topic is due.
 #[derive(Drop)]
 pub(crate) struct TopicSeats {
@@ -59,10 +62,39 @@ impl TopicSeats {
         }
     }
 
+    /// How many they are, where they are few, and the threads of all of them sleep.
+    pub(crate) fn few_asleep<R: Wait>(&self, rt: &R) -> Option<usize> {
+        let seats = self.seats.lock(rt);
+        let count = seats.len();
+        if count <= FEW && seats.iter().all(|seat| seat.is_asleep()) {
+            Some(count)
+        } else {
+            None
+        }
+    }
+
+    /// Tells those whose threads are awake. The others are put into this list, or told, too, where there is no memory for
+    /// that.
+    pub(crate) fn ring_awake<R: Wait>(&self, rt: &R, asleep: &mut Vec<Arc<Seat>>) {
+        for seat in self.seats.lock(rt).iter() {
+            if !seat.is_asleep() || !is_put(seat, asleep) {
+                seat.ring();
+            }
+        }
+    }
+
     /// Tells all of them.
     pub(crate) fn ring<R: Wait>(&self, rt: &R) {
         for seat in self.seats.lock(rt).iter() {
             seat.ring();
         }
+    }
+}
+
+/// Puts a seat into this list, if there is memory for that; whether there was.
+fn is_put(seat: &Arc<Seat>, list: &mut Vec<Arc<Seat>>) -> bool {
+    match seat.clone() {
+        Ok(seat) => list.push(seat).is_ok(),
+        Err(_) => false,
     }
 }

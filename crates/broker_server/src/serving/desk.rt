@@ -1,0 +1,143 @@
+//! What a connection's thread works at.
+
+ghost use Rattle.std.specs.Prelude.{◌≡◌};
+
+use crate::conversation::{BrokerCalls, Conversation};
+use crate::serving::held::Held;
+use crate::serving::socket::{Came, Socket, WriteFailed};
+use broker_locks::Side;
+use log::Log;
+use std::sync::Wait;
+use std::time::{Clock, Duration, Instant};
+
+/// How long a connection that has lagged may take nothing (our choice).
+fn stuck_time() -> Duration {
+    Duration::from_secs(60)
+}
+
+/// What a connection's thread works at: what the connection says and is told, what it asks of the broker, and its socket.
+/// While that thread sleeps, another one may stand in for it here.
+#[derive(Drop)]
+pub(crate) struct Desk<'a, R: Wait + Log + Clock, W: Side, T: Side> {
+    pub(crate) socket: Socket,
+    pub(crate) held: Held<'a, R, W, T>,
+    pub(crate) talk: Conversation<Held<'a, R, W, T>>,
+    /// Since when the system has taken nothing of what waits, once the thread looked for that.
+    stuck: Option<Instant>,
+}
+
+impl<'a, R: Wait + Log + Clock, W: Side, T: Side> Desk<'a, R, W, T> {
+    /// The desk of a connection that has said nothing yet.
+    pub(crate) fn new(
+        socket: Socket,
+        held: Held<'a, R, W, T>,
+        talk: Conversation<Held<'a, R, W, T>>,
+    ) -> Desk<'a, R, W, T> {
+        Desk {
+            socket,
+            held,
+            talk,
+            stuck: None,
+        }
+    }
+
+    /// Takes what is there for the connection; whether something came of it. It isn't stuck from before it looks, so that
+    /// it is told of what comes then.
+    pub(crate) fn deliver(&mut self) -> bool {
+        self.held.bell().set_stuck(false);
+        self.talk.deliver(&mut self.held)
+    }
+
+    /// Writes what waits, as far as the system takes it; how many octets went out.
+    pub(crate) fn write(&mut self) -> Result<usize, WriteFailed> {
+        let sent = self.socket.write(&mut self.talk)?;
+        if sent > 0 {
+            self.stuck = None;
+        }
+        Ok(sent)
+    }
+
+    /// Reads once, into this room, unless the connection leaves or too much waits for it.
+    pub(crate) fn read(&mut self, room: &mut [u8]) -> Came {
+        if self.talk.may_read() {
+            self.socket.read(room)
+        } else {
+            Came::Nothing
+        }
+    }
+
+    /// Takes what came for it, and writes where that is much, so that more finds room.
+    pub(crate) fn take_between(&mut self) {
+        if !self.held.bell().hears() && !self.talk.has_more() {
+            return;
+        }
+        self.deliver();
+        if self.talk.has_more() && self.write().is_ok() {
+            self.deliver();
+        }
+        self.note_stuck();
+    }
+
+    /// It is stuck where more is there than the system takes: it looks again once that takes some.
+    pub(crate) fn note_stuck(&mut self) {
+        if self.talk.has_more() && self.socket.is_blocked() {
+            self.held.bell().set_stuck(true);
+        }
+    }
+
+    /// Does for its thread, which sleeps, what that would do once it was told: takes what is there, as much as may wait, and
+    /// writes once. Whether nothing is left for that thread to do. (Where a subscription has lagged, what is open ends here.)
+    pub(crate) fn stand_in(&mut self) -> bool {
+        self.deliver();
+        self.write().is_ok()
+            && self.talk.wire().is_empty()
+            && !self.talk.has_more()
+            && !self.talk.is_leaving()
+    }
+
+    /// Whether a subscription has lagged, and the system has taken nothing of what waits for a minute: the connection would
+    /// be told of the lag behind that.
+    pub(crate) fn is_lost(&mut self) -> bool {
+        self.is_stuck() && self.has_lagged()
+    }
+
+    /// Whether the system has taken nothing of what waits for a minute. By a clock that can't be read it has.
+    fn is_stuck(&mut self) -> bool {
+        let now = Instant::now(self.held.rt()).ok();
+        match (self.stuck, now) {
+            (Some(since), Some(now)) => now.duration_since(since) >= stuck_time(),
+            (Some(_), None) => true,
+            (None, _) => {
+                self.stuck = now;
+                false
+            }
+        }
+    }
+
+    /// Whether one of its subscriptions has lagged.
+    fn has_lagged(&mut self) -> bool {
+        for at in 0..usize::MAX {
+            let Some(sub) = self.talk.sub_at(at) else {
+                break;
+            };
+            if self.held.has_lagged(sub) {
+                return true;
+            }
+        }
+        false
+    }
+
+    /// Its socket, and what it asks the broker by, where it is needed no longer.
+    pub(crate) fn into_parts(self) -> (Socket, Held<'a, R, W, T>)
+        ensures socket { result.0 ≡ self.entry.socket }
+        ensures held { result.1 ≡ self.entry.held }
+    {
+        let Desk {
+            socket,
+            held,
+            talk: _,
+            stuck: _,
+        } = self;
+        (socket, held)
+    }
+}
