@@ -22,7 +22,7 @@ const HEADS: usize = 2;
 pub(crate) const MAX_CONNECTIONS: u64 = 256;
 
 /// A sender's thread may stand in for so many seats at once that sleep (our choice).
-const MOST_ASLEEP: usize = 16;
+const MOST_ASLEEP: usize = 32;
 
 /// What the server's threads share: the broker, who is told of which topic, the heads, and the connections.
 #[derive(Drop)]
