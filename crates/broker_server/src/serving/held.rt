@@ -1,6 +1,6 @@
 //! What one connection asks of the broker.
 
-ghost use Rattle.std.specs.Prelude.{◌≡◌, ◌<◌, ◌⊎◌};
+ghost use Rattle.std.specs.Prelude.{◌≡◌, ◌<◌, ◌⊎◌, ◌-◌};
 ghost use Rattle.broker_server.specs.MarkedTopics.{unmarked};
 
 use crate::conversation::{BrokerCalls, ConversationFault};
@@ -175,7 +175,9 @@ impl<'a, R: Wait + Log + Clock, W: Side, T: Side> Held<'a, R, W, T> {
     }
 
     /// How many transactions may be on their way at once: so many find room in a queue.
-    pub(crate) fn capacity(&self) -> u64 {
+    pub(crate) fn capacity(&self) -> u64
+        ensures { result ≡ self.now.hub.now.running.broker.capacity }
+    {
         self.hub.running.capacity()
     }
 
@@ -185,7 +187,10 @@ impl<'a, R: Wait + Log + Clock, W: Side, T: Side> Held<'a, R, W, T> {
     }
 
     /// How many more may be on their way.
-    pub(crate) fn room(&self) -> u64 {
+    pub(crate) fn room(&self) -> u64
+        ensures { result
+            ≡ self.now.hub.now.running.broker.capacity - self.now.on_way.before - self.now.on_way.since }
+    {
         self.on_way.room(self.capacity())
     }
 
