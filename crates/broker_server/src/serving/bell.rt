@@ -48,7 +48,8 @@ impl Bell {
         self.state.load(Ordering::SeqCst) == TOLD
     }
 
-    /// Whether the thread was told since it looked last; it is awake from here on, and looks for what there is after this.
+    /// Whether the thread was told since it looked last; it is awake from here on, and looks for what there is after
+    /// this.
     pub(crate) fn hears(&self) -> bool {
         self.state.load(Ordering::SeqCst) != AWAKE
             && self.state.swap(AWAKE, Ordering::SeqCst) == TOLD

@@ -68,7 +68,9 @@ enum Sleep {
     Timed,
 }
 
-/// Behind the so manieth NULL of this piece, or behind the piece: no more frames end before that, since each ends with NULL.
+/// Behind the so manieth NULL of this piece, or behind as many octets as so many of the shortest SENDs have, whichever is
+/// later, or behind the piece: no more transactions are sent before that. Each frame ends with NULL, but a body may have
+/// many.
 fn end_of_frames(piece: &[u8], most: u64) -> usize
     ensures within { result ≤ length piece.now }
 {
@@ -82,7 +84,9 @@ fn end_of_frames(piece: &[u8], most: u64) -> usize
             None => return piece.len(),
         }
     }
-    end.min(piece.len())
+    let least = most.saturating_mul(LEAST_SEND);
+    end.max(usize::try_from(least).unwrap_or(end))
+        .min(piece.len())
 }
 
 /// A connection that is there, as its thread has it: it works at the connection's desk.
@@ -99,8 +103,8 @@ struct Connection<'a, 'b, R: Wait + Log + Clock, W: Side, T: Side> {
 }
 
 impl<'a, 'b, R: Wait + Log + Clock, W: Side, T: Side> Connection<'a, 'b, R, W, T> {
-    /// One turn: takes what is there for it, writes, reads, and does what that asks for. It looks whether the server ends
-    /// once it has heard, as for all that its bell tells of.
+    /// One turn: takes what is there for it, writes, reads, and does what that asks for. It looks whether the server
+    /// ends once it has heard, as for all that its bell tells of.
     fn round(&mut self, desk: &mut Desk<'a, R, W, T>) -> Round {
         let told = self.line.bell.hears();
         if self.hub.is_closing() {
@@ -156,8 +160,8 @@ impl<'a, 'b, R: Wait + Log + Clock, W: Side, T: Side> Connection<'a, 'b, R, W, T
         round
     }
 
-    /// Where it heard little, and who would be told of what it sent are few, who sleep: turns the topics, and does at once
-    /// what the threads of those would do, since waking them costs more. Whether that was so.
+    /// Where it heard little, and who would be told of what it sent are few, who sleep: turns the topics, and does at
+    /// once what the threads of those would do, since waking them costs more. Whether that was so.
     fn stands_in(&mut self, desk: &mut Desk<'a, R, W, T>) -> bool {
         if self.heard > MOST_HEARD || !desk.held.few_sleep() {
             return false;
@@ -192,9 +196,9 @@ impl<'a, 'b, R: Wait + Log + Clock, W: Side, T: Side> Connection<'a, 'b, R, W, T
         }
     }
 
-    /// How many octets of the room it hears at once, from this one on: so many frames as are a quarter of what a queue holds. A
-    /// connection that takes, too, makes room before, and hears no more than there is room for: else it would lag by what
-    /// it sends itself.
+    /// How many octets of the room it hears at once, from this one on: so many frames as are a quarter of what a queue
+    /// holds. A connection that takes, too, makes room before, and hears no more than there is room for: else it would
+    /// lag by what it sends itself.
     fn most_at_once(&mut self, desk: &mut Desk<'a, R, W, T>, at: usize, n: usize) -> usize {
         if !desk.held.only_sends() {
             let most = self.make_room(desk).saturating_mul(LEAST_SEND);
@@ -206,8 +210,9 @@ impl<'a, 'b, R: Wait + Log + Clock, W: Side, T: Side> Connection<'a, 'b, R, W, T
         }
     }
 
-    /// Takes what came for it until there is room for a quarter of what a queue holds, or it has rested 100 times; for how
-    /// many transactions there is room then: one or more, and half of what a queue holds at most, since others send, too.
+    /// Takes what came for it until there is room for a quarter of what a queue holds, or it has rested 100 times; for
+    /// how many transactions there is room then: one or more, and half of what a queue holds at most, since others
+    /// send, too.
     fn make_room(&mut self, desk: &mut Desk<'a, R, W, T>) -> u64 {
         let capacity = desk.held.capacity();
         let least = desk.held.quarter();
@@ -250,8 +255,8 @@ impl<'a, 'b, R: Wait + Log + Clock, W: Side, T: Side> Connection<'a, 'b, R, W, T
         Ok(())
     }
 
-    /// Talks with the peer until the connection leaves; refused where it ends at once. While it sleeps, another thread may
-    /// stand in for it.
+    /// Talks with the peer until the connection leaves; refused where it ends at once. While it sleeps, another thread
+    /// may stand in for it.
     fn converse(&mut self) -> Result<(), WhyLeft> {
         let rt = self.rt;
         for _ in rt.forever() {
@@ -265,8 +270,9 @@ impl<'a, 'b, R: Wait + Log + Clock, W: Side, T: Side> Connection<'a, 'b, R, W, T
         unreachable!()
     }
 
-    /// Works at its desk until there is nothing to do: by what it is woken then, or `None` where the connection leaves. The
-    /// poll is asked what else is there while there is something to do, too: a write may go on, or the peer say something.
+    /// Works at its desk until there is nothing to do: by what it is woken then, or `None` where the connection leaves.
+    /// The poll is asked what else is there while there is something to do, too: a write may go on, or the peer say
+    /// something.
     fn work(&mut self) -> Result<Option<Sleep>, WhyLeft> {
         let rt = self.rt;
         let Some(guarded) = self.desks.get(self.line.peer.desk) else {
@@ -276,7 +282,7 @@ impl<'a, 'b, R: Wait + Log + Clock, W: Side, T: Side> Connection<'a, 'b, R, W, T
         let Some(desk) = &mut *guard else {
             return Ok(None);
         };
-        desk.socket.note(&self.line.events);
+        desk.socket.note_waited(&self.line.events);
         let mut rounds = 0u32;
         for _ in rt.forever() {
             match self.round(desk) {
@@ -300,8 +306,8 @@ impl<'a, 'b, R: Wait + Log + Clock, W: Side, T: Side> Connection<'a, 'b, R, W, T
         unreachable!()
     }
 
-    /// By what it is woken, as there is nothing to do. Refused where the connection would be told of a lag behind what the
-    /// system hasn't taken for a minute.
+    /// By what it is woken, as there is nothing to do. Refused where the connection would be told of a lag behind what
+    /// the system hasn't taken for a minute.
     fn sleep_of(&mut self, desk: &mut Desk<'a, R, W, T>) -> Result<Option<Sleep>, WhyLeft> {
         if !desk.socket.is_blocked() {
             return Ok(Some(Sleep::Told));
@@ -339,7 +345,7 @@ impl<'a, 'b, R: Wait + Log + Clock, W: Side, T: Side> Connection<'a, 'b, R, W, T
             if self.hub.is_closing() || self.wait(poll_time()).is_err() {
                 return Told::Closing;
             }
-            desk.socket.note(&self.line.events);
+            desk.socket.note_waited(&self.line.events);
             polls = polls.saturating_add(1);
         }
         unreachable!()

@@ -15,8 +15,11 @@ fn stuck_time() -> Duration {
     Duration::from_secs(60)
 }
 
-/// What a connection's thread works at: what the connection says and is told, what it asks of the broker, and its socket.
-/// While that thread sleeps, another one may stand in for it here.
+/// So many waits of a connection of whose octets the system takes nothing are a second (our choice).
+const WAITS: u32 = 10;
+
+/// What a connection's thread works at: what the connection says and is told, what it asks of the broker, and its
+/// socket. While that thread sleeps, another one may stand in for it here.
 #[derive(Drop)]
 pub(crate) struct Desk<'a, R: Wait + Log + Clock, W: Side, T: Side> {
     pub(crate) socket: Socket,
@@ -24,6 +27,8 @@ pub(crate) struct Desk<'a, R: Wait + Log + Clock, W: Side, T: Side> {
     pub(crate) talk: Conversation<Held<'a, R, W, T>>,
     /// Since when the system has taken nothing of what waits, once the thread looked for that.
     stuck: Option<Instant>,
+    /// How often it waited since it looked for subscriptions that have lagged.
+    waits: u32,
 }
 
 impl<'a, R: Wait + Log + Clock, W: Side, T: Side> Desk<'a, R, W, T> {
@@ -38,11 +43,12 @@ impl<'a, R: Wait + Log + Clock, W: Side, T: Side> Desk<'a, R, W, T> {
             held,
             talk,
             stuck: None,
+            waits: 0,
         }
     }
 
-    /// Takes what is there for the connection; whether something came of it. It isn't stuck from before it looks, so that
-    /// it is told of what comes then.
+    /// Takes what is there for the connection; whether something came of it. It isn't stuck from before it looks, so
+    /// that it is told of what comes then.
     pub(crate) fn deliver(&mut self) -> bool {
         self.held.bell().set_stuck(false);
         self.talk.deliver(&mut self.held)
@@ -85,8 +91,9 @@ impl<'a, R: Wait + Log + Clock, W: Side, T: Side> Desk<'a, R, W, T> {
         }
     }
 
-    /// Does for its thread, which sleeps, what that would do once it was told: takes what is there, as much as may wait, and
-    /// writes once. Whether nothing is left for that thread to do. (Where a subscription has lagged, what is open ends here.)
+    /// Does for its thread, which sleeps, what that would do once it was told: takes what is there, as much as may
+    /// wait, and writes once. Whether nothing is left for that thread to do. (Where a subscription has lagged, what is
+    /// open ends here.)
     pub(crate) fn stand_in(&mut self) -> bool {
         self.deliver();
         self.write().is_ok()
@@ -95,10 +102,13 @@ impl<'a, R: Wait + Log + Clock, W: Side, T: Side> Desk<'a, R, W, T> {
             && !self.talk.is_leaving()
     }
 
-    /// Whether a subscription has lagged, and the system has taken nothing of what waits for a minute: the connection would
-    /// be told of the lag behind that.
+    /// It is about to wait, since the system takes nothing of what waits for it: once a second it ends the subscriptions
+    /// that have lagged. Whether there is one, and the system has taken nothing for a minute: the connection would be told
+    /// of the lag behind that.
     pub(crate) fn is_lost(&mut self) -> bool {
-        self.is_stuck() && self.has_lagged()
+        let is_stuck = self.is_stuck();
+        self.waits = self.waits.wrapping_add(1) % WAITS;
+        self.waits == 0 && self.end_lagged() && is_stuck
     }
 
     /// Whether the system has taken nothing of what waits for a minute. By a clock that can't be read it has.
@@ -114,17 +124,16 @@ impl<'a, R: Wait + Log + Clock, W: Side, T: Side> Desk<'a, R, W, T> {
         }
     }
 
-    /// Whether one of its subscriptions has lagged.
-    fn has_lagged(&mut self) -> bool {
+    /// Ends its subscriptions that have lagged; whether one has.
+    fn end_lagged(&mut self) -> bool {
+        let mut some = false;
         for at in 0..usize::MAX {
             let Some(sub) = self.talk.sub_at(at) else {
                 break;
             };
-            if self.held.has_lagged(sub) {
-                return true;
-            }
+            some = self.held.end_lagged(sub) || some;
         }
-        false
+        some
     }
 
     /// Its socket, and what it asks the broker by, where it is needed no longer.
@@ -137,6 +146,7 @@ impl<'a, R: Wait + Log + Clock, W: Side, T: Side> Desk<'a, R, W, T> {
             held,
             talk: _,
             stuck: _,
+            waits: _,
         } = self;
         (socket, held)
     }

@@ -9,8 +9,8 @@ use std::alloc::{AllocError, Global};
 use std::sync::{Mutex, Wait};
 use std::time::Clock;
 
-/// A desk, once a connection has it, behind its lock. Who works there holds that: the connection's thread all the time but
-/// while it sleeps. It is the outermost of the server's locks; who holds one only tries another.
+/// A desk, once a connection has it, behind its lock. Who works there holds that: the connection's thread all the time
+/// but while it sleeps. It is the outermost of the server's locks; who holds one only tries another.
 pub(crate) type Guarded<'a, R, W, T> = Mutex<Option<Box<Desk<'a, R, W, T>>>>;
 
 /// The desks of all connections, by number.

@@ -17,6 +17,7 @@ use mcast_group::{SubFault, SubState};
 use mcast_txn::{Released, Topic};
 use sender_gate::{ClaimFault, Flying, Gate};
 use std::alloc::{AllocError, Global};
+use std::sync::atomic::{AtomicBool, Ordering};
 use std::sync::{Arc, Wait};
 use std::time::Clock;
 use stomp_frame::ClientFrame;
@@ -30,6 +31,8 @@ pub(crate) struct HeldSub {
     seat: Arc<Seat>,
     /// The number of the stamp of what was taken last, or of where it begins.
     last: u64,
+    /// Whether it has ended at its topic.
+    over: AtomicBool,
 }
 
 /// What one connection asks of the broker, and what it still has to tell the heads.
@@ -122,6 +125,29 @@ impl<'a, R: Wait + Log + Clock, W: Side, T: Side> Held<'a, R, W, T> {
         Ok(seat)
     }
 
+    /// Ends this subscription at its topic where it has lagged: it would cost others something there at each SEND. Its queue
+    /// still gives what it accepted. Whether it has lagged.
+    pub(crate) fn end_lagged(&mut self, sub: &HeldSub) -> bool {
+        let has_lagged = self.has_lagged(sub);
+        if has_lagged {
+            self.end(sub);
+        }
+        has_lagged
+    }
+
+    /// Ends this subscription at its topic, unless it has ended there.
+    fn end(&self, sub: &HeldSub) {
+        if sub.over.swap(true, Ordering::SeqCst) {
+            return;
+        }
+        self.hub.unlisten(self.rt, sub.topic, &sub.seat);
+        let _ = self
+            .hub
+            .running
+            .broker
+            .unsubscribe(self.rt, sub.topic, sub.begun.sub);
+    }
+
     /// Says that the last of these topics was made.
     fn tell_made(&self, names: &Names) {
         let last = names.len().saturating_sub(1);
@@ -133,9 +159,9 @@ impl<'a, R: Wait + Log + Clock, W: Side, T: Side> Held<'a, R, W, T> {
         }
     }
 
-    /// Turns the topics of what was committed, or refused, since that was done; or has their heads do so, where a connection
-    /// that never takes has committed more than one transaction. A head would have to be woken for one, and who takes, too,
-    /// has to have what it sent itself.
+    /// Turns the topics of what was committed, or refused, since that was done; or has their heads do so, where a
+    /// connection that never takes has committed more than one transaction. A head would have to be woken for one, and
+    /// who takes, too, has to have what it sent itself.
     pub(crate) fn turn_topics(&mut self)
         ensures { self.new ≡ record self.old { marks = unmarked; unturned = 0 } }
     {
@@ -301,6 +327,7 @@ impl<'a, R: Wait + Log + Clock, W: Side, T: Side> BrokerCalls for Held<'a, R, W,
                     begun,
                     seat,
                     last,
+                    over: AtomicBool::new(false),
                 })
             }
             Err(fault) => {
@@ -311,23 +338,15 @@ impl<'a, R: Wait + Log + Clock, W: Side, T: Side> BrokerCalls for Held<'a, R, W,
     }
 
     fn unsubscribe(&mut self, sub: HeldSub) {
-        let HeldSub {
-            topic,
-            begun,
-            seat,
-            last: _,
-        } = sub;
-        self.hub.unlisten(self.rt, topic, &seat);
+        self.end(&sub);
         self.subs = self.subs.saturating_sub(1);
-        let _ = self
-            .hub
-            .running
-            .broker
-            .unsubscribe(self.rt, topic, begun.sub);
-        drop(begun);
+        drop(sub);
     }
 
     fn has_lagged(&mut self, sub: &HeldSub) -> bool {
+        if sub.over.load(Ordering::SeqCst) {
+            return true;
+        }
         let state = self
             .hub
             .running

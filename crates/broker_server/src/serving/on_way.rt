@@ -26,8 +26,8 @@ struct Sent {
     n: u64,
 }
 
-/// What a connection sent that may not have come yet to all who subscribed there: in two halves, so that it goes on with
-/// the newer one while the older one comes.
+/// What a connection sent that may not have come yet to all who subscribed there: in two halves, so that it goes on
+/// with the newer one while the older one comes.
 #[derive(Drop)]
 pub(crate) struct OnWay {
     /// How many transactions the older half has.
@@ -66,8 +66,8 @@ impl OnWay {
         most.saturating_sub(self.before).saturating_sub(self.since)
     }
 
-    /// A transaction to these topics is about to be committed, which the newer half has then. (Without memory for a topic
-    /// this half isn't waited for.)
+    /// A transaction to these topics is about to be committed, which the newer half has then. (Without memory for a
+    /// topic this half isn't waited for.)
     pub(crate) fn begin(&mut self, topics: &[Topic]) {
         self.since = self.since.saturating_add(1);
         if self.ends_with(topics) {

@@ -85,6 +85,15 @@ impl Socket {
         }
     }
 
+    /// Notes what the poll told when it was waited for. Where it told nothing the time is over, and a write is tried again:
+    /// the system tells of room only once a third of what it holds has gone, which takes a slow peer long.
+    pub(crate) fn note_waited(&mut self, events: &Events) {
+        if events.is_empty() {
+            self.blocked = false;
+        }
+        self.note(events);
+    }
+
     /// Reads once, into this room, unless nothing can be there. A failed read is the peer's end.
     pub(crate) fn read(&mut self, room: &mut [u8]) -> Came {
         if !self.readable {

@@ -46,8 +46,8 @@ impl TopicSeats {
         Ok(())
     }
 
-    /// Takes a seat out. Room for more than twice as many as are left is given back where three quarters of the room are
-    /// free, so that a topic to which many had subscribed keeps nothing for them.
+    /// Takes a seat out. Room for more than twice as many as are left is given back where three quarters of the room
+    /// are free, so that a topic to which many had subscribed keeps nothing for them.
     pub(crate) fn remove<R: Wait>(&self, rt: &R, seat: &Seat) {
         let mut seats = self.seats.lock(rt);
         let seats = &mut *seats;
@@ -73,8 +73,8 @@ impl TopicSeats {
         }
     }
 
-    /// Tells those whose threads are awake. The others are put into this list, or told, too, where there is no memory for
-    /// that.
+    /// Tells those whose threads are awake. The others are put into this list, or told, too, where there is no memory
+    /// for that.
     pub(crate) fn ring_awake<R: Wait>(&self, rt: &R, asleep: &mut Vec<Arc<Seat>>) {
         for seat in self.seats.lock(rt).iter() {
             if !seat.is_asleep() || !is_put(seat, asleep) {

@@ -20,9 +20,9 @@ pub(crate) enum Trouble {
 /// (ENOTSOCK), or not of one that listens (EINVAL, EOPNOTSUPP).
 const BROKEN: [i32; 4] = [9, 88, 22, 95];
 
-/// The numbers of the errors that Linux passes on from the connection that waited: EPROTO, ENOPROTOOPT, ENONET, ENETDOWN,
-/// ENETUNREACH, ECONNABORTED, ETIMEDOUT, EHOSTDOWN, EHOSTUNREACH. (EPERM may be one of them, a firewall's, or come each
-/// time: so it is waited out.)
+/// The numbers of the errors that Linux passes on from the connection that waited: EPROTO, ENOPROTOOPT, ENONET,
+/// ENETDOWN, ENETUNREACH, ECONNABORTED, ETIMEDOUT, EHOSTDOWN, EHOSTUNREACH. (EPERM may be one of them, a firewall's, or
+/// come each time: so it is waited out.)
 const PASSING: [i32; 9] = [71, 92, 64, 100, 101, 103, 110, 112, 113];
 
 impl Trouble {

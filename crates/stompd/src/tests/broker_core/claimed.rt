@@ -320,19 +320,28 @@ fn are_right(
     Ok(true)
 }
 
+/// Whether each outcome of this run may be, which the core takes, and what is reported at its end is right.
+fn is_run_right(
+    alloc: Global,
+    net: &mut Net,
+    past: &mut Past,
+    run: u32,
+    seen: &mut Seen,
+) -> Result<bool, NoMemory> {
+    let mut draws = Draws::of(run.wrapping_add(1_000));
+    if !begin(alloc, net, past, &mut draws)? || !are_right(alloc, net, past, &mut draws)? {
+        return Ok(false);
+    }
+    seen.add(past);
+    is_right(alloc, &net.report(), past)
+}
+
 /// The core that has taken a run; and whether each outcome of it may be, and what is reported at its end is right.
 pub(crate) fn judged(alloc: Global, run: u32, seen: &mut Seen) -> Result<(Net, bool), NoMemory> {
     let kind = kind_of(run);
     let mut net = new_net(alloc, kind)?;
     let mut past = Past::new(alloc, opening(kind))?;
-    let mut draws = Draws::of(run.wrapping_add(1_000));
-    if !begin(alloc, &mut net, &mut past, &mut draws)?
-        || !are_right(alloc, &mut net, &mut past, &mut draws)?
-    {
-        return Ok((net, false));
-    }
-    seen.add(&past);
-    let is_right = is_right(alloc, &net.report(), &past)?;
+    let is_right = is_run_right(alloc, &mut net, &mut past, run, seen)?;
     Ok((net, is_right))
 }
 

@@ -8,7 +8,7 @@ mod queues;
 
 use super::jobs::Opening;
 use broker_locks::{Broker, Side, Tally};
-use commits::{Answers, Committed, commit_all};
+use commits::{Answers, Committed, both, commit_all, two_committers};
 use logs::are_logs;
 use mcast_txn::{NoMemory, Topic};
 use queues::items_sent;
@@ -43,18 +43,18 @@ where
     W: Side + Send + Sync + 'static,
     T: Side + Send + Sync + 'static,
 {
-    let (one, two) = (broker.join(rt).ok()?, broker.join(rt).ok()?);
-    let (left, right) = (broker.claim(rt, None).ok()?, broker.claim(rt, None).ok()?);
-    let senders = [left.sender().0, right.sender().0];
+    let (one, two) = two_committers(rt, broker)?;
+    let senders = [one.sender(), two.sender()];
     let (first, second) = thread::join(
         rt,
-        move || commit_all(rt, alloc, broker, one, left),
-        move || commit_all(rt, alloc, broker, two, right),
+        move || commit_all(rt, alloc, broker, one),
+        move || commit_all(rt, alloc, broker, two),
     );
+    let (first, second) = both(first, second)?;
     Some(Ran {
         senders,
-        first: first?,
-        second: second?,
+        first,
+        second,
     })
 }
 

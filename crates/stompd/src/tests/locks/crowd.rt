@@ -5,15 +5,14 @@ ghost use Rattle.std.specs.Prelude.{◌≡◌, ◌≤◌};
 
 mod spans;
 
-use super::audited::commits::{Answers, Committed, commit_all};
+use super::audited::commits::{Answers, Committer, both, commit_all, two_committers};
 use super::audited::logs::are_logs;
 use super::held::reaches;
 use super::jobs::Opening;
 use crate::tests::draws::Draws;
-use broker_locks::{Broker, Side, Worker};
+use broker_locks::{Broker, Side, Subscribed};
 use mcast_group::Cause;
 use mcast_txn::{NoMemory, Stamp, Topic};
-use sender_gate::Gate;
 use spans::{Taken, taken_between};
 use std::alloc::Global;
 use std::marker::Brand;
@@ -59,22 +58,44 @@ impl Stages {
     }
 }
 
-/// A worker: it commits once both threads that subscribe have begun.
+/// A worker: it commits once both threads that subscribe have begun. Returns the stamps that its commits answered.
 fn commit_watched<R: Wait, W: Side, T: Side>(
     rt: &R,
     alloc: Global,
     broker: &Broker<R, W, T>,
-    worker: Worker<W>,
-    gate: Gate,
+    committer: Committer<W>,
     stages: &Stages,
-) -> Option<Committed<W>> {
+) -> Option<Vec<Stamp>> {
     let made = if reaches(&stages.begun, 2) {
-        commit_all(rt, alloc, broker, worker, gate)
+        commit_all(rt, alloc, broker, committer)
     } else {
         None
     };
     stages.committed.fetch_add(1, Ordering::SeqCst);
-    made
+    Some(made?.stamps)
+}
+
+/// Both workers at once.
+fn commit_both<R, W, T>(
+    rt: &R,
+    alloc: Global,
+    broker: &Broker<R, W, T>,
+    committers: (Committer<W>, Committer<W>),
+    stages: &Stages,
+) -> Option<Answers>
+where
+    R: Threads + Wait + Send + Sync,
+    W: Side + Send + Sync + 'static,
+    T: Side + Send + Sync + 'static,
+{
+    let (one, two) = committers;
+    let (first, second) = thread::join(
+        rt,
+        move || commit_watched(rt, alloc, broker, one, stages),
+        move || commit_watched(rt, alloc, broker, two, stages),
+    );
+    let (first, second) = both(first, second)?;
+    Some(Answers::new(first, second))
 }
 
 /// A head: it turns topics in the order of a draw until the others have ended. Returns how many rows it released.
@@ -95,6 +116,21 @@ fn turn_drawn<R: Wait, W: Side, T: Side>(
         thread::yield_now();
     }
     None
+}
+
+/// Both heads at once. Returns how many rows they released.
+fn turn_both<R, W, T>(rt: &R, broker: &Broker<R, W, T>, run: u32, stages: &Stages) -> Option<u64>
+where
+    R: Threads + Wait + Send + Sync,
+    W: Side + Send + Sync + 'static,
+    T: Side + Send + Sync + 'static,
+{
+    let (one, two) = thread::join(
+        rt,
+        move || turn_drawn(rt, broker, run, stages),
+        move || turn_drawn(rt, broker, run.wrapping_add(1), stages),
+    );
+    Some(one?.saturating_add(two?))
 }
 
 /// Subscriptions one after another, each at a topic that is drawn, until the workers have ended.
@@ -135,21 +171,34 @@ fn subscribe_drawn<R: Wait, W: Side, T: Side>(
     taken
 }
 
-/// What the threads of a run did: the stamps that the two workers' commits answered, how many rows the heads released, and
-/// what the subscriptions of the two others took.
-#[derive(Drop)]
-struct Ran {
-    first: Vec<Stamp>,
-    second: Vec<Stamp>,
-    released: u64,
-    left: Vec<Taken>,
-    right: Vec<Taken>,
+/// Both that subscribe at once.
+fn subscribe_both<R, W, T>(
+    rt: &R,
+    alloc: Global,
+    broker: &Broker<R, W, T>,
+    run: u32,
+    stages: &Stages,
+) -> Option<(Vec<Taken>, Vec<Taken>)>
+where
+    R: Threads + Wait + Send + Sync,
+    W: Side + Send + Sync + 'static,
+    T: Side + Send + Sync + 'static,
+{
+    let (one, two) = thread::join(
+        rt,
+        move || subscribe_drawn(rt, alloc, broker, run.wrapping_add(2), stages),
+        move || subscribe_drawn(rt, alloc, broker, run.wrapping_add(3), stages),
+    );
+    both(one, two)
 }
 
-/// The stamps that a worker's commits answered.
-fn stamps_of<W: Side>(committed: Committed<W>) -> Vec<Stamp> {
-    let Committed { worker: _, stamps } = committed;
-    stamps
+/// What the threads of a run did: what the two workers' commits answered, how many rows the heads released, and what the
+/// subscriptions of the two others took.
+#[derive(Drop)]
+struct Ran {
+    answers: Answers,
+    released: u64,
+    taken: (Vec<Taken>, Vec<Taken>),
 }
 
 /// Two workers, two heads, and two that subscribe, at once.
@@ -159,46 +208,25 @@ where
     W: Side + Send + Sync + 'static,
     T: Side + Send + Sync + 'static,
 {
-    let (one, two) = (broker.join(rt).ok()?, broker.join(rt).ok()?);
-    let (left, right) = (broker.claim(rt, None).ok()?, broker.claim(rt, None).ok()?);
+    let committers = two_committers(rt, broker)?;
     let stages = Stages::new();
     let shared = &stages;
-    let (commits, (released, spans)) = thread::join(
+    let (answers, (released, taken)) = thread::join(
         rt,
+        move || commit_both(rt, alloc, broker, committers, shared),
         move || {
             thread::join(
                 rt,
-                move || commit_watched(rt, alloc, broker, one, left, shared),
-                move || commit_watched(rt, alloc, broker, two, right, shared),
-            )
-        },
-        move || {
-            thread::join(
-                rt,
-                move || {
-                    thread::join(
-                        rt,
-                        move || turn_drawn(rt, broker, run, shared),
-                        move || turn_drawn(rt, broker, run.wrapping_add(1), shared),
-                    )
-                },
-                move || {
-                    thread::join(
-                        rt,
-                        move || subscribe_drawn(rt, alloc, broker, run.wrapping_add(2), shared),
-                        move || subscribe_drawn(rt, alloc, broker, run.wrapping_add(3), shared),
-                    )
-                },
+                move || turn_both(rt, broker, run, shared),
+                move || subscribe_both(rt, alloc, broker, run, shared),
             )
         },
     );
-    let ((first, second), (one, two), (left, right)) = (commits, released, spans);
+    let (answers, taken) = both(answers, taken)?;
     Some(Ran {
-        first: stamps_of(first?),
-        second: stamps_of(second?),
-        released: one?.saturating_add(two?),
-        left: left?,
-        right: right?,
+        answers,
+        released: released?,
+        taken,
     })
 }
 
@@ -237,6 +265,38 @@ struct Ended {
     answers: Answers,
 }
 
+/// How many rows the last turn of each topic releases; and what this subscription at topic 0 takes then.
+fn taken_last<R: Wait, W: Side, T: Side>(
+    rt: &R,
+    alloc: Global,
+    broker: &Broker<R, W, T>,
+    begun: Subscribed,
+) -> Option<(u64, Taken)> {
+    let released = last_turns(rt, broker)?;
+    let taken = taken_between(rt, alloc, broker, Topic(0), begun, 0)?;
+    Some((released, taken))
+}
+
+impl Ran {
+    /// What it leaves, where the last turns released so many rows and this was read at the end.
+    fn ended(self, last: u64, unread: Taken) -> Ended {
+        let Ran {
+            answers,
+            released,
+            taken: (left, right),
+        } = self;
+        let all_whole = unread.is_whole(&answers)
+            && are_whole(&left, &answers)
+            && are_whole(&right, &answers);
+        Ended {
+            released: released.saturating_add(last),
+            unread: unread.ending(),
+            are_whole: all_whole,
+            answers,
+        }
+    }
+}
+
 /// A run of six threads, with a subscription at topic 0 that is read at its end alone.
 fn run_watched<R, W, T>(rt: &R, alloc: Global, broker: &Broker<R, W, T>, run: u32) -> Option<Ended>
 where
@@ -245,25 +305,9 @@ where
     T: Side + Send + Sync + 'static,
 {
     let begun = broker.subscribe(rt, Topic(0)).ok()?;
-    let Ran {
-        first,
-        second,
-        released,
-        left,
-        right,
-    } = run_six(rt, alloc, broker, run)?;
-    let released = released.saturating_add(last_turns(rt, broker)?);
-    let unread = taken_between(rt, alloc, broker, Topic(0), begun, 0)?;
-    let answers = Answers::new(first, second);
-    let all_whole = unread.is_whole(&answers)
-        && are_whole(&left, &answers)
-        && are_whole(&right, &answers);
-    Some(Ended {
-        released,
-        unread: unread.ending(),
-        are_whole: all_whole,
-        answers,
-    })
+    let ran = run_six(rt, alloc, broker, run)?;
+    let (last, unread) = taken_last(rt, alloc, broker, begun)?;
+    Some(ran.ended(last, unread))
 }
 
 /// A run whose trace is audited, with these ledgers.

@@ -17,13 +17,21 @@ use std::test::Fail;
 #[derive(Drop)]
 struct TwoConnections;
 
-/// By which number the second claim is refused while the first connection has the gate; the gate's sender, number and floor
-/// when it is claimed again; both commits' stamps; and what topic 0 gives.
+/// What the second connection finds, once the first has given the gate back: the gate's sender, number and floor, and its
+/// commit's stamp.
+#[derive(Clone, Copy, PartialEq, Eq)]
+struct Second {
+    gate: (u64, u64, Stamp),
+    stamp: Stamp,
+}
+
+/// By which number the second claim is refused while the first connection has the gate; the first commit's stamp; what the
+/// second connection finds then; and what topic 0 gives.
 #[derive(Clone, Copy, PartialEq, Eq)]
 struct Found {
     refused: Option<u32>,
-    gate: (u64, u64, Stamp),
-    stamps: [Stamp; 2],
+    first: Stamp,
+    second: Second,
     items: [Option<(u64, u64, Stamp)>; 3],
 }
 
@@ -51,6 +59,34 @@ fn committed<R: Wait, W: Side, T: Side>(
     broker.commit(rt, &mut worker, flying, &mut Quiet).ok()
 }
 
+/// The first connection: by which number another claim is refused meanwhile, and its commit's stamp.
+fn first_connection<R: Wait, W: Side, T: Side>(
+    rt: &R,
+    alloc: Global,
+    broker: &Broker<R, W, T>,
+) -> Option<(Option<u32>, Stamp)> {
+    let gate = broker.claim(rt, Some(b"c")).ok()?;
+    let refused = broker.claim(rt, Some(b"c")).err();
+    let (gate, stamp) = committed(rt, alloc, broker, gate, &[0, 1])?;
+    broker.give_back(rt, gate);
+    Some((refused.map(|fault| fault.number()), stamp))
+}
+
+/// The second.
+fn second_connection<R: Wait, W: Side, T: Side>(
+    rt: &R,
+    alloc: Global,
+    broker: &Broker<R, W, T>,
+) -> Option<Second> {
+    let gate = broker.claim(rt, Some(b"c")).ok()?;
+    let claimed = (gate.sender().0, gate.seq(), gate.floor());
+    let (_gate, stamp) = committed(rt, alloc, broker, gate, &[0])?;
+    Some(Second {
+        gate: claimed,
+        stamp,
+    })
+}
+
 /// What this broker answers.
 fn two_connections<R: Wait, W: Side, T: Side>(
     rt: &R,
@@ -59,18 +95,13 @@ fn two_connections<R: Wait, W: Side, T: Side>(
 ) -> Option<Found> {
     let mut begun = broker.subscribe(rt, Topic(0)).ok()?;
     let _other = broker.claim(rt, None).ok()?;
-    let gate = broker.claim(rt, Some(b"c")).ok()?;
-    let refused = broker.claim(rt, Some(b"c")).err();
-    let (gate, first) = committed(rt, alloc, broker, gate, &[0, 1])?;
-    broker.give_back(rt, gate);
-    let gate = broker.claim(rt, Some(b"c")).ok()?;
-    let claimed = (gate.sender().0, gate.seq(), gate.floor());
-    let (_gate, second) = committed(rt, alloc, broker, gate, &[0])?;
+    let (refused, first) = first_connection(rt, alloc, broker)?;
+    let second = second_connection(rt, alloc, broker)?;
     broker.head_turn(rt, Topic(0)).ok()?;
     Some(Found {
-        refused: refused.map(|fault| fault.number()),
-        gate: claimed,
-        stamps: [first, second],
+        refused,
+        first,
+        second,
         items: three_taken(rt, &mut begun),
     })
 }
@@ -102,8 +133,11 @@ fn a_client_id_is_claimed_by_two_connections(rt: HostRuntime) -> Result<(), Fail
     let found = with_broker(&rt, rt.alloc(), opening, TwoConnections)?;
     let wanted = Found {
         refused: Some(77),
-        gate: (1, 1, stamp(10, 1)),
-        stamps: [stamp(10, 1), stamp(11, 0)],
+        first: stamp(10, 1),
+        second: Second {
+            gate: (1, 1, stamp(10, 1)),
+            stamp: stamp(11, 0),
+        },
         items: [Some((1, 1, stamp(10, 1))), Some((1, 2, stamp(11, 0))), None],
     };
     assert!(rt; found == Some(wanted));

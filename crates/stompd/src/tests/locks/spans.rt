@@ -54,18 +54,26 @@ struct Span {
     end: Left,
 }
 
-/// The stamps of the three commits; what the heads answer, of topic 1, and then of topics 0, 1 and 2; both subscriptions, and
-/// the second one's state after the first one's end.
+/// The stamp of the third commit; what the heads of topics 0, 1 and 2 answer then; both subscriptions, and the second one's
+/// state after the first one's end.
 #[derive(Clone, Copy, PartialEq, Eq)]
-struct Found {
-    stamps: [Stamp; 3],
-    released: [Option<u64>; 4],
+struct Later {
+    stamp: Stamp,
+    released: [Option<u64>; 3],
     first: Span,
     second: Span,
     state: Option<SubState>,
 }
 
-/// What the subscription takes, how it ends, and what it was.
+/// The stamps of the first two commits; what the head of topic 1 answers; and what is left.
+#[derive(Clone, Copy, PartialEq, Eq)]
+struct Found {
+    stamps: [Stamp; 2],
+    early: Option<u64>,
+    later: Later,
+}
+
+/// What the subscription takes, how it ended, and what it was.
 fn span_of<R: Wait>(rt: &R, begun: Subscribed, end: Left) -> Span {
     let (sub, start) = (begun.sub, begun.start);
     let mut begun = begun;
@@ -77,6 +85,47 @@ fn span_of<R: Wait>(rt: &R, begun: Subscribed, end: Left) -> Span {
     }
 }
 
+/// The first two commits: the gate, and their stamps.
+fn two_committed<R: Wait, W: Side, T: Side>(
+    rt: &R,
+    alloc: Global,
+    broker: &Broker<R, W, T>,
+    worker: &mut Worker<W>,
+) -> Option<(Gate, [Stamp; 2])> {
+    let gate = Gate::new(Sender(0));
+    let (gate, one) = committed(rt, alloc, broker, worker, gate, &[0, 1])?;
+    let (gate, two) = committed(rt, alloc, broker, worker, gate, &[1, 2])?;
+    Some((gate, [one, two]))
+}
+
+/// What is left behind the first turn: the second subscription begins, this one ends, and the gate commits once more.
+fn second_span<R: Wait, W: Side, T: Side>(
+    rt: &R,
+    alloc: Global,
+    broker: &Broker<R, W, T>,
+    worker: &mut Worker<W>,
+    gate: Gate,
+    first: Subscribed,
+) -> Option<Later> {
+    let second = broker.subscribe(rt, Topic(1)).ok()?;
+    let first_end = left(rt, broker, 1, first.sub);
+    let state = broker.state(rt, Topic(1), second.sub);
+    let (_gate, stamp) = committed(rt, alloc, broker, worker, gate, &[1])?;
+    let released = [
+        broker.head_turn(rt, Topic(0)).ok(),
+        broker.head_turn(rt, Topic(1)).ok(),
+        broker.head_turn(rt, Topic(2)).ok(),
+    ];
+    let second_end = left(rt, broker, 1, second.sub);
+    Some(Later {
+        stamp,
+        released,
+        first: span_of(rt, first, first_end),
+        second: span_of(rt, second, second_end),
+        state,
+    })
+}
+
 /// What they leave at this broker.
 fn two_spans<R: Wait, W: Side, T: Side>(
     rt: &R,
@@ -85,33 +134,12 @@ fn two_spans<R: Wait, W: Side, T: Side>(
 ) -> Option<Found> {
     let mut worker = broker.join(rt).ok()?;
     let first = broker.subscribe(rt, Topic(1)).ok()?;
-    let (gate, one) = committed(
-        rt,
-        alloc,
-        broker,
-        &mut worker,
-        Gate::new(Sender(0)),
-        &[0, 1],
-    )?;
-    let (gate, two) = committed(rt, alloc, broker, &mut worker, gate, &[1, 2])?;
+    let (gate, stamps) = two_committed(rt, alloc, broker, &mut worker)?;
     let early = broker.head_turn(rt, Topic(1)).ok();
-    let second = broker.subscribe(rt, Topic(1)).ok()?;
-    let first_end = left(rt, broker, 1, first.sub);
-    let state = broker.state(rt, Topic(1), second.sub);
-    let (_gate, three) = committed(rt, alloc, broker, &mut worker, gate, &[1])?;
-    let released = [
-        early,
-        broker.head_turn(rt, Topic(0)).ok(),
-        broker.head_turn(rt, Topic(1)).ok(),
-        broker.head_turn(rt, Topic(2)).ok(),
-    ];
-    let second_end = left(rt, broker, 1, second.sub);
     Some(Found {
-        stamps: [one, two, three],
-        released,
-        first: span_of(rt, first, first_end),
-        second: span_of(rt, second, second_end),
-        state,
+        stamps,
+        early,
+        later: second_span(rt, alloc, broker, &mut worker, gate, first)?,
     })
 }
 
@@ -153,21 +181,25 @@ const TRACE: &[u8] =
 fn wanted() -> Found {
     let (one, two, three) = (stamp(10, 0), stamp(11, 2), stamp(12, 1));
     Found {
-        stamps: [one, two, three],
-        released: [Some(2), Some(1), Some(1), Some(1)],
-        first: Span {
-            sub: 1,
-            start: Stamp::ZERO,
-            items: [Some((1, one)), Some((2, two)), None],
-            end: Ok((two, Cause::Asked)),
+        stamps: [one, two],
+        early: Some(2),
+        later: Later {
+            stamp: three,
+            released: [Some(1), Some(1), Some(1)],
+            first: Span {
+                sub: 1,
+                start: Stamp::ZERO,
+                items: [Some((1, one)), Some((2, two)), None],
+                end: Ok((two, Cause::Asked)),
+            },
+            second: Span {
+                sub: 1_025,
+                start: two,
+                items: [Some((3, three)), None, None],
+                end: Ok((three, Cause::Asked)),
+            },
+            state: Some(SubState::Open),
         },
-        second: Span {
-            sub: 1_025,
-            start: two,
-            items: [Some((3, three)), None, None],
-            end: Ok((three, Cause::Asked)),
-        },
-        state: Some(SubState::Open),
     }
 }
 

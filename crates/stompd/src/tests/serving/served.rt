@@ -88,6 +88,47 @@ where
     served::<R, P, Brand, Brand>(rt, alloc, peers, workers, Blank::new(1_024))
 }
 
+/// A server at a port of its own, and so many connections to it.
+fn opened<R: Net>(rt: &R, alloc: Global, count: u64) -> Option<(TcpListener, Lines)> {
+    let listener = TcpListener::bind(rt, SocketAddr::from((Ipv4Addr::LOCALHOST, 0))).ok()?;
+    let addr = listener.local_addr().ok()?;
+    let lines = Lines::new(rt, alloc, addr, count)?;
+    Some((listener, lines))
+}
+
+/// Serves these peers until they and the server have ended.
+fn served_by<R, P, W, T>(
+    rt: &R,
+    alloc: Global,
+    peers: &P,
+    broker: Broker<R, W, T>,
+    listener: TcpListener,
+    lines: Lines,
+) -> (bool, Result<Trace, ServerFault>)
+where
+    R: Threads + Wait + Net + Clock + Log + Send + Sync,
+    P: Peers + Send + Sync,
+    W: Side + Send + Sync + 'static,
+    T: Side + Send + Sync + 'static,
+{
+    let count = peers.count();
+    let mut lines = lines;
+    let met = AtomicBool::new(false);
+    let ended = thread::scope(
+        thread::scope_env(),
+        rt,
+        |scope| -> Result<Trace, ServerFault>
+            requires { IsSend R.row × IsSync R.row × IsSend W.row × IsSync W.row × IsSend T.row × IsSync T.row
+                × IsSend P.row × IsSync P.row }
+        {
+            let met = &met;
+            let _ = scope.spawn(move || met.store(peers.meet(alloc, &mut lines), Ordering::SeqCst));
+            serve(rt, alloc, broker, listener, Some(count))
+        },
+    );
+    (met.load(Ordering::SeqCst), ended)
+}
+
 /// The same with these ledgers.
 fn served<R, P, W, T>(
     rt: &R,
@@ -106,22 +147,6 @@ where
 {
     let topics = three_topics(alloc).ok()?;
     let broker = Broker::<R, W, T>::new(alloc, topics, 64, true, workers, tickets).ok()?;
-    let listener = TcpListener::bind(rt, SocketAddr::from((Ipv4Addr::LOCALHOST, 0))).ok()?;
-    let addr = listener.local_addr().ok()?;
-    let count = peers.count();
-    let mut lines = Lines::new(rt, alloc, addr, count)?;
-    let met = AtomicBool::new(false);
-    let ended = thread::scope(
-        thread::scope_env(),
-        rt,
-        |scope| -> Result<Trace, ServerFault>
-            requires { IsSend R.row × IsSync R.row × IsSend W.row × IsSync W.row × IsSend T.row × IsSync T.row
-                × IsSend P.row × IsSync P.row }
-        {
-            let met = &met;
-            let _ = scope.spawn(move || met.store(peers.meet(alloc, &mut lines), Ordering::SeqCst));
-            serve(rt, alloc, broker, listener, Some(count))
-        },
-    );
-    Some((met.load(Ordering::SeqCst), ended))
+    let (listener, lines) = opened(rt, alloc, peers.count())?;
+    Some(served_by(rt, alloc, peers, broker, listener, lines))
 }

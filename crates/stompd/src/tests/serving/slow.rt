@@ -57,6 +57,14 @@ fn goes_on(sender: &mut Client, reader: &mut Client, alloc: Global) -> bool {
     true
 }
 
+/// How often one asks for something: longer than the server takes to end what has lagged.
+const PAUSE: u32 = 60_000;
+
+/// Whether the server answers one that asks for a while.
+fn pauses(client: &mut Client) -> bool {
+    (0..PAUSE).all(|_| client.asks(IDLE.0, IDLE.1))
+}
+
 /// The last words to one that lagged.
 const LAGGED: &[u8] = b"ERROR\nmessage:74 Lagged\ncontent-length:0\n\n\0";
 
@@ -70,7 +78,7 @@ fn ends_lagged(client: &mut Client) -> bool {
     }
 }
 
-/// One subscribes and reads only after the last SEND; another reads each before the next.
+/// One subscribes and reads only a while after the last SEND; another reads each before the next.
 #[derive(Drop)]
 struct Slow;
 
@@ -89,7 +97,7 @@ impl Peers for Slow {
         let Some(mut sender) = Client::connected(alloc, lines) else {
             return false;
         };
-        goes_on(&mut sender, &mut reader, alloc) && ends_lagged(&mut slow)
+        goes_on(&mut sender, &mut reader, alloc) && pauses(&mut sender) && ends_lagged(&mut slow)
     }
 }
 

@@ -53,6 +53,40 @@ fn txn_of(alloc: Global, id: TxnId) -> Option<Txn> {
     draft.seal().ok()?
 }
 
+/// One that commits: a worker, and a gate that it claimed without a client-id.
+#[derive(Drop)]
+pub(crate) struct Committer<W: Side> {
+    worker: Worker<W>,
+    gate: Gate,
+}
+
+impl<W: Side> Committer<W> {
+    /// One that joins this broker.
+    pub(crate) fn joining<R: Wait, T: Side>(
+        rt: &R,
+        broker: &Broker<R, W, T>,
+    ) -> Option<Committer<W>> {
+        let worker = broker.join(rt).ok()?;
+        let gate = broker.claim(rt, None).ok()?;
+        Some(Committer { worker, gate })
+    }
+
+    /// The number of its sender.
+    pub(crate) fn sender(&self) -> u64 {
+        self.gate.sender().0
+    }
+}
+
+/// Two that join this broker, one after the other.
+pub(crate) fn two_committers<R: Wait, W: Side, T: Side>(
+    rt: &R,
+    broker: &Broker<R, W, T>,
+) -> Option<(Committer<W>, Committer<W>)> {
+    let first = Committer::joining(rt, broker)?;
+    let second = Committer::joining(rt, broker)?;
+    Some((first, second))
+}
+
 /// A worker that has made its commits, and the stamps that they answered, in their order.
 #[derive(Drop)]
 pub(crate) struct Committed<W: Side> {
@@ -60,24 +94,58 @@ pub(crate) struct Committed<W: Side> {
     pub(crate) stamps: Vec<Stamp>,
 }
 
-/// Makes all commits of a worker by this gate.
+/// The gate's commit of this number: the gate, and the stamp.
+fn commit_next<R: Wait, W: Side, T: Side>(
+    rt: &R,
+    alloc: Global,
+    broker: &Broker<R, W, T>,
+    worker: &mut Worker<W>,
+    gate: Gate,
+    seq: u64,
+) -> Option<(Gate, Stamp)> {
+    let sender = gate.sender();
+    let txn = txn_of(alloc, TxnId { sender, seq });
+    let flying = begun_with(alloc, gate, txn?)?;
+    broker.commit(rt, worker, flying, &mut Quiet).ok()
+}
+
+/// The stamps of all commits of this worker by this gate, in their order.
+fn stamps_of<R: Wait, W: Side, T: Side>(
+    rt: &R,
+    alloc: Global,
+    broker: &Broker<R, W, T>,
+    worker: &mut Worker<W>,
+    gate: Gate,
+) -> Option<Vec<Stamp>> {
+    let mut gate = gate;
+    let mut stamps = Vec::new(alloc);
+    for seq in 1..=COMMITS {
+        let (next, stamp) = commit_next(rt, alloc, broker, worker, gate, seq)?;
+        gate = next;
+        stamps.push(stamp).ok()?;
+    }
+    Some(stamps)
+}
+
+/// Makes all commits of one that commits.
 pub(crate) fn commit_all<R: Wait, W: Side, T: Side>(
     rt: &R,
     alloc: Global,
     broker: &Broker<R, W, T>,
-    worker: Worker<W>,
-    gate: Gate,
+    committer: Committer<W>,
 ) -> Option<Committed<W>> {
-    let (mut worker, mut gate) = (worker, gate);
-    let sender = gate.sender();
-    let mut stamps = Vec::new(alloc);
-    for seq in 1..=COMMITS {
-        let flying = begun_with(alloc, gate, txn_of(alloc, TxnId { sender, seq })?)?;
-        let (next, stamp) = broker.commit(rt, &mut worker, flying, &mut Quiet).ok()?;
-        gate = next;
-        stamps.push(stamp).ok()?;
-    }
+    let Committer { worker, gate } = committer;
+    let mut worker = worker;
+    let stamps = stamps_of(rt, alloc, broker, &mut worker, gate)?;
     Some(Committed { worker, stamps })
+}
+
+/// Both, where both are there.
+pub(crate) fn both<A: Drop, B: Drop>(first: Option<A>, second: Option<B>) -> Option<(A, B)> {
+    match (first, second) {
+        (Some(first), Some(second)) => Some((first, second)),
+        _ => None,
+    }
 }
 
 /// The stamps that the commits of senders 0 and 1 answered, in their order.
