@@ -198,7 +198,7 @@ impl Connection {
             if let Some(receipt) = receipt {
                 put(&mut self.out, "\nreceipt-id:", receipt);
             }
-            if message == "62 NoVersion" {
+            if ["62 NoVersion", "22 Missing accept-version", "22 Missing host"].contains(&message) {
                 self.out.extend_from_slice(b"\nversion:1.2");
             }
             self.out.extend_from_slice(b"\ncontent-length:0\n\n\0");

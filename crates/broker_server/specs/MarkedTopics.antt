@@ -1,9 +1,9 @@
--- Of which topics a connection has to tell the heads.
+-- Which topics a connection has to turn, or to tell their heads of.
 use Rattle.std.specs.Prelude.{◌≡◌, ◌⊎◌, Bool, true, false, ◌&&◌, not, List, [], ◌∷◌, ◌++◌, ◌==◌}
 use Rattle.std.specs.List.{list_any}
 use Rattle.mcast_txn.specs.declared.id.Topic.{Topic}
 
--- The topics at which a connection's transactions were proposed since the heads were told.
+-- The topics at which a connection's transactions were proposed since they were turned, or their heads told.
 -- topics: those that were marked, the first that was first.
 -- any: whether any topic may be one of them, since there was no memory for one.
 pub record MarkedTopics : Type 0 where

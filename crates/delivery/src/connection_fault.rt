@@ -4,7 +4,7 @@ ghost use Rattle.std.specs.Prelude.{◌≡◌};
 ghost use Rattle.delivery.specs.Core.Output.{says_version};
 ghost use Rattle.delivery.specs.Faults.{connection_number, connection_title};
 
-use stomp_frame::{CaseFault, Check};
+use stomp_frame::{CaseFault, Check, RequiredHeader};
 use stomp_session::SessionFault;
 use thiserror::Error;
 
@@ -67,10 +67,17 @@ impl ConnectionFault {
         }
     }
 
-    /// Whether its ERROR says which version is supported.
+    /// Whether its ERROR says which version is supported: where the client's have none in common with ours (STOMP 1.2,
+    /// "Protocol Negotiation"), also where a CONNECT lacks what those since 1.1 have.
     pub fn says_version(self) -> bool
         ensures { result ≡ says_version self }
     {
-        matches!(self, ConnectionFault::Session(SessionFault::NoVersion))
+        match self {
+            ConnectionFault::Session(SessionFault::NoVersion) => true,
+            ConnectionFault::Frame(CaseFault::Missing(header)) => {
+                matches!(header, RequiredHeader::AcceptVersion | RequiredHeader::Host)
+            }
+            _ => false,
+        }
     }
 }

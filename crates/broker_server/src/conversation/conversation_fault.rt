@@ -59,10 +59,10 @@ impl ConversationFault {
     pub(crate) fn says_version(self) -> bool
         ensures { result ≡ tells_version self }
     {
-        matches!(
-            self,
-            ConversationFault::Connection(ConnectionFault::Session(SessionFault::NoVersion))
-        )
+        match self {
+            ConversationFault::Connection(fault) => fault.says_version(),
+            _ => false,
+        }
     }
 
     /// A reader's fault, as that of its connection.

@@ -31,9 +31,10 @@ impl Bell {
         }
     }
 
-    /// Tells the thread. The system is called only where it waits. (A wake that fails is one whose poll is gone.)
+    /// Tells the thread. The system is called only where it waits. (A wake that fails is one whose poll is gone.) Where
+    /// it was told and hasn't looked since, it will look after this.
     pub(crate) fn ring(&self) {
-        if self.state.swap(TOLD, Ordering::SeqCst) == ASLEEP {
+        if !self.is_told() && self.state.swap(TOLD, Ordering::SeqCst) == ASLEEP {
             let _ = self.waker.wake();
         }
     }

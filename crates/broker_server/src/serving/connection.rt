@@ -18,7 +18,7 @@ use log::{Log, info, warn};
 use memchr::memchr;
 use std::alloc::Global;
 use std::sync::{Arc, Wait};
-use std::time::{Clock, Duration};
+use std::time::{Clock, Duration, Instant};
 
 /// So many reads are heard in a row, at most, before what is there for the connection is looked for again (our choice).
 const MAX_READS: u32 = 16;
@@ -29,7 +29,8 @@ const MAX_ROUNDS: u32 = 16;
 /// The octets of the shortest SEND: its command, a destination of one octet, two ends of lines, and NULL.
 const LEAST_SEND: u64 = 21;
 
-/// Where it heard at most so many octets since it turned topics last, it may stand in for others (our choice).
+/// Where it heard at most so many octets since its reads last left it topics to turn, it may stand in for others (our
+/// choice).
 const MOST_HEARD: usize = 16_384;
 
 /// A connection that leaves is closed after so many polls that brought nothing out (our choice).
@@ -44,6 +45,19 @@ const LAST_READS: u32 = 4_096;
 /// How long a poll of a connection waits whose octets the system doesn't take, or that leaves.
 fn poll_time() -> Option<Duration> {
     Some(Duration::from_millis(100))
+}
+
+/// How long a peer that was told all is heard out at most, where it goes on sending (our choice).
+fn last_time() -> Duration {
+    Duration::from_secs(10)
+}
+
+/// Whether that time is over, since then. By a clock that can't be read it is.
+fn is_over<R: Clock>(rt: &R, since: Option<Instant>) -> bool {
+    match (since, Instant::now(rt).ok()) {
+        (Some(since), Some(now)) => now.duration_since(since) >= last_time(),
+        _ => true,
+    }
 }
 
 /// What one turn of a connection's thread came to.
@@ -68,9 +82,9 @@ enum Sleep {
     Timed,
 }
 
-/// Behind the so manieth NULL of this piece, or behind as many octets as so many of the shortest SENDs have, whichever is
-/// later, or behind the piece: no more transactions are sent before that. Each frame ends with NULL, but a body may have
-/// many.
+/// Behind the so manieth NULL of this piece, or behind as many octets as so many of the shortest SENDs have, whichever
+/// is later, or behind the piece: no more transactions are sent before that. Each frame ends with NULL, but a body may
+/// have many.
 fn end_of_frames(piece: &[u8], most: u64) -> usize
     ensures within { result ≤ length piece.now }
 {
@@ -96,7 +110,7 @@ struct Connection<'a, 'b, R: Wait + Log + Clock, W: Side, T: Side> {
     hub: &'a Hub<R, W, T>,
     desks: &'b Desks<'a, R, W, T>,
     line: Line,
-    /// How many octets it heard since it turned topics last.
+    /// How many octets it heard since its reads last left it topics to turn.
     heard: usize,
     /// The seats of those who sleep, for whom it stands in.
     asleep: Vec<Arc<Seat>>,
@@ -351,13 +365,15 @@ impl<'a, 'b, R: Wait + Log + Clock, W: Side, T: Side> Connection<'a, 'b, R, W, T
         unreachable!()
     }
 
-    /// Says that nothing more is written, and drops what the peer still sends, until it closes its side, or some
-    /// polls brought nothing: closing at once would reset the connection, and the peer could lose what it was told.
+    /// Says that nothing more is written, and drops what the peer still sends, until it closes its side, some polls brought
+    /// nothing, or ten seconds are over: closing at once would reset the connection, and the peer could lose what it was
+    /// told.
     fn hear_out(&mut self, desk: &mut Desk<'a, R, W, T>) {
         desk.socket.shut();
         if desk.socket.register_reads(&self.line.poll).is_err() {
             return;
         }
+        let began = Instant::now(self.rt).ok();
         let mut polls = 0u32;
         for _ in 0..LAST_READS {
             match desk.socket.read(self.line.room.as_mut_slice()) {
@@ -365,6 +381,7 @@ impl<'a, 'b, R: Wait + Log + Clock, W: Side, T: Side> Connection<'a, 'b, R, W, T
                 Came::Octets(_) | Came::Again => {}
                 Came::Nothing => {
                     if polls >= LAST_POLLS
+                        || is_over(self.rt, began)
                         || self.hub.is_closing()
                         || self.wait(poll_time()).is_err()
                     {

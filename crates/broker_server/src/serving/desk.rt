@@ -102,9 +102,9 @@ impl<'a, R: Wait + Log + Clock, W: Side, T: Side> Desk<'a, R, W, T> {
             && !self.talk.is_leaving()
     }
 
-    /// It is about to wait, since the system takes nothing of what waits for it: once a second it ends the subscriptions
-    /// that have lagged. Whether there is one, and the system has taken nothing for a minute: the connection would be told
-    /// of the lag behind that.
+    /// It is about to wait, since the system takes nothing of what waits for it: once a second it ends the
+    /// subscriptions that have lagged. Whether there is one, and the system has taken nothing for a minute: the
+    /// connection would be told of the lag behind that.
     pub(crate) fn is_lost(&mut self) -> bool {
         let is_stuck = self.is_stuck();
         self.waits = self.waits.wrapping_add(1) % WAITS;

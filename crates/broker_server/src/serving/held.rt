@@ -35,7 +35,7 @@ pub(crate) struct HeldSub {
     over: AtomicBool,
 }
 
-/// What one connection asks of the broker, and what it still has to tell the heads.
+/// What one connection asks of the broker, and which topics it still has to turn.
 #[derive(Drop)]
 pub(crate) struct Held<'a, R: Wait + Log + Clock, W: Side, T: Side> {
     rt: &'a R,
@@ -125,8 +125,8 @@ impl<'a, R: Wait + Log + Clock, W: Side, T: Side> Held<'a, R, W, T> {
         Ok(seat)
     }
 
-    /// Ends this subscription at its topic where it has lagged: it would cost others something there at each SEND. Its queue
-    /// still gives what it accepted. Whether it has lagged.
+    /// Ends this subscription at its topic where it has lagged: it would cost others something there at each SEND. Its
+    /// queue still gives what it accepted. Whether it has lagged.
     pub(crate) fn end_lagged(&mut self, sub: &HeldSub) -> bool {
         let has_lagged = self.has_lagged(sub);
         if has_lagged {
@@ -220,7 +220,7 @@ impl<'a, R: Wait + Log + Clock, W: Side, T: Side> Held<'a, R, W, T> {
         self.on_way.room(self.capacity())
     }
 
-    /// Where all has come that was sent before what is on its way in the newer half, this is waited for from now on.
+    /// Where the older half has come, the newer half is the older one from now on.
     pub(crate) fn settle(&mut self) {
         if self.on_way.has_come(self.rt, self.hub) {
             self.turn_over();

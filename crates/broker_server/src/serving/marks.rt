@@ -8,7 +8,7 @@ use mcast_txn::Topic;
 use std::alloc::Global;
 use std::marker::Model;
 
-/// The topics at which a connection's transactions were proposed since the heads were told.
+/// The topics at which a connection's transactions were proposed since they were turned, or their heads told.
 #[derive(Drop)]
 pub(crate) struct Marks {
     topics: Vec<Topic>,
@@ -60,7 +60,7 @@ impl Marks {
         self.topics.is_empty() && !self.lost
     }
 
-    /// The heads were told of them.
+    /// They were turned, or their heads told.
     pub(crate) fn clear(&mut self)
         ensures { self.new ≡ unmarked }
     {

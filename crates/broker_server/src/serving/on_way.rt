@@ -85,7 +85,7 @@ impl OnWay {
         }
     }
 
-    /// Whether the last transaction of the newer half was to the same topics.
+    /// Whether the newest entries of the newer half are these topics.
     fn ends_with(&self, topics: &[Topic]) -> bool {
         let Some(from) = self.newer.len().checked_sub(topics.len()) else {
             return false;

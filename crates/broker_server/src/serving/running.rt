@@ -1,4 +1,4 @@
-//! The broker, as the server uses it: all that is asked of it stands here.
+//! The broker, as the server uses it, with the names of its topics and the workers that no connection has.
 
 ghost use Rattle.std.specs.Prelude.{◌≡◌, ℕ, List, length, IfOk, IfErr};
 ghost use Rattle.stomp_frame.specs.ClientFrames.{raw_of};

@@ -85,8 +85,8 @@ impl Socket {
         }
     }
 
-    /// Notes what the poll told when it was waited for. Where it told nothing the time is over, and a write is tried again:
-    /// the system tells of room only once a third of what it holds has gone, which takes a slow peer long.
+    /// Notes what the poll told when it was waited for. Where it told nothing the time is over, and a write is tried
+    /// again: the system tells of room only once a third of what it holds has gone, which takes a slow peer long.
     pub(crate) fn note_waited(&mut self, events: &Events) {
         if events.is_empty() {
             self.blocked = false;

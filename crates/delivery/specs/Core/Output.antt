@@ -6,6 +6,8 @@ use Rattle.mcast_txn.specs.declared.id.TxnId.{TxnId}
 use Rattle.mcast_txn.specs.Ids.{same_id}
 use Rattle.mcast_txn.specs.Span.{Item}
 use Rattle.mcast_group.specs.Faults.{propose_title}
+use Rattle.stomp_frame.specs.declared.case_fault.CaseFault.{CaseFault}
+use Rattle.stomp_frame.specs.declared.case_fault.RequiredHeader.{RequiredHeader}
 use Rattle.stomp_frame.specs.declared.raw_frame.RawFrame.{RawFrame}
 use Rattle.stomp_frame.specs.Cases.{is_connect}
 use Rattle.stomp_frame.specs.Receipts.{receipt_of}
@@ -39,9 +41,12 @@ receipt_asked f = option_and_then receipt_of f
 abbrev pub commit_frame : List RawFrame → Option RawFrame
 commit_frame accepted = last_or None accepted
 
--- the version is said where it was refused
+-- The version is said where the client's have none in common with ours (STOMP 1.2, "Protocol Negotiation"): also to
+-- one that sends no accept-version, which is of 1.0, or no host, which each has sent since 1.1.
 abbrev pub says_version : ConnectionFault → Bool
 says_version (ConnectionFault.Session SessionFault.NoVersion) = true
+says_version (ConnectionFault.Frame (CaseFault.Missing RequiredHeader.AcceptVersion)) = true
+says_version (ConnectionFault.Frame (CaseFault.Missing RequiredHeader.Host)) = true
 says_version fault = false
 
 -- What a Next is answered. The RECEIPT of a frame that makes a transaction is written at Decide, that of a

@@ -75,6 +75,14 @@ const UNCONNECTED: &[(&str, &str)] = &[
         "CONNECT\naccept-version:1.1\nhost:h\n\n\0",
         "ERROR\nmessage:62 NoVersion\nversion:1.2\ncontent-length:0\n\n\0",
     ),
+    (
+        "CONNECT\nlogin:me\n\n\0",
+        "ERROR\nmessage:22 Missing accept-version\nversion:1.2\ncontent-length:0\n\n\0",
+    ),
+    (
+        "CONNECT\naccept-version:1.0\n\n\0",
+        "ERROR\nmessage:22 Missing host\nversion:1.2\ncontent-length:0\n\n\0",
+    ),
 ];
 
 #[test]

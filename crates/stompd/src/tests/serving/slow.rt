@@ -58,7 +58,7 @@ fn goes_on(sender: &mut Client, reader: &mut Client, alloc: Global) -> bool {
 }
 
 /// How often one asks for something: longer than the server takes to end what has lagged.
-const PAUSE: u32 = 60_000;
+const PAUSE: u32 = 300_000;
 
 /// Whether the server answers one that asks for a while.
 fn pauses(client: &mut Client) -> bool {
