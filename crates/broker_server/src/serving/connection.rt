@@ -365,9 +365,9 @@ impl<'a, 'b, R: Wait + Log + Clock, W: Side, T: Side> Connection<'a, 'b, R, W, T
         unreachable!()
     }
 
-    /// Says that nothing more is written, and drops what the peer still sends, until it closes its side, some polls brought
-    /// nothing, or ten seconds are over: closing at once would reset the connection, and the peer could lose what it was
-    /// told.
+    /// Says that nothing more is written, and drops what the peer still sends, until it closes its side, some polls
+    /// brought nothing, or ten seconds are over: closing at once would reset the connection, and the peer could lose
+    /// what it was told.
     fn hear_out(&mut self, desk: &mut Desk<'a, R, W, T>) {
         desk.socket.shut();
         if desk.socket.register_reads(&self.line.poll).is_err() {

@@ -41,8 +41,8 @@ receipt_asked f = option_and_then receipt_of f
 abbrev pub commit_frame : List RawFrame → Option RawFrame
 commit_frame accepted = last_or None accepted
 
--- The version is said where the client's have none in common with ours (STOMP 1.2, "Protocol Negotiation"): also to
--- one that sends no accept-version, which is of 1.0, or no host, which each has sent since 1.1.
+-- The version is said where the client's have none in common with ours (STOMP 1.2, "Protocol Negotiation"):
+-- also to one that sends no accept-version, which is of 1.0, or no host, which each has sent since 1.1.
 abbrev pub says_version : ConnectionFault → Bool
 says_version (ConnectionFault.Session SessionFault.NoVersion) = true
 says_version (ConnectionFault.Frame (CaseFault.Missing RequiredHeader.AcceptVersion)) = true
