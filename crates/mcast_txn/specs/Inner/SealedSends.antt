@@ -1,10 +1,11 @@
 -- Serves proofs only: how the SENDs of a transaction are stored, for its model; no public contract cites it.
 use Rattle.std.specs.Prelude.{List, [], ◌∷◌}
-use Rattle.mcast_txn.specs.declared.draft.draft_send.DraftSend.{DraftSend}
+use Rattle.mcast_txn.specs.declared.draft.sent_message.SentMessage.{SentMessage}
 use Rattle.mcast_txn.specs.declared.draft.sealed_sends.SealedSends.{SealedSends}
 use Rattle.mcast_txn.specs.declared.draft.sealed_sends.SealedSends.TheVariants.{One, Many}
+use Rattle.mcast_txn.specs.Inner.DraftSends.{messages_of}
 
 -- the SENDs, in order
-abbrev pub all_sends : SealedSends → List DraftSend
+abbrev pub all_sends : SealedSends → List SentMessage
 all_sends (One send) = send ∷ []
-all_sends (Many sends) = sends.items
+all_sends (Many sends) = messages_of sends.items

@@ -7,9 +7,8 @@ ghost use Rattle.mcast_txn.specs.Part.{parts_of};
 ghost use Rattle.mcast_txn.specs.TopicSet.{IsTopicSet};
 ghost use Rattle.mcast_txn.specs.Transaction.{topics_of};
 
-use crate::draft::TopicSet;
-use crate::draft::draft_send::DraftSend;
 use crate::draft::sealed_sends::SealedSends;
+use crate::draft::{SentMessage, TopicSet};
 use crate::flight::Flight;
 use crate::id::Topic;
 use crate::parts::Parts;
@@ -37,20 +36,19 @@ impl Drop for Txn {
 impl Model for Txn {
     ghost use Rattle.std.specs.Prelude.{List};
     ghost use Rattle.mcast_txn.specs.declared.draft.sent_message.SentMessage.{SentMessage};
-    ghost use Rattle.mcast_txn.specs.Inner.DraftSends.{messages_of};
     ghost use Rattle.mcast_txn.specs.Inner.Sealed.{IsSealed};
     ghost use Rattle.mcast_txn.specs.Inner.SealedSends.{all_sends};
 
     ghost Value = { List SentMessage };
 
-    ghost view = { λ t. messages_of (all_sends t.sends) };
+    ghost view = { λ t. all_sends t.sends };
 
-    ghost invariant = { λ t. IsSealed (all_sends t.sends) t.topics.value };
+    ghost invariant = { λ t. IsSealed t.sends t.topics.value };
 }
 
 impl Txn {
-    /// The transaction of one SEND (STOMP 1.2, "SEND" outside a transaction). Out of memory, its
-    /// headers and body are returned.
+    /// The transaction of one SEND, as we make of each SEND outside a transaction. Out of memory, its headers and body
+    /// are returned.
     pub fn single(
         alloc: Global,
         topic: Topic,
@@ -64,7 +62,11 @@ impl Txn {
         let Ok(topics) = one_topic(alloc, topic) else {
             return Err((headers, body, NoMemory));
         };
-        let send = DraftSend::new(alloc, topic, 0, headers, body)?;
+        let send = SentMessage {
+            topic,
+            headers,
+            body,
+        };
         Ok(Txn {
             sends: SealedSends::One(send),
             topics,
@@ -93,9 +95,22 @@ impl Txn {
         ensures flight { IfOk result (λ parts. parts.flight ≡ arc_value flight.now) }
         ensures back { IfErr result (λ refused. refused.0 ≡ self) }
     {
-        match Parts::of(alloc, flight, &self.topics, self.sends.as_slice()) {
-            Ok(parts) => Ok(parts),
-            Err(refused) => Err((self, refused)),
+        let Txn { sends, topics } = self;
+        match sends {
+            SealedSends::One(send) => match Parts::of_one(alloc, flight, topics, send) {
+                Ok(parts) => Ok(parts),
+                Err((topics, send)) => {
+                    let sends = SealedSends::One(send);
+                    Err((Txn { sends, topics }, NoMemory))
+                }
+            },
+            SealedSends::Many(sends) => match Parts::of(alloc, flight, &topics, &sends) {
+                Ok(parts) => Ok(parts),
+                Err(NoMemory) => {
+                    let sends = SealedSends::Many(sends);
+                    Err((Txn { sends, topics }, NoMemory))
+                }
+            },
         }
     }
 
@@ -104,7 +119,7 @@ impl Txn {
         ensures value { result ≡ length self.now }
         ensures some { 0 < result }
     {
-        self.sends.as_slice().len()
+        self.sends.len()
     }
 }
 

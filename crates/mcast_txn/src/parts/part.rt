@@ -1,13 +1,13 @@
 //! A transaction's part at a topic.
 
-ghost use Rattle.std.specs.Prelude.{◌≡◌, IfOk};
+ghost use Rattle.std.specs.Prelude.{◌≡◌, ◌∷◌, [], IfErr, IfOk, OnOk};
 ghost use Rattle.std.specs.Arc.{arc_value};
 ghost use Rattle.mcast_txn.specs.Flight.{flight_id};
 
 use crate::draft::TopicSet;
 use crate::flight::Flight;
 use crate::id::{Topic, TxnId};
-use crate::parts::PartSends;
+use crate::parts::{PartMessage, PartSends};
 use std::alloc::Global;
 use std::sync::Arc;
 use stomp_frame::NoMemory;
@@ -53,5 +53,25 @@ impl Part {
             flight: flight.clone()?,
         };
         Ok(Arc::new(alloc, part)?)
+    }
+
+    /// Has the part that nobody else has yet this SEND alone; where somebody has it, the SEND is returned.
+    pub(crate) fn put_one(
+        part: &mut Arc<Part>,
+        alloc: Global,
+        send: PartMessage,
+    ) -> Result<(), PartMessage>
+        ensures data { OnOk result (data_of (arc_value part.new)
+            ≡ record (data_of (arc_value part.old)) { sends = send ∷ [] }) }
+        ensures own { flight_of_part (arc_value part.new) ≡ flight_of_part (arc_value part.old) }
+        ensures back { IfErr result (λ refused. refused ≡ send) }
+    {
+        match Arc::get_mut(part) {
+            Some(part) => {
+                part.sends = PartSends::one(alloc, send);
+                Ok(())
+            }
+            None => Err(send),
+        }
     }
 }

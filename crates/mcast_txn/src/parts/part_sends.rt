@@ -4,6 +4,7 @@ ghost use Rattle.std.specs.Prelude.{◌≡◌, ◌<◌, ◌↔◌, ◌++◌, ◌
 ghost use Rattle.std.specs.Arc.{arc_value};
 
 use crate::parts::PartMessage;
+use crate::parts::first_send::FirstSend;
 use std::alloc::Global;
 use std::default::MadeWith;
 use std::marker::Model;
@@ -14,7 +15,7 @@ use stomp_frame::NoMemory;
 #[derive(Drop)]
 pub struct PartSends {
     /// The first, in place: a part of one SEND has no list.
-    first: Option<Arc<PartMessage>>,
+    first: Option<FirstSend>,
     /// Those that follow it.
     later: Vec<Arc<PartMessage>>,
 }
@@ -22,12 +23,12 @@ pub struct PartSends {
 impl Model for PartSends {
     ghost use Rattle.std.specs.Prelude.{List};
     ghost use Rattle.std.specs.Arc.{arc_value};
-    ghost use Rattle.mcast_txn.specs.Inner.SendsHeld.{sends_held, BeginsAtFirst};
+    ghost use Rattle.mcast_txn.specs.Inner.SendsHeld.{message_in, sends_held, BeginsAtFirst};
     ghost use Rattle.mcast_txn.specs.declared.parts.part_message.PartMessage.{PartMessage};
 
     ghost Value = { List PartMessage };
 
-    ghost view = { λ p. sends_held (λ send. arc_value send) p.first p.later.items };
+    ghost view = { λ p. sends_held message_in (λ send. arc_value send) p.first p.later.items };
 
     ghost invariant = { λ p. BeginsAtFirst p.first p.later.items };
 }
@@ -50,13 +51,23 @@ impl PartSends {
         }
     }
 
+    /// This one alone.
+    pub(crate) fn one(alloc: Global, send: PartMessage) -> PartSends
+        ensures { result ≡ send ∷ [] }
+    {
+        PartSends {
+            first: Some(FirstSend::Own(send)),
+            later: Vec::new(alloc),
+        }
+    }
+
     /// Puts a SEND at the end.
     pub(crate) fn push(&mut self, send: &Arc<PartMessage>) -> Result<(), NoMemory>
         ensures { OnOk result (self.new ≡ self.old ++ arc_value send.now ∷ []) }
     {
         let send = send.clone()?;
         if self.first.is_none() {
-            self.first = Some(send);
+            self.first = Some(FirstSend::Shared(send));
             return Ok(());
         }
         self.later.push(send)?;
@@ -86,7 +97,7 @@ impl PartSends {
         ensures { slice_get self.now i ≡ Some result.now }
     {
         match &self.first {
-            Some(first) if i == 0 => first,
+            Some(first) if i == 0 => first.message(),
             _ => &self.later[i - 1],
         }
     }
