@@ -141,7 +141,7 @@ impl<R: Wait> Place<R> {
     pub fn propose(&mut self, floor: Stamp, part: Arc<Part>) -> Result<Ticket, ProposeFault>
         ensures allowed { OnOk result (place_fault floor (data_of (arc_value part)) self.old ≡ None) }
         ensures ticket { IfOk result (λ ticket. ticket ≡ record {
-          id = (arc_value part).id;
+          id = (data_of (arc_value part)).id;
           topic = self.old.cells.group.topic.topic;
           n = next_number floor self.old.cells.group.topic;
         }) }

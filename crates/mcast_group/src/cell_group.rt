@@ -141,7 +141,7 @@ impl<Q: Outlet + Drop> CellGroup<Q> {
         self.group.sound();
         let Proposal { prepared, flight } = proposal;
         let waiting = WaitingPart {
-            id: prepared.part().id,
+            id: prepared.part().id(),
             flight,
         };
         let ticket = self.group.enter_allowed(floor, prepared, counter)?;
@@ -161,7 +161,7 @@ impl<Q: Outlet + Drop> CellGroup<Q> {
         ensures allowed { OnOk result
             (propose_fault floor (data_of (arc_value part)) self.old.group.topic ≡ None) }
         ensures ticket { IfOk result (λ ticket. ticket ≡ record {
-          id = (arc_value part).id;
+          id = (data_of (arc_value part)).id;
           topic = self.old.group.topic.topic;
           n = next_number floor self.old.group.topic;
         }) }

@@ -181,7 +181,7 @@ impl<Q: Outlet + Drop> Group<Q> {
         ensures released { Releases Q.may_accept self.old self.new }
     {
         let departed = self.release_part(needs)?;
-        Some((departed.part().id, departed.stamp()))
+        Some((departed.part().id(), departed.stamp()))
     }
 
     /// `release`, which returns the part itself, with the note of its flight's cell that was kept beside it.
@@ -256,7 +256,7 @@ impl<Q: Outlet + Drop> Group<Q> {
         requires { (arc_value part).topic ≡ self.old.topic.topic }
         ensures allowed { OnOk result (propose_fault floor (data_of (arc_value part)) self.old.topic ≡ None) }
         ensures ticket { IfOk result (λ ticket. ticket ≡ record {
-          id = (arc_value part).id;
+          id = (data_of (arc_value part)).id;
           topic = self.old.topic.topic;
           n = next_number floor self.old.topic;
         }) }
@@ -296,7 +296,7 @@ impl<Q: Outlet + Drop> Group<Q> {
         ensures fault { IfErr result (IsRefusedBy C.refused None counter.old counter.new) }
         ensures err { OnErr result (self.new ≡ self.old) }
     {
-        let id = prepared.part().id;
+        let id = prepared.part().id();
         let n = self.clock.max(floor.n) + 1;
         self.put_in(prepared, n, counter)?;
         Ok(Ticket {
@@ -311,7 +311,7 @@ impl<Q: Outlet + Drop> Group<Q> {
         ensures { result ≡ propose_fault floor (data_of part.now) self.now.topic }
     {
         let limit = self.log_limit;
-        if self.pending.index_of(part.id).is_some() {
+        if self.pending.index_of(part.id()).is_some() {
             return Some(ProposeFault::Twice);
         }
         if self.clock.max(floor.n) == u64::MAX {
@@ -469,7 +469,7 @@ impl<Q: Outlet + Drop> Group<Q> {
             (slice_index_or self.old.topic.pending index d) self.old self.new }
     {
         let part = self.pending.at(index).part();
-        let id = part.id;
+        let id = part.id();
         let Some(found) = verdicts.find(part) else {
             return;
         };

@@ -61,7 +61,7 @@ impl PendingPart {
     pub(crate) fn id(&self) -> TxnId
         ensures { result ≡ self.now.part.id }
     {
-        self.part.id
+        self.part.id()
     }
 
     /// The part.
@@ -134,7 +134,7 @@ impl PendingPart {
             learnt,
         } = self;
         let row = Row {
-            id: part.id,
+            id: part.id(),
             stamp,
             topics,
         };
@@ -145,7 +145,7 @@ impl PendingPart {
     pub(crate) fn is_foreign(&self, verdict: &Verdict) -> bool
         ensures { result ≡ is_foreign verdict.now self.now }
     {
-        verdict.id() != self.part.id || !has_row(verdict.rows(), self.ticket_stamp())
+        verdict.id() != self.part.id() || !has_row(verdict.rows(), self.ticket_stamp())
     }
 
     /// Whether it has learnt another stamp.
@@ -164,7 +164,7 @@ impl PendingPart {
     {
         Keyed {
             key: self.key(),
-            id: self.part.id,
+            id: self.part.id(),
         }
     }
 }

@@ -55,7 +55,7 @@ impl Proposal {
     pub fn id(&self) -> TxnId
         ensures { result ≡ self.now.part.id }
     {
-        self.part().id
+        self.part().id()
     }
 
     /// The topic that the part is for.

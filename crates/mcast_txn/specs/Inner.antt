@@ -6,4 +6,5 @@ pub mod SealedSends
 pub mod SendsHeld
 pub mod Shares
 pub mod SlotIndex
+pub mod StoredSends
 pub mod TicketSlots

@@ -94,7 +94,7 @@ fn pushed_to<Q: Outlet>(outlet: &mut Q, needs: &Q::Needs, item: Released) -> Ans
 {
     match outlet.push(needs, item) {
         Ok(()) => Accepted,
-        Err(item) => Returned(item.part.id.seq),
+        Err(item) => Returned(item.part.id()().seq),
     }
 }
 
@@ -112,7 +112,7 @@ fn taken(outlet: &mut VecOutlet) -> Option<Answer> {
     let Some(index) = outlet.take() else {
         return Some(Nothing);
     };
-    Some(Took(outlet.get(index)?.part.id.seq))
+    Some(Took(outlet.get(index)?.part.id().seq))
 }
 
 /// Whether an empty queue of this capacity answers each of these calls as is written beside it, and has then accepted

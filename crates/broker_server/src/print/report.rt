@@ -239,7 +239,7 @@ fn put_item<D: Drain>(
         drain,
         word,
         Number(s as u64),
-        Id(item.part.id),
+        Id(item.part.id()),
         Stamp(item.stamp)
     )
 }

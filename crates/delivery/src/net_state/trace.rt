@@ -67,7 +67,7 @@ fn add_queue(trace: &mut Trace, sub: u64, queue: &QueueReport<'_>) -> Result<(),
 {
     for i in 0..queue.queued_len() {
         let item = queue.queued(i).unwrap();
-        let id = item.part.id;
+        let id = item.part.id();
         let stamp = item.stamp;
         put(trace, TraceRow::Queue(QueueRow { sub, id, stamp }))?;
     }

@@ -29,10 +29,10 @@ impl Verdicts for Pair {
         else (if same_id pair.1.value.id part.id then Some pair.1.value else None)) };
 
     fn find<'a>(&'a self, part: &'a Part) -> Option<Found<'a>> {
-        if self.0.id() == part.id {
+        if self.0.id() == part.id() {
             return Some(Found { verdict: &self.0 });
         }
-        if self.1.id() == part.id {
+        if self.1.id() == part.id() {
             return Some(Found { verdict: &self.1 });
         }
         None
@@ -270,7 +270,7 @@ pub(super) fn taken(group: &mut Group<VecOutlet>, number: u64) -> Option<Answer>
     let Some(index) = group.take(number) else {
         return Some(Nothing);
     };
-    Some(Took(group.item(number, index)?.part.id.seq))
+    Some(Took(group.item(number, index)?.part.id().seq))
 }
 
 /// The state of a subscription.

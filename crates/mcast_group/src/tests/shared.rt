@@ -26,7 +26,7 @@ fn released<R: Wait>(rt: &R, group: &mut Group<Source<R>>) -> Option<u64> {
 /// The seq of the item that a take gives.
 fn taken<R: Wait>(rt: &R, taker: &mut Taker) -> Option<u64> {
     let item = taker.take(rt)?;
-    Some(item.part.id.seq)
+    Some(item.part.id().seq)
 }
 
 /// What three releases and takes give, at a topic with one subscription, of a queue of capacity 2; and its state then.

@@ -3,6 +3,7 @@
 ghost use Rattle.std.specs.Prelude.{◌≡◌, ◌∷◌, [], IfErr, IfOk, OnOk};
 ghost use Rattle.std.specs.Arc.{arc_value};
 ghost use Rattle.mcast_txn.specs.Flight.{flight_id};
+ghost use Rattle.mcast_txn.specs.Part.{data_of, flight_of_part};
 
 use crate::draft::TopicSet;
 use crate::flight::Flight;
@@ -15,18 +16,21 @@ use stomp_frame::NoMemory;
 /// A transaction's part at a topic: its SENDs to that topic, with what the topic must know of the whole.
 #[derive(Drop)]
 pub struct Part {
-    pub id: TxnId,
     pub topic: Topic,
     /// All topics of the transaction.
     pub topics: Arc<TopicSet>,
     pub sends: PartSends,
     /// The transaction's own flight.
     pub flight: Arc<Flight>,
-    pub ghost own: { flight_id (arc_value flight) ≡ id },
 }
 
 impl Part {
-    ghost use Rattle.mcast_txn.specs.Part.{data_of, flight_of_part};
+    /// The transaction.
+    pub fn id(&self) -> TxnId
+        ensures { result ≡ (data_of self.now).id }
+    {
+        self.flight.id()
+    }
 
     /// The flight's part at a topic.
     pub(crate) fn at(
@@ -46,7 +50,6 @@ impl Part {
         ensures own { IfOk result (λ part. flight_of_part (arc_value part) ≡ arc_value flight.now) }
     {
         let part = Part {
-            id: flight.id(),
             topic,
             topics: topics.clone()?,
             sends,
@@ -56,11 +59,7 @@ impl Part {
     }
 
     /// Has the part that nobody else has yet this SEND alone; where somebody has it, the SEND is returned.
-    pub(crate) fn put_one(
-        part: &mut Arc<Part>,
-        alloc: Global,
-        send: PartMessage,
-    ) -> Result<(), PartMessage>
+    pub(crate) fn put_one(part: &mut Arc<Part>, send: PartMessage) -> Result<(), PartMessage>
         ensures data { OnOk result (data_of (arc_value part.new)
             ≡ record (data_of (arc_value part.old)) { sends = send ∷ [] }) }
         ensures own { flight_of_part (arc_value part.new) ≡ flight_of_part (arc_value part.old) }
@@ -68,7 +67,7 @@ impl Part {
     {
         match Arc::get_mut(part) {
             Some(part) => {
-                part.sends = PartSends::one(alloc, send);
+                part.sends = PartSends::one(send);
                 Ok(())
             }
             None => Err(send),

@@ -40,7 +40,7 @@ impl<R: Wait> Pusher<R> {
         let Pusher { source, next } = self;
         let answer = match source.push(rt, item) {
             Ok(()) => Accepted,
-            Err(item) => Returned(item.part.id.seq),
+            Err(item) => Returned(item.part.id().seq),
         };
         *next = after;
         Some(answer)
@@ -58,7 +58,7 @@ impl Seen {
     fn and(self, item: &Released) -> Seen {
         Seen {
             items: self.items.saturating_add(1),
-            in_order: self.in_order && item.part.id.seq == self.items && item.stamp.n == self.items,
+            in_order: self.in_order && item.part.id().seq == self.items && item.stamp.n == self.items,
         }
     }
 }
@@ -187,7 +187,7 @@ fn two_threads_share_a_queue_of_one(rt: HostRuntime) {
 /// What a take answers.
 fn taken<R: Wait>(rt: &R, taker: &mut Taker) -> Answer {
     match taker.take(rt) {
-        Some(item) => Took(item.part.id.seq),
+        Some(item) => Took(item.part.id().seq),
         None => Nothing,
     }
 }

@@ -112,7 +112,7 @@ fn frontier(report: &Report<'_>, topic: u32) -> Stamp {
 /// Whether an item of a queue is the one that is due: the same SENDs by their indices.
 fn is_due(item: &Released, want: &QueueItem) -> bool {
     let sends = &item.part.sends;
-    item.part.id == want.id
+    item.part.id() == want.id
         && item.stamp == want.stamp
         && sends.len() == want.sends.len()
         && (0..want.sends.len()).all(|i| i < sends.len()

@@ -132,7 +132,7 @@ fn print_row(text: &mut String, word: &str, row: &Row) -> Result<(), AllocError>
 
 /// The transaction, its stamp, and the indices of the SENDs of its part.
 fn print_item(text: &mut String, item: &Released) -> Result<(), AllocError> {
-    print_id(text, " queue", item.part.id)?;
+    print_id(text, " queue", item.part.id())?;
     print_stamp(text, " at", item.stamp)?;
     let sends = &item.part.sends;
     for i in 0..sends.len() {

@@ -113,7 +113,7 @@ impl Fake {
         ensures { flying.new.state.id ≡ flying.old.state.id }
     {
         if let Some(part) = flying.part(topic) {
-            let (id, n) = (part.id, self.clock.saturating_add(1));
+            let (id, n) = (part.id(), self.clock.saturating_add(1));
             self.clock = n;
             let _ = flying.put(Ticket { id, topic, n });
             let _ = parts.push(part);

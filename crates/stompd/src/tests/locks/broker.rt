@@ -110,7 +110,7 @@ pub(super) fn heads<R: Wait, W: Side, T: Side>(
 /// The sender and the stamp of the next item, if there is one.
 pub(super) fn taken<R: Wait>(rt: &R, begun: &mut Subscribed) -> Option<(u64, Stamp)> {
     let item = begun.taker.take(rt)?;
-    Some((item.part.id.sender.0, item.stamp))
+    Some((item.part.id().sender.0, item.stamp))
 }
 
 /// The next three items.

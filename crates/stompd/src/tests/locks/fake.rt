@@ -106,7 +106,7 @@ impl<'a, R: Abort> Places for Fake<'a, R> {
     ghost may_refuse = { λ f floor part fault. Unit {0} };
 
     fn propose(&mut self, floor: Stamp, part: Arc<Part>) -> Result<Ticket, ProposeFault> {
-        let (id, topic) = (part.id, part.topic);
+        let (id, topic) = (part.id(), part.topic);
         let n = self.number(topic, floor)?;
         if n <= floor.n {
             return Err(ProposeFault::NoMemory);

@@ -38,7 +38,7 @@ struct Found {
 /// The sender, the number and the stamp of the next item, if there is one.
 fn taken<R: Wait>(rt: &R, begun: &mut Subscribed) -> Option<(u64, u64, Stamp)> {
     let item = begun.taker.take(rt)?;
-    Some((item.part.id.sender.0, item.part.id.seq, item.stamp))
+    Some((item.part.id().sender.0, item.part.id().seq, item.stamp))
 }
 
 /// The next three items.

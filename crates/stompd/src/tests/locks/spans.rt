@@ -32,7 +32,7 @@ fn committed<R: Wait, W: Side, T: Side>(
 /// The number and the stamp of the next item, if there is one.
 fn taken<R: Wait>(rt: &R, begun: &mut Subscribed) -> Option<(u64, Stamp)> {
     let item = begun.taker.take(rt)?;
-    Some((item.part.id.seq, item.stamp))
+    Some((item.part.id().seq, item.stamp))
 }
 
 /// The next three items.

@@ -11,12 +11,12 @@ const MANY: u64 = 1_000;
 /// Whether the item's only SEND has the body that was sent.
 fn has_body(item: &Released, topic: Topic) -> bool {
     let sends = &item.part.sends;
-    sends.len() == 1 && sends.get(0).body.as_slice() == body_of(item.part.id, topic).as_slice()
+    sends.len() == 1 && sends.get(0).body.as_slice() == body_of(item.part.id(), topic).as_slice()
 }
 
 /// Whether the item is of a commit that names the topic, with the stamp that this answered.
 fn is_answered(item: &Released, topic: Topic, answers: &Answers) -> bool {
-    let id = item.part.id;
+    let id = item.part.id();
     answers.stamp_of(id) == Some(item.stamp) && topics_of(id.seq).contains(&topic)
 }
 

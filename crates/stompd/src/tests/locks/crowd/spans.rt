@@ -30,7 +30,7 @@ pub(super) struct Taken {
 /// Whether the item's only SEND has the body that was sent.
 fn has_body(item: &Released, topic: Topic) -> bool {
     let sends = &item.part.sends;
-    sends.len() == 1 && sends.get(0).body.as_slice() == body_of(item.part.id, topic).as_slice()
+    sends.len() == 1 && sends.get(0).body.as_slice() == body_of(item.part.id(), topic).as_slice()
 }
 
 impl Taken {
@@ -52,7 +52,7 @@ impl Taken {
             return Some(false);
         };
         self.as_sent = self.as_sent && has_body(&item, self.topic);
-        self.items.push((item.part.id, item.stamp)).ok()?;
+        self.items.push((item.part.id(), item.stamp)).ok()?;
         Some(true)
     }
 

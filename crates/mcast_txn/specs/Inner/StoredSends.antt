@@ -1,0 +1,10 @@
+-- Serves proofs only: how the SENDs of a part are stored, for its model; no public contract cites it.
+use Rattle.std.specs.Prelude.{List, [], ◌∷◌}
+use Rattle.mcast_txn.specs.declared.parts.part_message.PartMessage.{PartMessage}
+use Rattle.mcast_txn.specs.declared.parts.stored_sends.StoredSends.{StoredSends}
+use Rattle.mcast_txn.specs.declared.parts.stored_sends.StoredSends.TheVariants.{One, Shared}
+
+-- the SENDs, in order
+abbrev pub sends_in : StoredSends → List PartMessage
+sends_in (One send) = send ∷ []
+sends_in (Shared sends) = sends
