@@ -139,7 +139,7 @@ impl<Q: Outlet + Drop> CellGroup<Q> {
             return Err(ProposeFault::NoMemory);
         };
         self.group.sound();
-        let Proposal { prepared, flight } = proposal;
+        let (prepared, flight) = proposal.into_parts();
         let waiting = WaitingPart {
             id: prepared.part().id,
             flight,

@@ -21,10 +21,18 @@ use std::marker::Model;
 
 /// The parts that are pending, twice: by rising id, and their keys, falling. So a part is found by halving, and the
 /// least is at the end. In contracts it is the list by id.
-#[derive(Drop)]
 pub(crate) struct PendingParts {
     parts: VecDeque<BoxedPart>,
     keys: Keys,
+}
+
+impl Drop for PendingParts {
+    /// Written out, so that letting parts go is one call for the prover wherever it happens.
+    fn drop(self) {
+        let PendingParts { parts, keys } = self;
+        drop(parts);
+        drop(keys);
+    }
 }
 
 impl Model for PendingParts {

@@ -22,10 +22,17 @@ use sub_queue::Outlet;
 
 /// A part that hasn't learnt its stamp: its transaction, and its flight. In contracts it is the transaction and the
 /// name of the flight's cell.
-#[derive(Drop)]
 pub(crate) struct WaitingPart {
     pub(crate) id: TxnId,
     pub(crate) flight: Arc<Flight>,
+}
+
+impl Drop for WaitingPart {
+    /// Written out, so that letting a part go is one call for the prover wherever it happens.
+    fn drop(self) {
+        let WaitingPart { id: _, flight } = self;
+        drop(flight);
+    }
 }
 
 impl Model for WaitingPart {
