@@ -1,5 +1,6 @@
 pub mod Parts
 pub mod Indices
+pub mod Places
 pub mod Queues
 pub mod Numbers
 pub mod Keeping
