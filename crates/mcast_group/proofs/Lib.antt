@@ -1,6 +1,5 @@
 pub mod Parts
 pub mod Indices
-pub mod Places
 pub mod Queues
 pub mod Numbers
 pub mod Keeping
@@ -23,5 +22,6 @@ pub mod Turns
 pub mod Rows
 pub mod Segments
 pub mod KeyIndices
+pub mod Places
 pub mod ByKey
 pub mod Waits

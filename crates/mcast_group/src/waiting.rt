@@ -94,8 +94,23 @@ pub(crate) fn make_room(
     Ok(())
 }
 
-/// The index past the parts whose id is below this one.
+/// The index past the parts whose id is below this one. The last part is looked at first: a sender's newest part is
+/// put behind its others.
 fn index_for(waiting: &VecDeque<WaitingPart>, id: TxnId) -> usize
+    requires { RisesInId waiting.now.items }
+    ensures index { IsIndexPast (λ w. id_lt w.id id) waiting.now.items result }
+    ensures within { result ≤ length waiting.now.items }
+{
+    if let Some(last) = waiting.back()
+        && last.is_before(id)
+    {
+        return waiting.len();
+    }
+    halved_for(waiting, id)
+}
+
+/// The same index, by halving alone.
+fn halved_for(waiting: &VecDeque<WaitingPart>, id: TxnId) -> usize
     requires { RisesInId waiting.now.items }
     ensures index { IsIndexPast (λ w. id_lt w.id id) waiting.now.items result }
     ensures within { result ≤ length waiting.now.items }

@@ -41,7 +41,7 @@ put-requires g c =
     record {
       same = sym (copies_length _ s.pending s.copies.items c.self.invariant.copied);
       at = subst (λ (z : Pending). IsIndexPast (λ (q : Pending). id_lt q.part.id z.part.id) s.pending c.args.index) (sym entry)
-      (subst (λ (z : GroupState). IsIndexPast (λ (q : Pending). id_lt q.part.id part.id) z.topic.pending c.args.index) (sym c.self.view_is) c.requires.at);
+          (subst (λ (z : GroupState). IsIndexPast (λ (q : Pending). id_lt q.part.id part.id) z.topic.pending c.args.index) (sym c.self.view_is) c.requires.at);
       free = ap (λ (z : Pending). is_pending z.part.id s.pending) entry ∙ greatest.free;
       above = λ q k. ap (λ (z : Pending). stamp_lt (key q) (key z)) entry ∙ greatest.above q k;
     }
