@@ -22,5 +22,6 @@ pub mod Turns
 pub mod Rows
 pub mod Segments
 pub mod KeyIndices
+pub mod Places
 pub mod ByKey
 pub mod Waits

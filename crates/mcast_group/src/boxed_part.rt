@@ -11,10 +11,17 @@ use std::marker::Model;
 
 /// A pending part on the heap, beside its id: so little is moved where others are put in or taken out, and a search
 /// reads no part. In contracts it is the part.
-#[derive(Drop)]
 pub(crate) struct BoxedPart {
     id: TxnId,
     part: Box<PendingPart>,
+}
+
+impl Drop for BoxedPart {
+    /// Written out, so that letting a part go is one call for the prover wherever it happens.
+    fn drop(self) {
+        let BoxedPart { id: _, part } = self;
+        drop(part);
+    }
 }
 
 impl Model for BoxedPart {
@@ -77,6 +84,7 @@ impl BoxedPart {
     pub(crate) fn into_part(self) -> PendingPart
         ensures { result ≡ self }
     {
-        Box::into_inner(self.part)
+        let BoxedPart { id: _, part } = self;
+        Box::into_inner(part)
     }
 }

@@ -132,19 +132,17 @@ impl<Q: Outlet + Drop> CellGroup<Q> {
             (propose_fault floor proposal.part self.old.group.topic) counter.old counter.new) }
         ensures err { OnErr result (self.new ≡ self.old) }
     {
-        if let Some(fault) = self.group.refusal(floor, proposal.part()) {
-            return Err(fault);
-        }
+        let index = self.group.place_for(floor, proposal.part())?;
         let Ok(()) = make_room(&mut self.waiting, &mut self.notes) else {
             return Err(ProposeFault::NoMemory);
         };
         self.group.sound();
-        let Proposal { prepared, flight } = proposal;
+        let (prepared, flight) = proposal.into_parts();
         let waiting = WaitingPart {
             id: prepared.part().id(),
             flight,
         };
-        let ticket = self.group.enter_allowed(floor, prepared, counter)?;
+        let ticket = self.group.enter_allowed(floor, index, prepared, counter)?;
         put(&mut self.waiting, waiting);
         self.group.sound();
         Ok(ticket)
@@ -173,9 +171,7 @@ impl<Q: Outlet + Drop> CellGroup<Q> {
             (λ fault. fault ≡ propose_refusal floor (data_of (arc_value part)) self.old.group.topic) }
         ensures err { OnErr result (self.new ≡ self.old) }
     {
-        if let Some(fault) = self.group.refusal(floor, &part) {
-            return Err(fault);
-        }
+        self.group.place_for(floor, &part)?;
         let Ok(proposal) = Proposal::new(alloc, part) else {
             return Err(ProposeFault::NoMemory);
         };

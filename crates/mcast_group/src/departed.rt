@@ -12,11 +12,23 @@ use std::sync::Arc;
 
 /// A part that its topic has released, the stamp with which it was, and the note of its flight's cell that was kept
 /// beside it, where the cell told the stamp. In contracts it is these, and its flight.
-#[derive(Drop)]
 pub struct Departed {
     part: Arc<Part>,
     stamp: Stamp,
     seen: Option<Seen>,
+}
+
+impl Drop for Departed {
+    /// Written out, so that letting a part go is one call for the prover wherever it happens.
+    fn drop(self) {
+        let Departed {
+            part,
+            stamp: _,
+            seen,
+        } = self;
+        drop(part);
+        drop(seen);
+    }
 }
 
 impl Model for Departed {
@@ -79,6 +91,12 @@ impl Departed {
         ensures seen { result ≡ self.seen }
         ensures own { IfSome result (IsSightOf self.flight self.stamp) }
     {
-        self.seen
+        let Departed {
+            part,
+            stamp: _,
+            seen,
+        } = self;
+        drop(part);
+        seen
     }
 }

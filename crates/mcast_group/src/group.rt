@@ -3,10 +3,12 @@
 ghost use Rattle.std.specs.Prelude.{◌≡◌, ℕ, ◌+◌, ◌-◌, ◌<◌, ◌≤◌, Bool, true, false, [], List, length, map, take, slice_get, slice_index_or, Option, Some, None, OnOk, OnErr, IfOk, IfErr, IsOk};
 ghost use Rattle.std.specs.Arc.{arc_value};
 ghost use Rattle.std.specs.Option.{option_map};
+ghost use Rattle.std.specs.Result.{result_err};
 ghost use Rattle.mcast_txn.specs.Part.{data_of};
 ghost use Rattle.mcast_group.specs.Group.{CanLearn, FindsNothing, MayBeFound, GroupState, Releases, ReleasesAll, Tries, TriesAll, Turns, AreFound, group_after_release, result_of, after_enter, propose_refusal, IsRefusedBy, HasLeft, shown_at, sub_refusal, group_after_subscribe, group_after_unsubscribe};
 ghost use Rattle.mcast_txn.specs.declared.id.TxnId.{TxnId};
 ghost use Rattle.mcast_txn.specs.Ballot.{Decision};
+ghost use Rattle.mcast_txn.specs.Ids.{id_lt};
 ghost use Rattle.mcast_txn.specs.Lists.{In};
 ghost use Rattle.mcast_txn.specs.Stamp.{stamp_lt};
 ghost use Rattle.mcast_group.specs.Counted.{group_after_take, queue_item_at, next_at, takes_of};
@@ -16,6 +18,7 @@ ghost use Rattle.mcast_group.specs.CellGroup.{open_count};
 ghost use Rattle.mcast_group.specs.Fitting.{Fits};
 ghost use Rattle.mcast_group.specs.Sound.{IsSound};
 ghost use Rattle.mcast_group.specs.Inner.GroupInvariant.{entry_of};
+ghost use Rattle.mcast_group.specs.Inner.Keys.{IsIndexPast};
 ghost use Rattle.mcast_group.specs.Machine.{Pending, cancel_fault, after_cancel, after_drain, after_turn, decided_stamp, due_part, key, learn_fault, after_learn, new_topic, insert_pending, is_pending, next_number, propose_fault, after_propose, subscription_state, subscribe_fault, unsubscribe_fault};
 
 use crate::boxed_part::BoxedPart;
@@ -266,25 +269,25 @@ impl<Q: Outlet + Drop> Group<Q> {
             (λ fault. fault ≡ propose_refusal floor (data_of (arc_value part)) self.old.topic) }
         ensures err { OnErr result (self.new ≡ self.old) }
     {
-        if let Some(fault) = self.refusal(floor, &part) {
-            return Err(fault);
-        }
+        let index = self.place_for(floor, &part)?;
         let Ok(prepared) = Prepared::new(self.alloc, part) else {
             return Err(ProposeFault::NoMemory);
         };
-        self.enter_allowed(floor, prepared, &mut Uncounted)
+        self.enter_allowed(floor, index, prepared, &mut Uncounted)
     }
 
-    /// Enters a part that the topic doesn't refuse, once the counter has counted its ticket, for which it is asked when
-    /// all memory is made: so what was counted is given.
+    /// Enters a part that the topic doesn't refuse, at the index where it comes, once the counter has counted its
+    /// ticket, for which it is asked when all memory is made: so what was counted is given.
     pub(crate) fn enter_allowed<C: TicketCounter>(
         &mut self,
         floor: Stamp,
+        index: usize,
         prepared: Prepared,
         counter: &mut C,
     ) -> Result<Ticket, ProposeFault>
         requires own { prepared.topic ≡ self.old.topic.topic }
         requires allowed { propose_fault floor prepared self.old.topic ≡ None }
+        requires at { IsIndexPast (λ p. id_lt p.part.id prepared.id) self.old.topic.pending index }
         ensures ticket { IfOk result (λ ticket. ticket ≡ record {
           id = prepared.id;
           topic = self.old.topic.topic;
@@ -298,7 +301,7 @@ impl<Q: Outlet + Drop> Group<Q> {
     {
         let id = prepared.part().id();
         let n = self.clock.max(floor.n) + 1;
-        self.put_in(prepared, n, counter)?;
+        self.put_in(index, prepared, n, counter)?;
         Ok(Ticket {
             id,
             topic: self.topic,
@@ -306,21 +309,23 @@ impl<Q: Outlet + Drop> Group<Q> {
         })
     }
 
-    /// Why the topic would give this part no ticket, memory aside.
-    pub(crate) fn refusal(&self, floor: Stamp, part: &Part) -> Option<ProposeFault>
-        ensures { result ≡ propose_fault floor (data_of part.now) self.now.topic }
+    /// The index at which this part comes among those that are pending, or why the topic would give it no ticket,
+    /// memory aside.
+    pub(crate) fn place_for(&self, floor: Stamp, part: &Part) -> Result<usize, ProposeFault>
+        ensures fault { result_err result ≡ propose_fault floor (data_of part.now) self.now.topic }
+        ensures index { IfOk result (IsIndexPast (λ p. id_lt p.part.id (data_of part.now).id) self.now.topic.pending) }
     {
         let limit = self.log_limit;
-        if self.pending.index_of(part.id()).is_some() {
-            return Some(ProposeFault::Twice);
-        }
+        let Err(index) = self.pending.search(part.id()) else {
+            return Err(ProposeFault::Twice);
+        };
         if self.clock.max(floor.n) == u64::MAX {
-            return Some(ProposeFault::ClockFull);
+            return Err(ProposeFault::ClockFull);
         }
         if self.pending.len() + self.rows.len() >= limit {
-            return Some(ProposeFault::LogFull);
+            return Err(ProposeFault::LogFull);
         }
-        None
+        Ok(index)
     }
 
     /// How many subscriptions are open.
@@ -350,9 +355,11 @@ impl<Q: Outlet + Drop> Group<Q> {
         self.rows = Log::new(self.alloc);
     }
 
-    /// Puts a part among the pending ones, with all that its release will need, once its ticket is counted.
+    /// Puts a part among the pending ones, at the index where it comes, with all that its release will need, once its
+    /// ticket is counted.
     fn put_in<C: TicketCounter>(
         &mut self,
+        index: usize,
         prepared: Prepared,
         n: u64,
         counter: &mut C,
@@ -360,6 +367,7 @@ impl<Q: Outlet + Drop> Group<Q> {
         requires own { prepared.topic ≡ self.old.topic.topic }
         requires may { (floor : Stamp) × (n ≡ next_number floor self.old.topic)
             × (propose_fault floor prepared self.old.topic ≡ None) }
+        requires at { IsIndexPast (λ p. id_lt p.part.id prepared.id) self.old.topic.pending index }
         ensures ok { OnOk result (self.new
             ≡ record self.old { topic = after_enter n prepared self.old.topic }) }
         ensures counted { OnOk result (C.counted counter.old counter.new) }
@@ -369,7 +377,14 @@ impl<Q: Outlet + Drop> Group<Q> {
         let (entry, made) = prepared.into_entry(self.alloc, n, self.subscriptions.open_len())?;
         self.rows.reserve(self.pending.len() + 1)?;
         self.subscriptions.reserve_each(self.pending.len() + 1)?;
-        put(&mut self.pending, &mut self.copies, entry, made, counter)?;
+        put(
+            &mut self.pending,
+            &mut self.copies,
+            index,
+            entry,
+            made,
+            counter,
+        )?;
         self.clock = n;
         Ok(())
     }
@@ -561,15 +576,17 @@ fn make_room<Q: Outlet + Drop>(
     Ok(())
 }
 
-/// Puts a part and its copies at its index, once its ticket is counted.
+/// Puts a part and its copies at the index where it comes, once its ticket is counted.
 fn put<C: TicketCounter>(
     pending: &mut PendingParts,
     copies: &mut VecDeque<Copies>,
+    index: usize,
     entry: BoxedPart,
     made: Copies,
     counter: &mut C,
 ) -> Result<(), ProposeFault>
     requires same { length copies.old.items ≡ length pending.old }
+    requires at { IsIndexPast (λ p. id_lt p.part.id entry.part.id) pending.old index }
     requires free { is_pending entry.part.id pending.old ≡ false }
     requires above { (q : Pending) → In q pending.old → stamp_lt (key q) (key entry) ≡ true }
     ensures ok { OnOk result (pending.new ≡ insert_pending entry pending.old) }
@@ -583,7 +600,7 @@ fn put<C: TicketCounter>(
     let Ok(()) = copies.reserve(1) else {
         return Err(ProposeFault::NoMemory);
     };
-    let index = pending.insert(entry, counter)?;
+    pending.insert(index, entry, counter)?;
     copies.insert(index, made).unwrap();
     Ok(())
 }

@@ -18,12 +18,23 @@ const MOST_SEGMENTS: usize = usize::MAX / SEGMENT_ROWS;
 
 /// The rows of a topic's log, in segments of 256. A row never moves while it is in the log. In contracts it is the list
 /// of its rows, and how many it has room for, with those.
-#[derive(Drop)]
 pub(crate) struct Log {
     alloc: Global,
     /// Each is full, but the last that has rows; those after it have none.
     segments: VecDeque<Segment>,
     len: usize,
+}
+
+impl Drop for Log {
+    /// Written out, so that letting a log go is one call for the prover wherever it happens.
+    fn drop(self) {
+        let Log {
+            alloc: _,
+            segments,
+            len: _,
+        } = self;
+        drop(segments);
+    }
 }
 
 impl Model for Log {

@@ -12,12 +12,20 @@ use std::collections::VecDeque;
 use std::marker::Model;
 
 /// Rows that were drained from a topic's log, in their order. In contracts it is the list of those that weren't taken.
-#[derive(Drop)]
 pub struct LogRows {
     /// The row of a log that had no other: it takes no memory of its own, and then there are no others here.
     only: Option<Row>,
     /// The rows of a log that had several.
     many: SegmentRows,
+}
+
+impl Drop for LogRows {
+    /// Written out, so that letting rows go is one call for the prover wherever it happens.
+    fn drop(self) {
+        let LogRows { only, many } = self;
+        drop(only);
+        drop(many);
+    }
 }
 
 impl Model for LogRows {

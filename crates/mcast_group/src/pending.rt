@@ -18,13 +18,27 @@ use std::sync::Arc;
 
 /// A part that is pending: the number of its ticket, and its stamp once that is learnt, with the note by which the cell
 /// of its flight told it.
-#[derive(Drop)]
 pub(crate) struct PendingPart {
     part: Arc<Part>,
     /// The part's topics, shared once more, so that a release takes no memory.
     topics: Arc<TopicSet>,
     number: u64,
     learnt: Learnt,
+}
+
+impl Drop for PendingPart {
+    /// Written out, so that letting a part go is one call for the prover wherever it happens.
+    fn drop(self) {
+        let PendingPart {
+            part,
+            topics,
+            number: _,
+            learnt,
+        } = self;
+        drop(part);
+        drop(topics);
+        drop(learnt);
+    }
 }
 
 impl Model for PendingPart {

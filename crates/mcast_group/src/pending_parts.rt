@@ -21,10 +21,18 @@ use std::marker::Model;
 
 /// The parts that are pending, twice: by rising id, and their keys, falling. So a part is found by halving, and the
 /// least is at the end. In contracts it is the list by id.
-#[derive(Drop)]
 pub(crate) struct PendingParts {
     parts: VecDeque<BoxedPart>,
     keys: Keys,
+}
+
+impl Drop for PendingParts {
+    /// Written out, so that letting parts go is one call for the prover wherever it happens.
+    fn drop(self) {
+        let PendingParts { parts, keys } = self;
+        drop(parts);
+        drop(keys);
+    }
 }
 
 impl Model for PendingParts {
@@ -92,15 +100,27 @@ impl PendingParts {
         self.parts.partition_point(|boxed| boxed.is_before(id))
     }
 
+    /// The index of the transaction's part, or else the one at which it would come.
+    pub(crate) fn search(&self, id: TxnId) -> Result<usize, usize>
+        ensures found { IfOk result (λ i. position (λ p. same_id p.part.id id) self.now ≡ Some i) }
+        ensures absent { OnErr result (position (λ p. same_id p.part.id id) self.now ≡ None) }
+        ensures index { IfErr result (IsIndexPast (λ p. id_lt p.part.id id) self.now) }
+    {
+        let index = self.index_for(id);
+        let Some(there) = self.parts.get(index) else {
+            return Err(index);
+        };
+        if there.id() != id {
+            return Err(index);
+        }
+        Ok(index)
+    }
+
     /// The index of the transaction's part.
     pub(crate) fn index_of(&self, id: TxnId) -> Option<usize>
         ensures { result ≡ position (λ p. same_id p.part.id id) self.now }
     {
-        let index = self.index_for(id);
-        if self.parts.get(index)?.id() != id {
-            return None;
-        }
-        Some(index)
+        self.search(id).ok()
     }
 
     /// The index of the part of least key.
@@ -172,24 +192,24 @@ impl PendingParts {
         self.parts.remove(index).unwrap().into_part()
     }
 
-    /// Puts a part among the others, whose keys are below its own, and returns its index. The counter is asked once all
-    /// memory is made, and nothing is refused after that.
+    /// Puts a part among the others, whose keys are below its own, at the index where it comes. The counter is asked
+    /// once all memory is made, and nothing is refused after that.
     pub(crate) fn insert<C: TicketCounter>(
         &mut self,
+        index: usize,
         part: BoxedPart,
         counter: &mut C,
-    ) -> Result<usize, ProposeFault>
+    ) -> Result<(), ProposeFault>
+        requires at { IsIndexPast (λ p. id_lt p.part.id part.part.id) self.old index }
         requires free { is_pending part.part.id self.old ≡ false }
         requires above { (q : Pending) → In q self.old → stamp_lt (key q) (key part) ≡ true }
-        ensures within { IfOk result (λ index. index ≤ length self.old) }
-        ensures at { IfOk result (λ index. self.new ≡ insert self.old index part) }
+        ensures at { OnOk result (self.new ≡ insert self.old index part) }
         ensures ok { OnOk result (self.new ≡ insert_pending part self.old) }
         ensures err { OnErr result (self.new ≡ self.old) }
         ensures counted { OnOk result (C.counted counter.old counter.new) }
         ensures fault { IfErr result (IsRefusedBy C.refused None counter.old counter.new) }
     {
         let keyed = part.part().keyed();
-        let index = self.index_for(part.id());
         let Ok(()) = self.parts.reserve(1) else {
             return Err(ProposeFault::NoMemory);
         };
@@ -199,6 +219,6 @@ impl PendingParts {
             return Err(fault);
         }
         self.parts.insert(index, part).unwrap();
-        Ok(index)
+        Ok(())
     }
 }

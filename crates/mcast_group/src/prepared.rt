@@ -15,11 +15,23 @@ use std::sync::Arc;
 
 /// A part on the heap, as it will be among those that are pending, and a copy for each of so many subscriptions. In
 /// contracts it is what the part says.
-#[derive(Drop)]
 pub(crate) struct Prepared {
     entry: BoxedPart,
     copies: Copies,
     many: usize,
+}
+
+impl Drop for Prepared {
+    /// Written out, so that letting a part go is one call for the prover wherever it happens.
+    fn drop(self) {
+        let Prepared {
+            entry,
+            copies,
+            many: _,
+        } = self;
+        drop(entry);
+        drop(copies);
+    }
 }
 
 impl Model for Prepared {

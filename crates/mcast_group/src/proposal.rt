@@ -13,10 +13,18 @@ use std::sync::Arc;
 
 /// A part that is to be entered, on the heap, with its topics and its flight shared once more. In contracts it is what
 /// the part says, and the name of its flight's cell.
-#[derive(Drop)]
 pub struct Proposal {
     pub(crate) prepared: Prepared,
     pub(crate) flight: Arc<Flight>,
+}
+
+impl Drop for Proposal {
+    /// Written out, so that letting a proposal go is one call for the prover wherever it happens.
+    fn drop(self) {
+        let Proposal { prepared, flight } = self;
+        drop(prepared);
+        drop(flight);
+    }
 }
 
 impl Model for Proposal {
@@ -70,5 +78,13 @@ impl Proposal {
         ensures { data_of result.now ≡ self.now.part }
     {
         self.prepared.part()
+    }
+    /// The part as it is to be entered, and its flight.
+    pub(crate) fn into_parts(self) -> (Prepared, Arc<Flight>)
+        ensures part { result.0 ≡ self.part }
+        ensures cell { cell_of (arc_value result.1) ≡ self.cell }
+    {
+        let Proposal { prepared, flight } = self;
+        (prepared, flight)
     }
 }

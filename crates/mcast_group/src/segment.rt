@@ -13,9 +13,16 @@ use std::marker::Model;
 pub(crate) const SEGMENT_ROWS: usize = 256;
 
 /// Rows of a log that follow one another, in room for 256 that never moves. In contracts it is the list of them.
-#[derive(Drop)]
 pub(crate) struct Segment {
     rows: VecDeque<Row>,
+}
+
+impl Drop for Segment {
+    /// Written out, so that letting a segment go is one call for the prover wherever it happens.
+    fn drop(self) {
+        let Segment { rows } = self;
+        drop(rows);
+    }
 }
 
 impl Model for Segment {
@@ -85,6 +92,7 @@ impl Segment {
     pub(crate) fn into_rows(self) -> VecDeque<Row>
         ensures { result.items ≡ self }
     {
-        self.rows
+        let Segment { rows } = self;
+        rows
     }
 }

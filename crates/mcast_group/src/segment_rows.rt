@@ -11,11 +11,19 @@ use std::marker::Model;
 
 /// Rows of segments that were drained from a topic's log, in their order. In contracts it is the list of those that
 /// weren't taken.
-#[derive(Drop)]
 pub(crate) struct SegmentRows {
     /// What is left of the segment whose rows are taken.
     first: VecDeque<Row>,
     rest: Log,
+}
+
+impl Drop for SegmentRows {
+    /// Written out, so that letting rows go is one call for the prover wherever it happens.
+    fn drop(self) {
+        let SegmentRows { first, rest } = self;
+        drop(first);
+        drop(rest);
+    }
 }
 
 impl Model for SegmentRows {

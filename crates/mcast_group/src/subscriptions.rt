@@ -23,11 +23,18 @@ use sub_queue::{Outlet, VecOutlet};
 
 /// The subscriptions of a topic, by rising number, so that one is found by halving; how many are open is counted. One
 /// that is taken out moves those before or after it, whichever are fewer. In contracts it is the list of them.
-#[derive(Drop)]
 pub(crate) struct Subscriptions<Q: Outlet + Drop> {
     subs: VecDeque<Subscription<Q>>,
     /// How many have no end.
     open_len: usize,
+}
+
+impl<Q: Outlet + Drop> Drop for Subscriptions<Q> {
+    /// Written out, so that letting them go is one call for the prover wherever it happens.
+    fn drop(self) {
+        let Subscriptions { subs, open_len: _ } = self;
+        drop(subs);
+    }
 }
 
 impl<Q: Outlet + Drop> Model for Subscriptions<Q> {

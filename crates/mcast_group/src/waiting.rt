@@ -22,10 +22,17 @@ use sub_queue::Outlet;
 
 /// A part that hasn't learnt its stamp: its transaction, and its flight. In contracts it is the transaction and the
 /// name of the flight's cell.
-#[derive(Drop)]
 pub(crate) struct WaitingPart {
     pub(crate) id: TxnId,
     pub(crate) flight: Arc<Flight>,
+}
+
+impl Drop for WaitingPart {
+    /// Written out, so that letting a part go is one call for the prover wherever it happens.
+    fn drop(self) {
+        let WaitingPart { id: _, flight } = self;
+        drop(flight);
+    }
 }
 
 impl Model for WaitingPart {
@@ -87,8 +94,23 @@ pub(crate) fn make_room(
     Ok(())
 }
 
-/// The index past the parts whose id is below this one.
+/// The index past the parts whose id is below this one. The last part is looked at first: a sender's newest part is
+/// put behind its others.
 fn index_for(waiting: &VecDeque<WaitingPart>, id: TxnId) -> usize
+    requires { RisesInId waiting.now.items }
+    ensures index { IsIndexPast (λ w. id_lt w.id id) waiting.now.items result }
+    ensures within { result ≤ length waiting.now.items }
+{
+    if let Some(last) = waiting.back()
+        && last.is_before(id)
+    {
+        return waiting.len();
+    }
+    halved_for(waiting, id)
+}
+
+/// The same index, by halving alone.
+fn halved_for(waiting: &VecDeque<WaitingPart>, id: TxnId) -> usize
     requires { RisesInId waiting.now.items }
     ensures index { IsIndexPast (λ w. id_lt w.id id) waiting.now.items result }
     ensures within { result ≤ length waiting.now.items }

@@ -35,6 +35,6 @@ pub fn close<R>(source: Source<R>, taker: Taker) -> Left
     ensures rises { Rises item_stamp source.items }
 {
     Left {
-        end: source.end.join(taker.end),
+        end: source.into_end().join(taker.into_end()),
     }
 }

@@ -8,9 +8,16 @@ use std::marker::Model;
 use std::sync::Wait;
 
 /// What was pushed and not taken. In contracts it is the list of these items.
-#[derive(Drop)]
 pub struct Left {
     pub(crate) end: QueueEnd,
+}
+
+impl Drop for Left {
+    /// Written out, so that letting what is left go is one call for the prover wherever it happens.
+    fn drop(self) {
+        let Left { end } = self;
+        drop(end);
+    }
 }
 
 impl Model for Left {

@@ -15,10 +15,18 @@ use std::marker::Model;
 use std::sync::{Arc, Wait};
 
 /// An end of a queue: the queue, and what carries the end's knowledge, which has no bytes.
-#[derive(Drop)]
 pub(crate) struct QueueEnd {
     queue: Arc<SharedQueue>,
     pass: EndPass,
+}
+
+impl Drop for QueueEnd {
+    /// Written out, so that letting an end go is one call for the prover wherever it happens.
+    fn drop(self) {
+        let QueueEnd { queue, pass } = self;
+        drop(queue);
+        drop(pass);
+    }
 }
 
 impl Model for QueueEnd {
@@ -51,6 +59,17 @@ impl QueueEnd {
         Ok((QueueEnd { queue, pass }, other))
     }
 
+    /// What carries its knowledge.
+    fn into_pass(self) -> EndPass
+        ensures queue { result.table_id ≡ self.queue }
+        ensures whole { result.me.1 ≡ [] }
+        ensures knows { knowledge_of result ≡ self.knows }
+    {
+        let QueueEnd { queue, pass } = self;
+        drop(queue);
+        pass
+    }
+
     /// This end, which pushes, and one that takes from the same queue, as one end that does both.
     pub(crate) fn join(self, other: QueueEnd) -> QueueEnd
         requires queue { other.queue ≡ self.queue }
@@ -61,8 +80,7 @@ impl QueueEnd {
         ensures rises { Rises item_stamp result.knows.pushed }
     {
         let QueueEnd { queue, mut pass } = self;
-        let QueueEnd { pass: theirs, .. } = other;
-        queue.absorb::<TwoEnds>(&mut pass, theirs);
+        queue.absorb::<TwoEnds>(&mut pass, other.into_pass());
         queue.learn_as::<TakesLeft>(&mut pass);
         QueueEnd { queue, pass }
     }

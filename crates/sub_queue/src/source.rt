@@ -14,10 +14,17 @@ use std::sync::Wait;
 
 /// The end of a shared queue that pushes: an outlet under a runtime. In contracts it is its queue, the capacity,
 /// the items that were pushed, and how many of them it was told to be taken.
-#[derive(Drop)]
 pub struct Source<R> {
     pub(crate) end: QueueEnd,
     pub(crate) runtime: PhantomData<R>,
+}
+
+impl<R> Drop for Source<R> {
+    /// Written out, so that letting an end go is one call for the prover wherever it happens.
+    fn drop(self) {
+        let Source { end, runtime: _ } = self;
+        drop(end);
+    }
 }
 
 impl<R> Model for Source<R> {
@@ -39,7 +46,17 @@ impl<R> Source<R> {
         requires { taken.queue ≡ self.old.queue }
         ensures { self.new ≡ record self.old { told = taken.count } }
     {
-        self.end.hear(taken.witness);
+        self.end.hear(taken.into_witness());
+    }
+
+    /// The end of the queue.
+    pub(crate) fn into_end(self) -> QueueEnd
+        ensures queue { result.queue ≡ self.queue }
+        ensures pushes { result.knows.pushes ≡ true }
+        ensures pushed { result.knows.pushed ≡ self.items }
+    {
+        let Source { end, runtime: _ } = self;
+        end
     }
 }
 

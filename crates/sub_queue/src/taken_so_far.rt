@@ -1,13 +1,23 @@
 //! What is known of a queue's taken items.
 
+ghost use Rattle.std.specs.Prelude.{◌≡◌, [], length};
+ghost use Rattle.sub_queue.specs.Rule.{knowledge_of};
+
 use crate::rule::EndPass;
 use std::marker::Model;
 
 /// That items of a queue were taken, for the end that pushes (`Source::know_taken`). It has no bytes. In contracts it
 /// is the queue, and how many items were taken when it was made.
-#[derive(Drop)]
 pub struct TakenSoFar {
     pub(crate) witness: EndPass,
+}
+
+impl Drop for TakenSoFar {
+    /// Written out, so that letting it go is one call for the prover wherever it happens.
+    fn drop(self) {
+        let TakenSoFar { witness } = self;
+        drop(witness);
+    }
 }
 
 impl Model for TakenSoFar {
@@ -20,4 +30,16 @@ impl Model for TakenSoFar {
     ghost view = { λ t. record { queue = t.witness.table_id; count = length (knowledge_of t.witness).taken } };
 
     ghost invariant = { λ t. t.witness.me.1 ≡ [] };
+}
+
+impl TakenSoFar {
+    /// What carries it.
+    pub(crate) fn into_witness(self) -> EndPass
+        ensures queue { result.table_id ≡ self.queue }
+        ensures whole { result.me.1 ≡ [] }
+        ensures count { length (knowledge_of result).taken ≡ self.count }
+    {
+        let TakenSoFar { witness } = self;
+        witness
+    }
 }

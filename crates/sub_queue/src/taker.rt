@@ -12,9 +12,16 @@ use std::marker::Model;
 use std::sync::Wait;
 
 /// The end of a shared queue that takes. In contracts it is its queue, the capacity, and the items that were taken.
-#[derive(Drop)]
 pub struct Taker {
     pub(crate) end: QueueEnd,
+}
+
+impl Drop for Taker {
+    /// Written out, so that letting an end go is one call for the prover wherever it happens.
+    fn drop(self) {
+        let Taker { end } = self;
+        drop(end);
+    }
 }
 
 impl Model for Taker {
@@ -39,6 +46,16 @@ impl Taker {
         ensures rises { Rises item_stamp self.new.items }
     {
         self.end.take(rt)
+    }
+
+    /// The end of the queue.
+    pub(crate) fn into_end(self) -> QueueEnd
+        ensures queue { result.queue ≡ self.queue }
+        ensures takes { result.knows.takes ≡ true }
+        ensures taken { result.knows.taken ≡ self.items }
+    {
+        let Taker { end } = self;
+        end
     }
 
     /// That so many items were taken, for the end that pushes, with no memory.

@@ -14,11 +14,22 @@ use std::marker::Model;
 
 /// A queue that is a vector: all items that it accepted, of which the first were taken. It accepts an item exactly
 /// where fewer than its capacity are untaken. In contracts it is what it shows, and how many pushes need no memory.
-#[derive(Drop)]
 pub struct VecOutlet {
     items: Vec<Released>,
     capacity: usize,
     taken: usize,
+}
+
+impl Drop for VecOutlet {
+    /// Written out, so that letting a queue go is one call for the prover wherever it happens.
+    fn drop(self) {
+        let VecOutlet {
+            items,
+            capacity: _,
+            taken: _,
+        } = self;
+        drop(items);
+    }
 }
 
 impl Model for VecOutlet {

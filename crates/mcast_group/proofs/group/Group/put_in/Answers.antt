@@ -1,4 +1,5 @@
 use Rattle.std.proofs.Common.{◌≡◌, ◌<◌, ◌≤◌, ◌+◌, ℕ, List, map, length, get_or, None, refl, sym, ap, subst, ◌∙◌, arith}
+use Rattle.mcast_txn.specs.Ids.{id_lt}
 use Rattle.mcast_txn.specs.Span.{LogRow}
 use Rattle.mcast_txn.specs.Stamp.{stamp_lt}
 use Rattle.mcast_group.specs.declared.subscription.Subscription.{Subscription}
@@ -7,6 +8,7 @@ use Rattle.mcast_group.specs.Inner.Copies.{AreOf, HaveCopies}
 use Rattle.mcast_group.specs.CellGroup.{open_count}
 use Rattle.mcast_group.specs.Group.{GroupState, after_enter, topic_state}
 use Rattle.mcast_group.specs.Inner.GroupInvariant.{IsKept, entry_of}
+use Rattle.mcast_group.specs.Inner.Keys.{IsIndexPast}
 use Rattle.mcast_group.specs.Machine.{TopicState, Entry, Pending, insert_pending, is_pending, key, next_number, propose_fault}
 use Rattle.mcast_group.proofs.Releasing.{copies_length}
 use Rattle.mcast_group.proofs.Entering.{is_greatest, kept_grown, kept_entered}
@@ -38,6 +40,8 @@ put-requires g c =
     (ap (λ (z : GroupState). propose_fault may.0 part z.topic) c.self.view_is ∙ may.2) in
     record {
       same = sym (copies_length _ s.pending s.copies.items c.self.invariant.copied);
+      at = subst (λ (z : Pending). IsIndexPast (λ (q : Pending). id_lt q.part.id z.part.id) s.pending c.args.index) (sym entry)
+          (subst (λ (z : GroupState). IsIndexPast (λ (q : Pending). id_lt q.part.id part.id) z.topic.pending c.args.index) (sym c.self.view_is) c.requires.at);
       free = ap (λ (z : Pending). is_pending z.part.id s.pending) entry ∙ greatest.free;
       above = λ q k. ap (λ (z : Pending). stamp_lt (key q) (key z)) entry ∙ greatest.above q k;
     }

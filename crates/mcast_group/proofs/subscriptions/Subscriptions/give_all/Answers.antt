@@ -1,6 +1,3 @@
-use Rattle.std.proofs.Common.{List, subst, sym}
-use Rattle.mcast_group.specs.declared.subscription.Subscription.{Subscription}
-use Rattle.mcast_group.specs.Inner.GroupInvariant.{Gave}
 use Rattle.mcast_group.specs.Machine.{item_of}
 use Rattle.mcast_group.proofs.ByNumber.{rises_given}
 use Rattle.mcast_group.proofs.subscriptions.Subscriptions.give_all.Goals as goal

@@ -1,8 +1,8 @@
-use Rattle.std.proofs.Common.{◌≡◌, ℕ, ◌+◌, length, List, true, refl, sym, ap, subst, ◌∙◌, arith}
+use Rattle.std.proofs.Common.{◌≡◌, ◌+◌, length, List, true, sym, ap, subst, arith}
 use Rattle.std.specs.List.{insert}
 use Rattle.mcast_txn.specs.Lists.{RisesBy}
 use Rattle.mcast_group.specs.declared.subscription.Subscription.{Subscription}
-use Rattle.mcast_group.specs.Inner.Subscriptions.{AreCounted, IsIndexFor, endless_count}
+use Rattle.mcast_group.specs.Inner.Subscriptions.{AreCounted, IsIndexFor}
 use Rattle.mcast_group.proofs.ByNumber.{number_of, rises_tried}
 use Rattle.mcast_group.proofs.Endless.{endless_inserted, endless_most, unended}
 use Rattle.mcast_group.proofs.subscriptions.Subscriptions.insert.Goals as goal
