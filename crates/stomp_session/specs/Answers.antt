@@ -21,8 +21,7 @@ abbrev pub commit : List SentMessage → Action
 commit [] = actions.Nothing
 commit (send ∷ sends) = actions.Commit (send ∷ sends)
 
--- What the connection has to do for the frame. A SEND outside a transaction is one of its own (STOMP 1.2,
--- "SEND").
+-- What the connection has to do for the frame. A SEND outside a transaction is a transaction by itself (own).
 abbrev pub action_by : Command → Held → RawFrame → Action
 action_by commands.Connect s f = actions.Connected (client_of f)
 action_by commands.Stomp s f = actions.Connected (client_of f)

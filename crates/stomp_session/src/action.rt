@@ -15,7 +15,8 @@ pub enum Action {
     Subscribe(Octets, Topic),
     /// End the subscription of this id (STOMP 1.2, "UNSUBSCRIBE").
     Unsubscribe(Octets),
-    /// Send this transaction (STOMP 1.2, "COMMIT"; "SEND" outside a transaction).
+    /// Send this transaction: that of a COMMIT (STOMP 1.2, "COMMIT"), or a SEND outside a transaction, which is one by
+    /// itself (our choice, not the standard's).
     Commit(Txn),
     /// End the connection once its receipt is written (STOMP 1.2, "DISCONNECT").
     Disconnect,

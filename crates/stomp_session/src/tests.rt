@@ -4,6 +4,7 @@ mod answers;
 mod client;
 mod first_uses;
 mod histories;
+mod known;
 mod made;
 mod memory;
 mod names;
