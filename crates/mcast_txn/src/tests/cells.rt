@@ -2,26 +2,21 @@
 
 ghost use Rattle.std.specs.Prelude.{◌≡◌};
 
-use super::deciding::{ID, ballot_to, stamp, ticket};
+use super::deciding::{ballot_to, stamp, ticket, verdict_of};
+use super::sending::ID;
 use crate::{Flight, Stamp, Verdict};
 use std::alloc::Global;
-use std::test::Fail;
 use std::thread;
 use std::thread::Threads;
 
 /// A verdict whose only topic, 0, gave this number.
-fn verdict_of(alloc: Global, n: u64) -> Result<Box<Verdict>, Fail> {
-    let mut ballot = ballot_to(alloc, &[0])?;
-    ballot.put(ticket(0, n))?;
-    match ballot.close() {
-        Ok(verdict) => Ok(verdict),
-        Err(_) => Err(Fail::new("not closed")),
-    }
+fn verdict(alloc: Global, n: u64) -> Option<Box<Verdict>> {
+    verdict_of(ballot_to(alloc, &[0])?, &[ticket(0, n)])
 }
 
 /// What one decision gave: the stamp of the verdict that was returned, if one was, with the number of the fault, and
 /// the stamp that is then read by the same note and by a new one.
-#[derive(Clone, Copy, Debug, PartialEq, Eq)]
+#[derive(Clone, Copy, PartialEq, Eq)]
 struct Decided {
     returned: Option<(Stamp, u32)>,
     read: Option<Stamp>,
@@ -72,66 +67,75 @@ fn finds(n: u64, set: u64) -> Decided {
 }
 
 /// What is read before a decision, the decision of stamp 5, and then that of stamp 9.
-fn two_decisions(alloc: Global, flight: &Flight) -> Result<(bool, Decided, Decided), Fail> {
+fn two_decisions(alloc: Global, flight: &Flight) -> Option<(bool, Decided, Decided)> {
     let is_blank = read_anew(flight).is_none() && flight.see().is_none();
-    let first = decide(flight, verdict_of(alloc, 5)?);
-    let second = decide(flight, verdict_of(alloc, 9)?);
-    Ok((is_blank, first, second))
+    let first = decide(flight, verdict(alloc, 5)?);
+    let second = decide(flight, verdict(alloc, 9)?);
+    Some((is_blank, first, second))
+}
+
+/// The stamp that a note sees which knows the verdict.
+fn seen(flight: &Flight) -> Option<Stamp> {
+    let (verdict, _seen) = flight.see()?;
+    Some(verdict.stamp())
+}
+
+/// Those of a new flight, and the stamp that is seen in the end.
+fn decided_once(alloc: Global) -> Option<((bool, Decided, Decided), Option<Stamp>)> {
+    let flight = Flight::new(alloc, ID).ok()?;
+    let decisions = two_decisions(alloc, &flight)?;
+    Some((decisions, seen(&flight)))
 }
 
 #[test]
-fn a_flight_is_decided_once(rt: HostRuntime) -> Result<(), Fail> {
-    let flight = Flight::new(rt.alloc(), ID)?;
-    let (is_blank, first, second) = two_decisions(rt.alloc(), &flight)?;
-    assert!(rt; is_blank && first == sets(5) && second == finds(9, 5));
-    assert!(rt;
-        flight
-            .see()
-            .is_some_and(|found| found.0.stamp() == stamp(5, 0))
-    );
-    Ok(())
+fn a_flight_is_decided_once(rt: HostRuntime) {
+    let decisions = (true, sets(5), finds(9, 5));
+    assert!(rt; decided_once(rt.alloc()) == Some((decisions, Some(stamp(5, 0)))));
+}
+
+/// What a note reads before a decision of stamp 3, and after it.
+fn before_and_after(alloc: Global, flight: &Flight) -> Option<[Option<Stamp>; 2]> {
+    let mut early = flight.note();
+    let before = flight.read(&mut early).map(|verdict| verdict.stamp());
+    decide(flight, verdict(alloc, 3)?);
+    let after = flight.read(&mut early).map(|verdict| verdict.stamp());
+    Some([before, after])
 }
 
 /// A note that knows nothing reads what another sets, whether it was made before or after.
-fn reads_later(alloc: Global, flight: &Flight) -> Result<bool, Fail> {
-    let mut early = flight.note();
-    let is_blank = flight.read(&mut early).is_none();
-    decide(flight, verdict_of(alloc, 3)?);
-    match flight.read(&mut early) {
-        Some(verdict) => Ok(is_blank && verdict.stamp() == stamp(3, 0)),
-        None => Ok(false),
-    }
+fn reads_later(alloc: Global) -> Option<[Option<Stamp>; 2]> {
+    let flight = Flight::new(alloc, ID).ok()?;
+    before_and_after(alloc, &flight)
 }
 
 #[test]
-fn an_early_note_reads_a_later_decision(rt: HostRuntime) -> Result<(), Fail> {
-    let flight = Flight::new(rt.alloc(), ID)?;
-    assert!(rt; reads_later(rt.alloc(), &flight)?);
-    Ok(())
+fn an_early_note_reads_a_later_decision(rt: HostRuntime) {
+    assert!(rt; reads_later(rt.alloc()) == Some([None, Some(stamp(3, 0))]));
 }
 
 /// What two threads' decisions give.
-fn race<R: Threads + Sync>(
-    rt: &R,
-    alloc: Global,
-    flight: &Flight,
-) -> Result<(Decided, Decided), Fail> {
-    let one = verdict_of(alloc, 5)?;
-    let other = verdict_of(alloc, 9)?;
+fn race<R: Threads + Sync>(rt: &R, alloc: Global, flight: &Flight) -> Option<(Decided, Decided)> {
+    let one = verdict(alloc, 5)?;
+    let other = verdict(alloc, 9)?;
     let decided = thread::join(
         rt,
         move || -> Decided { decide(flight, one) },
         move || -> Decided { decide(flight, other) },
     );
-    Ok(decided)
+    Some(decided)
+}
+
+/// Those of a new flight.
+fn raced<R: Threads + Sync>(rt: &R, alloc: Global) -> Option<(Decided, Decided)> {
+    let flight = Flight::new(alloc, ID).ok()?;
+    race(rt, alloc, &flight)
 }
 
 #[test]
-fn two_threads_decide_once(rt: HostRuntime) -> Result<(), Fail> {
+fn two_threads_decide_once(rt: HostRuntime) {
     for _ in 0..100 {
-        let flight = Flight::new(rt.alloc(), ID)?;
-        let decided = race(&rt, rt.alloc(), &flight)?;
-        assert!(rt; decided == (sets(5), finds(9, 5)) || decided == (finds(5, 9), sets(9)));
+        let decided = raced(&rt, rt.alloc());
+        let first = Some((sets(5), finds(9, 5)));
+        assert!(rt; decided == first || decided == Some((finds(5, 9), sets(9))));
     }
-    Ok(())
 }

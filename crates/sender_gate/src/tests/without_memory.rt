@@ -1,8 +1,8 @@
 //! `Gate::begin` without memory. The test holds whichever one allocation fails (`rt try --test --fail-alloc N`).
 
-use super::flights::{put, stamp};
+use super::flights::{decided, stamp};
 use crate::{Flying, Gate, GateFault};
-use mcast_txn::{Draft, Headers, Octets, Sender, Topic, Txn, TxnId};
+use mcast_txn::{Draft, Headers, Octets, Sender, Stamp, Topic, Txn, TxnId};
 use std::alloc::Global;
 use std::test::Fail;
 
@@ -39,6 +39,15 @@ fn txn(alloc: Global) -> Result<Txn, Fail> {
     }
 }
 
+/// Whether a gate and a transaction are as they were made.
+fn are_as_made(gate: &Gate, txn: &Txn) -> bool {
+    gate.sender() == Sender(3)
+        && gate.seq() == 4
+        && gate.floor() == stamp(10, 0)
+        && txn.len() == 3
+        && txn.topics().as_slice() == [Topic(0), Topic(1)].as_slice()
+}
+
 /// The transaction's flight. Where it is refused, gate and transaction are returned as they were, and it then
 /// begins.
 fn begun(alloc: Global) -> Result<Flying, Fail> {
@@ -47,14 +56,8 @@ fn begun(alloc: Global) -> Result<Flying, Fail> {
         Ok(flying) => return Ok(flying),
         Err(refused) => refused,
     };
-    if fault != GateFault::NoMemory {
-        return Err(Fail::new("refused for another cause"));
-    }
-    if gate.sender() != Sender(3) || gate.seq() != 4 || gate.floor() != stamp(10, 0) {
-        return Err(Fail::new("the gate isn't as it was"));
-    }
-    if txn.len() != 3 || txn.topics().as_slice() != [Topic(0), Topic(1)].as_slice() {
-        return Err(Fail::new("the transaction isn't as it was"));
+    if fault != GateFault::NoMemory || !are_as_made(&gate, &txn) {
+        return Err(Fail::new("refused for another cause, or not as it was"));
     }
     match gate.begin(alloc, txn) {
         Ok(flying) => Ok(flying),
@@ -80,21 +83,27 @@ fn has_part(flying: &mut Flying, topic: u32, sends: &[(u32, u8)]) -> bool {
     true
 }
 
+/// Whether the flight is the sender's next one, with the floor of its gate and the transaction's parts.
+fn is_begun(flying: &mut Flying) -> bool {
+    let sender = Sender(3);
+    flying.id() == TxnId { sender, seq: 5 }
+        && flying.floor() == stamp(10, 0)
+        && has_part(flying, 0, &[(0, b'a'), (2, b'c')])
+        && has_part(flying, 1, &[(1, b'b')])
+}
+
+/// The stamp of such a flight's verdict, its gate's floor and seq; nothing where it isn't such a flight.
+fn ended(mut flying: Flying) -> Option<(Stamp, Stamp, u64)> {
+    if !is_begun(&mut flying) {
+        return None;
+    }
+    let (gate, stamp) = decided(flying, &[(0, 11), (1, 12)])?;
+    Some((stamp, gate.floor(), gate.seq()))
+}
+
 #[test]
 fn a_flight_begins_in_the_end(rt: HostRuntime) -> Result<(), Fail> {
-    let mut flying = begun(rt.alloc())?;
-    let sender = Sender(3);
-    assert_eq!(rt; flying.id(), TxnId { sender, seq: 5 });
-    assert_eq!(rt; flying.floor(), stamp(10, 0));
-    assert!(rt; has_part(&mut flying, 0, &[(0, b'a'), (2, b'c')]));
-    assert!(rt; has_part(&mut flying, 1, &[(1, b'b')]));
-    put(&mut flying, 0, 11)?;
-    put(&mut flying, 1, 12)?;
-    let Ok((gate, verdict)) = flying.decide() else {
-        return Err(Fail::new("not decided"));
-    };
-    assert_eq!(rt; verdict.stamp(), stamp(12, 1));
-    assert_eq!(rt; gate.floor(), stamp(12, 1));
-    assert_eq!(rt; gate.seq(), 5);
+    let wanted = (stamp(12, 1), stamp(12, 1), 5);
+    assert!(rt; ended(begun(rt.alloc())?) == Some(wanted));
     Ok(())
 }

@@ -13,7 +13,7 @@ const TWO: &[u32] = &[0, 1];
 const ALL: &[u32] = &[0, 1, 2];
 
 /// A trace that its rows explain.
-const GOOD: [Row; 21] = [
+const GOOD: &[Row] = &[
     Row::Span(4, 0, (0, 0), None),
     Row::Span(7, 1, (3, 0), Some((6, 1))),
     Row::Span(9, 2, (0, 0), None),
@@ -82,24 +82,32 @@ fn spoilt(row: Row, way: u8) -> Row {
     }
 }
 
-/// The rows with the one at this place left out, twice there, after the next, or spoilt.
+/// Adds a row in this way, left out, twice, once or spoilt; whether there was memory.
+fn has_put(rows: &mut Vec<Row>, row: Row, way: u8) -> bool {
+    match way {
+        0 => true,
+        1 => rows.push(row).is_ok() && rows.push(row).is_ok(),
+        2 => rows.push(row).is_ok(),
+        _ => rows.push(spoilt(row, way)).is_ok(),
+    }
+}
+
+/// Adds the good rows, the one at this place in this way; whether there was memory.
+fn has_put_all(rows: &mut Vec<Row>, good: &[Row], place: usize, way: u8) -> bool {
+    for index in 0..good.len() {
+        let way = if index == place { way } else { 2 };
+        if !has_put(rows, good[index], way) {
+            return false;
+        }
+    }
+    true
+}
+
+/// The good rows with the one at this place left out, twice there, after the next, or spoilt.
 fn made(alloc: Global, place: usize, way: u8) -> Option<Vec<Row>> {
     let mut rows = Vec::new(alloc);
-    for index in 0..GOOD.len() {
-        let here = index == place;
-        if here && way == 0 {
-            continue;
-        }
-        let row = GOOD[index];
-        rows.push(if here && way > 2 {
-            spoilt(row, way)
-        } else {
-            row
-        })
-        .ok()?;
-        if here && way == 1 {
-            rows.push(row).ok()?;
-        }
+    if !has_put_all(&mut rows, GOOD, place, way) {
+        return None;
     }
     if way == 2 && place < rows.len() && rows.len() - place > 1 {
         rows.swap(place, place + 1);
