@@ -1,6 +1,6 @@
 //! A connection's thread.
 
-ghost use Rattle.std.specs.Prelude.{◌≤◌, length};
+ghost use Rattle.std.specs.Prelude.{◌≤◌, ◌<◌, length};
 
 use crate::conversation::{Conversation, ConversationFault, Exit};
 use crate::serving::desk::Desk;
@@ -86,7 +86,9 @@ enum Sleep {
 /// is later, or behind the piece: no more transactions are sent before that. Each frame ends with NULL, but a body may
 /// have many.
 fn end_of_frames(piece: &[u8], most: u64) -> usize
+    requires { 0 < most }
     ensures within { result ≤ length piece.now }
+    ensures some { 0 < length piece.now → 0 < result }
 {
     let mut end = 0usize;
     for _ in 0..most {

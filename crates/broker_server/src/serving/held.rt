@@ -208,7 +208,9 @@ impl<'a, R: Wait + Log + Clock, W: Side, T: Side> Held<'a, R, W, T> {
     }
 
     /// A quarter of that, and one at least.
-    pub(crate) fn quarter(&self) -> u64 {
+    pub(crate) fn quarter(&self) -> u64
+        ensures { 0 < result }
+    {
         (self.capacity() / 4).max(1)
     }
 

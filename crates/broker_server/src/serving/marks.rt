@@ -1,6 +1,6 @@
 //! Which topics a connection's transactions were proposed at.
 
-ghost use Rattle.std.specs.Prelude.{◌≡◌, ◌↔◌, true, IsTrue};
+ghost use Rattle.std.specs.Prelude.{◌≡◌, true};
 ghost use Rattle.broker_server.specs.MarkedTopics.{each_once, is_marked, unmarked};
 
 use broker_locks::Point;
@@ -51,13 +51,6 @@ impl Marks {
         ensures { result ≡ self.now.any }
     {
         self.lost
-    }
-
-    /// Whether there is none.
-    pub(crate) fn is_empty(&self) -> bool
-        ensures { IsTrue result ↔ (self.now ≡ unmarked) }
-    {
-        self.topics.is_empty() && !self.lost
     }
 
     /// They were turned, or their heads told.
