@@ -1,7 +1,6 @@
 use Rattle.std.proofs.Common.{◌≡◌, ◌<◌, [], ◌∷◌, inl, List, length, get_or, Some, refl, sym, ap, subst, ◌∙◌, arith}
 use Rattle.std.specs.List.{remove}
 use Rattle.mcast_txn.specs.Lists.{In}
-use Rattle.mcast_txn.proofs.Members.{In-get_or}
 use Rattle.mcast_group.specs.declared.keys.Keyed.{Keyed}
 use Rattle.mcast_group.specs.Machine.{Pending, least_part}
 use Rattle.mcast_group.specs.Inner.Keys.{AreKeysOf, keyed_of}
