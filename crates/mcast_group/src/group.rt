@@ -199,7 +199,7 @@ impl<Q: Outlet + Drop> Group<Q> {
         if !self.pending.at(index).is_learnt() {
             return None;
         }
-        let part = self.pending.remove(index);
+        let part = self.pending.remove_least(index);
         let mut copies = take_at(&mut self.copies, index);
         let had = copies.len();
         self.subscriptions

@@ -192,6 +192,17 @@ impl PendingParts {
         self.parts.remove(index).unwrap().into_part()
     }
 
+    /// Takes out the part at an index, which is that of least key.
+    pub(crate) fn remove_least(&mut self, index: usize) -> PendingPart
+        requires within { index < length self.old }
+        requires least { (d : Pending) → least_part self.old ≡ Some (slice_index_or self.old index d) }
+        ensures value { result ≡ slice_index_or self.old index result }
+        ensures items { self.new ≡ remove self.old index }
+    {
+        self.keys.pop_least();
+        self.parts.remove(index).unwrap().into_part()
+    }
+
     /// Puts a part among the others, whose keys are below its own, at the index where it comes. The counter is asked
     /// once all memory is made, and nothing is refused after that.
     pub(crate) fn insert<C: TicketCounter>(
