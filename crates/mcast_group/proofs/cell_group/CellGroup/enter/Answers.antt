@@ -27,7 +27,7 @@ put-requires-clause-free g c = λ w i.
     let part = c.args.proposal.part in
     let fault : propose_fault c.args.floor part s.group.topic ≡ None = subst (λ (z : TopicPart). propose_fault c.args.floor z s.group.topic ≡ None) c.part.ensures (sym c.in_ok-index.ensures.fault) in
     let none = free_of c.args.floor part s.group.topic fault in
-    let same : c.part-2.result.now.id ≡ part.id = ap (λ (z : TopicPart). z.id) (c.part-2.ensures ∙ c.into_parts-prepared.ensures.part) in
+    let same : c.id.result ≡ part.id = c.id.ensures ∙ ap (λ (z : TopicPart). z.id) (c.part-2.ensures ∙ c.into_parts-prepared.ensures.part) in
     let here : In w s.waiting.items = subst (λ (ws : List Waiting). In w ws) c.make_room.ensures.waiting i in
     rw same (none_waits part.id s.waiting.items s.group.topic.pending c.self.invariant.ids none w here)
 
@@ -35,7 +35,7 @@ pub invariant_of-self-2 : goal.invariant_of-self-2
 invariant_of-self-2 g c =
     let s = c.self.inside in
     let part = c.into_parts-prepared.result.0 in
-    let same : c.part-2.result.now.id ≡ part.id = ap (λ (z : TopicPart). z.id) c.part-2.ensures in
+    let same : c.id.result ≡ part.id = c.id.ensures ∙ ap (λ (z : TopicPart). z.id) c.part-2.ensures in
     let put = c.put.ensures ∙ ap (insert_waiting _) c.make_room.ensures.waiting in
     let many = ap (λ (ws : List Waiting). length ws) put ∙ insert_waiting_length _ s.waiting.items in
     let notes = ap (λ ns. length ns) c.make_room.ensures.notes in
