@@ -6,7 +6,9 @@ use Rattle.stomp_frame.specs.Cases.{case_fault}
 use Rattle.stomp_frame.specs.Reader.{Unread, NextReturns, with_piece}
 use Rattle.stomp_frame.specs.Receipts.{receipt_of}
 use Rattle.stomp_session.specs.declared.action.Step.{Step}
-use Rattle.stomp_session.specs.Open.{IsKnownTo, IsNewTo}
+use Rattle.stomp_session.specs.Frames.{field, has_destination}
+use Rattle.stomp_session.specs.Names.{is_known}
+use Rattle.stomp_session.specs.Open.{IsKnownTo}
 use Rattle.delivery.specs.declared.connection_fault.ConnectionFault.TheVariants as connection
 use Rattle.delivery.specs.Core.Outcomes.{is_any}
 use Rattle.broker_server.specs.declared.conversation.conversation_fault.ConversationFault.{ConversationFault}
@@ -22,6 +24,11 @@ use Rattle.broker_server.specs.Judging.{Grows, IsFrameAccepted, IsFrameRefused}
 abbrev pub RefusesFrame
     : ConversationFault → RawFrame → ConversationState → List BrokerRow → ConversationState → Type 0
 RefusesFrame why f old asked new = (asked ≡ closing_rows old) × EndsByError why (receipt_of f) old new
+
+-- its destination is none of these names
+abbrev pub IsNewTo : List (List ℕ) → RawFrame → Type 0
+IsNewTo names f =
+    (has_destination f.command ≡ true) × (is_known (field (codes "destination") f) names ≡ false)
 
 -- By which names a frame is judged. Where the connection knows its destination, by those that it knows, and
 -- nothing is asked; else all are looked up first. So one that knows A asks nothing at a SEND to A, and looks

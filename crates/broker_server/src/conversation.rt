@@ -10,7 +10,8 @@ ghost use Rattle.broker_server.specs.BrokerRows.{AsksInTurn, BrokerRow, Unsubscr
 ghost use Rattle.broker_server.specs.Conversations.{PutsFrames, EndsByError, Performs, Connects, Begins, EndsSub, CommitsSends, CommitsBy, Acts, Answers, IsLost};
 ghost use Rattle.broker_server.specs.Delivering.{DeliversTurn, Drains, DrainsAll, DrainsQueues, begins_at, has_item};
 ghost use Rattle.delivery.specs.Core.Outcomes.{is_any};
-ghost use Rattle.broker_server.specs.Hearing.{AcceptsFrame, DeniesFrame, Hears, Rests, TakesAll, TakesFrame, TakesFrames};
+ghost use Rattle.stomp_session.specs.Open.{IsKnownTo};
+ghost use Rattle.broker_server.specs.Hearing.{AcceptsFrame, DeniesFrame, Hears, IsNewTo, Rests, TakesAll, TakesFrame, TakesFrames};
 ghost use Rattle.broker_server.specs.Wires.{GoesOut};
 ghost use Rattle.broker_server.specs.Conversations.{closed, IsNew, closing_rows, gate_rows, is_of_id, is_connect_action, replies, turn_without};
 ghost use Rattle.broker_server.specs.declared.conversation.exit.Exit.TheVariants as exits;
@@ -38,7 +39,7 @@ use std::mem;
 use stomp_frame::{
     ClientFrame, FrameFault, FrameReader, Limits, NoMemory, Octets, RawFrame, ServerFrame, classify,
 };
-use stomp_session::{Action, Known, Names, Session, Step};
+use stomp_session::{Action, Names, Session, Step};
 
 /// From as many octets that wait on, nothing more is read (our choice).
 const MOST: usize = 1_048_576;
@@ -297,14 +298,15 @@ impl<C: BrokerCalls> Conversation<C> {
             × AsksInTurn C.called calls.old asked calls.new
             × DeniesFrame (raw_of frame) e.1 self.old asked self.new) }
     {
-        let frame = match self.session.step_known(frame, &self.names) {
-            Known::Taken(step) => return Ok(step),
-            Known::Refused(frame, fault) => return Err((frame, ConversationFault::from(fault))),
-            Known::Unknown(frame) => frame,
-        };
+        if is_known(&self.names, &frame) {
+            match self.session.step(frame, &mut self.names) {
+                Ok(step) => return Ok(step),
+                Err((frame, fault)) => return Err((frame, ConversationFault::from(fault))),
+            }
+        }
         match calls.step(&mut self.session, frame, &mut self.names) {
-            Ok(step) => Ok(step),
-            Err((frame, fault)) => Err((frame, fault)),
+            Ok(step) => return Ok(step),
+            Err((frame, fault)) => return Err((frame, fault)),
         }
     }
 
@@ -715,6 +717,18 @@ fn is_idle(reader: &FrameReader, fault: FrameFault) -> bool
     ensures due { result ≡ false → fault ≡ FrameFault.NoMemory → is_any reader.now.text ≡ true }
 {
     matches!(fault, FrameFault::NoMemory) && reader.clean()
+}
+
+/// Whether the frame has no destination, or one of these names.
+fn is_known(names: &Names, frame: &ClientFrame) -> bool
+    ensures known { result ≡ true → IsKnownTo names.now (raw_of frame.now) }
+    ensures unknown { result ≡ false → IsNewTo names.now (raw_of frame.now) }
+{
+    match frame {
+        ClientFrame::Send(frame) => names.find(frame.destination()).is_some(),
+        ClientFrame::Subscribe(frame) => names.find(frame.destination()).is_some(),
+        _ => true,
+    }
 }
 
 /// Begins the transaction as this gate's sender's, and commits it; the gate comes back.

@@ -1,5 +1,5 @@
 -- Names that come later: a topic's number stays, and what is open after frames whose destinations are known.
-use Rattle.std.proofs.Common.{◌≡◌, ℕ, ◌+◌, ◌-◌, Bool, true, false, cond, not, ◌&&◌, ◌||◌, inl, inr, List, [], ◌∷◌, ◌++◌, length, take, map, filter, codes, Some, refl, sym, ap, subst, ◌∙◌, arith, if◌then◌else◌}
+use Rattle.std.proofs.Common.{◌≡◌, ℕ, ◌+◌, ◌-◌, Bool, true, false, cond, not, ◌&&◌, ◌||◌, inl, inr, List, [], ◌∷◌, ◌++◌, length, take, map, filter, codes, refl, sym, ap, subst, ◌∙◌, arith, if◌then◌else◌}
 use Rattle.std.proofs.lemmas.Bool.{false≢true, or_parts}
 use Rattle.std.proofs.lemmas.List.{append-nil, length-append}
 use Rattle.std.proofs.lemmas.List.Folds.{list_any-append}
@@ -7,12 +7,10 @@ use Rattle.std.proofs.lemmas.List.Recursion.{is_position_or_len}
 use Rattle.std.proofs.Math.Seq.{take-append_seam}
 use Rattle.std.specs.Cmp.Lexicographic.{nat_list_eq_equiv}
 use Rattle.std.specs.List.{list_any}
-use Rattle.std.specs.Option.{option_map_or}
 use Rattle.std.specs.Str.{bytes_eq}
 use Rattle.stomp_frame.specs.declared.command.Command.{Command}
 use Rattle.stomp_frame.specs.declared.command.Command.TheVariants as commands
 use Rattle.stomp_frame.specs.declared.raw_frame.RawFrame.{RawFrame}
-use Rattle.stomp_frame.specs.Headers.{first_of}
 use Rattle.mcast_txn.specs.Lists.{In}
 use Rattle.mcast_txn.proofs.Members.{In-push_cases}
 use Rattle.stomp_session.specs.Names.{is_known, index_of, with_name}
@@ -103,19 +101,6 @@ with_destination-none f names none = ap (λ b. if b then with_name (field (codes
 -- a frame with one adds it
 pub with_destination-some : (f : RawFrame) (names : List (List ℕ)) → has_destination f.command ≡ true → with_destination f names ≡ with_name (field (codes "destination") f) names
 with_destination-some f names some = ap (λ b. if b then with_name (field (codes "destination") f) names else names) some
-
--- and where it is one of the names, none
-pub with_destination-known : (f : RawFrame) (names : List (List ℕ)) → IsKnownTo names f → with_destination f names ≡ names
-with_destination-known f names known = by (has_destination f.command) refl
-  where
-    by : (b : Bool) → has_destination f.command ≡ b → (if b then with_name (field (codes "destination") f) names else names) ≡ names
-    by true has = ap (λ b. if b then names else names ++ field (codes "destination") f ∷ []) (known has)
-    by false has = refl
-
--- a destination whose topic was found is one of the names
-pub known-found : (f : RawFrame) (name : List ℕ) (names : List (List ℕ)) → Some name ≡ first_of (codes "destination") f.headers
-    → is_known name names ≡ true → IsKnownTo names f
-known-found f name names is known has = subst (λ name. is_known name names ≡ true) (ap (λ value. option_map_or (λ it. it) value []) is) known
 
 -- where a name was new, the names without the last one are what they were before it was added
 pub taken_back : (name : List ℕ) (names : List (List ℕ)) → is_known name names ≡ false → take (length (with_name name names) - 1) (with_name name names) ≡ names

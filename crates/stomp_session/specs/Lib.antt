@@ -5,5 +5,4 @@ pub mod Versions
 pub mod Faults
 pub mod Refusals
 pub mod Answers
-pub mod Known
 pub mod Inner

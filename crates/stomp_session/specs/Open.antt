@@ -1,6 +1,6 @@
 -- What is open after a list of accepted frames, as the list itself says (STOMP 1.2, "SUBSCRIBE",
 -- "UNSUBSCRIBE", "BEGIN", "COMMIT", "ABORT", "DISCONNECT").
-use Rattle.std.specs.Prelude.{◌≡◌, ℕ, Bool, true, false, not, ◌&&◌, List, [], ◌∷◌, ◌++◌, codes, filter, map, if◌then◌else◌}
+use Rattle.std.specs.Prelude.{◌≡◌, ℕ, Bool, true, not, ◌&&◌, List, [], ◌∷◌, ◌++◌, codes, filter, map, if◌then◌else◌}
 use Rattle.std.specs.List.{list_any}
 use Rattle.stomp_frame.specs.declared.raw_frame.RawFrame.{RawFrame}
 use Rattle.stomp_frame.specs.Cases.{is_connect}
@@ -81,11 +81,6 @@ state_of s = record { phase = s.phase; subscriptions = s.subscriptions; transact
 -- where it is a SEND or a SUBSCRIBE, its destination is one of these names
 abbrev pub IsKnownTo : List (List ℕ) → RawFrame → Type 0
 IsKnownTo names f = has_destination f.command ≡ true → is_known (field (codes "destination") f) names ≡ true
-
--- its destination is none of these names
-abbrev pub IsNewTo : List (List ℕ) → RawFrame → Type 0
-IsNewTo names f =
-    (has_destination f.command ≡ true) × (is_known (field (codes "destination") f) names ≡ false)
 
 -- The session holds just what is open after these accepted frames, their topics numbered by these names, and
 -- is connected or closed as they say; each of their destinations is one of the names. So a session after a

@@ -2,9 +2,9 @@
 #![tactic(auto)]
 
 mod action;
+mod destination;
 mod fault;
 mod judged;
-mod known;
 pub mod law;
 mod names;
 mod opened;
@@ -16,7 +16,6 @@ mod versions;
 
 pub use action::{Action, Step};
 pub use fault::SessionFault;
-pub use known::Known;
 pub use names::{MAX_TOPICS, Names, is_name};
 pub use phase::Phase;
 pub use session::Session;

@@ -1,18 +1,18 @@
 //! The names of the topics.
 
-ghost use Rattle.std.specs.Prelude.{◌≡◌, ◌↔◌, ◌-◌, ◌<◌, ◌^◌, [], codes, false, IsTrue, length, take, is_some, slice_get, Some, None, IfSome, IfOk, IfErr, OnOk, OnErr};
+ghost use Rattle.std.specs.Prelude.{◌≡◌, ◌↔◌, ◌-◌, ◌<◌, ◌^◌, [], true, not, IsTrue, length, take, is_some, slice_get, Some, None, IfSome, IfOk, IfErr, OnOk, OnErr};
 ghost use Rattle.std.specs.List.{list_all};
 ghost use Rattle.std.specs.Option.{option_map};
 ghost use Rattle.stomp_session.specs.Names.{index_of, is_graphic, is_known, is_name, max_topics, with_name};
-ghost use Rattle.stomp_session.specs.Frames.{field, topic_of};
-ghost use Rattle.stomp_session.specs.Inner.Effects.{IsFound, destination_fault};
+ghost use Rattle.stomp_session.specs.Inner.Effects.{destination_fault};
 
+use crate::destination::Destination;
 use crate::fault::SessionFault;
 use indexmap::IndexSet;
 use mcast_txn::Topic;
 use std::alloc::Global;
 use std::marker::Model;
-use stomp_frame::{NoMemory, RawFrame};
+use stomp_frame::NoMemory;
 
 /// The most topics that there are (our choice, not the standard's).
 pub const MAX_TOPICS: usize = 1024;
@@ -39,26 +39,12 @@ fn is_graphic(b: u8) -> bool
     b >= 33 && b <= 126
 }
 
-/// The destination of a SEND or a SUBSCRIBE.
-fn destination(frame: &RawFrame) -> &[u8]
-    ensures { result.now ≡ field (codes "destination") frame.now }
-{
-    frame.headers.first(b"destination").unwrap_or(b"")
-}
-
 /// The names of the topics, each once: a topic's number is the index of its name, from 0. In contracts it is the list
 /// of the names.
+#[derive(Drop)]
 pub struct Names {
     alloc: Global,
     names: IndexSet<Vec<u8>>,
-}
-
-impl Drop for Names {
-    /// Written out, so that letting names go is one call for the prover wherever it happens.
-    fn drop(self) {
-        let Names { alloc: _, names } = self;
-        drop(names);
-    }
 }
 
 impl Model for Names {
@@ -118,25 +104,21 @@ impl Names {
         self.names.truncate(last);
     }
 
-    /// The topic of a SEND's or a SUBSCRIBE's destination: the one that was found, or, where it is none of the names, the
-    /// one to make: 76 where none is made for it, 75 where there are 1,024. It changes nothing, and takes no memory.
-    pub(crate) fn judge(
-        &self,
-        frame: &RawFrame,
-        found: Option<Topic>,
-    ) -> Result<Topic, SessionFault>
-        requires { IsFound found (field (codes "destination") frame.now) self.now }
-        ensures topic { IfOk result (λ topic. topic ≡ topic_of self.now frame.now) }
-        ensures few { OnOk result (is_known (field (codes "destination") frame.now) self.now ≡ false
-            → length self.now < max_topics) }
-        ensures ok { OnOk result (destination_fault (field (codes "destination") frame.now) self.now ≡ None) }
-        ensures err { IfErr result
-            (λ fault. destination_fault (field (codes "destination") frame.now) self.now ≡ Some fault) }
+    /// What a destination names: 76 where no topic has the name and none is made for it, 75 where none has it and there
+    /// are 1,024. It changes nothing, and takes no memory.
+    pub(crate) fn judge(&self, name: &[u8]) -> Result<Destination, SessionFault>
+        ensures topic { IfOk result (λ d. d.topic.0 ≡ index_of name.now self.now) }
+        ensures is_new { IfOk result (λ d. d.is_new ≡ not (is_known name.now self.now)) }
+        ensures few { IfOk result (λ d. d.is_new ≡ true → length self.now < max_topics) }
+        ensures ok { OnOk result (destination_fault name.now self.now ≡ None) }
+        ensures err { IfErr result (λ fault. destination_fault name.now self.now ≡ Some fault) }
     {
-        if let Some(topic) = found {
-            return Ok(topic);
+        if let Some(topic) = self.find(name) {
+            return Ok(Destination {
+                topic,
+                is_new: false,
+            });
         }
-        let name = destination(frame);
         if !is_name(name) {
             return Err(SessionFault::BadDestination);
         }
@@ -144,7 +126,10 @@ impl Names {
         if count >= MAX_TOPICS {
             return Err(SessionFault::TooManyTopics);
         }
-        Ok(Topic(count as u32))
+        Ok(Destination {
+            topic: Topic(count as u32),
+            is_new: true,
+        })
     }
 
     /// The topic of this name, or `None` where no topic has it. It is found without a walk.

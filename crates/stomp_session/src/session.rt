@@ -1,6 +1,6 @@
 //! A connection's session.
 
-ghost use Rattle.std.specs.Prelude.{◌≡◌, ◌<◌, ◌∷◌, [], ◌++◌, codes, true, false, length, ℕ, List, Some, None, IfSome, IfOk, IfErr, OnOk, OnErr};
+ghost use Rattle.std.specs.Prelude.{◌≡◌, ◌∷◌, [], ◌++◌, codes, ℕ, List, Some, None, IfSome, IfOk, IfErr, OnOk, OnErr};
 ghost use Rattle.stomp_frame.specs.declared.command.Command.TheVariants as commands;
 ghost use Rattle.stomp_frame.specs.declared.raw_frame.RawFrame.{RawFrame as Frame};
 ghost use Rattle.stomp_frame.specs.ClientFrames.{raw_of};
@@ -8,20 +8,18 @@ ghost use Rattle.stomp_frame.specs.Headers.{IsText, first_of};
 ghost use Rattle.stomp_session.specs.declared.action.Action.TheVariants as actions;
 ghost use Rattle.stomp_session.specs.declared.phase.Phase.TheVariants as phases;
 ghost use Rattle.stomp_session.specs.declared.fault.SessionFault.TheVariants as faults;
-ghost use Rattle.stomp_session.specs.declared.known.Known.TheVariants as knowns;
-ghost use Rattle.stomp_session.specs.Names.{is_known, max_topics, with_name};
+ghost use Rattle.stomp_session.specs.Names.{with_name};
 ghost use Rattle.stomp_session.specs.Frames.{field, with_destination};
-ghost use Rattle.stomp_session.specs.Open.{after_close, held_after, IsKnownTo, IsNewTo, StandsFor};
+ghost use Rattle.stomp_session.specs.Open.{after_close, held_after, StandsFor};
 ghost use Rattle.mcast_txn.specs.Checks.{first_refusal};
 ghost use Rattle.stomp_session.specs.Refusals.{is_closed, is_new, has_other_ack};
 ghost use Rattle.stomp_session.specs.Answers.{Accepts, AreTexts, Refuses};
-ghost use Rattle.stomp_session.specs.Known.{IfRefused, IfTaken, IfUnknown, OnKnown};
-ghost use Rattle.stomp_session.specs.Inner.Effects.{AcceptsAs, Handles, IsFound, IsRouteOf, RefusesAs, held_with, refusal_by};
+ghost use Rattle.stomp_session.specs.Inner.Effects.{AcceptsAs, Handles, IsRouteOf, RefusesAs, held_with, refusal_by};
 
 use crate::action::{Action, Step};
+use crate::destination::Destination;
 use crate::fault::SessionFault;
 use crate::judged::Judged;
-use crate::known::Known;
 use crate::names::Names;
 use crate::opened::Opened;
 use crate::phase::Phase;
@@ -91,18 +89,6 @@ fn receipt(alloc: Global, headers: &Headers) -> Result<Option<Octets>, NoMemory>
     match headers.first(b"receipt") {
         Some(receipt) => Ok(Some(Octets::from_slice(alloc, receipt)?)),
         None => Ok(None),
-    }
-}
-
-/// Whether the frame has no destination, or one of these names.
-fn is_known(frame: &ClientFrame, names: &Names) -> bool
-    ensures known { result ≡ true → IsKnownTo names.now (raw_of frame.now) }
-    ensures unknown { result ≡ false → IsNewTo names.now (raw_of frame.now) }
-{
-    match frame {
-        ClientFrame::Send(frame) => names.find(frame.destination()).is_some(),
-        ClientFrame::Subscribe(frame) => names.find(frame.destination()).is_some(),
-        _ => true,
     }
 }
 
@@ -176,25 +162,23 @@ impl Session {
         Ok(Judged::Connected)
     }
 
-    /// Judges a SUBSCRIBE, and opens its subscription. `found` is the topic of its destination, `None` where that is
-    /// none of the names.
+    /// Judges a SUBSCRIBE, and opens its subscription; where its topic is new, its name is added last.
     fn subscribe(
         &mut self,
         frame: &SubscribeFrame,
-        found: Option<Topic>,
-        names: &Names,
+        names: &mut Names,
     ) -> Result<Judged, SessionFault>
-        requires { IsFound found (field (codes "destination") frame.now.raw) names.now }
-        ensures handles { Handles commands.Subscribe (held_with names.now self.old) frame.now.raw
+        ensures handles { Handles commands.Subscribe (held_with names.old self.old) frame.now.raw
             result self.new }
-        ensures few { OnOk result (is_known (field (codes "destination") frame.now.raw) names.now ≡ false
-            → length names.now < max_topics) }
+        ensures named { OnOk result
+            (names.new ≡ with_name (field (codes "destination") frame.now.raw) names.old) }
+        ensures unnamed { OnErr result (names.new ≡ names.old) }
     {
         self.connected()?;
         if has_other_ack(&frame.raw) {
             return Err(SessionFault::AckMode);
         }
-        let topic = names.judge(&frame.raw, found)?;
+        let Destination { topic, is_new } = names.judge(frame.destination())?;
         let id = frame.id();
         if self.subscriptions.is_open(id) {
             return Err(SessionFault::SubIdInUse);
@@ -203,26 +187,10 @@ impl Session {
             return Err(SessionFault::TooManySubs);
         }
         self.subscriptions.open(id, topic)?;
+        if is_new {
+            names.add(frame.destination())?;
+        }
         Ok(Judged::Subscribe(topic))
-    }
-
-    /// Judges a SUBSCRIBE to a destination that is none of the names, and opens its subscription; the name is added
-    /// last.
-    fn subscribe_new(
-        &mut self,
-        frame: &SubscribeFrame,
-        names: &mut Names,
-    ) -> Result<Judged, SessionFault>
-        requires { is_known (field (codes "destination") frame.now.raw) names.old ≡ false }
-        ensures handles { Handles commands.Subscribe (held_with names.old self.old) frame.now.raw
-            result self.new }
-        ensures named { OnOk result
-            (names.new ≡ with_name (field (codes "destination") frame.now.raw) names.old) }
-        ensures unnamed { OnErr result (names.new ≡ names.old) }
-    {
-        let judged = self.subscribe(frame, None, names)?;
-        names.add(frame.destination())?;
-        Ok(judged)
     }
 
     /// Judges an UNSUBSCRIBE, and ends its subscription.
@@ -292,15 +260,12 @@ impl Session {
         Ok(Judged::Nothing)
     }
 
-    /// Judges a SEND: where it goes, and the receipt that it asks for. `found` is the topic of its destination, `None`
-    /// where that is none of the names.
+    /// Judges a SEND: where it goes, and the receipt that it asks for.
     fn accepts_send(
         &self,
         frame: &SendFrame,
-        found: Option<Topic>,
         names: &Names,
     ) -> Result<(Route, Option<Octets>), SessionFault>
-        requires { IsFound found (field (codes "destination") frame.now.raw) names.now }
         ensures accepted { OnOk result
             (refusal_by commands.Send (held_with names.now self.now) frame.now.raw ≡ None) }
         ensures route { IfOk result (λ sent. IsRouteOf (held_with names.now self.now) frame.now.raw sent.0) }
@@ -310,32 +275,45 @@ impl Session {
             (RefusesAs commands.Send (held_with names.now self.now) frame.now.raw) }
     {
         self.connected()?;
-        let topic = names.judge(&frame.raw, found)?;
+        let Destination { topic, is_new } = names.judge(frame.destination())?;
         let transaction = match frame.raw.headers.first(b"transaction") {
             Some(name) => Some(self.transactions.index_for_send(name)?),
             None => None,
         };
         let receipt = receipt(self.alloc, &frame.raw.headers)?;
-        Ok((Route { topic, transaction }, receipt))
+        let route = Route {
+            topic,
+            is_new,
+            transaction,
+        };
+        Ok((route, receipt))
     }
 
-    /// Moves an accepted SEND's content to where it goes. Where there is no memory it is returned as it came.
-    fn place(
+    /// Judges a SEND, and moves its content to where it goes; where its topic is new, its name is added first. A
+    /// refused one is returned as it came, and the names are what they were.
+    #[tactic(auto, using(crate::proofs::Later::taken_back))]
+    fn send(
         &mut self,
         frame: SendFrame,
-        route: Route,
-        receipt: Option<Octets>,
-    ) -> Result<Step, SendFrame>
-        requires within { IfSome route.transaction (λ index. index < length self.old.transactions) }
-        requires text { IfSome receipt IsText }
-        ensures accepted { IfOk result (λ step. (names : List (List ℕ))
-            → refusal_by commands.Send (held_with names self.old) frame.raw ≡ None
-            → IsRouteOf (held_with names self.old) frame.raw route
-            → receipt ≡ first_of (codes "receipt") frame.raw.headers
-            → AcceptsAs commands.Send (held_with names self.old) frame.raw step self.new) }
+        names: &mut Names,
+    ) -> Result<Step, (SendFrame, SessionFault)>
+        ensures accepted { IfOk result
+            (λ step. AcceptsAs commands.Send (held_with names.old self.old) frame.raw step self.new) }
         ensures texts { IfOk result AreTexts }
-        ensures back { IfErr result (λ back. back ≡ frame) }
+        ensures refused { IfErr result
+            (λ e. RefusesAs commands.Send (held_with names.old self.old) frame.raw e.1) }
+        ensures back { IfErr result (λ e. e.0 ≡ frame) }
+        ensures named { OnOk result
+            (names.new ≡ with_name (field (codes "destination") frame.raw) names.old) }
+        ensures unnamed { OnErr result (names.new ≡ names.old) }
     {
+        let (route, receipt) = match self.accepts_send(&frame, names) {
+            Ok(accepted) => accepted,
+            Err(fault) => return Err((frame, fault)),
+        };
+        if route.is_new && names.add(frame.destination()).is_err() {
+            return Err((frame, SessionFault::NoMemory));
+        }
         let RawFrame {
             command,
             headers,
@@ -351,172 +329,30 @@ impl Session {
         match sent {
             Ok(action) => Ok(Step { action, receipt }),
             Err((headers, body)) => {
+                if route.is_new {
+                    names.take_back();
+                }
                 let raw = RawFrame {
                     command,
                     headers,
                     body,
                 };
-                Err(SendFrame { raw })
+                Err((SendFrame { raw }, SessionFault::NoMemory))
             }
-        }
-    }
-
-    /// Judges a SEND to this topic, and moves its content to where it goes. A refused one is returned as it came.
-    fn send(
-        &mut self,
-        frame: SendFrame,
-        topic: Topic,
-        names: &Names,
-    ) -> Result<Step, (SendFrame, SessionFault)>
-        requires { IsFound (Some topic) (field (codes "destination") frame.raw) names.now }
-        ensures accepted { IfOk result
-            (λ step. AcceptsAs commands.Send (held_with names.now self.old) frame.raw step self.new) }
-        ensures texts { IfOk result AreTexts }
-        ensures refused { IfErr result
-            (λ e. RefusesAs commands.Send (held_with names.now self.old) frame.raw e.1) }
-        ensures back { IfErr result (λ e. e.0 ≡ frame) }
-    {
-        let (route, receipt) = match self.accepts_send(&frame, Some(topic), names) {
-            Ok(accepted) => accepted,
-            Err(fault) => return Err((frame, fault)),
-        };
-        match self.place(frame, route, receipt) {
-            Ok(step) => Ok(step),
-            Err(frame) => Err((frame, SessionFault::NoMemory)),
-        }
-    }
-
-    /// Judges a SEND to a destination that is none of the names, adds the name, and moves the SEND's content to where
-    /// it goes. A refused one is returned as it came, and the names are what they were.
-    #[tactic(auto, using(crate::proofs::Later::taken_back))]
-    fn send_new(
-        &mut self,
-        frame: SendFrame,
-        names: &mut Names,
-    ) -> Result<Step, (SendFrame, SessionFault)>
-        requires { is_known (field (codes "destination") frame.raw) names.old ≡ false }
-        ensures accepted { IfOk result
-            (λ step. AcceptsAs commands.Send (held_with names.old self.old) frame.raw step self.new) }
-        ensures texts { IfOk result AreTexts }
-        ensures refused { IfErr result
-            (λ e. RefusesAs commands.Send (held_with names.old self.old) frame.raw e.1) }
-        ensures back { IfErr result (λ e. e.0 ≡ frame) }
-        ensures named { OnOk result
-            (names.new ≡ with_name (field (codes "destination") frame.raw) names.old) }
-        ensures unnamed { OnErr result (names.new ≡ names.old) }
-    {
-        let (route, receipt) = match self.accepts_send(&frame, None, names) {
-            Ok(accepted) => accepted,
-            Err(fault) => return Err((frame, fault)),
-        };
-        if names.add(frame.destination()).is_err() {
-            return Err((frame, SessionFault::NoMemory));
-        }
-        match self.place(frame, route, receipt) {
-            Ok(step) => Ok(step),
-            Err(frame) => {
-                names.take_back();
-                Err((frame, SessionFault::NoMemory))
-            }
-        }
-    }
-
-    /// Takes a SEND or a SUBSCRIBE to a destination that is none of the names. The names are what they were where it is
-    /// refused.
-    fn step_new(
-        &mut self,
-        frame: ClientFrame,
-        names: &mut Names,
-    ) -> Result<Step, (ClientFrame, SessionFault)>
-        requires { IsNewTo names.old (raw_of frame) }
-        ensures accepted { IfOk result (λ step. (frames : List Frame) → StandsFor self.old names.old frames
-            → Accepts (held_after names.old frames) (raw_of frame) step
-            × StandsFor self.new names.new (frames ++ raw_of frame ∷ [])) }
-        ensures named { OnOk result (names.new ≡ with_destination (raw_of frame) names.old) }
-        ensures texts { IfOk result AreTexts }
-        ensures refused { IfErr result (λ e. (frames : List Frame) → StandsFor self.old names.old frames
-            → Refuses (held_after names.old frames) (raw_of frame) e.1) }
-        ensures back { IfErr result (λ e. e.0 ≡ frame) }
-        ensures unnamed { OnErr result (names.new ≡ names.old) }
-    {
-        match frame {
-            ClientFrame::Send(frame) => match self.send_new(frame, names) {
-                Ok(step) => Ok(step),
-                Err((frame, fault)) => Err((ClientFrame::Send(frame), fault)),
-            },
-            ClientFrame::Subscribe(frame) => match self.subscribe_new(&frame, names) {
-                Ok(judged) => Ok(judged.into_step(frame.raw)),
-                Err(fault) => Err((ClientFrame::Subscribe(frame), fault)),
-            },
-            _ => unreachable!(),
         }
     }
 
     /// A refusal closes the session.
-    fn refused(&mut self, refused: ClientFrame, fault: SessionFault) -> Known
-        ensures refused { result ≡ knowns.Refused refused fault }
+    fn refused(
+        &mut self,
+        refused: ClientFrame,
+        fault: SessionFault,
+    ) -> Result<Step, (ClientFrame, SessionFault)>
+        ensures refused { result ≡ Err (refused, fault) }
         ensures after { self.new ≡ after_close self.old }
     {
         self.end();
-        Known::Refused(refused, fault)
-    }
-
-    /// `step` where the frame has no destination, or one of these names, which stay what they are. A frame of another
-    /// destination comes back as it was, and nothing has changed.
-    pub fn step_known(&mut self, frame: ClientFrame, names: &Names) -> Known
-        ensures accepted { IfTaken result (λ step. (frames : List Frame) → StandsFor self.old names.now frames
-            → Accepts (held_after names.now frames) (raw_of frame) step
-            × StandsFor self.new names.now (frames ++ raw_of frame ∷ [])) }
-        ensures texts { IfTaken result AreTexts }
-        ensures refused { IfRefused result (λ back fault. (frames : List Frame)
-            → StandsFor self.old names.now frames
-            → Refuses (held_after names.now frames) (raw_of frame) fault) }
-        ensures back { IfRefused result (λ back fault. back ≡ frame) }
-        ensures closes { IfRefused result (λ back fault. self.new ≡ after_close self.old) }
-        ensures known { OnKnown result (IsKnownTo names.now (raw_of frame)) }
-        ensures unknown { IfUnknown result (λ back. IsNewTo names.now (raw_of frame)) }
-        ensures unchanged { IfUnknown result (λ back. (back ≡ frame) × (self.new ≡ self.old)) }
-        ensures stays_closed { self.old.phase ≡ phases.Closed → IsKnownTo names.now (raw_of frame)
-            → (result ≡ knowns.Refused frame faults.Closed) × (self.new ≡ self.old) }
-    {
-        macro_rules! answers {
-            ($($case:ident => $method:ident;)*) => {
-                match frame {
-                    ClientFrame::Send(frame) => match names.find(frame.destination()) {
-                        Some(topic) => match self.send(frame, topic, names) {
-                            Ok(step) => Known::Taken(step),
-                            Err((frame, fault)) => self.refused(ClientFrame::Send(frame), fault),
-                        },
-                        None => Known::Unknown(ClientFrame::Send(frame)),
-                    },
-                    ClientFrame::Subscribe(frame) => match names.find(frame.destination()) {
-                        Some(topic) => match self.subscribe(&frame, Some(topic), names) {
-                            Ok(judged) => Known::Taken(judged.into_step(frame.raw)),
-                            Err(fault) => self.refused(ClientFrame::Subscribe(frame), fault),
-                        },
-                        None => Known::Unknown(ClientFrame::Subscribe(frame)),
-                    },
-                    $(ClientFrame::$case(frame) => match self.$method(&frame) {
-                        Ok(judged) => Known::Taken(judged.into_step(frame.raw)),
-                        Err(fault) => self.refused(ClientFrame::$case(frame), fault),
-                    },)*
-                }
-            };
-        }
-        if let Phase::Closed = self.phase {
-            if is_known(&frame, names) {
-                return Known::Refused(frame, SessionFault::Closed);
-            }
-            return Known::Unknown(frame);
-        }
-        answers! {
-            Connect => connect;
-            Unsubscribe => unsubscribe;
-            Begin => begin;
-            Commit => commit;
-            Abort => abort;
-            Disconnect => disconnect;
-        }
+        Err((refused, fault))
     }
 
     /// Takes a frame: what the connection has to do for it, or the first of its refusals with the frame as it came.
@@ -547,20 +383,31 @@ impl Session {
         ensures stays_closed { self.old.phase ≡ phases.Closed
             → (result ≡ Err (frame, faults.Closed)) × (self.new ≡ self.old) }
     {
+        macro_rules! answers {
+            ($($case:ident => $method:ident($($lent:ident)?);)*) => {
+                match frame {
+                    ClientFrame::Send(frame) => match self.send(frame, names) {
+                        Ok(step) => Ok(step),
+                        Err((frame, fault)) => self.refused(ClientFrame::Send(frame), fault),
+                    },
+                    $(ClientFrame::$case(frame) => match self.$method(&frame $(, $lent)?) {
+                        Ok(judged) => Ok(judged.into_step(frame.raw)),
+                        Err(fault) => self.refused(ClientFrame::$case(frame), fault),
+                    },)*
+                }
+            };
+        }
         if let Phase::Closed = self.phase {
             return Err((frame, SessionFault::Closed));
         }
-        let frame = match self.step_known(frame, names) {
-            Known::Taken(step) => return Ok(step),
-            Known::Refused(frame, fault) => return Err((frame, fault)),
-            Known::Unknown(frame) => frame,
-        };
-        match self.step_new(frame, names) {
-            Ok(step) => Ok(step),
-            Err(refused) => {
-                self.end();
-                Err(refused)
-            }
+        answers! {
+            Connect => connect();
+            Subscribe => subscribe(names);
+            Unsubscribe => unsubscribe();
+            Begin => begin();
+            Commit => commit();
+            Abort => abort();
+            Disconnect => disconnect();
         }
     }
 }

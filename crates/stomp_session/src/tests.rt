@@ -4,7 +4,6 @@ mod answers;
 mod client;
 mod first_uses;
 mod histories;
-mod known;
 mod made;
 mod memory;
 mod names;

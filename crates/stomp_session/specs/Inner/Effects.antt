@@ -1,5 +1,5 @@
 -- What an accepted frame changes in what a session holds. Proofs go by it; no public contract speaks of it.
-use Rattle.std.specs.Prelude.{◌≡◌, ◌<◌, ℕ, List, [], ◌∷◌, ◌++◌, codes, length, true, not, ◌&&◌, nat_lt, Option, Some, None, is_some, IsSome, IfSome, Result, Ok, Err, if◌then◌else◌}
+use Rattle.std.specs.Prelude.{◌≡◌, ◌<◌, ℕ, List, [], ◌∷◌, ◌++◌, codes, length, true, not, ◌&&◌, nat_lt, Option, Some, None, IsSome, IfSome, Result, Ok, Err, if◌then◌else◌}
 use Rattle.std.specs.List.{position_or_len}
 use Rattle.std.specs.Option.{option_map, option_map_or}
 use Rattle.std.specs.Str.{bytes_eq}
@@ -24,7 +24,7 @@ use Rattle.stomp_session.specs.Frames.{client_of, topic_of, id_of, transaction_o
 use Rattle.stomp_session.specs.Open.{Held, SessionState, state_of}
 use Rattle.mcast_txn.specs.Checks.{first_refusal}
 use Rattle.stomp_session.specs.Refusals.{has_new_destination, is_closed, open_refusals}
-use Rattle.stomp_session.specs.Names.{index_of, is_known, is_name, max_topics}
+use Rattle.stomp_session.specs.Names.{is_known, is_name, max_topics}
 use Rattle.stomp_session.specs.Answers.{action_by, takes_memory}
 
 -- those that are left without the one of this id
@@ -136,15 +136,11 @@ Handles command s f (Err fault) new = RefusesAs command s f fault
 abbrev pub index_of_id : {X : Type 0} → List ℕ → List (List ℕ × X) → ℕ
 index_of_id id them = position_or_len (λ o. bytes_eq id o.0) them
 
--- what is found of this name among these names: its topic, where it is one of them
-pub record IsFound (found : Option Topic) (name : List ℕ) (names : List (List ℕ)) : Type 0 where
-  pub known : is_some found ≡ is_known name names
-  pub topic : IfSome found (λ topic. topic.0 ≡ index_of name names)
-
 -- an accepted SEND goes there: to its topic, which may be new, and into its transaction, which is open
 pub record IsRouteOf (s : Held) (f : RawFrame) (route : Route) : Type 0 where
   pub topic : route.topic ≡ topic_of s.names f
-  pub few : has_new_destination s f ≡ true → length s.names < max_topics
+  pub is_new : route.is_new ≡ has_new_destination s f
+  pub few : route.is_new ≡ true → length s.names < max_topics
   pub transaction : route.transaction
       ≡ option_map (λ x. index_of_id x s.transactions) (first_of (codes "transaction") f.headers)
   pub within : IfSome route.transaction (λ index. index < length s.transactions)

@@ -4,7 +4,7 @@ ghost use Rattle.std.specs.Prelude.{◌≡◌, ◌&&◌, nat_le, IfOk};
 ghost use Rattle.std.specs.List.{list_all};
 ghost use Rattle.stomp_frame.specs.Headers.{IsText, IsPair};
 
-use crate::{Known, MAX_TOPICS, Names, Session, SessionFault, Step};
+use crate::{MAX_TOPICS, Names, Session, SessionFault, Step};
 use std::alloc::Global;
 use std::test::Fail;
 use stomp_frame::{ClientFrame, Command, Headers, NoMemory, Octets, RawFrame, classify};
@@ -224,16 +224,6 @@ impl Client {
     pub(super) fn answer(&mut self, command: Command, pairs: Pairs) -> Result<Answer, NoMemory> {
         let frame = frame(self.alloc, command, pairs)?;
         Ok(self.take(frame))
-    }
-
-    /// What the session answers to a frame by the names that there are.
-    pub(super) fn answer_known(
-        &mut self,
-        command: Command,
-        pairs: Pairs,
-    ) -> Result<Known, NoMemory> {
-        let frame = frame(self.alloc, command, pairs)?;
-        Ok(self.session.step_known(frame, &self.names))
     }
 
     /// What an accepted frame is answered.

@@ -151,7 +151,7 @@ fn subscribes(action: &Action, id: &[u8], topic: Topic) -> bool {
 }
 
 /// Whether the step opens a subscription of this id at this topic, and has this receipt.
-pub(super) fn subscribes_with(step: &Step, id: &[u8], topic: Topic, receipt: &[u8]) -> bool {
+fn subscribes_with(step: &Step, id: &[u8], topic: Topic, receipt: &[u8]) -> bool {
     subscribes(&step.action, id, topic) && has(&step.receipt, receipt)
 }
 

@@ -1,34 +1,33 @@
-use Rattle.std.proofs.Common.{◌≡◌, true, is_some, refl, sym, ap, ◌∙◌}
+use Rattle.std.proofs.Common.{refl, sym, ap, ◌∙◌}
 use Rattle.stomp_frame.specs.declared.command.Command.TheVariants as commands
-use Rattle.stomp_session.specs.Names.{is_known}
+use Rattle.stomp_session.specs.Frames.{has_destination}
 use Rattle.stomp_session.proofs.History.{subscribe-follows, unsubscribe-follows, begin-follows, commit-follows, abort-follows, disconnect-follows, send-follows}
-use Rattle.stomp_session.proofs.Later.{known-found, with_destination-known}
+use Rattle.stomp_session.proofs.Later.{with_destination-some}
 use Rattle.stomp_session.proofs.Taken.{accepts, accepts-connect, accepts-judged, refuses, refuses-connect, unnamed}
-use Rattle.stomp_session.proofs.session.Session.step_known.Goals as goal
+use Rattle.stomp_session.proofs.session.Session.step.Goals as goal
 
 pub returns-in-Ok-connect-clause-accepted : goal.returns-in-Ok-connect-clause-accepted
 returns-in-Ok-connect-clause-accepted c frames stands =
     let names = c.args.names.now in
     let f = c.in-Connect.frame.raw in
-    let step = c.into_step-in-Ok-connect in
-    rw c.in-Connect.is (accepts-connect c.args.self.now names f c.in-Ok-connect.judged step.result c.connect.new.self c.in-Connect.frame.complete.command (c.in-Ok-connect.ensures names) step.ensures.action step.ensures.receipt frames stands)
+    rw c.in-Connect.is (accepts-connect c.args.self.now names f c.in-Ok-connect.judged c.into_step.result c.connect.new.self c.in-Connect.frame.complete.command (c.in-Ok-connect.ensures names) c.into_step.ensures.action c.into_step.ensures.receipt frames stands)
 
 pub returns-in-Ok-clause-accepted : goal.returns-in-Ok-clause-accepted
 returns-in-Ok-clause-accepted c frames stands =
     let names = c.args.names.now in
     let f = c.in-Send.frame.raw in
-    let known : is_known c.destination.result.now names ≡ true = sym c.find.ensures.known ∙ ap is_some c.in-Some.is in
-    let grown = sym (with_destination-known f names (known-found f c.destination.result.now names c.destination.ensures.value known)) in
-    rw c.in-Send.is (accepts commands.Send c.args.self.now names f c.in-Ok.step c.send.new.self names c.in-Send.frame.complete.command c.in-Ok.ensures.accepted grown (λ frames. send-follows names frames f) frames stands)
+    let command = c.in-Send.frame.complete.command in
+    let grown = c.in-Ok.ensures.named ∙ sym (with_destination-some f names (ap has_destination command)) in
+    rw c.in-Send.is (accepts commands.Send c.args.self.now names f c.in-Ok.step c.send.new.self c.send.new.names command c.in-Ok.ensures.accepted grown (λ frames. send-follows names frames f) frames stands)
 
 pub returns-in-Ok-subscribe-clause-accepted : goal.returns-in-Ok-subscribe-clause-accepted
 returns-in-Ok-subscribe-clause-accepted c frames stands =
     let names = c.args.names.now in
     let f = c.in-Subscribe.frame.raw in
-    let name = c.destination-in-Subscribe.result.now in
-    let known : is_known name names ≡ true = sym c.find-in-Subscribe.ensures.known ∙ ap is_some c.in-Some-find.is in
-    let grown = sym (with_destination-known f names (known-found f name names c.destination-in-Subscribe.ensures.value known)) in
-    rw c.in-Subscribe.is (accepts-judged commands.Subscribe c.args.self.now names f c.in-Ok-subscribe.judged c.into_step.result c.subscribe.new.self names c.in-Subscribe.frame.complete.command c.in-Ok-subscribe.ensures.handles grown c.into_step.ensures.action c.into_step.ensures.receipt (λ frames. subscribe-follows names frames f) frames stands)
+    let command = c.in-Subscribe.frame.complete.command in
+    let step = c.into_step-in-Ok-subscribe in
+    let grown = c.in-Ok-subscribe.ensures.named ∙ sym (with_destination-some f names (ap has_destination command)) in
+    rw c.in-Subscribe.is (accepts-judged commands.Subscribe c.args.self.now names f c.in-Ok-subscribe.judged step.result c.subscribe.new.self c.subscribe.new.names command c.in-Ok-subscribe.ensures.handles grown step.ensures.action step.ensures.receipt (λ frames. subscribe-follows names frames f) frames stands)
 
 pub returns-in-Ok-unsubscribe-clause-accepted : goal.returns-in-Ok-unsubscribe-clause-accepted
 returns-in-Ok-unsubscribe-clause-accepted c frames stands =
@@ -70,8 +69,8 @@ returns-in-Ok-disconnect-clause-accepted c frames stands =
     let step = c.into_step-in-Ok-disconnect in
     rw c.in-Disconnect.is (accepts-judged commands.Disconnect c.args.self.now names f c.in-Ok-disconnect.judged step.result c.disconnect.new.self names command (c.in-Ok-disconnect.ensures names) (unnamed commands.Disconnect names f command refl) step.ensures.action step.ensures.receipt (λ frames. disconnect-follows names frames f) frames stands)
 
-pub into_step-requires-in-Ok-connect : goal.into_step-requires-in-Ok-connect
-into_step-requires-in-Ok-connect c = (c.in-Ok-connect.ensures c.args.names.now).id
+pub into_step-requires : goal.into_step-requires
+into_step-requires c = (c.in-Ok-connect.ensures c.args.names.now).id
 
 pub into_step-requires-in-Ok-begin : goal.into_step-requires-in-Ok-begin
 into_step-requires-in-Ok-begin c = (c.in-Ok-begin.ensures c.args.names.now).id
