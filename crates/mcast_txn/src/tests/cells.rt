@@ -74,7 +74,7 @@ fn two_decisions(alloc: Global, flight: &Flight) -> Option<(bool, Decided, Decid
     Some((is_blank, first, second))
 }
 
-/// The stamp that a note sees which knows the verdict.
+/// The stamp of the verdict that is seen, if one is set.
 fn seen(flight: &Flight) -> Option<Stamp> {
     let (verdict, _seen) = flight.see()?;
     Some(verdict.stamp())

@@ -74,7 +74,8 @@ fn the_stamp_becomes_the_floor(rt: HostRuntime) {
     assert!(rt; floors(rt.alloc()) == Some((5, wanted)));
 }
 
-/// The gate of a flight that takes topic 2's ticket and is withdrawn, and the tickets that it hands back, which are one.
+/// The gate of a flight that takes topic 2's ticket and is withdrawn, and the one ticket that it hands back; nothing
+/// where these are more.
 fn withdrawn(mut flying: Flying) -> Option<(Gate, Ticket)> {
     put(&mut flying, 2, 11).ok()?;
     let (gate, tickets) = flying.withdraw();

@@ -16,8 +16,8 @@ fn resting() -> Gate {
     Gate::resume(Sender(0), 4, stamp(10, 0))
 }
 
-/// Whether the senders are as they were before a new client-id was refused: the one of a client-id that isn't in use, and
-/// one that is.
+/// Whether the senders are as they were before a new client-id was refused: the one of a client-id that isn't in use,
+/// and one that is.
 fn are_as_before(senders: &mut Senders, client: &[u8], before: Option<&[u8]>) -> bool {
     if senders.check(Some(client)).is_err() || !rests_at(senders, 4, stamp(10, 0)) {
         return false;

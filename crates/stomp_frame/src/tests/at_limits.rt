@@ -128,7 +128,7 @@ fn is_written_and_read_back(alloc: Global, want: &[u8]) -> Result<bool, Fail> {
 fn written_and_read_back(rt: HostRuntime) -> Result<(), Fail> {
     let head = b"SEND\ncontent-length:1048576\ndestination:A\n".as_slice();
     let want = long_text(rt.alloc(), head)?;
-    assert_eq!(rt; want.len(), head.len() + 4097 + 61 * 6 + 1 + 1_048_576 + 1);
+    assert!(rt; want.len() == head.len() + 4097 + 61 * 6 + 1 + 1_048_576 + 1);
     assert!(rt; is_written_and_read_back(rt.alloc(), want.as_slice())?);
     Ok(())
 }

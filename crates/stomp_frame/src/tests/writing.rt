@@ -8,7 +8,6 @@ use crate::{
     write_server,
 };
 use std::alloc::Global;
-use std::test::Fail;
 use stomp_escape::{NoMemory, Octets};
 
 type Pairs<'a> = &'a [(&'a [u8], &'a [u8])];
@@ -178,12 +177,22 @@ const ERRORS: &[(&[u8], Option<&[u8]>, bool, &[u8])] = &[
     ),
 ];
 
+/// Whether this is written of an ERROR.
+fn is_error(
+    alloc: Global,
+    title: &[u8],
+    asked: Option<&[u8]>,
+    version: bool,
+    want: &[u8],
+) -> Result<bool, NoMemory> {
+    Ok(is(&error(alloc, title, asked, version)?, want))
+}
+
 #[test]
-fn errors(rt: HostRuntime) -> Result<(), Fail> {
+fn errors(rt: HostRuntime) {
     for &(title, asked, version, want) in ERRORS {
-        assert!(rt; is(&error(rt.alloc(), title, asked, version)?, want));
+        assert!(rt; is_error(rt.alloc(), title, asked, version, want) == Ok(true));
     }
-    Ok(())
 }
 
 /// What is written of a RECEIPT.
@@ -192,13 +201,22 @@ fn receipt(alloc: Global, id: &[u8]) -> Result<Octets, NoMemory> {
     sent(alloc, &ServerFrame::Receipt { id: id.as_slice() })
 }
 
+/// Whether this is written of a CONNECTED.
+fn is_connected(alloc: Global, want: &[u8]) -> Result<bool, NoMemory> {
+    Ok(is(&sent(alloc, &ServerFrame::Connected)?, want))
+}
+
+/// Whether this is written of a RECEIPT.
+fn is_receipt(alloc: Global, id: &[u8], want: &[u8]) -> Result<bool, NoMemory> {
+    Ok(is(&receipt(alloc, id)?, want))
+}
+
 #[test]
-fn connected_and_receipts(rt: HostRuntime) -> Result<(), Fail> {
-    let alloc = rt.alloc();
-    let out = sent(alloc, &ServerFrame::Connected)?;
-    assert!(rt; is(&out, b"CONNECTED\nversion:1.2\nheart-beat:0,0\n\n\0"));
-    assert!(rt; is(&receipt(alloc, b"r:1")?, b"RECEIPT\nreceipt-id:r\\c1\n\n\0"));
-    Ok(())
+fn connected_and_receipts(rt: HostRuntime) {
+    let connected = b"CONNECTED\nversion:1.2\nheart-beat:0,0\n\n\0";
+    assert!(rt; is_connected(rt.alloc(), connected) == Ok(true));
+    let receipt = b"RECEIPT\nreceipt-id:r\\c1\n\n\0";
+    assert!(rt; is_receipt(rt.alloc(), b"r:1", receipt) == Ok(true));
 }
 
 /// A frame's command, its one header, its body, and whether it can be written.
@@ -279,29 +297,31 @@ const APPENDED: &[(Command, Pairs<'static>)] = &[
     ),
 ];
 
-/// Writes a frame of these headers at the end, if it can be written.
-fn append(alloc: Global, command: Command, pairs: Pairs, out: &mut Octets) -> Result<(), Fail> {
-    let frame = raw(alloc, command, pairs, b"")?;
+/// Writes a frame of these headers at the end; nothing where it can't be written.
+fn append(alloc: Global, command: Command, pairs: Pairs, out: &mut Octets) -> Option<()> {
+    let frame = raw(alloc, command, pairs, b"").ok()?;
     if !writable(&frame) {
-        return Err(Fail::new("not writable"));
+        return None;
     }
-    Ok(write_frame(&frame, out)?)
+    write_frame(&frame, out).ok()
+}
+
+/// Writes those frames, one after the other; whether each was written.
+fn has_appended(alloc: Global, out: &mut Octets) -> bool {
+    for &(command, pairs) in APPENDED {
+        if append(alloc, command, pairs, out).is_none() {
+            return false;
+        }
+    }
+    true
 }
 
 /// A frame is appended to what is there, with no escapes under CONNECT.
 #[test]
-fn frames_are_appended(rt: HostRuntime) -> Result<(), Fail> {
+fn frames_are_appended(rt: HostRuntime) {
     let mut out = Octets::new(rt.alloc());
-    for &(command, pairs) in APPENDED {
-        append(rt.alloc(), command, pairs, &mut out)?;
-    }
-    assert!(rt;
-        is(
-            &out,
-            b"BEGIN\na\\cb:\\r\\n\\c\\\\\n\n\0CONNECTED\nversion:1.2\nserver:a:b\\n\n\n\0"
-        )
-    );
-    Ok(())
+    let want = b"BEGIN\na\\cb:\\r\\n\\c\\\\\n\n\0CONNECTED\nversion:1.2\nserver:a:b\\n\n\n\0";
+    assert!(rt; has_appended(rt.alloc(), &mut out) && is(&out, want));
 }
 
 /// Each command in a frame, as it is written, and a frame with all that can be escaped.
@@ -329,65 +349,72 @@ const FRAMES: &[(Command, &'static [u8])] = &[
 ];
 
 /// The first frame of this text.
-fn read(alloc: Global, text: &[u8]) -> Result<RawFrame, Fail> {
+fn read(alloc: Global, text: &[u8]) -> Option<RawFrame> {
     let mut reader = FrameReader::new(alloc, Limits::standard());
-    reader.feed(text)?;
-    match reader.next(alloc)? {
-        Some(frame) => Ok(frame),
-        None => Err(Fail::new("no frame")),
-    }
+    reader.feed(text).ok()?;
+    reader.next(alloc).ok()?
 }
 
-/// The frame as it is written.
-fn written(alloc: Global, frame: &RawFrame) -> Result<Octets, Fail> {
+/// Whether this is how the frame is written.
+fn is_written(alloc: Global, frame: &RawFrame, want: &[u8]) -> Option<bool> {
     if !writable(frame) {
-        return Err(Fail::new("not writable"));
+        return None;
     }
     let mut out = Octets::new(alloc);
-    write_frame(frame, &mut out)?;
-    Ok(out)
+    write_frame(frame, &mut out).ok()?;
+    Some(is(&out, want))
 }
 
 /// Whether the text is read as a frame of this command, and that is written as the text.
-fn is_read_and_written(alloc: Global, command: Command, text: &[u8]) -> Result<bool, Fail> {
+fn is_read_and_written(alloc: Global, command: Command, text: &[u8]) -> Option<bool> {
     let frame = read(alloc, text)?;
-    Ok(frame.command == command && is(&written(alloc, &frame)?, text))
+    Some(frame.command == command && is_written(alloc, &frame, text)?)
 }
 
 #[test]
-fn each_command_is_read_and_written_again(rt: HostRuntime) -> Result<(), Fail> {
+fn each_command_is_read_and_written_again(rt: HostRuntime) {
     for &(command, text) in FRAMES {
         assert!(rt;
-            is_read_and_written(rt.alloc(), command, text)?,
+            is_read_and_written(rt.alloc(), command, text) == Some(true),
             "{command:?}"
         );
     }
-    Ok(())
+}
+
+/// Whether a frame that can be written is appended whole, as this, or not at all.
+fn is_whole_or_nothing(frame: &RawFrame, out: &mut Octets, spelling: &[u8]) -> bool {
+    if !writable(frame) {
+        return false;
+    }
+    let before = out.len();
+    let want = if write_frame(frame, out).is_ok() {
+        spelling
+    } else {
+        b""
+    };
+    &out.as_slice()[before..] == want
+}
+
+/// A frame with a header that is written with escapes, and a long one.
+const ESCAPED: Pairs = &[(b"a", b":"), (b"bc", b"a value that is rather long\n")];
+
+/// That frame as it is written.
+const SPELLING: &[u8] = b"BEGIN\na:\\c\nbc:a value that is rather long\\n\n\n\0";
+
+/// Whether that frame is appended so, or there is no memory to make it.
+fn leaves_nothing(alloc: Global, out: &mut Octets) -> bool {
+    match raw(alloc, Command::Begin, ESCAPED, b"") {
+        Ok(frame) => is_whole_or_nothing(&frame, out, SPELLING),
+        Err(NoMemory) => true,
+    }
 }
 
 /// Holds whichever allocation fails: what isn't written whole leaves nothing.
 #[test]
 fn out_of_memory_leaves_nothing(rt: HostRuntime) {
-    let alloc = rt.alloc();
-    let mut out = Octets::new(alloc);
+    let mut out = Octets::new(rt.alloc());
     for _ in 0..20u8 {
-        let Ok(frame) = raw(
-            alloc,
-            Command::Begin,
-            &[(b"a", b":"), (b"bc", b"a value that is rather long\n")],
-            b"",
-        ) else {
-            continue;
-        };
-        assert!(rt; writable(&frame));
-        let before = out.len();
-        let whole = write_frame(&frame, &mut out).is_ok();
-        let want = if whole {
-            b"BEGIN\na:\\c\nbc:a value that is rather long\\n\n\n\0".as_slice()
-        } else {
-            b""
-        };
-        assert!(rt; &out.as_slice()[before..] == want);
+        assert!(rt; leaves_nothing(rt.alloc(), &mut out));
     }
 }
 
@@ -395,27 +422,46 @@ fn out_of_memory_leaves_nothing(rt: HostRuntime) {
 const SHORT: &[u8] =
     b"MESSAGE\nsubscription:s\nmessage-id:1.2.3\ndestination:A\ncontent-length:2\nx:\\c\n\nhi\0";
 
-/// Holds whichever allocation fails: what isn't written whole leaves nothing, and is written when memory is there.
-#[test]
-fn out_of_memory_leaves_no_part_of_a_server_frame(rt: HostRuntime) {
-    let alloc = rt.alloc();
-    let Ok(headers) = headers(alloc, &[(b"destination", b"A"), (b"x", b":")]) else {
-        return;
+/// Appends a server's frame; whether it is there whole, as this, or not at all.
+fn is_sent_or_nothing(frame: &ServerFrame, out: &mut Octets, spelling: &[u8]) -> bool {
+    let before = out.len();
+    let want = if write_server(frame, out).is_ok() {
+        spelling
+    } else {
+        b""
     };
+    &out.as_slice()[before..] == want
+}
+
+/// Whether that is so of twenty, one after the other.
+fn are_sent_or_nothing(frame: &ServerFrame, out: &mut Octets, spelling: &[u8]) -> bool {
+    for _ in 0..20u8 {
+        if !is_sent_or_nothing(frame, out, spelling) {
+            return false;
+        }
+    }
+    true
+}
+
+/// Whether that is so of the MESSAGE with these headers, and at most one isn't there.
+fn leaves_no_part(alloc: Global, headers: &Headers) -> bool {
     let frame = ServerFrame::Message {
         subscription: b"s",
         n: 1,
         topic: 2,
         index: 3,
-        headers: &headers,
+        headers,
         body: b"hi",
     };
     let mut out = Octets::new(alloc);
-    for _ in 0..20u8 {
-        let before = out.len();
-        let whole = write_server(&frame, &mut out).is_ok();
-        let want = if whole { SHORT } else { b"" };
-        assert!(rt; &out.as_slice()[before..] == want);
+    are_sent_or_nothing(&frame, &mut out, SHORT) && out.len() >= 19 * SHORT.len()
+}
+
+/// Holds whichever allocation fails: what isn't written whole leaves nothing, and is written when memory is there.
+#[test]
+fn out_of_memory_leaves_no_part_of_a_server_frame(rt: HostRuntime) {
+    let alloc = rt.alloc();
+    if let Ok(headers) = headers(alloc, &[(b"destination", b"A"), (b"x", b":")]) {
+        assert!(rt; leaves_no_part(alloc, &headers));
     }
-    assert!(rt; out.len() >= 19 * SHORT.len());
 }

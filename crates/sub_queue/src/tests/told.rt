@@ -3,8 +3,8 @@
 ghost use Rattle.std.specs.Prelude.{◌≡◌, [], None, IfSome};
 ghost use Rattle.std.specs.List.{last_or};
 
-use super::Answer::{self, Accepted, Returned};
-use super::shared::{Pusher, ends};
+use super::Answer::{self, Accepted, Returned, Took};
+use super::shared::{Pusher, ends, taken};
 use crate::{Source, Taker};
 use std::alloc::Global;
 use std::sync::Wait;
@@ -100,27 +100,40 @@ where
 /// A body that counts its pushes down and refuses all that follow fails here.
 #[test]
 fn none_is_refused_while_all_are_taken(rt: HostRuntime) {
-    assert_eq!(rt; pumped(&rt, rt.alloc()), Some((ITEMS, ITEMS)));
+    assert!(rt; pumped(&rt, rt.alloc()) == Some((ITEMS, ITEMS)));
 }
 
-/// What a queue of one place answers to a source that is told of each take.
-fn told_of_takes<R: Wait>(rt: &R, alloc: Global) -> Option<[Answer; 4]> {
-    let (source, mut taker) = ends::<R>(alloc, 1).ok()?;
-    let mut pusher = first_pusher(source);
+/// What a queue answers to two pushes, and to a take; and, once its source is told of that, to two more pushes.
+fn told_answers<R: Wait>(
+    rt: &R,
+    alloc: Global,
+    pusher: &mut Pusher<R>,
+    taker: &mut Taker,
+) -> Option<[Answer; 5]>
+    requires { taker.old.queue ≡ pusher.old.source.queue }
+{
     let first = pusher.push(rt, alloc)?;
-    let refused = pusher.push(rt, alloc)?;
-    let _item = taker.take(rt)?;
+    let second = pusher.push(rt, alloc)?;
+    let taken = taken(rt, taker);
     pusher.source.know_taken(taker.taken_so_far());
     Some([
         first,
-        refused,
+        second,
+        taken,
         pusher.push(rt, alloc)?,
         pusher.push(rt, alloc)?,
     ])
 }
 
+/// What a queue of one place answers to a source that is told of each take.
+fn told_of_takes<R: Wait>(rt: &R, alloc: Global) -> Option<[Answer; 5]> {
+    let (source, mut taker) = ends::<R>(alloc, 1).ok()?;
+    let mut pusher = first_pusher(source);
+    told_answers(rt, alloc, &mut pusher, &mut taker)
+}
+
 #[test]
 fn a_source_that_is_told_goes_on(rt: HostRuntime) {
-    let wanted = [Accepted, Returned(1), Accepted, Returned(3)];
-    assert_eq!(rt; told_of_takes(&rt, rt.alloc()), Some(wanted));
+    let wanted = [Accepted, Returned(1), Took(0), Accepted, Returned(3)];
+    assert!(rt; told_of_takes(&rt, rt.alloc()) == Some(wanted));
 }
