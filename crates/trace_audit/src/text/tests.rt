@@ -7,7 +7,7 @@ use crate::{AuditFault, Trace, audit};
 use std::alloc::Global;
 
 /// What reading a text came to.
-#[derive(Clone, Copy, Debug, PartialEq, Eq)]
+#[derive(Clone, Copy, PartialEq, Eq)]
 enum Reading {
     /// It is a trace.
     Trace,
@@ -41,7 +41,7 @@ fn is_printed_as(alloc: Global, text: &[u8], printed: &[u8]) -> Option<bool> {
 
 #[test]
 fn lines_are_rows(rt: HostRuntime) {
-    let texts: [&[u8]; 15] = [
+    const TEXTS: &[&[u8]] = &[
         b"",
         b"log 0 0 1 1.0 0",
         b"log 0 0 1 1.0 0\n",
@@ -58,14 +58,14 @@ fn lines_are_rows(rt: HostRuntime) {
         b"span 18446744073709551615 0 0.0 -\nqueue 18446744073709551615 0 1 1.0",
         b"span 0 0 0.0 -\nqueue 0 18446744073709551615 18446744073709551615 18446744073709551615.4294967295",
     ];
-    for text in texts {
-        assert_eq!(rt; reading_of(rt.alloc(), text), Reading::Trace);
+    for &text in TEXTS {
+        assert!(rt; reading_of(rt.alloc(), text) == Reading::Trace);
     }
 }
 
 #[test]
 fn other_lines_are_bad(rt: HostRuntime) {
-    let texts: [&[u8]; 42] = [
+    const TEXTS: &[&[u8]] = &[
         b"\n",
         b"#",
         b"# log 0 0 1 1.0 0\n",
@@ -109,14 +109,14 @@ fn other_lines_are_bad(rt: HostRuntime) {
         b"log 0 0 1 1.4294967296 0",
         b"log 0 0 1 1.0 0\x00",
     ];
-    for text in texts {
-        assert_eq!(rt; reading_of(rt.alloc(), text), Reading::Bad(1));
+    for &text in TEXTS {
+        assert!(rt; reading_of(rt.alloc(), text) == Reading::Bad(1));
     }
 }
 
 #[test]
 fn other_spans_and_queues_are_bad(rt: HostRuntime) {
-    let texts: [&[u8]; 15] = [
+    const TEXTS: &[&[u8]] = &[
         b"span 0 0 0.0\n",
         b"span 0 0 0.0 \n",
         b"span 0 0 0.0 --\n",
@@ -133,14 +133,14 @@ fn other_spans_and_queues_are_bad(rt: HostRuntime) {
         b"log 0 0 1 1.0 1,0",
         b"log 0 0 1 1.0 0,0",
     ];
-    for text in texts {
-        assert_eq!(rt; reading_of(rt.alloc(), text), Reading::Bad(1));
+    for &text in TEXTS {
+        assert!(rt; reading_of(rt.alloc(), text) == Reading::Bad(1));
     }
 }
 
 #[test]
 fn the_first_bad_line_is_reported(rt: HostRuntime) {
-    let cases: [(&[u8], usize); 8] = [
+    const CASES: &[(&[u8], usize)] = &[
         (b"log 0 0 1 1.0 0\n\nlog\n", 2),
         (b"log 0 0 1 1.0 0\n\n", 2),
         (b"span 3 0 0.0 -\nspan 3 1 0.0 -\n", 2),
@@ -150,13 +150,13 @@ fn the_first_bad_line_is_reported(rt: HostRuntime) {
         (b"span 3 0 0.0 -\nqueue 3 0 1 1.0\nqueue 3 0 1 1", 3),
         (b"span 3 0 0.0 -\n\nspan 3 0 0.0 -\n", 2),
     ];
-    for (text, number) in cases {
-        assert_eq!(rt; reading_of(rt.alloc(), text), Reading::Bad(number));
+    for &(text, number) in CASES {
+        assert!(rt; reading_of(rt.alloc(), text) == Reading::Bad(number));
     }
 }
 
 /// Texts, and what their traces are printed as.
-const PRINTED: [(&[u8], &[u8]); 4] = [
+const PRINTED: &[(&[u8], &[u8])] = &[
     (b"", b""),
     (b"log 0 0 1 1.0 0", b"log 0 0 1 1.0 0\n"),
     (
@@ -174,15 +174,15 @@ const PRINTED: [(&[u8], &[u8]); 4] = [
 
 #[test]
 fn traces_are_printed_in_order(rt: HostRuntime) {
-    for (text, printed) in PRINTED {
-        assert_eq!(rt; is_printed_as(rt.alloc(), text, printed), Some(true));
-        assert_eq!(rt; is_printed_as(rt.alloc(), printed, printed), Some(true));
+    for &(text, printed) in PRINTED {
+        assert!(rt; is_printed_as(rt.alloc(), text, printed) == Some(true));
+        assert!(rt; is_printed_as(rt.alloc(), printed, printed) == Some(true));
     }
 }
 
 #[test]
 fn refused_growths_are_reported(rt: HostRuntime) {
-    for (text, printed) in PRINTED {
+    for &(text, printed) in PRINTED {
         assert!(rt; is_printed_as(rt.alloc(), text, printed) != Some(false));
     }
 }
@@ -206,7 +206,7 @@ fn is_answered(alloc: Global, text: &[u8], written: &[u8]) -> Option<bool> {
 }
 
 /// Texts, and what is written of the answers to their traces.
-const ANSWERED: [(&[u8], &[u8]); 10] = [
+const ANSWERED: &[(&[u8], &[u8])] = &[
     (b"", b"complete\n"),
     (
         b"log 0 1 1 2.0 0,1\nlog 0 0 1 2.1 0,1\nlog 1 1 1 2.0 0,1\nlog 1 0 1 2.1 0,1\n",
@@ -236,20 +236,20 @@ const ANSWERED: [(&[u8], &[u8]); 10] = [
 
 #[test]
 fn answers_are_written(rt: HostRuntime) {
-    for (text, written) in ANSWERED {
-        assert_eq!(rt; is_answered(rt.alloc(), text, written), Some(true));
+    for &(text, written) in ANSWERED {
+        assert!(rt; is_answered(rt.alloc(), text, written) == Some(true));
     }
 }
 
 #[test]
 fn refused_growths_of_answers_are_reported(rt: HostRuntime) {
-    for (text, written) in ANSWERED {
+    for &(text, written) in ANSWERED {
         assert!(rt; is_answered(rt.alloc(), text, written) != Some(false));
     }
 }
 
 #[test]
 fn faults_of_texts_have_their_numbers(rt: HostRuntime) {
-    assert_eq!(rt; ParseFault::BadRow(7).number(), 90);
-    assert_eq!(rt; ParseFault::NoMemory.number(), 91);
+    assert!(rt; ParseFault::BadRow(7).number() == 90);
+    assert!(rt; ParseFault::NoMemory.number() == 91);
 }
