@@ -2,7 +2,7 @@
 
 use super::client::Answer;
 use crate::{Action, Step};
-use mcast_txn::{Flight, Part, Sender, Topic, Txn, TxnId};
+use mcast_txn::{Flight, Part, Parts, Sender, Topic, Txn, TxnId};
 use std::alloc::Global;
 use std::test::Fail;
 use stomp_frame::{NoMemory, Octets};
@@ -13,14 +13,14 @@ const ID: TxnId = TxnId {
 };
 
 /// A frame's answer: the number of its refusal, or what the connection has to do, and the receipt.
-#[derive(Debug, PartialEq, Eq, Drop)]
+#[derive(PartialEq, Eq, Drop)]
 pub(super) enum PlainAnswer {
     Refused(u32),
     Accepted(PlainAction, Option<u8>),
 }
 
 /// What the connection has to do, with ids as letters and topics as numbers.
-#[derive(Debug, PartialEq, Eq, Drop)]
+#[derive(PartialEq, Eq, Drop)]
 pub(super) enum PlainAction {
     Connected(Option<u8>),
     Nothing,
@@ -31,7 +31,7 @@ pub(super) enum PlainAction {
 }
 
 /// A transaction: how many SENDs it has, its topics, and the SENDs of its parts, one part after the other.
-#[derive(Debug, PartialEq, Eq, Drop)]
+#[derive(PartialEq, Eq, Drop)]
 pub(super) struct PlainTxn {
     pub len: usize,
     pub topics: Vec<u32>,
@@ -39,7 +39,7 @@ pub(super) struct PlainTxn {
 }
 
 /// A SEND in the part at a topic: its index in the whole, its body of one octet, and how many headers it has.
-#[derive(Clone, Copy, Debug, PartialEq, Eq)]
+#[derive(Clone, Copy, PartialEq, Eq)]
 pub(super) struct PlainSend {
     pub topic: u32,
     pub index: usize,
@@ -85,22 +85,32 @@ fn topics_of(alloc: Global, txn: &Txn) -> Result<Vec<u32>, NoMemory> {
     Ok(topics)
 }
 
-fn plain_txn(alloc: Global, txn: Txn) -> Result<PlainTxn, Fail> {
-    let mut plain = PlainTxn {
-        len: txn.len(),
-        topics: topics_of(alloc, &txn)?,
-        parts: Vec::new(alloc),
-    };
-    let flight = Flight::new(alloc, ID)?;
-    let Ok(mut parts) = txn.split(alloc, &flight) else {
-        return Err(Fail::new("the transaction wasn't split"));
-    };
-    for topic in plain.topics.iter() {
+/// The SENDs of the parts at these topics, which are taken out.
+fn sends_of(alloc: Global, parts: &mut Parts, topics: &[u32]) -> Result<Vec<PlainSend>, NoMemory> {
+    let mut sends = Vec::new(alloc);
+    for topic in topics {
         if let Some(part) = parts.part(Topic(*topic)) {
-            add_part(&part, &mut plain.parts)?;
+            add_part(&part, &mut sends)?;
         }
     }
-    Ok(plain)
+    Ok(sends)
+}
+
+/// The parts of a transaction.
+fn parts_of(alloc: Global, txn: Txn) -> Result<Parts, Fail> {
+    let flight = Flight::new(alloc, ID)?;
+    match txn.split(alloc, &flight).ok() {
+        Some(parts) => Ok(parts),
+        None => Err(Fail::new("the transaction wasn't split")),
+    }
+}
+
+fn plain_txn(alloc: Global, txn: Txn) -> Result<PlainTxn, Fail> {
+    let len = txn.len();
+    let topics = topics_of(alloc, &txn)?;
+    let mut parts = parts_of(alloc, txn)?;
+    let parts = sends_of(alloc, &mut parts, topics.as_slice())?;
+    Ok(PlainTxn { len, topics, parts })
 }
 
 fn plain_action(alloc: Global, action: Action) -> Result<PlainAction, Fail> {
@@ -119,7 +129,10 @@ fn plain_action(alloc: Global, action: Action) -> Result<PlainAction, Fail> {
 /// The session's answer as plain data.
 pub(super) fn plain_answer(alloc: Global, answer: Answer) -> Result<PlainAnswer, Fail> {
     match answer {
-        Err((_, fault)) => Ok(PlainAnswer::Refused(fault.number())),
+        Err((frame, fault)) => {
+            drop(frame);
+            Ok(PlainAnswer::Refused(fault.number()))
+        }
         Ok(Step { action, receipt }) => {
             let receipt = optional_letter(&receipt);
             Ok(PlainAnswer::Accepted(plain_action(alloc, action)?, receipt))

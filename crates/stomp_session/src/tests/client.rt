@@ -1,12 +1,11 @@
 //! A client that sends frames to a session.
 
-ghost use Rattle.std.specs.Prelude.{◌≡◌, ◌&&◌, nat_le, IfOk};
+ghost use Rattle.std.specs.Prelude.{◌≡◌, ◌&&◌, nat_le, IfOk, IfSome};
 ghost use Rattle.std.specs.List.{list_all};
 ghost use Rattle.stomp_frame.specs.Headers.{IsText, IsPair};
 
 use crate::{MAX_TOPICS, Names, Session, SessionFault, Step};
 use std::alloc::Global;
-use std::test::Fail;
 use stomp_frame::{ClientFrame, Command, Headers, NoMemory, Octets, RawFrame, classify};
 
 pub(super) type Pairs<'a> = &'a [(&'a [u8], &'a [u8])];
@@ -94,10 +93,13 @@ fn frame(alloc: Global, command: Command, pairs: Pairs) -> Result<ClientFrame, N
 }
 
 /// The number of the fault, or 0 where the frame was accepted.
-pub(super) fn number(answer: &Answer) -> u32 {
-    match answer {
-        Ok(_) => 0,
-        Err((_, fault)) => fault.number(),
+fn number(answer: Answer) -> u32 {
+    match answer.err() {
+        None => 0,
+        Some((frame, fault)) => {
+            drop(frame);
+            fault.number()
+        }
     }
 }
 
@@ -162,11 +164,23 @@ pub(super) fn many_names(alloc: Global, count: usize) -> Result<Names, NoMemory>
 }
 
 /// A client of a server, with the names of its topics.
-#[derive(Drop)]
 pub(super) struct Client {
     alloc: Global,
     names: Names,
     session: Session,
+}
+
+impl Drop for Client {
+    /// Written out, so that letting a client go is one call for the prover wherever it happens.
+    fn drop(self) {
+        let Client {
+            alloc: _,
+            names,
+            session,
+        } = self;
+        drop(names);
+        drop(session);
+    }
 }
 
 impl Client {
@@ -226,31 +240,23 @@ impl Client {
         Ok(self.take(frame))
     }
 
-    /// What an accepted frame is answered.
-    pub(super) fn step(&mut self, command: Command, pairs: Pairs) -> Result<Step, Fail> {
-        match self.answer(command, pairs)? {
-            Ok(step) => Ok(step),
-            Err(_) => Err(Fail::new("the frame is refused")),
-        }
+    /// What an accepted frame is answered; nothing where it is refused, or there is no memory for it.
+    pub(super) fn step(&mut self, command: Command, pairs: Pairs) -> Option<Step> {
+        self.answer(command, pairs).ok()?.ok()
     }
 
-    /// The receipt of an accepted frame that asks for one.
-    pub(super) fn receipt(&mut self, command: Command, pairs: Pairs) -> Result<Octets, Fail>
-        ensures { IfOk result (λ receipt. IsText receipt) }
+    /// The receipt of an accepted frame that asks for one; nothing where there is none.
+    pub(super) fn receipt(&mut self, command: Command, pairs: Pairs) -> Option<Octets>
+        ensures { IfSome result (λ receipt. IsText receipt) }
     {
-        let frame = frame(self.alloc, command, pairs)?;
-        let Ok(step) = self.session.step(frame, &mut self.names) else {
-            return Err(Fail::new("the frame is refused"));
-        };
-        let Step { action: _, receipt } = step;
-        match receipt {
-            Some(receipt) => Ok(receipt),
-            None => Err(Fail::new("no receipt")),
-        }
+        let frame = frame(self.alloc, command, pairs).ok()?;
+        let Step { action, receipt } = self.session.step(frame, &mut self.names).ok()?;
+        drop(action);
+        receipt
     }
 
     pub(super) fn tell(&mut self, command: Command, pairs: Pairs) -> Result<u32, NoMemory> {
-        Ok(number(&self.answer(command, pairs)?))
+        Ok(number(self.answer(command, pairs)?))
     }
 
     /// A frame in three letters: what it is and its headers' values, as `shape` has them; `c` is a CONNECT.
@@ -273,6 +279,17 @@ impl Client {
     pub(super) fn end(&mut self) {
         self.session.end();
     }
+}
+
+/// What a frame after a script is answered; nothing where a frame is refused, or there is no memory for it.
+pub(super) fn step_after(
+    alloc: Global,
+    script: &[u8],
+    command: Command,
+    pairs: Pairs,
+) -> Option<Step> {
+    let mut client = Client::after(alloc, script).ok()?;
+    client.step(command, pairs)
 }
 
 /// The number that the last frame of a script is answered, where each one before was accepted; else 1000.

@@ -50,6 +50,21 @@ impl Seen {
         self.refusals.get(index).copied().unwrap_or(false)
     }
 
+    /// The first refusal that didn't come, of those that a history may have; 0 where each came.
+    fn missing(&self) -> u32 {
+        for &number in &[60, 61, 62, 63, 64, 65, 66, 68, 73, 75, 76] {
+            if !self.has_refusal(number) {
+                return number;
+            }
+        }
+        0
+    }
+
+    /// Whether each action came, and what is to come beside them.
+    fn has_all_else(&self) -> bool {
+        self.actions.iter().all(|came| *came) && self.at_three && self.made_four
+    }
+
     fn refusal(&mut self, number: u32) {
         if let Some(came) = self.refusals.get_mut(number.wrapping_sub(60) as usize) {
             *came = true;
@@ -166,11 +181,8 @@ fn made_histories(rt: HostRuntime) -> Result<(), Fail> {
         let index = first_difference(rt.alloc(), history, &mut seen)?;
         assert!(rt; index == FRAMES, "history {history}, frame {index}");
     }
-    for number in [60, 61, 62, 63, 64, 65, 66, 68, 73, 75, 76] {
-        assert!(rt; seen.has_refusal(number), "no {number}");
-    }
-    assert!(rt; seen.actions.iter().all(|came| *came));
-    assert!(rt; seen.at_three);
-    assert!(rt; seen.made_four);
+    let missing = seen.missing();
+    assert!(rt; missing == 0, "no {missing}");
+    assert!(rt; seen.has_all_else());
     Ok(())
 }

@@ -32,6 +32,19 @@ pub(super) struct Made {
     pub receipt: Option<u8>,
 }
 
+/// Puts a header of one letter at the end, if there is a letter.
+fn push_letter(
+    alloc: Global,
+    headers: &mut Headers,
+    name: &[u8],
+    letter: Option<u8>,
+) -> Result<(), NoMemory> {
+    match letter {
+        Some(letter) => push(alloc, headers, name, &[letter]),
+        None => Ok(()),
+    }
+}
+
 impl Made {
     /// How many headers a SEND has.
     pub(super) fn send_headers(&self) -> usize {
@@ -41,26 +54,31 @@ impl Made {
             .count()
     }
 
-    fn headers(&self, alloc: Global) -> Result<Headers, NoMemory> {
-        let mut headers = Headers::new(alloc);
+    /// Puts the headers of several octets at the end.
+    fn push_texts(&self, alloc: Global, headers: &mut Headers) -> Result<(), NoMemory> {
         if let Some((versions, _)) = self.versions {
-            push(alloc, &mut headers, b"accept-version", versions)?;
-            push(alloc, &mut headers, b"host", b"h")?;
+            push(alloc, headers, b"accept-version", versions)?;
+            push(alloc, headers, b"host", b"h")?;
         }
         if let Some(ack) = self.ack {
-            push(alloc, &mut headers, b"ack", ack)?;
+            push(alloc, headers, b"ack", ack)?;
         }
-        for (name, letter) in [
-            (b"id".as_slice(), self.id),
-            (b"client-id", self.client),
-            (b"destination", self.destination),
-            (b"transaction", self.transaction),
-            (b"receipt", self.receipt),
-        ] {
-            if let Some(letter) = letter {
-                push(alloc, &mut headers, name, &[letter])?;
-            }
-        }
+        Ok(())
+    }
+
+    /// Puts the headers of one letter each at the end.
+    fn push_letters(&self, alloc: Global, headers: &mut Headers) -> Result<(), NoMemory> {
+        push_letter(alloc, headers, b"id", self.id)?;
+        push_letter(alloc, headers, b"client-id", self.client)?;
+        push_letter(alloc, headers, b"destination", self.destination)?;
+        push_letter(alloc, headers, b"transaction", self.transaction)?;
+        push_letter(alloc, headers, b"receipt", self.receipt)
+    }
+
+    fn headers(&self, alloc: Global) -> Result<Headers, NoMemory> {
+        let mut headers = Headers::new(alloc);
+        self.push_texts(alloc, &mut headers)?;
+        self.push_letters(alloc, &mut headers)?;
         Ok(headers)
     }
 

@@ -1,7 +1,7 @@
 //! Refused growths: they are made by `rt try --test --fail-alloc N`, and each test here holds whichever allocation
 //! fails.
 
-use super::client::{Answer, Client, Pairs, frame_with};
+use super::client::{Client, Pairs, frame_with};
 use crate::{Names, SessionFault};
 use mcast_txn::Topic;
 use std::alloc::Global;
@@ -25,7 +25,7 @@ struct Row {
 }
 
 /// Whether the headers are these, in their order.
-fn are_headers(headers: &Headers, pairs: Pairs) -> bool {
+pub(super) fn are_headers(headers: &Headers, pairs: Pairs) -> bool {
     if headers.len() != pairs.len() {
         return false;
     }
@@ -37,28 +37,31 @@ fn are_headers(headers: &Headers, pairs: Pairs) -> bool {
     true
 }
 
-/// Whether the frame is the row's, as it was given.
-fn is_given(frame: ClientFrame, row: &Row) -> bool {
-    for (name, value) in row.pairs {
+/// Whether the frame's headers are these, each found by its name.
+fn are_fields(frame: &ClientFrame, pairs: Pairs) -> bool {
+    for (name, value) in pairs {
         if frame.field(name) != Some(*value) {
             return false;
         }
     }
+    true
+}
+
+/// Whether the frame is the row's, as it was given.
+fn is_given(frame: ClientFrame, row: &Row) -> bool {
+    let are_fields = are_fields(&frame, row.pairs);
     let raw = frame.into_raw();
-    raw.command == row.command
+    are_fields
+        && raw.command == row.command
         && are_headers(&raw.headers, row.pairs)
         && raw.body.as_slice() == row.body
 }
 
-/// Whether an answer is 72, with the row's frame as it was given.
-fn is_out_of_memory(answer: Answer, row: &Row) -> bool {
-    match answer.err() {
-        None => false,
-        Some((frame, fault)) => {
-            let is_given = is_given(frame, row);
-            is_given && fault == SessionFault::NoMemory
-        }
-    }
+/// Whether a refusal is 72, with the row's frame as it was given.
+fn is_out_of_memory(refused: (ClientFrame, SessionFault), row: &Row) -> bool {
+    let (frame, fault) = refused;
+    let is_given = is_given(frame, row);
+    is_given && fault == SessionFault::NoMemory
 }
 
 /// Whether a DISCONNECT is refused, since the session is closed.
@@ -71,19 +74,26 @@ fn has_its_names(client: &Client) -> bool {
     are_names(client.names(), &[b"A", b"B"])
 }
 
+/// Whether a refusal is 72, with the row's frame as it was given, the session is closed, and it made no topic.
+fn has_no_effect(
+    client: &mut Client,
+    refused: (ClientFrame, SessionFault),
+    row: &Row,
+) -> Result<bool, NoMemory> {
+    let is_told = is_out_of_memory(refused, row);
+    Ok(is_told && is_closed(client)? && has_its_names(client))
+}
+
 /// Puts the row's frame to a new session: whether it is accepted. An error says that there was no memory for the frames
 /// before it. The answer to a refused frame is 72, it comes back as it was given, the session is closed, and it made no
 /// topic.
 fn is_accepted(rt: &impl Abort, alloc: Global, row: &Row) -> Result<bool, NoMemory> {
     let mut client = Client::after(alloc, row.script)?;
     let frame = frame_with(alloc, row.command, row.pairs, row.body)?;
-    let answer = client.take(frame);
-    if answer.is_ok() {
+    let Some(refused) = client.take(frame).err() else {
         return Ok(true);
-    }
-    assert!(rt; is_out_of_memory(answer, row));
-    assert!(rt; is_closed(&mut client)?);
-    assert!(rt; has_its_names(&client));
+    };
+    assert!(rt; has_no_effect(&mut client, refused, row)?);
     Ok(false)
 }
 
@@ -261,19 +271,32 @@ fn are_names(names: &Names, want: &[&[u8]]) -> bool {
     names.len() == want.len()
 }
 
+/// Adds a name after those before it. Where it isn't added, whether the names are what they were; it is added when there
+/// is memory again.
+fn is_added(names: &mut Names, before: &[&[u8]], name: &[u8]) -> Result<bool, NoMemory> {
+    if names.len() >= 5 || names.add(name).is_ok() {
+        return Ok(true);
+    }
+    let are_before = are_names(names, before) && names.find(name).is_none();
+    names.add(name)?;
+    Ok(are_before)
+}
+
+/// Adds each of these names, and says that of each.
+fn are_added(names: &mut Names, all: &[&[u8]]) -> Result<bool, NoMemory> {
+    for index in 0..all.len() {
+        if !is_added(names, &all[..index], all[index])? {
+            return Ok(false);
+        }
+    }
+    Ok(true)
+}
+
 /// Where a name isn't added, the names are what they were; it is added when there is memory again.
 #[test]
 fn names_without_memory(rt: HostRuntime) -> Result<(), Fail> {
-    let all: [&[u8]; 5] = [b"A", b"B", b"C", b"D", b"E"];
+    let all: &[&[u8]] = &[b"A", b"B", b"C", b"D", b"E"];
     let mut names = Names::new(rt.alloc());
-    for index in 0..all.len() {
-        let name = all[index];
-        if names.len() < 5 && names.add(name).is_err() {
-            assert!(rt; are_names(&names, &all[..index]));
-            assert!(rt; names.find(name).is_none());
-            names.add(name)?;
-        }
-    }
-    assert!(rt; are_names(&names, &all));
+    assert!(rt; are_added(&mut names, all)? && are_names(&names, all));
     Ok(())
 }
