@@ -271,8 +271,8 @@ fn are_names(names: &Names, want: &[&[u8]]) -> bool {
     names.len() == want.len()
 }
 
-/// Adds a name after those before it. Where it isn't added, whether the names are what they were; it is added when there
-/// is memory again.
+/// Adds a name after those before it, which are fewer than five. Where it isn't added, whether the names are what they
+/// were; it is added when there is memory again.
 fn is_added(names: &mut Names, before: &[&[u8]], name: &[u8]) -> Result<bool, NoMemory> {
     if names.len() >= 5 || names.add(name).is_ok() {
         return Ok(true);
@@ -282,7 +282,7 @@ fn is_added(names: &mut Names, before: &[&[u8]], name: &[u8]) -> Result<bool, No
     Ok(are_before)
 }
 
-/// Adds each of these names, and says that of each.
+/// Adds these names in turn; whether that holds of each.
 fn are_added(names: &mut Names, all: &[&[u8]]) -> Result<bool, NoMemory> {
     for index in 0..all.len() {
         if !is_added(names, &all[..index], all[index])? {

@@ -30,6 +30,7 @@ fn told(alloc: Global, row: &Row) -> Option<(usize, usize, bool)> {
     Some((sends, topics, has(&receipt, b"r")))
 }
 
+/// A COMMIT without SENDs, one with two, and a SEND outside a transaction.
 const ROWS: &[Row] = &[
     Row {
         script: b"c..,bx.",
