@@ -25,7 +25,7 @@ struct Row {
 }
 
 /// Whether the headers are these, in their order.
-pub(super) fn are_headers(headers: &Headers, pairs: Pairs) -> bool {
+fn are_headers(headers: &Headers, pairs: Pairs) -> bool {
     if headers.len() != pairs.len() {
         return false;
     }

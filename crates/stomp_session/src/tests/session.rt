@@ -165,7 +165,7 @@ fn subscribes(action: &Action, id: &[u8], topic: Topic) -> bool {
 }
 
 /// Whether there is a step that opens a subscription of this id at this topic, and has this receipt.
-pub(super) fn subscribes_with(step: Option<Step>, id: &[u8], topic: Topic, want: &[u8]) -> bool {
+fn subscribes_with(step: Option<Step>, id: &[u8], topic: Topic, want: &[u8]) -> bool {
     let Some(Step { action, receipt }) = step else {
         return false;
     };
