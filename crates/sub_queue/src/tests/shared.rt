@@ -6,6 +6,7 @@ ghost use Rattle.std.proofs.Props.{props};
 ghost use Rattle.std.specs.List.{last_or};
 
 use super::Answer::{self, Accepted, Nothing, Returned, Took};
+use super::Call::{self, Push, Take};
 use super::item;
 use crate::{Left, Outlet, Source, Taker, close, ruled};
 use mcast_txn::{NoMemory, Released};
@@ -48,7 +49,7 @@ impl<R: Wait> Pusher<R> {
 }
 
 /// How many items were seen, and whether the k-th of them was item k, from 0.
-#[derive(Clone, Copy, Debug, PartialEq, Eq)]
+#[derive(Clone, Copy, PartialEq, Eq)]
 struct Seen {
     items: u64,
     in_order: bool,
@@ -58,7 +59,9 @@ impl Seen {
     fn and(self, item: &Released) -> Seen {
         Seen {
             items: self.items.saturating_add(1),
-            in_order: self.in_order && item.part.id().seq == self.items && item.stamp.n == self.items,
+            in_order: self.in_order
+                && item.part.id().seq == self.items
+                && item.stamp.n == self.items,
         }
     }
 }
@@ -192,35 +195,59 @@ fn taken<R: Wait>(rt: &R, taker: &mut Taker) -> Answer {
     }
 }
 
-/// What a queue of capacity 1 answers to one thread.
-fn queue_of_one<R: Wait>(rt: &R, alloc: Global) -> Option<[Answer; 9]> {
+/// What a queue's ends answer to a call; nothing where memory ran out before it, or the next item has another number.
+fn reply<R: Wait>(
+    rt: &R,
+    alloc: Global,
+    pusher: &mut Pusher<R>,
+    taker: &mut Taker,
+    call: Call,
+) -> Option<Answer> {
+    match call {
+        Push(n) if n == pusher.next => pusher.push(rt, alloc),
+        Push(_) => None,
+        Take => Some(taken(rt, taker)),
+    }
+}
+
+/// Whether they answer each of these calls as is written beside it.
+fn answer<R: Wait>(
+    rt: &R,
+    alloc: Global,
+    pusher: &mut Pusher<R>,
+    taker: &mut Taker,
+    rows: &[(Call, Answer)],
+) -> bool {
+    for &(call, wanted) in rows {
+        if reply(rt, alloc, pusher, taker, call) != Some(wanted) {
+            return false;
+        }
+    }
+    true
+}
+
+/// Whether a queue of capacity 1 answers each of these calls of one thread as is written beside it; nothing where there
+/// is no queue.
+fn queue_of_one_answers<R: Wait>(rt: &R, alloc: Global, rows: &[(Call, Answer)]) -> Option<bool> {
     let (source, mut taker) = ends::<R>(alloc, 1).ok()?;
     let mut pusher = Pusher { source, next: 0 };
-    Some([
-        taken(rt, &mut taker),
-        taken(rt, &mut taker),
-        pusher.push(rt, alloc)?,
-        pusher.push(rt, alloc)?,
-        taken(rt, &mut taker),
-        taken(rt, &mut taker),
-        pusher.push(rt, alloc)?,
-        taken(rt, &mut taker),
-        taken(rt, &mut taker),
-    ])
+    Some(answer(rt, alloc, &mut pusher, &mut taker, rows))
 }
+
+/// An empty queue gives nothing, and a full one returns what it refuses.
+const OF_ONE: &[(Call, Answer)] = &[
+    (Take, Nothing),
+    (Take, Nothing),
+    (Push(0), Accepted),
+    (Push(1), Returned(1)),
+    (Take, Took(0)),
+    (Take, Nothing),
+    (Push(2), Accepted),
+    (Take, Took(2)),
+    (Take, Nothing),
+];
 
 #[test]
 fn an_empty_queue_gives_nothing_and_a_full_one_returns(rt: HostRuntime) {
-    let wanted = [
-        Nothing,
-        Nothing,
-        Accepted,
-        Returned(1),
-        Took(0),
-        Nothing,
-        Accepted,
-        Took(2),
-        Nothing,
-    ];
-    assert_eq!(rt; queue_of_one(&rt, rt.alloc()), Some(wanted));
+    assert!(rt; queue_of_one_answers(&rt, rt.alloc(), OF_ONE) == Some(true));
 }

@@ -100,27 +100,43 @@ where
 /// A body that counts its pushes down and refuses all that follow fails here.
 #[test]
 fn none_is_refused_while_all_are_taken(rt: HostRuntime) {
-    assert_eq!(rt; pumped(&rt, rt.alloc()), Some((ITEMS, ITEMS)));
+    assert!(rt; pumped(&rt, rt.alloc()) == Some((ITEMS, ITEMS)));
+}
+
+/// What the queue answers to two pushes, if there is memory for them.
+fn two_pushed<R: Wait>(rt: &R, alloc: Global, pusher: &mut Pusher<R>) -> Option<[Answer; 2]>
+    ensures { pusher.new.source.queue ≡ pusher.old.source.queue }
+{
+    let first = pusher.push(rt, alloc)?;
+    let second = pusher.push(rt, alloc)?;
+    Some([first, second])
+}
+
+/// What it answers to two pushes before the source is told of a take, and to two after it.
+fn answers<R: Wait>(
+    rt: &R,
+    alloc: Global,
+    pusher: &mut Pusher<R>,
+    taker: &mut Taker,
+) -> Option<[[Answer; 2]; 2]>
+    requires { taker.old.queue ≡ pusher.old.source.queue }
+{
+    let before = two_pushed(rt, alloc, pusher)?;
+    let _item = taker.take(rt)?;
+    pusher.source.know_taken(taker.taken_so_far());
+    let after = two_pushed(rt, alloc, pusher)?;
+    Some([before, after])
 }
 
 /// What a queue of one place answers to a source that is told of each take.
-fn told_of_takes<R: Wait>(rt: &R, alloc: Global) -> Option<[Answer; 4]> {
+fn told_of_takes<R: Wait>(rt: &R, alloc: Global) -> Option<[[Answer; 2]; 2]> {
     let (source, mut taker) = ends::<R>(alloc, 1).ok()?;
     let mut pusher = first_pusher(source);
-    let first = pusher.push(rt, alloc)?;
-    let refused = pusher.push(rt, alloc)?;
-    let _item = taker.take(rt)?;
-    pusher.source.know_taken(taker.taken_so_far());
-    Some([
-        first,
-        refused,
-        pusher.push(rt, alloc)?,
-        pusher.push(rt, alloc)?,
-    ])
+    answers(rt, alloc, &mut pusher, &mut taker)
 }
 
 #[test]
 fn a_source_that_is_told_goes_on(rt: HostRuntime) {
-    let wanted = [Accepted, Returned(1), Accepted, Returned(3)];
-    assert_eq!(rt; told_of_takes(&rt, rt.alloc()), Some(wanted));
+    let wanted = [[Accepted, Returned(1)], [Accepted, Returned(3)]];
+    assert!(rt; told_of_takes(&rt, rt.alloc()) == Some(wanted));
 }
