@@ -94,7 +94,7 @@ fn pushed_to<Q: Outlet>(outlet: &mut Q, needs: &Q::Needs, item: Released) -> Ans
 {
     match outlet.push(needs, item) {
         Ok(()) => Accepted,
-        Err(item) => Returned(item.part.id()().seq),
+        Err(item) => Returned(item.part.id().seq),
     }
 }
 

@@ -4,7 +4,7 @@ ghost use Rattle.std.specs.Prelude.{◌≡◌, ◌+◌};
 
 use super::calls::{decide, id, part_of, stamp, txn_to};
 use crate::{CellGroup, Proposal, ProposeFault, SubState, TicketCounter, Turned};
-use mcast_txn::{Flight, Part, Stamp, Topic};
+use mcast_txn::{Flight, Parts, Stamp, Topic};
 use std::alloc::Global;
 use std::sync::Arc;
 use sub_queue::VecOutlet;
@@ -136,26 +136,36 @@ fn a_cancelled_part_waits_no_longer(rt: HostRuntime) {
     assert!(rt; cancelled(rt.alloc()) == Some((1, quiet(1))));
 }
 
-/// The topics at which two parts of one transaction are pending, once it is decided and both have turned; their notes
-/// agree, since they are of one cell.
+/// The stamps with which topics 0 and 1 release the parts of one transaction, once it is decided: their notes agree,
+/// since they are of one cell.
 fn two_topics(alloc: Global) -> Option<[Stamp; 2]> {
     let flight = Flight::new(alloc, id(1)).ok()?;
     let mut parts = txn_to(alloc, &[0, 1])?.split(alloc, &flight).ok()?;
-    let mut stamps = [stamp(0, 0), stamp(0, 0)];
-    let part = parts.part(Topic(0))?;
-    stamps[0] = released_of(alloc, Topic(0), part, &flight)?;
-    let part = parts.part(Topic(1))?;
-    stamps[1] = released_of(alloc, Topic(1), part, &flight)?;
-    Some(stamps)
+    both_released(alloc, &mut parts, &flight)
 }
 
-/// The stamp with which a topic releases this part, once its flight is decided.
-fn released_of(alloc: Global, topic: Topic, part: Arc<Part>, flight: &Flight) -> Option<Stamp> {
-    let mut group = CellGroup::<VecOutlet>::new(alloc, topic, 0, 8);
+/// The stamps with which they release these parts.
+fn both_released(alloc: Global, parts: &mut Parts, flight: &Flight) -> Option<[Stamp; 2]> {
+    let one = released_of(alloc, Topic(0), parts, flight)?;
+    let other = released_of(alloc, Topic(1), parts, flight)?;
+    Some([one, other])
+}
+
+/// Enters the topic's part of these.
+fn enter_part(alloc: Global, group: &mut CellGroup<VecOutlet>, parts: &mut Parts) -> Option<()> {
+    let topic = group.group().topic();
+    let part = parts.part(topic)?;
     if part.topic.0 != topic.0 {
         return None;
     }
     group.propose(alloc, stamp(0, 0), part).ok()?;
+    Some(())
+}
+
+/// The stamp with which a topic releases its part of these, once their flight is decided.
+fn released_of(alloc: Global, topic: Topic, parts: &mut Parts, flight: &Flight) -> Option<Stamp> {
+    let mut group = CellGroup::<VecOutlet>::new(alloc, topic, 0, 8);
+    enter_part(alloc, &mut group, parts)?;
     let _ = decide(alloc, flight, &[(0, 1), (1, 1)]);
     let _ = group.turn(&());
     Some(group.group().held(0)?.stamp)

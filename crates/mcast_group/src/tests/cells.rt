@@ -15,9 +15,14 @@ fn left(group: &mut Group<VecOutlet>) -> Option<(Stamp, bool)> {
     Some((departed.stamp(), departed.has_seen()))
 }
 
-/// Enters the part of this seq, whose flight is returned.
-fn entered_alone(alloc: Global, group: &mut Group<VecOutlet>, seq: u64) -> Option<Arc<Flight>> {
-    let part = part_of(alloc, id(seq), &[0], group.topic())?;
+/// Enters the part of a transaction to these topics, whose flight is returned.
+fn entered(
+    alloc: Global,
+    group: &mut Group<VecOutlet>,
+    seq: u64,
+    topics: &[u32],
+) -> Option<Arc<Flight>> {
+    let part = part_of(alloc, id(seq), topics, group.topic())?;
     let flight = part.flight.clone().ok()?;
     group.propose(stamp(0, 0), part).ok()?;
     Some(flight)
@@ -26,7 +31,7 @@ fn entered_alone(alloc: Global, group: &mut Group<VecOutlet>, seq: u64) -> Optio
 /// Two parts, of which the first learns by hand, and the cell of the second's flight is set.
 fn two_parts(alloc: Global, group: &mut Group<VecOutlet>) -> Option<()> {
     let _ = propose(alloc, group, id(1), &[0], 0)?;
-    let flight = entered_alone(alloc, group, 2)?;
+    let flight = entered(alloc, group, 2, &[0])?;
     if learnt(alloc, group, id(1), &[(0, 1)]) != Some(Answer::Done) {
         return None;
     }
@@ -49,15 +54,40 @@ fn a_part_keeps_the_note_of_its_cell(rt: HostRuntime) {
     assert!(rt; releases == Some([by_hand, by_cell, None]));
 }
 
-/// A topic at which the part of this flight is pending, alone.
-fn entered(alloc: Global, parts: &mut Parts, topic: Topic) -> Option<Group<VecOutlet>> {
-    let mut group = Group::new(alloc, topic, 0, 8);
+/// Enters the topic's part of these.
+fn enter_part(group: &mut Group<VecOutlet>, parts: &mut Parts) -> Option<()> {
+    let topic = group.topic();
     let part = parts.part(topic)?;
     if part.topic.0 != topic.0 {
         return None;
     }
     group.propose(stamp(0, 0), part).ok()?;
-    Some(group)
+    Some(())
+}
+
+/// Enters the parts of a transaction at topics 0 and 1, which are these, and returns its flight.
+fn enter_both(
+    alloc: Global,
+    one: &mut Group<VecOutlet>,
+    other: &mut Group<VecOutlet>,
+) -> Option<Arc<Flight>> {
+    let flight = Flight::new(alloc, id(1)).ok()?;
+    let mut parts = txn_to(alloc, &[0, 1])?.split(alloc, &flight).ok()?;
+    enter_part(one, &mut parts)?;
+    enter_part(other, &mut parts)?;
+    Some(flight)
+}
+
+/// How many parts they turn with these, before the transaction is decided, which it then is.
+fn turned_early(
+    alloc: Global,
+    one: &mut Group<VecOutlet>,
+    other: &mut Group<VecOutlet>,
+) -> Option<[u64; 2]> {
+    let flight = enter_both(alloc, one, other)?;
+    let early = [one.turn(&(), &Cells), other.turn(&(), &Cells)];
+    decide(alloc, &flight, &[(0, 1), (1, 1)])?;
+    Some(early)
 }
 
 /// Learns from cells what a topic's parts are told there, and releases the part that is due.
@@ -67,23 +97,29 @@ fn learn_and_leave(topic: Group<VecOutlet>) -> Option<(Stamp, bool)> {
     left(&mut group)
 }
 
-/// How many parts two topics turn before their transaction is decided, and what two threads then release at them.
-fn released_by_two<R: Threads + Sync>(
+/// What two threads release at two topics.
+fn left_by_two<R: Threads + Sync>(
     rt: &R,
-    alloc: Global,
-) -> Option<([u64; 2], [Option<(Stamp, bool)>; 2])> {
-    let flight = Flight::new(alloc, id(1)).ok()?;
-    let mut parts = txn_to(alloc, &[0, 1])?.split(alloc, &flight).ok()?;
-    let mut one = entered(alloc, &mut parts, Topic(0))?;
-    let mut other = entered(alloc, &mut parts, Topic(1))?;
-    let early = [one.turn(&(), &Cells), other.turn(&(), &Cells)];
-    decide(alloc, &flight, &[(0, 1), (1, 1)])?;
+    one: Group<VecOutlet>,
+    other: Group<VecOutlet>,
+) -> [Option<(Stamp, bool)>; 2] {
     let (one, other) = thread::join(
         rt,
         move || -> Option<(Stamp, bool)> { learn_and_leave(one) },
         move || -> Option<(Stamp, bool)> { learn_and_leave(other) },
     );
-    Some((early, [one, other]))
+    [one, other]
+}
+
+/// How many parts two topics turn before their transaction is decided, and what two threads then release at them.
+fn released_by_two<R: Threads + Sync>(
+    rt: &R,
+    alloc: Global,
+) -> Option<([u64; 2], [Option<(Stamp, bool)>; 2])> {
+    let mut one = Group::new(alloc, Topic(0), 0, 8);
+    let mut other = Group::new(alloc, Topic(1), 0, 8);
+    let early = turned_early(alloc, &mut one, &mut other)?;
+    Some((early, left_by_two(rt, one, other)))
 }
 
 #[test]
@@ -93,12 +129,16 @@ fn two_topics_release_a_transaction_with_one_stamp(rt: HostRuntime) {
     assert!(rt; released == Some(([0, 0], [told, told])));
 }
 
+/// Enters a part, whose cell is then set.
+fn enter_and_decide(alloc: Global, group: &mut Group<VecOutlet>) -> Option<()> {
+    let flight = entered(alloc, group, 1, &[0, 1])?;
+    decide(alloc, &flight, &[(0, 1), (1, 7)])
+}
+
 /// How many parts a turn releases once their cell is set, and the stamp of the row that it logs.
 fn turned_by_cell(alloc: Global) -> Option<(u64, Stamp)> {
-    let flight = Flight::new(alloc, id(1)).ok()?;
-    let mut parts = txn_to(alloc, &[0, 1])?.split(alloc, &flight).ok()?;
-    let mut group = entered(alloc, &mut parts, Topic(0))?;
-    decide(alloc, &flight, &[(0, 1), (1, 7)])?;
+    let mut group = Group::new(alloc, Topic(0), 0, 8);
+    enter_and_decide(alloc, &mut group)?;
     let count = group.turn(&(), &Cells);
     Some((count, group.held(0)?.stamp))
 }

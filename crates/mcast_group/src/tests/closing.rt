@@ -9,7 +9,7 @@ use std::alloc::Global;
 use sub_queue::VecOutlet;
 
 /// Nine subscriptions, of which 1, 4 and 7 lag at the second row; a third part is pending then.
-const NINE: [(Call, Answer); 16] = [
+const NINE: &[(Call, Answer)] = &[
     (Subscribe(5, 4), From(0)),
     (Subscribe(1, 1), From(0)),
     (Subscribe(9, 4), From(0)),
@@ -29,14 +29,14 @@ const NINE: [(Call, Answer); 16] = [
 ];
 
 /// The third row.
-const THIRD: [(Call, Answer); 3] = [
+const THIRD: &[(Call, Answer)] = &[
     (Learn(3, &[(0, 3)]), Done),
     (Release, Released(3, 3, 0)),
     (Release, Nothing),
 ];
 
 /// 1 to 4 are closed before the third row.
-const OLDEST: [(Call, Answer); 9] = [
+const OLDEST: &[(Call, Answer)] = &[
     (Unsubscribe(1), Left(1, Cause::Lag, 1)),
     (State(1), Nothing),
     (Unsubscribe(2), Left(2, Cause::Asked, 2)),
@@ -49,7 +49,7 @@ const OLDEST: [(Call, Answer); 9] = [
 ];
 
 /// 5 to 9 are closed after it.
-const OLDEST_LEFT: [(Call, Answer); 11] = [
+const OLDEST_LEFT: &[(Call, Answer)] = &[
     (Take(5), Took(1)),
     (Unsubscribe(5), Left(3, Cause::Asked, 3)),
     (Unsubscribe(6), Left(3, Cause::Asked, 3)),
@@ -64,7 +64,7 @@ const OLDEST_LEFT: [(Call, Answer); 11] = [
 ];
 
 /// 9 to 6 are closed before the third row.
-const NEWEST: [(Call, Answer); 8] = [
+const NEWEST: &[(Call, Answer)] = &[
     (Unsubscribe(9), Left(2, Cause::Asked, 2)),
     (Unsubscribe(8), Left(2, Cause::Asked, 2)),
     (State(7), Lagged(1)),
@@ -76,7 +76,7 @@ const NEWEST: [(Call, Answer); 8] = [
 ];
 
 /// 5 to 1 are closed after it.
-const NEWEST_LEFT: [(Call, Answer); 9] = [
+const NEWEST_LEFT: &[(Call, Answer)] = &[
     (Unsubscribe(5), Left(3, Cause::Asked, 3)),
     (Take(4), Took(1)),
     (Take(4), Nothing),
@@ -89,7 +89,7 @@ const NEWEST_LEFT: [(Call, Answer); 9] = [
 ];
 
 /// 3 to 7 are closed before the third row, those in the middle first.
-const MIDDLE: [(Call, Answer); 8] = [
+const MIDDLE: &[(Call, Answer)] = &[
     (Unsubscribe(5), Left(2, Cause::Asked, 2)),
     (Unsubscribe(4), Left(1, Cause::Lag, 1)),
     (Unsubscribe(6), Left(2, Cause::Asked, 2)),
@@ -101,7 +101,7 @@ const MIDDLE: [(Call, Answer); 8] = [
 ];
 
 /// The others are closed after it.
-const MIDDLE_LEFT: [(Call, Answer); 8] = [
+const MIDDLE_LEFT: &[(Call, Answer)] = &[
     (Unsubscribe(2), Left(3, Cause::Asked, 3)),
     (Take(8), Took(1)),
     (Take(8), Took(2)),
@@ -112,6 +112,16 @@ const MIDDLE_LEFT: [(Call, Answer); 8] = [
     (State(9), Nothing),
 ];
 
+/// Whether nine subscriptions begin, of which six are open after the second row.
+fn nine_begin(alloc: Global, group: &mut Group<VecOutlet>) -> bool {
+    answers(alloc, group, NINE) && group.open_len() == 6
+}
+
+/// Whether the third row comes, before and after which so many are open.
+fn third_comes(alloc: Global, group: &mut Group<VecOutlet>, open: usize) -> bool {
+    group.open_len() == open && answers(alloc, group, THIRD) && group.open_len() == open
+}
+
 /// Whether nine subscriptions are closed, some before the third row, after which so many are open, and the others after it.
 fn are_closed(
     alloc: Global,
@@ -120,22 +130,26 @@ fn are_closed(
     after: &[(Call, Answer)],
 ) -> bool {
     let mut group = Group::new(alloc, Topic(0), 0, 8);
-    answers(alloc, &mut group, &NINE)
-        && group.open_len() == 6
+    nine_begin(alloc, &mut group)
         && answers(alloc, &mut group, before)
-        && group.open_len() == open
-        && answers(alloc, &mut group, &THIRD)
-        && group.open_len() == open
+        && third_comes(alloc, &mut group, open)
         && answers(alloc, &mut group, after)
         && group.open_len() == 0
 }
 
 #[test]
-fn nine_are_closed_in_three_orders(rt: HostRuntime) {
-    let alloc = rt.alloc();
-    assert!(rt; are_closed(alloc, &OLDEST, 4, &OLDEST_LEFT));
-    assert!(rt; are_closed(alloc, &NEWEST, 3, &NEWEST_LEFT));
-    assert!(rt; are_closed(alloc, &MIDDLE, 3, &MIDDLE_LEFT));
+fn nine_are_closed_oldest_first(rt: HostRuntime) {
+    assert!(rt; are_closed(rt.alloc(), OLDEST, 4, OLDEST_LEFT));
+}
+
+#[test]
+fn nine_are_closed_newest_first(rt: HostRuntime) {
+    assert!(rt; are_closed(rt.alloc(), NEWEST, 3, NEWEST_LEFT));
+}
+
+#[test]
+fn nine_are_closed_from_the_middle(rt: HostRuntime) {
+    assert!(rt; are_closed(rt.alloc(), MIDDLE, 3, MIDDLE_LEFT));
 }
 
 /// How many subscriptions a topic has at once in `many_are_closed_in_three_orders`.
@@ -173,7 +187,7 @@ fn many_begin(alloc: Global, group: &mut Group<VecOutlet>) -> bool {
 }
 
 /// Two rows.
-const TWO_ROWS: [(Call, Answer); 6] = [
+const TWO_ROWS: &[(Call, Answer)] = &[
     (Propose(1, &[0], 0), Answer::Ticket(1)),
     (Propose(2, &[0], 0), Answer::Ticket(2)),
     (Learn(1, &[(0, 1)]), Done),
@@ -219,7 +233,7 @@ fn many_are_closed(alloc: Global, order: Order) -> bool {
     let mut group = Group::new(alloc, Topic(0), 0, 8);
     many_begin(alloc, &mut group)
         && group.open_len() == 300
-        && answers(alloc, &mut group, &TWO_ROWS)
+        && answers(alloc, &mut group, TWO_ROWS)
         && group.open_len() == 200
         && many_end(alloc, &mut group, order)
         && group.open_len() == 0

@@ -15,7 +15,7 @@ fn topic_answers(alloc: Global, limit: usize, rows: &[(Call, Answer)]) -> bool {
 }
 
 /// Of three parts two are released and drained; pending parts count for the limit still, and have room.
-const THREE: [(Call, Answer); 15] = [
+const THREE: &[(Call, Answer)] = &[
     (Propose(1, &[0], 0), Answer::Ticket(1)),
     (Propose(2, &[0], 0), Answer::Ticket(2)),
     (Propose(3, &[0], 0), Answer::Ticket(3)),
@@ -35,11 +35,11 @@ const THREE: [(Call, Answer); 15] = [
 
 #[test]
 fn pending_parts_count_after_a_drain(rt: HostRuntime) {
-    assert!(rt; topic_answers(rt.alloc(), 3, &THREE));
+    assert!(rt; topic_answers(rt.alloc(), 3, THREE));
 }
 
 /// Drains between releases change nothing that three subscriptions show: 8 lags, and 9 begins after a drain.
-const SUBSCRIBED: [(Call, Answer); 25] = [
+const SUBSCRIBED: &[(Call, Answer)] = &[
     (Subscribe(7, 4), From(0)),
     (Subscribe(8, 1), From(0)),
     (Propose(1, &[0], 0), Answer::Ticket(1)),
@@ -69,5 +69,5 @@ const SUBSCRIBED: [(Call, Answer); 25] = [
 
 #[test]
 fn subscriptions_show_what_they_showed(rt: HostRuntime) {
-    assert!(rt; topic_answers(rt.alloc(), 8, &SUBSCRIBED));
+    assert!(rt; topic_answers(rt.alloc(), 8, SUBSCRIBED));
 }

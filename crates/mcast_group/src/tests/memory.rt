@@ -8,6 +8,29 @@ use mcast_txn::Topic;
 use std::alloc::Global;
 use sub_queue::VecOutlet;
 
+/// Whether a proposal gets ticket 8, if there was memory for its part.
+fn gets_8(alloc: Global, group: &mut Group<VecOutlet>) -> bool {
+    match propose(alloc, group, id(1), &[0, 1], 0) {
+        Some(answer) => proposed(answer) == Answer::Ticket(8),
+        None => true,
+    }
+}
+
+/// Whether a proposal gets ticket 8 at once, or is refused by 42, and the topic is as it was, and the same proposal gets
+/// it then; if there was memory for its part.
+fn gets_8_at_last(alloc: Global, group: &mut Group<VecOutlet>) -> bool {
+    match propose(alloc, group, id(1), &[0, 1], 0) {
+        Some(Ok(ticket)) => proposed(Ok(ticket)) == Answer::Ticket(8),
+        Some(Err(fault)) => {
+            fault == ProposeFault::NoMemory
+                && group.clock() == 7
+                && group.pending_len() == 0
+                && gets_8(alloc, group)
+        }
+        None => true,
+    }
+}
+
 /// With one allocation refused (`rt try --test --fail-alloc N`) a proposal is refused by 42, the topic is as it was,
 /// and the same proposal is then accepted; with ample memory it is accepted at once.
 #[test]
@@ -15,19 +38,7 @@ fn running_out_of_memory_changes_nothing(rt: HostRuntime) {
     let alloc = rt.alloc();
     for _ in 0..4u8 {
         let mut group = Group::new(alloc, Topic(0), 7, 1);
-        let Some(answer) = propose(alloc, &mut group, id(1), &[0, 1], 0) else {
-            continue;
-        };
-        let Err(fault) = answer else {
-            assert!(rt; proposed(answer) == Answer::Ticket(8));
-            continue;
-        };
-        assert!(rt; fault == ProposeFault::NoMemory);
-        assert!(rt; group.clock() == 7);
-        assert!(rt; group.pending_len() == 0);
-        if let Some(again) = propose(alloc, &mut group, id(1), &[0, 1], 0) {
-            assert!(rt; proposed(again) == Answer::Ticket(8));
-        }
+        assert!(rt; gets_8_at_last(alloc, &mut group));
     }
 }
 
@@ -79,7 +90,7 @@ fn answers_at_last(
 }
 
 /// What follows with three subscriptions and two parts: each gets both.
-const EACH_GETS_BOTH: [(Call, Answer); 13] = [
+const EACH_GETS_BOTH: &[(Call, Answer)] = &[
     (Learn(2, &[(0, 2)]), Done),
     (Learn(1, &[(0, 1)]), Done),
     (Release, Released(1, 1, 0)),
@@ -97,7 +108,7 @@ const EACH_GETS_BOTH: [(Call, Answer); 13] = [
 
 /// Whether each of three subscriptions gets both parts.
 fn each_gets_both(alloc: Global, group: &mut Group<VecOutlet>) -> bool {
-    for &(call, wanted) in &EACH_GETS_BOTH {
+    for &(call, wanted) in EACH_GETS_BOTH {
         match at_last(alloc, group, call, 0) {
             Some((answer, _)) if answer == wanted => {}
             _ => return false,
@@ -107,7 +118,7 @@ fn each_gets_both(alloc: Global, group: &mut Group<VecOutlet>) -> bool {
 }
 
 /// Three subscriptions, and then two proposals.
-const PROPOSALS: [(Call, u64, Answer); 5] = [
+const PROPOSALS: &[(Call, u64, Answer)] = &[
     (Subscribe(0, 4), 0, From(0)),
     (Subscribe(1, 4), 1, From(0)),
     (Subscribe(2, 4), 2, From(0)),
@@ -121,12 +132,12 @@ const PROPOSALS: [(Call, u64, Answer); 5] = [
 fn proposals_with_three_subscriptions(rt: HostRuntime) {
     let alloc = rt.alloc();
     let mut group = Group::new(alloc, Topic(0), 0, 8);
-    assert!(rt; answers_at_last(alloc, &mut group, &PROPOSALS));
+    assert!(rt; answers_at_last(alloc, &mut group, PROPOSALS));
     assert!(rt; each_gets_both(alloc, &mut group));
 }
 
 /// Two proposals, and then three subscriptions.
-const SUBSCRIPTIONS: [(Call, u64, Answer); 5] = [
+const SUBSCRIPTIONS: &[(Call, u64, Answer)] = &[
     (Propose(1, &[0], 0), 0, Answer::Ticket(1)),
     (Propose(2, &[0], 0), 0, Answer::Ticket(2)),
     (Subscribe(0, 4), 0, From(0)),
@@ -139,12 +150,12 @@ const SUBSCRIPTIONS: [(Call, u64, Answer); 5] = [
 fn subscriptions_with_pending_parts(rt: HostRuntime) {
     let alloc = rt.alloc();
     let mut group = Group::new(alloc, Topic(0), 0, 8);
-    assert!(rt; answers_at_last(alloc, &mut group, &SUBSCRIPTIONS));
+    assert!(rt; answers_at_last(alloc, &mut group, SUBSCRIPTIONS));
     assert!(rt; each_gets_both(alloc, &mut group));
 }
 
 /// Three pending parts, of which two are released; the log is drained, and so is the third's row after it.
-const DRAINS: [(Call, u64, Answer); 12] = [
+const DRAINS: &[(Call, u64, Answer)] = &[
     (Propose(1, &[0], 0), 0, Answer::Ticket(1)),
     (Propose(2, &[0], 0), 0, Answer::Ticket(2)),
     (Propose(3, &[0], 0), 0, Answer::Ticket(3)),
@@ -165,5 +176,5 @@ const DRAINS: [(Call, u64, Answer); 12] = [
 fn drains_with_a_pending_part(rt: HostRuntime) {
     let alloc = rt.alloc();
     let mut group = Group::new(alloc, Topic(0), 0, 3);
-    assert!(rt; answers_at_last(alloc, &mut group, &DRAINS));
+    assert!(rt; answers_at_last(alloc, &mut group, DRAINS));
 }

@@ -4,7 +4,7 @@ use super::calls::{
     Answer, SHOWN, cancelled, drained, id, learnt, propose, proposed, released, state, subscribed,
     taken, turned, unsubscribed,
 };
-use super::made::{Draws, MadeCall};
+use super::made::{Drawn, Draws, MadeCall};
 use super::plain::Past;
 use crate::{Cause, Group};
 use mcast_txn::Topic;
@@ -21,28 +21,35 @@ const OPENING: u64 = 3;
 
 const LIMIT: usize = SHOWN;
 
+/// What the topic answers to a made verdict.
+fn learnt_made(alloc: Global, group: &mut Group<VecOutlet>, made: Drawn) -> Option<Answer> {
+    let rows = [(0, made.own), (1, made.other)];
+    learnt(alloc, group, id(made.seq), &rows)
+}
+
+/// How many parts a turn releases that finds two made verdicts.
+fn turned_made(
+    alloc: Global,
+    group: &mut Group<VecOutlet>,
+    first: Drawn,
+    second: Drawn,
+) -> Option<Answer> {
+    let one = [(0, first.own), (1, first.other)];
+    let other = [(0, second.own), (1, second.other)];
+    let count = turned(alloc, group, (first.seq, &one), (second.seq, &other))?;
+    Some(Answer::Turned(count))
+}
+
 /// What the topic answers to a call; nothing where memory ran out before it.
 fn reply(alloc: Global, group: &mut Group<VecOutlet>, call: MadeCall) -> Option<Answer> {
     match call {
         MadeCall::Propose(seq, floor) => {
             Some(proposed(propose(alloc, group, id(seq), &[0, 1], floor)?))
         }
-        MadeCall::Learn(made) => {
-            learnt(
-                alloc,
-                group,
-                id(made.seq),
-                &[(0, made.own), (1, made.other)],
-            )
-        }
+        MadeCall::Learn(made) => learnt_made(alloc, group, made),
         MadeCall::Cancel(seq) => Some(cancelled(group, id(seq))),
         MadeCall::Release => Some(released(group)),
-        MadeCall::Turn(first, second) => Some(Answer::Turned(turned(
-            alloc,
-            group,
-            (first.seq, &[(0, first.own), (1, first.other)]),
-            (second.seq, &[(0, second.own), (1, second.other)]),
-        )?)),
+        MadeCall::Turn(first, second) => turned_made(alloc, group, first, second),
         MadeCall::Subscribe(number, capacity) => Some(subscribed(alloc, group, number, capacity)),
         MadeCall::Unsubscribe(number) => Some(unsubscribed(group, number)),
         MadeCall::Take(number) => taken(group, number),

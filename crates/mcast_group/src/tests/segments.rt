@@ -48,17 +48,25 @@ fn held(group: &Group<VecOutlet>, i: usize) -> Option<u64> {
     Some(group.held(i)?.id.seq)
 }
 
+/// Indices of rows, the last of which is the last of 600.
+const INDICES: &[usize] = &[0, 1, 254, 255, 256, 257, 510, 511, 512, 513, 599];
+
+/// Whether the log has 600 rows, of which each of these is that of the seq of its index.
+fn has_600(group: &Group<VecOutlet>) -> bool {
+    for &i in INDICES {
+        if held(group, i) != Some(i as u64) {
+            return false;
+        }
+    }
+    group.held_len() == 600 && held(group, 600).is_none() && held(group, usize::MAX).is_none()
+}
+
 #[test]
 fn rows_are_found_in_their_segments(rt: HostRuntime) {
     let alloc = rt.alloc();
     let mut group = Group::new(alloc, Topic(0), 0, 1000);
     assert!(rt; are_released(alloc, &mut group, 0, 600));
-    assert!(rt; group.held_len() == 600);
-    for i in [0, 1, 254, 255, 256, 257, 510, 511, 512, 513, 599] {
-        assert!(rt; held(&group, i) == Some(i as u64));
-    }
-    assert!(rt; held(&group, 600) == None);
-    assert!(rt; held(&group, usize::MAX) == None);
+    assert!(rt; has_600(&group));
 }
 
 /// The seq of the drained row at an index.

@@ -29,34 +29,52 @@ fn taken<R: Wait>(rt: &R, taker: &mut Taker) -> Option<u64> {
     Some(item.part.id().seq)
 }
 
+/// Begins a subscription by a queue of capacity 2, whose taker is returned.
+fn subscribed<R: Wait>(alloc: Global, group: &mut Group<Source<R>>) -> Option<Taker> {
+    let (source, taker) = ruled::<R>(alloc, 2).ok()?;
+    group.subscribe(7, source).ok()?;
+    Some(taker)
+}
+
+/// Enters three transactions.
+fn enter_three<R: Wait>(alloc: Global, group: &mut Group<Source<R>>) -> Option<()> {
+    for seq in 1..4 {
+        enter(alloc, group, seq)?;
+    }
+    Some(())
+}
+
+/// What three releases give.
+fn three_released<R: Wait>(rt: &R, group: &mut Group<Source<R>>) -> [Option<u64>; 3] {
+    [
+        released(rt, group),
+        released(rt, group),
+        released(rt, group),
+    ]
+}
+
+/// What three takes give.
+fn three_taken<R: Wait>(rt: &R, taker: &mut Taker) -> [Option<u64>; 3] {
+    [taken(rt, taker), taken(rt, taker), taken(rt, taker)]
+}
+
 /// What three releases and takes give, at a topic with one subscription, of a queue of capacity 2; and its state then.
 fn three_at_capacity_two<R: Wait>(
     rt: &R,
     alloc: Global,
 ) -> Option<([Option<u64>; 3], [Option<u64>; 3], Option<SubState>)> {
-    let (source, mut taker) = ruled::<R>(alloc, 2).ok()?;
     let mut group = Group::new(alloc, Topic(0), 0, 8);
-    group.subscribe(7, source).ok()?;
-    for seq in 1..4 {
-        enter(alloc, &mut group, seq)?;
-    }
-    let releases = [
-        released(rt, &mut group),
-        released(rt, &mut group),
-        released(rt, &mut group),
-    ];
-    let takes = [
-        taken(rt, &mut taker),
-        taken(rt, &mut taker),
-        taken(rt, &mut taker),
-    ];
+    let mut taker = subscribed(alloc, &mut group)?;
+    enter_three(alloc, &mut group)?;
+    let releases = three_released(rt, &mut group);
+    let takes = three_taken(rt, &mut taker);
     Some((releases, takes, group.state(7)))
 }
 
 #[test]
 fn a_full_queue_of_two_threads_lags(rt: HostRuntime) {
-    let (releases, takes, state) = three_at_capacity_two(&rt, rt.alloc()).expect(&rt, "memory");
-    assert!(rt; releases == [Some(1), Some(2), Some(3)]);
-    assert!(rt; takes == [Some(1), Some(2), None]);
-    assert!(rt; state == Some(SubState::Lag(stamp(2, 0))));
+    let releases = [Some(1), Some(2), Some(3)];
+    let takes = [Some(1), Some(2), None];
+    let state = Some(SubState::Lag(stamp(2, 0)));
+    assert!(rt; three_at_capacity_two(&rt, rt.alloc()) == Some((releases, takes, state)));
 }

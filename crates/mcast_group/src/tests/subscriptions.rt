@@ -15,7 +15,7 @@ fn topic_answers(alloc: Global, rows: &[(Call, Answer)]) -> bool {
 }
 
 /// Three rows and a queue of two items, of which none was taken, and one that begins after the first row.
-const LAG: [(Call, Answer); 24] = [
+const LAG: &[(Call, Answer)] = &[
     (Subscribe(7, 2), From(0)),
     (Subscribe(7, 2), Fault(47)),
     (Propose(1, &[0], 0), Answer::Ticket(1)),
@@ -42,16 +42,19 @@ const LAG: [(Call, Answer); 24] = [
     (Unsubscribe(8), Left(3, Cause::Asked, 2)),
 ];
 
+/// Whether a topic answers as it does there, and holds three rows then.
+fn lags(alloc: Global) -> bool {
+    let mut group = Group::new(alloc, Topic(0), 0, 8);
+    answers(alloc, &mut group, LAG) && group.held_len() == 3
+}
+
 #[test]
 fn a_full_queue_lags(rt: HostRuntime) {
-    let alloc = rt.alloc();
-    let mut group = Group::new(alloc, Topic(0), 0, 8);
-    assert!(rt; answers(alloc, &mut group, &LAG));
-    assert!(rt; group.held_len() == 3);
+    assert!(rt; lags(rt.alloc()));
 }
 
 /// Queues of two items, step by step.
-const IN_STEPS: [(Call, Answer); 20] = [
+const IN_STEPS: &[(Call, Answer)] = &[
     (Propose(1, &[0], 0), Answer::Ticket(1)),
     (Propose(2, &[0], 0), Answer::Ticket(2)),
     (Propose(3, &[0], 0), Answer::Ticket(3)),
@@ -76,11 +79,11 @@ const IN_STEPS: [(Call, Answer); 20] = [
 
 #[test]
 fn queues_step_by_step(rt: HostRuntime) {
-    assert!(rt; topic_answers(rt.alloc(), &IN_STEPS));
+    assert!(rt; topic_answers(rt.alloc(), IN_STEPS));
 }
 
 /// A lagged subscription gets no row after it, though its items were taken and its queue has room.
-const LAGGED: [(Call, Answer); 11] = [
+const LAGGED: &[(Call, Answer)] = &[
     (Subscribe(7, 1), From(0)),
     (Propose(1, &[0], 0), Answer::Ticket(1)),
     (Propose(2, &[0], 0), Answer::Ticket(2)),
@@ -92,31 +95,18 @@ const LAGGED: [(Call, Answer); 11] = [
     (Release, Released(2, 2, 0)),
     (Take(7), Took(1)),
     (Release, Released(3, 3, 0)),
+    (State(7), Lagged(1)),
+    (Take(7), Nothing),
+    (Unsubscribe(7), Left(1, Cause::Lag, 1)),
 ];
 
 #[test]
 fn a_lagged_one_gets_no_more(rt: HostRuntime) {
-    let alloc = rt.alloc();
-    let mut group = Group::new(alloc, Topic(0), 0, 8);
-    assert!(rt; answers(alloc, &mut group, &LAGGED));
-    assert!(rt;
-        answers(
-            alloc,
-            &mut group,
-            &[(State(7), Lagged(1)), (Take(7), Nothing)]
-        )
-    );
-    assert!(rt;
-        answers(
-            alloc,
-            &mut group,
-            &[(Unsubscribe(7), Left(1, Cause::Lag, 1))]
-        )
-    );
+    assert!(rt; topic_answers(rt.alloc(), LAGGED));
 }
 
 /// A take between two releases keeps a full queue from lagging.
-const TAKES: [(Call, Answer); 12] = [
+const TAKES: &[(Call, Answer)] = &[
     (Subscribe(7, 1), From(0)),
     (Propose(1, &[0], 0), Answer::Ticket(1)),
     (Propose(2, &[0], 0), Answer::Ticket(2)),
@@ -133,11 +123,11 @@ const TAKES: [(Call, Answer); 12] = [
 
 #[test]
 fn a_take_keeps_a_full_queue_from_lagging(rt: HostRuntime) {
-    assert!(rt; topic_answers(rt.alloc(), &TAKES));
+    assert!(rt; topic_answers(rt.alloc(), TAKES));
 }
 
 /// A subscription that begins while three parts are pending gets all three, by stamp; one of them is decided already.
-const BEGINS_LATE: [(Call, Answer); 16] = [
+const BEGINS_LATE: &[(Call, Answer)] = &[
     (Propose(1, &[0, 1], 0), Answer::Ticket(1)),
     (Propose(2, &[0], 0), Answer::Ticket(2)),
     (Propose(3, &[0], 0), Answer::Ticket(3)),
@@ -158,11 +148,11 @@ const BEGINS_LATE: [(Call, Answer); 16] = [
 
 #[test]
 fn pending_parts_go_to_a_new_subscription(rt: HostRuntime) {
-    assert!(rt; topic_answers(rt.alloc(), &BEGINS_LATE));
+    assert!(rt; topic_answers(rt.alloc(), BEGINS_LATE));
 }
 
 /// A subscription that ends between learn and release gets nothing, and the part is released; its number is free then.
-const ENDS_BEFORE: [(Call, Answer); 11] = [
+const ENDS_BEFORE: &[(Call, Answer)] = &[
     (Subscribe(4, 8), From(0)),
     (Subscribe(5, 8), From(0)),
     (Propose(1, &[0], 0), Answer::Ticket(1)),
@@ -178,11 +168,11 @@ const ENDS_BEFORE: [(Call, Answer); 11] = [
 
 #[test]
 fn one_that_ends_before_a_release_gets_nothing(rt: HostRuntime) {
-    assert!(rt; topic_answers(rt.alloc(), &ENDS_BEFORE));
+    assert!(rt; topic_answers(rt.alloc(), ENDS_BEFORE));
 }
 
 /// A part that is taken out goes to nobody.
-const CANCELLED: [(Call, Answer); 7] = [
+const CANCELLED: &[(Call, Answer)] = &[
     (Subscribe(3, 1), From(0)),
     (Propose(1, &[0], 0), Answer::Ticket(1)),
     (Propose(2, &[0], 0), Answer::Ticket(2)),
@@ -194,11 +184,11 @@ const CANCELLED: [(Call, Answer); 7] = [
 
 #[test]
 fn a_part_that_is_taken_out_goes_to_nobody(rt: HostRuntime) {
-    assert!(rt; topic_answers(rt.alloc(), &CANCELLED));
+    assert!(rt; topic_answers(rt.alloc(), CANCELLED));
 }
 
 /// A topic of at most one part or row, with a second subscription of one number; its log is drained.
-const OF_ONE: [(Call, Answer); 11] = [
+const OF_ONE: &[(Call, Answer)] = &[
     (Subscribe(7, 1), From(0)),
     (Propose(1, &[0], 0), Answer::Ticket(1)),
     (Propose(2, &[0], 0), Fault(41)),
@@ -216,11 +206,11 @@ const OF_ONE: [(Call, Answer); 11] = [
 fn a_topic_of_one_part_is_full_until_its_row_is_drained(rt: HostRuntime) {
     let alloc = rt.alloc();
     let mut group = Group::new(alloc, Topic(0), 0, 1);
-    assert!(rt; answers(alloc, &mut group, &OF_ONE));
+    assert!(rt; answers(alloc, &mut group, OF_ONE));
 }
 
 /// A queue with room for nothing lags at the first row, and ends with the frontier before it.
-const OF_NONE: [(Call, Answer); 6] = [
+const OF_NONE: &[(Call, Answer)] = &[
     (Subscribe(7, 0), From(0)),
     (Propose(1, &[0], 0), Answer::Ticket(1)),
     (Learn(1, &[(0, 1)]), Done),
@@ -231,7 +221,7 @@ const OF_NONE: [(Call, Answer); 6] = [
 
 #[test]
 fn a_queue_of_no_room_lags_at_once(rt: HostRuntime) {
-    assert!(rt; topic_answers(rt.alloc(), &OF_NONE));
+    assert!(rt; topic_answers(rt.alloc(), OF_NONE));
 }
 
 /// Whether the subscription of this number is refused by 47, and its outlet is returned as it was.
@@ -302,7 +292,7 @@ fn all_end(alloc: Global, group: &mut Group<VecOutlet>) -> bool {
 }
 
 /// A row.
-const ONE_ROW: [(Call, Answer); 3] = [
+const ONE_ROW: &[(Call, Answer)] = &[
     (Propose(1, &[0], 0), Answer::Ticket(1)),
     (Learn(1, &[(0, 1)]), Done),
     (Release, Released(1, 1, 0)),
@@ -313,6 +303,6 @@ fn each_has_its_own_queue(rt: HostRuntime) {
     let alloc = rt.alloc();
     let mut group = Group::new(alloc, Topic(0), 0, 8);
     assert!(rt; all_begin(alloc, &mut group));
-    assert!(rt; answers(alloc, &mut group, &ONE_ROW));
+    assert!(rt; answers(alloc, &mut group, ONE_ROW));
     assert!(rt; all_end(alloc, &mut group));
 }
