@@ -1,6 +1,7 @@
 //! Inputs at the limit and past it.
 
 use super::peers::{Interrupted, LineFeeds, Target};
+use super::words::words_of;
 use broker_server::{Counting, Ending, run_relay, run_words};
 use std::alloc::{AllocError, Global};
 
@@ -44,13 +45,6 @@ fn at_the_limit(rt: HostRuntime) {
     }
 }
 
-/// The words `audit`.
-fn audit_words(alloc: Global) -> Result<Vec<String>, AllocError> {
-    let mut words = Vec::new(alloc);
-    words.push(String::from_str(alloc, "audit")?)?;
-    Ok(words)
-}
-
 /// Whether the program ends with this status, and tells this beside it.
 fn tells(alloc: Global, ended: &Ending, status: u8, line: &str) -> bool {
     let Some(detail) = &ended.detail else {
@@ -68,7 +62,7 @@ fn gives_up(
     reader: &mut Counting<Interrupted>,
     writer: &mut Counting<Target>,
 ) -> Result<bool, AllocError> {
-    let words = audit_words(alloc)?;
+    let words = words_of(alloc, &["audit"])?;
     let ended = run_words(alloc, Ok(words), reader, writer);
     let line = "reading: no end of the input after 16,777,218 reads";
     Ok(tells(alloc, &ended, 5, line))

@@ -3,7 +3,6 @@
 use super::peers::{Source, Target};
 use broker_server::{Counting, ProgramFault, run_relay};
 use std::alloc::{AllocError, Global};
-use std::test::Fail;
 
 /// An input, what is written of it, and the status.
 type Row = (&'static [u8], &'static [u8], u8);
@@ -106,22 +105,19 @@ const ERRORS: &[(&'static [u8], &'static [u8])] = &[
     (b"SEND\ncontent-length:1\n\nab", b"7 BadEnd"),
 ];
 
-/// What is written, and the status.
-fn relay(alloc: Global, input: &[u8], room: usize) -> Result<(Vec<u8>, u8), ProgramFault> {
+/// Whether this is written of the input, with this status.
+fn relays(alloc: Global, input: &[u8], output: &[u8], status: u8) -> Result<bool, ProgramFault> {
+    let mut writer = Counting::new(Target::with_room(alloc, 1024)?);
     let mut reader = Counting::new(Source::of(input));
-    let mut writer = Counting::new(Target::with_room(alloc, room)?);
-    let status = run_relay(alloc, b"A", &mut reader, &mut writer)?;
-    Ok((writer.inner.taken, status))
+    let ended = run_relay(alloc, b"A", &mut reader, &mut writer)?;
+    Ok(ended == status && writer.inner.taken.as_slice() == output)
 }
 
 #[test]
-fn streams(rt: HostRuntime) -> Result<(), Fail> {
+fn streams(rt: HostRuntime) {
     for &(input, output, status) in STREAMS {
-        let (written, ended) = relay(rt.alloc(), input, 1024)?;
-        assert!(rt; written.as_slice() == output);
-        assert!(rt; ended == status);
+        assert!(rt; relays(rt.alloc(), input, output, status) == Ok(true));
     }
-    Ok(())
 }
 
 /// The ERROR of this message, whose body is empty.
@@ -143,12 +139,6 @@ fn errors(rt: HostRuntime) {
     for &(input, message) in ERRORS {
         assert!(rt; is_answered(rt.alloc(), input, message) == Ok(true));
     }
-}
-
-/// Whether this is written of the input, with this status.
-fn relays(alloc: Global, input: &[u8], output: &[u8], status: u8) -> Result<bool, ProgramFault> {
-    let (written, ended) = relay(alloc, input, 1024)?;
-    Ok(ended == status && written.as_slice() == output)
 }
 
 /// Where a growth is refused, there is status 4 or the right output, and never another; the second time it is right.
