@@ -133,19 +133,19 @@ where
     Some(one?.saturating_add(two?))
 }
 
-/// Subscriptions one after another, each at a topic that is drawn, until the workers have ended.
-fn spans_drawn<R: Wait, W: Side, T: Side>(
+/// Adds subscriptions one after another, each at a topic that is drawn, until the workers have ended.
+fn add_drawn<R: Wait, W: Side, T: Side>(
     rt: &R,
     alloc: Global,
     broker: &Broker<R, W, T>,
     run: u32,
     stages: &Stages,
-) -> Option<Vec<Taken>> {
+    all: &mut Vec<Taken>,
+) -> Option<()> {
     let mut draws = Draws::of(run);
-    let mut all = Vec::new(alloc);
     for _ in 0..SPANS {
         if stages.are_committed() {
-            return Some(all);
+            return Some(());
         }
         let topic = Topic(draws.below(3));
         let begun = broker.subscribe(rt, topic).ok()?;
@@ -155,6 +155,19 @@ fn spans_drawn<R: Wait, W: Side, T: Side>(
         let taken = taken_between(rt, alloc, broker, topic, begun, draws.below(20))?;
         all.push(taken).ok()?;
     }
+    Some(())
+}
+
+/// All of them.
+fn spans_drawn<R: Wait, W: Side, T: Side>(
+    rt: &R,
+    alloc: Global,
+    broker: &Broker<R, W, T>,
+    run: u32,
+    stages: &Stages,
+) -> Option<Vec<Taken>> {
+    let mut all = Vec::new(alloc);
+    add_drawn(rt, alloc, broker, run, stages, &mut all)?;
     Some(all)
 }
 
