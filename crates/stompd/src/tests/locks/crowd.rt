@@ -235,12 +235,7 @@ where
             )
         },
     );
-    let (answers, taken) = both(answers, taken)?;
-    Some(Ran {
-        answers,
-        released: released?,
-        taken,
-    })
+    Ran::of(answers, released, taken)
 }
 
 /// What a run with six threads gives: how many rows were released, by the heads and by a last turn of each topic; how many
@@ -291,6 +286,21 @@ fn taken_last<R: Wait, W: Side, T: Side>(
 }
 
 impl Ran {
+    /// What the threads did, where all went to their ends.
+    fn of(
+        answers: Option<Answers>,
+        released: Option<u64>,
+        taken: Option<(Vec<Taken>, Vec<Taken>)>,
+    ) -> Option<Ran> {
+        let released = released?;
+        let (answers, taken) = both(answers, taken)?;
+        Some(Ran {
+            answers,
+            released,
+            taken,
+        })
+    }
+
     /// What it leaves, where the last turns released so many rows and this was read at the end.
     fn ended(self, last: u64, unread: Taken) -> Ended {
         let Ran {

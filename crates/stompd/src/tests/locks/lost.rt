@@ -147,8 +147,8 @@ impl Write for Line<'_> {
     }
 }
 
-/// How a connection left: the stamp of its held commit, what its last write came to, why it left, and whether its peer has
-/// read its CONNECTED alone.
+/// How a connection left: the stamp of its held commit, what its last write came to, why it left, and whether its first write
+/// went out and its peer has read its CONNECTED alone.
 #[derive(Clone, Copy, PartialEq, Eq)]
 struct Left {
     stamp: Option<Stamp>,
@@ -178,7 +178,7 @@ fn converse<R: Wait, W: Side, T: Side>(
     };
     let mut talk = Conversation::new(alloc, 4);
     talk.hear(&mut calls, CONNECT);
-    talk.drain(&mut line).ok()?;
+    let connected = talk.drain(&mut line);
     talk.hear(&mut calls, COMMIT);
     let wrote = talk.drain(&mut line);
     talk.lose(&mut calls);
@@ -186,7 +186,7 @@ fn converse<R: Wait, W: Side, T: Side>(
         stamp: calls.stamp,
         wrote,
         exit: talk.exit(),
-        is_connected: line.taken.as_slice() == CONNECTED,
+        is_connected: connected.is_ok() && line.taken.as_slice() == CONNECTED,
     })
 }
 

@@ -32,6 +32,20 @@ struct Crossing {
     subscribed: bool,
 }
 
+/// Whether there is a subscription at each topic, where there is to be one; then they cross, and both heads turn.
+fn cross<R: Wait, W: Side, T: Side>(
+    rt: &R,
+    alloc: Global,
+    broker: &Broker<R, W, T>,
+    subscribed: bool,
+) -> bool {
+    let is_begun = !subscribed
+        || (broker.subscribe(rt, Topic(0)).is_ok() && broker.subscribe(rt, Topic(1)).is_ok());
+    commit_overtaken(rt, alloc, broker, &[0, 1]);
+    heads(rt, broker);
+    is_begun
+}
+
 /// The trace that they leave at this broker.
 fn trace_of<R: Wait, W: Side, T: Side>(
     rt: &R,
@@ -39,13 +53,11 @@ fn trace_of<R: Wait, W: Side, T: Side>(
     broker: Broker<R, W, T>,
     subscribed: bool,
 ) -> Option<Trace> {
-    if subscribed {
-        broker.subscribe(rt, Topic(0)).ok()?;
-        broker.subscribe(rt, Topic(1)).ok()?;
+    if cross(rt, alloc, &broker, subscribed) {
+        broker.into_trace().ok()
+    } else {
+        None
     }
-    commit_overtaken(rt, alloc, &broker, &[0, 1]);
-    heads(rt, &broker);
-    broker.into_trace().ok()
 }
 
 impl<R: Wait> Job<R> for Crossing {
