@@ -155,7 +155,7 @@ fn other_verdict(alloc: Global, flying: &Flying) -> Option<Box<Verdict>> {
 }
 
 /// One that sets it.
-fn meddler(alloc: Global, flying: &Flying) -> Option<Meddler> {
+fn meddling(alloc: Global, flying: &Flying) -> Option<Meddler> {
     let flight = flying.flight().clone().ok()?;
     Some(Meddler {
         flight,
@@ -170,7 +170,7 @@ fn answer_to_meddler<R: Abort>(
 ) -> Option<(Result<Stamp, CommitFault>, Stamp, [Option<Call>; 8])> {
     let gate = Gate::resume(Sender(4), 6, stamp(10, 0));
     let flying = begun(alloc, gate, &[0, 1])?;
-    let mut point = meddler(alloc, &flying)?;
+    let mut point = meddling(alloc, &flying)?;
     let mut fake = Fake::new(rt, alloc, [3, 10, 20, 0], None);
     let (answer, floor) = match commit_on(flying, &mut fake, &mut point) {
         Ok((gate, stamp, _note)) => (Ok(stamp), gate.floor()),

@@ -208,7 +208,7 @@ struct Found {
 }
 
 /// What is found of subscription 5 at this place, where three transactions are entered, decided and turned.
-fn found<R: Wait>(rt: &R, alloc: Global, place: &mut Place<R>, taker: &mut Taker) -> Option<Found> {
+fn found_at<R: Wait>(rt: &R, alloc: Global, place: &mut Place<R>, taker: &mut Taker) -> Option<Found> {
     let before = place.state(5);
     if !are_turned(rt, alloc, place) {
         return None;
@@ -229,7 +229,7 @@ fn found<R: Wait>(rt: &R, alloc: Global, place: &mut Place<R>, taker: &mut Taker
 fn lagged<R: Wait>(rt: &R, alloc: Global) -> Option<Found> {
     let mut place: Place<R> = Place::new(alloc, Topic(0), 0, 8, false);
     let mut taker = begin(alloc, &mut place, 5)?;
-    found(rt, alloc, &mut place, &mut taker)
+    found_at(rt, alloc, &mut place, &mut taker)
 }
 
 #[test]
