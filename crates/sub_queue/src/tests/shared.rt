@@ -58,7 +58,9 @@ impl Seen {
     fn and(self, item: &Released) -> Seen {
         Seen {
             items: self.items.saturating_add(1),
-            in_order: self.in_order && item.part.id().seq == self.items && item.stamp.n == self.items,
+            in_order: self.in_order
+                && item.part.id().seq == self.items
+                && item.stamp.n == self.items,
         }
     }
 }

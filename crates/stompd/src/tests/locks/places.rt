@@ -208,7 +208,12 @@ struct Found {
 }
 
 /// What is found of subscription 5 at this place, where three transactions are entered, decided and turned.
-fn found_at<R: Wait>(rt: &R, alloc: Global, place: &mut Place<R>, taker: &mut Taker) -> Option<Found> {
+fn found_at<R: Wait>(
+    rt: &R,
+    alloc: Global,
+    place: &mut Place<R>,
+    taker: &mut Taker,
+) -> Option<Found> {
     let before = place.state(5);
     if !are_turned(rt, alloc, place) {
         return None;
