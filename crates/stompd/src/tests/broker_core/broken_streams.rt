@@ -60,6 +60,15 @@ fn is_lost(alloc: Global, net: &mut Net, has_subscribed: bool) -> Result<bool, N
     Ok(lost == Outcome::Leaving && left == (Outcome::Gone { cut: false }))
 }
 
+/// Whether this core has done so many whole frames, its connection is lost then, and none left a row.
+fn has_no_row(alloc: Global, net: &mut Net, whole: usize) -> Result<bool, NoMemory> {
+    Ok(
+        read(alloc, net)? == Some(whole)
+            && is_lost(alloc, net, whole >= 2)?
+            && net.report().commits_len() == 0,
+    )
+}
+
 /// Whether each frame that is whole before this place of the stream has its effect, where the connection is lost there, and
 /// none leaves a row.
 fn leaves_no_row(alloc: Global, at: usize) -> Result<bool, NoMemory> {
@@ -67,12 +76,7 @@ fn leaves_no_row(alloc: Global, at: usize) -> Result<bool, NoMemory> {
         return Ok(false);
     };
     let mut net = fed(alloc, Octets::from_slice(alloc, octets)?)?;
-    let whole = nulls(octets);
-    Ok(
-        read(alloc, &mut net)? == Some(whole)
-            && is_lost(alloc, &mut net, whole >= 2)?
-            && net.report().commits_len() == 0,
-    )
+    has_no_row(alloc, &mut net, nulls(octets))
 }
 
 #[test]
@@ -102,13 +106,18 @@ fn changed(alloc: Global, at: usize, octet: u8) -> Result<Octets, NoMemory> {
     Ok(changed)
 }
 
-/// Whether the rest of the run goes on behind a changed stream, and the audit of its trace is a yes.
-fn audits_to_yes(alloc: Global, at: usize, octet: u8) -> Result<bool, NoMemory> {
-    let mut net = fed(alloc, changed(alloc, at, octet)?)?;
+/// Whether the rest of the run goes on at this core, and the audit of its trace is a yes.
+fn goes_on(alloc: Global, net: &mut Net) -> Result<bool, NoMemory> {
     for &(ask, _) in leading().rows.iter().skip(2) {
-        step(alloc, &mut net, ask)?;
+        step(alloc, net, ask)?;
     }
     Ok(audit(alloc, &net.trace()?).is_ok())
+}
+
+/// The same behind a changed stream.
+fn audits_to_yes(alloc: Global, at: usize, octet: u8) -> Result<bool, NoMemory> {
+    let mut net = fed(alloc, changed(alloc, at, octet)?)?;
+    goes_on(alloc, &mut net)
 }
 
 /// Whether it is so with each of OCTETS at this place.

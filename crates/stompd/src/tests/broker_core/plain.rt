@@ -45,29 +45,36 @@ fn is_item(item: &QueueItem, seq: u64, indices: &[u32]) -> bool {
         .all(|(send, index)| send.index == *index)
 }
 
+/// Whether the rows of two transactions, the second with the lesser stamp, come by their stamps.
+fn are_sorted(alloc: Global) -> Result<bool, AllocError> {
+    let mut rows = Vec::new(alloc);
+    rows.push(row(alloc, 1, &[0, 1], stamp(2, 1))?)?;
+    rows.push(row(alloc, 2, &[0, 1], stamp(2, 0))?)?;
+    match agreed(alloc, rows) {
+        Ok(sorted) => Ok(sorted.len() == 2 && sorted[0].id.seq == 2 && sorted[1].id.seq == 1),
+        Err(_) => Ok(false),
+    }
+}
+
 #[test]
 fn rows_come_by_stamp(rt: HostRuntime) -> Result<(), Fail> {
-    let mut rows = Vec::new(rt.alloc());
-    rows.push(row(rt.alloc(), 1, &[0, 1], stamp(2, 1))?)?;
-    rows.push(row(rt.alloc(), 2, &[0, 1], stamp(2, 0))?)?;
-    let Ok(sorted) = agreed(rt.alloc(), rows) else {
-        return Err(Fail::new("no memory"));
-    };
-    assert!(rt; sorted.len() == 2);
-    assert!(rt; sorted[0].id.seq == 2);
-    assert!(rt; sorted[1].id.seq == 1);
+    assert!(rt; are_sorted(rt.alloc())?);
     Ok(())
+}
+
+/// Whether, of two transactions, what is due from topic 0 up to a stamp is the part there of the one at that stamp, whole.
+fn is_due_whole(alloc: Global) -> Result<bool, AllocError> {
+    let mut rows = Vec::new(alloc);
+    rows.push(row(alloc, 2, &[1], stamp(2, 1))?)?;
+    rows.push(row(alloc, 1, &[0, 1, 0], stamp(1, 1))?)?;
+    match due(alloc, rows, Topic(0), Stamp::ZERO, None, stamp(1, 1)) {
+        Ok(items) => Ok(items.len() == 1 && is_item(&items[0], 1, &[0, 2])),
+        Err(_) => Ok(false),
+    }
 }
 
 #[test]
 fn whole_parts_are_due(rt: HostRuntime) -> Result<(), Fail> {
-    let mut rows = Vec::new(rt.alloc());
-    rows.push(row(rt.alloc(), 2, &[1], stamp(2, 1))?)?;
-    rows.push(row(rt.alloc(), 1, &[0, 1, 0], stamp(1, 1))?)?;
-    let Ok(items) = due(rt.alloc(), rows, Topic(0), Stamp::ZERO, None, stamp(1, 1)) else {
-        return Err(Fail::new("no memory"));
-    };
-    assert!(rt; items.len() == 1);
-    assert!(rt; is_item(&items[0], 1, &[0, 2]));
+    assert!(rt; is_due_whole(rt.alloc())?);
     Ok(())
 }

@@ -72,16 +72,24 @@ fn is_fault(outcome: Outcome, number: u32) -> bool {
     matches!(outcome, Outcome::Faulted { fault, cut: false } if fault.number() == number)
 }
 
+/// Whether one more is refused by 69, and the connection reads nothing then.
+fn is_refused(alloc: Global, net: &mut Net) -> Result<bool, NoMemory> {
+    Ok(
+        is_fault(subscribe(alloc, net, MOST)?, 69)
+            && step(net, Event::Next(0))? == Outcome::Refused(Refusal::Busy)
+            && net.report().subscriptions_len() == 64,
+    )
+}
+
+/// Whether the connection has 64 subscriptions and not one more, which are closed then.
+fn has_64(alloc: Global, net: &mut Net) -> Result<bool, NoMemory> {
+    Ok(all_subscribe(alloc, net)? && is_refused(alloc, net)? && all_leave(net)?)
+}
+
 #[test]
 fn a_65th_subscription_is_one_too_many(rt: HostRuntime) -> Result<(), Fail> {
     let mut net = connected(rt.alloc())?;
-    assert!(rt; all_subscribe(rt.alloc(), &mut net)?);
-    let outcome = subscribe(rt.alloc(), &mut net, MOST)?;
-    assert!(rt; is_fault(outcome, 69));
-    let outcome = step(&mut net, Event::Next(0))?;
-    assert!(rt; outcome == Outcome::Refused(Refusal::Busy));
-    assert!(rt; net.report().subscriptions_len() == 64);
-    assert!(rt; all_leave(&mut net)?);
+    assert!(rt; has_64(rt.alloc(), &mut net)?);
     Ok(())
 }
 
@@ -117,14 +125,20 @@ fn wrong_queue(net: &Net) -> Option<usize> {
     (0..65usize).find(|s| !has_accepted(net, *s, usize::from(*s != 37 && *s != 64)))
 }
 
+/// Whether an UNSUBSCRIBE of id 37 ends its subscription alone, and one that finds none is refused by 64.
+fn ends_alone(alloc: Global, net: &mut Net) -> Result<bool, NoMemory> {
+    Ok(
+        all_subscribe(alloc, net)?
+            && ends_twice(alloc, net)?
+            && is_sent(alloc, net)?
+            && wrong_queue(net).is_none()
+            && is_fault(unsubscribe(alloc, net, 37)?, 64),
+    )
+}
+
 #[test]
 fn an_unsubscribe_among_64(rt: HostRuntime) -> Result<(), Fail> {
     let mut net = connected(rt.alloc())?;
-    assert!(rt; all_subscribe(rt.alloc(), &mut net)?);
-    assert!(rt; ends_twice(rt.alloc(), &mut net)?);
-    assert!(rt; is_sent(rt.alloc(), &mut net)?);
-    assert!(rt; wrong_queue(&net) == None);
-    let outcome = unsubscribe(rt.alloc(), &mut net, 37)?;
-    assert!(rt; is_fault(outcome, 64));
+    assert!(rt; ends_alone(rt.alloc(), &mut net)?);
     Ok(())
 }

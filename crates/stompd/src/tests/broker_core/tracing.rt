@@ -114,10 +114,15 @@ fn is_answered(alloc: Global, trace: &Trace, text: &[u8]) -> Result<bool, NoMemo
 /// How many runs have a trace.
 const TRACED_LEN: usize = 12;
 
+/// Whether the trace has this text, and the audit of it this answer.
+fn has_both(alloc: Global, trace: &Trace, text: &[u8], answer: &[u8]) -> Result<bool, NoMemory> {
+    Ok(has_text(alloc, trace, text)? && is_answered(alloc, trace, answer)?)
+}
+
 /// Whether the run's trace has its text, and the audit of it the answer.
 fn is_traced(alloc: Global, traced: &Traced) -> Result<bool, NoMemory> {
     let trace = stepped(alloc, traced.run)?.trace()?;
-    Ok(has_text(alloc, &trace, traced.trace)? && is_answered(alloc, &trace, traced.answer)?)
+    has_both(alloc, &trace, traced.trace, traced.answer)
 }
 
 #[test]
@@ -139,22 +144,34 @@ fn whole(alloc: Global, run: &Run) -> Result<Net, NoMemory> {
     stepped(alloc, run)
 }
 
+/// The core's trace, made again where there was no memory; nothing where the core isn't as it was then.
+fn trace_at_last(alloc: Global, net: &Net, report: &str) -> Result<Option<Trace>, NoMemory> {
+    match net.trace() {
+        Ok(trace) => Ok(Some(trace)),
+        Err(NoMemory) => {
+            if !is_told(alloc, &net.report(), report)? {
+                return Ok(None);
+            }
+            Ok(Some(net.trace()?))
+        }
+    }
+}
+
+/// Whether the trace's text is this, which is written again where there was no memory.
+fn has_text_at_last(alloc: Global, trace: &Trace, text: &[u8]) -> Result<bool, NoMemory> {
+    match has_text(alloc, trace, text) {
+        Ok(is_right) => Ok(is_right),
+        Err(NoMemory) => has_text(alloc, trace, text),
+    }
+}
+
 /// A trace that finds no memory leaves the net as it was, and can be made again. It holds whichever one allocation fails
 /// (`rt try --test --fail-alloc N`).
 fn is_traced_at_last(alloc: Global, traced: &Traced) -> Result<bool, NoMemory> {
     let net = whole(alloc, traced.run)?;
-    let trace = match net.trace() {
-        Ok(trace) => trace,
-        Err(NoMemory) => {
-            if !is_told(alloc, &net.report(), traced.run.report)? {
-                return Ok(false);
-            }
-            net.trace()?
-        }
-    };
-    match has_text(alloc, &trace, traced.trace) {
-        Ok(is_right) => Ok(is_right),
-        Err(NoMemory) => has_text(alloc, &trace, traced.trace),
+    match trace_at_last(alloc, &net, traced.run.report)? {
+        Some(trace) => has_text_at_last(alloc, &trace, traced.trace),
+        None => Ok(false),
     }
 }
 
@@ -175,7 +192,6 @@ fn each_trace_without_memory(rt: HostRuntime) -> Result<(), Fail> {
 fn a_net_without_events_has_an_empty_trace(rt: HostRuntime) -> Result<(), Fail> {
     let net = Net::new(rt.alloc(), Topics::new(rt.alloc()), 1)?;
     let trace = net.trace()?;
-    assert!(rt; has_text(rt.alloc(), &trace, b"")?);
-    assert!(rt; is_answered(rt.alloc(), &trace, b"complete\n")?);
+    assert!(rt; has_both(rt.alloc(), &trace, b"", b"complete\n")?);
     Ok(())
 }

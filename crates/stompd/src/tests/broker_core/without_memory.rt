@@ -349,18 +349,23 @@ fn ends(lack: Lack) -> bool {
 
 /// Takes the run's events, and none after one that makes a connection leave for want of memory. Whether all was right, and
 /// whether all were taken.
-fn taken_all(alloc: Global, run: &Run) -> Result<(bool, bool), NoMemory> {
-    let mut net = new_net(alloc, run)?;
+fn taken_by(alloc: Global, net: &mut Net, run: &Run) -> Result<(bool, bool), NoMemory> {
     for &(ask, want) in run.rows {
-        if !prepared(alloc, &mut net, ask)? {
+        if !prepared(alloc, net, ask)? {
             return Ok((false, false));
         }
-        let (is_right, lack) = taken(alloc, &mut net, ask, want)?;
+        let (is_right, lack) = taken(alloc, net, ask, want)?;
         if !is_right || ends(lack) {
-            return Ok((is_right && goes_on(alloc, &mut net, lack)?, false));
+            return Ok((is_right && goes_on(alloc, net, lack)?, false));
         }
     }
     Ok((is_told(alloc, &net.report(), run.report)?, true))
+}
+
+/// The same at a core of its own.
+fn taken_all(alloc: Global, run: &Run) -> Result<(bool, bool), NoMemory> {
+    let mut net = new_net(alloc, run)?;
+    taken_by(alloc, &mut net, run)
 }
 
 /// Each event that finds no memory has its own effect; where that ends the run, the whole run with ample memory is then

@@ -49,15 +49,24 @@ fn told_as_wanted(
     Ok(count)
 }
 
+/// Whether the report of a core is as it is written down, and the octets out.
+fn is_reported(alloc: Global, report: &Report<'_>, run: &Run) -> Result<bool, NoMemory> {
+    let told = report_text(alloc, report)?;
+    Ok(told.as_str() == run.report && are_outs(report, run.outs) && has_ends(report))
+}
+
+/// Whether the run is as it is written down at this core: each outcome, and what is reported then.
+fn is_as_written_by(alloc: Global, net: &mut Net, run: &Run) -> Result<bool, NoMemory> {
+    if told_as_wanted(alloc, net, run.rows)? != run.rows.len() {
+        return Ok(false);
+    }
+    is_reported(alloc, &net.report(), run)
+}
+
 /// Whether the run is as it is written down: each outcome, the report, and the octets out.
 fn is_as_written(alloc: Global, run: &Run) -> Result<bool, NoMemory> {
     let mut net = made(alloc, run)?;
-    if told_as_wanted(alloc, &mut net, run.rows)? != run.rows.len() {
-        return Ok(false);
-    }
-    let report = net.report();
-    let told = report_text(alloc, &report)?;
-    Ok(told.as_str() == run.report && are_outs(&report, run.outs) && has_ends(&report))
+    is_as_written_by(alloc, &mut net, run)
 }
 
 #[test]
@@ -90,17 +99,39 @@ fn are_same(a: &Net, b: &Net) -> bool {
         && (0..a.kept_len()).all(|i| outcome_at(a, i) == outcome_at(b, i))
 }
 
-/// Whether the core keeps of no events none, and of the run's events as one list the same as one by one, with the same report.
+/// Whether this core keeps of no events none; it takes the run's events as one list.
+fn keeps_none_of_none(alloc: Global, net: &mut Net, run: &Run) -> Result<bool, NoMemory> {
+    net.run(EventList::new(alloc))?;
+    let is_empty = net.kept_len() == 0;
+    net.run(list(alloc, run.rows)?)?;
+    Ok(is_empty)
+}
+
+/// Whether this core has kept the same as one that takes the run's events one by one.
+fn is_same(alloc: Global, net: &Net, run: &Run) -> Result<bool, NoMemory> {
+    let one_by_one = stepped(alloc, run)?;
+    Ok(are_same(net, &one_by_one))
+}
+
+/// Whether the core's report has this text.
+fn is_told(alloc: Global, net: &Net, text: &str) -> Result<bool, NoMemory> {
+    let told = report_text(alloc, &net.report())?;
+    Ok(told.as_str() == text)
+}
+
+/// Whether this core keeps of no events none, and of the run's events as one list the same as one by one, with the same report.
+fn is_same_as_list_by(alloc: Global, net: &mut Net, run: &Run) -> Result<bool, NoMemory> {
+    Ok(
+        keeps_none_of_none(alloc, net, run)?
+            && is_same(alloc, net, run)?
+            && is_told(alloc, net, run.report)?,
+    )
+}
+
+/// The same of a new core.
 fn is_same_as_list(alloc: Global, run: &Run) -> Result<bool, NoMemory> {
     let mut net = made(alloc, run)?;
-    net.run(EventList::new(alloc))?;
-    if net.kept_len() != 0 {
-        return Ok(false);
-    }
-    net.run(list(alloc, run.rows)?)?;
-    let one_by_one = stepped(alloc, run)?;
-    let told = report_text(alloc, &net.report())?;
-    Ok(are_same(&net, &one_by_one) && told.as_str() == run.report)
+    is_same_as_list_by(alloc, &mut net, run)
 }
 
 #[test]
@@ -125,17 +156,22 @@ const READ: &[(Ask, &str)] = &[
     (Ask::Propose(0, 0), "ticket 1"),
 ];
 
-/// Whether STREAM is read as it is where it is cut at this place.
-fn is_read(alloc: Global, at: usize) -> Result<bool, NoMemory> {
+/// Whether STREAM is read as it is by this core where it is cut at this place.
+fn reads(alloc: Global, net: &mut Net, at: usize) -> Result<bool, NoMemory> {
     let at = at.min(STREAM.len());
-    let mut net = Net::new(alloc, topics(alloc, &[(b"A".as_slice(), 0)])?, 64)?;
     let fed = [
         (Ask::Open, "conn 0"),
         (Ask::Piece(0, &STREAM[..at]), "fed"),
         (Ask::Piece(0, &STREAM[at..]), "fed"),
     ];
-    let count = told_as_wanted(alloc, &mut net, &fed)?;
-    Ok(count == fed.len() && told_as_wanted(alloc, &mut net, READ)? == READ.len())
+    let count = told_as_wanted(alloc, net, &fed)?;
+    Ok(count == fed.len() && told_as_wanted(alloc, net, READ)? == READ.len())
+}
+
+/// The same of a new core.
+fn is_read(alloc: Global, at: usize) -> Result<bool, NoMemory> {
+    let mut net = Net::new(alloc, topics(alloc, &[(b"A".as_slice(), 0)])?, 64)?;
+    reads(alloc, &mut net, at)
 }
 
 #[test]

@@ -120,6 +120,27 @@ fn begin(alloc: Global, name: u8, length: usize) -> Result<String, AllocError> {
     Ok(text)
 }
 
+/// The connection hears such a transaction; whether there was memory for it.
+fn hears_begin(talk: &mut Talk, alloc: Global, name: u8, length: usize) -> bool {
+    match begin(alloc, name, length) {
+        Ok(text) => {
+            talk.hear(text.as_str());
+            true
+        }
+        Err(_) => false,
+    }
+}
+
+/// It hears 17, the last of which asks for a receipt of `length` octets; whether there was memory for them.
+fn hears_all(talk: &mut Talk, alloc: Global, length: usize) -> bool {
+    for name in 0..16u8 {
+        if !hears_begin(talk, alloc, name, 4_000) {
+            return false;
+        }
+    }
+    hears_begin(talk, alloc, 16, length)
+}
+
 /// A connection with a subscription and an item for it, for which `length` octets wait and 64,413 more: the 39 of the
 /// CONNECTED, and those of 17 RECEIPTs, which have 22 beside their ids.
 fn with_waiting(alloc: Global, length: usize) -> Option<Talk> {
@@ -127,22 +148,27 @@ fn with_waiting(alloc: Global, length: usize) -> Option<Talk> {
     talk.hear(CONNECT);
     talk.hear(SUBSCRIBE);
     talk.hear(SEND);
-    for name in 0..16u8 {
-        talk.hear(begin(alloc, name, 4_000).ok()?.as_str());
+    if hears_all(&mut talk, alloc, length) {
+        Some(talk)
+    } else {
+        None
     }
-    talk.hear(begin(alloc, 16, length).ok()?.as_str());
-    Some(talk)
 }
 
-/// Whether an item is taken where so many octets wait.
-fn takes_at(alloc: Global, waiting: usize) -> Option<bool> {
-    let mut talk = with_waiting(alloc, waiting.checked_sub(64_413)?)?;
+/// Whether an item is taken now, where so many octets wait.
+fn takes(talk: &mut Talk, waiting: usize) -> Option<bool> {
     if talk.talk.wire().len() != waiting {
         return None;
     }
     let taken = talk.deliver();
     let asked = talk.fake.rows.as_slice().contains(&Takes(0, true));
     if asked == taken { Some(taken) } else { None }
+}
+
+/// Whether a new connection's item is taken where so many octets wait.
+fn takes_at(alloc: Global, waiting: usize) -> Option<bool> {
+    let mut talk = with_waiting(alloc, waiting.checked_sub(64_413)?)?;
+    takes(&mut talk, waiting)
 }
 
 #[test]

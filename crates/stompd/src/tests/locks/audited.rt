@@ -7,7 +7,7 @@ pub(super) mod logs;
 mod queues;
 
 use super::jobs::Opening;
-use broker_locks::{Broker, Side, Tally};
+use broker_locks::{Broker, Shares, Side, Subscribed, Tally};
 use commits::{Answers, Committed, both, commit_all, two_committers};
 use logs::are_logs;
 use mcast_txn::{NoMemory, Topic};
@@ -77,6 +77,40 @@ struct Ended {
     answers: Answers,
 }
 
+/// A run with these subscriptions at the three topics.
+fn run_with<R, W, T>(
+    rt: &R,
+    alloc: Global,
+    broker: &Broker<R, W, T>,
+    at_a: &mut Subscribed,
+    at_b: &mut Subscribed,
+    at_c: &mut Subscribed,
+) -> Option<Ended>
+where
+    R: Threads + Wait + Send + Sync,
+    W: Side + Send + Sync + 'static,
+    T: Side + Send + Sync + 'static,
+{
+    let Ran {
+        senders,
+        first,
+        second,
+    } = run_both(rt, alloc, broker)?;
+    let released = three_heads(rt, broker);
+    let answers = Answers::new(first.stamps, second.stamps);
+    let items = [
+        items_sent(rt, at_a, Topic(0), &answers),
+        items_sent(rt, at_b, Topic(1), &answers),
+        items_sent(rt, at_c, Topic(2), &answers),
+    ];
+    Some(Ended {
+        senders,
+        released,
+        items,
+        answers,
+    })
+}
+
 /// A run with a subscription at each of the three topics.
 fn run_subscribed<R, W, T>(rt: &R, alloc: Global, broker: &Broker<R, W, T>) -> Option<Ended>
 where
@@ -87,24 +121,7 @@ where
     let mut at_a = broker.subscribe(rt, Topic(0)).ok()?;
     let mut at_b = broker.subscribe(rt, Topic(1)).ok()?;
     let mut at_c = broker.subscribe(rt, Topic(2)).ok()?;
-    let Ran {
-        senders,
-        first,
-        second,
-    } = run_both(rt, alloc, broker)?;
-    let released = three_heads(rt, broker);
-    let answers = Answers::new(first.stamps, second.stamps);
-    let items = [
-        items_sent(rt, &mut at_a, Topic(0), &answers),
-        items_sent(rt, &mut at_b, Topic(1), &answers),
-        items_sent(rt, &mut at_c, Topic(2), &answers),
-    ];
-    Some(Ended {
-        senders,
-        released,
-        items,
-        answers,
-    })
+    run_with(rt, alloc, broker, &mut at_a, &mut at_b, &mut at_c)
 }
 
 /// The senders, what the heads answer, how many items each subscription takes, all of them as they were sent, and whether
@@ -170,6 +187,28 @@ fn two_workers_are_audited(rt: HostRuntime) -> Result<(), Fail> {
     Ok(())
 }
 
+/// The shares of both workers after such a run, where the head of each topic releases its 240 rows.
+fn shares_of<R, W, T>(rt: &R, alloc: Global, broker: &Broker<R, W, T>) -> Option<Shares<W>>
+where
+    R: Threads + Wait + Send + Sync,
+    W: Side + Send + Sync + 'static,
+    T: Side + Send + Sync + 'static,
+{
+    let Ran {
+        senders: _,
+        first,
+        second,
+    } = run_both(rt, alloc, broker)?;
+    let are_released = three_heads(rt, broker) == [Some(240); 3];
+    let first = broker.leave(rt, first.worker);
+    let second = broker.leave(rt, second.worker);
+    if are_released {
+        Some(first.add(second))
+    } else {
+        None
+    }
+}
+
 /// The tally after such a run, with these ledgers.
 fn tallied_by<R, W, T>(
     rt: &R,
@@ -186,17 +225,8 @@ where
     requires tickets { (tickets.name ≡ T.name) × (tickets.parts ≡ T.parts) × (T.parts ≡ T.all) × (T.all ≡ 1024) }
 {
     let broker = opening.begin::<R, W, T>(alloc, workers, tickets).ok()?;
-    let Ran {
-        senders: _,
-        first,
-        second,
-    } = run_both(rt, alloc, &broker)?;
-    if three_heads(rt, &broker) != [Some(240); 3] {
-        return None;
-    }
-    let first = broker.leave(rt, first.worker);
-    let second = broker.leave(rt, second.worker);
-    broker.tally(rt, first.add(second)).ok()
+    let shares = shares_of(rt, alloc, &broker)?;
+    broker.tally(rt, shares).ok()
 }
 
 /// The same, with ledgers of its own.

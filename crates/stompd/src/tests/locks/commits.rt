@@ -6,7 +6,7 @@ use super::flights::{Points, begun, no_points, stamp};
 use broker_locks::{CommitFault, Point, commit_on};
 use mcast_group::ProposeFault;
 use mcast_txn::{Ballot, Flight, Sender, Stamp, Ticket, Topic, Verdict};
-use sender_gate::Gate;
+use sender_gate::{Flying, Gate};
 use std::alloc::Global;
 use std::process::Abort;
 use std::sync::Arc;
@@ -144,6 +144,25 @@ impl Point for Meddler {
     }
 }
 
+/// Another verdict of this flight to topics 0 and 1.
+fn other_verdict(alloc: Global, flying: &Flying) -> Option<Box<Verdict>> {
+    let id = flying.id();
+    let mut ballot = Ballot::new(alloc, id, flying.topics()).ok()?;
+    for topic in [Topic(0), Topic(1)] {
+        ballot.put(Ticket { id, topic, n: 99 }).ok()?;
+    }
+    ballot.close().ok()
+}
+
+/// One that sets it.
+fn meddling(alloc: Global, flying: &Flying) -> Option<Meddler> {
+    let flight = flying.flight().clone().ok()?;
+    Some(Meddler {
+        flight,
+        verdict: other_verdict(alloc, flying),
+    })
+}
+
 /// What a commit to topics 0 and 1 answers, where another verdict was set, with the floor and what was seen.
 fn answer_to_meddler<R: Abort>(
     rt: &R,
@@ -151,20 +170,13 @@ fn answer_to_meddler<R: Abort>(
 ) -> Option<(Result<Stamp, CommitFault>, Stamp, [Option<Call>; 8])> {
     let gate = Gate::resume(Sender(4), 6, stamp(10, 0));
     let flying = begun(alloc, gate, &[0, 1])?;
-    let id = flying.id();
-    let mut ballot = Ballot::new(alloc, id, flying.topics()).ok()?;
-    for topic in [Topic(0), Topic(1)] {
-        ballot.put(Ticket { id, topic, n: 99 }).ok()?;
-    }
-    let mut point = Meddler {
-        flight: flying.flight().clone().ok()?,
-        verdict: ballot.close().ok(),
-    };
+    let mut point = meddling(alloc, &flying)?;
     let mut fake = Fake::new(rt, alloc, [3, 10, 20, 0], None);
-    match commit_on(flying, &mut fake, &mut point) {
-        Ok((gate, stamp, _note)) => Some((Ok(stamp), gate.floor(), fake.seen)),
-        Err((gate, fault)) => Some((Err(fault), gate.floor(), fake.seen)),
-    }
+    let (answer, floor) = match commit_on(flying, &mut fake, &mut point) {
+        Ok((gate, stamp, _note)) => (Ok(stamp), gate.floor()),
+        Err((gate, fault)) => (Err(fault), gate.floor()),
+    };
+    Some((answer, floor, fake.seen))
 }
 
 #[test]

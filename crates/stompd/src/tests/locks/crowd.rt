@@ -133,19 +133,19 @@ where
     Some(one?.saturating_add(two?))
 }
 
-/// Subscriptions one after another, each at a topic that is drawn, until the workers have ended.
-fn spans_drawn<R: Wait, W: Side, T: Side>(
+/// Adds subscriptions one after another, each at a topic that is drawn, until the workers have ended.
+fn add_drawn<R: Wait, W: Side, T: Side>(
     rt: &R,
     alloc: Global,
     broker: &Broker<R, W, T>,
     run: u32,
     stages: &Stages,
-) -> Option<Vec<Taken>> {
+    all: &mut Vec<Taken>,
+) -> Option<()> {
     let mut draws = Draws::of(run);
-    let mut all = Vec::new(alloc);
     for _ in 0..SPANS {
         if stages.are_committed() {
-            return Some(all);
+            return Some(());
         }
         let topic = Topic(draws.below(3));
         let begun = broker.subscribe(rt, topic).ok()?;
@@ -155,6 +155,19 @@ fn spans_drawn<R: Wait, W: Side, T: Side>(
         let taken = taken_between(rt, alloc, broker, topic, begun, draws.below(20))?;
         all.push(taken).ok()?;
     }
+    Some(())
+}
+
+/// All of them.
+fn spans_drawn<R: Wait, W: Side, T: Side>(
+    rt: &R,
+    alloc: Global,
+    broker: &Broker<R, W, T>,
+    run: u32,
+    stages: &Stages,
+) -> Option<Vec<Taken>> {
+    let mut all = Vec::new(alloc);
+    add_drawn(rt, alloc, broker, run, stages, &mut all)?;
     Some(all)
 }
 
@@ -222,12 +235,7 @@ where
             )
         },
     );
-    let (answers, taken) = both(answers, taken)?;
-    Some(Ran {
-        answers,
-        released: released?,
-        taken,
-    })
+    Ran::of(answers, released, taken)
 }
 
 /// What a run with six threads gives: how many rows were released, by the heads and by a last turn of each topic; how many
@@ -278,6 +286,21 @@ fn taken_last<R: Wait, W: Side, T: Side>(
 }
 
 impl Ran {
+    /// What the threads did, where all went to their ends.
+    fn of(
+        answers: Option<Answers>,
+        released: Option<u64>,
+        taken: Option<(Vec<Taken>, Vec<Taken>)>,
+    ) -> Option<Ran> {
+        let released = released?;
+        let (answers, taken) = both(answers, taken)?;
+        Some(Ran {
+            answers,
+            released,
+            taken,
+        })
+    }
+
     /// What it leaves, where the last turns released so many rows and this was read at the end.
     fn ended(self, last: u64, unread: Taken) -> Ended {
         let Ran {

@@ -142,6 +142,36 @@ struct After {
     next: Option<Stamp>,
 }
 
+/// The stamp of the gate's next commit, to topic 0.
+fn next_stamp<R: Wait, W: Side, T: Side>(
+    rt: &R,
+    alloc: Global,
+    broker: &Broker<R, W, T>,
+    worker: &mut Worker<W>,
+    gate: Gate,
+) -> Option<Stamp> {
+    let flying = begun(alloc, gate, &[0])?;
+    let (_gate, stamp) = broker.commit(rt, worker, flying, &mut Quiet).ok()?;
+    Some(stamp)
+}
+
+/// What this broker answers to this worker.
+fn refused_gate_of<R: Wait, W: Side, T: Side>(
+    rt: &R,
+    alloc: Global,
+    broker: &Broker<R, W, T>,
+    worker: &mut Worker<W>,
+) -> Option<After> {
+    let gate = Gate::resume(Sender(4), 6, stamp(10, 0));
+    let flying = begun(alloc, gate, &[0, 1_024])?;
+    let (gate, fault) = broker.commit(rt, worker, flying, &mut Quiet).err()?;
+    Some(After {
+        fault,
+        gate: (gate.sender().0, gate.seq(), gate.floor()),
+        next: next_stamp(rt, alloc, broker, worker, gate),
+    })
+}
+
 /// What this broker answers.
 fn refused_gate<R: Wait, W: Side, T: Side>(
     rt: &R,
@@ -149,17 +179,7 @@ fn refused_gate<R: Wait, W: Side, T: Side>(
     broker: &Broker<R, W, T>,
 ) -> Option<After> {
     let mut worker = broker.join(rt).ok()?;
-    let gate = Gate::resume(Sender(4), 6, stamp(10, 0));
-    let flying = begun(alloc, gate, &[0, 1_024])?;
-    let (gate, fault) = broker.commit(rt, &mut worker, flying, &mut Quiet).err()?;
-    let left = (gate.sender().0, gate.seq(), gate.floor());
-    let flying = begun(alloc, gate, &[0])?;
-    let next = broker.commit(rt, &mut worker, flying, &mut Quiet);
-    Some(After {
-        fault,
-        gate: left,
-        next: next.ok().map(|(_gate, stamp)| stamp),
-    })
+    refused_gate_of(rt, alloc, broker, &mut worker)
 }
 
 impl<R: Wait> Job<R> for RefusedGate {

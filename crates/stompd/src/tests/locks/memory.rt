@@ -123,17 +123,70 @@ fn is_released_at_last<R: Wait, W: Side, T: Side>(
 #[derive(Clone, Copy, Drop)]
 struct Connection;
 
-/// The number and the beginning of the subscription; its state after the turn; whether the topic released one row; whether the
-/// first item, and no more, has the commit's stamp, at which the subscription ends, and which is the floor of the gate that is
-/// claimed again.
+/// What the turn of topic 0 tells of a commit, and the subscription there: its state after the turn; whether the topic released
+/// one row; whether the first item, and no more, has the commit's stamp, at which the subscription ends.
 #[derive(Clone, Copy, PartialEq, Eq)]
-struct Found {
-    begun: (u64, Stamp),
+struct Told {
     state: Option<SubState>,
     is_released: bool,
     is_taken: bool,
     is_ended: bool,
+}
+
+/// The number and the beginning of the subscription; what is told of the commit; whether its stamp is the floor of the gate
+/// that is claimed again.
+#[derive(Clone, Copy, PartialEq, Eq)]
+struct Found {
+    begun: (u64, Stamp),
+    told: Told,
     is_kept: bool,
+}
+
+/// What is told of a commit with this stamp.
+fn told_of<R: Wait, W: Side, T: Side>(
+    rt: &R,
+    broker: &Broker<R, W, T>,
+    begun: &mut Subscribed,
+    at: Stamp,
+) -> Told {
+    let is_released = is_released_at_last(rt, broker, Topic(0));
+    let state = broker.state(rt, Topic(0), begun.sub);
+    let first = begun.taker.take(rt).map(|item| item.stamp);
+    let is_taken = first == Some(at) && begun.taker.take(rt).is_none();
+    let end: Left = left(rt, broker, 0, begun.sub);
+    Told {
+        state,
+        is_released,
+        is_taken,
+        is_ended: end == Ok((at, Cause::Asked)),
+    }
+}
+
+/// Whether the client-id's gate is claimed again, with this floor.
+fn is_kept<R: Wait, W: Side, T: Side>(rt: &R, broker: &Broker<R, W, T>, at: Stamp) -> bool {
+    match claimed_at_last(rt, broker, b"c") {
+        Some(again) => again.floor() == at && again.sender().0 == 0,
+        None => false,
+    }
+}
+
+/// What this broker answers to a connection with this worker and this gate.
+fn serve_by<R: Wait, W: Side, T: Side>(
+    rt: &R,
+    alloc: Global,
+    broker: &Broker<R, W, T>,
+    worker: &mut Worker<W>,
+    gate: Gate,
+) -> Option<Found> {
+    let mut begun = subscribed_at_last(rt, broker)?;
+    let (gate, at) = committed_at_last(rt, alloc, broker, worker, gate, &mut Quiet)?;
+    let told = told_of(rt, broker, &mut begun, at);
+    broker.give_back(rt, gate);
+    Some(Found {
+        begun: (begun.sub, begun.start),
+        told,
+        is_kept: is_kept(rt, broker, at),
+    })
 }
 
 /// What this broker answers.
@@ -144,24 +197,9 @@ fn serve<R: Wait, W: Side, T: Side>(
 ) -> Option<Found> {
     let gate = claimed_at_last(rt, broker, b"c")?;
     let mut worker = broker.join(rt).ok()?;
-    let mut begun = subscribed_at_last(rt, broker)?;
-    let (gate, at) = committed_at_last(rt, alloc, broker, &mut worker, gate, &mut Quiet)?;
-    let is_released = is_released_at_last(rt, broker, Topic(0));
-    let state = broker.state(rt, Topic(0), begun.sub);
-    let first = begun.taker.take(rt).map(|item| item.stamp);
-    let is_taken = first == Some(at) && begun.taker.take(rt).is_none();
-    let end: Left = left(rt, broker, 0, begun.sub);
-    broker.give_back(rt, gate);
-    let again = claimed_at_last(rt, broker, b"c")?;
+    let found = serve_by(rt, alloc, broker, &mut worker, gate);
     drop(broker.leave(rt, worker));
-    Some(Found {
-        begun: (begun.sub, begun.start),
-        state,
-        is_released,
-        is_taken,
-        is_ended: end == Ok((at, Cause::Asked)),
-        is_kept: again.floor() == at && again.sender().0 == 0,
-    })
+    found
 }
 
 impl<R: Wait> Job<R> for Connection {
@@ -188,10 +226,12 @@ fn a_broker_without_memory(rt: HostRuntime) {
     let found = with_broker_at_last(&rt, rt.alloc(), Connection);
     let wanted = Found {
         begun: (0, Stamp::ZERO),
-        state: Some(SubState::Open),
-        is_released: true,
-        is_taken: true,
-        is_ended: true,
+        told: Told {
+            state: Some(SubState::Open),
+            is_released: true,
+            is_taken: true,
+            is_ended: true,
+        },
         is_kept: true,
     };
     assert!(rt; found == Some(Some(wanted)));
@@ -217,21 +257,31 @@ impl Point for Seconds {
 #[derive(Clone, Copy, Drop)]
 struct FirstCommit;
 
+/// What this broker answers to this worker.
+fn first_commit_by<R: Wait, W: Side, T: Side>(
+    rt: &R,
+    alloc: Global,
+    broker: &Broker<R, W, T>,
+    worker: &mut Worker<W>,
+) -> Option<(Stamp, u64, u64)> {
+    let mut seconds = Seconds { count: 0 };
+    let gate = broker.claim(rt, None).ok()?;
+    let (gate, at) = committed_at_last(rt, alloc, broker, worker, gate, &mut seconds)?;
+    if gate.floor() == at {
+        Some((at, gate.seq(), seconds.count))
+    } else {
+        None
+    }
+}
+
 /// What this broker answers.
 fn first_commit<R: Wait, W: Side, T: Side>(
     rt: &R,
     alloc: Global,
     broker: &Broker<R, W, T>,
 ) -> Option<(Stamp, u64, u64)> {
-    let mut seconds = Seconds { count: 0 };
     let mut worker = broker.join(rt).ok()?;
-    let gate = broker.claim(rt, None).ok()?;
-    let (gate, at) = committed_at_last(rt, alloc, broker, &mut worker, gate, &mut seconds)?;
-    if gate.floor() == at {
-        Some((at, gate.seq(), seconds.count))
-    } else {
-        None
-    }
+    first_commit_by(rt, alloc, broker, &mut worker)
 }
 
 impl<R: Wait> Job<R> for FirstCommit {
@@ -271,22 +321,40 @@ fn a_first_commit_has_its_tickets_stamp(rt: HostRuntime) {
 #[derive(Clone, Copy, Drop)]
 struct Traced;
 
+/// Whether this worker commits so, and both topics release their row.
+fn is_made_by<R: Wait, W: Side, T: Side>(
+    rt: &R,
+    alloc: Global,
+    broker: &Broker<R, W, T>,
+    worker: &mut Worker<W>,
+) -> Option<bool> {
+    let gate = broker.claim(rt, None).ok()?;
+    committed_at_last(rt, alloc, broker, worker, gate, &mut Quiet)?;
+    Some(is_released_at_last(rt, broker, Topic(0)) && is_released_at_last(rt, broker, Topic(1)))
+}
+
+/// Whether the commit is made behind a subscription, and both topics release their row.
+fn is_made<R: Wait, W: Side, T: Side>(
+    rt: &R,
+    alloc: Global,
+    broker: &Broker<R, W, T>,
+) -> Option<bool> {
+    subscribed_at_last(rt, broker)?;
+    let mut worker = broker.join(rt).ok()?;
+    is_made_by(rt, alloc, broker, &mut worker)
+}
+
 /// What this broker leaves.
 fn leave_trace<R: Wait, W: Side, T: Side>(
     rt: &R,
     alloc: Global,
     broker: Broker<R, W, T>,
 ) -> Option<Result<Trace, AddFault>> {
-    subscribed_at_last(rt, &broker)?;
-    let mut worker = broker.join(rt).ok()?;
-    let gate = broker.claim(rt, None).ok()?;
-    committed_at_last(rt, alloc, &broker, &mut worker, gate, &mut Quiet)?;
-    for topic in [Topic(0), Topic(1)] {
-        if !is_released_at_last(rt, &broker, topic) {
-            return None;
-        }
+    if is_made(rt, alloc, &broker) == Some(true) {
+        Some(broker.into_trace())
+    } else {
+        None
     }
-    Some(broker.into_trace())
 }
 
 impl<R: Wait> Job<R> for Traced {

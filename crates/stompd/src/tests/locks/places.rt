@@ -5,7 +5,7 @@ ghost use Rattle.std.specs.Prelude.{◌≡◌, ◌<◌, [], IfSome};
 use super::flights::{begun, stamp};
 use broker_locks::{Counts, Place};
 use mcast_group::{Cause, SubState};
-use mcast_txn::{Sender, Stamp, Topic, TxnId};
+use mcast_txn::{Flight, Sender, Stamp, Topic, TxnId};
 use sender_gate::{Flying, Gate};
 use std::alloc::Global;
 use std::sync::Wait;
@@ -32,14 +32,19 @@ fn propose<R: Wait>(place: &mut Place<R>, flying: &mut Flying, topic: u32) -> Op
     }
 }
 
-/// Decides the flight, and sets its verdict in its cell.
-fn decide(flying: Flying) -> Option<Stamp> {
-    let flight = flying.flight().clone().ok()?;
+/// Decides the flight, and sets its verdict in this cell.
+fn set_verdict(flying: Flying, flight: &Flight) -> Option<Stamp> {
     let (_gate, verdict) = flying.decide().ok()?;
     let stamp = verdict.stamp();
     let mut note = flight.note();
     flight.decide(&mut note, verdict).ok()?;
     Some(stamp)
+}
+
+/// Decides the flight, and sets its verdict in its cell.
+fn decide(flying: Flying) -> Option<Stamp> {
+    let flight = flying.flight().clone().ok()?;
+    set_verdict(flying, &flight)
 }
 
 /// The first flight of this sender, to these topics.
@@ -156,55 +161,89 @@ pub(super) fn queue<R>(alloc: Global) -> Option<(Source<R>, Taker)>
     }
 }
 
-/// Enters and decides three transactions at a place with a queue of one place, and turns it.
-fn lagged<R: Wait>(
+/// Begins a subscription with a queue of one place.
+pub(super) fn begin<R: Wait>(alloc: Global, place: &mut Place<R>, number: u64) -> Option<Taker> {
+    let (source, taker) = queue::<R>(alloc)?;
+    place.subscribe(number, source).ok()?;
+    Some(taker)
+}
+
+/// Enters and decides three transactions at a place, and turns it; whether all were decided and it turned.
+fn are_turned<R: Wait>(rt: &R, alloc: Global, place: &mut Place<R>) -> bool {
+    decided(alloc, place, 0).is_some()
+        && decided(alloc, place, 1).is_some()
+        && decided(alloc, place, 2).is_some()
+        && turned(rt, place).is_some()
+}
+
+/// By which number a second subscription of this number is refused.
+pub(super) fn refused_by<R: Wait>(alloc: Global, place: &mut Place<R>, number: u64) -> Option<u32> {
+    let (source, _taker) = queue::<R>(alloc)?;
+    match place.subscribe(number, source) {
+        Ok(_) => None,
+        Err((fault, _)) => Some(fault.number()),
+    }
+}
+
+/// Where and why a subscription ends.
+fn ended<R: Wait>(place: &mut Place<R>, number: u64) -> Option<(Stamp, Cause)> {
+    let left = place.unsubscribe(number).ok()?;
+    Some((left.to, left.cause))
+}
+
+/// The stamp of the next item, if there is one.
+fn stamp_taken<R: Wait>(rt: &R, taker: &mut Taker) -> Option<Stamp> {
+    let item = taker.take(rt)?;
+    Some(item.stamp)
+}
+
+/// What is found of a subscription: its state before three rows, after them and after its end, the stamps that it takes, by
+/// which number another of its number is refused, and where and why it ends.
+#[derive(Clone, Copy, PartialEq, Eq)]
+struct Found {
+    states: [Option<SubState>; 3],
+    taken: [Option<Stamp>; 2],
+    refused: Option<u32>,
+    ended: Option<(Stamp, Cause)>,
+}
+
+/// What is found of subscription 5 at this place, where three transactions are entered, decided and turned.
+fn found_at<R: Wait>(
     rt: &R,
     alloc: Global,
-) -> Option<
-    (
-        [Option<SubState>; 3],
-        Option<Stamp>,
-        Option<Stamp>,
-        Stamp,
-        Cause,
-        u32,
-    ),
-> {
-    let mut place: Place<R> = Place::new(alloc, Topic(0), 0, 8, false);
-    let (source, mut taker) = queue::<R>(alloc)?;
-    place.subscribe(5, source).ok()?;
+    place: &mut Place<R>,
+    taker: &mut Taker,
+) -> Option<Found> {
     let before = place.state(5);
-    for sender in 0..3 {
-        let mut flying = flight(alloc, sender, &[0])?;
-        propose(&mut place, &mut flying, 0)?;
-        decide(flying)?;
+    if !are_turned(rt, alloc, place) {
+        return None;
     }
-    place.head(rt).ok()?;
     let after = place.state(5);
-    let first = taker.take(rt).map(|item| item.stamp);
-    let second = taker.take(rt).map(|item| item.stamp);
-    let (again, _taker) = queue::<R>(alloc)?;
-    let fault = match place.subscribe(5, again) {
-        Ok(_) => return None,
-        Err((fault, _)) => fault.number(),
-    };
-    let left = place.unsubscribe(5).ok()?;
-    let gone = place.state(5);
-    Some((
-        [before, after, gone],
-        first,
-        second,
-        left.to,
-        left.cause,
-        fault,
-    ))
+    let taken = [stamp_taken(rt, taker), stamp_taken(rt, taker)];
+    let refused = refused_by(alloc, place, 5);
+    let ended = ended(place, 5);
+    Some(Found {
+        states: [before, after, place.state(5)],
+        taken,
+        refused,
+        ended,
+    })
+}
+
+/// The same where its queue has one place.
+fn lagged<R: Wait>(rt: &R, alloc: Global) -> Option<Found> {
+    let mut place: Place<R> = Place::new(alloc, Topic(0), 0, 8, false);
+    let mut taker = begin(alloc, &mut place, 5)?;
+    found_at(rt, alloc, &mut place, &mut taker)
 }
 
 #[test]
 fn a_full_queue_lags(rt: HostRuntime) {
-    let (states, first, second, to, cause, fault) = lagged(&rt, rt.alloc()).expect(&rt, "memory");
-    assert!(rt; states == [Some(SubState::Open), Some(SubState::Lag(stamp(1, 0))), None]);
-    assert!(rt; (first, second) == (Some(stamp(1, 0)), None));
-    assert!(rt; (to, fault) == (stamp(1, 0), 47));
-    assert!(rt; cause == Cause::Lag);
+    let wanted = Found {
+        states: [Some(SubState::Open), Some(SubState::Lag(stamp(1, 0))), None],
+        taken: [Some(stamp(1, 0)), None],
+        refused: Some(47),
+        ended: Some((stamp(1, 0), Cause::Lag)),
+    };
+    assert!(rt; lagged(&rt, rt.alloc()) == Some(wanted));
 }

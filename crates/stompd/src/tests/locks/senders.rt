@@ -87,6 +87,24 @@ fn second_connection<R: Wait, W: Side, T: Side>(
     })
 }
 
+/// What this broker answers, and this subscription at topic 0 gives.
+fn both_connections<R: Wait, W: Side, T: Side>(
+    rt: &R,
+    alloc: Global,
+    broker: &Broker<R, W, T>,
+    begun: &mut Subscribed,
+) -> Option<Found> {
+    let (refused, first) = first_connection(rt, alloc, broker)?;
+    let second = second_connection(rt, alloc, broker)?;
+    broker.head_turn(rt, Topic(0)).ok()?;
+    Some(Found {
+        refused,
+        first,
+        second,
+        items: three_taken(rt, begun),
+    })
+}
+
 /// What this broker answers.
 fn two_connections<R: Wait, W: Side, T: Side>(
     rt: &R,
@@ -95,15 +113,7 @@ fn two_connections<R: Wait, W: Side, T: Side>(
 ) -> Option<Found> {
     let mut begun = broker.subscribe(rt, Topic(0)).ok()?;
     let _other = broker.claim(rt, None).ok()?;
-    let (refused, first) = first_connection(rt, alloc, broker)?;
-    let second = second_connection(rt, alloc, broker)?;
-    broker.head_turn(rt, Topic(0)).ok()?;
-    Some(Found {
-        refused,
-        first,
-        second,
-        items: three_taken(rt, &mut begun),
-    })
+    both_connections(rt, alloc, broker, &mut begun)
 }
 
 impl<R: Wait> Job<R> for TwoConnections {

@@ -13,7 +13,6 @@ use sender_gate::Gate;
 use std::alloc::Global;
 use std::sync::Wait;
 use std::sync::ledger::Blank;
-use std::test::Fail;
 use trace_audit::Trace;
 
 /// The gate's next commit: the gate, and the stamp.
@@ -74,13 +73,11 @@ struct Found {
 }
 
 /// What the subscription takes, how it ended, and what it was.
-fn span_of<R: Wait>(rt: &R, begun: Subscribed, end: Left) -> Span {
-    let (sub, start) = (begun.sub, begun.start);
-    let mut begun = begun;
+fn span_of<R: Wait>(rt: &R, begun: &mut Subscribed, end: Left) -> Span {
     Span {
-        sub,
-        start,
-        items: three_taken(rt, &mut begun),
+        sub: begun.sub,
+        start: begun.start,
+        items: three_taken(rt, begun),
         end,
     }
 }
@@ -98,16 +95,17 @@ fn two_committed<R: Wait, W: Side, T: Side>(
     Some((gate, [one, two]))
 }
 
-/// What is left behind the first turn: the second subscription begins, this one ends, and the gate commits once more.
-fn second_span<R: Wait, W: Side, T: Side>(
+/// What is left behind the first turn, where the second subscription has begun: the first one ends, and the gate commits once
+/// more.
+fn both_spans<R: Wait, W: Side, T: Side>(
     rt: &R,
     alloc: Global,
     broker: &Broker<R, W, T>,
     worker: &mut Worker<W>,
     gate: Gate,
-    first: Subscribed,
+    first: &mut Subscribed,
+    second: &mut Subscribed,
 ) -> Option<Later> {
-    let second = broker.subscribe(rt, Topic(1)).ok()?;
     let first_end = left(rt, broker, 1, first.sub);
     let state = broker.state(rt, Topic(1), second.sub);
     let (_gate, stamp) = committed(rt, alloc, broker, worker, gate, &[1])?;
@@ -126,6 +124,36 @@ fn second_span<R: Wait, W: Side, T: Side>(
     })
 }
 
+/// The same, where it begins then.
+fn second_span<R: Wait, W: Side, T: Side>(
+    rt: &R,
+    alloc: Global,
+    broker: &Broker<R, W, T>,
+    worker: &mut Worker<W>,
+    gate: Gate,
+    first: &mut Subscribed,
+) -> Option<Later> {
+    let mut second = broker.subscribe(rt, Topic(1)).ok()?;
+    both_spans(rt, alloc, broker, worker, gate, first, &mut second)
+}
+
+/// What they leave at this broker, where the worker has joined and the first subscription has begun.
+fn two_spans_by<R: Wait, W: Side, T: Side>(
+    rt: &R,
+    alloc: Global,
+    broker: &Broker<R, W, T>,
+    worker: &mut Worker<W>,
+    first: &mut Subscribed,
+) -> Option<Found> {
+    let (gate, stamps) = two_committed(rt, alloc, broker, worker)?;
+    let early = broker.head_turn(rt, Topic(1)).ok();
+    Some(Found {
+        stamps,
+        early,
+        later: second_span(rt, alloc, broker, worker, gate, first)?,
+    })
+}
+
 /// What they leave at this broker.
 fn two_spans<R: Wait, W: Side, T: Side>(
     rt: &R,
@@ -133,14 +161,8 @@ fn two_spans<R: Wait, W: Side, T: Side>(
     broker: &Broker<R, W, T>,
 ) -> Option<Found> {
     let mut worker = broker.join(rt).ok()?;
-    let first = broker.subscribe(rt, Topic(1)).ok()?;
-    let (gate, stamps) = two_committed(rt, alloc, broker, &mut worker)?;
-    let early = broker.head_turn(rt, Topic(1)).ok();
-    Some(Found {
-        stamps,
-        early,
-        later: second_span(rt, alloc, broker, &mut worker, gate, first)?,
-    })
+    let mut first = broker.subscribe(rt, Topic(1)).ok()?;
+    two_spans_by(rt, alloc, broker, &mut worker, &mut first)
 }
 
 /// The same, with the broker's trace.
@@ -203,12 +225,14 @@ fn wanted() -> Found {
     }
 }
 
+/// What they leave, and whether the trace's text is this.
+fn left_at_new<R: Wait>(rt: &R, alloc: Global) -> Option<(Found, bool)> {
+    let opening = Opening::new(alloc, &[9, 0, 0], 4, true).ok()?;
+    let (found, trace) = with_broker(rt, alloc, opening, TwoSpans).ok()??;
+    Some((found, has_text(alloc, &trace, TRACE) == Some(true)))
+}
+
 #[test]
-fn subscriptions_begin_and_end(rt: HostRuntime) -> Result<(), Fail> {
-    let opening = Opening::new(rt.alloc(), &[9, 0, 0], 4, true)?;
-    let left = with_broker(&rt, rt.alloc(), opening, TwoSpans)?;
-    let (found, trace) = left.expect(&rt, "memory");
-    assert!(rt; found == wanted());
-    assert!(rt; has_text(rt.alloc(), &trace, TRACE) == Some(true));
-    Ok(())
+fn subscriptions_begin_and_end(rt: HostRuntime) {
+    assert!(rt; left_at_new(&rt, rt.alloc()) == Some((wanted(), true)));
 }

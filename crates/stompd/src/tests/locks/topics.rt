@@ -16,21 +16,9 @@ use std::test::Fail;
 /// What an unsubscribe answers: the end of the span and its cause, or the number of its fault.
 pub(super) type Left = Result<(Stamp, Cause), u32>;
 
-/// Subscriptions at topics 0, 1 and 0, if their numbers are 0, 1 and 1,024 and they begin at zero.
-fn three_subscriptions<R: Wait, W: Side, T: Side>(
-    rt: &R,
-    broker: &Broker<R, W, T>,
-) -> Option<(Subscribed, Subscribed, Subscribed)> {
-    let first = broker.subscribe(rt, Topic(0)).ok()?;
-    let other = broker.subscribe(rt, Topic(1)).ok()?;
-    let third = broker.subscribe(rt, Topic(0)).ok()?;
-    let are_numbered = (first.sub, other.sub, third.sub) == (0, 1, 1_024);
-    let begin_at_zero = [first.start, other.start, third.start] == [Stamp::ZERO; 3];
-    if are_numbered && begin_at_zero {
-        Some((first, other, third))
-    } else {
-        None
-    }
+/// A subscription's number, and its beginning.
+fn beginning(begun: &Subscribed) -> (u64, Stamp) {
+    (begun.sub, begun.start)
 }
 
 /// Commits two transactions to topic 0 alone, and turns both topics; whether the stamps are (1, 0) and (2, 0), and topic 0
@@ -77,12 +65,42 @@ pub(super) fn left<R: Wait, W: Side, T: Side>(
 #[derive(Drop)]
 struct AtTheirTopics;
 
-/// The states at both topics, what the first item of each subscription is, and what is left.
+/// The numbers of the three subscriptions and their beginnings, the states at both topics, what the first item of each
+/// subscription is, and what is left.
 #[derive(Clone, Copy, PartialEq, Eq)]
 struct Found {
+    begun: [(u64, Stamp); 3],
     states: [[Option<SubState>; 3]; 2],
     items: [Option<(u64, Stamp)>; 3],
     ends: [Left; 4],
+}
+
+/// What they leave at this broker, which has these subscriptions at topics 0, 1 and 0.
+fn with_three<R: Wait, W: Side, T: Side>(
+    rt: &R,
+    alloc: Global,
+    broker: &Broker<R, W, T>,
+    first: &mut Subscribed,
+    other: &mut Subscribed,
+    third: &mut Subscribed,
+) -> Option<Found> {
+    if !are_committed_at_first(rt, alloc, broker) {
+        return None;
+    }
+    let states = [states(rt, broker, 0), states(rt, broker, 1)];
+    let items = [taken(rt, first), taken(rt, other), taken(rt, third)];
+    let ends = [
+        left(rt, broker, 1, 0),
+        left(rt, broker, 0, 0),
+        left(rt, broker, 0, 0),
+        left(rt, broker, 1, 1),
+    ];
+    Some(Found {
+        begun: [beginning(first), beginning(other), beginning(third)],
+        states,
+        items,
+        ends,
+    })
 }
 
 /// What they leave at this broker.
@@ -91,27 +109,10 @@ fn at_their_topics<R: Wait, W: Side, T: Side>(
     alloc: Global,
     broker: &Broker<R, W, T>,
 ) -> Option<Found> {
-    let (mut first, mut other, mut third) = three_subscriptions(rt, broker)?;
-    if !are_committed_at_first(rt, alloc, broker) {
-        return None;
-    }
-    let states = [states(rt, broker, 0), states(rt, broker, 1)];
-    let items = [
-        taken(rt, &mut first),
-        taken(rt, &mut other),
-        taken(rt, &mut third),
-    ];
-    let ends = [
-        left(rt, broker, 1, 0),
-        left(rt, broker, 0, 0),
-        left(rt, broker, 0, 0),
-        left(rt, broker, 1, 1),
-    ];
-    Some(Found {
-        states,
-        items,
-        ends,
-    })
+    let mut first = broker.subscribe(rt, Topic(0)).ok()?;
+    let mut other = broker.subscribe(rt, Topic(1)).ok()?;
+    let mut third = broker.subscribe(rt, Topic(0)).ok()?;
+    with_three(rt, alloc, broker, &mut first, &mut other, &mut third)
 }
 
 impl<R: Wait> Job<R> for AtTheirTopics {
@@ -140,6 +141,7 @@ fn calls_are_made_at_their_topics(rt: HostRuntime) -> Result<(), Fail> {
     let lagged = Some(SubState::Lag(stamp(1, 0)));
     let item = Some((0, stamp(1, 0)));
     let wanted = Found {
+        begun: [(0, Stamp::ZERO), (1, Stamp::ZERO), (1_024, Stamp::ZERO)],
         states: [[lagged, None, lagged], [None, Some(SubState::Open), None]],
         items: [item, None, item],
         ends: [

@@ -4,7 +4,7 @@ ghost use Rattle.std.specs.Prelude.{◌≡◌};
 
 use super::flights::{Quiet, begun, stamp};
 use super::jobs::{Job, Opening, with_broker};
-use broker_locks::{Broker, Side};
+use broker_locks::{Broker, Side, Worker};
 use mcast_group::Turned;
 use mcast_txn::{NoMemory, Sender, Stamp, Topic};
 use sender_gate::Gate;
@@ -12,6 +12,26 @@ use std::alloc::Global;
 use std::sync::Wait;
 use std::sync::ledger::Blank;
 use std::test::Fail;
+
+/// The stamp of the sender's first transaction, to topic 0, which this worker commits.
+fn stamp_of<R: Wait, W: Side, T: Side>(
+    rt: &R,
+    alloc: Global,
+    broker: &Broker<R, W, T>,
+    worker: &mut Worker<W>,
+    sender: u64,
+) -> Option<Stamp> {
+    let flying = begun(alloc, Gate::new(Sender(sender)), &[0])?;
+    let (_gate, stamp, _seen) = broker.commit_seen(rt, worker, flying, &mut Quiet).ok()?;
+    Some(stamp)
+}
+
+/// What a turn of topic 0 tells.
+fn turned<R: Wait, W: Side, T: Side>(rt: &R, broker: &Broker<R, W, T>) -> Option<Turned> {
+    let (turned, drained) = broker.head_turned(rt, Topic(0));
+    drained.ok()?;
+    Some(turned)
+}
 
 /// The stamp of the sender's first transaction, to topic 0, and what the turn of the topic tells after it.
 fn committed<R: Wait, W: Side, T: Side>(
@@ -21,13 +41,8 @@ fn committed<R: Wait, W: Side, T: Side>(
     sender: u64,
 ) -> Option<(Stamp, Turned)> {
     let mut worker = broker.join(rt).ok()?;
-    let flying = begun(alloc, Gate::new(Sender(sender)), &[0])?;
-    let (_gate, stamp, _seen) = broker
-        .commit_seen(rt, &mut worker, flying, &mut Quiet)
-        .ok()?;
-    let (turned, drained) = broker.head_turned(rt, Topic(0));
-    drained.ok()?;
-    Some((stamp, turned))
+    let stamp = stamp_of(rt, alloc, broker, &mut worker, sender)?;
+    Some((stamp, turned(rt, broker)?))
 }
 
 /// Three transactions where a queue has one place.

@@ -68,6 +68,40 @@ struct TwoWorkers {
     more: bool,
 }
 
+/// Both workers' shares, where their commits answer as they have to.
+fn shares_of<R: Wait, W: Side, T: Side>(
+    rt: &R,
+    alloc: Global,
+    broker: &Broker<R, W, T>,
+    more: bool,
+) -> Option<(Shares<W>, Shares<W>)> {
+    let mut first = broker.join(rt).ok()?;
+    let mut second = broker.join(rt).ok()?;
+    let is_right = are_committed(rt, alloc, broker, &mut first, &mut second)
+        && (!more || is_refused(rt, alloc, broker, &mut second));
+    let first = broker.leave(rt, first);
+    let second = broker.leave(rt, second);
+    if is_right {
+        Some((first, second))
+    } else {
+        None
+    }
+}
+
+/// Broker and both shares in one, where the tally refuses those of either worker.
+fn both_refused<R: Wait, W: Side, T: Side>(
+    rt: &R,
+    broker: Broker<R, W, T>,
+    first: Shares<W>,
+    second: Shares<W>,
+) -> Option<(Broker<R, W, T>, Shares<W>)>
+    requires { (W.parts ≡ W.all) × (T.parts ≡ T.all) }
+{
+    let (broker, first) = refused(rt, broker, first)?;
+    let (broker, second) = refused(rt, broker, second)?;
+    Some((broker, first.add(second)))
+}
+
 /// Their tally, where the shares of either one are refused.
 fn tally_of<R: Wait, W: Side, T: Side>(
     rt: &R,
@@ -77,19 +111,9 @@ fn tally_of<R: Wait, W: Side, T: Side>(
 ) -> Option<Tally>
     requires { (W.parts ≡ W.all) × (T.parts ≡ T.all) }
 {
-    let mut first = broker.join(rt).ok()?;
-    let mut second = broker.join(rt).ok()?;
-    if !are_committed(rt, alloc, &broker, &mut first, &mut second) {
-        return None;
-    }
-    if more && !is_refused(rt, alloc, &broker, &mut second) {
-        return None;
-    }
-    let first = broker.leave(rt, first);
-    let second = broker.leave(rt, second);
-    let (broker, first) = refused(rt, broker, first)?;
-    let (broker, second) = refused(rt, broker, second)?;
-    broker.tally(rt, first.add(second)).ok()
+    let (first, second) = shares_of(rt, alloc, &broker, more)?;
+    let (broker, shares) = both_refused(rt, broker, first, second)?;
+    broker.tally(rt, shares).ok()
 }
 
 impl<R: Wait> Job<R> for TwoWorkers {

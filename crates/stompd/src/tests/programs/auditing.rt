@@ -3,7 +3,7 @@
 use super::peers::{LineFeeds, Source, Target};
 use super::scripting::{Asked, slowly, writes};
 use broker_server::{Counting, ProgramFault, run_audit};
-use std::alloc::Global;
+use std::alloc::{AllocError, Global};
 use std::test::Fail;
 
 /// An input, what is written of it, and the status.
@@ -109,64 +109,73 @@ fn slow_peers(rt: HostRuntime) -> Result<(), Fail> {
     Ok(())
 }
 
+/// Whether the audit ends with status 5 and wrote nothing where this read fails.
+fn ends_by_read(alloc: Global, fails_at: usize) -> Result<bool, AllocError> {
+    let mut writer = Counting::new(Target::with_room(alloc, 1024)?);
+    let mut reader = Counting::new(Source::of(CROSSING));
+    reader.inner.at_once = 1;
+    reader.inner.fails_at = fails_at;
+    let ended = run_audit(alloc, &mut reader, &mut writer);
+    let counts = (reader.failures, writer.calls);
+    let has_failed = ended == Err(ProgramFault::Io) && counts == (1, 0);
+    Ok(has_failed && writer.inner.taken.is_empty())
+}
+
 /// Whichever read fails, the audit ends with status 5 and wrote nothing.
 #[test]
-fn each_read_fails(rt: HostRuntime) -> Result<(), Fail> {
-    let alloc = rt.alloc();
+fn each_read_fails(rt: HostRuntime) {
     for fails_at in 1..=CROSSING.len() + 1 {
-        let mut reader = Counting::new(Source::of(CROSSING));
-        reader.inner.at_once = 1;
-        reader.inner.fails_at = fails_at;
-        let mut writer = Counting::new(Target::with_room(alloc, 1024)?);
-        let ended = run_audit(alloc, &mut reader, &mut writer);
-        assert!(rt; ended == Err(ProgramFault::Io));
-        assert!(rt; reader.failures == 1);
-        assert!(rt; writer.calls == 0);
-        assert!(rt; writer.inner.taken.is_empty());
+        assert!(rt; ends_by_read(rt.alloc(), fails_at) == Ok(true));
     }
-    Ok(())
+}
+
+/// Whether the audit ends with status 5 where this write fails, before which each took one octet, and the flush would.
+fn ends_by_write(alloc: Global, fails_at: usize) -> Result<bool, AllocError> {
+    let mut writer = Counting::new(Target::with_room(alloc, 1024)?);
+    writer.inner.at_once = 1;
+    writer.inner.fails_at = fails_at;
+    writer.inner.fails_flush = true;
+    let mut reader = Counting::new(Source::of(CROSSING));
+    let ended = run_audit(alloc, &mut reader, &mut writer);
+    let has_failed = ended == Err(ProgramFault::Io) && writer.failures == 1;
+    Ok(has_failed && writer.inner.taken.len().saturating_add(1) == fails_at)
 }
 
 /// Whichever write fails, or the flush, the audit ends with status 5.
 #[test]
-fn each_write_fails(rt: HostRuntime) -> Result<(), Fail> {
-    let alloc = rt.alloc();
+fn each_write_fails(rt: HostRuntime) {
     for fails_at in 1..=48 {
-        let mut reader = Counting::new(Source::of(CROSSING));
-        let mut writer = Counting::new(Target::with_room(alloc, 1024)?);
-        writer.inner.at_once = 1;
-        writer.inner.fails_at = fails_at;
-        writer.inner.fails_flush = true;
-        let ended = run_audit(alloc, &mut reader, &mut writer);
-        assert!(rt; ended == Err(ProgramFault::Io));
-        assert!(rt; writer.failures == 1);
-        assert!(rt; writer.inner.taken.len() + 1 == fails_at);
+        assert!(rt; ends_by_write(rt.alloc(), fails_at) == Ok(true));
     }
-    Ok(())
 }
 
-#[test]
-fn a_write_takes_nothing(rt: HostRuntime) -> Result<(), Fail> {
-    let mut reader = Counting::new(Source::of(CROSSING));
-    let mut writer = Counting::new(Target::with_room(rt.alloc(), 64)?);
+/// Whether the audit ends with status 5 where a write takes nothing.
+fn ends_by_nothing(alloc: Global) -> Result<bool, AllocError> {
+    let mut writer = Counting::new(Target::with_room(alloc, 64)?);
     writer.inner.at_once = 0;
-    let ended = run_audit(rt.alloc(), &mut reader, &mut writer);
-    assert!(rt; ended == Err(ProgramFault::Io));
-    assert!(rt; writer.failures == 1);
-    Ok(())
+    let mut reader = Counting::new(Source::of(CROSSING));
+    let ended = run_audit(alloc, &mut reader, &mut writer);
+    Ok(ended == Err(ProgramFault::Io) && writer.failures == 1)
 }
 
-/// A reader without end is refused alone.
 #[test]
-fn too_long(rt: HostRuntime) -> Result<(), Fail> {
-    let alloc = rt.alloc();
+fn a_write_takes_nothing(rt: HostRuntime) {
+    assert!(rt; ends_by_nothing(rt.alloc()) == Ok(true));
+}
+
+/// Whether a reader without end is refused alone.
+fn is_too_long(alloc: Global) -> Result<bool, AllocError> {
+    let mut writer = Counting::new(Target::with_room(alloc, 64)?);
     let mut reader = Counting::new(LineFeeds {
         left: usize::MAX,
         at_once: usize::MAX,
     });
-    let mut writer = Counting::new(Target::with_room(alloc, 64)?);
     let ended = run_audit(alloc, &mut reader, &mut writer);
-    assert!(rt; ended == Ok(2));
-    assert!(rt; writer.inner.taken.as_slice() == b"bad 112 TooLong\n".as_slice());
-    Ok(())
+    Ok(ended == Ok(2) && writer.inner.taken.as_slice() == b"bad 112 TooLong\n".as_slice())
+}
+
+/// A reader without end is refused alone.
+#[test]
+fn too_long(rt: HostRuntime) {
+    assert!(rt; is_too_long(rt.alloc()) == Ok(true));
 }

@@ -92,13 +92,18 @@ fn copied_topics(alloc: Global, topics: &Topics) -> Result<Topics, NoMemory> {
     Ok(copy)
 }
 
-/// A script's core that has taken the events before this index.
-fn before(alloc: Global, script: &Parsed, index: usize) -> Result<Net, NoMemory> {
+/// A script's core, before its first event.
+fn begun(alloc: Global, script: &Parsed) -> Result<Net, NoMemory> {
     let capacity = script.capacity;
     if capacity == 0 || capacity > MAX_CAPACITY {
         return Err(NoMemory);
     }
-    let mut net = Net::new(alloc, copied_topics(alloc, &script.topics)?, capacity)?;
+    Net::new(alloc, copied_topics(alloc, &script.topics)?, capacity)
+}
+
+/// A script's core that has taken the events before this index.
+fn before(alloc: Global, script: &Parsed, index: usize) -> Result<Net, NoMemory> {
+    let mut net = begun(alloc, script)?;
     net.reserve(script.events.len())?;
     take(alloc, &mut net, &script.events, 0, index)?;
     Ok(net)
@@ -159,8 +164,33 @@ fn is_lost(net: &mut Net, c: u64) -> Result<bool, NoMemory> {
     Ok(false)
 }
 
-/// What comes of the frames of the front of a piece before this octet, where its connection is lost behind them; `None` where
-/// it isn't gone then, a row was committed, or the audit of the trace is no yes.
+/// What comes of the frames of these octets, which the connection is fed.
+fn fed(alloc: Global, net: &mut Net, c: u64, octets: &[u8]) -> Result<Vec<Outcome>, NoMemory> {
+    let octets = Octets::from_slice(alloc, octets)?;
+    step(net, Event::Piece(c, octets))?;
+    read(alloc, net, c)
+}
+
+/// Whether the connection is lost, just so many rows were committed, and the audit of the trace is a yes.
+fn ends_well(alloc: Global, net: &mut Net, c: u64, commits: usize) -> Result<bool, NoMemory> {
+    Ok(is_lost(net, c)? && net.report().commits_len() == commits && is_yes(alloc, net)?)
+}
+
+/// What comes of the frames of these octets, where the connection is lost behind them; `None` where it isn't gone then, a row
+/// was committed, or the audit of the trace is no yes.
+fn fed_last(
+    alloc: Global,
+    net: &mut Net,
+    c: u64,
+    octets: &[u8],
+) -> Result<Option<Vec<Outcome>>, NoMemory> {
+    let commits = net.report().commits_len();
+    let outcomes = fed(alloc, net, c, octets)?;
+    let is_right = ends_well(alloc, net, c, commits)?;
+    Ok(if is_right { Some(outcomes) } else { None })
+}
+
+/// The same of the front of a piece before this octet.
 fn cut(
     alloc: Global,
     script: &Parsed,
@@ -171,31 +201,44 @@ fn cut(
         return Ok(None);
     };
     let mut net = before(alloc, script, piece.index)?;
-    let commits = net.report().commits_len();
-    step(
-        &mut net,
-        Event::Piece(piece.c, Octets::from_slice(alloc, front)?),
-    )?;
-    let outcomes = read(alloc, &mut net, piece.c)?;
-    let is_right = is_lost(&mut net, piece.c)?
-        && net.report().commits_len() == commits
-        && is_yes(alloc, &net)?;
-    Ok(if is_right { Some(outcomes) } else { None })
+    fed_last(alloc, &mut net, piece.c, front)
+}
+
+/// Whether the frames of the front before this octet come to the first of these outcomes.
+fn begins(
+    alloc: Global,
+    script: &Parsed,
+    piece: Piece<'_>,
+    at: usize,
+    whole: &[Outcome],
+) -> Result<bool, NoMemory> {
+    match cut(alloc, script, piece, at)? {
+        Some(front) => Ok(whole.starts_with(front.as_slice())),
+        None => Ok(false),
+    }
+}
+
+/// Whether it is so with each front of the piece.
+fn all_begin(
+    alloc: Global,
+    script: &Parsed,
+    piece: Piece<'_>,
+    whole: &[Outcome],
+) -> Result<bool, NoMemory> {
+    for at in 0..piece.octets.len() {
+        if !begins(alloc, script, piece, at, whole)? {
+            return Ok(false);
+        }
+    }
+    Ok(true)
 }
 
 /// Whether the frames of each front of the piece come to what the first frames of all of it do: a cut makes no fault.
 fn may_be_cut(alloc: Global, script: &Parsed, piece: Piece<'_>) -> Result<bool, NoMemory> {
-    let len = piece.octets.len();
-    let Some(whole) = cut(alloc, script, piece, len)? else {
-        return Ok(false);
-    };
-    for at in 0..len {
-        match cut(alloc, script, piece, at)? {
-            Some(front) if whole.as_slice().starts_with(front.as_slice()) => {}
-            _ => return Ok(false),
-        }
+    match cut(alloc, script, piece, piece.octets.len())? {
+        Some(whole) => all_begin(alloc, script, piece, whole.as_slice()),
+        None => Ok(false),
     }
-    Ok(true)
 }
 
 // ---- pieces that are changed
@@ -216,8 +259,22 @@ fn changed(alloc: Global, octets: &[u8], at: usize, octet: u8) -> Result<Octets,
     Ok(changed)
 }
 
-/// Whether the rest of the script's events can be taken behind a piece of which one octet is this, and the audit of the trace
-/// is a yes.
+/// Whether the rest of the script's events can be taken behind these octets in place of a piece, and the audit of the trace is
+/// a yes.
+fn audits_behind(
+    alloc: Global,
+    net: &mut Net,
+    script: &Parsed,
+    piece: Piece<'_>,
+    octets: Octets,
+) -> Result<bool, NoMemory> {
+    step(net, Event::Piece(piece.c, octets))?;
+    let behind = piece.index.saturating_add(1);
+    take(alloc, net, &script.events, behind, script.events.len())?;
+    is_yes(alloc, net)
+}
+
+/// The same behind a piece of which one octet is this.
 fn audits_to_yes(
     alloc: Global,
     script: &Parsed,
@@ -225,12 +282,9 @@ fn audits_to_yes(
     at: usize,
     octet: u8,
 ) -> Result<bool, NoMemory> {
-    let mut net = before(alloc, script, piece.index)?;
     let octets = changed(alloc, piece.octets, at, octet)?;
-    step(&mut net, Event::Piece(piece.c, octets))?;
-    let behind = piece.index.saturating_add(1);
-    take(alloc, &mut net, &script.events, behind, script.events.len())?;
-    is_yes(alloc, &net)
+    let mut net = before(alloc, script, piece.index)?;
+    audits_behind(alloc, &mut net, script, piece, octets)
 }
 
 /// Whether it is so with each of OCTETS at this place.
@@ -285,19 +339,24 @@ fn holds_at(
 }
 
 /// How many octets the pieces of a script have, where it may be done to each; else `None`.
-fn held(alloc: Global, done: Done, text: &[u8]) -> Result<Option<usize>, NoMemory> {
-    let Some(script) = script_of(alloc, text)? else {
-        return Ok(Some(0));
-    };
+fn held_in(alloc: Global, done: Done, script: &Parsed) -> Result<Option<usize>, NoMemory> {
     let mut octets = 0usize;
     for index in 0..script.events.len() {
-        let (may_be, len) = holds_at(alloc, done, &script, index)?;
+        let (may_be, len) = holds_at(alloc, done, script, index)?;
         if !may_be {
             return Ok(None);
         }
         octets = octets.saturating_add(len);
     }
     Ok(Some(octets))
+}
+
+/// The same of the script of this text; a text that is none has no pieces.
+fn held(alloc: Global, done: Done, text: &[u8]) -> Result<Option<usize>, NoMemory> {
+    match script_of(alloc, text)? {
+        Some(script) => held_in(alloc, done, &script),
+        None => Ok(Some(0)),
+    }
 }
 
 /// Whether it may be done to each piece of the scripts of these that stand from one index to before another. These pieces

@@ -2,13 +2,30 @@
 
 use super::peers::{LineFeeds, Source, Target};
 use super::script_rows::FOUR_TICKETS;
-use broker_server::{Counting, run_words};
+use broker_server::{Counting, Ending, run_words};
 use std::alloc::{AllocError, Global};
 use std::io::Read;
 use std::test::Fail;
 
 /// A status, and the text of what is told beside it.
 type Told = (u8, Option<String>);
+
+/// These words, parted by a space.
+fn words_of(alloc: Global, words: &str) -> Result<Vec<String>, AllocError> {
+    let mut all = Vec::new(alloc);
+    for word in words.split(' ') {
+        all.push(String::from_str(alloc, word)?)?;
+    }
+    Ok(all)
+}
+
+/// The text of what an ending tells beside its status.
+fn text_of(alloc: Global, ended: &Ending) -> Result<Option<String>, AllocError> {
+    match &ended.detail {
+        Some(detail) => Ok(Some(format!(in alloc; "{detail}")?)),
+        None => Ok(None),
+    }
+}
 
 /// What is told by the program of these words, parted by a space, over this reader and this writer.
 fn told<R: Read + Drop>(
@@ -17,15 +34,9 @@ fn told<R: Read + Drop>(
     reader: R,
     writer: &mut Counting<Target>,
 ) -> Result<Told, AllocError> {
-    let mut all = Vec::new(alloc);
-    for word in words.split(' ') {
-        all.push(String::from_str(alloc, word)?)?;
-    }
-    let ended = run_words(alloc, Ok(all), &mut Counting::new(reader), writer);
-    let text = match &ended.detail {
-        Some(detail) => Some(format!(in alloc; "{detail}")?),
-        None => None,
-    };
+    let words = words_of(alloc, words)?;
+    let ended = run_words(alloc, Ok(words), &mut Counting::new(reader), writer);
+    let text = text_of(alloc, &ended)?;
     Ok((ended.status, text))
 }
 
@@ -137,34 +148,49 @@ fn refusals(rt: HostRuntime) -> Result<(), Fail> {
 /// The programs that read standard input.
 const PROGRAMS: &[&str] = &["relay A", "script", "trace", "audit"];
 
+/// Whether the program of these words tells this, and nothing else, over this reader.
+fn tells_over<R: Read + Drop>(
+    alloc: Global,
+    words: &str,
+    reader: R,
+    status: u8,
+    line: &str,
+) -> Result<bool, AllocError> {
+    let mut writer = Counting::new(Target::with_room(alloc, 64)?);
+    let (ended, text) = told(alloc, words, reader, &mut writer)?;
+    Ok(ended == status && text.as_deref() == Some(line))
+}
+
+/// Whether it tells that a reader without end is too long.
+fn tells_too_long(alloc: Global, words: &str) -> Result<bool, AllocError> {
+    let reader = LineFeeds {
+        left: usize::MAX,
+        at_once: usize::MAX,
+    };
+    let line = "112 TooLong: give at most 16,777,216 octets of input";
+    tells_over(alloc, words, reader, 2, line)
+}
+
 #[test]
-fn too_long(rt: HostRuntime) -> Result<(), Fail> {
+fn too_long(rt: HostRuntime) {
     for words in PROGRAMS {
-        let mut writer = Counting::new(Target::with_room(rt.alloc(), 64)?);
-        let reader = LineFeeds {
-            left: usize::MAX,
-            at_once: usize::MAX,
-        };
-        let (status, text) = told(rt.alloc(), words, reader, &mut writer)?;
-        assert!(rt; status == 2);
-        let line = "112 TooLong: give at most 16,777,216 octets of input";
-        assert!(rt; text.as_deref() == Some(line));
+        assert!(rt; tells_too_long(rt.alloc(), words) == Ok(true));
     }
-    Ok(())
+}
+
+/// Whether it tells that the first read failed.
+fn tells_failed_read(alloc: Global, words: &str) -> Result<bool, AllocError> {
+    let mut reader = Source::of(b"open\n");
+    reader.fails_at = 1;
+    tells_over(alloc, words, reader, 5, "reading: timed out")
 }
 
 /// An input of which the first read fails.
 #[test]
-fn a_read_fails(rt: HostRuntime) -> Result<(), Fail> {
+fn a_read_fails(rt: HostRuntime) {
     for words in PROGRAMS {
-        let mut writer = Counting::new(Target::with_room(rt.alloc(), 64)?);
-        let mut reader = Source::of(b"open\n");
-        reader.fails_at = 1;
-        let (status, text) = told(rt.alloc(), words, reader, &mut writer)?;
-        assert!(rt; status == 5);
-        assert!(rt; text.as_deref() == Some("reading: timed out"));
+        assert!(rt; tells_failed_read(rt.alloc(), words) == Ok(true));
     }
-    Ok(())
 }
 
 /// What fails of a writer, and what is told.
@@ -177,18 +203,22 @@ const BROKEN: &[Broken] = &[
     (0, 0, false, "writing: failed to write whole buffer"),
 ];
 
+/// Whether an audit of nothing tells this of a writer that is broken so.
+fn tells_broken(alloc: Global, broken: &Broken) -> Result<bool, AllocError> {
+    let &(at_once, fails_at, fails_flush, line) = broken;
+    let mut writer = Counting::new(Target::with_room(alloc, 64)?);
+    writer.inner.at_once = at_once;
+    writer.inner.fails_at = fails_at;
+    writer.inner.fails_flush = fails_flush;
+    let (status, text) = told(alloc, "audit", Source::of(b""), &mut writer)?;
+    Ok(status == 5 && text.as_deref() == Some(line))
+}
+
 #[test]
-fn a_write_fails(rt: HostRuntime) -> Result<(), Fail> {
-    for &(at_once, fails_at, fails_flush, line) in BROKEN {
-        let mut writer = Counting::new(Target::with_room(rt.alloc(), 64)?);
-        writer.inner.at_once = at_once;
-        writer.inner.fails_at = fails_at;
-        writer.inner.fails_flush = fails_flush;
-        let (status, text) = told(rt.alloc(), "audit", Source::of(b""), &mut writer)?;
-        assert!(rt; status == 5);
-        assert!(rt; text.as_deref() == Some(line));
+fn a_write_fails(rt: HostRuntime) {
+    for broken in BROKEN {
+        assert!(rt; tells_broken(rt.alloc(), broken) == Ok(true));
     }
-    Ok(())
 }
 
 /// Whether a run of the script tells what it did: that one event found no memory, where its output isn't that of a run

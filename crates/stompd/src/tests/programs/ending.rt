@@ -1,6 +1,7 @@
 //! Programs, from their words to their status and their first line on standard error.
 
 use super::peers::{Source, Target};
+use super::words::words_of;
 use broker_server::{Counting, Message, ProgramFault, run_words};
 use std::alloc::{AllocError, Global};
 use std::io;
@@ -42,9 +43,7 @@ fn relay(
     fails: Fails,
     output: &[u8],
 ) -> Result<(Ended, bool), AllocError> {
-    let mut words = Vec::new(alloc);
-    words.push(String::from_str(alloc, "relay")?)?;
-    words.push(String::from_str(alloc, name)?)?;
+    let words = words_of(alloc, &["relay", name])?;
     run(alloc, words, SEND, fails, output)
 }
 
@@ -55,8 +54,7 @@ fn audited(
     fails: Fails,
     output: &[u8],
 ) -> Result<(Ended, bool), AllocError> {
-    let mut words = Vec::new(alloc);
-    words.push(String::from_str(alloc, "audit")?)?;
+    let words = words_of(alloc, &["audit"])?;
     run(alloc, words, text, fails, output)
 }
 
@@ -170,14 +168,17 @@ fn ends_without_memory(rt: HostRuntime) {
     assert!(rt; answer == Some(true));
 }
 
+/// An error of the words' reading, and how the program ends then.
+const UNREAD: &[(ErrorKind, Ended)] = &[
+    (ErrorKind::InvalidData, USAGE),
+    (ErrorKind::OutOfMemory, NO_MEMORY),
+];
+
 #[test]
 fn wrong_words(rt: HostRuntime) -> Result<(), Fail> {
     let alloc = rt.alloc();
     assert!(rt; refused(alloc, Ok(Vec::new(alloc)))? == Some(USAGE));
-    for &(kind, ended) in &[
-        (ErrorKind::InvalidData, USAGE),
-        (ErrorKind::OutOfMemory, NO_MEMORY),
-    ] {
+    for &(kind, ended) in UNREAD {
         assert!(rt; refused(alloc, Err(io::Error::from(kind)))? == Some(ended));
     }
     Ok(())

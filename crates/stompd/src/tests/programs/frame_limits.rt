@@ -50,28 +50,37 @@ fn put_body(len: usize, out: &mut Vec<u8>) -> Result<(), AllocError> {
     Ok(())
 }
 
+/// Appends 62 headers, a body at the limits, and a NULL.
+fn put_full(alloc: Global, out: &mut Vec<u8>) -> Result<(), AllocError> {
+    put_long_line(out)?;
+    put_headers(alloc, 61, out)?;
+    out.push(b'\n')?;
+    put_body(BODY, out)?;
+    out.push(0)?;
+    Ok(())
+}
+
 /// A frame that begins by these lines, and goes on with 62 headers and a body at the limits.
 fn full_frame(alloc: Global, head: &[u8]) -> Result<Vec<u8>, AllocError> {
     let mut frame = Vec::from_slice(alloc, head)?;
-    put_long_line(&mut frame)?;
-    put_headers(alloc, 61, &mut frame)?;
-    frame.push(b'\n')?;
-    put_body(BODY, &mut frame)?;
-    frame.push(0)?;
+    put_full(alloc, &mut frame)?;
     Ok(frame)
 }
 
-/// A frame at all three limits is relayed: no size within them is too much for the memory that there is.
-#[test]
-fn at_each_limit(rt: HostRuntime) -> Result<(), Fail> {
-    let alloc = rt.alloc();
+/// Whether a frame at all three limits is relayed.
+fn relays_full(alloc: Global) -> Result<bool, AllocError> {
     let input = full_frame(alloc, b"SEND\ndestination:A\ncontent-length:1048576\n")?;
     let output = full_frame(
         alloc,
         b"MESSAGE\nsubscription:0\nmessage-id:1.0.0\ndestination:A\ncontent-length:1048576\n",
     )?;
-    assert!(rt; relays(alloc, input.as_slice(), output.as_slice(), 0)?);
-    Ok(())
+    relays(alloc, input.as_slice(), output.as_slice(), 0)
+}
+
+/// A frame at all three limits is relayed: no size within them is too much for the memory that there is.
+#[test]
+fn at_each_limit(rt: HostRuntime) {
+    assert!(rt; relays_full(rt.alloc()) == Ok(true));
 }
 
 /// What a frame has one too many of.
@@ -114,12 +123,24 @@ fn put_excess(alloc: Global, excess: Excess, out: &mut Vec<u8>) -> Result<(), Al
     }
 }
 
-/// Whether a whole frame is relayed, and then this excess is answered by this ERROR.
-fn refuses(alloc: Global, excess: Excess, error: &[u8]) -> Result<bool, AllocError> {
+/// A whole frame, and this excess behind it.
+fn with_excess(alloc: Global, excess: Excess) -> Result<Vec<u8>, AllocError> {
     let mut input = Vec::from_slice(alloc, HELLO)?;
     put_excess(alloc, excess, &mut input)?;
+    Ok(input)
+}
+
+/// The MESSAGE of that frame, and this ERROR behind it.
+fn with_error(alloc: Global, error: &[u8]) -> Result<Vec<u8>, AllocError> {
     let mut output = Vec::from_slice(alloc, HELLO_MESSAGE)?;
     output.extend_from_slice(error)?;
+    Ok(output)
+}
+
+/// Whether a whole frame is relayed, and then this excess is answered by this ERROR.
+fn refuses(alloc: Global, excess: Excess, error: &[u8]) -> Result<bool, AllocError> {
+    let input = with_excess(alloc, excess)?;
+    let output = with_error(alloc, error)?;
     relays(alloc, input.as_slice(), output.as_slice(), 2)
 }
 

@@ -54,34 +54,57 @@ fn script(alloc: Global) -> Result<Vec<u8>, AllocError> {
     Ok(script)
 }
 
-/// What comes of a script: its outcomes and its report.
-fn output(alloc: Global, script: &[u8]) -> Result<Octets, NoMemory> {
+/// A core that has taken a script's events.
+fn ran(alloc: Global, script: &[u8]) -> Result<Net, NoMemory> {
     let Ok(script) = Script::parse(alloc, script) else {
         return Err(NoMemory);
     };
     let (capacity, topics, events) = script.into_parts();
     let mut net = Net::new(alloc, topics, capacity)?;
     net.run(events)?;
-    let mut out = outcomes_of(alloc, &net)?;
-    let outcomes = out.len();
-    print_report(&net.report(), &mut out)?;
-    if out.len().saturating_sub(outcomes) < 300_000 {
+    Ok(net)
+}
+
+/// Puts a core's report, which has 300,000 octets or more.
+fn put_report(net: &Net, out: &mut Octets) -> Result<(), NoMemory> {
+    let before = out.len();
+    print_report(&net.report(), out)?;
+    if out.len().saturating_sub(before) < 300_000 {
         return Err(NoMemory);
     }
+    Ok(())
+}
+
+/// A core's outcomes and its report.
+fn told_of(alloc: Global, net: &Net) -> Result<Octets, NoMemory> {
+    let mut out = outcomes_of(alloc, net)?;
+    put_report(net, &mut out)?;
     Ok(out)
+}
+
+/// What comes of a script: its outcomes and its report.
+fn output(alloc: Global, script: &[u8]) -> Result<Octets, NoMemory> {
+    let net = ran(alloc, script)?;
+    told_of(alloc, &net)
+}
+
+/// Whether this is written of a script, and no write has more than `MOST` octets.
+fn goes_out(alloc: Global, script: &[u8], output: &[u8]) -> bool {
+    let mut reader = Counting::new(Source::of(script));
+    let mut writer = Counting::new(Wide {
+        taken: Vec::new(alloc),
+        most: 0,
+    });
+    let ended = run_script(alloc, &mut reader, &mut writer);
+    let is_written = ended.is_ok() && writer.inner.taken.as_slice() == output;
+    is_written && writer.inner.most <= MOST
 }
 
 /// Whether the output is as it is when it is put together whole, and no write has more than `MOST` octets.
 fn goes_out_in_pieces(alloc: Global) -> Result<bool, ProgramFault> {
     let script = script(alloc)?;
-    let mut reader = Counting::new(Source::of(script.as_slice()));
-    let mut writer = Counting::new(Wide {
-        taken: Vec::new(alloc),
-        most: 0,
-    });
-    run_script(alloc, &mut reader, &mut writer)?;
     let output = output(alloc, script.as_slice())?;
-    Ok(writer.inner.taken.as_slice() == output.as_slice() && writer.inner.most <= MOST)
+    Ok(goes_out(alloc, script.as_slice(), output.as_slice()))
 }
 
 #[test]

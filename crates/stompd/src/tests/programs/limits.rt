@@ -1,66 +1,85 @@
 //! Inputs at the limit and past it.
 
 use super::peers::{Interrupted, LineFeeds, Target};
-use broker_server::{Counting, run_relay, run_words};
-use std::test::Fail;
+use super::words::words_of;
+use broker_server::{Counting, Ending, run_relay, run_words};
+use std::alloc::{AllocError, Global};
 
 const LIMIT: usize = 16_777_216;
 
+/// Whether so many LFs are refused alone.
+fn is_too_long(alloc: Global, left: usize) -> Result<bool, AllocError> {
+    let mut writer = Counting::new(Target::with_room(alloc, 64)?);
+    let mut reader = Counting::new(LineFeeds {
+        left,
+        at_once: usize::MAX,
+    });
+    let ended = run_relay(alloc, b"A", &mut reader, &mut writer);
+    Ok(ended == Ok(2) && writer.inner.taken.as_slice() == b"bad 112 TooLong\n".as_slice())
+}
+
 /// An input over the limit is refused alone, whether it ends or not.
 #[test]
-fn too_long(rt: HostRuntime) -> Result<(), Fail> {
-    let alloc = rt.alloc();
-    for left in [LIMIT + 1, usize::MAX] {
-        let mut reader = Counting::new(LineFeeds {
-            left,
-            at_once: usize::MAX,
-        });
-        let mut writer = Counting::new(Target::with_room(alloc, 64)?);
-        let ended = run_relay(alloc, b"A", &mut reader, &mut writer);
-        assert!(rt; ended == Ok(2));
-        assert!(rt; writer.inner.taken.as_slice() == b"bad 112 TooLong\n".as_slice());
+fn too_long(rt: HostRuntime) {
+    for &left in &[LIMIT + 1, usize::MAX] {
+        assert!(rt; is_too_long(rt.alloc(), left) == Ok(true));
     }
-    Ok(())
+}
+
+/// Whether an input at the limit is read whole where the reader gives so many octets at once, and nothing is written.
+fn is_read_whole(alloc: Global, at_once: usize) -> Result<bool, AllocError> {
+    let mut writer = Counting::new(Target::with_room(alloc, 64)?);
+    let mut reader = Counting::new(LineFeeds {
+        left: LIMIT,
+        at_once,
+    });
+    let ended = run_relay(alloc, b"A", &mut reader, &mut writer);
+    Ok(ended == Ok(0) && writer.inner.taken.is_empty() && reader.inner.left == 0)
 }
 
 /// An input at the limit is read whole, also where the reader gives one octet at a time.
 #[test]
-fn at_the_limit(rt: HostRuntime) -> Result<(), Fail> {
-    let alloc = rt.alloc();
-    for at_once in [usize::MAX, 1] {
-        let mut reader = Counting::new(LineFeeds {
-            left: LIMIT,
-            at_once,
-        });
-        let mut writer = Counting::new(Target::with_room(alloc, 64)?);
-        let ended = run_relay(alloc, b"A", &mut reader, &mut writer);
-        assert!(rt; ended == Ok(0));
-        assert!(rt; writer.inner.taken.is_empty());
-        assert!(rt; reader.inner.left == 0);
+fn at_the_limit(rt: HostRuntime) {
+    for &at_once in &[usize::MAX, 1] {
+        assert!(rt; is_read_whole(rt.alloc(), at_once) == Ok(true));
     }
-    Ok(())
+}
+
+/// Whether the program ends with this status, and tells this beside it.
+fn tells(alloc: Global, ended: &Ending, status: u8, line: &str) -> bool {
+    let Some(detail) = &ended.detail else {
+        return false;
+    };
+    match format!(in alloc; "{detail}") {
+        Ok(text) => ended.status == status && text.as_str() == line,
+        Err(_) => false,
+    }
+}
+
+/// Whether an audit over this reader and this writer gives the reader up, and tells this.
+fn gives_up(
+    alloc: Global,
+    reader: &mut Counting<Interrupted>,
+    writer: &mut Counting<Target>,
+) -> Result<bool, AllocError> {
+    let words = words_of(alloc, &["audit"])?;
+    let ended = run_words(alloc, Ok(words), reader, writer);
+    let line = "reading: no end of the input after 16,777,218 reads";
+    Ok(tells(alloc, &ended, 5, line))
+}
+
+/// Whether a reader that is interrupted each time is given up so after so many reads, none of which failed, and nothing is
+/// written.
+fn is_given_up(alloc: Global) -> Result<bool, AllocError> {
+    let mut writer = Counting::new(Target::with_room(alloc, 64)?);
+    let mut reader = Counting::new(Interrupted);
+    let told = gives_up(alloc, &mut reader, &mut writer) == Ok(true);
+    let counts = (reader.calls, reader.interruptions, reader.failures);
+    Ok(told && counts == (16_777_218, 16_777_218, 0) && writer.inner.taken.is_empty())
 }
 
 /// A reader that gives nothing and doesn't end is given up, and this is told.
 #[test]
-fn out_of_reads(rt: HostRuntime) -> Result<(), Fail> {
-    let alloc = rt.alloc();
-    let mut words = Vec::new(alloc);
-    words.push(String::from_str(alloc, "audit")?)?;
-    let mut reader = Counting::new(Interrupted);
-    let mut writer = Counting::new(Target::with_room(alloc, 64)?);
-    let ended = run_words(alloc, Ok(words), &mut reader, &mut writer);
-    assert!(rt; ended.status == 5);
-    let detail = ended.detail;
-    assert!(rt; detail.is_some());
-    if let Some(detail) = &detail {
-        let text = format!(in alloc; "{detail}")?;
-        let line = "reading: no end of the input after 16,777,218 reads";
-        assert!(rt; text.as_str() == line);
-    }
-    assert!(rt; reader.calls == 16_777_218);
-    assert!(rt; reader.interruptions == 16_777_218);
-    assert!(rt; reader.failures == 0);
-    assert!(rt; writer.inner.taken.is_empty());
-    Ok(())
+fn out_of_reads(rt: HostRuntime) {
+    assert!(rt; is_given_up(rt.alloc()) == Ok(true));
 }

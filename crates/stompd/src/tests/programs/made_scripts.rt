@@ -129,22 +129,27 @@ fn put_setting(setting: &[u8], number: u64, script: &mut Octets) -> Result<(), N
 
 // ---- runs
 
-/// A core of three topics, before its first event, and the settings of a script of it. Every eighth has a topic whose clock
-/// is nearly full.
-fn begun(alloc: Global, run: u32, script: &mut Octets) -> Result<Net, NoMemory> {
+/// Adds three topics, and puts their lines. Every eighth run has one whose clock is nearly full.
+fn add_topics(run: u32, topics: &mut Topics, script: &mut Octets) -> Result<(), NoMemory> {
     let clock = if run % 8 == 0 { u64::MAX - 2 } else { 4 };
     let settings: [(&[u8], &[u8], u64); 3] = [
         (b"A", b"topic A", 0),
         (b"B", b"topic B", clock),
         (b"C", b"topic C", 2),
     ];
-    let mut topics = Topics::new(alloc);
     for (name, setting, clock) in settings {
         put_setting(setting, clock, script)?;
         if topics.may_add(name) {
             topics.add(name, clock)?;
         }
     }
+    Ok(())
+}
+
+/// A core of these topics, before its first event, and the settings of a script of it.
+fn begun(alloc: Global, run: u32, script: &mut Octets) -> Result<Net, NoMemory> {
+    let mut topics = Topics::new(alloc);
+    add_topics(run, &mut topics, script)?;
     let capacity = if run % 2 == 0 { 1 } else { 8 };
     put_setting(b"capacity", capacity as u64, script)?;
     Net::new(alloc, topics, capacity)
@@ -209,30 +214,52 @@ fn draw(
     }
 }
 
-/// A core that has taken a run of three connections, which is drawn, and its script.
-fn drawn(alloc: Global, run: u32, script: &mut Octets) -> Result<Net, NoMemory> {
-    let mut net = begun(alloc, run, script)?;
+/// A core takes a run of three connections, which is drawn.
+fn take_drawn(alloc: Global, net: &mut Net, run: u32, script: &mut Octets) -> Result<(), NoMemory> {
     let mut draws = Draws::of(run);
     for c in 0..3 {
-        connect(alloc, &mut net, c, script)?;
+        connect(alloc, net, c, script)?;
     }
     for _ in 0..DRAWS {
-        draw(alloc, &mut net, &mut draws, script)?;
+        draw(alloc, net, &mut draws, script)?;
     }
+    Ok(())
+}
+
+/// A core that has taken such a run, and its script.
+fn drawn(alloc: Global, run: u32, script: &mut Octets) -> Result<Net, NoMemory> {
+    let mut net = begun(alloc, run, script)?;
+    take_drawn(alloc, &mut net, run, script)?;
     Ok(net)
+}
+
+/// What is told of a core: its outcomes and its report.
+fn told_of(alloc: Global, net: &Net) -> Result<Octets, NoMemory> {
+    let mut told = outcomes_of(alloc, net)?;
+    print_report(&net.report(), &mut told)?;
+    Ok(told)
+}
+
+/// Whether the script gives this, and this trace, of which the audit is a yes.
+fn gives_these(
+    alloc: Global,
+    script: &[u8],
+    told: &[u8],
+    trace: &[u8],
+) -> Result<bool, ProgramFault> {
+    Ok(
+        writes(alloc, Asked::Script, script, told, 0)?
+            && writes(alloc, Asked::Trace, script, trace, 0)?
+            && written(alloc, Asked::Audit, trace)?.ends_with(b"complete\n"),
+    )
 }
 
 /// Whether the script gives what was told of the core: its outcomes and its report, and its trace, of which the audit is a
 /// yes.
 fn gives(alloc: Global, script: &[u8], net: &Net) -> Result<bool, ProgramFault> {
-    let mut told = outcomes_of(alloc, net)?;
-    print_report(&net.report(), &mut told)?;
+    let told = told_of(alloc, net)?;
     let trace = net.trace()?.print(alloc)?;
-    Ok(
-        writes(alloc, Asked::Script, script, told.as_slice(), 0)?
-            && writes(alloc, Asked::Trace, script, trace.as_slice(), 0)?
-            && written(alloc, Asked::Audit, trace.as_slice())?.ends_with(b"complete\n"),
-    )
+    gives_these(alloc, script, told.as_slice(), trace.as_slice())
 }
 
 /// What came in all runs.
@@ -314,6 +341,14 @@ fn put_taken(net: &Net, script: &mut Octets) -> Result<(), NoMemory> {
     Ok(())
 }
 
+/// Whether the script of a run with client-ids that a core has taken gives it.
+fn is_script_given(alloc: Global, run: u32, net: &Net) -> Result<bool, ProgramFault> {
+    let mut script = Octets::new(alloc);
+    put_settings(kind_of(run), &mut script)?;
+    put_taken(net, &mut script)?;
+    gives(alloc, script.as_slice(), net)
+}
+
 /// Whether a run with client-ids is one that the plain program finds right, and its script gives it.
 fn is_given_with_ids(
     alloc: Global,
@@ -321,10 +356,7 @@ fn is_given_with_ids(
     seen: &mut claimed::Seen,
 ) -> Result<bool, ProgramFault> {
     let (net, is_right) = judged(alloc, run, seen)?;
-    let mut script = Octets::new(alloc);
-    put_settings(kind_of(run), &mut script)?;
-    put_taken(&net, &mut script)?;
-    Ok(is_right && gives(alloc, script.as_slice(), &net)?)
+    Ok(is_right && is_script_given(alloc, run, &net)?)
 }
 
 /// The expected values are those of a core whose outcomes and report the plain program has judged.

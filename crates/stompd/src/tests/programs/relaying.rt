@@ -2,8 +2,7 @@
 
 use super::peers::{Source, Target};
 use broker_server::{Counting, ProgramFault, run_relay};
-use std::alloc::Global;
-use std::test::Fail;
+use std::alloc::{AllocError, Global};
 
 /// An input, what is written of it, and the status.
 type Row = (&'static [u8], &'static [u8], u8);
@@ -106,43 +105,40 @@ const ERRORS: &[(&'static [u8], &'static [u8])] = &[
     (b"SEND\ncontent-length:1\n\nab", b"7 BadEnd"),
 ];
 
-/// What is written, and the status.
-fn relay(alloc: Global, input: &[u8], room: usize) -> Result<(Vec<u8>, u8), ProgramFault> {
-    let mut reader = Counting::new(Source::of(input));
-    let mut writer = Counting::new(Target::with_room(alloc, room)?);
-    let status = run_relay(alloc, b"A", &mut reader, &mut writer)?;
-    Ok((writer.inner.taken, status))
-}
-
-#[test]
-fn streams(rt: HostRuntime) -> Result<(), Fail> {
-    for &(input, output, status) in STREAMS {
-        let (written, ended) = relay(rt.alloc(), input, 1024)?;
-        assert!(rt; written.as_slice() == output);
-        assert!(rt; ended == status);
-    }
-    Ok(())
-}
-
-#[test]
-fn errors(rt: HostRuntime) -> Result<(), Fail> {
-    let alloc = rt.alloc();
-    for &(input, message) in ERRORS {
-        let mut output = Vec::new(alloc);
-        output.extend_from_slice(b"ERROR\nmessage:")?;
-        output.extend_from_slice(message)?;
-        output.extend_from_slice(b"\ncontent-length:0\n\n\0")?;
-        let (written, ended) = relay(alloc, input, 1024)?;
-        assert!(rt; written == output);
-        assert!(rt; ended == 2);
-    }
-    Ok(())
-}
-
 /// Whether this is written of the input, with this status.
 fn relays(alloc: Global, input: &[u8], output: &[u8], status: u8) -> Result<bool, ProgramFault> {
-    let (written, ended) = relay(alloc, input, 1024)?;
-    Ok(ended == status && written.as_slice() == output)
+    let mut writer = Counting::new(Target::with_room(alloc, 1024)?);
+    let mut reader = Counting::new(Source::of(input));
+    let ended = run_relay(alloc, b"A", &mut reader, &mut writer)?;
+    Ok(ended == status && writer.inner.taken.as_slice() == output)
+}
+
+#[test]
+fn streams(rt: HostRuntime) {
+    for &(input, output, status) in STREAMS {
+        assert!(rt; relays(rt.alloc(), input, output, status) == Ok(true));
+    }
+}
+
+/// The ERROR of this message, whose body is empty.
+fn error_of(alloc: Global, message: &[u8]) -> Result<Vec<u8>, AllocError> {
+    let mut error = Vec::from_slice(alloc, b"ERROR\nmessage:")?;
+    error.extend_from_slice(message)?;
+    error.extend_from_slice(b"\ncontent-length:0\n\n\0")?;
+    Ok(error)
+}
+
+/// Whether that ERROR alone is written of the input, with status 2.
+fn is_answered(alloc: Global, input: &[u8], message: &[u8]) -> Result<bool, ProgramFault> {
+    let error = error_of(alloc, message)?;
+    relays(alloc, input, error.as_slice(), 2)
+}
+
+#[test]
+fn errors(rt: HostRuntime) {
+    for &(input, message) in ERRORS {
+        assert!(rt; is_answered(rt.alloc(), input, message) == Ok(true));
+    }
 }
 
 /// Where a growth is refused, there is status 4 or the right output, and never another; the second time it is right.
@@ -157,46 +153,76 @@ fn ends_without_memory(rt: HostRuntime) {
     }
 }
 
+/// Whether a row's input is relayed as it should be, without a failure, where the reader gives and the writer takes one octet
+/// at a time, and every other call is interrupted or none.
+fn relays_slowly(alloc: Global, row: &Row, interrupted: bool) -> Result<bool, AllocError> {
+    let &(input, output, status) = row;
+    let mut writer = Counting::new(Target::with_room(alloc, 1024)?);
+    writer.inner.at_once = 1;
+    writer.inner.interrupted = interrupted;
+    let mut reader = Counting::new(Source::of(input));
+    reader.inner.at_once = 1;
+    reader.inner.interrupted = interrupted;
+    let ended = run_relay(alloc, b"A", &mut reader, &mut writer);
+    let failures = (reader.failures, writer.failures);
+    Ok(ended == Ok(status) && writer.inner.taken.as_slice() == output && failures == (0, 0))
+}
+
 /// The output is the same however the reader gives and the writer takes.
 #[test]
-fn slow_peers(rt: HostRuntime) -> Result<(), Fail> {
-    let alloc = rt.alloc();
-    for &(input, output, status) in STREAMS {
-        for interrupted in [false, true] {
-            let mut reader = Counting::new(Source::of(input));
-            reader.inner.at_once = 1;
-            reader.inner.interrupted = interrupted;
-            let mut writer = Counting::new(Target::with_room(alloc, 1024)?);
-            writer.inner.at_once = 1;
-            writer.inner.interrupted = interrupted;
-            let ended = run_relay(alloc, b"A", &mut reader, &mut writer);
-            assert!(rt; ended == Ok(status));
-            assert!(rt; writer.inner.taken.as_slice() == output);
-            assert!(rt; reader.failures == 0);
-            assert!(rt; writer.failures == 0);
-        }
+fn slow_peers(rt: HostRuntime) {
+    for row in STREAMS {
+        assert!(rt; relays_slowly(rt.alloc(), row, false) == Ok(true));
+        assert!(rt; relays_slowly(rt.alloc(), row, true) == Ok(true));
     }
-    Ok(())
+}
+
+/// How many small frames there are.
+const MANY: u32 = 4000;
+
+/// So many SENDs.
+fn many_sends(alloc: Global) -> Result<Vec<u8>, AllocError> {
+    let mut input = Vec::new(alloc);
+    for _ in 0..MANY {
+        input.extend_from_slice(b"SEND\ndestination:A\n\n0123456789abcdef\0")?;
+    }
+    Ok(input)
+}
+
+/// Appends the MESSAGE of the SEND of this number.
+fn put_message(alloc: Global, number: u32, output: &mut Vec<u8>) -> Result<(), AllocError> {
+    let head = format!(in alloc; "MESSAGE\nsubscription:0\nmessage-id:{number}.0.0\n")?;
+    output.extend_from_slice(head.as_bytes())?;
+    output.extend_from_slice(b"destination:A\ncontent-length:16\n\n0123456789abcdef\0")
+}
+
+/// The MESSAGEs of those SENDs.
+fn many_messages(alloc: Global) -> Result<Vec<u8>, AllocError> {
+    let mut output = Vec::new(alloc);
+    for number in 1..=MANY {
+        put_message(alloc, number, &mut output)?;
+    }
+    Ok(output)
+}
+
+/// Whether this is written of the input by at most seven writes, which at most five reads bring.
+fn goes_out(alloc: Global, input: &[u8], output: &[u8]) -> Result<bool, AllocError> {
+    let mut writer = Counting::new(Target::with_room(alloc, output.len())?);
+    let mut reader = Counting::new(Source::of(input));
+    let ended = run_relay(alloc, b"A", &mut reader, &mut writer);
+    let is_written = ended == Ok(0) && writer.inner.taken.as_slice() == output;
+    Ok(is_written && writer.inner.writes <= 7 && reader.calls <= 5)
+}
+
+/// Whether those MESSAGEs are written so of those SENDs.
+fn many_go_out(alloc: Global) -> Result<bool, AllocError> {
+    let input = many_sends(alloc)?;
+    let output = many_messages(alloc)?;
+    goes_out(alloc, input.as_slice(), output.as_slice())
 }
 
 /// Many small frames go out in few writes.
 #[test]
-fn large_writes(rt: HostRuntime) -> Result<(), Fail> {
-    let alloc = rt.alloc();
-    let mut input = Vec::new(alloc);
-    let mut output = Vec::new(alloc);
-    for n in 1..=4000u32 {
-        input.extend_from_slice(b"SEND\ndestination:A\n\n0123456789abcdef\0")?;
-        let head = format!(in alloc; "MESSAGE\nsubscription:0\nmessage-id:{n}.0.0\n")?;
-        output.extend_from_slice(head.as_bytes())?;
-        output.extend_from_slice(b"destination:A\ncontent-length:16\n\n0123456789abcdef\0")?;
-    }
-    let mut reader = Counting::new(Source::of(input.as_slice()));
-    let mut writer = Counting::new(Target::with_room(alloc, output.len())?);
-    let ended = run_relay(alloc, b"A", &mut reader, &mut writer);
-    assert!(rt; ended == Ok(0));
-    assert!(rt; writer.inner.taken == output);
-    assert!(rt; writer.inner.writes <= 7);
-    assert!(rt; reader.calls <= 5);
-    Ok(())
+fn large_writes(rt: HostRuntime) {
+    assert!(rt; many_go_out(rt.alloc()) == Ok(true));
 }

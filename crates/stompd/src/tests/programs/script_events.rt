@@ -84,11 +84,8 @@ fn events_stay_in_order(rt: HostRuntime) {
     assert!(rt; are_events(rt.alloc(), text, IN_ORDER));
 }
 
-/// Whether the events of a text are of these words, each with this first number.
-fn are_events(alloc: Global, text: &[u8], wanted: &[(&[u8], u64)]) -> bool {
-    let Some(events) = events_of(alloc, text) else {
-        return false;
-    };
+/// Whether events are of these words, each with this first number.
+fn list_is(events: &EventList, wanted: &[(&[u8], u64)]) -> bool {
     if events.len() != wanted.len() {
         return false;
     }
@@ -104,6 +101,14 @@ fn are_events(alloc: Global, text: &[u8], wanted: &[(&[u8], u64)]) -> bool {
     true
 }
 
+/// Whether the events of a text are.
+fn are_events(alloc: Global, text: &[u8], wanted: &[(&[u8], u64)]) -> bool {
+    match events_of(alloc, text) {
+        Some(events) => list_is(&events, wanted),
+        None => false,
+    }
+}
+
 /// What reading a TEXT came to.
 #[derive(Clone, Copy, PartialEq, Eq)]
 enum Reading {
@@ -117,12 +122,9 @@ enum Reading {
     NoMemory,
 }
 
-/// What reading a TEXT comes to, where these octets are wanted.
-fn reading_of(alloc: Global, text: &[u8], wanted: &[u8]) -> Reading {
-    let Ok(line) = piece_line(alloc, text) else {
-        return Reading::NoMemory;
-    };
-    let script = match Script::parse(alloc, line.as_slice()) {
+/// What reading this line comes to, where it asks for a piece and these octets are wanted.
+fn reading_of_line(alloc: Global, line: &[u8], wanted: &[u8]) -> Reading {
+    let script = match Script::parse(alloc, line) {
         Ok(script) => script,
         Err(ScriptFault::BadLine(_)) => return Reading::Bad,
         Err(ScriptFault::NoMemory) => return Reading::NoMemory,
@@ -131,6 +133,14 @@ fn reading_of(alloc: Global, text: &[u8], wanted: &[u8]) -> Reading {
     match events.get(0) {
         Some(Event::Piece(_, octets)) if octets.as_slice() == wanted => Reading::Wanted,
         _ => Reading::Others,
+    }
+}
+
+/// What reading a TEXT comes to, where these octets are wanted.
+fn reading_of(alloc: Global, text: &[u8], wanted: &[u8]) -> Reading {
+    match piece_line(alloc, text) {
+        Ok(line) => reading_of_line(alloc, line.as_slice(), wanted),
+        Err(_) => Reading::NoMemory,
     }
 }
 
@@ -200,21 +210,35 @@ fn other_texts_are_bad(rt: HostRuntime) {
 
 const DIGITS: [u8; 16] = *b"0123456789abcdef";
 
+/// Whether an octet stands for itself, or, if it is LF or the backslash, spells nothing alone.
+fn stands_for_itself(alloc: Global, octet: u8) -> bool {
+    let own = if octet == b'\n' || octet == b'\\' {
+        Reading::Bad
+    } else {
+        Reading::Wanted
+    };
+    reading_of(alloc, &[octet], &[octet]) == own
+}
+
+/// Whether the escape of two digits spells an octet.
+fn has_digits(alloc: Global, octet: u8) -> bool {
+    let digits = [DIGITS[(octet / 16) as usize], DIGITS[(octet % 16) as usize]];
+    let escape = [b'\\', b'x', digits[0], digits[1]];
+    reading_of(alloc, &escape, &[octet]) == Reading::Wanted
+}
+
+/// Whether an octet behind a backslash is an escape if it is one of four, and else spells nothing.
+fn is_short_or_bad(alloc: Global, octet: u8) -> bool {
+    let has_meaning = octet == b'n' || octet == b'r' || octet == b'0' || octet == b'\\';
+    (reading_of(alloc, &[b'\\', octet], b"") != Reading::Bad) == has_meaning
+}
+
 /// Each octet stands for itself, but for LF and the backslash; each has an escape of two digits; and four have a short one.
 #[test]
 fn each_octet_is_spelled(rt: HostRuntime) {
-    let alloc = rt.alloc();
     for octet in 0..=255u8 {
-        let own = if octet == b'\n' || octet == b'\\' {
-            Reading::Bad
-        } else {
-            Reading::Wanted
-        };
-        assert!(rt; reading_of(alloc, &[octet], &[octet]) == own);
-        let digits = [DIGITS[(octet / 16) as usize], DIGITS[(octet % 16) as usize]];
-        let escape = [b'\\', b'x', digits[0], digits[1]];
-        assert!(rt; reading_of(alloc, &escape, &[octet]) == Reading::Wanted);
-        let has_meaning = octet == b'n' || octet == b'r' || octet == b'0' || octet == b'\\';
-        assert!(rt; (reading_of(alloc, &[b'\\', octet], b"") != Reading::Bad) == has_meaning);
+        assert!(rt; stands_for_itself(rt.alloc(), octet));
+        assert!(rt; has_digits(rt.alloc(), octet));
+        assert!(rt; is_short_or_bad(rt.alloc(), octet));
     }
 }

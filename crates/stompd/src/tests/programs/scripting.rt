@@ -199,23 +199,25 @@ fn each_write_fails(rt: HostRuntime) -> Result<(), Fail> {
     Ok(())
 }
 
+/// Whether a reader without end is refused alone by a program.
+fn is_too_long(alloc: Global, asked: Asked) -> Result<bool, ProgramFault> {
+    let mut writer = Counting::new(Target::with_room(alloc, 64)?);
+    let mut reader = Counting::new(LineFeeds {
+        left: usize::MAX,
+        at_once: usize::MAX,
+    });
+    let ended = match asked {
+        Asked::Script => run_script(alloc, &mut reader, &mut writer),
+        _ => run_trace(alloc, &mut reader, &mut writer),
+    };
+    Ok(ended == Ok(2) && writer.inner.taken.as_slice() == b"bad 112 TooLong\n".as_slice())
+}
+
 /// A reader without end is refused alone.
 #[test]
-fn too_long(rt: HostRuntime) -> Result<(), Fail> {
-    for asked in [Asked::Script, Asked::Trace] {
-        let mut reader = Counting::new(LineFeeds {
-            left: usize::MAX,
-            at_once: usize::MAX,
-        });
-        let mut writer = Counting::new(Target::with_room(rt.alloc(), 64)?);
-        let ended = match asked {
-            Asked::Script => run_script(rt.alloc(), &mut reader, &mut writer),
-            _ => run_trace(rt.alloc(), &mut reader, &mut writer),
-        };
-        assert!(rt; ended == Ok(2));
-        assert!(rt; writer.inner.taken.as_slice() == b"bad 112 TooLong\n".as_slice());
-    }
-    Ok(())
+fn too_long(rt: HostRuntime) {
+    assert!(rt; is_too_long(rt.alloc(), Asked::Script) == Ok(true));
+    assert!(rt; is_too_long(rt.alloc(), Asked::Trace) == Ok(true));
 }
 
 /// How many lines `turn 0` a large script has. What comes of each is a line of 9 octets.
@@ -230,15 +232,19 @@ fn turns(alloc: Global) -> Result<Vec<u8>, ProgramFault> {
     Ok(script)
 }
 
+/// Whether so many octets of this script's output go out by four calls.
+fn goes_out(alloc: Global, script: &[u8]) -> Result<bool, ProgramFault> {
+    let mut writer = Counting::new(Target::with_room(alloc, 9 * TURNS)?);
+    let mut reader = Counting::new(Source::of(script));
+    let ended = run_script(alloc, &mut reader, &mut writer);
+    Ok(ended == Ok(0) && (writer.inner.taken.len(), writer.calls) == (9 * TURNS, 4))
+}
+
 /// Output of 180,000 octets goes out in two writes of 65,538, one of the rest, and a flush.
 #[test]
 fn large_writes(rt: HostRuntime) -> Result<(), Fail> {
     let script = turns(rt.alloc())?;
-    let mut reader = Counting::new(Source::of(script.as_slice()));
-    let mut writer = Counting::new(Target::with_room(rt.alloc(), 9 * TURNS)?);
-    let ended = run_script(rt.alloc(), &mut reader, &mut writer);
-    assert!(rt; ended == Ok(0));
-    assert!(rt; (writer.inner.taken.len(), writer.calls) == (9 * TURNS, 4));
+    assert!(rt; goes_out(rt.alloc(), script.as_slice()) == Ok(true));
     Ok(())
 }
 

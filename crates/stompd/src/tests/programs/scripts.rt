@@ -2,8 +2,7 @@
 
 use crate::tests::broker_core::topics::are_topics;
 use broker_server::{Script, ScriptFault};
-use std::alloc::Global;
-use std::test::Fail;
+use std::alloc::{AllocError, Global};
 
 /// What reading a text came to.
 #[derive(Clone, Copy, PartialEq, Eq)]
@@ -91,17 +90,28 @@ fn other_lines_are_bad(rt: HostRuntime) {
     }
 }
 
+/// This line behind two that are good, and before one that is bad.
+fn behind_two(alloc: Global, line: &[u8]) -> Result<Vec<u8>, AllocError> {
+    let mut text = Vec::from_slice(alloc, b"topic A 0\n\n")?;
+    text.extend_from_slice(line)?;
+    text.extend_from_slice(b"\nnext 00\n")?;
+    Ok(text)
+}
+
+/// What reading this line there comes to.
+fn reading_behind_two(alloc: Global, line: &[u8]) -> Reading {
+    match behind_two(alloc, line) {
+        Ok(text) => reading_of(alloc, text.as_slice()),
+        Err(_) => Reading::NoMemory,
+    }
+}
+
 /// Line 3 is bad, whatever it says, and so is a line behind it.
 #[test]
-fn bad_lines_are_counted(rt: HostRuntime) -> Result<(), Fail> {
-    let alloc = rt.alloc();
+fn bad_lines_are_counted(rt: HostRuntime) {
     for line in BAD.split(|octet| *octet == b'\n') {
-        let mut text = Vec::from_slice(alloc, b"topic A 0\n\n")?;
-        text.extend_from_slice(line)?;
-        text.extend_from_slice(b"\nnext 00\n")?;
-        assert!(rt; reading_of(alloc, text.as_slice()) == Reading::Bad(3));
+        assert!(rt; reading_behind_two(rt.alloc(), line) == Reading::Bad(3));
     }
-    Ok(())
 }
 
 /// The first bad line of each.
@@ -129,27 +139,36 @@ fn lines_stand_in_their_place(rt: HostRuntime) {
     }
 }
 
+/// Appends the line of a topic, whose name is of this number.
+fn put_topic(i: usize, text: &mut Vec<u8>) -> Result<(), AllocError> {
+    text.extend_from_slice(b"topic ")?;
+    text.push(b'A' + (i / 256 % 16) as u8)?;
+    text.push(b'a' + (i / 16 % 16) as u8)?;
+    text.push(b'a' + (i % 16) as u8)?;
+    text.extend_from_slice(b" 0\n")
+}
+
 /// A text of so many topics, of different names.
-fn topic_lines(alloc: Global, count: usize) -> Result<Vec<u8>, Fail> {
+fn topic_lines(alloc: Global, count: usize) -> Result<Vec<u8>, AllocError> {
     let mut text = Vec::new(alloc);
     for i in 0..count {
-        text.extend_from_slice(b"topic ")?;
-        text.push(b'A' + (i / 256 % 16) as u8)?;
-        text.push(b'a' + (i / 16 % 16) as u8)?;
-        text.push(b'a' + (i % 16) as u8)?;
-        text.extend_from_slice(b" 0\n")?;
+        put_topic(i, &mut text)?;
     }
     Ok(text)
 }
 
+/// What reading that text comes to.
+fn reading_of_topics(alloc: Global, count: usize) -> Reading {
+    match topic_lines(alloc, count) {
+        Ok(text) => reading_of(alloc, text.as_slice()),
+        Err(_) => Reading::NoMemory,
+    }
+}
+
 #[test]
-fn topics_are_at_most_1024(rt: HostRuntime) -> Result<(), Fail> {
-    let alloc = rt.alloc();
-    let most = topic_lines(alloc, 1024)?;
-    assert!(rt; reading_of(alloc, most.as_slice()) == Reading::Script(64, 1024, 0));
-    let more = topic_lines(alloc, 1025)?;
-    assert!(rt; reading_of(alloc, more.as_slice()) == Reading::Bad(1025));
-    Ok(())
+fn topics_are_at_most_1024(rt: HostRuntime) {
+    assert!(rt; reading_of_topics(rt.alloc(), 1024) == Reading::Script(64, 1024, 0));
+    assert!(rt; reading_of_topics(rt.alloc(), 1025) == Reading::Bad(1025));
 }
 
 const NAMED: &[(&[u8], u64)] = &[(b"A", 9), (b"b/!~", 0), (b"a", u64::MAX)];

@@ -4,22 +4,39 @@ use broker_server::{Message, Program, ProgramFault, RelayFault, USAGE};
 use std::alloc::{AllocError, Global};
 use std::test::Fail;
 
-/// What the words ask for: the relay's name, or what the program is, with a space, which no name has.
-fn asked(alloc: Global, words: &[&str]) -> Result<Option<Vec<u8>>, AllocError> {
+/// These words.
+pub(super) fn words_of(alloc: Global, words: &[&str]) -> Result<Vec<String>, AllocError> {
     let mut all = Vec::new(alloc);
     for word in words {
         all.push(String::from_str(alloc, word)?)?;
     }
-    match Program::parse(all.as_slice()) {
-        Some(Program::Relay(name)) => Ok(Some(Vec::from_slice(alloc, name)?)),
-        Some(Program::Script) => Ok(Some(Vec::from_slice(alloc, b"the script")?)),
-        Some(Program::Trace) => Ok(Some(Vec::from_slice(alloc, b"the trace")?)),
-        Some(Program::Audit) => Ok(Some(Vec::from_slice(alloc, b"the audit")?)),
-        None => Ok(None),
+    Ok(all)
+}
+
+/// Whether the words ask for this: the relay's name, or what the program is, with a space, which no name has.
+fn is_asked(words: &[String], wanted: &[u8]) -> bool {
+    match Program::parse(words) {
+        Some(Program::Relay(name)) => name == wanted,
+        Some(Program::Script) => wanted == b"the script".as_slice(),
+        Some(Program::Trace) => wanted == b"the trace".as_slice(),
+        Some(Program::Audit) => wanted == b"the audit".as_slice(),
+        None => false,
     }
 }
 
-/// Words with what they ask for, as `asked` says it.
+/// The same of these.
+fn ask_for(alloc: Global, words: &[&str], wanted: &str) -> Result<bool, AllocError> {
+    let words = words_of(alloc, words)?;
+    Ok(is_asked(words.as_slice(), wanted.as_bytes()))
+}
+
+/// Whether these words ask for no program.
+fn ask_for_none(alloc: Global, words: &[&str]) -> Result<bool, AllocError> {
+    let words = words_of(alloc, words)?;
+    Ok(Program::parse(words.as_slice()).is_none())
+}
+
+/// Words with what they ask for, as `is_asked` says it.
 const ASKED: &[(&[&str], &str)] = &[
     (&["relay", "A"], "A"),
     (&["relay", "/queue/a:b~"], "/queue/a:b~"),
@@ -31,15 +48,10 @@ const ASKED: &[(&[&str], &str)] = &[
 ];
 
 #[test]
-fn programs(rt: HostRuntime) -> Result<(), Fail> {
+fn programs(rt: HostRuntime) {
     for &(words, name) in ASKED {
-        let parsed = asked(rt.alloc(), words)?;
-        assert!(rt; parsed.is_some());
-        if let Some(parsed) = parsed {
-            assert!(rt; parsed.as_slice() == name.as_bytes());
-        }
+        assert!(rt; ask_for(rt.alloc(), words, name) == Ok(true));
     }
-    Ok(())
 }
 
 /// Words that ask for no program.
@@ -62,11 +74,10 @@ const OTHERS: &[&[&str]] = &[
 ];
 
 #[test]
-fn other_words(rt: HostRuntime) -> Result<(), Fail> {
+fn other_words(rt: HostRuntime) {
     for &words in OTHERS {
-        assert!(rt; asked(rt.alloc(), words)?.is_none());
+        assert!(rt; ask_for_none(rt.alloc(), words) == Ok(true));
     }
-    Ok(())
 }
 
 /// Whether this is the fault's status, and its text wherever it is printed.

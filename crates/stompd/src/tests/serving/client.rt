@@ -116,14 +116,18 @@ impl Client {
         Some(room)
     }
 
+    /// The next octet that comes.
+    fn octet(&mut self) -> Option<u8> {
+        self.next(1)?.first().copied()
+    }
+
     /// The next frame that comes, without its NULL.
     pub(super) fn frame(&mut self) -> Option<Vec<u8>> {
         let mut frame = Vec::new(self.alloc);
         for _ in 0..FRAME {
-            match self.next(1)?.first() {
-                Some(&0) => return Some(frame),
-                Some(&octet) => frame.push(octet).ok()?,
-                None => return None,
+            match self.octet()? {
+                0 => return Some(frame),
+                octet => frame.push(octet).ok()?,
             }
         }
         None

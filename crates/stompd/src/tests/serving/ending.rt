@@ -10,13 +10,39 @@ use std::sync::Wait;
 use std::thread::Threads;
 use std::time::Clock;
 
-/// The words `serve ADDR A`, where ADDR is this port of the own machine.
-fn words(alloc: Global, port: u16) -> Result<Vec<String>, AllocError> {
-    let mut words = Vec::new(alloc);
+/// Puts the words `serve ADDR A`, where ADDR is this port of the own machine.
+fn put_words(alloc: Global, port: u16, words: &mut Vec<String>) -> Result<(), AllocError> {
     words.push(String::from_str(alloc, "serve")?)?;
     words.push(format!(in alloc; "127.0.0.1:{port}")?)?;
     words.push(String::from_str(alloc, "A")?)?;
+    Ok(())
+}
+
+/// Those words.
+fn words(alloc: Global, port: u16) -> Result<Vec<String>, AllocError> {
+    let mut words = Vec::new(alloc);
+    put_words(alloc, port, &mut words)?;
     Ok(words)
+}
+
+/// How a server of these words ends, and how much it writes.
+fn ends<R>(rt: &R, alloc: Global, words: &[String]) -> Option<(u8, Option<Message>, usize)>
+where
+    R: Threads + Wait + Net + Clock + Log + Send + Sync,
+{
+    let asked = ServeWords::parse(words)?;
+    let mut written = Vec::new(alloc);
+    let ending = run_server(rt, alloc, asked, &mut written);
+    Some((ending.status, ending.message, written.len()))
+}
+
+/// The same of a server at this port.
+fn ends_at<R>(rt: &R, alloc: Global, port: u16) -> Option<(u8, Option<Message>, usize)>
+where
+    R: Threads + Wait + Net + Clock + Log + Send + Sync,
+{
+    let words = words(alloc, port).ok()?;
+    ends(rt, alloc, words.as_slice())
 }
 
 /// How the server ends, and how much it writes, at an address where another listens.
@@ -25,11 +51,8 @@ where
     R: Threads + Wait + Net + Clock + Log + Send + Sync,
 {
     let listener = TcpListener::bind(rt, SocketAddr::from((Ipv4Addr::LOCALHOST, 0))).ok()?;
-    let words = words(alloc, listener.local_addr().ok()?.port()).ok()?;
-    let asked = ServeWords::parse(words.as_slice())?;
-    let mut written = Vec::new(alloc);
-    let ending = run_server(rt, alloc, asked, &mut written);
-    Some((ending.status, ending.message, written.len()))
+    let addr = listener.local_addr().ok()?;
+    ends_at(rt, alloc, addr.port())
 }
 
 #[test]

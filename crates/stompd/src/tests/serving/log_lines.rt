@@ -50,6 +50,15 @@ fn lagged_behind(lines: &[String]) -> Option<u64> {
     }
 }
 
+/// Whether these lines say that the first lagged at A, behind as many items as a queue has room for or more, and fewer than
+/// came; and that it left by 74.
+fn say_who_lagged(lines: &[String]) -> bool {
+    let behind = lagged_behind(lines);
+    behind.is_some_and(|items| items >= 64 && items < 400)
+        && says_of_first(lines, " left: ERROR 74 Lagged")
+        && lines.len() == 6
+}
+
 /// The first subscribes to A and B, and doesn't read while 400 items come to A, and one to B. A queue holds 64 of them.
 #[test]
 fn the_log_says_who_lagged(rt: HostRuntime) {
@@ -57,14 +66,14 @@ fn the_log_says_who_lagged(rt: HostRuntime) {
     let kept = Kept::here(&rt, rt.alloc(), &lines);
     let logged = Logged::new(rt, LevelFilter::Info, kept);
     assert!(rt; serves(&logged, rt.alloc(), &OneOfTwo, 401));
-    let said = lines.lock(&rt);
-    let behind = lagged_behind(said.as_slice());
-    assert!(rt;
-        behind.is_some_and(|items| items >= 64 && items < 400),
-        "{behind:?}"
-    );
-    assert!(rt; says_of_first(said.as_slice(), " left: ERROR 74 Lagged"));
-    assert_eq!(rt; said.len(), 6);
+    assert!(rt; say_who_lagged(lines.lock(&rt).as_slice()));
+}
+
+/// Whether these lines say that the first left by its ERROR, which the system took from the server or not.
+fn say_who_never_read(lines: &[String]) -> bool {
+    let told = " left: ERROR 21 Unsupported";
+    let stuck = " left: ERROR 21 Unsupported, closed after 100 polls that brought nothing out";
+    (says_of_first(lines, told) || says_of_first(lines, stuck)) && lines.len() == 5
 }
 
 /// The first is sent more than it reads, is refused a frame, and doesn't read its ERROR. Whether the system takes that from
@@ -75,11 +84,17 @@ fn the_log_says_who_never_read_its_error(rt: HostRuntime) {
     let kept = Kept::here(&rt, rt.alloc(), &lines);
     let logged = Logged::new(rt, LevelFilter::Info, kept);
     assert!(rt; serves(&logged, rt.alloc(), &Silent, 120));
-    let said = lines.lock(&rt);
-    let told = " left: ERROR 21 Unsupported";
-    let stuck = " left: ERROR 21 Unsupported, closed after 100 polls that brought nothing out";
-    assert!(rt; says_of_first(said.as_slice(), told) || says_of_first(said.as_slice(), stuck));
-    assert_eq!(rt; said.len(), 5);
+    assert!(rt; say_who_never_read(lines.lock(&rt).as_slice()));
+}
+
+/// Whether these lines say once, by a read or else by a write, that the second is gone.
+fn say_who_is_gone(lines: &[String]) -> bool {
+    let front = "[INFO  serve] connection 1 of 127.0.0.1:";
+    let by_read = between(lines, front, " left: its peer closed it");
+    let by_write = between(lines, front, " left: a write failed");
+    by_read.or(by_write).is_some_and(|port| is_port(port))
+        && (by_read.is_none() || by_write.is_none())
+        && lines.len() == 9
 }
 
 /// The second resets its connection, which a read or a write finds.
@@ -89,13 +104,13 @@ fn the_log_says_who_is_gone(rt: HostRuntime) {
     let kept = Kept::here(&rt, rt.alloc(), &lines);
     let logged = Logged::new(rt, LevelFilter::Info, kept);
     assert!(rt; serves(&logged, rt.alloc(), &Reset, 3));
-    let said = lines.lock(&rt);
-    let front = "[INFO  serve] connection 1 of 127.0.0.1:";
-    let by_read = between(said.as_slice(), front, " left: its peer closed it");
-    let by_write = between(said.as_slice(), front, " left: a write failed");
-    assert!(rt; by_read.or(by_write).is_some_and(|port| is_port(port)));
-    assert!(rt; by_read.is_none() || by_write.is_none());
-    assert_eq!(rt; said.len(), 9);
+    assert!(rt; say_who_is_gone(lines.lock(&rt).as_slice()));
+}
+
+/// Whether these lines say that one connection was refused.
+fn say_one_was_refused(lines: &[String]) -> bool {
+    let refused = "[WARN  serve] refused 1 connections: 256 are there";
+    between(lines, refused, "").is_some() && lines.len() == 514
 }
 
 /// 256 are there, and one more comes.
@@ -105,10 +120,14 @@ fn the_log_says_how_many_were_refused(rt: HostRuntime) {
     let kept = Kept::here(&rt, rt.alloc(), &lines);
     let logged = Logged::new(rt, LevelFilter::Info, kept);
     assert!(rt; serves(&logged, rt.alloc(), &Many, 256));
-    let said = lines.lock(&rt);
-    let refused = "[WARN  serve] refused 1 connections: 256 are there";
-    assert!(rt; between(said.as_slice(), refused, "").is_some());
-    assert_eq!(rt; said.len(), 514);
+    assert!(rt; say_one_was_refused(lines.lock(&rt).as_slice()));
+}
+
+/// Whether these lines say at which port it can't listen, and why, and nothing else.
+fn say_where_it_cannot_listen(lines: &[String]) -> bool {
+    let rest = between(lines, "[ERROR serve] can't listen at 127.0.0.1:", "");
+    let parted = rest.and_then(|rest| rest.split_once(": "));
+    parted.is_some_and(|(port, reason)| is_port(port) && !reason.is_empty()) && lines.len() == 1
 }
 
 /// Another listens at the address.
@@ -118,13 +137,5 @@ fn the_log_says_where_it_cannot_listen(rt: HostRuntime) {
     let kept = Kept::here(&rt, rt.alloc(), &lines);
     let logged = Logged::new(rt, LevelFilter::Info, kept);
     assert!(rt; at_a_used_address(&logged, rt.alloc()).is_some());
-    let said = lines.lock(&rt);
-    let rest = between(
-        said.as_slice(),
-        "[ERROR serve] can't listen at 127.0.0.1:",
-        "",
-    );
-    let parted = rest.and_then(|rest| rest.split_once(": "));
-    assert!(rt; parted.is_some_and(|(port, reason)| is_port(port) && !reason.is_empty()));
-    assert_eq!(rt; said.len(), 1);
+    assert!(rt; say_where_it_cannot_listen(lines.lock(&rt).as_slice()));
 }

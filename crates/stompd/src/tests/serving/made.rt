@@ -44,30 +44,67 @@ const SUBSCRIBED: &str = "RECEIPT\nreceipt-id:s\n\n\0";
 /// An UNSUBSCRIBE, which asks for the receipt of a SEND.
 const UNSUBSCRIBE: &str = "UNSUBSCRIBE\nid:s\nreceipt:r\n\n\0";
 
+/// Whether this is the MESSAGE of its first or its second SEND there.
+fn is_message(alloc: Global, name: u32, of_second: bool, came: &[u8]) -> bool {
+    match message_of(alloc, name, of_second) {
+        Some(text) => came == text.as_bytes(),
+        None => false,
+    }
+}
+
+/// Whether the MESSAGE of the second SEND is the next that comes.
+fn hears_second(client: &mut Client, alloc: Global, name: u32) -> bool {
+    match client.frame() {
+        Some(came) => is_message(alloc, name, true, came.as_slice()),
+        None => false,
+    }
+}
+
+/// Whether this, which came, is the MESSAGE of the second SEND, or that of the first, and the other comes behind it.
+fn hears_with(client: &mut Client, alloc: Global, name: u32, came: &[u8]) -> bool {
+    is_message(alloc, name, true, came)
+        || (is_message(alloc, name, false, came) && hears_second(client, alloc, name))
+}
+
 /// Whether the MESSAGE of the second SEND is the next that comes, or the one behind that of the first.
-fn hears_last(client: &mut Client, alloc: Global, name: u32) -> Option<bool> {
-    let first = message_of(alloc, name, false)?;
-    let last = message_of(alloc, name, true)?;
-    let came = client.frame()?;
-    if came.as_slice() == last.as_bytes() {
-        return Some(true);
+fn hears_last(client: &mut Client, alloc: Global, name: u32) -> bool {
+    match client.frame() {
+        Some(came) => hears_with(client, alloc, name, came.as_slice()),
+        None => false,
     }
-    if came.as_slice() != first.as_bytes() {
-        return Some(false);
-    }
-    Some(client.frame()?.as_slice() == last.as_bytes())
+}
+
+/// Whether both read their RECEIPTs where the one sends this SUBSCRIBE and the other this SEND, both at once, and the other
+/// sends it again.
+fn meet_by(reader: &mut Client, sender: &mut Client, subscribe: &str, send: &str) -> bool {
+    reader.sends(subscribe)
+        && sender.asks(send, SENT)
+        && reader.hears(SUBSCRIBED)
+        && sender.asks(send, SENT)
+}
+
+/// The same at the topic of this name; `None` where there is no memory for what they send.
+fn meet_on(reader: &mut Client, sender: &mut Client, alloc: Global, name: u32) -> Option<bool> {
+    let subscribe = subscribe_to(alloc, name)?;
+    let send = send_to(alloc, name)?;
+    Some(meet_by(reader, sender, subscribe.as_str(), send.as_str()))
 }
 
 /// One subscribes to a topic and another sends to it, both at once: it is one topic, so what the other sends then comes.
-fn meet_at(reader: &mut Client, sender: &mut Client, alloc: Global, name: u32) -> Option<bool> {
-    let subscribe = subscribe_to(alloc, name)?;
-    let send = send_to(alloc, name)?;
-    let sent = reader.sends(subscribe.as_str()) && sender.asks(send.as_str(), SENT);
-    if !sent || !reader.hears(SUBSCRIBED) || !sender.asks(send.as_str(), SENT) {
-        return Some(false);
+fn meet_at(reader: &mut Client, sender: &mut Client, alloc: Global, name: u32) -> bool {
+    meet_on(reader, sender, alloc, name) == Some(true)
+        && hears_last(reader, alloc, name)
+        && reader.asks(UNSUBSCRIBE, SENT)
+}
+
+/// The same at each of a thousand topics.
+fn meet_at_all(reader: &mut Client, sender: &mut Client, alloc: Global) -> bool {
+    for name in 0..NAMES {
+        if !meet_at(reader, sender, alloc, name) {
+            return false;
+        }
     }
-    let heard = hears_last(reader, alloc, name)?;
-    Some(heard && reader.asks(UNSUBSCRIBE, SENT))
+    true
 }
 
 /// Two connections name a thousand topics, each at once.
@@ -83,15 +120,10 @@ impl Peers for AtOnce {
         let Some(mut reader) = Client::connected(alloc, lines) else {
             return false;
         };
-        let Some(mut sender) = Client::connected(alloc, lines) else {
-            return false;
-        };
-        for name in 0..NAMES {
-            if meet_at(&mut reader, &mut sender, alloc, name) != Some(true) {
-                return false;
-            }
+        match Client::connected(alloc, lines) {
+            Some(mut sender) => meet_at_all(&mut reader, &mut sender, alloc),
+            None => false,
         }
-        true
     }
 }
 

@@ -47,13 +47,20 @@ fn are_of_one(at_a: &[u8], at_b: &[u8]) -> bool {
     stamp_of(at_a).is_some() && stamp_of(at_a) == stamp_of(at_b) && at_a.last() == at_b.last()
 }
 
+/// The body of two MESSAGEs, where they are of one transaction.
+fn body_of_both(at_a: &[u8], at_b: &[u8]) -> Option<u8> {
+    if are_of_one(at_a, at_b) {
+        at_a.last().copied()
+    } else {
+        None
+    }
+}
+
 /// Whether the next MESSAGEs of both are of one transaction. Its body.
 fn next_of_both(first: &mut Client, second: &mut Client) -> Option<u8> {
-    let (at_a, at_b) = (first.frame()?, second.frame()?);
-    if !are_of_one(at_a.as_slice(), at_b.as_slice()) {
-        return None;
-    }
-    at_a.last().copied()
+    let at_a = first.frame()?;
+    let at_b = second.frame()?;
+    body_of_both(at_a.as_slice(), at_b.as_slice())
 }
 
 /// Whether both hear the transactions of a round, in one order, and as many of each connection as it sent.
@@ -69,6 +76,33 @@ fn hear_round(first: &mut Client, second: &mut Client) -> bool {
     of_first == TIMES
 }
 
+/// Whether what two send is heard in one order at both topics, round after round.
+fn are_heard(
+    first: &mut Client,
+    second: &mut Client,
+    at_a: &mut Client,
+    at_b: &mut Client,
+) -> bool {
+    for _ in 0..ROUNDS {
+        let sent = sends_round(first, FIRST) && sends_round(second, SECOND);
+        if !sent || !hear_round(at_a, at_b) {
+            return false;
+        }
+    }
+    true
+}
+
+/// Whether it is so with two new clients, where these have subscribed.
+fn cross(alloc: Global, lines: &mut Lines, at_a: &mut Client, at_b: &mut Client) -> bool {
+    let Some(mut first) = Client::connected(alloc, lines) else {
+        return false;
+    };
+    match Client::connected(alloc, lines) {
+        Some(mut second) => are_heard(&mut first, &mut second, at_a, at_b),
+        None => false,
+    }
+}
+
 /// Two send transactions to two topics, and one subscribes to each topic.
 #[derive(Drop)]
 struct Crossing;
@@ -82,22 +116,10 @@ impl Peers for Crossing {
         let Some(mut at_a) = Client::subscribed(alloc, lines) else {
             return false;
         };
-        let Some(mut at_b) = Client::told(alloc, lines, TO_B.0, TO_B.1) else {
-            return false;
-        };
-        let Some(mut first) = Client::connected(alloc, lines) else {
-            return false;
-        };
-        let Some(mut second) = Client::connected(alloc, lines) else {
-            return false;
-        };
-        for _ in 0..ROUNDS {
-            let sent = sends_round(&mut first, FIRST) && sends_round(&mut second, SECOND);
-            if !sent || !hear_round(&mut at_a, &mut at_b) {
-                return false;
-            }
+        match Client::told(alloc, lines, TO_B.0, TO_B.1) {
+            Some(mut at_b) => cross(alloc, lines, &mut at_a, &mut at_b),
+            None => false,
         }
-        true
     }
 }
 

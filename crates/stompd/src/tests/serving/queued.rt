@@ -68,26 +68,35 @@ fn are_first(alloc: Global, lines: &[String], count: u64) -> Result<bool, AllocE
     Ok(lines.len() as u64 == count)
 }
 
+/// What is written of a queue that was given so many lines.
+fn written_of<R: Wait + Copy>(rt: R, alloc: Global, count: u64) -> Result<Vec<String>, AllocError> {
+    let queue = filled(rt, alloc, count)?;
+    written(&rt, alloc, &queue)
+}
+
+/// Whether the first of these lines says that six were lost, and the others are the first that were put.
+fn say_six_were_lost(alloc: Global, lines: &[String]) -> Result<bool, AllocError> {
+    let Some((lost, kept)) = lines.split_first() else {
+        return Ok(false);
+    };
+    let is_said = lost.as_str() == "[WARN  serve] 6 lines of this log were lost";
+    Ok(is_said && are_first(alloc, kept, ROOM)?)
+}
+
 /// All lines are written for which there is room, and it is said before them how many were lost.
 #[test]
 fn lines_that_find_no_room_are_lost(rt: HostRuntime) -> Result<(), Fail> {
-    let queue = filled(rt, rt.alloc(), ROOM + 6)?;
-    let lines = written(&rt, rt.alloc(), &queue)?;
-    let Some((lost, kept)) = lines.as_slice().split_first() else {
-        return Err(Fail::new("no line"));
-    };
-    assert!(rt; lost.as_str() == "[WARN  serve] 6 lines of this log were lost");
-    assert!(rt; are_first(rt.alloc(), kept, ROOM)?);
+    let lines = written_of(rt, rt.alloc(), ROOM + 6)?;
+    assert!(rt; say_six_were_lost(rt.alloc(), lines.as_slice()) == Ok(true));
     Ok(())
 }
 
 /// Where there is room for all, none is lost.
 #[test]
 fn lines_are_written_in_their_order(rt: HostRuntime) -> Result<(), Fail> {
-    for count in [0, 1, ROOM] {
-        let queue = filled(rt, rt.alloc(), count)?;
-        let lines = written(&rt, rt.alloc(), &queue)?;
-        assert!(rt; are_first(rt.alloc(), &lines, count)?);
+    for &count in &[0, 1, ROOM] {
+        let lines = written_of(rt, rt.alloc(), count)?;
+        assert!(rt; are_first(rt.alloc(), lines.as_slice(), count) == Ok(true));
     }
     Ok(())
 }

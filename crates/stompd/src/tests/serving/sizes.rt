@@ -56,20 +56,39 @@ fn send_of(alloc: Global, count: usize) -> Option<String> {
 const HEAD: &str =
     "MESSAGE\nsubscription:s\nmessage-id:1.0.0\ndestination:A\ncontent-length:1048576\n\n";
 
-/// Whether the MESSAGE of the longest SEND comes back, and one octet more is refused.
-fn returns(client: &mut Client, alloc: Global) -> Option<bool> {
-    let longest = send_of(alloc, LONGEST)?;
-    let longer = send_of(alloc, LONGEST.checked_add(1)?)?;
-    let body = longest
-        .as_str()
+/// Whether the next that comes is this.
+fn hears_body(client: &mut Client, body: &[u8]) -> bool {
+    client
+        .next(body.len())
+        .is_some_and(|came| came.as_slice() == body)
+}
+
+/// Whether the MESSAGE of this SEND, which is the longest, comes back.
+fn hears_back(client: &mut Client, text: &str) -> bool {
+    match text
         .as_bytes()
-        .strip_prefix(b"SEND\ndestination:A\n\n".as_slice())?;
-    if !client.sends(longest.as_str()) || !client.hears(HEAD) {
-        return Some(false);
+        .strip_prefix(b"SEND\ndestination:A\n\n".as_slice())
+    {
+        Some(body) => client.sends(text) && client.hears(HEAD) && hears_body(client, body),
+        None => false,
     }
-    let came = client.next(body.len())?;
+}
+
+/// Whether the MESSAGE of the longest SEND comes back.
+fn returns(client: &mut Client, alloc: Global) -> bool {
+    match send_of(alloc, LONGEST) {
+        Some(text) => hears_back(client, text.as_str()),
+        None => false,
+    }
+}
+
+/// Whether one octet more is refused.
+fn refuses_longer(client: &mut Client, alloc: Global) -> bool {
     let told = "ERROR\nmessage:10 BodyTooLong\ncontent-length:0\n\n\0";
-    Some(came.as_slice() == body && client.ends_with(longer.as_str(), told))
+    match send_of(alloc, LONGEST.saturating_add(1)) {
+        Some(text) => client.ends_with(text.as_str(), told),
+        None => false,
+    }
 }
 
 /// One sends the longest frame to itself, and then a longer one.
@@ -83,7 +102,7 @@ impl Peers for Long {
 
     fn meet(&self, alloc: Global, lines: &mut Lines) -> bool {
         match Client::subscribed(alloc, lines) {
-            Some(mut client) => returns(&mut client, alloc) == Some(true),
+            Some(mut client) => returns(&mut client, alloc) && refuses_longer(&mut client, alloc),
             None => false,
         }
     }

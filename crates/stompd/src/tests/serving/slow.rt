@@ -41,20 +41,25 @@ fn hears_number(client: &mut Client, alloc: Global, number: u64, body: &[u8]) ->
     }
 }
 
-/// Whether each SEND is read before the next.
-fn goes_on(sender: &mut Client, reader: &mut Client, alloc: Global) -> bool {
-    let Some(text) = send_of(alloc, BODY) else {
-        return false;
-    };
+/// Whether each SEND of this text is read before the next.
+fn all_are_read(sender: &mut Client, reader: &mut Client, alloc: Global, text: &str) -> bool {
     let Some(body) = text.as_bytes().get(HEAD.len()..) else {
         return false;
     };
     for number in 1..=SENDS {
-        if !sender.sends(text.as_str()) || !hears_number(reader, alloc, number, body) {
+        if !sender.sends(text) || !hears_number(reader, alloc, number, body) {
             return false;
         }
     }
     true
+}
+
+/// Whether each SEND is read before the next.
+fn goes_on(sender: &mut Client, reader: &mut Client, alloc: Global) -> bool {
+    match send_of(alloc, BODY) {
+        Some(text) => all_are_read(sender, reader, alloc, text.as_str()),
+        None => false,
+    }
 }
 
 /// How often one asks for something: longer than the server takes to end what has lagged.
@@ -78,6 +83,16 @@ fn ends_lagged(client: &mut Client) -> bool {
     }
 }
 
+/// Whether the one of these lags and the other reads what a new client sends.
+fn one_lags(alloc: Global, lines: &mut Lines, slow: &mut Client, reader: &mut Client) -> bool {
+    match Client::connected(alloc, lines) {
+        Some(mut sender) => {
+            goes_on(&mut sender, reader, alloc) && pauses(&mut sender) && ends_lagged(slow)
+        }
+        None => false,
+    }
+}
+
 /// One subscribes and reads only a while after the last SEND; another reads each before the next.
 #[derive(Drop)]
 struct Slow;
@@ -91,13 +106,10 @@ impl Peers for Slow {
         let Some(mut slow) = Client::subscribed(alloc, lines) else {
             return false;
         };
-        let Some(mut reader) = Client::subscribed(alloc, lines) else {
-            return false;
-        };
-        let Some(mut sender) = Client::connected(alloc, lines) else {
-            return false;
-        };
-        goes_on(&mut sender, &mut reader, alloc) && pauses(&mut sender) && ends_lagged(&mut slow)
+        match Client::subscribed(alloc, lines) {
+            Some(mut reader) => one_lags(alloc, lines, &mut slow, &mut reader),
+            None => false,
+        }
     }
 }
 
@@ -271,17 +283,14 @@ fn hears_at_b(client: &mut Client, alloc: Global, number: u64) -> bool {
     }
 }
 
-/// Whether the other sends to A, and both subscribe there; then the slow one sends to B, which the other reads. So the
+/// Whether the other sends this to A, and both subscribe there; then the slow one sends to B, which the other reads. So the
 /// server has heard the slow one after it had an item for it, and writes before it hears it again.
-fn fills(slow: &mut Client, other: &mut Client, alloc: Global) -> bool {
-    let Some(text) = send_of(alloc, LARGE) else {
-        return false;
-    };
+fn fills_with(slow: &mut Client, other: &mut Client, alloc: Global, text: &str) -> bool {
     let Some(body) = text.as_bytes().get(HEAD.len()..) else {
         return false;
     };
     for number in 1..=UNREAD {
-        let sent = other.sends(text.as_str()) && hears_number(other, alloc, number, body);
+        let sent = other.sends(text) && hears_number(other, alloc, number, body);
         if !sent
             || !slow.sends("SEND\ndestination:B\n\nhi\0")
             || !hears_at_b(other, alloc, number)
@@ -290,6 +299,14 @@ fn fills(slow: &mut Client, other: &mut Client, alloc: Global) -> bool {
         }
     }
     true
+}
+
+/// Whether it does so with a large body.
+fn fills(slow: &mut Client, other: &mut Client, alloc: Global) -> bool {
+    match send_of(alloc, LARGE) {
+        Some(text) => fills_with(slow, other, alloc, text.as_str()),
+        None => false,
+    }
 }
 
 /// One subscribes, has more waiting than it can be told, and is refused a frame; it never reads its ERROR.

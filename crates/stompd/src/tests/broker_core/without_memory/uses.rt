@@ -46,6 +46,13 @@ fn is_72(outcome: Outcome) -> bool {
     matches!(outcome, Outcome::Faulted { fault, .. } if fault.number() == 72)
 }
 
+/// What comes of the last of these frames of a connection that is read.
+fn used_next(alloc: Global, net: &mut Net, octets: &'static [u8]) -> Result<Outcome, NoMemory> {
+    let c = fed(alloc, net, octets)?;
+    let (_done, outcome) = read(alloc, net, c)?;
+    Ok(outcome)
+}
+
 /// What comes of the last of these frames of a connection, or, where one finds no memory, of those of the next. There has to
 /// be nothing then of what they ask for. Where it was the CONNECT, the client-id is free at once; else as soon as the first
 /// connection is gone.
@@ -60,8 +67,7 @@ fn used(alloc: Global, net: &mut Net, octets: &'static [u8]) -> Result<Option<Ou
     if is_there || (done > 0 && !goes(alloc, net, c)?) {
         return Ok(None);
     }
-    let next = fed(alloc, net, octets)?;
-    Ok(Some(read(alloc, net, next)?.1))
+    Ok(Some(used_next(alloc, net, octets)?))
 }
 
 /// First uses of a topic N by a connection with a client-id, and what comes of them. Each begins the transaction `x` before.
@@ -81,12 +87,22 @@ const USES: &[(&[u8], &str)] = &[
 ];
 
 /// Whether that comes of it, and N is there then, behind A and B.
-fn is_made(alloc: Global, octets: &'static [u8], want: &str) -> Result<bool, NoMemory> {
-    let mut net = new_net(alloc, TWO_TOPICS)?;
-    let Some(outcome) = used(alloc, &mut net, octets)? else {
+fn makes(
+    alloc: Global,
+    net: &mut Net,
+    octets: &'static [u8],
+    want: &str,
+) -> Result<bool, NoMemory> {
+    let Some(outcome) = used(alloc, net, octets)? else {
         return Ok(false);
     };
     Ok(has_text(alloc, outcome, want)? && net.report().topics_len() == 3)
+}
+
+/// The same at a core of A and B.
+fn is_made(alloc: Global, octets: &'static [u8], want: &str) -> Result<bool, NoMemory> {
+    let mut net = new_net(alloc, TWO_TOPICS)?;
+    makes(alloc, &mut net, octets, want)
 }
 
 #[test]
@@ -136,12 +152,17 @@ fn goes_on(alloc: Global, net: &mut Net) -> Result<bool, NoMemory> {
 }
 
 /// Whether it does, where the first connection finds memory.
-fn lasts(alloc: Global) -> Result<Option<bool>, NoMemory> {
-    let mut net = new_net(alloc, TWO_TOPICS)?;
-    if !commits(alloc, &mut net)? {
+fn commits_and_goes_on(alloc: Global, net: &mut Net) -> Result<Option<bool>, NoMemory> {
+    if !commits(alloc, net)? {
         return Ok(None);
     }
-    Ok(Some(goes_on(alloc, &mut net)?))
+    Ok(Some(goes_on(alloc, net)?))
+}
+
+/// The same at a core of A and B.
+fn lasts(alloc: Global) -> Result<Option<bool>, NoMemory> {
+    let mut net = new_net(alloc, TWO_TOPICS)?;
+    commits_and_goes_on(alloc, &mut net)
 }
 
 #[test]
@@ -154,23 +175,39 @@ fn a_kept_sender(rt: HostRuntime) -> Result<(), Fail> {
     Ok(())
 }
 
+/// Whether a connection's claim of a client-id in use is refused, and for want of memory if not by 77.
+fn is_claim_refused(alloc: Global, net: &mut Net) -> Result<bool, NoMemory> {
+    let c = fed(alloc, net, CONNECT_P)?;
+    let refused = step(alloc, net, Next(c))?;
+    let is_77 = matches!(refused, Outcome::Faulted { fault, .. } if fault.number() == 77);
+    Ok(is_77 || is_72(refused))
+}
+
+/// Whether the client-id's sender is claimed once this connection is gone.
+fn is_free(alloc: Global, net: &mut Net, first: u64) -> Result<bool, NoMemory> {
+    step(alloc, net, Lost(first))?;
+    step(alloc, net, Leave(first))?;
+    match used(alloc, net, SENDS_B)? {
+        Some(outcome) => has_text(alloc, outcome, "flight 0 1"),
+        None => Ok(false),
+    }
+}
+
 /// Whether the claim of a client-id in use is refused, and for want of memory if not by 77; and whether its sender is claimed
-/// once the first connection is gone.
-fn is_refused(alloc: Global) -> Result<Option<bool>, NoMemory> {
-    let mut net = new_net(alloc, TWO_TOPICS)?;
-    let first = fed(alloc, &mut net, CONNECT_P)?;
-    if step(alloc, &mut net, Next(first))? != Outcome::Done {
+/// once the first connection is gone. Nothing where that one found no memory.
+fn refuses(alloc: Global, net: &mut Net) -> Result<Option<bool>, NoMemory> {
+    let first = fed(alloc, net, CONNECT_P)?;
+    if step(alloc, net, Next(first))? != Outcome::Done {
         return Ok(None);
     }
-    let second = fed(alloc, &mut net, CONNECT_P)?;
-    let refused = step(alloc, &mut net, Next(second))?;
-    let is_77 = matches!(refused, Outcome::Faulted { fault, .. } if fault.number() == 77);
-    step(alloc, &mut net, Lost(first))?;
-    step(alloc, &mut net, Leave(first))?;
-    let Some(outcome) = used(alloc, &mut net, SENDS_B)? else {
-        return Ok(Some(false));
-    };
-    Ok(Some((is_77 || is_72(refused)) && has_text(alloc, outcome, "flight 0 1")?))
+    let is_refused = is_claim_refused(alloc, net)?;
+    Ok(Some(is_free(alloc, net, first)? && is_refused))
+}
+
+/// The same at a core of A and B.
+fn is_refused(alloc: Global) -> Result<Option<bool>, NoMemory> {
+    let mut net = new_net(alloc, TWO_TOPICS)?;
+    refuses(alloc, &mut net)
 }
 
 #[test]

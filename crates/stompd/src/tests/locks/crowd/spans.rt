@@ -79,6 +79,22 @@ impl Taken {
         None
     }
 
+    /// Takes until it has so many items, or has looked for them often; then ends this subscription, and takes what is left.
+    fn take_to_end<R: Wait, W: Side, T: Side>(
+        &mut self,
+        rt: &R,
+        broker: &Broker<R, W, T>,
+        sub: u64,
+        taker: &mut Taker,
+        wanted: u32,
+    ) -> Option<()> {
+        self.take_some(rt, taker, wanted)?;
+        let ended = broker.unsubscribe(rt, self.topic, sub).ok()?;
+        self.to = ended.to;
+        self.cause = ended.cause;
+        self.take_rest(rt, taker)
+    }
+
     /// How many items it took, and why it ended.
     pub(super) fn ending(&self) -> (usize, Cause) {
         (self.items.len(), self.cause)
@@ -119,10 +135,6 @@ pub(super) fn taken_between<R: Wait, W: Side, T: Side>(
     let (sub, start, taker) = begun.into_parts();
     let mut taker = taker;
     let mut taken = Taken::new(alloc, topic, start);
-    taken.take_some(rt, &mut taker, wanted)?;
-    let ended = broker.unsubscribe(rt, topic, sub).ok()?;
-    taken.take_rest(rt, &mut taker)?;
-    taken.to = ended.to;
-    taken.cause = ended.cause;
+    taken.take_to_end(rt, broker, sub, &mut taker, wanted)?;
     Some(taken)
 }

@@ -137,14 +137,24 @@ const LINES: &[(Outcome, &[u8])] = &[
     (Outcome::NoMemory, b"no memory\n"),
 ];
 
+/// Whether the outcome's line is this, after these octets.
+fn has_line_after(
+    alloc: Global,
+    outcome: &Outcome,
+    before: &[u8],
+    line: &[u8],
+) -> Result<bool, NoMemory> {
+    let mut out = Octets::from_slice(alloc, before)?;
+    print_outcome(outcome, &mut out)?;
+    Ok(out.as_slice().strip_prefix(before) == Some(line))
+}
+
 /// Whether the outcome's line is this, alone and after other octets.
 fn has_line(alloc: Global, outcome: &Outcome, line: &[u8]) -> Result<bool, NoMemory> {
-    let mut out = Octets::new(alloc);
-    print_outcome(outcome, &mut out)?;
-    let alone = out.as_slice() == line;
-    let mut after = Octets::from_slice(alloc, b"fed\n")?;
-    print_outcome(outcome, &mut after)?;
-    Ok(alone && after.as_slice().strip_prefix(b"fed\n".as_slice()) == Some(line))
+    Ok(
+        has_line_after(alloc, outcome, b"", line)?
+            && has_line_after(alloc, outcome, b"fed\n", line)?,
+    )
 }
 
 #[test]

@@ -51,18 +51,29 @@ fn send(alloc: Global, body: &[u8]) -> Result<Octets, NoMemory> {
     Ok(octets)
 }
 
-/// The report where a connection was written a MESSAGE with this body.
-fn report_of(alloc: Global, body: &[u8]) -> Result<Octets, NoMemory> {
-    let mut net = subscribed(alloc)?;
+/// A connection sends this body, and is written its MESSAGE.
+fn send_and_take(alloc: Global, net: &mut Net, body: &[u8]) -> Result<(), NoMemory> {
     let octets = send(alloc, body)?;
     net.reserve(1)?;
     net.step(Event::Piece(0, octets));
     for &ask in AFTER {
-        step(alloc, &mut net, ask)?;
+        step(alloc, net, ask)?;
     }
+    Ok(())
+}
+
+/// A core's report.
+fn printed(alloc: Global, net: &Net) -> Result<Octets, NoMemory> {
     let mut out = Octets::new(alloc);
     print_report(&net.report(), &mut out)?;
     Ok(out)
+}
+
+/// The report where a connection was written a MESSAGE with this body.
+fn report_of(alloc: Global, body: &[u8]) -> Result<Octets, NoMemory> {
+    let mut net = subscribed(alloc)?;
+    send_and_take(alloc, &mut net, body)?;
+    printed(alloc, &net)
 }
 
 /// The end of that report, where the body is shown as this text.
