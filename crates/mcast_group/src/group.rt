@@ -313,7 +313,8 @@ impl<Q: Outlet + Drop> Group<Q> {
     /// memory aside.
     pub(crate) fn place_for(&self, floor: Stamp, part: &Part) -> Result<usize, ProposeFault>
         ensures fault { result_err result ≡ propose_fault floor (data_of part.now) self.now.topic }
-        ensures index { IfOk result (IsIndexPast (λ p. id_lt p.part.id (data_of part.now).id) self.now.topic.pending) }
+        ensures index { IfOk result
+            (IsIndexPast (λ p. id_lt p.part.id (data_of part.now).id) self.now.topic.pending) }
     {
         let limit = self.log_limit;
         let Err(index) = self.pending.search(part.id()) else {

@@ -5,6 +5,6 @@ use Rattle.mcast_txn.specs.declared.parts.stored_sends.StoredSends.{StoredSends}
 use Rattle.mcast_txn.specs.declared.parts.stored_sends.StoredSends.TheVariants.{One, Shared}
 
 -- the SENDs, in order
-abbrev pub sends_in : StoredSends → List PartMessage
-sends_in (One send) = send ∷ []
-sends_in (Shared sends) = sends
+abbrev pub stored_sends : StoredSends → List PartMessage
+stored_sends (One send) = send ∷ []
+stored_sends (Shared sends) = sends

@@ -16,12 +16,12 @@ pub struct PartSends {
 
 impl Model for PartSends {
     ghost use Rattle.std.specs.Prelude.{List};
-    ghost use Rattle.mcast_txn.specs.Inner.StoredSends.{sends_in};
+    ghost use Rattle.mcast_txn.specs.Inner.StoredSends.{stored_sends};
     ghost use Rattle.mcast_txn.specs.declared.parts.part_message.PartMessage.{PartMessage};
 
     ghost Value = { List PartMessage };
 
-    ghost view = { λ p. sends_in p.stored };
+    ghost view = { λ p. stored_sends p.stored };
 }
 
 impl PartSends {
