@@ -9,7 +9,7 @@ mod queues;
 use super::jobs::Opening;
 use broker_locks::{Broker, Shares, Side, Subscribed, Tally};
 use commits::{Answers, Committed, both, commit_all, two_committers};
-use logs::are_logs;
+use logs::leaves_logs;
 use mcast_txn::{NoMemory, Topic};
 use queues::items_sent;
 use std::alloc::Global;
@@ -67,48 +67,71 @@ fn three_heads<R: Wait, W: Side, T: Side>(rt: &R, broker: &Broker<R, W, T>) -> [
     ]
 }
 
-/// The senders, what the heads answer, how many items each subscription takes, all of them as they were sent, and what the
-/// commits answered.
+/// A subscription at each of the three topics.
 #[derive(Drop)]
-struct Ended {
+struct ThreeSubs {
+    at_a: Subscribed,
+    at_b: Subscribed,
+    at_c: Subscribed,
+}
+
+impl ThreeSubs {
+    /// Those that begin at this broker.
+    fn at<R: Wait, W: Side, T: Side>(rt: &R, broker: &Broker<R, W, T>) -> Option<ThreeSubs> {
+        let at_a = broker.subscribe(rt, Topic(0)).ok()?;
+        let at_b = broker.subscribe(rt, Topic(1)).ok()?;
+        let at_c = broker.subscribe(rt, Topic(2)).ok()?;
+        Some(ThreeSubs { at_a, at_b, at_c })
+    }
+
+    /// How many items each takes, if all of them are as they were sent.
+    fn items<R: Wait>(&mut self, rt: &R, answers: &Answers) -> [Option<u64>; 3] {
+        [
+            items_sent(rt, &mut self.at_a, Topic(0), answers),
+            items_sent(rt, &mut self.at_b, Topic(1), answers),
+            items_sent(rt, &mut self.at_c, Topic(2), answers),
+        ]
+    }
+}
+
+/// The senders, what the heads answer, and how many items each subscription takes, all of them as they were sent.
+#[derive(Clone, Copy, PartialEq, Eq)]
+struct Found {
     senders: [u64; 2],
     released: [Option<u64>; 3],
     items: [Option<u64>; 3],
+}
+
+/// What a run leaves at its broker, and what its commits answered.
+#[derive(Drop)]
+struct Ended {
+    found: Found,
     answers: Answers,
 }
 
-/// A run with these subscriptions at the three topics.
-fn run_with<R, W, T>(
+/// What this run leaves, with these subscriptions.
+fn ended<R: Wait, W: Side, T: Side>(
     rt: &R,
-    alloc: Global,
     broker: &Broker<R, W, T>,
-    at_a: &mut Subscribed,
-    at_b: &mut Subscribed,
-    at_c: &mut Subscribed,
-) -> Option<Ended>
-where
-    R: Threads + Wait + Send + Sync,
-    W: Side + Send + Sync + 'static,
-    T: Side + Send + Sync + 'static,
-{
+    subs: &mut ThreeSubs,
+    ran: Ran<W>,
+) -> Ended {
     let Ran {
         senders,
         first,
         second,
-    } = run_both(rt, alloc, broker)?;
+    } = ran;
     let released = three_heads(rt, broker);
     let answers = Answers::new(first.stamps, second.stamps);
-    let items = [
-        items_sent(rt, at_a, Topic(0), &answers),
-        items_sent(rt, at_b, Topic(1), &answers),
-        items_sent(rt, at_c, Topic(2), &answers),
-    ];
-    Some(Ended {
-        senders,
-        released,
-        items,
+    let items = subs.items(rt, &answers);
+    Ended {
+        found: Found {
+            senders,
+            released,
+            items,
+        },
         answers,
-    })
+    }
 }
 
 /// A run with a subscription at each of the three topics.
@@ -118,30 +141,19 @@ where
     W: Side + Send + Sync + 'static,
     T: Side + Send + Sync + 'static,
 {
-    let mut at_a = broker.subscribe(rt, Topic(0)).ok()?;
-    let mut at_b = broker.subscribe(rt, Topic(1)).ok()?;
-    let mut at_c = broker.subscribe(rt, Topic(2)).ok()?;
-    run_with(rt, alloc, broker, &mut at_a, &mut at_b, &mut at_c)
+    let mut subs = ThreeSubs::at(rt, broker)?;
+    let ran = run_both(rt, alloc, broker)?;
+    Some(ended(rt, broker, &mut subs, ran))
 }
 
-/// The senders, what the heads answer, how many items each subscription takes, all of them as they were sent, and whether
-/// the trace has just the commits that were made.
-#[derive(Clone, Copy, PartialEq, Eq)]
-struct Found {
-    senders: [u64; 2],
-    released: [Option<u64>; 3],
-    items: [Option<u64>; 3],
-    are_logs: bool,
-}
-
-/// A run whose trace is audited, with these ledgers.
+/// What is found, and whether the trace has just the commits that were made, with these ledgers.
 fn audited_by<R, W, T>(
     rt: &R,
     alloc: Global,
     opening: Opening,
     workers: Blank,
     tickets: Blank,
-) -> Option<Found>
+) -> Option<(Found, bool)>
 where
     R: Threads + Wait + Send + Sync,
     W: Side + Send + Sync + 'static,
@@ -150,23 +162,12 @@ where
     requires tickets { (tickets.name ≡ T.name) × (tickets.parts ≡ T.parts) × (T.parts ≡ T.all) × (T.all ≡ 1024) }
 {
     let broker = opening.begin::<R, W, T>(alloc, workers, tickets).ok()?;
-    let Ended {
-        senders,
-        released,
-        items,
-        answers,
-    } = run_subscribed(rt, alloc, &broker)?;
-    let trace = broker.into_trace().ok()?;
-    Some(Found {
-        senders,
-        released,
-        items,
-        are_logs: are_logs(alloc, &trace, &answers),
-    })
+    let Ended { found, answers } = run_subscribed(rt, alloc, &broker)?;
+    Some((found, leaves_logs(alloc, broker, &answers)))
 }
 
 /// The same, with ledgers of its own.
-fn audited<R>(rt: &R, alloc: Global, opening: Opening) -> Option<Found>
+fn audited<R>(rt: &R, alloc: Global, opening: Opening) -> Option<(Found, bool)>
 where
     R: Threads + Wait + Send + Sync,
 {
@@ -181,9 +182,8 @@ fn two_workers_are_audited(rt: HostRuntime) -> Result<(), Fail> {
         senders: [0, 1],
         released: [Some(240); 3],
         items: [Some(240); 3],
-        are_logs: true,
     };
-    assert!(rt; audited(&rt, rt.alloc(), opening) == Some(wanted));
+    assert!(rt; audited(&rt, rt.alloc(), opening) == Some((wanted, true)));
     Ok(())
 }
 

@@ -4,7 +4,8 @@ ghost use Rattle.std.specs.Prelude.{◌≡◌};
 
 use super::flights::{Points, Quiet, begun, no_points, stamp};
 use super::jobs::{Job, Opening, with_broker};
-use broker_locks::{Broker, CommitFault, Point, Side, Subscribed};
+use super::topics::left;
+use broker_locks::{Broker, CommitFault, Point, Side, Subscribed, Worker};
 use mcast_group::SubState;
 use mcast_txn::{NoMemory, Sender, Stamp, Topic};
 use sender_gate::Gate;
@@ -13,7 +14,29 @@ use std::sync::Wait;
 use std::sync::ledger::Blank;
 use std::test::Fail;
 
-/// What the commit of this sender's first transaction answers, with SENDs to these topics. A worker joins for it.
+/// What a commit answered, without its gate.
+fn answer_of(done: Result<(Gate, Stamp), (Gate, CommitFault)>) -> Result<Stamp, CommitFault> {
+    match done {
+        Ok((_gate, stamp)) => Ok(stamp),
+        Err((_gate, fault)) => Err(fault),
+    }
+}
+
+/// What the commit of this sender's first transaction answers, by this worker, with SENDs to these topics.
+pub(super) fn commit_by<R: Wait, W: Side, T: Side, Q: Point>(
+    rt: &R,
+    alloc: Global,
+    broker: &Broker<R, W, T>,
+    worker: &mut Worker<W>,
+    sender: u64,
+    topics: &[u32],
+    point: &mut Q,
+) -> Option<Result<Stamp, CommitFault>> {
+    let flying = begun(alloc, Gate::new(Sender(sender)), topics)?;
+    Some(answer_of(broker.commit(rt, worker, flying, point)))
+}
+
+/// The same by a worker that joins for it.
 pub(super) fn commit_as<R: Wait, W: Side, T: Side, Q: Point>(
     rt: &R,
     alloc: Global,
@@ -23,11 +46,7 @@ pub(super) fn commit_as<R: Wait, W: Side, T: Side, Q: Point>(
     point: &mut Q,
 ) -> Option<Result<Stamp, CommitFault>> {
     let mut worker = broker.join(rt).ok()?;
-    let flying = begun(alloc, Gate::new(Sender(sender)), topics)?;
-    match broker.commit(rt, &mut worker, flying, point) {
-        Ok((_gate, stamp)) => Some(Ok(stamp)),
-        Err((_gate, fault)) => Some(Err(fault)),
-    }
+    commit_by(rt, alloc, broker, &mut worker, sender, topics, point)
 }
 
 /// Before the second proposal it commits a transaction of sender 1 to these topics, and turns topic 0. It stores what it is
@@ -200,9 +219,25 @@ struct Nowhere;
 /// answers.
 #[derive(Clone, Copy, PartialEq, Eq)]
 struct Refused {
-    faults: [u32; 3],
+    faults: [Option<u32>; 3],
     state: Option<SubState>,
     released: Option<u64>,
+}
+
+/// The number of the fault by which subscribe is refused at topic 1,024, if it is.
+fn subscribe_fault<R: Wait, W: Side, T: Side>(rt: &R, broker: &Broker<R, W, T>) -> Option<u32> {
+    let fault = broker.subscribe(rt, Topic(1_024)).err()?;
+    Some(fault.number())
+}
+
+/// The same of a commit to topic 0 and to that one.
+fn commit_fault<R: Wait, W: Side, T: Side>(
+    rt: &R,
+    alloc: Global,
+    broker: &Broker<R, W, T>,
+) -> Option<u32> {
+    let answer = commit_as(rt, alloc, broker, 0, &[0, 1_024], &mut Quiet)?;
+    Some(answer.err()?.number())
 }
 
 /// What this broker answers there.
@@ -210,25 +245,21 @@ fn answers_there<R: Wait, W: Side, T: Side>(
     rt: &R,
     alloc: Global,
     broker: &Broker<R, W, T>,
-) -> Option<Refused> {
+) -> Refused {
     let faults = [
-        broker.subscribe(rt, Topic(1_024)).err()?.number(),
-        broker.unsubscribe(rt, Topic(1_024), 1_024).err()?.number(),
-        commit_as(rt, alloc, broker, 0, &[0, 1_024], &mut Quiet)?
-            .err()?
-            .number(),
+        subscribe_fault(rt, broker),
+        left(rt, broker, 1_024, 1_024).err(),
+        commit_fault(rt, alloc, broker),
     ];
-    let state = broker.state(rt, Topic(1_024), 1_024);
-    let released = broker.head_turn(rt, Topic(1_024)).ok();
-    Some(Refused {
+    Refused {
         faults,
-        state,
-        released,
-    })
+        state: broker.state(rt, Topic(1_024), 1_024),
+        released: broker.head_turn(rt, Topic(1_024)).ok(),
+    }
 }
 
 impl<R: Wait> Job<R> for Nowhere {
-    type Answer = Option<Refused>;
+    type Answer = Refused;
 
     fn run<W: Side, T: Side>(
         self,
@@ -237,7 +268,7 @@ impl<R: Wait> Job<R> for Nowhere {
         opening: Opening,
         workers: Blank,
         tickets: Blank,
-    ) -> Result<Option<Refused>, NoMemory>
+    ) -> Result<Refused, NoMemory>
         requires workers { (workers.name ≡ W.name) × (workers.parts ≡ W.parts) × (W.parts ≡ W.all) × (W.all ≡ 257) }
         requires tickets { (tickets.name ≡ T.name) × (tickets.parts ≡ T.parts) × (T.parts ≡ T.all) × (T.all ≡ 1024) }
     {
@@ -250,12 +281,12 @@ impl<R: Wait> Job<R> for Nowhere {
 fn a_topic_without_a_lock_refuses(rt: HostRuntime) -> Result<(), Fail> {
     let opening = Opening::new(rt.alloc(), &[0, 0], 4, false)?;
     let wanted = Refused {
-        faults: [47, 48, 49],
+        faults: [Some(47), Some(48), Some(49)],
         state: None,
         released: Some(0),
     };
     let found = with_broker(&rt, rt.alloc(), opening, Nowhere)?;
-    assert!(rt; found == Some(wanted));
+    assert!(rt; found == wanted);
     Ok(())
 }
 

@@ -5,7 +5,7 @@ use super::fake::Fake;
 use super::flights::{Points, begun, no_points, stamp};
 use broker_locks::{CommitFault, Point, commit_on};
 use mcast_group::ProposeFault;
-use mcast_txn::{Ballot, Flight, Sender, Stamp, Ticket, Topic, Verdict};
+use mcast_txn::{Ballot, Flight, Seen, Sender, Stamp, Ticket, Topic, Verdict};
 use sender_gate::{Flying, Gate};
 use std::alloc::Global;
 use std::process::Abort;
@@ -20,6 +20,16 @@ struct Answer {
     points: Points,
 }
 
+/// What a commit answered, and its gate.
+fn answer_of(
+    done: Result<(Gate, Stamp, Seen), (Gate, CommitFault)>,
+) -> (Result<Stamp, CommitFault>, Gate) {
+    match done {
+        Ok((gate, stamp, _seen)) => (Ok(stamp), gate),
+        Err((gate, fault)) => (Err(fault), gate),
+    }
+}
+
 /// Commits SENDs to these topics by a gate with floor (10, 0), where clocks are 3, 10, 20 and 2^64 - 1.
 fn answer_to<R: Abort>(
     rt: &R,
@@ -31,10 +41,7 @@ fn answer_to<R: Abort>(
     let flying = begun(alloc, gate, topics)?;
     let mut fake = Fake::new(rt, alloc, [3, 10, 20, u64::MAX], refuses);
     let mut points = no_points();
-    let (answer, gate) = match commit_on(flying, &mut fake, &mut points) {
-        Ok((gate, stamp, _note)) => (Ok(stamp), gate),
-        Err((gate, fault)) => (Err(fault), gate),
-    };
+    let (answer, gate) = answer_of(commit_on(flying, &mut fake, &mut points));
     if gate.sender() != Sender(4) || gate.seq() != 7 {
         return None;
     }
@@ -163,24 +170,30 @@ fn meddling(alloc: Global, flying: &Flying) -> Option<Meddler> {
     })
 }
 
-/// What a commit to topics 0 and 1 answers, where another verdict was set, with the floor and what was seen.
+/// What a commit to topics 0 and 1 of these places answers, where another verdict was set, with the floor.
 fn answer_to_meddler<R: Abort>(
-    rt: &R,
     alloc: Global,
-) -> Option<(Result<Stamp, CommitFault>, Stamp, [Option<Call>; 8])> {
+    fake: &mut Fake<'_, R>,
+) -> Option<(Result<Stamp, CommitFault>, Stamp)> {
     let gate = Gate::resume(Sender(4), 6, stamp(10, 0));
     let flying = begun(alloc, gate, &[0, 1])?;
     let mut point = meddling(alloc, &flying)?;
+    let (answer, gate) = answer_of(commit_on(flying, fake, &mut point));
+    Some((answer, gate.floor()))
+}
+
+/// The same, with what was seen.
+fn answer_and_seen<R: Abort>(
+    rt: &R,
+    alloc: Global,
+) -> Option<(Result<Stamp, CommitFault>, Stamp, [Option<Call>; 8])> {
     let mut fake = Fake::new(rt, alloc, [3, 10, 20, 0], None);
-    let (answer, floor) = match commit_on(flying, &mut fake, &mut point) {
-        Ok((gate, stamp, _note)) => (Ok(stamp), gate.floor()),
-        Err((gate, fault)) => (Err(fault), gate.floor()),
-    };
+    let (answer, floor) = answer_to_meddler(alloc, &mut fake)?;
     Some((answer, floor, fake.seen))
 }
 
 #[test]
 fn another_verdict_refuses_and_cancels(rt: HostRuntime) {
     let wanted = (Err(CommitFault::AlreadySet), stamp(11, 1), CANCELLED);
-    assert!(rt; answer_to_meddler(&rt, rt.alloc()) == Some(wanted));
+    assert!(rt; answer_and_seen(&rt, rt.alloc()) == Some(wanted));
 }

@@ -6,7 +6,7 @@ ghost use Rattle.std.specs.Prelude.{◌≡◌, ◌≤◌};
 mod spans;
 
 use super::audited::commits::{Answers, Committer, both, commit_all, two_committers};
-use super::audited::logs::are_logs;
+use super::audited::logs::leaves_logs;
 use super::held::reaches;
 use super::jobs::Opening;
 use crate::tests::draws::Draws;
@@ -133,7 +133,24 @@ where
     Some(one?.saturating_add(two?))
 }
 
-/// Adds subscriptions one after another, each at a topic that is drawn, until the workers have ended.
+/// What a thread's next subscription takes, at a topic that is drawn; the first is counted among those that have begun.
+fn next_taken<R: Wait, W: Side, T: Side>(
+    rt: &R,
+    alloc: Global,
+    broker: &Broker<R, W, T>,
+    draws: &mut Draws,
+    stages: &Stages,
+    is_first: bool,
+) -> Option<Taken> {
+    let topic = Topic(draws.below(3));
+    let begun = broker.subscribe(rt, topic).ok()?;
+    if is_first {
+        stages.begun.fetch_add(1, Ordering::SeqCst);
+    }
+    taken_between(rt, alloc, broker, topic, begun, draws.below(20))
+}
+
+/// Adds subscriptions one after another, until the workers have ended.
 fn add_drawn<R: Wait, W: Side, T: Side>(
     rt: &R,
     alloc: Global,
@@ -147,12 +164,7 @@ fn add_drawn<R: Wait, W: Side, T: Side>(
         if stages.are_committed() {
             return Some(());
         }
-        let topic = Topic(draws.below(3));
-        let begun = broker.subscribe(rt, topic).ok()?;
-        if all.is_empty() {
-            stages.begun.fetch_add(1, Ordering::SeqCst);
-        }
-        let taken = taken_between(rt, alloc, broker, topic, begun, draws.below(20))?;
+        let taken = next_taken(rt, alloc, broker, &mut draws, stages, all.is_empty())?;
         all.push(taken).ok()?;
     }
     Some(())
@@ -240,13 +252,12 @@ where
 
 /// What a run with six threads gives: how many rows were released, by the heads and by a last turn of each topic; how many
 /// items a subscription at topic 0 took that was there from the beginning and was read at the end alone, and why it ended;
-/// whether each subscription took just its rows; whether the trace has just the commits that were made.
+/// and whether each subscription took just its rows.
 #[derive(Clone, Copy, PartialEq, Eq)]
 struct Found {
     released: u64,
     unread: (usize, Cause),
     are_whole: bool,
-    are_logs: bool,
 }
 
 /// How many rows the last turn of each topic releases.
@@ -263,13 +274,10 @@ fn are_whole(all: &Vec<Taken>, answers: &Answers) -> bool {
     all.iter().all(|taken| taken.is_whole(answers))
 }
 
-/// What a run leaves at the broker: how many rows were released, what the subscription took that was read at the end, and
-/// whether it and all others took just their rows, with what the commits answered.
+/// What a run leaves at its broker, and what its commits answered.
 #[derive(Drop)]
 struct Ended {
-    released: u64,
-    unread: (usize, Cause),
-    are_whole: bool,
+    found: Found,
     answers: Answers,
 }
 
@@ -312,9 +320,11 @@ impl Ran {
             && are_whole(&left, &answers)
             && are_whole(&right, &answers);
         Ended {
-            released: released.saturating_add(last),
-            unread: unread.ending(),
-            are_whole: all_whole,
+            found: Found {
+                released: released.saturating_add(last),
+                unread: unread.ending(),
+                are_whole: all_whole,
+            },
             answers,
         }
     }
@@ -333,7 +343,7 @@ where
     Some(ran.ended(last, unread))
 }
 
-/// A run whose trace is audited, with these ledgers.
+/// What is found, and whether the trace has just the commits that were made, with these ledgers.
 fn crowded_by<R, W, T>(
     rt: &R,
     alloc: Global,
@@ -341,7 +351,7 @@ fn crowded_by<R, W, T>(
     run: u32,
     workers: Blank,
     tickets: Blank,
-) -> Option<Found>
+) -> Option<(Found, bool)>
 where
     R: Threads + Wait + Send + Sync,
     W: Side + Send + Sync + 'static,
@@ -350,23 +360,12 @@ where
     requires tickets { (tickets.name ≡ T.name) × (tickets.parts ≡ T.parts) × (T.parts ≡ T.all) × (T.all ≡ 1024) }
 {
     let broker = opening.begin::<R, W, T>(alloc, workers, tickets).ok()?;
-    let Ended {
-        released,
-        unread,
-        are_whole,
-        answers,
-    } = run_watched(rt, alloc, &broker, run)?;
-    let trace = broker.into_trace().ok()?;
-    Some(Found {
-        released,
-        unread,
-        are_whole,
-        are_logs: are_logs(alloc, &trace, &answers),
-    })
+    let Ended { found, answers } = run_watched(rt, alloc, &broker, run)?;
+    Some((found, leaves_logs(alloc, broker, &answers)))
 }
 
 /// The same, with ledgers of its own.
-fn crowded<R>(rt: &R, alloc: Global, opening: Opening, run: u32) -> Option<Found>
+fn crowded<R>(rt: &R, alloc: Global, opening: Opening, run: u32) -> Option<(Found, bool)>
 where
     R: Threads + Wait + Send + Sync,
 {
@@ -387,11 +386,10 @@ fn each_of_a_crowd_takes_its_rows(rt: HostRuntime) -> Result<(), Fail> {
         released: 720,
         unread: (240, Cause::Asked),
         are_whole: true,
-        are_logs: true,
     };
     for run in 0..8 {
         let opening = three_topics(rt.alloc(), 512)?;
-        assert!(rt; crowded(&rt, rt.alloc(), opening, run) == Some(wanted));
+        assert!(rt; crowded(&rt, rt.alloc(), opening, run) == Some((wanted, true)));
     }
     Ok(())
 }
@@ -403,11 +401,10 @@ fn those_of_a_crowd_that_lag_take_their_rows(rt: HostRuntime) -> Result<(), Fail
         released: 720,
         unread: (2, Cause::Lag),
         are_whole: true,
-        are_logs: true,
     };
     for run in 8..16 {
         let opening = three_topics(rt.alloc(), 2)?;
-        assert!(rt; crowded(&rt, rt.alloc(), opening, run) == Some(wanted));
+        assert!(rt; crowded(&rt, rt.alloc(), opening, run) == Some((wanted, true)));
     }
     Ok(())
 }

@@ -3,10 +3,11 @@
 ghost use Rattle.std.specs.Prelude.{◌≡◌, IfSome};
 ghost use Rattle.broker_locks.specs.Commits.{IsUntouched};
 
-use broker_locks::Point;
+use broker_locks::{Broker, Point, Side, Worker};
 use mcast_txn::{Draft, Headers, Octets, Stamp, Topic, Txn};
 use sender_gate::{Flying, Gate};
 use std::alloc::Global;
+use std::sync::Wait;
 
 /// A stamp.
 pub(super) fn stamp(n: u64, topic: u32) -> Stamp {
@@ -53,6 +54,20 @@ impl Point for Quiet {
     ghost told = { λ old topic k new. Unit {0} };
 
     fn before(&mut self, _topic: Topic, _k: usize) {}
+}
+
+/// The stamp of the gate's next transaction, to topic 0, which this worker commits. The gate is given back.
+pub(super) fn next_stamp<R: Wait, W: Side, T: Side>(
+    rt: &R,
+    alloc: Global,
+    broker: &Broker<R, W, T>,
+    worker: &mut Worker<W>,
+    gate: Gate,
+) -> Option<Stamp> {
+    let flying = begun(alloc, gate, &[0])?;
+    let (gate, stamp) = broker.commit(rt, worker, flying, &mut Quiet).ok()?;
+    broker.give_back(rt, gate);
+    Some(stamp)
 }
 
 /// The points that a commit came to: each topic, and the index of its proposal.

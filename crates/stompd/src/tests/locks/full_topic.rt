@@ -3,7 +3,7 @@
 ghost use Rattle.std.specs.Prelude.{◌≡◌};
 
 use super::broker::{Crossed, TWO_POINTS, commit_as, commit_overtaken, heads};
-use super::flights::{Quiet, begun, stamp};
+use super::flights::{Quiet, begun, next_stamp, stamp};
 use super::jobs::{Job, Opening, with_broker};
 use broker_locks::{Broker, CommitFault, Side, Worker};
 use mcast_txn::{NoMemory, Sender, Stamp};
@@ -140,19 +140,6 @@ struct After {
     fault: CommitFault,
     gate: (u64, u64, Stamp),
     next: Option<Stamp>,
-}
-
-/// The stamp of the gate's next commit, to topic 0.
-fn next_stamp<R: Wait, W: Side, T: Side>(
-    rt: &R,
-    alloc: Global,
-    broker: &Broker<R, W, T>,
-    worker: &mut Worker<W>,
-    gate: Gate,
-) -> Option<Stamp> {
-    let flying = begun(alloc, gate, &[0])?;
-    let (_gate, stamp) = broker.commit(rt, worker, flying, &mut Quiet).ok()?;
-    Some(stamp)
 }
 
 /// What this broker answers to this worker.

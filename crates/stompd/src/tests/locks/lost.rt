@@ -3,7 +3,7 @@
 ghost use Rattle.std.specs.Prelude.{◌≡◌};
 
 use super::broker::heads;
-use super::flights::{Quiet, begun, stamp};
+use super::flights::{next_stamp, stamp};
 use super::held::{Held, reaches};
 use super::jobs::Opening;
 use super::tracing::{has_text, is_complete};
@@ -157,6 +157,43 @@ struct Left {
     is_connected: bool,
 }
 
+/// Whether the answer to its CONNECT is written.
+fn connects<'a, R: Wait, W: Side, T: Side>(
+    calls: &mut Calls<'a, R, W, T>,
+    line: &mut Line<'_>,
+    talk: &mut Conversation<Calls<'a, R, W, T>>,
+) -> bool {
+    talk.hear(calls, CONNECT);
+    talk.drain(line).is_ok()
+}
+
+/// What the write behind its transaction comes to.
+fn commits<'a, R: Wait, W: Side, T: Side>(
+    calls: &mut Calls<'a, R, W, T>,
+    line: &mut Line<'_>,
+    talk: &mut Conversation<Calls<'a, R, W, T>>,
+) -> Result<usize, ProgramFault> {
+    talk.hear(calls, COMMIT);
+    talk.drain(line)
+}
+
+/// How it leaves, once it has sent both and is lost.
+fn lose<'a, R: Wait, W: Side, T: Side>(
+    calls: &mut Calls<'a, R, W, T>,
+    line: &mut Line<'_>,
+    talk: &mut Conversation<Calls<'a, R, W, T>>,
+) -> Left {
+    let has_answer = connects(calls, line, talk);
+    let wrote = commits(calls, line, talk);
+    talk.lose(calls);
+    Left {
+        stamp: calls.stamp,
+        wrote,
+        exit: talk.exit(),
+        is_connected: has_answer && line.taken.as_slice() == CONNECTED,
+    }
+}
+
 /// The connection: its peer sends its transaction and closes, which is found at the next write.
 fn converse<R: Wait, W: Side, T: Side>(
     rt: &R,
@@ -177,17 +214,7 @@ fn converse<R: Wait, W: Side, T: Side>(
         taken: Vec::new(alloc),
     };
     let mut talk = Conversation::new(alloc, 4);
-    talk.hear(&mut calls, CONNECT);
-    let connected = talk.drain(&mut line);
-    talk.hear(&mut calls, COMMIT);
-    let wrote = talk.drain(&mut line);
-    talk.lose(&mut calls);
-    Some(Left {
-        stamp: calls.stamp,
-        wrote,
-        exit: talk.exit(),
-        is_connected: connected.is_ok() && line.taken.as_slice() == CONNECTED,
-    })
+    Some(lose(&mut calls, &mut line, &mut talk))
 }
 
 /// The peer: once the COMMIT is held, another connection's claim of its client-id is refused by this number; then it closes.
@@ -224,18 +251,15 @@ where
     )
 }
 
-/// The stamp of the gate's next transaction, at A, which this worker commits. The gate is given back.
-fn next_stamp<R: Wait, W: Side, T: Side>(
+/// The stamp of the gate's next transaction, at A, by a worker that joins for it.
+fn stamp_by_joining<R: Wait, W: Side, T: Side>(
     rt: &R,
     alloc: Global,
     broker: &Broker<R, W, T>,
-    worker: &mut Worker<W>,
     gate: Gate,
 ) -> Option<Stamp> {
-    let flying = begun(alloc, gate, &[0])?;
-    let (gate, stamp) = broker.commit(rt, worker, flying, &mut Quiet).ok()?;
-    broker.give_back(rt, gate);
-    Some(stamp)
+    let mut worker = broker.join(rt).ok()?;
+    next_stamp(rt, alloc, broker, &mut worker, gate)
 }
 
 /// The next connection of the client-id: its sender, the number of its last transaction and its floor, and the stamp of its
@@ -247,8 +271,7 @@ fn goes_on<R: Wait, W: Side, T: Side>(
 ) -> Option<(u64, u64, Stamp, Stamp)> {
     let gate = broker.claim(rt, Some(b"c")).ok()?;
     let (sender, seq, floor) = (gate.sender().0, gate.seq(), gate.floor());
-    let mut worker = broker.join(rt).ok()?;
-    let stamp = next_stamp(rt, alloc, broker, &mut worker, gate)?;
+    let stamp = stamp_by_joining(rt, alloc, broker, gate)?;
     Some((sender, seq, floor, stamp))
 }
 
@@ -260,6 +283,24 @@ struct Found {
     refused: Option<u32>,
     released: [[Option<u64>; 2]; 2],
     next: Option<(u64, u64, Stamp, Stamp)>,
+}
+
+/// What is found at this broker.
+fn lost_at<R, W, T>(rt: &R, alloc: Global, broker: &Broker<R, W, T>) -> Found
+where
+    R: Threads + Wait + Send + Sync,
+    W: Side + Send + Sync + 'static,
+    T: Side + Send + Sync + 'static,
+{
+    let (left, refused) = converse_and_close(rt, alloc, broker);
+    let before = heads(rt, broker);
+    let next = goes_on(rt, alloc, broker);
+    Found {
+        left,
+        refused,
+        released: [before, heads(rt, broker)],
+        next,
+    }
 }
 
 /// The same at a broker with these ledgers, and its trace.
@@ -278,15 +319,7 @@ where
     requires tickets { (tickets.name ≡ T.name) × (tickets.parts ≡ T.parts) × (T.parts ≡ T.all) × (T.all ≡ 1024) }
 {
     let broker = opening.begin::<R, W, T>(alloc, workers, tickets).ok()?;
-    let (left, refused) = converse_and_close(rt, alloc, &broker);
-    let before = heads(rt, &broker);
-    let next = goes_on(rt, alloc, &broker);
-    let found = Found {
-        left,
-        refused,
-        released: [before, heads(rt, &broker)],
-        next,
-    };
+    let found = lost_at(rt, alloc, &broker);
     Some((found, broker.into_trace().ok()?))
 }
 

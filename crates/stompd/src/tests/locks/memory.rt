@@ -82,6 +82,17 @@ fn begun_at_last(alloc: Global, gate: Gate) -> Option<Flying>
     None
 }
 
+/// The gate of a commit that is refused by 42, where the gate has this floor; none where it is refused by another fault, or has
+/// another floor.
+fn gate_without_memory(refused: (Gate, CommitFault), floor: Stamp) -> Option<Gate> {
+    let (gate, fault) = refused;
+    if fault == CommitFault::NoMemory && gate.floor() == floor {
+        Some(gate)
+    } else {
+        None
+    }
+}
+
 /// The stamp of the gate's next commit to both topics, and the gate. Where it is refused by 42, the gate has its old floor, and
 /// commits the next.
 fn committed_at_last<R: Wait, W: Side, T: Side, Q: Point>(
@@ -98,8 +109,7 @@ fn committed_at_last<R: Wait, W: Side, T: Side, Q: Point>(
         let flying = begun_at_last(alloc, gate)?;
         match broker.commit(rt, worker, flying, point) {
             Ok(done) => return Some(done),
-            Err((refused, CommitFault::NoMemory)) if refused.floor() == floor => gate = refused,
-            Err(_) => return None,
+            Err(refused) => gate = gate_without_memory(refused, floor)?,
         }
     }
     None

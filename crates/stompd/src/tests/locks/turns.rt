@@ -14,7 +14,7 @@ use std::sync::ledger::Blank;
 use std::test::Fail;
 
 /// The stamp of the sender's first transaction, to topic 0, which this worker commits.
-fn stamp_of<R: Wait, W: Side, T: Side>(
+fn stamp_by<R: Wait, W: Side, T: Side>(
     rt: &R,
     alloc: Global,
     broker: &Broker<R, W, T>,
@@ -24,6 +24,17 @@ fn stamp_of<R: Wait, W: Side, T: Side>(
     let flying = begun(alloc, Gate::new(Sender(sender)), &[0])?;
     let (_gate, stamp, _seen) = broker.commit_seen(rt, worker, flying, &mut Quiet).ok()?;
     Some(stamp)
+}
+
+/// The same by a worker that joins for it.
+fn stamp_as<R: Wait, W: Side, T: Side>(
+    rt: &R,
+    alloc: Global,
+    broker: &Broker<R, W, T>,
+    sender: u64,
+) -> Option<Stamp> {
+    let mut worker = broker.join(rt).ok()?;
+    stamp_by(rt, alloc, broker, &mut worker, sender)
 }
 
 /// What a turn of topic 0 tells.
@@ -40,8 +51,7 @@ fn committed<R: Wait, W: Side, T: Side>(
     broker: &Broker<R, W, T>,
     sender: u64,
 ) -> Option<(Stamp, Turned)> {
-    let mut worker = broker.join(rt).ok()?;
-    let stamp = stamp_of(rt, alloc, broker, &mut worker, sender)?;
+    let stamp = stamp_as(rt, alloc, broker, sender)?;
     Some((stamp, turned(rt, broker)?))
 }
 

@@ -2,31 +2,15 @@
 
 ghost use Rattle.std.specs.Prelude.{◌≡◌};
 
-use super::flights::{Quiet, begun};
+use super::broker::commit_by;
+use super::flights::Quiet;
 use super::jobs::{Job, Opening, with_broker};
 use broker_locks::{Broker, CommitFault, Shares, Side, Tally, Worker};
-use mcast_txn::{NoMemory, Sender, Topic};
-use sender_gate::Gate;
+use mcast_txn::{NoMemory, Topic};
 use std::alloc::Global;
 use std::sync::Wait;
 use std::sync::ledger::Blank;
 use std::test::Fail;
-
-/// What the commit of this sender's first transaction answers, by this worker, with SENDs to these topics.
-fn commit_by<R: Wait, W: Side, T: Side>(
-    rt: &R,
-    alloc: Global,
-    broker: &Broker<R, W, T>,
-    worker: &mut Worker<W>,
-    sender: u64,
-    topics: &[u32],
-) -> Option<Result<(), CommitFault>> {
-    let flying = begun(alloc, Gate::new(Sender(sender)), topics)?;
-    match broker.commit(rt, worker, flying, &mut Quiet) {
-        Ok(_) => Some(Ok(())),
-        Err((_gate, fault)) => Some(Err(fault)),
-    }
-}
 
 /// The first worker commits to topics 0 and 1, the second to topic 0, and the head of that turns. Whether they answer so.
 fn are_committed<R: Wait, W: Side, T: Side>(
@@ -36,9 +20,11 @@ fn are_committed<R: Wait, W: Side, T: Side>(
     first: &mut Worker<W>,
     second: &mut Worker<W>,
 ) -> bool {
-    let both = commit_by(rt, alloc, broker, first, 0, &[0, 1]);
-    let one = commit_by(rt, alloc, broker, second, 1, &[0]);
-    both == Some(Ok(())) && one == Some(Ok(())) && broker.head_turn(rt, Topic(0)).ok() == Some(2)
+    let both = commit_by(rt, alloc, broker, first, 0, &[0, 1], &mut Quiet);
+    let one = commit_by(rt, alloc, broker, second, 1, &[0], &mut Quiet);
+    matches!(both, Some(Ok(_)))
+        && matches!(one, Some(Ok(_)))
+        && broker.head_turn(rt, Topic(0)).ok() == Some(2)
 }
 
 /// Whether a commit of the worker to topic 0 and to one that isn't there is refused.
@@ -48,7 +34,21 @@ fn is_refused<R: Wait, W: Side, T: Side>(
     broker: &Broker<R, W, T>,
     worker: &mut Worker<W>,
 ) -> bool {
-    commit_by(rt, alloc, broker, worker, 2, &[0, 1_024]) == Some(Err(CommitFault::Twice))
+    let answer = commit_by(rt, alloc, broker, worker, 2, &[0, 1_024], &mut Quiet);
+    answer == Some(Err(CommitFault::Twice))
+}
+
+/// Whether all commits of these workers answer as they have to; the second may make one more, which is refused.
+fn are_answered<R: Wait, W: Side, T: Side>(
+    rt: &R,
+    alloc: Global,
+    broker: &Broker<R, W, T>,
+    first: &mut Worker<W>,
+    second: &mut Worker<W>,
+    more: bool,
+) -> bool {
+    are_committed(rt, alloc, broker, first, second)
+        && (!more || is_refused(rt, alloc, broker, second))
 }
 
 /// Broker and shares, where the tally refuses these.
@@ -77,15 +77,9 @@ fn shares_of<R: Wait, W: Side, T: Side>(
 ) -> Option<(Shares<W>, Shares<W>)> {
     let mut first = broker.join(rt).ok()?;
     let mut second = broker.join(rt).ok()?;
-    let is_right = are_committed(rt, alloc, broker, &mut first, &mut second)
-        && (!more || is_refused(rt, alloc, broker, &mut second));
-    let first = broker.leave(rt, first);
-    let second = broker.leave(rt, second);
-    if is_right {
-        Some((first, second))
-    } else {
-        None
-    }
+    let are_right = are_answered(rt, alloc, broker, &mut first, &mut second, more);
+    let shares = (broker.leave(rt, first), broker.leave(rt, second));
+    are_right.then_some(shares)
 }
 
 /// Broker and both shares in one, where the tally refuses those of either worker.
