@@ -163,7 +163,7 @@ where
 {
     let broker = opening.begin::<R, W, T>(alloc, workers, tickets).ok()?;
     let Ended { found, answers } = run_subscribed(rt, alloc, &broker)?;
-    Some((found, leaves_logs(alloc, broker, &answers)))
+    Some((found, leaves_logs(alloc, broker, answers)))
 }
 
 /// The same, with ledgers of its own.

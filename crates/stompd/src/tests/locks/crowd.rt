@@ -155,16 +155,15 @@ fn add_drawn<R: Wait, W: Side, T: Side>(
     rt: &R,
     alloc: Global,
     broker: &Broker<R, W, T>,
-    run: u32,
+    draws: &mut Draws,
     stages: &Stages,
     all: &mut Vec<Taken>,
 ) -> Option<()> {
-    let mut draws = Draws::of(run);
     for _ in 0..SPANS {
         if stages.are_committed() {
             return Some(());
         }
-        let taken = next_taken(rt, alloc, broker, &mut draws, stages, all.is_empty())?;
+        let taken = next_taken(rt, alloc, broker, draws, stages, all.is_empty())?;
         all.push(taken).ok()?;
     }
     Some(())
@@ -178,8 +177,9 @@ fn spans_drawn<R: Wait, W: Side, T: Side>(
     run: u32,
     stages: &Stages,
 ) -> Option<Vec<Taken>> {
+    let mut draws = Draws::of(run);
     let mut all = Vec::new(alloc);
-    add_drawn(rt, alloc, broker, run, stages, &mut all)?;
+    add_drawn(rt, alloc, broker, &mut draws, stages, &mut all)?;
     Some(all)
 }
 
@@ -361,7 +361,7 @@ where
 {
     let broker = opening.begin::<R, W, T>(alloc, workers, tickets).ok()?;
     let Ended { found, answers } = run_watched(rt, alloc, &broker, run)?;
-    Some((found, leaves_logs(alloc, broker, &answers)))
+    Some((found, leaves_logs(alloc, broker, answers)))
 }
 
 /// The same, with ledgers of its own.

@@ -24,14 +24,14 @@ fn are_logs(alloc: Global, trace: &Trace, answers: &Answers) -> bool {
     }
 }
 
-/// Whether the trace that this broker leaves is such a one.
+/// Whether the trace that this broker leaves has just the commits that answered so. It lets both go.
 pub(crate) fn leaves_logs<R: Wait, W: Side, T: Side>(
     alloc: Global,
     broker: Broker<R, W, T>,
-    answers: &Answers,
+    answers: Answers,
 ) -> bool {
     match broker.into_trace() {
-        Ok(trace) => are_logs(alloc, &trace, answers),
+        Ok(trace) => are_logs(alloc, &trace, &answers),
         Err(_) => false,
     }
 }
