@@ -120,6 +120,21 @@ impl Fake {
         }
     }
 
+    /// The tickets of the first two topics, with the parts that were taken out for them.
+    fn enter_both(&mut self, flying: &mut Flying, parts: &mut Vec<Arc<Part>>)
+        ensures { flying.new.state.id ≡ flying.old.state.id }
+    {
+        self.enter(flying, parts, Topic(0));
+        self.enter(flying, parts, Topic(1));
+    }
+
+    /// Releases these parts at their topics.
+    fn release_all(&mut self, parts: &[Arc<Part>], stamp: Stamp) {
+        for part in parts {
+            self.release(part, stamp);
+        }
+    }
+
     /// The place of the next item of a subscription that may be taken now.
     fn next(&self, number: u64) -> Option<usize> {
         if self.taken >= self.plan.early && !self.asked {
@@ -217,14 +232,10 @@ impl BrokerCalls for Fake {
         }
         let mut flying = flying;
         let mut parts = Vec::new(self.alloc);
-        self.enter(&mut flying, &mut parts, Topic(0));
-        self.enter(&mut flying, &mut parts, Topic(1));
+        self.enter_both(&mut flying, &mut parts);
         match flying.decide() {
             Ok((gate, verdict)) => {
-                let stamp = verdict.stamp();
-                for part in parts.as_slice() {
-                    self.release(part, stamp);
-                }
+                self.release_all(parts.as_slice(), verdict.stamp());
                 Ok(gate)
             }
             Err((flying, _)) => Err((flying.withdraw().0, CommitFault::NoMemory)),

@@ -269,16 +269,27 @@ fn is_yes(alloc: Global, trace: &[u8]) -> bool {
     }
 }
 
+/// Whether a script has its output, or an event's line says that there was no memory, or the status is 4.
+fn is_written(alloc: Global, row: &Row) -> bool {
+    match written(alloc, Asked::Script, row.script) {
+        Ok(text) => text.as_slice() == row.output || says_no_memory(&text),
+        Err(fault) => fault.status() == 4,
+    }
+}
+
+/// Whether the trace of what was run is explained, or the status is 4.
+fn is_explained(alloc: Global, script: &[u8]) -> bool {
+    match written(alloc, Asked::Trace, script) {
+        Ok(trace) => is_yes(alloc, &trace),
+        Err(fault) => fault.status() == 4,
+    }
+}
+
 /// Where a growth is refused the status is 4, or the output is right, or an event's line says so; and the trace of what was
 /// run is still explained.
 #[test]
 fn ends_without_memory(rt: HostRuntime) {
-    match written(rt.alloc(), Asked::Script, FOUR_TICKETS.script) {
-        Ok(text) => assert!(rt; text.as_slice() == FOUR_TICKETS.output || says_no_memory(&text)),
-        Err(fault) => assert!(rt; fault.status() == 4),
-    }
-    match written(rt.alloc(), Asked::Trace, FOUR_TICKETS.script) {
-        Ok(trace) => assert!(rt; is_yes(rt.alloc(), &trace)),
-        Err(fault) => assert!(rt; fault.status() == 4),
-    }
+    let row = FOUR_TICKETS;
+    assert!(rt; is_written(rt.alloc(), row));
+    assert!(rt; is_explained(rt.alloc(), row.script));
 }

@@ -2,7 +2,6 @@
 
 use broker_server::{Message, Program, ProgramFault, RelayFault, USAGE};
 use std::alloc::{AllocError, Global};
-use std::test::Fail;
 
 /// These words.
 pub(super) fn words_of(alloc: Global, words: &[&str]) -> Result<Vec<String>, AllocError> {
@@ -105,15 +104,35 @@ const RELAY_FAULTS: &[(RelayFault, &[u8])] = &[
     (RelayFault::NoSuchTxn, b"66 NoSuchTxn"),
 ];
 
-#[test]
-fn texts(rt: HostRuntime) -> Result<(), Fail> {
-    let usage = "usage: stompd relay NAME | script | trace | audit | serve ADDR NAME..";
-    assert!(rt; USAGE == usage && Message::Usage.text() == usage);
+/// Whether this is how the programs are used, and the message's text.
+fn is_usage(usage: &str) -> bool {
+    USAGE == usage && Message::Usage.text() == usage
+}
+
+/// Whether each fault has its status and its text.
+fn all_say(alloc: Global) -> Result<bool, AllocError> {
     for &(fault, status, line) in FAULTS {
-        assert!(rt; says(rt.alloc(), fault, status, line)?);
+        if !says(alloc, fault, status, line)? {
+            return Ok(false);
+        }
     }
+    Ok(true)
+}
+
+/// Whether each of the relay's faults has its title.
+fn all_have_titles(alloc: Global) -> Result<bool, AllocError> {
     for &(fault, title) in RELAY_FAULTS {
-        assert!(rt; has_title(rt.alloc(), fault, title)?);
+        if !has_title(alloc, fault, title)? {
+            return Ok(false);
+        }
     }
-    Ok(())
+    Ok(true)
+}
+
+#[test]
+fn texts(rt: HostRuntime) {
+    let usage = "usage: stompd relay NAME | script | trace | audit | serve ADDR NAME..";
+    assert!(rt; is_usage(usage));
+    assert!(rt; all_say(rt.alloc()) == Ok(true));
+    assert!(rt; all_have_titles(rt.alloc()) == Ok(true));
 }

@@ -151,6 +151,52 @@ fn is_explained(alloc: Global, trace: &Trace, again: u64) -> bool {
     false
 }
 
+impl Eight {
+    /// Whether none was told CONNECTED.
+    fn heard_nothing(&self) -> bool {
+        self.told.load(Ordering::SeqCst) == 0
+    }
+
+    /// How often one had to begin again.
+    fn begun_again(&self) -> u64 {
+        self.again.load(Ordering::SeqCst)
+    }
+
+    /// Whether all eight were served by a server that ended with this trace, and at most one of them had to begin again;
+    /// `None` where nobody had talked to it.
+    fn served_with(&self, alloc: Global, met: bool, trace: &Trace) -> Option<bool> {
+        let again = self.begun_again();
+        if self.heard_nothing() && again == 0 {
+            None
+        } else {
+            Some(met && again <= 1 && is_explained(alloc, trace, again))
+        }
+    }
+
+    /// That they weren't served by a server that ended with this fault; `None` where there was no memory for one that nobody
+    /// had talked to, or for the trace of one that had served all of them.
+    fn failed_with(&self, met: bool, fault: ServerFault) -> Option<bool> {
+        let is_excused = self.heard_nothing() || (met && self.begun_again() == 0);
+        if fault == ServerFault::NoMemory && is_excused {
+            None
+        } else {
+            Some(false)
+        }
+    }
+
+    /// Whether a server served them so; `None` also where it didn't begin.
+    fn are_served<R>(&self, rt: &R, alloc: Global) -> Option<bool>
+    where
+        R: Threads + Wait + Net + Clock + Log + Send + Sync,
+    {
+        let (met, ended) = met(rt, alloc, self)?;
+        match ended {
+            Ok(trace) => self.served_with(alloc, met, &trace),
+            Err(fault) => self.failed_with(met, fault),
+        }
+    }
+}
+
 /// Whether all eight were served, and at most one of them had to begin again; `None` where there was no memory for a server
 /// that nobody had talked to, for the thread of one, so that it began when they had gone, or for a trace.
 fn all_are_served<R>(rt: &R, alloc: Global) -> Option<bool>
@@ -161,15 +207,7 @@ where
         told: AtomicU64::new(0),
         again: AtomicU64::new(0),
     };
-    let (met, ended) = met(rt, alloc, &eight)?;
-    let nobody = eight.told.load(Ordering::SeqCst) == 0;
-    let again = eight.again.load(Ordering::SeqCst);
-    match ended {
-        Err(ServerFault::NoMemory) if nobody || (met && again == 0) => None,
-        Ok(_) if nobody && again == 0 => None,
-        Ok(trace) => Some(met && again <= 1 && is_explained(alloc, &trace, again)),
-        Err(_) => Some(false),
-    }
+    eight.are_served(rt, alloc)
 }
 
 #[test]

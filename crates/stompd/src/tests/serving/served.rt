@@ -18,7 +18,7 @@ use std::sync::Wait;
 use std::sync::atomic::{AtomicBool, Ordering};
 use std::sync::ledger::Blank;
 use std::thread;
-use std::thread::Threads;
+use std::thread::{Scope, Threads};
 use std::time::Clock;
 use trace_audit::{Trace, audit};
 
@@ -96,6 +96,23 @@ fn opened<R: Net>(rt: &R, alloc: Global, count: u64) -> Option<(TcpListener, Lin
     Some((listener, lines))
 }
 
+/// Starts the thread of these peers, who talk over these connections; whether the server answered them as it should is told
+/// here. Where there is no thread the connections are gone at once.
+fn start<'a, 's, E, P>(
+    alloc: Global,
+    scope: &Scope<'s, E>,
+    peers: &'a P,
+    lines: Lines,
+    met: &'a AtomicBool,
+)
+where
+    P: Peers + Send + Sync,
+    'a: 's,
+{
+    let mut lines = lines;
+    let _ = scope.spawn(move || met.store(peers.meet(alloc, &mut lines), Ordering::SeqCst));
+}
+
 /// Serves these peers until they and the server have ended.
 fn served_by<R, P, W, T>(
     rt: &R,
@@ -112,7 +129,6 @@ where
     T: Side + Send + Sync + 'static,
 {
     let count = peers.count();
-    let mut lines = lines;
     let met = AtomicBool::new(false);
     let ended = thread::scope(
         thread::scope_env(),
@@ -121,12 +137,41 @@ where
             requires { IsSend R.row × IsSync R.row × IsSend W.row × IsSync W.row × IsSend T.row × IsSync T.row
                 × IsSend P.row × IsSync P.row }
         {
-            let met = &met;
-            let _ = scope.spawn(move || met.store(peers.meet(alloc, &mut lines), Ordering::SeqCst));
+            start(alloc, scope, peers, lines, &met);
             serve(rt, alloc, broker, listener, Some(count))
         },
     );
     (met.load(Ordering::SeqCst), ended)
+}
+
+/// The same at a port of its own.
+fn served_at_a_port<R, P, W, T>(
+    rt: &R,
+    alloc: Global,
+    peers: &P,
+    broker: Broker<R, W, T>,
+) -> Option<(bool, Result<Trace, ServerFault>)>
+where
+    R: Threads + Wait + Net + Clock + Log + Send + Sync,
+    P: Peers + Send + Sync,
+    W: Side + Send + Sync + 'static,
+    T: Side + Send + Sync + 'static,
+{
+    let (listener, lines) = opened(rt, alloc, peers.count())?;
+    Some(served_by(rt, alloc, peers, broker, listener, lines))
+}
+
+/// A broker of those three topics with these ledgers.
+fn broker_with<R, W, T>(alloc: Global, workers: Blank, tickets: Blank) -> Option<Broker<R, W, T>>
+where
+    R: Wait,
+    W: Side,
+    T: Side,
+    requires workers { (workers.name ≡ W.name) × (workers.parts ≡ W.parts) × (W.parts ≡ W.all) × (W.all ≡ 257) }
+    requires tickets { (tickets.name ≡ T.name) × (tickets.parts ≡ T.parts) × (T.parts ≡ T.all) × (T.all ≡ 1024) }
+{
+    let topics = three_topics(alloc).ok()?;
+    Broker::<R, W, T>::new(alloc, topics, 64, true, workers, tickets).ok()
 }
 
 /// The same with these ledgers.
@@ -145,8 +190,6 @@ where
     requires workers { (workers.name ≡ W.name) × (workers.parts ≡ W.parts) × (W.parts ≡ W.all) × (W.all ≡ 257) }
     requires tickets { (tickets.name ≡ T.name) × (tickets.parts ≡ T.parts) × (T.parts ≡ T.all) × (T.all ≡ 1024) }
 {
-    let topics = three_topics(alloc).ok()?;
-    let broker = Broker::<R, W, T>::new(alloc, topics, 64, true, workers, tickets).ok()?;
-    let (listener, lines) = opened(rt, alloc, peers.count())?;
-    Some(served_by(rt, alloc, peers, broker, listener, lines))
+    let broker = broker_with::<R, W, T>(alloc, workers, tickets)?;
+    served_at_a_port(rt, alloc, peers, broker)
 }
