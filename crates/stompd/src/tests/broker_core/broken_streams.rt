@@ -7,7 +7,7 @@ use delivery::{Event, Net, Outcome, Refusal};
 use std::alloc::Global;
 use std::test::Fail;
 use stomp_frame::{NoMemory, Octets};
-use trace_audit::audit;
+use trace_audit::{Trace, audit};
 
 /// What the connection of the run sends first: CONNECT, SUBSCRIBE, and a transaction to two topics, of which the last octet
 /// commits it.
@@ -106,12 +106,23 @@ fn changed(alloc: Global, at: usize, octet: u8) -> Result<Octets, NoMemory> {
     Ok(changed)
 }
 
-/// Whether the rest of the run goes on at this core, and the audit of its trace is a yes.
-fn goes_on(alloc: Global, net: &mut Net) -> Result<bool, NoMemory> {
+/// Takes the rest of the run.
+fn go_on(alloc: Global, net: &mut Net) -> Result<(), NoMemory> {
     for &(ask, _) in leading().rows.iter().skip(2) {
         step(alloc, net, ask)?;
     }
-    Ok(audit(alloc, &net.trace()?).is_ok())
+    Ok(())
+}
+
+/// Whether the audit of the trace is a yes.
+fn is_yes(alloc: Global, trace: &Trace) -> bool {
+    audit(alloc, trace).is_ok()
+}
+
+/// Whether the rest of the run goes on at this core, and the audit of its trace is a yes.
+fn goes_on(alloc: Global, net: &mut Net) -> Result<bool, NoMemory> {
+    go_on(alloc, net)?;
+    Ok(is_yes(alloc, &net.trace()?))
 }
 
 /// The same behind a changed stream.

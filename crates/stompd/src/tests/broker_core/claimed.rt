@@ -202,6 +202,24 @@ fn feed_any(
     }
 }
 
+/// Takes an event other than an Open, a Piece or a Next, where this was drawn: mostly what the first undecided transaction needs
+/// next. Whether its outcome may be.
+fn drawn_event(
+    alloc: Global,
+    net: &mut Net,
+    past: &mut Past,
+    draws: &mut Draws,
+    kind: u32,
+    c: u64,
+) -> Result<bool, NoMemory> {
+    let ask = match kind {
+        10..=21 => draws.ask_of_flight(past, flying(past)),
+        22..=25 => draws.ask_of_leaver(leaver(past)),
+        _ => draws.ask_when_claimed(c),
+    };
+    Ok(told(alloc, net, past, ask)?.0)
+}
+
 /// What is drawn.
 fn drawn(
     alloc: Global,
@@ -214,12 +232,7 @@ fn drawn(
         0 if past.lines.len() < CONNECTIONS => open(alloc, net, past, draws.client()),
         0..=7 => feed_any(alloc, net, past, draws, c),
         8..=9 => read(alloc, net, past, c, draws.below(6)),
-        10..=21 => {
-            let ask = draws.ask_of_flight(past, flying(past));
-            Ok(told(alloc, net, past, ask)?.0)
-        }
-        22..=25 => Ok(told(alloc, net, past, draws.ask_of_leaver(leaver(past)))?.0),
-        _ => Ok(told(alloc, net, past, draws.ask_when_claimed(c))?.0),
+        kind => drawn_event(alloc, net, past, draws, kind, c),
     }
 }
 

@@ -1,13 +1,16 @@
 //! Made runs, judged by a plain, slow program: it sorts and filters what the outcomes say, and holds no clock.
 
+mod seen;
+
 use super::asks::{Ask, event};
 use super::draws::Made;
 use super::past::{Past, Span};
-use super::replies::{Dues, Reply, out};
+use super::replies::{Dues, out};
 use crate::tests::draws::Draws;
 use delivery::{CommitRow, Net, Outcome, QueueItem, QueueReport, Report, Topics, agreed, due};
 use mcast_group::Row;
 use mcast_txn::{Released, SentMessage, Stamp, Topic, TxnId};
+use seen::Seen;
 use std::alloc::Global;
 use std::test::Fail;
 use stomp_frame::{Headers, NoMemory, Octets};
@@ -209,18 +212,29 @@ fn have_outs(
     Ok(report.connections_len() == past.lines.len())
 }
 
+/// Whether the report is what the outcomes say, whose commits are these in the order of their stamps, and what is due this.
+fn is_as_said(
+    alloc: Global,
+    report: &Report<'_>,
+    past: &Past,
+    sorted: &[CommitRow],
+    dues: &[Dues],
+) -> Result<bool, NoMemory> {
+    Ok(
+        has_commits(report, past)
+            && rise(sorted)
+            && report.topics_len() == past.names.len()
+            && (0..report.topics_len()).all(|t| has_log(report, t, sorted))
+            && have_due(report, past, dues)
+            && have_outs(alloc, report, past, dues)?,
+    )
+}
+
 /// Whether the report is what the outcomes say.
 pub(super) fn is_right(alloc: Global, report: &Report<'_>, past: &Past) -> Result<bool, NoMemory> {
     let sorted = agreed(alloc, rows(alloc, past)?)?;
     let dues = dues(alloc, report, past)?;
-    Ok(
-        has_commits(report, past)
-            && rise(&sorted)
-            && report.topics_len() == past.names.len()
-            && (0..report.topics_len()).all(|t| has_log(report, t, &sorted))
-            && have_due(report, past, &dues)
-            && have_outs(alloc, report, past, &dues)?,
-    )
+    is_as_said(alloc, report, past, &sorted, &dues)
 }
 
 /// Takes the event and keeps its outcome. Whether the outcome may be, and what it is.
@@ -311,65 +325,6 @@ fn drawn(
     }
 }
 
-/// Which kinds of outcomes came, and in how many runs there are more than five topics.
-#[derive(Drop)]
-struct Seen {
-    commits: usize,
-    handed: usize,
-    lags: usize,
-    ends: usize,
-    receipts: usize,
-    errors: usize,
-    topics: usize,
-}
-
-/// Whether the subscription's span ended by a lag.
-fn is_lag(report: &Report<'_>, s: usize) -> bool {
-    report
-        .subscription(s)
-        .is_some_and(|queue| queue.cause() == Some(mcast_group::Cause::Lag))
-}
-
-impl Seen {
-    /// Whether each of them came.
-    fn have_all_come(&self) -> bool {
-        self.commits > 0
-            && self.handed > 0
-            && self.lags > 0
-            && self.ends > 0
-            && self.receipts > 0
-            && self.errors > 0
-            && self.topics > 0
-    }
-
-    fn add(&mut self, report: &Report<'_>, past: &Past) {
-        self.commits = self.commits.saturating_add(past.commits.len());
-        if past.names.len() > 5 {
-            self.topics = self.topics.saturating_add(1);
-        }
-        for s in 0..past.spans.len() {
-            self.handed = self.handed.saturating_add(past.spans[s].handed);
-            if past.spans[s].to.is_some() {
-                self.ends = self.ends.saturating_add(1);
-            }
-            if is_lag(report, s) {
-                self.lags = self.lags.saturating_add(1);
-            }
-        }
-    }
-
-    /// The RECEIPTs, and the ERRORs that have one.
-    fn add_replies(&mut self, past: &Past) {
-        for written in &past.written {
-            match written.reply {
-                Reply::Receipt => self.receipts = self.receipts.saturating_add(1),
-                Reply::ErrorOfReceipt(_) => self.errors = self.errors.saturating_add(1),
-                _ => {}
-            }
-        }
-    }
-}
-
 /// The letters of the opening topics of a run: every third makes C where a frame names it.
 pub(crate) fn opening(run: u32) -> &'static [u8] {
     if run % 3 == 0 { b"AB" } else { b"ABC" }
@@ -446,15 +401,7 @@ fn holds(alloc: Global, run: u32, seen: &mut Seen) -> Result<bool, NoMemory> {
 
 #[test]
 fn made_runs(rt: HostRuntime) -> Result<(), Fail> {
-    let mut seen = Seen {
-        commits: 0,
-        handed: 0,
-        lags: 0,
-        ends: 0,
-        receipts: 0,
-        errors: 0,
-        topics: 0,
-    };
+    let mut seen = Seen::new();
     for run in 0..RUNS {
         assert!(rt; holds(rt.alloc(), run, &mut seen)?, "run {run}");
     }

@@ -416,16 +416,16 @@ impl Past {
     /// Keeps what the outcome says. Whether it may be after what was said before.
     pub(super) fn keep(&mut self, ask: Ask, outcome: Outcome) -> Result<bool, NoMemory> {
         let may_claim = self.keep_claim(ask, outcome)?;
-        Ok(self.keep_rest(ask, outcome)? && may_claim)
-    }
-
-    /// Keeps all that it says but for whom a connection speaks for.
-    fn keep_rest(&mut self, ask: Ask, outcome: Outcome) -> Result<bool, NoMemory> {
         self.keep_reply(ask, outcome)?;
         let c = self.connection(ask);
         if is_accepted(ask, outcome) {
             self.accepted(c)?;
         }
+        Ok(self.keep_rest(c, ask, outcome)? && may_claim)
+    }
+
+    /// Keeps all that it says but for whom a connection speaks for, what it was written, and whether its frame was accepted.
+    fn keep_rest(&mut self, c: u64, ask: Ask, outcome: Outcome) -> Result<bool, NoMemory> {
         match outcome {
             Outcome::Opened(_) => self.opened(),
             Outcome::Flying(id) => self.began(c, id),

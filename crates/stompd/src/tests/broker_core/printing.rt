@@ -25,56 +25,50 @@ fn print_stamp(text: &mut String, word: &str, stamp: Stamp) -> Result<(), AllocE
     print(text, word, &[stamp.n, stamp.topic.0 as u64])
 }
 
-/// The word of an outcome, and its numbers.
+/// The numbers of an outcome: so many of these.
 #[derive(Clone, Copy)]
-struct Words {
-    word: &'static str,
+struct Numbers {
     many: usize,
-    numbers: [u64; 3],
+    all: [u64; 3],
 }
 
-/// A word alone.
-fn word(word: &'static str) -> Words {
-    Words {
-        word,
+/// No number.
+fn no_numbers() -> Numbers {
+    Numbers {
         many: 0,
-        numbers: [0; 3],
+        all: [0; 3],
     }
 }
 
-/// A word and a number.
-fn numbered(word: &'static str, n: u64) -> Words {
-    Words {
-        word,
+/// One number.
+fn one(n: u64) -> Numbers {
+    Numbers {
         many: 1,
-        numbers: [n, 0, 0],
+        all: [n, 0, 0],
     }
 }
 
-/// A word and the numbers of a transaction.
-fn of_id(word: &'static str, id: TxnId) -> Words {
-    Words {
-        word,
+/// Those of a transaction.
+fn of_id(id: TxnId) -> Numbers {
+    Numbers {
         many: 2,
-        numbers: [id.sender.0, id.seq, 0],
+        all: [id.sender.0, id.seq, 0],
     }
 }
 
-/// A word and the numbers of a stamp.
-fn of_stamp(word: &'static str, stamp: Stamp) -> Words {
-    Words {
-        word,
+/// Those of a stamp.
+fn of_stamp(stamp: Stamp) -> Numbers {
+    Numbers {
         many: 2,
-        numbers: [stamp.n, stamp.topic.0 as u64, 0],
+        all: [stamp.n, stamp.topic.0 as u64, 0],
     }
 }
 
-/// A word, the number of a subscription, and where its span begins or ends.
-fn of_span(word: &'static str, sub: u64, at: Stamp) -> Words {
-    Words {
-        word,
+/// Those of a subscription, and of where its span begins or ends.
+fn of_span(sub: u64, at: Stamp) -> Numbers {
+    Numbers {
         many: 3,
-        numbers: [sub, at.n, at.topic.0 as u64],
+        all: [sub, at.n, at.topic.0 as u64],
     }
 }
 
@@ -83,28 +77,52 @@ fn cut_or(cut: bool, word: &'static str) -> &'static str {
     if cut { "cut" } else { word }
 }
 
-fn words_of(outcome: Outcome) -> Words {
+/// The word of an outcome.
+fn word_of(outcome: Outcome) -> &'static str {
     match outcome {
-        Outcome::Opened(c) => numbered("conn", c),
-        Outcome::Fed => word("fed"),
-        Outcome::Done => word("done"),
-        Outcome::Subscribed(s, from) => of_span("sub", s, from),
-        Outcome::Unsubscribed(s, to) => of_span("unsub", s, to),
-        Outcome::Flying(id) => of_id("flight", id),
-        Outcome::Proposed(n) => numbered("ticket", n),
-        Outcome::Failed(fault) => numbered("failed", fault.number() as u64),
-        Outcome::Decided { stamp, cut } => of_stamp(cut_or(cut, "stamp"), stamp),
-        Outcome::Withdrawn { cut } => word(cut_or(cut, "withdrawn")),
-        Outcome::Cancelled => word("cancelled"),
-        Outcome::Learnt => word("learnt"),
-        Outcome::Released(id) => of_id("released", id),
-        Outcome::Turned(count) => numbered("turned", count),
-        Outcome::Handed(count) => numbered("handed", count),
-        Outcome::Faulted { fault, cut } => numbered(cut_or(cut, "error"), fault.number() as u64),
-        Outcome::Leaving => word("leaving"),
-        Outcome::Gone { cut } => word(cut_or(cut, "gone")),
-        Outcome::Refused(why) => numbered("refused", why.number() as u64),
-        Outcome::NoMemory => word("no memory"),
+        Outcome::Opened(_) => "conn",
+        Outcome::Fed => "fed",
+        Outcome::Done => "done",
+        Outcome::Subscribed(_, _) => "sub",
+        Outcome::Unsubscribed(_, _) => "unsub",
+        Outcome::Flying(_) => "flight",
+        Outcome::Proposed(_) => "ticket",
+        Outcome::Failed(_) => "failed",
+        Outcome::Decided { cut, .. } => cut_or(cut, "stamp"),
+        Outcome::Withdrawn { cut } => cut_or(cut, "withdrawn"),
+        Outcome::Cancelled => "cancelled",
+        Outcome::Learnt => "learnt",
+        Outcome::Released(_) => "released",
+        Outcome::Turned(_) => "turned",
+        Outcome::Handed(_) => "handed",
+        Outcome::Faulted { cut, .. } => cut_or(cut, "error"),
+        Outcome::Leaving => "leaving",
+        Outcome::Gone { cut } => cut_or(cut, "gone"),
+        Outcome::Refused(_) => "refused",
+        Outcome::NoMemory => "no memory",
+    }
+}
+
+/// The numbers of an outcome.
+fn numbers_of(outcome: Outcome) -> Numbers {
+    match outcome {
+        Outcome::Opened(n) | Outcome::Proposed(n) | Outcome::Turned(n) | Outcome::Handed(n) => {
+            one(n)
+        }
+        Outcome::Subscribed(s, at) | Outcome::Unsubscribed(s, at) => of_span(s, at),
+        Outcome::Flying(id) | Outcome::Released(id) => of_id(id),
+        Outcome::Decided { stamp, .. } => of_stamp(stamp),
+        Outcome::Failed(fault) => one(fault.number() as u64),
+        Outcome::Faulted { fault, .. } => one(fault.number() as u64),
+        Outcome::Refused(why) => one(why.number() as u64),
+        Outcome::Fed
+        | Outcome::Done
+        | Outcome::Withdrawn { .. }
+        | Outcome::Cancelled
+        | Outcome::Learnt
+        | Outcome::Leaving
+        | Outcome::Gone { .. }
+        | Outcome::NoMemory => no_numbers(),
     }
 }
 
@@ -112,9 +130,9 @@ fn words_of(outcome: Outcome) -> Words {
 /// span begins or ends.
 pub(super) fn outcome_text(alloc: Global, outcome: Outcome) -> Result<String, AllocError> {
     let mut text = String::new(alloc);
-    let words = words_of(outcome);
-    text.push_str(words.word)?;
-    for n in words.numbers.iter().take(words.many) {
+    text.push_str(word_of(outcome))?;
+    let numbers = numbers_of(outcome);
+    for n in numbers.all.iter().take(numbers.many) {
         write!(text, " {n}")?;
     }
     Ok(text)
@@ -142,20 +160,36 @@ fn print_item(text: &mut String, item: &Released) -> Result<(), AllocError> {
     text.push_str("\n")
 }
 
-/// The topic, the span, its cause, the queue and how many items were delivered, as lines.
-fn print_subscription(text: &mut String, q: &QueueReport<'_>) -> Result<(), AllocError> {
+/// Where a span ends, if it does.
+fn print_end(text: &mut String, to: Option<Stamp>) -> Result<(), AllocError> {
+    match to {
+        Some(to) => print_stamp(text, " to", to),
+        None => Ok(()),
+    }
+}
+
+/// Why a span ended, if it did.
+fn print_cause(text: &mut String, cause: Option<Cause>) -> Result<(), AllocError> {
+    match cause {
+        Some(Cause::Asked) => text.push_str(" asked"),
+        Some(Cause::Lag) => text.push_str(" lag"),
+        None => Ok(()),
+    }
+}
+
+/// The topic, the span, its cause, and how many items were delivered, as a line.
+fn print_span(text: &mut String, q: &QueueReport<'_>) -> Result<(), AllocError> {
     print(text, "span", &[q.topic().0 as u64])?;
     print_stamp(text, " from", q.from())?;
-    if let Some(to) = q.to() {
-        print_stamp(text, " to", to)?;
-    }
-    match q.cause() {
-        Some(Cause::Asked) => text.push_str(" asked")?,
-        Some(Cause::Lag) => text.push_str(" lag")?,
-        None => {}
-    }
+    print_end(text, q.to())?;
+    print_cause(text, q.cause())?;
     print(text, " handed", &[q.handed_len() as u64])?;
-    text.push_str("\n")?;
+    text.push_str("\n")
+}
+
+/// The same, and the items of its queue, as lines.
+fn print_subscription(text: &mut String, q: &QueueReport<'_>) -> Result<(), AllocError> {
+    print_span(text, q)?;
     for i in 0..q.queued_len() {
         if let Some(item) = q.queued(i) {
             print_item(text, item)?;

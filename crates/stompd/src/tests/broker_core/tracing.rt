@@ -119,10 +119,15 @@ fn has_both(alloc: Global, trace: &Trace, text: &[u8], answer: &[u8]) -> Result<
     Ok(has_text(alloc, trace, text)? && is_answered(alloc, trace, answer)?)
 }
 
+/// Whether the core's trace has this text, and the audit of it this answer.
+fn has_trace(alloc: Global, net: &Net, text: &[u8], answer: &[u8]) -> Result<bool, NoMemory> {
+    has_both(alloc, &net.trace()?, text, answer)
+}
+
 /// Whether the run's trace has its text, and the audit of it the answer.
 fn is_traced(alloc: Global, traced: &Traced) -> Result<bool, NoMemory> {
-    let trace = stepped(alloc, traced.run)?.trace()?;
-    has_both(alloc, &trace, traced.trace, traced.answer)
+    let net = stepped(alloc, traced.run)?;
+    has_trace(alloc, &net, traced.trace, traced.answer)
 }
 
 #[test]
@@ -191,7 +196,6 @@ fn each_trace_without_memory(rt: HostRuntime) -> Result<(), Fail> {
 #[test]
 fn a_net_without_events_has_an_empty_trace(rt: HostRuntime) -> Result<(), Fail> {
     let net = Net::new(rt.alloc(), Topics::new(rt.alloc()), 1)?;
-    let trace = net.trace()?;
-    assert!(rt; has_both(rt.alloc(), &trace, b"", b"complete\n")?);
+    assert!(rt; has_trace(rt.alloc(), &net, b"", b"complete\n")?);
     Ok(())
 }

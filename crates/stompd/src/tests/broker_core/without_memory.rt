@@ -288,21 +288,29 @@ fn send(topics: usize) -> &'static [u8] {
     }
 }
 
-/// Whether another connection commits a transaction at the last topic.
-fn commits_beside(alloc: Global, net: &mut Net) -> Result<bool, NoMemory> {
-    let c = net.report().connections_len() as u64;
-    let topics = net.report().topics_len();
+/// Whether the connection of this number, which is the next, connects, and sends to the last of so many topics.
+fn sends_beside(alloc: Global, net: &mut Net, c: u64, topics: usize) -> Result<bool, NoMemory> {
     if !prepared(alloc, net, Connect(c))? || !prepared(alloc, net, Frame(c, send(topics)))? {
         return Ok(false);
     }
     step(alloc, net, Next(c))?;
     step(alloc, net, Next(c))?;
+    Ok(true)
+}
+
+/// Whether the connection's transaction is committed, for which this topic was asked for a ticket, and no RECEIPT is left out.
+fn commits_at(alloc: Global, net: &mut Net, c: u64, t: u32) -> Result<bool, NoMemory> {
+    step(alloc, net, Propose(c, t))?;
+    let decided = step(alloc, net, Decide(c))?;
+    Ok(matches!(decided, Outcome::Decided { cut: false, .. }))
+}
+
+/// Whether another connection commits a transaction at the last topic.
+fn commits_beside(alloc: Global, net: &mut Net) -> Result<bool, NoMemory> {
+    let c = net.report().connections_len() as u64;
+    let topics = net.report().topics_len();
     let last = u32::try_from(topics.saturating_sub(1)).unwrap_or(0);
-    step(alloc, net, Propose(c, last))?;
-    Ok(matches!(
-        step(alloc, net, Decide(c))?,
-        Outcome::Decided { cut: false, .. }
-    ))
+    Ok(sends_beside(alloc, net, c, topics)? && commits_at(alloc, net, c, last)?)
 }
 
 /// Whether each ticket of the connection's withdrawn transaction is cancelled.
@@ -317,16 +325,23 @@ fn cancels(alloc: Global, net: &mut Net, c: u64) -> Result<bool, NoMemory> {
     Ok(true)
 }
 
+/// Whether the connection's transaction, to which a topic gave no ticket, is neither committed nor given another.
+fn is_marked(alloc: Global, net: &mut Net, c: u64) -> Result<bool, NoMemory> {
+    let marked = Outcome::Refused(Refusal::Marked);
+    Ok(step(alloc, net, Decide(c))? == marked && step(alloc, net, Propose(c, 0))? == marked)
+}
+
+/// Whether it is withdrawn, and the ERROR isn't left out.
+fn withdraws(alloc: Global, net: &mut Net, c: u64) -> Result<bool, NoMemory> {
+    Ok(step(alloc, net, Withdraw(c))? == (Outcome::Withdrawn { cut: false }))
+}
+
 /// Whether the connection's transaction, to which a topic gave no ticket, can only be withdrawn, while another connection
 /// commits.
 fn is_withdrawn(alloc: Global, net: &mut Net, c: u64) -> Result<bool, NoMemory> {
-    let marked = Outcome::Refused(Refusal::Marked);
-    if step(alloc, net, Decide(c))? != marked || step(alloc, net, Propose(c, 0))? != marked {
-        return Ok(false);
-    }
-    let withdrawn = step(alloc, net, Withdraw(c))?;
     Ok(
-        withdrawn == (Outcome::Withdrawn { cut: false })
+        is_marked(alloc, net, c)?
+            && withdraws(alloc, net, c)?
             && commits_beside(alloc, net)?
             && cancels(alloc, net, c)?
             && goes(alloc, net, c)?,
@@ -347,16 +362,26 @@ fn ends(lack: Lack) -> bool {
     matches!(lack, Lack::Frame(_) | Lack::Receipt(_) | Lack::Ticket(_))
 }
 
+/// Takes an event of a run, with what comes before it. Whether all was right, also what follows where a connection leaves
+/// for want of memory; and whether the run goes on behind it.
+fn taken_row(alloc: Global, net: &mut Net, ask: Ask, want: &str) -> Result<(bool, bool), NoMemory> {
+    if !prepared(alloc, net, ask)? {
+        return Ok((false, false));
+    }
+    let (is_right, lack) = taken(alloc, net, ask, want)?;
+    if !is_right || ends(lack) {
+        return Ok((is_right && goes_on(alloc, net, lack)?, false));
+    }
+    Ok((true, true))
+}
+
 /// Takes the run's events, and none after one that makes a connection leave for want of memory. Whether all was right, and
 /// whether all were taken.
 fn taken_by(alloc: Global, net: &mut Net, run: &Run) -> Result<(bool, bool), NoMemory> {
     for &(ask, want) in run.rows {
-        if !prepared(alloc, net, ask)? {
-            return Ok((false, false));
-        }
-        let (is_right, lack) = taken(alloc, net, ask, want)?;
-        if !is_right || ends(lack) {
-            return Ok((is_right && goes_on(alloc, net, lack)?, false));
+        let (is_right, has_next) = taken_row(alloc, net, ask, want)?;
+        if !has_next {
+            return Ok((is_right, false));
         }
     }
     Ok((is_told(alloc, &net.report(), run.report)?, true))

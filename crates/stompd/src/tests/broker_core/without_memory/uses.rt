@@ -1,8 +1,8 @@
 //! First uses of a topic, and claims of a client-id, that find no memory: nothing is made and nothing claimed, and the same
 //! frames of the next connection then have their effect. The tests hold whichever one allocation fails.
 
-use super::{Run, goes, has_text, new_net, prepared, step};
-use crate::tests::broker_core::asks::Ask::{Decide, Frame, Leave, Lost, Next, Open, Propose};
+use super::{Run, commits_at, goes, has_text, new_net, prepared, step};
+use crate::tests::broker_core::asks::Ask::{Frame, Leave, Lost, Next, Open, Propose};
 use crate::tests::broker_core::runs::lasting::CONNECT_P;
 use delivery::{Net, Outcome};
 use mcast_group::ProposeFault;
@@ -46,11 +46,30 @@ fn is_72(outcome: Outcome) -> bool {
     matches!(outcome, Outcome::Faulted { fault, .. } if fault.number() == 72)
 }
 
-/// What comes of the last of these frames of a connection that is read.
-fn used_next(alloc: Global, net: &mut Net, octets: &'static [u8]) -> Result<Outcome, NoMemory> {
+/// Opens a connection that is fed this, and reads it: its number, how many frames are done, and what came of the last.
+fn fed_and_read(
+    alloc: Global,
+    net: &mut Net,
+    octets: &'static [u8],
+) -> Result<(u64, u8, Outcome), NoMemory> {
     let c = fed(alloc, net, octets)?;
-    let (_done, outcome) = read(alloc, net, c)?;
-    Ok(outcome)
+    let (done, outcome) = read(alloc, net, c)?;
+    Ok((c, done, outcome))
+}
+
+/// Whether there is nothing of what a connection asked for whose frame found no memory: as many topics as these, and no
+/// subscription. It is gone then, where a frame was done before, which is its CONNECT.
+fn is_in_vain(
+    alloc: Global,
+    net: &mut Net,
+    c: u64,
+    done: u8,
+    topics: usize,
+) -> Result<bool, NoMemory> {
+    if net.report().topics_len() != topics || net.report().subscriptions_len() != 0 {
+        return Ok(false);
+    }
+    Ok(done == 0 || goes(alloc, net, c)?)
 }
 
 /// What comes of the last of these frames of a connection, or, where one finds no memory, of those of the next. There has to
@@ -58,16 +77,15 @@ fn used_next(alloc: Global, net: &mut Net, octets: &'static [u8]) -> Result<Outc
 /// connection is gone.
 fn used(alloc: Global, net: &mut Net, octets: &'static [u8]) -> Result<Option<Outcome>, NoMemory> {
     let topics = net.report().topics_len();
-    let c = fed(alloc, net, octets)?;
-    let (done, outcome) = read(alloc, net, c)?;
+    let (c, done, outcome) = fed_and_read(alloc, net, octets)?;
     if !is_72(outcome) {
         return Ok(Some(outcome));
     }
-    let is_there = net.report().topics_len() != topics || net.report().subscriptions_len() != 0;
-    if is_there || (done > 0 && !goes(alloc, net, c)?) {
+    if !is_in_vain(alloc, net, c, done, topics)? {
         return Ok(None);
     }
-    Ok(Some(used_next(alloc, net, octets)?))
+    let (_c, _done, next) = fed_and_read(alloc, net, octets)?;
+    Ok(Some(next))
 }
 
 /// First uses of a topic N by a connection with a client-id, and what comes of them. Each begins the transaction `x` before.
@@ -120,18 +138,18 @@ const SENDS_A: &[u8] =
 const SENDS_B: &[u8] =
     b"CONNECT\naccept-version:1.2\nhost:h\nclient-id:p\n\n\0SEND\ndestination:B\n\nm\0";
 
+/// What comes of the Leave of a connection that is lost.
+fn left(alloc: Global, net: &mut Net, c: u64) -> Result<Outcome, NoMemory> {
+    step(alloc, net, Lost(c))?;
+    step(alloc, net, Leave(c))
+}
+
 /// Whether the first connection commits with stamp (10, 0), and is gone. Whether it found memory for that.
 fn commits(alloc: Global, net: &mut Net) -> Result<bool, NoMemory> {
-    let c = fed(alloc, net, SENDS_A)?;
-    read(alloc, net, c)?;
-    step(alloc, net, Propose(c, 0))?;
-    let decided = step(alloc, net, Decide(c))?;
-    step(alloc, net, Lost(c))?;
-    let left = step(alloc, net, Leave(c))?;
-    Ok(
-        matches!(decided, Outcome::Decided { cut: false, .. })
-            && left == (Outcome::Gone { cut: false }),
-    )
+    let (c, _done, _sent) = fed_and_read(alloc, net, SENDS_A)?;
+    let is_committed = commits_at(alloc, net, c, 0)?;
+    let left = left(alloc, net, c)?;
+    Ok(is_committed && left == (Outcome::Gone { cut: false }))
 }
 
 /// Whether the next connection with its client-id goes on with its number and its floor; or the one behind that, where a
@@ -185,8 +203,7 @@ fn is_claim_refused(alloc: Global, net: &mut Net) -> Result<bool, NoMemory> {
 
 /// Whether the client-id's sender is claimed once this connection is gone.
 fn is_free(alloc: Global, net: &mut Net, first: u64) -> Result<bool, NoMemory> {
-    step(alloc, net, Lost(first))?;
-    step(alloc, net, Leave(first))?;
+    left(alloc, net, first)?;
     match used(alloc, net, SENDS_B)? {
         Some(outcome) => has_text(alloc, outcome, "flight 0 1"),
         None => Ok(false),
