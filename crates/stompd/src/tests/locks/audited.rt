@@ -110,7 +110,7 @@ struct Ended {
 }
 
 /// What this run leaves, with these subscriptions.
-fn ended<R: Wait, W: Side, T: Side>(
+fn left_by<R: Wait, W: Side, T: Side>(
     rt: &R,
     broker: &Broker<R, W, T>,
     subs: &mut ThreeSubs,
@@ -143,7 +143,7 @@ where
 {
     let mut subs = ThreeSubs::at(rt, broker)?;
     let ran = run_both(rt, alloc, broker)?;
-    Some(ended(rt, broker, &mut subs, ran))
+    Some(left_by(rt, broker, &mut subs, ran))
 }
 
 /// What is found, and whether the trace has just the commits that were made, with these ledgers.
