@@ -10,7 +10,7 @@ use std::net::Net;
 use std::sync::Arc;
 
 /// So many octets are read at once, at most (our choice).
-pub(crate) const READ: usize = 4_096;
+pub(crate) const READ: usize = 16_384;
 
 /// So many events a poll gives at once: the socket's and the bell's.
 const EVENTS: usize = 4;
