@@ -1,6 +1,9 @@
 //! The broker on TCP.
 
 ghost use denote.Param.Send.{IsSend, IsSync};
+ghost use Rattle.std.specs.Prelude.{IfOk};
+ghost use Rattle.delivery.specs.Topics.{max_topics};
+ghost use Rattle.broker_locks.specs.Gathering.{IsTraceLeft};
 
 mod accepting;
 mod bell;
@@ -46,7 +49,9 @@ use trace_audit::Trace;
 /// Serves this broker to those who connect to this listener: each connection by a thread of its own, at most 256 at
 /// once, while two more threads turn the topics. With a limit it ends once so many connections came, those closed at
 /// once because 256 were there among them, and ended; without one, only by a fault. Each thread has then ended. Returns
-/// the trace of the run, which is empty where the broker keeps none.
+/// the trace of the run, which is empty where the broker keeps none. Where a list of transactions explains it, each
+/// subscription's queue was given just those of its topic and span, up to the topic's frontier: so says the law
+/// `gathered_is_due` of `broker_locks`.
 ///
 /// Refused: 101 where there is no memory for what it needs before it accepts, or for the trace; 102 where the listener
 /// or a poll failed: then the connections that are there are closed. What is wanting for one connection ends that
@@ -62,6 +67,7 @@ where
     R: Threads + Wait + Net + Clock + Log + Send + Sync,
     W: Side + Send + Sync + 'static,
     T: Side + Send + Sync + 'static,
+    ensures gathered { IfOk result (IsTraceLeft max_topics) }
 {
     let (mut door, bell) = Door::new(rt, alloc, listener)?;
     let Ok(running) = Running::new(alloc, broker) else {

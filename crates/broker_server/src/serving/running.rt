@@ -1,7 +1,9 @@
 //! The broker, as the server uses it, with the names of its topics and the workers that no connection has.
 
-ghost use Rattle.std.specs.Prelude.{◌≡◌, ℕ, List, length, IfOk, IfErr};
+ghost use Rattle.std.specs.Prelude.{◌≡◌, ℕ, List, length, IfOk, IfErr, IfSome};
 ghost use Rattle.stomp_frame.specs.ClientFrames.{raw_of};
+ghost use Rattle.delivery.specs.Topics.{max_topics};
+ghost use Rattle.broker_locks.specs.Gathering.{IsTraceLeft};
 ghost use Rattle.broker_server.specs.Judging.{Grows, IsFrameAccepted, IsFrameRefused};
 
 use crate::conversation::ConversationFault;
@@ -96,7 +98,9 @@ impl<R: Wait, W: Side, T: Side> Running<R, W, T> {
     }
 
     /// The trace of the run, or `None` out of memory.
-    pub(crate) fn into_trace(self) -> Option<Trace> {
+    pub(crate) fn into_trace(self) -> Option<Trace>
+        ensures { IfSome result (IsTraceLeft max_topics) }
+    {
         let Running {
             broker,
             names: _,
