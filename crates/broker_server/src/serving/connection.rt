@@ -246,7 +246,7 @@ impl<'a, 'b, R: Wait + Log + Clock, W: Side, T: Side> Connection<'a, 'b, R, W, T
             }
             desk.held.rest();
         }
-        desk.held.turn_over();
+        desk.held.age();
         least
     }
 

@@ -225,7 +225,7 @@ impl<'a, R: Wait + Log + Clock, W: Side, T: Side> Held<'a, R, W, T> {
     /// Where the older half has come, the newer half is the older one from now on.
     pub(crate) fn settle(&mut self) {
         if self.on_way.has_come(self.rt, self.hub) {
-            self.turn_over();
+            self.age();
         }
     }
 
@@ -236,18 +236,18 @@ impl<'a, R: Wait + Log + Clock, W: Side, T: Side> Held<'a, R, W, T> {
     }
 
     /// What was sent before the newer half isn't waited for any more, and this is from now on.
-    pub(crate) fn turn_over(&mut self) {
+    pub(crate) fn age(&mut self) {
         self.turn_topics();
-        self.on_way.turn_over();
+        self.on_way.age();
     }
 
     /// Waits until all has come that was sent, as long as it waits for anything.
     fn wait_for_all(&mut self) {
         self.turn_topics();
         self.on_way.wait(self.rt, self.hub);
-        self.on_way.turn_over();
+        self.on_way.age();
         self.on_way.wait(self.rt, self.hub);
-        self.on_way.turn_over();
+        self.on_way.age();
     }
 
     /// Rests, so that others come to their turn.
@@ -268,7 +268,7 @@ impl<'a, R: Wait + Log + Clock, W: Side, T: Side> Held<'a, R, W, T> {
         if is_half && self.subs == 0 {
             self.turn_topics();
             self.on_way.wait(self.rt, self.hub);
-            self.on_way.turn_over();
+            self.on_way.age();
         } else if self.unturned >= self.most {
             self.turn_topics();
         }

@@ -131,7 +131,7 @@ impl OnWay {
     }
 
     /// The older half isn't waited for any more, and the newer one is the older from now on.
-    pub(crate) fn turn_over(&mut self)
+    pub(crate) fn age(&mut self)
         ensures before { self.new.before ≡ self.old.since }
         ensures since { self.new.since ≡ 0 }
     {
