@@ -25,7 +25,7 @@ pub drains_lag : (capacity calls : ℕ) (o next : OpenSubState) (wire : List ℕ
 drains_lag capacity calls o next wire sub lagging room same asked unlagged due next_is rows end new after drains =
     (room, same, asked, unlagged, due, subst (λ (q : OpenSubState). Drains capacity (calls + 1) rows q wire end new after) next_is drains)
 
--- ---- what a turn of one queue comes to
+-- ---- what a round comes to at one queue
 
 -- where there is room
 pub room_of : (n : ℕ) → (IsTrue true → n < full_wire) → n < full_wire

@@ -46,7 +46,7 @@ EndsEmpty capacity o end new =
     ((o.lagged ≡ true) × (why : ConversationFault) × IsLag why × (end ≡ Failed why) × (new ≡ o))
     ⊎ ((o.lagged ≡ false) × (0 < o.until_lag) × (end ≡ Emptied) × (new ≡ after_empty capacity o))
 
--- What is taken of one queue by these calls, in order, after so many others of this turn: the queue and what
+-- What is taken of one queue by these calls, in order, after so many others of this round: the queue and what
 -- waits before and after it, and how it ended. It stops where 65,536 octets wait, and fails where there is no
 -- memory for an item's MESSAGEs. A queue that is found empty after as many items as it holds may have lagged:
 -- the broker is asked, and where it says so, the queue is taken on, until it is empty again. It needn't be
@@ -120,7 +120,7 @@ DrainsQueues capacity turn asked queues wire end new after next =
     (DrainsAll capacity rest front between end others after unseen × (next ≡ length front - unseen))
     ((rest ≡ []) × (end ≡ one) × (others ≡ front) × (after ≡ between) × (next ≡ length queues - left))
 
--- ---- a turn of the connection
+-- ---- a round of the connection
 
 -- whether items may be left
 abbrev pub is_stopped : Taking → Bool
@@ -139,8 +139,8 @@ Settles end any old asked result new =
 -- Its queues are taken, and what comes is written; the result is whether something came of it. One that
 -- leaves takes nothing. So where `a` holds an item and `b` has lagged, a's MESSAGE is written, what `b` holds
 -- is taken to its end, and the last that is written is 74.
-abbrev pub DeliversTurn : ConversationState → List BrokerRow → Bool → ConversationState → Type 0
-DeliversTurn old asked result new =
+abbrev pub DeliversRound : ConversationState → List BrokerRow → Bool → ConversationState → Type 0
+DeliversRound old asked result new =
     (IsSome old.exit × (asked ≡ []) × (result ≡ false) × (new ≡ old))
     ⊎ ((old.exit ≡ None) × (first rest : List BrokerRow) × (asked ≡ first ++ rest)
     × (end : Taking) × (subs : List OpenSubState) × (wire : List ℕ) × (turn : ℕ)

@@ -8,7 +8,7 @@ ghost use Rattle.stomp_frame.specs.declared.raw_frame.RawFrame.{RawFrame};
 ghost use Rattle.stomp_frame.specs.ClientFrames.{raw_of};
 ghost use Rattle.broker_server.specs.BrokerRows.{AsksInTurn, BrokerRow, Unsubscribes};
 ghost use Rattle.broker_server.specs.Conversations.{PutsFrames, EndsByError, Performs, Connects, Begins, EndsSub, CommitsSends, CommitsBy, Acts, Answers, IsLost};
-ghost use Rattle.broker_server.specs.Delivering.{DeliversTurn, Drains, DrainsAll, DrainsQueues, begins_at, has_item};
+ghost use Rattle.broker_server.specs.Delivering.{DeliversRound, Drains, DrainsAll, DrainsQueues, begins_at, has_item};
 ghost use Rattle.delivery.specs.Core.Outcomes.{is_any};
 ghost use Rattle.stomp_session.specs.Open.{IsKnownTo};
 ghost use Rattle.broker_server.specs.Hearing.{AcceptsFrame, DeniesFrame, Hears, IsNewTo, Rests, TakesAll, TakesFrame, TakesFrames};
@@ -518,7 +518,7 @@ impl<C: BrokerCalls> Conversation<C> {
     /// lagged ends the connection once all that it had accepted was taken.
     pub fn deliver(&mut self, calls: &mut C) -> bool
         ensures { (asked : List BrokerRow) × AsksInTurn C.called calls.old asked calls.new
-            × DeliversTurn self.old asked result self.new }
+            × DeliversRound self.old asked result self.new }
     {
         if self.exit.is_some() {
             return false;

@@ -23,7 +23,7 @@ use std::time::{Clock, Duration, Instant};
 /// So many reads are heard in a row, at most, before what is there for the connection is looked for again (our choice).
 const MAX_READS: u32 = 16;
 
-/// After so many turns in a row that found something to do, the poll is asked what else is there (our choice).
+/// After so many rounds in a row that found something to do, the poll is asked what else is there (our choice).
 const MAX_ROUNDS: u32 = 16;
 
 /// The octets of the shortest SEND: its command, a destination of one octet, two ends of lines, and NULL.
@@ -60,7 +60,7 @@ fn is_over<R: Clock>(rt: &R, since: Option<Instant>) -> bool {
     }
 }
 
-/// What one turn of a connection's thread came to.
+/// What one round of a connection's thread came to.
 #[derive(Clone, Copy)]
 enum Round {
     /// There may be more to do.
@@ -119,7 +119,7 @@ struct Connection<'a, 'b, R: Wait + Log + Clock, W: Side, T: Side> {
 }
 
 impl<'a, 'b, R: Wait + Log + Clock, W: Side, T: Side> Connection<'a, 'b, R, W, T> {
-    /// One turn: takes what is there for it, writes, reads, and does what that asks for. It looks whether the server
+    /// One round: takes what is there for it, writes, reads, and does what that asks for. It looks whether the server
     /// ends once it has heard, as for all that its bell tells of.
     fn round(&mut self, desk: &mut Desk<'a, R, W, T>) -> Round {
         let told = self.line.bell.hears();
