@@ -329,7 +329,7 @@ impl<'a, 'b, R: Wait + Log + Clock, W: Side, T: Side> Connection<'a, 'b, R, W, T
             return Ok(Some(Sleep::Told));
         }
         if desk.is_lost() {
-            return Err(WhyLeft::Stuck);
+            return Err(WhyLeft::Untaken);
         }
         Ok(Some(Sleep::Timed))
     }
@@ -356,7 +356,7 @@ impl<'a, 'b, R: Wait + Log + Clock, W: Side, T: Side> Connection<'a, 'b, R, W, T
                 };
             }
             if polls >= MAX_POLLS {
-                return Told::Stuck;
+                return Told::GivenUp;
             }
             if self.hub.is_closing() || self.wait(poll_time()).is_err() {
                 return Told::Closing;

@@ -11,7 +11,7 @@ use std::sync::Wait;
 use std::time::{Clock, Duration, Instant};
 
 /// How long a connection that has lagged may take nothing (our choice).
-fn stuck_time() -> Duration {
+fn untaken_time() -> Duration {
     Duration::from_secs(60)
 }
 
@@ -26,7 +26,7 @@ pub(crate) struct Desk<'a, R: Wait + Log + Clock, W: Side, T: Side> {
     pub(crate) held: Held<'a, R, W, T>,
     pub(crate) talk: Conversation<Held<'a, R, W, T>>,
     /// Since when the system has taken nothing of what waits, once the thread looked for that.
-    stuck: Option<Instant>,
+    untaken: Option<Instant>,
     /// How often it waited since it looked for subscriptions that have lagged.
     waits: u32,
 }
@@ -42,7 +42,7 @@ impl<'a, R: Wait + Log + Clock, W: Side, T: Side> Desk<'a, R, W, T> {
             socket,
             held,
             talk,
-            stuck: None,
+            untaken: None,
             waits: 0,
         }
     }
@@ -58,7 +58,7 @@ impl<'a, R: Wait + Log + Clock, W: Side, T: Side> Desk<'a, R, W, T> {
     pub(crate) fn write(&mut self) -> Result<usize, WriteFailed> {
         let sent = self.socket.write(&mut self.talk)?;
         if sent > 0 {
-            self.stuck = None;
+            self.untaken = None;
         }
         Ok(sent)
     }
@@ -106,19 +106,19 @@ impl<'a, R: Wait + Log + Clock, W: Side, T: Side> Desk<'a, R, W, T> {
     /// subscriptions that have lagged. Whether there is one, and the system has taken nothing for a minute: the
     /// connection would be told of the lag behind that.
     pub(crate) fn is_lost(&mut self) -> bool {
-        let is_stuck = self.is_stuck();
+        let is_untaken = self.is_untaken();
         self.waits = self.waits.wrapping_add(1) % WAITS;
-        self.waits == 0 && self.end_lagged() && is_stuck
+        self.waits == 0 && self.end_lagged() && is_untaken
     }
 
     /// Whether the system has taken nothing of what waits for a minute. By a clock that can't be read it has.
-    fn is_stuck(&mut self) -> bool {
+    fn is_untaken(&mut self) -> bool {
         let now = Instant::now(self.held.rt()).ok();
-        match (self.stuck, now) {
-            (Some(since), Some(now)) => now.duration_since(since) >= stuck_time(),
+        match (self.untaken, now) {
+            (Some(since), Some(now)) => now.duration_since(since) >= untaken_time(),
             (Some(_), None) => true,
             (None, _) => {
-                self.stuck = now;
+                self.untaken = now;
                 false
             }
         }
@@ -145,7 +145,7 @@ impl<'a, R: Wait + Log + Clock, W: Side, T: Side> Desk<'a, R, W, T> {
             socket,
             held,
             talk: _,
-            stuck: _,
+            untaken: _,
             waits: _,
         } = self;
         (socket, held)

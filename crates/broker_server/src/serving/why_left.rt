@@ -15,7 +15,7 @@ pub(crate) enum Told {
     /// Not all: a write failed.
     WriteFailed,
     /// Not all: 100 polls brought nothing out.
-    Stuck,
+    GivenUp,
     /// Not all: the server ends.
     Closing,
 }
@@ -28,7 +28,7 @@ pub(crate) enum WhyLeft {
     /// A write failed.
     WriteFailed,
     /// A subscription lagged, and the system took nothing for a minute.
-    Stuck,
+    Untaken,
     /// There was no memory for the connection.
     NoMemory,
     /// Its poll failed.
@@ -43,7 +43,7 @@ impl Display for Told {
             Told::All => Ok(()),
             Told::Cut => f.write_str(", which it wasn't told: there was no memory for that"),
             Told::WriteFailed => f.write_str(", and a write failed before all was told"),
-            Told::Stuck => f.write_str(", closed after 100 polls that brought nothing out"),
+            Told::GivenUp => f.write_str(", closed after 100 polls that brought nothing out"),
             Told::Closing => f.write_str(", and the server ended before all was told"),
         }
     }
@@ -58,7 +58,7 @@ impl Display for WhyLeft {
             }
             WhyLeft::By(Exit::Lost, _) => f.write_str("its peer closed it"),
             WhyLeft::WriteFailed => f.write_str("a write failed"),
-            WhyLeft::Stuck => f.write_str("it lagged, and took nothing for a minute"),
+            WhyLeft::Untaken => f.write_str("it lagged, and took nothing for a minute"),
             WhyLeft::NoMemory => f.write_str("ERROR 72 NoMemory, no memory for the connection"),
             WhyLeft::PollFailed => f.write_str("its poll failed"),
             WhyLeft::Closing => f.write_str("the server ends"),

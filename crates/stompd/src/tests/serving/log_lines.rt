@@ -72,8 +72,8 @@ fn the_log_says_who_lagged(rt: HostRuntime) {
 /// Whether these lines say that the first left by its ERROR, which the system took from the server or not.
 fn say_who_never_read(lines: &[String]) -> bool {
     let told = " left: ERROR 21 Unsupported";
-    let stuck = " left: ERROR 21 Unsupported, closed after 100 polls that brought nothing out";
-    (says_of_first(lines, told) || says_of_first(lines, stuck)) && lines.len() == 5
+    let given_up = " left: ERROR 21 Unsupported, closed after 100 polls that brought nothing out";
+    (says_of_first(lines, told) || says_of_first(lines, given_up)) && lines.len() == 5
 }
 
 /// The first is sent more than it reads, is refused a frame, and doesn't read its ERROR. Whether the system takes that from
