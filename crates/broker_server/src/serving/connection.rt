@@ -11,7 +11,7 @@ use crate::serving::line::Line;
 use crate::serving::on_way::MAX_RESTS;
 use crate::serving::seat::Seat;
 use crate::serving::socket::{Came, Socket};
-use crate::serving::why_left::{Told, WhyLeft};
+use crate::serving::why_left::{LastWords, WhyLeft};
 use crate::spelled::Spelled;
 use broker_locks::Side;
 use log::{Log, info, warn};
@@ -336,9 +336,9 @@ impl<'a, 'b, R: Wait + Log + Clock, W: Side, T: Side> Connection<'a, 'b, R, W, T
 
     /// Writes what waits for a connection that leaves, until all is out, a write failed, or 100 polls brought nothing
     /// out.
-    fn tell_last(&mut self, desk: &mut Desk<'a, R, W, T>) -> Told {
+    fn tell_last(&mut self, desk: &mut Desk<'a, R, W, T>) -> LastWords {
         if desk.socket.register_writes(&self.line.poll).is_err() {
-            return Told::WriteFailed;
+            return LastWords::WriteFailed;
         }
         let rt = self.rt;
         let mut polls = 0u32;
@@ -346,20 +346,20 @@ impl<'a, 'b, R: Wait + Log + Clock, W: Side, T: Side> Connection<'a, 'b, R, W, T
             match desk.write() {
                 Ok(0) => {}
                 Ok(_) => polls = 0,
-                Err(_) => return Told::WriteFailed,
+                Err(_) => return LastWords::WriteFailed,
             }
             if desk.talk.wire().is_empty() {
                 return if desk.talk.is_cut() {
-                    Told::Cut
+                    LastWords::Cut
                 } else {
-                    Told::All
+                    LastWords::All
                 };
             }
             if polls >= MAX_POLLS {
-                return Told::GivenUp;
+                return LastWords::GivenUp;
             }
             if self.hub.is_closing() || self.wait(poll_time()).is_err() {
-                return Told::Closing;
+                return LastWords::Closing;
             }
             desk.socket.note_waited(&self.line.events);
             polls = polls.saturating_add(1);
@@ -433,11 +433,11 @@ impl<'a, 'b, R: Wait + Log + Clock, W: Side, T: Side> Connection<'a, 'b, R, W, T
         desk.held.turn_topics();
         match (ended, desk.talk.exit()) {
             (Ok(()), Some(exit)) => {
-                let told = self.tell_last(desk);
-                if let Told::All | Told::Cut = told {
+                let last = self.tell_last(desk);
+                if let LastWords::All | LastWords::Cut = last {
                     self.hear_out(desk);
                 }
-                WhyLeft::By(exit, told)
+                WhyLeft::By(exit, last)
             }
             (Ok(()), None) => WhyLeft::Closing,
             (Err(left), _) => left,

@@ -5,9 +5,9 @@ use crate::spelled::Spelled;
 use std::fmt;
 use std::fmt::{Display, Formatter};
 
-/// What a connection that leaves was told of its last words.
+/// How much of its last words a connection that leaves was told.
 #[derive(Clone, Copy)]
-pub(crate) enum Told {
+pub(crate) enum LastWords {
     /// All of them.
     All,
     /// All but the last, for which there was no memory.
@@ -23,8 +23,8 @@ pub(crate) enum Told {
 /// Why a connection left.
 #[derive(Clone, Copy)]
 pub(crate) enum WhyLeft {
-    /// By its DISCONNECT, by an ERROR, or lost; and what it was told of its last words.
-    By(Exit, Told),
+    /// By its DISCONNECT, by an ERROR, or lost; and how much of its last words it was told.
+    By(Exit, LastWords),
     /// A write failed.
     WriteFailed,
     /// A subscription lagged, and the system took nothing for a minute.
@@ -37,14 +37,14 @@ pub(crate) enum WhyLeft {
     Closing,
 }
 
-impl Display for Told {
+impl Display for LastWords {
     fn fmt<W: fmt::Write>(&self, f: &mut Formatter<W>) -> fmt::Result {
         match self {
-            Told::All => Ok(()),
-            Told::Cut => f.write_str(", which it wasn't told: there was no memory for that"),
-            Told::WriteFailed => f.write_str(", and a write failed before all was told"),
-            Told::GivenUp => f.write_str(", closed after 100 polls that brought nothing out"),
-            Told::Closing => f.write_str(", and the server ended before all was told"),
+            LastWords::All => Ok(()),
+            LastWords::Cut => f.write_str(", which it wasn't told: there was no memory for that"),
+            LastWords::WriteFailed => f.write_str(", and a write failed before all was told"),
+            LastWords::GivenUp => f.write_str(", closed after 100 polls that brought nothing out"),
+            LastWords::Closing => f.write_str(", and the server ended before all was told"),
         }
     }
 }
@@ -52,9 +52,9 @@ impl Display for Told {
 impl Display for WhyLeft {
     fn fmt<W: fmt::Write>(&self, f: &mut Formatter<W>) -> fmt::Result {
         match self {
-            WhyLeft::By(Exit::Disconnect, told) => write!(f, "DISCONNECT{told}"),
-            WhyLeft::By(Exit::Error(fault), told) => {
-                write!(f, "ERROR {}{told}", Spelled(fault.title()))
+            WhyLeft::By(Exit::Disconnect, last) => write!(f, "DISCONNECT{last}"),
+            WhyLeft::By(Exit::Error(fault), last) => {
+                write!(f, "ERROR {}{last}", Spelled(fault.title()))
             }
             WhyLeft::By(Exit::Lost, _) => f.write_str("its peer closed it"),
             WhyLeft::WriteFailed => f.write_str("a write failed"),
