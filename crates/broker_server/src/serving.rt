@@ -16,7 +16,6 @@ mod held;
 mod hub;
 mod line;
 mod listening;
-mod marks;
 mod naming;
 mod on_way;
 mod peer;
@@ -26,6 +25,7 @@ mod seldom;
 mod socket;
 mod topic_seats;
 mod trouble;
+mod unturned;
 mod why_left;
 
 use crate::serving::accepting::accept_all;

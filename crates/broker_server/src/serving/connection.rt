@@ -167,7 +167,7 @@ impl<'a, 'b, R: Wait + Log + Clock, W: Side, T: Side> Connection<'a, 'b, R, W, T
                 break;
             }
         }
-        if desk.held.unturned() > 0 {
+        if desk.held.commits() > 0 {
             if !self.stands_in(desk) {
                 desk.held.turn_topics();
             }
@@ -206,7 +206,7 @@ impl<'a, 'b, R: Wait + Log + Clock, W: Side, T: Side> Connection<'a, 'b, R, W, T
             if at >= n {
                 break;
             }
-            if desk.held.unturned() >= desk.held.quarter() {
+            if desk.held.commits() >= desk.held.quarter() {
                 self.stands_in(desk);
             }
         }

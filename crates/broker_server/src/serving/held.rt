@@ -1,15 +1,15 @@
 //! What one connection asks of the broker.
 
 ghost use Rattle.std.specs.Prelude.{◌≡◌, ◌<◌, ◌⊎◌, ◌-◌};
-ghost use Rattle.broker_server.specs.MarkedTopics.{unmarked};
+ghost use Rattle.broker_server.specs.UnturnedTopics.{none_unturned};
 
 use crate::conversation::{BrokerCalls, ConversationFault};
 use crate::serving::bell::Bell;
 use crate::serving::hub::Hub;
-use crate::serving::marks::Marks;
 use crate::serving::on_way::{OnWay, rest};
 use crate::serving::peer::Peer;
 use crate::serving::seat::Seat;
+use crate::serving::unturned::Unturned;
 use crate::spelled::Spelled;
 use broker_locks::{CommitFault, Side, Subscribed, Worker};
 use log::{Log, info};
@@ -43,9 +43,9 @@ pub(crate) struct Held<'a, R: Wait + Log + Clock, W: Side, T: Side> {
     hub: &'a Hub<R, W, T>,
     peer: Peer,
     bell: Arc<Bell>,
-    marks: Marks,
+    unturned: Unturned,
     /// How many transactions were committed, or refused, since their topics were turned or the heads told.
-    unturned: u64,
+    commits: u64,
     /// That is done at once when they are so many: half of what a queue holds, and one at least.
     most: u64,
     on_way: OnWay,
@@ -72,8 +72,8 @@ impl<'a, R: Wait + Log + Clock, W: Side, T: Side> Held<'a, R, W, T> {
             hub,
             peer,
             bell,
-            marks: Marks::new(alloc),
-            unturned: 0,
+            unturned: Unturned::new(alloc),
+            commits: 0,
             most: (hub.running.capacity() / 2).max(1),
             on_way: OnWay::new(alloc),
             subs: 0,
@@ -102,8 +102,8 @@ impl<'a, R: Wait + Log + Clock, W: Side, T: Side> Held<'a, R, W, T> {
             hub: _,
             peer: _,
             bell: _,
-            marks: _,
             unturned: _,
+            commits: _,
             most: _,
             on_way: _,
             subs: _,
@@ -163,36 +163,36 @@ impl<'a, R: Wait + Log + Clock, W: Side, T: Side> Held<'a, R, W, T> {
     /// connection that never takes has committed more than one transaction. A head would have to be woken for one, and
     /// who takes, too, has to have what it sent itself.
     pub(crate) fn turn_topics(&mut self)
-        ensures { self.new ≡ record self.old { marks = unmarked; unturned = 0 } }
+        ensures { self.new ≡ record self.old { unturned = none_unturned; commits = 0 } }
     {
-        if self.subs > 0 || self.unturned <= 1 {
-            self.hub.turn_marked(self.rt, &self.marks);
+        if self.subs > 0 || self.commits <= 1 {
+            self.hub.turn_those(self.rt, &self.unturned);
         } else {
-            self.hub.tell_heads(self.rt, &self.marks);
+            self.hub.tell_heads(self.rt, &self.unturned);
         }
-        self.marks.clear();
-        self.unturned = 0;
+        self.unturned.clear();
+        self.commits = 0;
     }
 
     /// How many transactions were committed, or refused, since their topics were turned.
-    pub(crate) fn unturned(&self) -> u64
-        ensures { result ≡ self.now.unturned }
+    pub(crate) fn commits(&self) -> u64
+        ensures { result ≡ self.now.commits }
     {
-        self.unturned
+        self.commits
     }
 
     /// Whether their topics have few seats, and the threads of all of these sleep.
     pub(crate) fn few_sleep(&self) -> bool {
-        self.hub.few_sleep(self.rt, &self.marks)
+        self.hub.few_sleep(self.rt, &self.unturned)
     }
 
     /// Turns their topics. Who sleeps isn't told: the seat is put into this list, for whom this thread then stands in.
     pub(crate) fn turn_for(&mut self, asleep: &mut Vec<Arc<Seat>>)
-        ensures { self.new ≡ record self.old { marks = unmarked; unturned = 0 } }
+        ensures { self.new ≡ record self.old { unturned = none_unturned; commits = 0 } }
     {
-        self.hub.turn_for(self.rt, &self.marks, asleep);
-        self.marks.clear();
-        self.unturned = 0;
+        self.hub.turn_for(self.rt, &self.unturned, asleep);
+        self.unturned.clear();
+        self.commits = 0;
     }
 
     /// Whether it has no subscription, and something that it sent may not have come: it may never take.
@@ -259,17 +259,17 @@ impl<'a, R: Wait + Log + Clock, W: Side, T: Side> Held<'a, R, W, T> {
     /// connection that has no subscription has at most as many on their way as a queue holds: then it waits until the
     /// older half has come to the subscribers, so that a burst finds room in the queue of each that takes in time.
     fn count_commit(&mut self)
-        ensures few { (self.new.unturned ≡ 0) ⊎ (self.new.unturned < self.new.most) }
-        ensures turned { self.new.unturned ≡ 0 → self.new.marks ≡ unmarked }
+        ensures few { (self.new.commits ≡ 0) ⊎ (self.new.commits < self.new.most) }
+        ensures turned { self.new.commits ≡ 0 → self.new.unturned ≡ none_unturned }
         ensures most { self.new.most ≡ self.old.most }
     {
-        self.unturned = self.unturned.saturating_add(1);
+        self.commits = self.commits.saturating_add(1);
         let is_half = self.on_way.since() >= self.most || self.room() == 0;
         if is_half && self.subs == 0 {
             self.turn_topics();
             self.on_way.wait(self.rt, self.hub);
             self.on_way.age();
-        } else if self.unturned >= self.most {
+        } else if self.commits >= self.most {
             self.turn_topics();
         }
     }
@@ -374,7 +374,7 @@ impl<'a, R: Wait + Log + Clock, W: Side, T: Side> BrokerCalls for Held<'a, R, W,
             .hub
             .running
             .broker
-            .commit(self.rt, &mut self.worker, flying, &mut self.marks);
+            .commit(self.rt, &mut self.worker, flying, &mut self.unturned);
         match done {
             Ok((gate, stamp)) => {
                 self.on_way.commit(topics, stamp);

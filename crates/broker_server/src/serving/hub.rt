@@ -4,10 +4,10 @@ ghost use Rattle.std.specs.Prelude.{◌≡◌};
 
 use crate::serving::bell::Bell;
 use crate::serving::head::Head;
-use crate::serving::marks::Marks;
 use crate::serving::running::Running;
 use crate::serving::seat::Seat;
 use crate::serving::topic_seats::TopicSeats;
+use crate::serving::unturned::Unturned;
 use broker_locks::Side;
 use delivery::MAX_TOPICS;
 use mcast_txn::{NoMemory, Topic};
@@ -69,30 +69,30 @@ impl<R: Wait, W: Side, T: Side> Hub<R, W, T> {
         self.heads.as_slice()
     }
 
-    /// Tells the heads of the topics that were marked. What they are marked for was done before.
-    pub(crate) fn tell_heads(&self, rt: &R, marks: &Marks) {
-        for topic in marks.topics() {
+    /// Tells the heads of these topics. What they are to be turned for was done before.
+    pub(crate) fn tell_heads(&self, rt: &R, unturned: &Unturned) {
+        for topic in unturned.topics() {
             self.set_due(rt, topic.0 as usize);
         }
-        if marks.may_be_any() {
+        if unturned.may_be_any() {
             self.set_all_due(rt);
         }
     }
 
-    /// Turns the topics that were marked, in place of their heads. One that is due stays so.
-    pub(crate) fn turn_marked(&self, rt: &R, marks: &Marks) {
-        for topic in marks.topics() {
+    /// Turns these topics, in place of their heads. One that is due stays so.
+    pub(crate) fn turn_those(&self, rt: &R, unturned: &Unturned) {
+        for topic in unturned.topics() {
             self.turn_now(rt, topic.0 as usize);
         }
-        if marks.may_be_any() {
+        if unturned.may_be_any() {
             self.set_all_due(rt);
         }
     }
 
-    /// Whether the topics that were marked have few seats, each and together, and the threads of all of these sleep.
-    pub(crate) fn few_sleep(&self, rt: &R, marks: &Marks) -> bool {
+    /// Whether these topics have few seats, each and together, and the threads of all of these sleep.
+    pub(crate) fn few_sleep(&self, rt: &R, unturned: &Unturned) -> bool {
         let mut asleep = 0usize;
-        for topic in marks.topics() {
+        for topic in unturned.topics() {
             let Some(seats) = self.topics.get(topic.0 as usize) else {
                 return false;
             };
@@ -107,14 +107,14 @@ impl<R: Wait, W: Side, T: Side> Hub<R, W, T> {
         true
     }
 
-    /// As `turn_marked`, but who sleeps isn't told: the seat is put into this list.
-    pub(crate) fn turn_for(&self, rt: &R, marks: &Marks, asleep: &mut Vec<Arc<Seat>>) {
-        for topic in marks.topics() {
+    /// As `turn_those`, but who sleeps isn't told: the seat is put into this list.
+    pub(crate) fn turn_for(&self, rt: &R, unturned: &Unturned, asleep: &mut Vec<Arc<Seat>>) {
+        for topic in unturned.topics() {
             if let Some(seats) = self.turned(rt, topic.0 as usize) {
                 seats.ring_awake(rt, asleep);
             }
         }
-        if marks.may_be_any() {
+        if unturned.may_be_any() {
             self.set_all_due(rt);
         }
     }

@@ -1,7 +1,7 @@
 //! Which topics a connection's transactions were proposed at.
 
 ghost use Rattle.std.specs.Prelude.{◌≡◌, true};
-ghost use Rattle.broker_server.specs.MarkedTopics.{each_once, is_marked, unmarked};
+ghost use Rattle.broker_server.specs.UnturnedTopics.{each_once, is_unturned, none_unturned};
 
 use broker_locks::Point;
 use mcast_txn::Topic;
@@ -10,29 +10,29 @@ use std::marker::Model;
 
 /// The topics at which a connection's transactions were proposed since they were turned, or their heads told.
 #[derive(Drop)]
-pub(crate) struct Marks {
+pub(crate) struct Unturned {
     topics: Vec<Topic>,
     /// Whether there was no memory for one.
     lost: bool,
 }
 
-impl Model for Marks {
+impl Model for Unturned {
     ghost use Rattle.std.specs.Prelude.{◌≡◌, true};
-    ghost use Rattle.broker_server.specs.MarkedTopics.{MarkedTopics, each_once};
+    ghost use Rattle.broker_server.specs.UnturnedTopics.{UnturnedTopics, each_once};
 
-    ghost Value = { MarkedTopics };
+    ghost Value = { UnturnedTopics };
 
-    ghost view = { λ m. record { topics = m.topics.items; any = m.lost } };
+    ghost view = { λ u. record { topics = u.topics.items; any = u.lost } };
 
-    ghost invariant = { λ m. each_once m.topics.items ≡ true };
+    ghost invariant = { λ u. each_once u.topics.items ≡ true };
 }
 
-impl Marks {
+impl Unturned {
     /// None yet.
-    pub(crate) fn new(alloc: Global) -> Marks
-        ensures { result ≡ unmarked }
+    pub(crate) fn new(alloc: Global) -> Unturned
+        ensures { result ≡ none_unturned }
     {
-        Marks {
+        Unturned {
             topics: Vec::new(alloc),
             lost: false,
         }
@@ -55,7 +55,7 @@ impl Marks {
 
     /// They were turned, or their heads told.
     pub(crate) fn clear(&mut self)
-        ensures { self.new ≡ unmarked }
+        ensures { self.new ≡ none_unturned }
     {
         self.topics.clear();
         self.lost = false;
@@ -63,22 +63,22 @@ impl Marks {
 }
 
 /// Whether this topic is one of these.
-fn is_marked(topics: &[Topic], topic: Topic) -> bool
-    ensures { result ≡ is_marked topic topics.now }
+fn is_unturned(topics: &[Topic], topic: Topic) -> bool
+    ensures { result ≡ is_unturned topic topics.now }
 {
-    topics.iter().any(|marked| marked.0 == topic.0)
+    topics.iter().any(|other| other.0 == topic.0)
 }
 
-impl Point for Marks {
-    ghost use Rattle.broker_server.specs.MarkedTopics.{Marks};
+impl Point for Unturned {
+    ghost use Rattle.broker_server.specs.UnturnedTopics.{AddsUnturned};
 
-    ghost told = { λ old topic k new. Marks old topic new };
+    ghost told = { λ old topic k new. AddsUnturned old topic new };
 
-    /// Marks the topic. A proposal that is then refused marks it too: cancelling what was proposed may leave another
-    /// part the least.
-    #[tactic(auto, using(crate::proofs::MarkLemmas::once_behind))]
+    /// Adds the topic. A proposal that is then refused adds it too: cancelling what was proposed may leave another part
+    /// the least.
+    #[tactic(auto, using(crate::proofs::UnturnedLemmas::once_behind))]
     fn before(&mut self, topic: Topic, _k: usize) {
-        if is_marked(self.topics.as_slice(), topic) {
+        if is_unturned(self.topics.as_slice(), topic) {
             return;
         }
         if self.topics.push(topic).is_err() {
