@@ -3,7 +3,7 @@ use Rattle.std.proofs.Common.{◌≡◌, false, [], ◌∷◌, codes, Some, None
 use Rattle.std.specs.Fmt.{digits}
 use Rattle.std.specs.declared.io.Error.{Error}
 use Rattle.broker_server.specs.declared.detail.Detail.TheVariants as details
-use Rattle.broker_server.specs.declared.message.Message.TheVariants as messages
+use Rattle.broker_server.specs.declared.notice.Notice.TheVariants as notices
 use Rattle.broker_server.specs.declared.program_fault.ProgramFault.TheVariants.{Io}
 use Rattle.broker_server.specs.declared.script.script_fault.ScriptFault.TheVariants.{BadLine}
 use Rattle.broker_server.specs.Endings.{done, run_ending}
@@ -20,7 +20,7 @@ word : excerpt_of (codes "opens") ≡ record { front = codes "opens"; more = 0; 
 word = refl
 
 -- A read that failed is told behind `io fault`, where the writer kept nothing.
-a_read_is_told : (error : Error) → run_ending (Err Io) (Some error) None ≡ record { status = 5; message = Some (messages.Fault Io); detail = Some (details.Read error) }
+a_read_is_told : (error : Error) → run_ending (Err Io) (Some error) None ≡ record { status = 5; notice = Some (notices.Fault Io); detail = Some (details.Read error) }
 a_read_is_told error = refl
 
 -- The third line of a script is told, which is the first that is wrong.

@@ -6,31 +6,31 @@ use Rattle.std.specs.declared.io.ErrorKind.TheVariants.{OutOfMemory}
 use Rattle.broker_server.specs.declared.detail.Detail.{Detail}
 use Rattle.broker_server.specs.declared.detail.Detail.TheVariants as details
 use Rattle.broker_server.specs.declared.ending.Ending.{Ending}
-use Rattle.broker_server.specs.declared.message.Message.{Message}
-use Rattle.broker_server.specs.declared.message.Message.TheVariants as messages
+use Rattle.broker_server.specs.declared.notice.Notice.{Notice}
+use Rattle.broker_server.specs.declared.notice.Notice.TheVariants as notices
 use Rattle.broker_server.specs.declared.program_fault.ProgramFault.{ProgramFault}
 use Rattle.broker_server.specs.declared.program_fault.ProgramFault.TheVariants.{NoMemory, Io}
 use Rattle.broker_server.specs.Programs.{fault_status}
 
 -- the text of a line on standard error
-abbrev pub message_text : Message → List ℕ
-message_text messages.Usage = codes "usage: stompd relay NAME | script | trace | audit | serve ADDR NAME.."
-message_text (messages.Fault NoMemory) = codes "no memory"
-message_text (messages.Fault Io) = codes "io fault"
+abbrev pub notice_text : Notice → List ℕ
+notice_text notices.Usage = codes "usage: stompd relay NAME | script | trace | audit | serve ADDR NAME.."
+notice_text (notices.Fault NoMemory) = codes "no memory"
+notice_text (notices.Fault Io) = codes "io fault"
 
 -- the ending after wrong words: the usage, and status 1
 abbrev pub usage_ending : Ending
-usage_ending = record { status = 1; message = Some messages.Usage; detail = None }
+usage_ending = record { status = 1; notice = Some notices.Usage; detail = None }
 
 -- the ending of a run that went on to this status, with this detail and no line before it
 abbrev pub done : ℕ → Option Detail → Ending
-done status detail = record { status = status; message = None; detail = detail }
+done status detail = record { status = status; notice = None; detail = detail }
 
 -- the ending of a program whose run returned this: its status and no line, or the fault's status and line
 abbrev pub ending_of : Result ℕ ProgramFault → Ending
 ending_of (Ok status) = done status None
 ending_of (Err fault) =
-    record { status = fault_status fault; message = Some (messages.Fault fault); detail = None }
+    record { status = fault_status fault; notice = Some (notices.Fault fault); detail = None }
 
 -- What is told of a fault of input or output, where reader and writer kept these failures: the writer's, or
 -- else the reader's, or else that the reader met no end.

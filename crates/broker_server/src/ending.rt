@@ -5,7 +5,7 @@ ghost use Rattle.broker_server.specs.declared.program_fault.ProgramFault.TheVari
 ghost use Rattle.broker_server.specs.Endings.{done, failure_told, usage_ending, ending_of, run_ending};
 
 use crate::detail::Detail;
-use crate::message::Message;
+use crate::notice::Notice;
 use crate::program_fault::ProgramFault;
 use std::io;
 
@@ -15,7 +15,7 @@ pub struct Ending {
     /// The status that it exits with.
     pub status: u8,
     /// The line that it writes to standard error, if there is one.
-    pub message: Option<Message>,
+    pub notice: Option<Notice>,
     /// The line that it writes there after that, if there is one.
     pub detail: Option<Detail>,
 }
@@ -27,7 +27,7 @@ impl Ending {
     {
         Ending {
             status: 1,
-            message: Some(Message::Usage),
+            notice: Some(Notice::Usage),
             detail: None,
         }
     }
@@ -45,7 +45,7 @@ impl Ending {
     {
         Ending {
             status,
-            message: None,
+            notice: None,
             detail,
         }
     }
@@ -58,7 +58,7 @@ impl Ending {
             Ok(status) => Ending::done(status, None),
             Err(fault) => Ending {
                 status: fault.status(),
-                message: Some(Message::Fault(fault)),
+                notice: Some(Notice::Fault(fault)),
                 detail: None,
             },
         }
@@ -77,7 +77,7 @@ impl Ending {
             Err(ProgramFault::NoMemory) => Ending::without_memory(),
             Err(ProgramFault::Io) => Ending {
                 status: 5,
-                message: Some(Message::Fault(ProgramFault::Io)),
+                notice: Some(Notice::Fault(ProgramFault::Io)),
                 detail: Some(failure_told(read, wrote)),
             },
         }

@@ -31,8 +31,8 @@ fn main(rt: HostRuntime) -> ExitCode {
 
 /// Writes the lines of this ending, if it has any, and gives its status.
 fn end(rt: &HostRuntime, ended: Ending) -> ExitCode {
-    if let Some(message) = ended.message {
-        let _ = eprintln!(rt; "{}", message.text());
+    if let Some(notice) = ended.notice {
+        let _ = eprintln!(rt; "{}", notice.text());
     }
     if let Some(detail) = &ended.detail {
         let _ = eprintln!(rt; "{detail}");

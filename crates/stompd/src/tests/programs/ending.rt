@@ -2,7 +2,7 @@
 
 use super::peers::{Source, Target};
 use super::words::words_of;
-use broker_server::{Counting, Message, ProgramFault, run_words};
+use broker_server::{Counting, Notice, ProgramFault, run_words};
 use std::alloc::{AllocError, Global};
 use std::io;
 use std::io::ErrorKind;
@@ -34,7 +34,7 @@ enum Fails {
 }
 
 /// A status, and a line on standard error.
-type Ended = (u8, Option<Message>);
+type Ended = (u8, Option<Notice>);
 
 /// How `stompd relay NAME` ends over a SEND to B, and whether it wrote this.
 fn relay(
@@ -74,7 +74,7 @@ fn run(
         Fails::Flush => writer.inner.fails_flush = true,
     }
     let ended = run_words(alloc, Ok(words), &mut reader, &mut writer);
-    let told = (ended.status, ended.message);
+    let told = (ended.status, ended.notice);
     Ok((told, writer.inner.taken.as_slice() == output))
 }
 
@@ -90,19 +90,19 @@ fn refused(alloc: Global, words: io::Result<Vec<String>>) -> Result<Option<Ended
     ) == (0, 0, 0);
     let alone = untouched && ended.detail.is_none();
     Ok(if alone {
-        Some((ended.status, ended.message))
+        Some((ended.status, ended.notice))
     } else {
         None
     })
 }
 
-const IO_FAULT: Ended = (5, Some(Message::Fault(ProgramFault::Io)));
+const IO_FAULT: Ended = (5, Some(Notice::Fault(ProgramFault::Io)));
 
-const NO_MEMORY: Ended = (4, Some(Message::Fault(ProgramFault::NoMemory)));
+const NO_MEMORY: Ended = (4, Some(Notice::Fault(ProgramFault::NoMemory)));
 
 const WELL: Ended = (0, None);
 
-const USAGE: Ended = (1, Some(Message::Usage));
+const USAGE: Ended = (1, Some(Notice::Usage));
 
 const BAD_INPUT: Ended = (2, None);
 

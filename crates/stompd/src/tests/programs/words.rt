@@ -1,6 +1,6 @@
 //! Words on the command line, statuses and texts.
 
-use broker_server::{Message, Program, ProgramFault, RelayFault, USAGE};
+use broker_server::{Notice, Program, ProgramFault, RelayFault, USAGE};
 use std::alloc::{AllocError, Global};
 
 /// These words.
@@ -82,8 +82,8 @@ fn other_words(rt: HostRuntime) {
 /// Whether this is the fault's status, and its text wherever it is printed.
 fn says(alloc: Global, fault: ProgramFault, status: u8, line: &str) -> Result<bool, AllocError> {
     let printed = format!(in alloc; "{fault}")?;
-    let message = Message::Fault(fault);
-    Ok(fault.status() == status && printed.as_str() == line && message.text() == line)
+    let notice = Notice::Fault(fault);
+    Ok(fault.status() == status && printed.as_str() == line && notice.text() == line)
 }
 
 /// Whether this is the fault's title, and begins its text.
@@ -104,9 +104,9 @@ const RELAY_FAULTS: &[(RelayFault, &[u8])] = &[
     (RelayFault::NoSuchTxn, b"66 NoSuchTxn"),
 ];
 
-/// Whether this is how the programs are used, and the message's text.
+/// Whether this is how the programs are used, and the notice's text.
 fn is_usage(usage: &str) -> bool {
-    USAGE == usage && Message::Usage.text() == usage
+    USAGE == usage && Notice::Usage.text() == usage
 }
 
 /// Whether each fault has its status and its text.

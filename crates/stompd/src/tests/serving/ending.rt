@@ -1,7 +1,7 @@
 //! A server that can't begin.
 
 use super::served::quiet;
-use broker_server::{Message, ProgramFault, ServeWords, run_server};
+use broker_server::{Notice, ProgramFault, ServeWords, run_server};
 use log::Log;
 use mio::net::TcpListener;
 use std::alloc::{AllocError, Global};
@@ -26,18 +26,18 @@ fn words(alloc: Global, port: u16) -> Result<Vec<String>, AllocError> {
 }
 
 /// How a server of these words ends, and how much it writes.
-fn ends<R>(rt: &R, alloc: Global, words: &[String]) -> Option<(u8, Option<Message>, usize)>
+fn ends<R>(rt: &R, alloc: Global, words: &[String]) -> Option<(u8, Option<Notice>, usize)>
 where
     R: Threads + Wait + Net + Clock + Log + Send + Sync,
 {
     let asked = ServeWords::parse(words)?;
     let mut written = Vec::new(alloc);
     let ending = run_server(rt, alloc, asked, &mut written);
-    Some((ending.status, ending.message, written.len()))
+    Some((ending.status, ending.notice, written.len()))
 }
 
 /// The same of a server at this port.
-fn ends_at<R>(rt: &R, alloc: Global, port: u16) -> Option<(u8, Option<Message>, usize)>
+fn ends_at<R>(rt: &R, alloc: Global, port: u16) -> Option<(u8, Option<Notice>, usize)>
 where
     R: Threads + Wait + Net + Clock + Log + Send + Sync,
 {
@@ -46,7 +46,7 @@ where
 }
 
 /// How the server ends, and how much it writes, at an address where another listens.
-pub(super) fn at_a_used_address<R>(rt: &R, alloc: Global) -> Option<(u8, Option<Message>, usize)>
+pub(super) fn at_a_used_address<R>(rt: &R, alloc: Global) -> Option<(u8, Option<Notice>, usize)>
 where
     R: Threads + Wait + Net + Clock + Log + Send + Sync,
 {
@@ -57,6 +57,6 @@ where
 
 #[test]
 fn a_listener_that_cannot_bind_ends_with_status_5(rt: HostRuntime) {
-    let fault = Message::Fault(ProgramFault::Io);
+    let fault = Notice::Fault(ProgramFault::Io);
     assert!(rt; at_a_used_address(&quiet(rt), rt.alloc()) == Some((5, Some(fault), 0)));
 }
