@@ -7,12 +7,12 @@ ghost use Rattle.broker_locks.specs.Gathering.{IsTraceLeft};
 
 mod accepting;
 mod bell;
+mod calls;
 mod connection;
 mod desk;
 mod desks;
 mod door;
 mod head;
-mod held;
 mod hub;
 mod line;
 mod listening;

@@ -3,9 +3,9 @@
 ghost use Rattle.std.specs.Prelude.{◌≤◌, ◌<◌, length};
 
 use crate::conversation::{Conversation, ConversationFault, Exit};
+use crate::serving::calls::Calls;
 use crate::serving::desk::Desk;
 use crate::serving::desks::Desks;
-use crate::serving::held::Held;
 use crate::serving::hub::Hub;
 use crate::serving::line::Line;
 use crate::serving::on_way::MAX_RESTS;
@@ -158,8 +158,8 @@ impl<'a, 'b, R: Wait + Log + Clock, W: Side, T: Side> Connection<'a, 'b, R, W, T
                 Came::Again => round = Round::Busy,
                 Came::Nothing => break,
                 Came::End => {
-                    desk.held.turn_topics();
-                    desk.talk.lose(&mut desk.held);
+                    desk.calls.turn_topics();
+                    desk.talk.lose(&mut desk.calls);
                     return Round::Leaving;
                 }
             }
@@ -167,9 +167,9 @@ impl<'a, 'b, R: Wait + Log + Clock, W: Side, T: Side> Connection<'a, 'b, R, W, T
                 break;
             }
         }
-        if desk.held.commits() > 0 {
+        if desk.calls.commits() > 0 {
             if !self.stands_in(desk) {
-                desk.held.turn_topics();
+                desk.calls.turn_topics();
             }
             self.heard = 0;
         }
@@ -179,17 +179,17 @@ impl<'a, 'b, R: Wait + Log + Clock, W: Side, T: Side> Connection<'a, 'b, R, W, T
     /// Where it heard little, and who would be told of what it sent are few, who sleep: turns the topics, and does at
     /// once what the threads of those would do, since waking them costs more. Whether that was so.
     fn stands_in(&mut self, desk: &mut Desk<'a, R, W, T>) -> bool {
-        if self.heard > MOST_HEARD || !desk.held.few_sleep() {
+        if self.heard > MOST_HEARD || !desk.calls.few_sleep() {
             return false;
         }
-        desk.held.turn_for(&mut self.asleep);
+        desk.calls.turn_for(&mut self.asleep);
         for seat in self.asleep.iter() {
             if !self.desks.stand_in(seat.desk()) {
                 seat.ring();
             }
         }
         self.asleep.clear();
-        desk.held.settle_both();
+        desk.calls.settle_both();
         true
     }
 
@@ -200,13 +200,13 @@ impl<'a, 'b, R: Wait + Log + Clock, W: Side, T: Side> Connection<'a, 'b, R, W, T
             let most = self.most_at_once(desk, at, n);
             let end = n.min(at.saturating_add(most));
             if let Some(piece) = self.line.room.as_slice().get(at..end) {
-                desk.talk.hear(&mut desk.held, piece);
+                desk.talk.hear(&mut desk.calls, piece);
             }
             at = end;
             if at >= n {
                 break;
             }
-            if desk.held.commits() >= desk.held.quarter() {
+            if desk.calls.commits() >= desk.calls.quarter() {
                 self.stands_in(desk);
             }
         }
@@ -216,12 +216,12 @@ impl<'a, 'b, R: Wait + Log + Clock, W: Side, T: Side> Connection<'a, 'b, R, W, T
     /// holds. A connection that takes, too, makes room before, and hears no more than there is room for: else it would
     /// lag by what it sends itself.
     fn most_at_once(&mut self, desk: &mut Desk<'a, R, W, T>, at: usize, n: usize) -> usize {
-        if !desk.held.only_sends() {
+        if !desk.calls.only_sends() {
             let most = self.make_room(desk).saturating_mul(LEAST_SEND);
             return usize::try_from(most).unwrap_or(n);
         }
         match self.line.room.as_slice().get(at..n) {
-            Some(rest) => end_of_frames(rest, desk.held.quarter()),
+            Some(rest) => end_of_frames(rest, desk.calls.quarter()),
             None => n,
         }
     }
@@ -230,13 +230,13 @@ impl<'a, 'b, R: Wait + Log + Clock, W: Side, T: Side> Connection<'a, 'b, R, W, T
     /// how many transactions there is room then: one or more, and half of what a queue holds at most, since others
     /// send, too.
     fn make_room(&mut self, desk: &mut Desk<'a, R, W, T>) -> u64 {
-        let capacity = desk.held.capacity();
-        let least = desk.held.quarter();
-        desk.held.turn_topics();
+        let capacity = desk.calls.capacity();
+        let least = desk.calls.quarter();
+        desk.calls.turn_topics();
         for _ in 0..MAX_RESTS {
-            desk.held.settle();
+            desk.calls.settle();
             desk.take_between();
-            let room = desk.held.room();
+            let room = desk.calls.room();
             let may_take = !self.line.bell.is_stuck() || room >= capacity;
             if room >= least && may_take {
                 return room.min((capacity / 2).max(1));
@@ -244,9 +244,9 @@ impl<'a, 'b, R: Wait + Log + Clock, W: Side, T: Side> Connection<'a, 'b, R, W, T
             if desk.talk.is_leaving() || self.hub.is_closing() || !self.may_go_on(desk) {
                 return least;
             }
-            desk.held.rest();
+            desk.calls.rest();
         }
-        desk.held.age();
+        desk.calls.age();
         least
     }
 
@@ -420,17 +420,17 @@ impl<'a, 'b, R: Wait + Log + Clock, W: Side, T: Side> Connection<'a, 'b, R, W, T
             return WhyLeft::Closing;
         };
         let left = self.leave(ended, &mut desk);
-        let (socket, held) = Box::into_inner(desk).into_parts();
+        let (socket, calls) = Box::into_inner(desk).into_parts();
         drop(socket);
-        self.hub.running.put_worker(self.rt, held.into_worker());
+        self.hub.running.put_worker(self.rt, calls.into_worker());
         left
     }
 
     /// Leaves, once the conversation has ended so, and nobody else comes to the desk; why it left.
     fn leave(&mut self, ended: Result<(), WhyLeft>, desk: &mut Desk<'a, R, W, T>) -> WhyLeft {
         self.tell_lag(desk);
-        desk.talk.lose(&mut desk.held);
-        desk.held.turn_topics();
+        desk.talk.lose(&mut desk.calls);
+        desk.calls.turn_topics();
         match (ended, desk.talk.exit()) {
             (Ok(()), Some(exit)) => {
                 let last = self.tell_last(desk);
@@ -506,13 +506,13 @@ fn desk_of<'a, R: Wait + Log + Clock, W: Side, T: Side>(
     let Ok(worker) = hub.running.take_worker(rt) else {
         return Err(socket);
     };
-    let held = Held::new(rt, alloc, hub, line.peer, bell, worker);
+    let calls = Calls::new(rt, alloc, hub, line.peer, bell, worker);
     let talk = Conversation::new(alloc, hub.running.capacity());
-    match Box::new(alloc, Desk::new(socket, held, talk)) {
+    match Box::new(alloc, Desk::new(socket, calls, talk)) {
         Ok(desk) => Ok(desk),
         Err(refused) => {
-            let (socket, held) = refused.value.into_parts();
-            hub.running.put_worker(rt, held.into_worker());
+            let (socket, calls) = refused.value.into_parts();
+            hub.running.put_worker(rt, calls.into_worker());
             Err(socket)
         }
     }

@@ -3,7 +3,7 @@
 ghost use Rattle.std.specs.Prelude.{◌≡◌};
 
 use crate::conversation::{BrokerCalls, Conversation};
-use crate::serving::held::Held;
+use crate::serving::calls::Calls;
 use crate::serving::socket::{Came, Socket, WriteFailed};
 use broker_locks::Side;
 use log::Log;
@@ -23,8 +23,8 @@ const WAITS: u32 = 10;
 #[derive(Drop)]
 pub(crate) struct Desk<'a, R: Wait + Log + Clock, W: Side, T: Side> {
     pub(crate) socket: Socket,
-    pub(crate) held: Held<'a, R, W, T>,
-    pub(crate) talk: Conversation<Held<'a, R, W, T>>,
+    pub(crate) calls: Calls<'a, R, W, T>,
+    pub(crate) talk: Conversation<Calls<'a, R, W, T>>,
     /// Since when the system has taken nothing of what waits, once the thread looked for that.
     untaken: Option<Instant>,
     /// How often it waited since it looked for subscriptions that have lagged.
@@ -35,12 +35,12 @@ impl<'a, R: Wait + Log + Clock, W: Side, T: Side> Desk<'a, R, W, T> {
     /// The desk of a connection that has said nothing yet.
     pub(crate) fn new(
         socket: Socket,
-        held: Held<'a, R, W, T>,
-        talk: Conversation<Held<'a, R, W, T>>,
+        calls: Calls<'a, R, W, T>,
+        talk: Conversation<Calls<'a, R, W, T>>,
     ) -> Desk<'a, R, W, T> {
         Desk {
             socket,
-            held,
+            calls,
             talk,
             untaken: None,
             waits: 0,
@@ -50,8 +50,8 @@ impl<'a, R: Wait + Log + Clock, W: Side, T: Side> Desk<'a, R, W, T> {
     /// Takes what is there for the connection; whether something came of it. It isn't stuck from before it looks, so
     /// that it is told of what comes then.
     pub(crate) fn deliver(&mut self) -> bool {
-        self.held.bell().set_stuck(false);
-        self.talk.deliver(&mut self.held)
+        self.calls.bell().set_stuck(false);
+        self.talk.deliver(&mut self.calls)
     }
 
     /// Writes what waits, as far as the system takes it; how many octets went out.
@@ -74,7 +74,7 @@ impl<'a, R: Wait + Log + Clock, W: Side, T: Side> Desk<'a, R, W, T> {
 
     /// Takes what came for it, and writes where that is much, so that more finds room.
     pub(crate) fn take_between(&mut self) {
-        if !self.held.bell().hears() && !self.talk.has_more() {
+        if !self.calls.bell().hears() && !self.talk.has_more() {
             return;
         }
         self.deliver();
@@ -87,7 +87,7 @@ impl<'a, R: Wait + Log + Clock, W: Side, T: Side> Desk<'a, R, W, T> {
     /// It is stuck where more is there than the system takes: it looks again once that takes some.
     pub(crate) fn note_stuck(&mut self) {
         if self.talk.has_more() && self.socket.is_blocked() {
-            self.held.bell().set_stuck(true);
+            self.calls.bell().set_stuck(true);
         }
     }
 
@@ -113,7 +113,7 @@ impl<'a, R: Wait + Log + Clock, W: Side, T: Side> Desk<'a, R, W, T> {
 
     /// Whether the system has taken nothing of what waits for a minute. By a clock that can't be read it has.
     fn is_untaken(&mut self) -> bool {
-        let now = Instant::now(self.held.rt()).ok();
+        let now = Instant::now(self.calls.rt()).ok();
         match (self.untaken, now) {
             (Some(since), Some(now)) => now.duration_since(since) >= untaken_time(),
             (Some(_), None) => true,
@@ -131,23 +131,23 @@ impl<'a, R: Wait + Log + Clock, W: Side, T: Side> Desk<'a, R, W, T> {
             let Some(sub) = self.talk.sub_at(at) else {
                 break;
             };
-            some = self.held.end_lagged(sub) || some;
+            some = self.calls.end_lagged(sub) || some;
         }
         some
     }
 
     /// Its socket, and what it asks the broker by, where it is needed no longer.
-    pub(crate) fn into_parts(self) -> (Socket, Held<'a, R, W, T>)
+    pub(crate) fn into_parts(self) -> (Socket, Calls<'a, R, W, T>)
         ensures socket { result.0 ≡ self.entry.socket }
-        ensures held { result.1 ≡ self.entry.held }
+        ensures calls { result.1 ≡ self.entry.calls }
     {
         let Desk {
             socket,
-            held,
+            calls,
             talk: _,
             untaken: _,
             waits: _,
         } = self;
-        (socket, held)
+        (socket, calls)
     }
 }

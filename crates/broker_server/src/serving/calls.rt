@@ -23,9 +23,9 @@ use std::time::Clock;
 use stomp_frame::ClientFrame;
 use stomp_session::{Names, Session, Step};
 
-/// An open subscription of a connection.
+/// An open subscription of a connection, with its seat.
 #[derive(Drop)]
-pub(crate) struct HeldSub {
+pub(crate) struct SeatedSub {
     topic: Topic,
     begun: Subscribed,
     seat: Arc<Seat>,
@@ -37,7 +37,7 @@ pub(crate) struct HeldSub {
 
 /// What one connection asks of the broker, and which topics it still has to turn.
 #[derive(Drop)]
-pub(crate) struct Held<'a, R: Wait + Log + Clock, W: Side, T: Side> {
+pub(crate) struct Calls<'a, R: Wait + Log + Clock, W: Side, T: Side> {
     rt: &'a R,
     alloc: Global,
     hub: &'a Hub<R, W, T>,
@@ -56,7 +56,7 @@ pub(crate) struct Held<'a, R: Wait + Log + Clock, W: Side, T: Side> {
     worker: Worker<W>,
 }
 
-impl<'a, R: Wait + Log + Clock, W: Side, T: Side> Held<'a, R, W, T> {
+impl<'a, R: Wait + Log + Clock, W: Side, T: Side> Calls<'a, R, W, T> {
     /// This peer's connection has asked nothing yet.
     pub(crate) fn new(
         rt: &'a R,
@@ -65,8 +65,8 @@ impl<'a, R: Wait + Log + Clock, W: Side, T: Side> Held<'a, R, W, T> {
         peer: Peer,
         bell: Arc<Bell>,
         worker: Worker<W>,
-    ) -> Held<'a, R, W, T> {
-        Held {
+    ) -> Calls<'a, R, W, T> {
+        Calls {
             rt,
             alloc,
             hub,
@@ -96,7 +96,7 @@ impl<'a, R: Wait + Log + Clock, W: Side, T: Side> Held<'a, R, W, T> {
     pub(crate) fn into_worker(self) -> Worker<W>
         ensures { result ≡ self.entry.worker }
     {
-        let Held {
+        let Calls {
             rt: _,
             alloc: _,
             hub: _,
@@ -127,7 +127,7 @@ impl<'a, R: Wait + Log + Clock, W: Side, T: Side> Held<'a, R, W, T> {
 
     /// Ends this subscription at its topic where it has lagged: it would cost others something there at each SEND. Its
     /// queue still gives what it accepted. Whether it has lagged.
-    pub(crate) fn end_lagged(&mut self, sub: &HeldSub) -> bool {
+    pub(crate) fn end_lagged(&mut self, sub: &SeatedSub) -> bool {
         let has_lagged = self.has_lagged(sub);
         if has_lagged {
             self.end(sub);
@@ -136,7 +136,7 @@ impl<'a, R: Wait + Log + Clock, W: Side, T: Side> Held<'a, R, W, T> {
     }
 
     /// Ends this subscription at its topic, unless it has ended there.
-    fn end(&self, sub: &HeldSub) {
+    fn end(&self, sub: &SeatedSub) {
         if sub.over.swap(true, Ordering::SeqCst) {
             return;
         }
@@ -250,7 +250,7 @@ impl<'a, R: Wait + Log + Clock, W: Side, T: Side> Held<'a, R, W, T> {
         self.on_way.age();
     }
 
-    /// Rests, so that others come to their turn.
+    /// Rests, so that other threads run.
     pub(crate) fn rest(&self) {
         rest(self.rt);
     }
@@ -275,10 +275,10 @@ impl<'a, R: Wait + Log + Clock, W: Side, T: Side> Held<'a, R, W, T> {
     }
 }
 
-impl<'a, R: Wait + Log + Clock, W: Side, T: Side> BrokerCalls for Held<'a, R, W, T> {
+impl<'a, R: Wait + Log + Clock, W: Side, T: Side> BrokerCalls for Calls<'a, R, W, T> {
     ghost use Rattle.broker_server.specs.BrokerRows.{SubName};
 
-    type Sub = HeldSub;
+    type Sub = SeatedSub;
 
     // Nothing is said of what other threads find.
     ghost called = { λ old row new. Unit {0} };
@@ -309,7 +309,7 @@ impl<'a, R: Wait + Log + Clock, W: Side, T: Side> BrokerCalls for Held<'a, R, W,
 
     /// Its seat stands at the topic before the subscription begins: the other order would lose what is released
     /// between. Before its first one all has come that it sent: from then on it can't wait without taking.
-    fn subscribe(&mut self, topic: Topic) -> Result<HeldSub, SubFault> {
+    fn subscribe(&mut self, topic: Topic) -> Result<SeatedSub, SubFault> {
         if self.subs == 0 {
             self.wait_for_all();
         }
@@ -324,7 +324,7 @@ impl<'a, R: Wait + Log + Clock, W: Side, T: Side> BrokerCalls for Held<'a, R, W,
                 let last = begun.start.n;
                 seat.set_taken(last);
                 self.subs = self.subs.saturating_add(1);
-                Ok(HeldSub {
+                Ok(SeatedSub {
                     topic,
                     begun,
                     seat,
@@ -339,13 +339,13 @@ impl<'a, R: Wait + Log + Clock, W: Side, T: Side> BrokerCalls for Held<'a, R, W,
         }
     }
 
-    fn unsubscribe(&mut self, sub: HeldSub) {
+    fn unsubscribe(&mut self, sub: SeatedSub) {
         self.end(&sub);
         self.subs = self.subs.saturating_sub(1);
         drop(sub);
     }
 
-    fn has_lagged(&mut self, sub: &HeldSub) -> bool {
+    fn has_lagged(&mut self, sub: &SeatedSub) -> bool {
         if sub.over.load(Ordering::SeqCst) {
             return true;
         }
@@ -358,7 +358,7 @@ impl<'a, R: Wait + Log + Clock, W: Side, T: Side> BrokerCalls for Held<'a, R, W,
     }
 
     /// Whoever waits for what it takes is told once nothing is there.
-    fn take(&mut self, sub: &mut HeldSub) -> Option<Released> {
+    fn take(&mut self, sub: &mut SeatedSub) -> Option<Released> {
         let item = sub.begun.taker.take(self.rt);
         match &item {
             Some(item) => sub.last = item.stamp.n,
