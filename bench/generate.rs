@@ -477,6 +477,7 @@ fn frames(name: &str, place: usize, numbers: &mut Numbers) -> Option<Vec<u8>> {
     match name {
         "bodies-16" => Some(with_body(place, 16, numbers)),
         "bodies-1K" => Some(with_body(place, 1_024, numbers)),
+        "bodies-64K" => Some(with_body(place, 65_536, numbers)),
         "bodies-1M" => Some(with_body(place, 1_048_576, numbers)),
         "headers" => Some(with_headers(numbers)),
         "receipts" => Some(with_receipt(place, numbers)),

@@ -10,7 +10,7 @@ use std::path::{Path, PathBuf};
 use std::process::{Command, ExitCode};
 use std::time::{Duration, Instant};
 
-const RELAY_INPUTS: [&str; 4] = ["bodies-16", "bodies-1K", "bodies-1M", "headers"];
+const RELAY_INPUTS: [&str; 5] = ["bodies-16", "bodies-1K", "bodies-64K", "bodies-1M", "headers"];
 const FRAMES: Rate = Rate {
     inputs: &["receipts", "sessions"],
     unit: "frames",

@@ -14,10 +14,15 @@ bool bell_make(struct bell *bell)
     return bell->descriptor >= 0;
 }
 
+bool bell_is_told(struct bell *bell)
+{
+    return atomic_load(&bell->state) == TOLD;
+}
+
 void bell_ring(struct bell *bell)
 {
     uint64_t one = 1;
-    if (atomic_exchange(&bell->state, TOLD) == ASLEEP && write(bell->descriptor, &one, sizeof one) < 0)
+    if (!bell_is_told(bell) && atomic_exchange(&bell->state, TOLD) == ASLEEP && write(bell->descriptor, &one, sizeof one) < 0)
         return;
 }
 

@@ -12,6 +12,9 @@ struct bell {
 
 bool bell_make(struct bell *bell);
 
+/* Whether the thread was told since it looked last. */
+bool bell_is_told(struct bell *bell);
+
 /* Tells the thread; the system is called only where it sleeps. */
 void bell_ring(struct bell *bell);
 

@@ -139,7 +139,8 @@ def start_activemq():
     folder = tempfile.mkdtemp(prefix="bench_activemq_")
     (port,) = free_ports(1)
     words = ["java", *ACTIVEMQ_OPTIONS, f"-Dactivemq.home={ACTIVEMQ}", f"-Dactivemq.base={folder}", f"-Dactivemq.data={folder}"]
-    broker = f"broker:(stomp://127.0.0.1:{port})?persistent=false&useJmx=false&dataDirectory={folder}"
+    # Sent at once, as RabbitMQ's listener does of itself: else small writes wait for the peer's late acknowledgement.
+    broker = f"broker:(stomp://127.0.0.1:{port}?transport.tcpNoDelay=true)?persistent=false&useJmx=false&dataDirectory={folder}"
     return Peer("ActiveMQ", [], [*words, "-jar", ACTIVEMQ_JAR, "start", broker], {"HOME": folder}, "java", port)
 
 

@@ -10,8 +10,8 @@
 #include <sys/socket.h>
 #include <unistd.h>
 
-/* Octets read at once; no further item is taken once so many wait to go out. */
-enum { READ_SIZE = 4096, FULL = 65536, EVENTS = 8 };
+/* Octets read at once, and reads one after another; no further item is taken once so many octets wait to go out. */
+enum { READ_SIZE = 16384, MOST_READS = 16, FULL = 65536, EVENTS = 8 };
 
 static _Atomic uint64_t number;
 
@@ -141,8 +141,20 @@ static bool read_some(struct connection *connection)
     connection->may_read = count == READ_SIZE || connection->is_hung_up;
     in->to += (size_t)count;
     talk_hear(&connection->talk);
-    tell_heads(connection);
     return true;
+}
+
+/* Reads while something comes, so often at most and until the bell rings, and then tells the heads; whether something came. */
+static bool hear(struct connection *connection)
+{
+    bool is_busy = false;
+    for (int reads = 0; reads < MOST_READS && read_some(connection); reads++) {
+        is_busy = true;
+        if (bell_is_told(&connection->bell))
+            break;
+    }
+    tell_heads(connection);
+    return is_busy;
 }
 
 /* Waits for the socket or the bell. */
@@ -170,7 +182,7 @@ void *converse(void *it)
     while (!is_over(connection)) {
         bool is_busy = take_all(connection);
         is_busy |= write_some(connection);
-        is_busy |= read_some(connection);
+        is_busy |= hear(connection);
         if (!is_busy && !is_over(connection) && bell_sleeps(&connection->bell))
             wait(connection);
     }
