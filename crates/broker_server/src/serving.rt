@@ -49,9 +49,9 @@ use trace_audit::Trace;
 /// Serves this broker to those who connect to this listener: each connection by a thread of its own, at most 256 at
 /// once, while two more threads turn the topics. With a limit it ends once so many connections came, those closed at
 /// once because 256 were there among them, and ended; without one, only by a fault. Each thread has then ended. Returns
-/// the trace of the run, which is empty where the broker keeps none. Where a list of transactions explains it, each
-/// subscription's queue was given just those of its topic and span, up to the topic's frontier: so says the law
-/// `gathered_is_due` of `broker_locks`.
+/// the trace of the run, which is empty where the broker keeps none. The clause says that there are places which leave
+/// this trace, so that the law `gathered_is_due` of `broker_locks` speaks of it. That they are this broker's isn't
+/// said, and an empty trace meets it: tests audit what a run leaves.
 ///
 /// Refused: 101 where there is no memory for what it needs before it accepts, or for the trace; 102 where the listener
 /// or a poll failed: then the connections that are there are closed. What is wanting for one connection ends that
